@@ -1,0 +1,130 @@
+//! Figures for the doubly linked list: `bench [MEMBERS TIMES]`.
+//!
+//! Where each kind of work ended goes to standard output, the time of one operation to standard error.
+#![tactic(auto)]
+
+ghost use Rattle.ic_link_ops.specs.Entries.{entries, table_of};
+ghost use Rattle.ic_link_ops.specs.Tables.{IsCovered};
+ghost use Rattle.bench.specs.Plain.{ShowsList};
+
+use ic_link_ops::linked_list::LinkOps;
+use ic_linked_list::LinkedList;
+use ic_unsafe_ref::{Place, UnsafeRef};
+use std::time::Instant;
+use std::{env, io};
+
+// Puts the object at the back of the list, unless it is linked already.
+#[inline]
+fn put(list: &mut LinkedList<u64>, links: &mut LinkOps, object: UnsafeRef<u64>)
+    requires covered { IsCovered (table_of (entries links.old)) object }
+    requires shown { ShowsList links.old list.old }
+    ensures { ShowsList links.new list.new }
+{
+    let _ = list.push_back(links, object);
+}
+
+// Puts the first `members` places into the list, as far as the table covers them.
+fn fill(list: &mut LinkedList<u64>, links: &mut LinkOps, members: usize)
+    requires { ShowsList links.old list.old }
+    ensures { ShowsList links.new list.new }
+{
+    for index in 0..members {
+        if let Some(place) = Place::new(index) {
+            if index < links.covers() {
+                put(list, links, UnsafeRef::new(place));
+            }
+        }
+    }
+}
+
+// Takes the first member off and puts it back at the end, so many times.
+#[inline(never)]
+fn turn(list: &mut LinkedList<u64>, links: &mut LinkOps, times: u64)
+    requires { ShowsList links.old list.old }
+    ensures { ShowsList links.new list.new }
+{
+    for _time in 0..times {
+        if let Some(object) = list.pop_front(links) {
+            put(list, links, object);
+        }
+    }
+}
+
+// Where a cursor stands after so many steps round the list.
+#[inline(never)]
+fn walk(list: &LinkedList<u64>, links: &LinkOps, steps: u64) -> Option<Place>
+    requires { ShowsList links.now list.now }
+{
+    let mut cursor = list.cursor(links);
+    for _step in 0..steps {
+        cursor.move_next();
+    }
+    cursor.get_ptr()
+}
+
+// Takes so many members off the front, and answers the last of them.
+#[inline(never)]
+fn drain(list: &mut LinkedList<u64>, links: &mut LinkOps, count: u64) -> Option<Place>
+    requires { ShowsList links.old list.old }
+    ensures { ShowsList links.new list.new }
+{
+    let mut last = None;
+    for _pop in 0..count {
+        last = list.pop_front(links).map(|object| object.place());
+    }
+    last
+}
+
+fn number(word: Option<&String>, default: u64) -> u64 {
+    word.and_then(|text| text.as_str().parse::<u64>().ok())
+        .unwrap_or(default)
+}
+
+// Prints where a kind of work ended, and the time of one of its operations.
+fn report(
+    rt: &(impl Print + Eprint),
+    work: &str,
+    end: Option<Place>,
+    nanos: u128,
+    count: u64,
+) -> io::Result<()> {
+    match end {
+        None => println!(rt; "{work}: nowhere")?,
+        Some(place) => println!(rt; "{work}: at {place:?}")?,
+    }
+    let each = nanos / u128::from(count.max(1));
+    eprintln!(rt; "{work}: {each} ns each")
+}
+
+fn main(rt: HostRuntime) -> io::Result<()> {
+    let words: Vec<String> = env::args(&rt)?.collect(rt.alloc())?;
+    let members = number(words.get(1), 1000).min(4_294_967_296);
+    let times = number(words.get(2), 100_001);
+    let mut links = LinkOps::new(rt.alloc());
+    if links.cover(members as usize).is_err() {
+        return eprintln!(rt; "no memory for so many members");
+    }
+    let mut list = LinkedList::new();
+    fill(&mut list, &mut links, members as usize);
+
+    let start = Instant::now(&rt)?;
+    turn(&mut list, &mut links, times);
+    let nanos = start.elapsed(&rt)?.as_nanos();
+    report(
+        &rt,
+        "push_back and pop_front",
+        walk(&list, &links, 1),
+        nanos,
+        times,
+    )?;
+
+    let start = Instant::now(&rt)?;
+    let end = walk(&list, &links, times);
+    let nanos = start.elapsed(&rt)?.as_nanos();
+    report(&rt, "move_next", end, nanos, times)?;
+
+    let start = Instant::now(&rt)?;
+    let end = drain(&mut list, &mut links, members);
+    let nanos = start.elapsed(&rt)?.as_nanos();
+    report(&rt, "pop_front", end, nanos, members)
+}

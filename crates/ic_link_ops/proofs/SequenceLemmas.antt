@@ -1,0 +1,155 @@
+-- Sequences of distinct places: their ends, cut and joined.
+use Rattle.std.proofs.Common.{◌≡◌, ◌≢◌, Option, Some, None, List, [], ◌∷◌, ◌++◌, refl, sym, ◌∙◌, append_assoc, append-nil}
+use Rattle.ic_unsafe_ref.specs.declared.place.Place.{Place}
+use Rattle.ic_link_ops.specs.Sequences.{Cut, join, at_front, first, IsAfter, IsBefore, IsAbsent, IsDistinct, IsDisjoint, first_or, last_or}
+use Rattle.ic_link_ops.specs.Joins.{end_of}
+
+-- an end that is no member of s
+abbrev pub IsOutside : Option Place → List Place → Type 0
+IsOutside None s = Unit {0}
+IsOutside (Some q) s = IsAbsent q s
+
+pub first_or-append : (s t : List Place) (a : Option Place) → first_or (s ++ t) a ≡ first_or s (first_or t a)
+first_or-append [] t a = refl
+first_or-append (x ∷ s) t a = refl
+
+pub last_or-append : (b : Option Place) (s t : List Place) → last_or b (s ++ t) ≡ last_or (last_or b s) t
+last_or-append b [] t = refl
+last_or-append b (x ∷ s) t = last_or-append (Some x) s t
+
+pub absent_left : (q : Place) (s t : List Place) → IsAbsent q (s ++ t) → IsAbsent q s
+absent_left q [] t h = tt
+absent_left q (x ∷ s) t h = (h.0, absent_left q s t h.1)
+
+pub absent_right : (q : Place) (s t : List Place) → IsAbsent q (s ++ t) → IsAbsent q t
+absent_right q [] t h = h
+absent_right q (x ∷ s) t h = absent_right q s t h.1
+
+pub absent_both : (q : Place) (s t : List Place) → IsAbsent q s → IsAbsent q t → IsAbsent q (s ++ t)
+absent_both q [] t h k = k
+absent_both q (x ∷ s) t h k = (h.0, absent_both q s t h.1 k)
+
+pub distinct_disjoint : (s t : List Place) → IsDistinct (s ++ t) → IsDisjoint s t
+distinct_disjoint [] t d = tt
+distinct_disjoint (x ∷ s) t d = (absent_right x s t d.0, distinct_disjoint s t d.1)
+
+pub distinct_left : (s t : List Place) → IsDistinct (s ++ t) → IsDistinct s
+distinct_left [] t d = tt
+distinct_left (x ∷ s) t d = (absent_left x s t d.0, distinct_left s t d.1)
+
+pub distinct_right : (s t : List Place) → IsDistinct (s ++ t) → IsDistinct t
+distinct_right [] t d = d
+distinct_right (x ∷ s) t d = distinct_right s t d.1
+
+pub distinct_insert : (s t : List Place) (p : Place) → IsDistinct (s ++ t) → IsAbsent p (s ++ t) → IsDistinct (s ++ p ∷ t)
+distinct_insert [] t p d h = (h, d)
+distinct_insert (x ∷ s) t p d h =
+    (absent_both x s (p ∷ t) (absent_left x s t d.0) ((λ e. h.0 (sym e)), absent_right x s t d.0), distinct_insert s t p d.1 h.1)
+
+pub distinct_remove : (s t : List Place) (p : Place) → IsDistinct (s ++ p ∷ t) → IsDistinct (s ++ t)
+distinct_remove [] t p d = d.1
+distinct_remove (x ∷ s) t p d =
+    (absent_both x s t (absent_left x s (p ∷ t) d.0) (absent_right x s (p ∷ t) d.0).1, distinct_remove s t p d.1)
+
+-- what stands in the middle of a list with distinct members is at none of its other positions
+pub distinct_middle : (s t : List Place) (p : Place) → IsDistinct (s ++ p ∷ t) → IsAbsent p (s ++ t)
+distinct_middle [] t p d = d.0
+distinct_middle (x ∷ s) t p d =
+    ((λ e. (absent_right x s (p ∷ t) d.0).0 (sym e)), distinct_middle s t p d.1)
+
+-- the last of s is not in t
+pub last_outside : (b : Option Place) (s t : List Place) → IsOutside b t → IsDisjoint s t → IsOutside (last_or b s) t
+last_outside b [] t h d = h
+last_outside b (x ∷ s) t h d = last_outside (Some x) s t d.0 d.1
+
+-- if no member of s is in t, then the first of t is not in s
+pub first_outside : (s t : List Place) → IsDisjoint s t → IsOutside (first_or t None) s
+first_outside s [] d = tt
+first_outside [] (y ∷ t) d = tt
+first_outside (x ∷ s) (y ∷ t) d = ((λ e. d.0.0 (sym e)), first_outside s (y ∷ t) d.1)
+
+pub outside_not : (b : Option Place) (x : Place) (s : List Place) → IsOutside b (x ∷ s) → b ≢ Some x
+outside_not None x s h e = cc
+outside_not (Some q) x s h e = h.0 (cc)
+
+pub outside_tail : (b : Option Place) (x : Place) (s : List Place) → IsOutside b (x ∷ s) → IsOutside b s
+outside_tail None x s h = tt
+outside_tail (Some q) x s h = h.1
+
+-- a place that is absent from s is not its last
+pub last_not : (b : Option Place) (s : List Place) (q : Place) → b ≢ Some q → IsAbsent q s → last_or b s ≢ Some q
+last_not b [] q n h e = n e
+last_not b (x ∷ s) q n h e = last_not (Some x) s q (λ k. h.0 (cc)) h.1 e
+
+-- nor its first
+pub first_not : (s : List Place) (a : Option Place) (q : Place) → a ≢ Some q → IsAbsent q s → first_or s a ≢ Some q
+first_not [] a q n h e = n e
+first_not (x ∷ s) a q n h e = h.0 (cc)
+
+pub none_not : (q : Place) → None ≢ Some q
+none_not q e = cc
+
+end_of-last : (x : Place) (s : List Place) (fresh old : Option Place) → end_of (last_or (Some x) s) fresh old ≡ old
+end_of-last x [] fresh old = refl
+end_of-last x (y ∷ s) fresh old = end_of-last y s fresh old
+
+-- the head where what stands before back is the last of front
+pub head_of : (front : List Place) (fresh old a : Option Place) → old ≡ first_or front a
+    → end_of (last_or None front) fresh old ≡ first_or front fresh
+head_of [] fresh old a e = refl
+head_of (x ∷ s) fresh old a e = end_of-last x s fresh old ∙ e
+
+-- the tail where what stands after front is the first of back
+pub tail_of : (back : List Place) (fresh old b : Option Place) → old ≡ last_or b back
+    → end_of (first_or back None) fresh old ≡ last_or fresh back
+tail_of [] fresh old b e = refl
+tail_of (x ∷ s) fresh old b e = e
+
+pub some_same : {x y : Place} → Some x ≡ Some y → x ≡ y
+some_same e = cc
+
+pub disjoint_cons : (p : Place) (t s : List Place) → IsAbsent p t → IsDisjoint t s → IsDisjoint t (p ∷ s)
+disjoint_cons p [] s h d = tt
+disjoint_cons p (x ∷ t) s h d = (((λ e. h.0 (sym e)), d.0), disjoint_cons p t s h.1 d.1)
+
+pub last_some : (x : Place) (s : List Place) → last_or (Some x) s ≢ None
+last_some x [] e = cc
+last_some x (y ∷ s) e = last_some y s e
+
+-- with nothing in front, the first of all is the first of back
+pub first_of_back : (front back : List Place) → None ≡ last_or None front → first_or (front ++ back) None ≡ first_or back None
+first_of_back [] back e = refl
+first_of_back (x ∷ s) back e = absurd (last_some x s (sym e))
+
+-- a list whose members are none of the others put into them
+pub distinct_splice : (front mid back : List Place) → IsDistinct (front ++ back) → IsDistinct mid → IsDisjoint mid (front ++ back) → IsDistinct (front ++ (mid ++ back))
+distinct_splice front [] back d m j = d
+distinct_splice front (x ∷ mid) back d m j =
+    distinct_insert front (mid ++ back) x (distinct_splice front mid back d m.1 j.1)
+    (absent_both x front (mid ++ back) (absent_left x front back j.0) (absent_both x mid back m.0 (absent_right x front back j.0)))
+
+-- what is disjoint from t is disjoint from all that stays within t
+pub absent_swap : (s t : List Place) → IsDisjoint s t → (u : List Place) → ((q : Place) → IsAbsent q t → IsAbsent q u) → IsDisjoint s u
+absent_swap [] t d u h = tt
+absent_swap (x ∷ s) t d u h = (h x d.0, absent_swap s t d.1 u h)
+
+absent_before : (y : Place) (s t : List Place) → IsDisjoint s (y ∷ t) → IsAbsent y s
+absent_before y [] t d = tt
+absent_before y (x ∷ s) t d = ((λ e. d.0.0 (sym e)), absent_before y s t d.1)
+
+disjoint_rest : (y : Place) (s t : List Place) → IsDisjoint s (y ∷ t) → IsDisjoint s t
+disjoint_rest y [] t d = tt
+disjoint_rest y (x ∷ s) t d = (d.0.1, disjoint_rest y s t d.1)
+
+-- two lists are disjoint from either side
+pub disjoint_sym : (s t : List Place) → IsDisjoint s t → IsDisjoint t s
+disjoint_sym s [] d = tt
+disjoint_sym s (y ∷ t) d = (absent_before y s t d, disjoint_sym s t (disjoint_rest y s t d))
+
+-- WHERE A CURSOR STANDS NEXT: one that has a gap before it has a gap of the same sequence after it
+pub gap_after : (gap : Cut) (cursor : Option Place) → IsBefore gap cursor → (next : Cut) × (join next ≡ join gap) × IsAfter next cursor
+gap_after gap cursor before = behind gap.front gap.back cursor before where
+  behind : (front back : List Place) (cursor : Option Place) → cursor ≡ first back → (next : Cut) × (join next ≡ front ++ back) × IsAfter next cursor
+  behind front [] cursor before = (at_front front, sym (append-nil front), before)
+  behind front (x ∷ back) cursor before =
+      (record { front = front ++ x ∷ []; back = back }, append_assoc front (x ∷ []) back, before ∙ sym (last_or-append None front (x ∷ [])))

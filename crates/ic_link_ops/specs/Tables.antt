@@ -1,0 +1,44 @@
+-- What clauses see of a table of links at one moment, and how it may change.
+use Rattle.std.specs.Prelude.{◌≡◌, ◌≢◌, ℕ, ◌<◌, Bool, true, false, List}
+use Rattle.ic_unsafe_ref.specs.declared.place.Place.{Place}
+use Rattle.ic_unsafe_ref.specs.Places.{index_of}
+use Rattle.ic_link_ops.specs.Sequences.{IsAbsent}
+
+-- how many places it covers, and all that it keeps at each
+pub record Table (E : Type 0) : Type 0 where
+  pub covers : ℕ
+  pub entry : Place → E
+
+module _ {E : Type 0} where
+  -- p is one of the places that the table covers
+  abbrev pub IsCovered : Table E → Place → Type 0
+  IsCovered t p = index_of p < t.covers
+
+  -- the entry at p says that p is linked, or that it is not
+  abbrev pub IsLinked : (E → Bool) → Table E → Place → Type 0
+  IsLinked linked t p = linked (t.entry p) ≡ true
+
+  abbrev pub IsUnlinked : (E → Bool) → Table E → Place → Type 0
+  IsUnlinked linked t p = linked (t.entry p) ≡ false
+
+  -- nothing but the entry at p is changed
+  pub record ChangesOnly (old new : Table E) (p : Place) : Type 0 where
+    pub covers : new.covers ≡ old.covers
+    pub others : (q : Place) → q ≢ p → new.entry q ≡ old.entry q
+
+  -- THE FRAME: nothing but entries at members of s is changed
+  pub record KeepsBeside (old new : Table E) (s : List Place) : Type 0 where
+    pub covers : new.covers ≡ old.covers
+    pub others : (q : Place) → IsAbsent q s → new.entry q ≡ old.entry q
+
+  -- the linked places are the old ones, and p, which was not among them
+  pub record LinksAlso (linked : E → Bool) (old new : Table E) (p : Place) : Type 0 where
+    pub was : IsUnlinked linked old p
+    pub is : IsLinked linked new p
+    pub others : (q : Place) → q ≢ p → linked (new.entry q) ≡ linked (old.entry q)
+
+  -- the linked places are the old ones but p, which was among them
+  pub record Unlinks (linked : E → Bool) (old new : Table E) (p : Place) : Type 0 where
+    pub was : IsLinked linked old p
+    pub is : IsUnlinked linked new p
+    pub others : (q : Place) → q ≢ p → linked (new.entry q) ≡ linked (old.entry q)

@@ -1,0 +1,48 @@
+//! An end of a collection.
+
+ghost use Rattle.std.specs.Prelude.{◌≡◌};
+
+use ic_unsafe_ref::Place;
+use std::marker::Model;
+
+/// A place or none, kept in one word: what heads of collections are made of.
+///
+/// A clause sees it as an `Option<Place>`.
+#[derive(Drop)]
+pub struct End {
+    word: u64,
+}
+
+impl Model for End {
+    ghost use Rattle.std.specs.Prelude.{Option};
+    ghost use Rattle.ic_unsafe_ref.specs.declared.place.Place.{Place};
+    ghost use Rattle.ic_unsafe_ref.specs.Numbers.{IsWord};
+    ghost use Rattle.ic_unsafe_ref.specs.Places.{place_at};
+
+    ghost Value = { Option Place };
+
+    ghost view = { λ e. place_at e.word };
+
+    ghost invariant = { λ e. IsWord e.word };
+}
+
+impl End {
+    /// The end at a place, or the one of an empty collection.
+    #[inline]
+    #[tactic(auto, using(ic_unsafe_ref::proofs::PlaceLemmas::place_at_word))]
+    pub fn of(place: Option<Place>) -> End
+        ensures { result ≡ place }
+    {
+        End {
+            word: Place::to_word(place),
+        }
+    }
+
+    /// Where it is.
+    #[inline]
+    pub fn get(&self) -> Option<Place>
+        ensures { result ≡ self.now }
+    {
+        Place::from_word(self.word)
+    }
+}

@@ -1,0 +1,77 @@
+-- The walk over a list's objects: one step of it, and its end.
+use Rattle.std.proofs.Common.{◌≡◌, Option, Some, None, List, [], ◌∷◌, true, false, Bor, refl, sym, ◌∙◌, ap}
+use Rattle.std.specs.Option.{option_copied}
+use Rattle.std.specs.List.{cons_option}
+use Rattle.std.specs.Iterator.{YieldsFirstRef, MakesProgress, item_count}
+use Rattle.ic_unsafe_ref.specs.declared.place.Place.{Place}
+use Rattle.ic_unsafe_ref.specs.Objects.{object_at}
+use Rattle.ic_link_ops.specs.Tables.{Table, IsCovered}
+use Rattle.ic_link_ops.specs.LinkedList.{Neighbors}
+use Rattle.ic_link_ops.specs.Walk.{IsWalk, is_end}
+use Rattle.ic_link_ops.proofs.Walks.{walk_shown, walk_last, walk_more, walk_none, walk_empty, is_end_yes, is_end_no, yields_placed, makes_progress}
+use Rattle.ic_linked_list.specs.declared.iter.Iter.{Iter}
+use Rattle.ic_linked_list.specs.Iter.{ArePlaced, values_at, objects_left, CanWalk}
+
+module _ {T L A E : Type 0} (n : E → Neighbors) (table : L → Table E) where
+  -- the walk gave out the member at p, and goes on behind it
+  pub record Steps (old new : Iter T L A) (p : Place) : Type 0 where
+    pub members : List Place
+    pub walk : IsWalk n (table new.links.now).entry new.head new.tail members
+    pub whole : IsWalk n (table old.links.now).entry old.head old.tail (p ∷ members)
+    pub placed : ArePlaced old.objects.now (p ∷ members)
+    pub objects : new.objects.now ≡ old.objects.now
+
+  -- it ends at the last member
+  pub steps_last : (t : Iter T L A) (p : Place) → CanWalk n table t → t.head ≡ Some p → is_end t.tail p ≡ true
+      → Steps t (record t { head = None; tail = None }) p
+  steps_last t p can at end =
+      let k = rw (at, is_end_yes t.tail p end) at can.1 in
+      let e = walk_last n _ p can.0 k in
+      record {
+        members = [];
+        walk = walk_none n _;
+        whole = rw e at can.1;
+        placed = rw e at can.2;
+        objects = refl;
+      }
+
+  -- else it goes on at the next one
+  pub steps_more : (t : Iter T L A) (p : Place) (next : Option Place) → CanWalk n table t → t.head ≡ Some p → is_end t.tail p ≡ false
+      → next ≡ (n ((table t.links.now).entry p)).next → Steps t (record t { head = next }) p
+  steps_more t p next can at end is_next =
+      let k = rw at at can.1 in
+      let r = walk_more n _ p t.tail can.0 k (is_end_no t.tail p end) in
+      record {
+        members = r.0;
+        walk = rw is_next r.2;
+        whole = rw r.1 at can.1;
+        placed = rw r.1 at can.2;
+        objects = refl;
+      }
+
+  -- the walk can go on
+  pub can_walk : {old new : Iter T L A} {p : Place} → Steps old new p → CanWalk n table new
+  can_walk k = (k.members, k.walk, rw k.objects k.placed.1)
+
+  module _ (law : (t : L) (q : Place) → (n ((table t).entry q)).linked ≡ true → IsCovered (table t) q) where
+    -- what is left is what stands at the members of the walk
+    pub left_is : (t : Iter T L A) (w : List Place) → IsWalk n (table t.links.now).entry t.head t.tail w
+        → objects_left n table t ≡ values_at t.objects.now w
+    left_is t w k = ap (values_at t.objects.now) (walk_shown n (table t.links.now) (law t.links.now) t.head t.tail w k)
+
+    -- where it has no first member, nothing is left
+    pub none_left : (t : Iter T L A) → CanWalk n table t → t.head ≡ None → objects_left n table t ≡ []
+    none_left t can at = left_is t can.0 can.1 ∙ ap (values_at t.objects.now) (walk_empty n _ t.head t.tail can.0 at can.1)
+
+    -- the step gives the object at p
+    pub gives : {old new : Iter T L A} {p : Place} (r : Option (Bor T)) → Steps old new p → option_copied r ≡ object_at new.objects.now p
+        → YieldsFirstRef (objects_left n table) old r new
+    gives {old} {new} {p} r k is =
+        yields_placed (objects_left n table) old new r (object_at old.objects.now p) k.placed.0 (rw k.objects at is)
+        (left_is old (p ∷ k.members) k.whole
+        ∙ ap (cons_option (object_at old.objects.now p)) (sym (left_is new k.members k.walk ∙ ap (λ o. values_at o k.members) k.objects)))
+
+    -- and leaves one less
+    pub goes : {old new : Iter T L A} {p : Place} (r : Option (Bor T)) → Steps old new p → option_copied r ≡ object_at new.objects.now p
+        → MakesProgress (CanWalk n table) (item_count (objects_left n table)) old r new
+    goes {old} {new} {p} r k is = makes_progress (objects_left n table) (CanWalk n table) old new r (can_walk k) (gives r k is)

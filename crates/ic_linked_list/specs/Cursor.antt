@@ -1,0 +1,18 @@
+-- What clauses see of a cursor.
+use Rattle.std.specs.Prelude.{Option}
+use Rattle.ic_unsafe_ref.specs.declared.place.Place.{Place}
+use Rattle.ic_link_ops.specs.LinkedList.{Ends}
+use Rattle.ic_linked_list.specs.declared.cursor.Cursor.{Cursor}
+
+module _ {T L : Type 0} where
+  -- the list that it reads
+  abbrev pub list_of : Cursor T L → Ends
+  list_of c = c.list.now
+
+  -- the table that it reads
+  abbrev pub links_of : Cursor T L → L
+  links_of c = c.links.now
+
+  -- the member that it is on, none at null
+  abbrev pub position : Cursor T L → Option Place
+  position c = c.current

@@ -1,0 +1,31 @@
+-- What clauses see of a walk over a list's objects.
+use Rattle.std.specs.Prelude.{IsSome, List}
+use Rattle.std.specs.List.{AllByRecursion, filter_map}
+use Rattle.ic_unsafe_ref.specs.declared.place.Place.{Place}
+use Rattle.ic_unsafe_ref.specs.Objects.{Objects, object_at}
+use Rattle.ic_link_ops.specs.Tables.{Table}
+use Rattle.ic_link_ops.specs.LinkedList.{Neighbors}
+use Rattle.ic_link_ops.specs.Walk.{between, IsWalk}
+use Rattle.ic_linked_list.specs.declared.iter.Iter.{Iter}
+
+module _ {T : Type 0} where
+  -- an object stands at each member of s
+  abbrev pub ArePlaced : Objects T → List Place → Type 0
+  ArePlaced objects s = AllByRecursion (λ p. IsSome (object_at objects p)) s
+
+  -- the objects at the members of s, in order
+  abbrev pub values_at : Objects T → List Place → List T
+  values_at objects s = filter_map (object_at objects) s
+
+module _ {T L A E : Type 0} (neighbors : E → Neighbors) (table : L → Table E) where
+  -- the members that the walk has not given out yet
+  abbrev pub rest_of : Iter T L A → List Place
+  rest_of t = between neighbors (table t.links.now) t.head t.tail
+
+  -- the objects that it has not given out yet
+  abbrev pub objects_left : Iter T L A → List T
+  objects_left t = values_at t.objects.now (rest_of t)
+
+  -- it stands between two members of a chain, all of which are placed
+  abbrev pub CanWalk : Iter T L A → Type 0
+  CanWalk t = (w : List Place) × IsWalk neighbors (table t.links.now).entry t.head t.tail w × ArePlaced t.objects.now w

@@ -1,0 +1,93 @@
+//! A walk over the objects of a list.
+
+ghost use Rattle.std.specs.Prelude.{◌≡◌, List, Option, Some};
+ghost use Rattle.std.specs.Iterator.{YieldsFirstRef, item_count};
+ghost use Rattle.ic_unsafe_ref.specs.declared.place.Place.{Place};
+ghost use Rattle.ic_link_ops.specs.LinkedList.{Shows, ShowsSome};
+ghost use Rattle.ic_link_ops.specs.Walk.{is_end};
+
+use crate::LinkedList;
+use ic_link_ops::LinkOps;
+use ic_link_ops::linked_list::LinkedListOps;
+use ic_unsafe_ref::{Objects, Place};
+use std::alloc::{Allocator, Global};
+
+/// The objects of a list that are not given out yet, from the front.
+pub struct Iter<'a, T, L, A: Allocator = Global> {
+    links: &'a L,
+    objects: &'a Objects<T, A>,
+    head: Option<Place>,
+    tail: Option<Place>,
+}
+
+impl<T, L, A: Allocator> Drop for Iter<'_, T, L, A> {
+    fn drop(self) {
+        let Iter {
+            links: _,
+            objects: _,
+            head: _,
+            tail: _,
+        } = self;
+    }
+}
+
+// Whether the end of the walk is `place`.
+#[inline]
+fn is_at(end: Option<Place>, place: Place) -> bool
+    ensures { result ≡ is_end end place }
+{
+    match end {
+        None => false,
+        Some(end) => end == place,
+    }
+}
+
+impl<'a, T, L: LinkedListOps, A: Allocator> Iterator for Iter<'a, T, L, A> {
+    type Item = &'a T;
+
+    ghost use Rattle.std.specs.Iterator.{YieldsFirstRef, item_count};
+    ghost use Rattle.ic_linked_list.specs.Iter.{objects_left, CanWalk};
+
+    ghost can_next = { CanWalk L.neighbors L.table };
+
+    ghost next_gives = { YieldsFirstRef (objects_left L.neighbors L.table) };
+
+    ghost remaining = { item_count (objects_left L.neighbors L.table) };
+
+    /// The next object. O(1): one reading of a neighbour, and one look-up of the object.
+    fn next(&mut self) -> Option<&'a T> {
+        let place = self.head?;
+        if is_at(self.tail, place) {
+            self.head = None;
+            self.tail = None;
+        } else {
+            self.head = self.links.next(place);
+        }
+        let objects: &'a Objects<T, A> = self.objects;
+        objects.get(place)
+    }
+}
+
+impl<T> LinkedList<T> {
+    ghost use Rattle.ic_linked_list.specs.Iter.{ArePlaced, values_at, objects_left, CanWalk};
+
+    /// A walk over the objects of the list, from the front. It asks that all members are placed.
+    pub fn iter<'a, L: LinkedListOps, A: Allocator>(
+        &self,
+        links: &'a L,
+        objects: &'a Objects<T, A>,
+    ) -> Iter<'a, T, L, A>
+        requires shown { ShowsSome L.neighbors (L.table links.now) self.now }
+        requires placed { (s : List Place) → Shows L.neighbors (L.table links.now) self.now s → ArePlaced objects.now s }
+        ensures walks { (s : List Place) → Shows L.neighbors (L.table links.now) self.now s
+            → objects_left L.neighbors L.table result ≡ values_at objects.now s }
+        ensures can_walk { CanWalk L.neighbors L.table result }
+    {
+        Iter {
+            links,
+            objects,
+            head: self.head(),
+            tail: self.tail(),
+        }
+    }
+}

@@ -1,0 +1,29 @@
+//! A doubly linked list over any table with two neighbours in an entry.
+//!
+//! Each operation takes the table of the link field. Linking takes no memory, and one object can be in lists of
+//! several fields.
+//!
+//! ```text
+//! let mut links = linked_list::LinkOps::new(rt.alloc());
+//! links.cover(2)?;
+//! let mut list = LinkedList::new();
+//! list.push_back(&mut links, first)?;
+//! list.push_back(&mut links, second)?;
+//! let taken = list.pop_front(&mut links); // the first
+//! ```
+#![tactic(auto)]
+
+pub mod laws;
+
+mod cursor;
+mod iter;
+mod list;
+mod surgery;
+
+pub use cursor::Cursor;
+pub use ic_link_ops::linked_list::{Link, LinkOps, LinkedListOps};
+pub use iter::Iter;
+pub use list::LinkedList;
+
+#[cfg(test)]
+mod tests;

@@ -1,0 +1,221 @@
+//! The list.
+
+ghost use Rattle.std.specs.Prelude.{◌≡◌, ◌≢◌, ◌↔◌, ◌++◌, ◌∷◌, List, Option, Some, None, IsTrue, OnOk, OnErr, IfErr, IfSome, IfNone};
+ghost use Rattle.ic_unsafe_ref.specs.declared.place.Place.{Place};
+ghost use Rattle.ic_link_ops.specs.Sequences.{first, first_or, last_or, IsAbsent, at_front, at_back, insert, remove};
+ghost use Rattle.ic_link_ops.specs.Tables.{IsCovered, IsLinked, KeepsBeside, LinksAlso, Unlinks};
+ghost use Rattle.ic_link_ops.specs.LinkedList.{Shows, ShowsSome, no_members};
+ghost use Rattle.ic_link_ops.specs.Joins.{end_of};
+
+use crate::surgery::join;
+use ic_link_ops::linked_list::LinkedListOps;
+use ic_link_ops::{AlreadyLinked, End, LinkOps};
+use ic_unsafe_ref::{Place, UnsafeRef};
+use std::marker::{Model, PhantomData};
+
+/// A doubly linked list of objects, of which it keeps the two ends.
+///
+/// Good for queues and for objects that leave from the middle. A clause sees its ends; which sequence it has is what
+/// the table shows for them.
+pub struct LinkedList<T> {
+    head: End,
+    tail: End,
+    of: PhantomData<T>,
+}
+
+impl<T> Model for LinkedList<T> {
+    ghost use Rattle.ic_link_ops.specs.LinkedList.{Ends};
+
+    ghost Value = { Ends };
+
+    ghost view = { λ l. record { head = l.head; tail = l.tail } };
+}
+
+impl<T> Drop for LinkedList<T> {
+    fn drop(self) {
+        let LinkedList {
+            head: _,
+            tail: _,
+            of: _,
+        } = self;
+    }
+}
+
+impl<T> Default for LinkedList<T> {
+    ghost is_default = { λ l. l ≡ no_members };
+
+    /// An empty list.
+    fn default() -> LinkedList<T> {
+        LinkedList::new()
+    }
+}
+
+impl<T> LinkedList<T> {
+    /// An empty list: every table shows the empty sequence for it.
+    pub fn new() -> LinkedList<T>
+        ensures { result ≡ no_members }
+    {
+        LinkedList {
+            head: End::of(None),
+            tail: End::of(None),
+            of: PhantomData,
+        }
+    }
+
+    /// Whether the list has no members. It reads no links.
+    #[inline]
+    pub fn is_empty(&self) -> bool
+        ensures { IsTrue result ↔ (self.now.head ≡ None) }
+    {
+        self.head.get().is_none()
+    }
+
+    // The first member.
+    #[inline]
+    pub(crate) fn head(&self) -> Option<Place>
+        ensures { result ≡ self.now.head }
+    {
+        self.head.get()
+    }
+
+    // The last member.
+    #[inline]
+    pub(crate) fn tail(&self) -> Option<Place>
+        ensures { result ≡ self.now.tail }
+    {
+        self.tail.get()
+    }
+}
+
+// An end of a list whose first or last member has this neighbour now: it stays where there is one.
+#[inline]
+fn end(neighbor: Option<Place>, fresh: Option<Place>, end: Option<Place>) -> Option<Place>
+    ensures { result ≡ end_of neighbor fresh end }
+{
+    match neighbor {
+        None => fresh,
+        Some(_) => end,
+    }
+}
+
+impl<T> LinkedList<T> {
+    /// Puts the object at the back of the list, unless its link is refused. O(1), and it takes no memory.
+    ///
+    /// It asks that the object's place is covered. A refused object comes back, and the list is as it was: over a plain
+    /// table that is so exactly if the object is linked in this field.
+    #[inline]
+    pub fn push_back<L: LinkedListOps>(
+        &mut self,
+        links: &mut L,
+        object: UnsafeRef<T>,
+    ) -> Result<(), AlreadyLinked<T>>
+        requires covered { IsCovered (L.table links.old) object }
+        requires shown { ShowsSome L.neighbors (L.table links.old) self.old }
+
+        ensures inserted { (s : List Place) → Shows L.neighbors (L.table links.old) self.old s
+            → OnOk result (Shows L.neighbors (L.table links.new) self.new (insert (at_back s) object)) }
+        ensures acquired { OnOk result (L.Acquired links.old links.new object) }
+        ensures linked { OnOk result (LinksAlso L.linked (L.table links.old) (L.table links.new) object) }
+        ensures refused { OnErr result (L.Refused links.old links.new object) }
+        ensures unchanged { IfErr result (λ refused. (refused.0 ≡ object) × (self.new ≡ self.old)) }
+        ensures frame { (s : List Place) → Shows L.neighbors (L.table links.old) self.old s
+            → KeepsBeside (L.table links.old) (L.table links.new) (object ∷ s) }
+    {
+        let tail = self.tail();
+        self.insert_between(links, tail, object, None)
+    }
+
+    /// Takes the object at the front off the list and answers it, or `None` if the list is empty. O(1).
+    #[inline]
+    pub fn pop_front<L: LinkedListOps>(&mut self, links: &mut L) -> Option<UnsafeRef<T>>
+        requires shown { ShowsSome L.neighbors (L.table links.old) self.old }
+
+        ensures answer { (s : List Place) → Shows L.neighbors (L.table links.old) self.old s → result ≡ first s }
+        ensures removed { (s : List Place) → Shows L.neighbors (L.table links.old) self.old s
+            → Shows L.neighbors (L.table links.new) self.new (remove (at_front s)) }
+        ensures unlinked { IfSome result (Unlinks L.linked (L.table links.old) (L.table links.new)) }
+        ensures empty { IfNone result ((self.new ≡ self.old) × (links.new ≡ links.old)) }
+        ensures frame { (s : List Place) → Shows L.neighbors (L.table links.old) self.old s
+            → KeepsBeside (L.table links.old) (L.table links.new) s }
+    {
+        let place = self.head()?;
+        self.take_out(links, place);
+        links.release_link(place);
+        Some(UnsafeRef::new(place))
+    }
+
+    // Puts the object into the gap between two neighbours, unless its link is refused.
+    #[inline]
+    fn insert_between<L: LinkedListOps>(
+        &mut self,
+        links: &mut L,
+        before: Option<Place>,
+        object: UnsafeRef<T>,
+        behind: Option<Place>,
+    ) -> Result<(), AlreadyLinked<T>>
+        requires covered { IsCovered (L.table links.old) object }
+        requires shown { (front back : List Place) × Shows L.neighbors (L.table links.old) self.old (front ++ back)
+            × (before ≡ last_or None front) × (behind ≡ first_or back None) }
+        ensures inserted { (front back : List Place) → Shows L.neighbors (L.table links.old) self.old (front ++ back)
+            → before ≡ last_or None front → behind ≡ first_or back None
+            → OnOk result (Shows L.neighbors (L.table links.new) self.new (front ++ object ∷ back)) }
+        ensures acquired { OnOk result (L.Acquired links.old links.new object) }
+        ensures linked { OnOk result (LinksAlso L.linked (L.table links.old) (L.table links.new) object) }
+        ensures refused { OnErr result (L.Refused links.old links.new object) }
+        ensures unchanged { IfErr result (λ refused. (refused.0 ≡ object) × (self.new ≡ self.old)) }
+        ensures frame { (front back : List Place) → Shows L.neighbors (L.table links.old) self.old (front ++ back)
+            → before ≡ last_or None front → behind ≡ first_or back None
+            → KeepsBeside (L.table links.old) (L.table links.new) (object ∷ (front ++ back)) }
+    {
+        let place = object.place();
+        if !links.acquire_link(place) {
+            return Err(AlreadyLinked(object));
+        }
+        self.put_between(links, before, place, behind);
+        Ok(())
+    }
+
+    // Puts the linked place between two neighbours.
+    #[inline]
+    fn put_between<L: LinkedListOps>(
+        &mut self,
+        links: &mut L,
+        before: Option<Place>,
+        place: Place,
+        behind: Option<Place>,
+    )
+        requires held { IsLinked L.linked (L.table links.old) place }
+        requires before { (q : Place) → before ≡ Some q → IsLinked L.linked (L.table links.old) q }
+        requires behind { (q : Place) → behind ≡ Some q → IsLinked L.linked (L.table links.old) q }
+        ensures shows { (front back : List Place) → Shows L.neighbors (L.table links.old) self.old (front ++ back)
+            → IsAbsent place (front ++ back) → before ≡ last_or None front → behind ≡ first_or back None
+            → Shows L.neighbors (L.table links.new) self.new (front ++ place ∷ back) }
+        ensures linked { (q : Place) → L.linked ((L.table links.new).entry q) ≡ L.linked ((L.table links.old).entry q) }
+        ensures covers { (L.table links.new).covers ≡ (L.table links.old).covers }
+        ensures others { (q : Place) → before ≢ Some q → q ≢ place → behind ≢ Some q
+            → (L.table links.new).entry q ≡ (L.table links.old).entry q }
+        ensures keeps_acquired { (first : L) (q : Place) → L.Acquired first links.old q → L.Acquired first links.new q }
+    {
+        join(links, before, Some(place));
+        join(links, Some(place), behind);
+        self.head = End::of(end(before, Some(place), self.head.get()));
+        self.tail = End::of(end(behind, Some(place), self.tail.get()));
+    }
+
+    // Takes the member out of the chain. It stays linked.
+    #[inline]
+    fn take_out<L: LinkedListOps>(&mut self, links: &mut L, place: Place)
+        requires { (front back : List Place) × Shows L.neighbors (L.table links.old) self.old (front ++ place ∷ back) }
+        ensures shows { (front back : List Place) → Shows L.neighbors (L.table links.old) self.old (front ++ place ∷ back)
+            → Shows L.neighbors (L.table links.new) self.new (front ++ back) }
+        ensures linked { (q : Place) → L.linked ((L.table links.new).entry q) ≡ L.linked ((L.table links.old).entry q) }
+        ensures frame { (front back : List Place) → Shows L.neighbors (L.table links.old) self.old (front ++ place ∷ back)
+            → KeepsBeside (L.table links.old) (L.table links.new) (front ++ place ∷ back) }
+    {
+        let before = links.prev(place);
+        let behind = links.next(place);
+        join(links, before, behind);
+        self.head = End::of(end(before, behind, self.head.get()));
+        self.tail = End::of(end(behind, before, self.tail.get()));
+    }
+}

@@ -1,0 +1,158 @@
+//! The program, over any reader and any writer.
+
+ghost use Rattle.std.specs.Prelude.{◌≡◌, ◌≢◌, ◌⊎◌, ◌<◌, IfOk, OnOk, codes, length};
+ghost use Rattle.std.specs.Io.KnownBytes.{Appends};
+ghost use Rattle.ic_world.specs.Step.{Step, reply_of};
+ghost use Rattle.ic_main.specs.Answered.{reply_in};
+ghost use Rattle.ic_main.specs.Line.{IsTextOf};
+
+use crate::command;
+use ic_rbtree::KeyAdapter;
+use ic_world::{Answer, Command, Refusal, World};
+use std::alloc::Allocator;
+use std::io::{self, BufRead, ErrorKind, Write};
+
+/// The status after a fault of reading or writing, input that is not UTF-8, or want of memory.
+pub(crate) const FAULT: u8 = 3;
+
+// How a run ends that meets no fault.
+#[derive(Clone, Copy)]
+enum Ending {
+    /// At the end of the input.
+    Finished = 0,
+    /// At a line that is no command, or at arguments.
+    NotUnderstood = 2,
+}
+
+/// A value is its own key.
+#[derive(Clone, Copy)]
+struct OwnKey;
+
+impl KeyAdapter for OwnKey {
+    type Value = u64;
+
+    type Key = u64;
+
+    ghost key_of = { λ _ value. value };
+
+    fn get_key<'v>(&self, value: &'v u64) -> &'v u64 {
+        value
+    }
+}
+
+/// Runs the calls that `reader` gives, one a line, on a new world, and writes the answer to each on a line of its own.
+/// `words` are the program's arguments, of which there may be none. `_rt` is what main is handed: nothing here asks the
+/// runtime for anything yet.
+///
+/// The answer is the program's status:
+///
+/// - 0 at the end of the input.
+/// - 2 at a line that is no command, which is answered by its number, and at arguments. What was answered before is
+///   written, and nothing more is read.
+/// - 3 at a fault of reading or writing, input that is not UTF-8, or want of memory outside the world. What was answered
+///   before is written, as far as the writer takes it.
+pub(crate) fn run_program<S, M: Allocator + Copy, R: BufRead, W: Write>(
+    _rt: &S,
+    alloc: M,
+    words: &[String],
+    reader: &mut R,
+    writer: &mut W,
+) -> u8
+    ensures status { (result ≡ 0) ⊎ (result ≡ 2) ⊎ (result ≡ FAULT) }
+    ensures arguments { 0 < length words.now → result ≢ FAULT → (result ≡ 2) × Appends (W.contents writer.old) (W.contents writer.new) (codes "bad arguments\n") }
+{
+    let ending = if words.is_empty() {
+        answer_lines(alloc, reader, writer)
+    } else {
+        refuse_arguments(writer)
+    };
+    let flushed = writer.flush();
+    match (ending, flushed) {
+        (Ok(ending), Ok(())) => ending as u8,
+        _ => FAULT,
+    }
+}
+
+// There are arguments, and none are known.
+fn refuse_arguments<W: Write>(writer: &mut W) -> io::Result<Ending>
+    ensures status { IfOk result (λ ending. ending ≡ Ending.NotUnderstood) }
+    ensures text { OnOk result (Appends (W.contents writer.old) (W.contents writer.new) (codes "bad arguments\n")) }
+{
+    writeln!(writer, "bad arguments")?;
+    Ok(Ending::NotUnderstood)
+}
+
+// Answers each line in turn, until the input ends or a line is no command. After a fault the lines before it are answered.
+fn answer_lines<M: Allocator + Copy, R: BufRead, W: Write>(
+    alloc: M,
+    reader: &mut R,
+    writer: &mut W,
+) -> io::Result<Ending> {
+    let mut world = World::new(alloc, OwnKey);
+    let mut line = String::new(alloc);
+    for lines_before in 0..u64::MAX {
+        line.clear();
+        if reader.read_line(&mut line)? == 0 {
+            return Ok(Ending::Finished);
+        }
+        let words = command::words_of(without_end(&line));
+        if words.is_empty() {
+            continue;
+        }
+        match command::from_words(&words) {
+            Some(command) => writeln!(writer, "{}", answer(&mut world, command))?,
+            None => {
+                writeln!(writer, "line {}: no command", lines_before + 1)?;
+                return Ok(Ending::NotUnderstood);
+            }
+        }
+    }
+    // There are more lines than a number counts.
+    Err(io::Error::from(ErrorKind::TimedOut))
+}
+
+// A line as `lines` gives it: without the `\n` or `\r\n` that ends it.
+fn without_end(line: &str) -> &str
+    ensures { IsTextOf line.now result.now }
+{
+    match line.strip_suffix('\n') {
+        Some(text) => text.strip_suffix('\r').unwrap_or(text),
+        None => line,
+    }
+}
+
+// Makes the call, and answers what is printed for it. A call that the world refuses leaves it as it was.
+fn answer<M: Allocator + Copy>(world: &mut World<OwnKey, M>, command: Command<u64>) -> Answer<M>
+    ensures { Step world.old command (reply_in result) world.new }
+{
+    match call(world, command) {
+        Ok(answer) => answer,
+        Err(refusal) => Answer::Refused(refusal),
+    }
+}
+
+// Makes the call. `Err`: the world refuses it.
+fn call<M: Allocator + Copy>(
+    world: &mut World<OwnKey, M>,
+    command: Command<u64>,
+) -> Result<Answer<M>, Refusal>
+    ensures { Step world.old command (reply_of reply_in result) world.new }
+{
+    match command {
+        Command::AddField(kind) => Ok(Answer::Field(world.add_field(kind)?)),
+        Command::Open(field, kind) => Ok(Answer::Collection(world.open(field, kind)?)),
+        Command::Place(value) => match world.place(value) {
+            Ok(object) => Ok(Answer::Object(object)),
+            Err((refusal, _)) => Err(refusal),
+        },
+        Command::PushBack(collection, object) => {
+            world.push_back(collection, object)?;
+            Ok(Answer::Done)
+        }
+        Command::PopFront(collection) => match world.pop_front(collection)? {
+            Some(object) => Ok(Answer::Object(object)),
+            None => Ok(Answer::Nothing),
+        },
+        Command::Show(collection) => Ok(Answer::Items(world.show(collection)?)),
+    }
+}

@@ -1,0 +1,32 @@
+//! Where the key of an object stands.
+
+ghost use Rattle.std.specs.Prelude.{◌≡◌};
+
+/// Says which part of an object is its key.
+///
+/// The key is a function of adapter and value: while a value is not changed, its key is the same.
+///
+/// ```text
+/// impl KeyAdapter for ByDeadline {
+///     type Value = Task;
+///     type Key = u64;
+///
+///     fn get_key<'v>(&self, task: &'v Task) -> &'v u64 {
+///         &task.deadline
+///     }
+/// }
+/// ```
+pub trait KeyAdapter: Copy {
+    /// The objects.
+    type Value;
+
+    /// Their keys.
+    type Key: Ord;
+
+    // The key of a value.
+    ghost key_of: { Self → Self.Value → Self.Key };
+
+    /// The key of `value`, which is a part of it. O(1).
+    fn get_key<'v>(&self, value: &'v Self::Value) -> &'v Self::Key
+        ensures { result.now ≡ key_of self.now value.now };
+}

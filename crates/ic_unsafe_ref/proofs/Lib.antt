@@ -1,0 +1,3 @@
+pub mod PlaceLemmas
+pub mod OrderLemmas
+pub mod ObjectLemmas

@@ -1,0 +1,83 @@
+-- The map of the objects has at each place what the slab has under the place's index.
+use Rattle.std.proofs.Common.{◌≡◌, ◌≢◌, ℕ, zero, suc, ◌+◌, ◌<◌, ◌≤◌, Bool, true, false, cond, nat_eq, List, [], ◌∷◌, length, Option, Some, None, is_some, count_by, refl, sym, ap, ◌∙◌, arith, eq-eqb, ne_eqb, add_comm}
+use Rattle.std.specs.Ordering.{nat_cmp, eq_by_cmp}
+use Rattle.std.specs.Cmp.{nat_cmp_total, unsigned_tied}
+use Rattle.std.specs.FinMap as map
+use Rattle.std.specs.FinMap.{find, get-from_entries, get-insert, len-insert, len-empty, same_map, nat_cmp-IsAntisymmetric}
+use Rattle.std.proofs.lemmas.Bool.{cases_eq}
+use Rattle.std.proofs.lemmas.List.Sums.{sum_by-cons}
+use Rattle.std.proofs.Common.{inl, inr}
+use Rattle.ic_unsafe_ref.specs.declared.place.Place.{Place}
+use Rattle.ic_unsafe_ref.specs.Places.{index_of}
+use Rattle.ic_unsafe_ref.specs.Objects.{Objects, Places}
+use Rattle.slab.specs.Slab.{Slab, Updates, entries, entries_from, get, slab_len}
+
+tied : (q k : ℕ) → q ≡ k → eq_by_cmp nat_cmp q k ≡ true
+tied q k e = unsigned_tied q k ∙ eq-eqb q k e
+
+apart : (q k : ℕ) → q ≢ k → eq_by_cmp nat_cmp q k ≡ false
+apart q k n = unsigned_tied q k ∙ ne_eqb q k n
+
+module _ {T : Type 0} where
+  -- no entry stands under a key before the first
+  find_before : (key : ℕ) (slots : List (Option T)) (q : ℕ) → q < key → find nat_cmp q (entries_from key slots) ≡ None
+  find_before key [] q h = refl
+  find_before key (None ∷ slots) q h = find_before (key + 1) slots q (omega (arith, h))
+  find_before key (Some v ∷ slots) q h =
+      ap (λ b. cond b (Some v) (find nat_cmp q (entries_from (key + 1) slots))) (apart q key (λ e. omega (arith, e, h)))
+      ∙ find_before (key + 1) slots q (omega (arith, h))
+
+  -- under the others stands what the slots have
+  find_at : (key : ℕ) (slots : List (Option T)) (q n : ℕ) → key + q ≡ n → find nat_cmp n (entries_from key slots) ≡ get (record { slots = slots; vacant_key = 0; capacity = 0 }) q
+  find_at key [] q n e = refl
+  find_at key (None ∷ slots) zero n e = find_before (key + 1) slots n (omega (arith, e))
+  find_at key (None ∷ slots) (suc q) n e = find_at (key + 1) slots q n (omega (arith, e))
+  find_at key (Some v ∷ slots) zero n e =
+      ap (λ b. cond b (Some v) (find nat_cmp n (entries_from (key + 1) slots))) (tied n key (omega (arith, e)))
+  find_at key (Some v ∷ slots) (suc q) n e =
+      ap (λ b. cond b (Some v) (find nat_cmp n (entries_from (key + 1) slots))) (apart n key (λ k. omega (arith, e, k)))
+      ∙ find_at (key + 1) slots q n (omega (arith, e))
+
+  pub get_entries : (s : Slab T) (q : ℕ) → map.get (map.from_entries {R = nat_cmp} (entries s)) q ≡ get s q
+  get_entries s q = get-from_entries nat_cmp_total (entries s) q ∙ find_at 0 s.slots q q (omega arith)
+
+  -- the map has as many entries as the slab has values
+  len_from : (key : ℕ) (slots : List (Option T)) → map.len (map.from_entries {R = nat_cmp} (entries_from key slots)) ≡ count_by is_some slots
+  len_from key [] = len-empty nat_cmp T
+  len_from key (None ∷ slots) = len_from (key + 1) slots
+  len_from key (Some v ∷ slots) =
+      let rest = map.from_entries {R = nat_cmp} (entries_from (key + 1) slots) in
+      let none = get-from_entries nat_cmp_total (entries_from (key + 1) slots) key ∙ find_before (key + 1) slots key (omega arith) in
+      let grown : map.len (map.insert rest key v) ≡ map.len rest + 1 =
+      len-insert nat_cmp_total rest key v ∙ ap (λ o. cond (is_some o) (map.len rest) (map.len rest + 1)) none in
+      grown ∙ ap (λ n. n + 1) (len_from (key + 1) slots) ∙ add_comm (count_by is_some slots) 1 ∙ sym (sum_by-cons _ (Some v) slots)
+
+  pub len_entries : (s : Slab T) → map.len (map.from_entries {R = nat_cmp} (entries s)) ≡ slab_len s
+  len_entries s = len_from 0 s.slots
+
+  -- a value more under a key is an entry more in the map
+  pub insert_entries : (old new : Slab T) (key : ℕ) (v : T) → Updates old new key (Some v)
+      → map.from_entries {R = nat_cmp} (entries new) ≡ map.insert (map.from_entries (entries old)) key v
+  insert_entries old new key v updates =
+      same_map nat_cmp_total nat_cmp-IsAntisymmetric _ _ (λ q.
+      get_entries new q
+      ∙ elim (cases_eq q key) [
+        | inl e ↦ ap (get new) e ∙ updates.changed
+            ∙ sym (get-insert nat_cmp_total (map.from_entries (entries old)) key v q
+            ∙ ap (λ b. cond b (Some v) (map.get (map.from_entries {R = nat_cmp} (entries old)) q)) (tied q key e))
+        | inr n ↦ updates.others q n ∙ sym (get_entries old q)
+            ∙ sym (get-insert nat_cmp_total (map.from_entries (entries old)) key v q
+            ∙ ap (λ b. cond b (Some v) (map.get (map.from_entries {R = nat_cmp} (entries old)) q)) (apart q key n))
+      ])
+
+  -- what a clause sees of a slab of objects
+  abbrev seen : Slab T → Objects T
+  seen s = record { values = map.from_entries (entries s); next = s.vacant_key }
+
+  pub places_value : (old new : Slab T) (p : Place) (key : ℕ) (v : T) → index_of p ≡ key → key ≡ old.vacant_key → get old key ≡ None
+      → Updates old new key (Some v) → Places (seen old) (seen new) p v
+  places_value old new p key v at_key is_next vacant updates = record {
+    next = at_key ∙ is_next;
+    vacant = get_entries old (index_of p) ∙ ap (get old) at_key ∙ vacant;
+    values = insert_entries old new key v updates ∙ ap (λ k. map.insert (map.from_entries {R = nat_cmp} (entries old)) k v) (sym at_key);
+  }

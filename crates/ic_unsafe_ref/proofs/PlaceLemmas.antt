@@ -1,0 +1,85 @@
+-- Places, their numbers and their indexes.
+use Rattle.std.proofs.Common.{◌≡◌, ◌≢◌, ℕ, ◌+◌, ◌*◌, ◌<◌, ◌⊎◌, Option, Some, None, nat_eq, false, refl, inl, inr, sym, ap, subst, ◌∙◌, arith, ne_eqb, eq-eqb, eqb-true}
+use Rattle.std.specs.Cmp.{both_ways}
+use Rattle.std.proofs.lemmas.Bool.Decides.{eqb_tells}
+use Rattle.std.proofs.lemmas.Option.{same_Some}
+use Rattle.ic_unsafe_ref.specs.declared.place.Place.{Place}
+use Rattle.ic_unsafe_ref.specs.Numbers.{IsNumber, IsWord, is_number_or_not}
+use Rattle.ic_unsafe_ref.specs.Places.{index_of, place_of, place_at, word_of, is_number_once, same_number}
+
+-- the number of a place by its index
+pub number_of : (p : Place) → p.number ≡ 2 * (index_of p + 1)
+unfolding index_of
+number_of p = omega (arith, p.is_number.0, p.is_number.2)
+
+-- a place is its index
+pub same_index : (p q : Place) → index_of p ≡ index_of q → p ≡ q
+same_index p q e = same_number p q (number_of p ∙ ap (λ i. 2 * (i + 1)) e ∙ sym (number_of q))
+
+-- numbers tell places apart as indexes do
+pub number_tells : (p q : Place) → nat_eq p.number q.number ≡ nat_eq (index_of p) (index_of q)
+number_tells p q = both_ways _ _
+    (λ e. eq-eqb _ _ (ap index_of (same_number p q (eqb-true p.number q.number e))))
+    (λ e. eq-eqb _ _ (ap (λ r. r.number) (same_index p q (eqb-true (index_of p) (index_of q) e))))
+
+-- two places are one, or not
+pub same_or_not : (p q : Place) → (p ≡ q) ⊎ (p ≢ q)
+same_or_not p q =
+    elim (eqb_tells p.number q.number) [
+      | inl h ↦ inl (same_number p q h.1)
+      | inr h ↦ inr (λ e. h.1 (ap (λ r. r.number) e))
+    ]
+
+pub index_small : (p : Place) → index_of p < 4294967296
+unfolding index_of
+index_small p = omega (arith, p.is_number.0, p.is_number.1)
+
+pub index_of_place : (i : ℕ) (h : IsNumber (2 * (i + 1))) → index_of (place_of (2 * (i + 1)) h) ≡ i
+unfolding index_of
+index_of_place i h = omega arith
+
+-- a number of a place names that place
+pub place_at_is : (n : ℕ) (h : IsNumber n) → place_at n ≡ Some (place_of n h)
+unfolding place_at
+place_at_is n h =
+    elim (is_number_or_not n) as (λ d. elim d [ inl h ↦ Some (place_of n h) | inr h ↦ None ] ≡ Some (place_of n h)) [
+      | inl k ↦ ap (λ k. Some (place_of n k)) (is_number_once n k h)
+      | inr other ↦ absurd (other h)
+    ]
+
+-- every other word names none
+pub place_at_other : (n : ℕ) → (IsNumber n → ⊥) → place_at n ≡ None
+unfolding place_at
+place_at_other n other =
+    elim (is_number_or_not n) as (λ d. elim d [ inl h ↦ Some (place_of n h) | inr h ↦ None ] ≡ None) [
+      | inl h ↦ absurd (other h)
+      | inr h ↦ refl
+    ]
+
+-- the index of the place that a word names
+pub index_at : (i : ℕ) (p : Place) → place_at (2 * (i + 1)) ≡ Some p → i ≡ index_of p
+unfolding place_at
+index_at i p =
+    elim (is_number_or_not (2 * (i + 1))) as (λ d. elim d [ inl h ↦ Some (place_of (2 * (i + 1)) h) | inr h ↦ None ] ≡ Some p → i ≡ index_of p) [
+      | inl h ↦ λ e. sym (index_of_place i h) ∙ ap index_of (same_Some _ _ e)
+      | inr h ↦ λ e. cc
+    ]
+
+-- a place's word names it, and the word for none names none
+pub place_at_word : (to : Option Place) → place_at (word_of to) ≡ to
+place_at_word None = place_at_other 0 (λ h. absurd (omega (arith, h.0)))
+place_at_word (Some p) = ap place_at (sym (number_of p)) ∙ place_at_is p.number p.is_number
+
+-- the word of a place or none is even and at most 2 ^ 33
+pub word_fits : (to : Option Place) → IsWord (word_of to)
+word_fits None = (omega arith, refl)
+word_fits (Some p) = let e = number_of p in (omega (arith, e, p.is_number.1), omega (arith, e, p.is_number.2))
+
+-- so it is never the mark of an unlinked entry
+pub word_not_mark : (to : Option Place) → nat_eq (word_of to) 1 ≡ false
+word_not_mark to = ne_eqb (word_of to) 1 (λ e. absurd (omega (arith, e, (word_fits to).1)))
+
+-- every index below 2 ^ 32 is that of a place
+pub place_with : (i : ℕ) → i < 4294967296 → (p : Place) × (index_of p ≡ i)
+place_with i h =
+    let is : IsNumber (2 * (i + 1)) = (omega arith, omega (arith, h), omega arith) in (place_of (2 * (i + 1)) is, index_of_place i is)

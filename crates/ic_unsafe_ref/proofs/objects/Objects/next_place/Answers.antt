@@ -1,0 +1,21 @@
+use Rattle.std.proofs.Common.{◌≡◌, ◌≤◌, ℕ, Option, Some, None, sym, ap, ◌∙◌}
+use Rattle.std.specs.Prelude.{MatchOption}
+use Rattle.std.specs.FinMap as map
+use Rattle.slab.specs.Slab.{get as slot, Slab}
+use Rattle.ic_unsafe_ref.specs.declared.place.Place.{Place}
+use Rattle.ic_unsafe_ref.specs.Places.{index_of}
+use Rattle.ic_unsafe_ref.specs.Objects.{Objects, object_at}
+use Rattle.ic_unsafe_ref.proofs.ObjectLemmas.{get_entries}
+use Rattle.ic_unsafe_ref.proofs.objects.Objects.next_place.Goals as goal
+
+-- what is known of the next key is known of its place
+next_is : {T : Type 0} (o : Option Place) (key : ℕ) (objects : Objects T) → key ≡ objects.next → map.get objects.values key ≡ None
+    → MatchOption o (4294967296 ≤ key) (λ p. index_of p ≡ key)
+    → MatchOption o (4294967296 ≤ objects.next) (λ p. (index_of p ≡ objects.next) × (object_at objects p ≡ None))
+next_is None key objects e vacant h = rw (← e) h
+next_is (Some p) key objects e vacant h = (h ∙ e, ap (map.get objects.values) h ∙ vacant)
+
+pub returns : goal.returns
+returns g c =
+    rw (← c.self.view_is)
+    (next_is c.new.result c.vacant_key.result _ c.vacant_key.ensures.value (get_entries c.self.inside.slab c.vacant_key.result ∙ c.vacant_key.ensures.vacant) c.new.ensures)

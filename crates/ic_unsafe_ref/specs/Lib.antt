@@ -1,0 +1,4 @@
+pub mod Numbers
+pub mod Places
+pub mod Order
+pub mod Objects

@@ -1,0 +1,33 @@
+-- Objects: a finite map from places to values, and where the next value will stand.
+use Rattle.std.specs.Prelude.{◌≡◌, ℕ, ◌<◌, Option, Some, None, Bool, is_some, cond, refl}
+use Rattle.std.specs.Ordering.{nat_cmp}
+use Rattle.std.specs.FinMap as map
+use Rattle.std.specs.Coded.{Coded, code_by, coded×, coded_ℕ}
+use Rattle.ic_unsafe_ref.specs.declared.place.Place.{Place}
+use Rattle.ic_unsafe_ref.specs.Places.{index_of}
+
+-- the values, each under the index of its place, and the index of the place that is given next
+pub record Objects (T : Type 0) : Type 0 where
+  pub values : map.FinMap nat_cmp T
+  pub next : ℕ
+
+-- objects are stored as the pair of their fields
+abbrev pub objects_code : {T : Type 0} → Coded T → Coded (Objects T)
+objects_code {T} code =
+    code_by (map.FinMap nat_cmp T × ℕ) (coded× (map.code coded_ℕ code) coded_ℕ)
+    (λ o. (o.values, o.next)) (λ p. record { values = p.0; next = p.1 }) (λ _. refl)
+
+module _ {T : Type 0} where
+  -- the value that stands at a place, if there is one
+  abbrev pub object_at : Objects T → Place → Option T
+  object_at objects p = map.get objects.values (index_of p)
+
+  -- whether a value stands at a place
+  abbrev pub is_placed : Objects T → Place → Bool
+  is_placed objects p = is_some (object_at objects p)
+
+  -- the new objects are the old ones and this value, at a place that was vacant
+  pub record Places (old new : Objects T) (p : Place) (value : T) : Type 0 where
+    pub next : index_of p ≡ old.next
+    pub vacant : object_at old p ≡ None
+    pub values : new.values ≡ map.insert old.values (index_of p) value

@@ -1,0 +1,13 @@
+-- How places are ordered.
+use Rattle.std.specs.Prelude.{◌≡◌, ◌<◌, ◌↔◌}
+use Rattle.std.specs.Cmp.{IsTotalOrder}
+use Rattle.std.specs.declared.cmp.Ordering.{Ordering}
+use Rattle.std.specs.declared.cmp.Ordering.TheVariants.{Less, Equal}
+use Rattle.ic_unsafe_ref.specs.declared.place.Place.{Place}
+use Rattle.ic_unsafe_ref.specs.Places.{index_of}
+
+-- the order is total, Equal exactly where two places are one, and Less exactly where the index is less
+pub record OrdersPlaces (order : Place → Place → Ordering) : Type 0 where
+  pub total : IsTotalOrder order
+  pub equal : (p q : Place) → (order p q ≡ Equal) ↔ (p ≡ q)
+  pub less : (p q : Place) → (order p q ≡ Less) ↔ (index_of p < index_of q)

@@ -1,0 +1,16 @@
+//! Objects that stand at places, and references to them.
+//!
+//! An intrusive collection links objects which already exist. Here an object is a value in [`Objects`], it stands at a
+//! [`Place`], and a [`UnsafeRef`] names it by that place.
+#![tactic(auto)]
+
+mod objects;
+mod place;
+mod unsafe_ref;
+
+pub use objects::Objects;
+pub use place::Place;
+pub use unsafe_ref::UnsafeRef;
+
+#[cfg(test)]
+mod tests;

@@ -1,0 +1,91 @@
+//! The objects, each at its place.
+
+ghost use Rattle.std.specs.Prelude.{◌≡◌, ◌≤◌, ◌^◌, Some, None, MatchOption, option_copied, if◌then◌else◌};
+ghost use Rattle.std.specs.FinMap as map;
+ghost use Rattle.ic_unsafe_ref.specs.Places.{index_of};
+ghost use Rattle.ic_unsafe_ref.specs.Objects.{object_at, is_placed};
+
+use crate::{Place, UnsafeRef};
+use slab::Slab;
+use std::alloc::{Allocator, Global};
+use std::marker::Model;
+
+/// Values of one type, each at a place that it keeps until it is taken out.
+///
+/// A clause sees them as a finite map from places to values, with the index of the place that is given next.
+#[derive(Drop)]
+pub struct Objects<T, A: Allocator = Global> {
+    pub(crate) slab: Slab<T, A>,
+}
+
+impl<T, A: Allocator> Model for Objects<T, A> {
+    ghost use Rattle.std.specs.Prelude.{ℕ, ◌<◌, ◌^◌};
+    ghost use Rattle.std.specs.FinMap as map;
+    ghost use Rattle.slab.specs.Slab.{ContainsKey, entries};
+    ghost use Rattle.ic_unsafe_ref.specs.Objects.{Objects as Placed, objects_code};
+
+    ghost Value = { Placed T };
+
+    ghost coded = { objects_code T.code };
+
+    ghost view = { λ o. record { values = map.from_entries (entries o.slab); next = o.slab.vacant_key } };
+
+    ghost invariant = { λ o. (key : ℕ) → ContainsKey o.slab key → key < 2 ^ 32 };
+}
+
+impl<T, A: Allocator> Objects<T, A> {
+    /// No objects. It takes no memory until the first one is placed.
+    pub fn new(alloc: A) -> Self
+        ensures empty { result.values ≡ map.empty }
+        ensures first { result.next ≡ 0 }
+    {
+        Objects {
+            slab: Slab::new(alloc),
+        }
+    }
+
+    /// How many objects there are.
+    #[inline]
+    pub fn len(&self) -> usize
+        ensures { result ≡ map.len self.now.values }
+    {
+        self.slab.len()
+    }
+
+    /// The object at `place`, if one stands there. One look-up, O(1).
+    #[inline]
+    pub fn get(&self, place: Place) -> Option<&T>
+        ensures { option_copied result ≡ object_at self.now place }
+    {
+        self.slab.get(place.index())
+    }
+
+    /// Whether an object stands at `place`. One look-up, O(1).
+    #[inline]
+    pub fn is_placed(&self, place: Place) -> bool
+        ensures { result ≡ is_placed self.now place }
+    {
+        self.slab.contains(place.index())
+    }
+
+    /// A reference to the object at `place`, if one stands there.
+    #[inline]
+    pub fn at(&self, place: Place) -> Option<UnsafeRef<T>>
+        ensures { result ≡ (if is_placed self.now place then Some place else None) }
+    {
+        if self.is_placed(place) {
+            Some(UnsafeRef::new(place))
+        } else {
+            None
+        }
+    }
+
+    /// Where the next object will stand: a vacant place, or `None` if there is no place left.
+    #[inline]
+    pub fn next_place(&self) -> Option<Place>
+        ensures { MatchOption result (2 ^ 32 ≤ self.now.next)
+            (λ place. (index_of place ≡ self.now.next) × (object_at self.now place ≡ None)) }
+    {
+        Place::new(self.slab.vacant_key())
+    }
+}

@@ -1,0 +1,103 @@
+//! Places: where objects stand, and how entries of links name them.
+
+ghost use Rattle.std.specs.Prelude.{◌≡◌, ℕ, ◌+◌, ◌*◌, ◌<◌, ◌≤◌, ◌%◌, ◌^◌, MatchOption};
+ghost use Rattle.ic_unsafe_ref.specs.Numbers.{IsNumber, IsWord};
+
+use std::fmt;
+
+/// Where an object stands: an index below 4,294,967,296.
+///
+/// It is kept as its number, `2 * (index + 1)`, which is what links keep for a neighbour: even, and never 0.
+#[derive(Clone, Copy, PartialEq, Eq, PartialOrd, Ord)]
+pub struct Place {
+    number: u64,
+    pub ghost is_number: { IsNumber number },
+}
+
+impl Place {
+    ghost use Rattle.ic_unsafe_ref.specs.Places.{index_of, place_at, word_of};
+
+    /// How many places there are.
+    pub const COUNT: usize = 4_294_967_296;
+
+    /// The place with that index, or `None` from 4,294,967,296 on.
+    #[inline]
+    pub fn new(index: usize) -> Option<Place>
+        ensures { MatchOption result (2 ^ 32 ≤ index) (λ place. index_of place ≡ index) }
+    {
+        if index < Place::COUNT {
+            Some(Place::of_index(index))
+        } else {
+            None
+        }
+    }
+
+    // The place with that index.
+    #[inline]
+    #[tactic(auto, using(crate::proofs::PlaceLemmas::index_of_place))]
+    pub(crate) fn of_index(index: usize) -> Place
+        requires { index < 2 ^ 32 }
+        ensures { index_of result ≡ index }
+    {
+        Place {
+            number: 2 * (index as u64 + 1),
+        }
+    }
+
+    /// How many places stand before it, counted from 0.
+    #[inline]
+    #[tactic(auto, unfolding(crate::specs::Places::index_of))]
+    pub fn index(self) -> usize
+        ensures value { result ≡ index_of self }
+        ensures small { result < 2 ^ 32 }
+    {
+        (self.number / 2 - 1) as usize
+    }
+
+    /// The place that a word names: none at 0, and at a word that is no place's number.
+    ///
+    /// Tables and collections keep neighbours and ends as such words, which take no decoding to copy.
+    #[inline]
+    #[tactic(auto, using(crate::proofs::PlaceLemmas::place_at_other))]
+    pub fn from_word(word: u64) -> Option<Place>
+        requires { IsWord word }
+        ensures { result ≡ place_at word }
+    {
+        if word != 0 {
+            Some(Place { number: word })
+        } else {
+            None
+        }
+    }
+
+    /// The word for a place or none: the place's number, or 0.
+    #[inline]
+    #[tactic(auto, using(crate::proofs::PlaceLemmas::number_of))]
+    pub fn to_word(place: Option<Place>) -> u64
+        ensures value { result ≡ word_of place }
+        ensures fits { IsWord result }
+    {
+        match place {
+            None => 0,
+            Some(place) => place.number,
+        }
+    }
+}
+
+impl Place {
+    ghost use Rattle.std.specs.Prelude.{◌↔◌, IsTrue};
+    ghost use Rattle.ic_unsafe_ref.specs.declared.place.Place.{Place};
+    ghost use Rattle.ic_unsafe_ref.specs.Order.{OrdersPlaces};
+
+    /// The law of the order: it is total, and `Equal` exactly where two places are one.
+    pub fn order_is_total()
+        ensures { OrdersPlaces ⟦<Place as Ord>⟧.cmp }
+    {}
+}
+
+/// A place is printed as its index.
+impl fmt::Debug for Place {
+    fn fmt<W: fmt::Write>(&self, f: &mut fmt::Formatter<W>) -> fmt::Result {
+        fmt::Debug::fmt(&self.index(), f)
+    }
+}

@@ -1,0 +1,88 @@
+//! References to objects.
+
+ghost use Rattle.std.specs.Prelude.{◌≡◌, ◌<◌, ◌^◌, IfOk, IfErr, ⊤};
+ghost use Rattle.ic_unsafe_ref.specs.Objects.{Places};
+
+use crate::{Objects, Place};
+use std::alloc::{AllocError, Allocator};
+use std::fmt;
+use std::marker::{Model, PhantomData};
+
+/// Names an object by the place at which it stands.
+///
+/// It owns nothing and keeps nothing alive. A place that was freed may be given again, and an old reference then names
+/// what stands there now.
+pub struct UnsafeRef<T> {
+    place: Place,
+    of: PhantomData<T>,
+}
+
+impl<T> Model for UnsafeRef<T> {
+    ghost use Rattle.ic_unsafe_ref.specs.declared.place.Place.{Place};
+
+    ghost Value = { Place };
+
+    ghost view = { λ r. r.place };
+}
+
+impl<T> Drop for UnsafeRef<T> {
+    fn drop(self) {
+        let UnsafeRef { place: _, of: _ } = self;
+    }
+}
+
+impl<T> UnsafeRef<T> {
+    /// The reference to whatever stands at `place`.
+    #[inline]
+    pub fn new(place: Place) -> UnsafeRef<T>
+        ensures { result ≡ place }
+    {
+        UnsafeRef {
+            place,
+            of: PhantomData,
+        }
+    }
+
+    /// Where the object stands.
+    #[inline]
+    pub fn place(&self) -> Place
+        ensures { result ≡ self.now }
+    {
+        self.place
+    }
+
+    /// Places `value` where [`Objects::next_place`] says, and answers the reference to it.
+    ///
+    /// It asks that there is such a place. Where no memory is found the value comes back and nothing has changed.
+    pub fn from_box<A: Allocator>(
+        objects: &mut Objects<T, A>,
+        value: T,
+    ) -> Result<UnsafeRef<T>, (AllocError, T)>
+        requires { objects.old.next < 2 ^ 32 }
+        ensures placed { IfOk result (λ r. Places objects.old objects.new r value) }
+        ensures refused { IfErr result (λ failed. (failed.1 ≡ value) × (objects.new ≡ objects.old)) }
+    {
+        match objects.slab.insert(value) {
+            Ok(index) => Ok(UnsafeRef::new(Place::of_index(index))),
+            Err(failed) => Err((AllocError, failed.value)),
+        }
+    }
+}
+
+impl<T> Clone for UnsafeRef<T> {
+    ghost is_clone = { λ r copy. copy ≡ r };
+
+    ghost is_infallible = { λ _. ⊤ };
+
+    /// The same reference. It never fails.
+    fn clone(&self) -> Result<Self, AllocError> {
+        Ok(UnsafeRef::new(self.place))
+    }
+}
+
+/// A reference is printed as the index of its place.
+impl<T> fmt::Debug for UnsafeRef<T> {
+    fn fmt<W: fmt::Write>(&self, f: &mut fmt::Formatter<W>) -> fmt::Result {
+        fmt::Debug::fmt(&self.place, f)
+    }
+}

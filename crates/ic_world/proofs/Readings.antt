@@ -1,0 +1,60 @@
+-- What the family of some parts has at a place, in a field and under a number.
+use Rattle.std.proofs.Common.{◌≡◌, ℕ, ◌<◌, ◌≤◌, true, List, [], ◌∷◌, length, map, set, drop, get_or, Option, Some, None, sym, ap, ◌∙◌, arith}
+use Rattle.std.proofs.lemmas.List.{get_or_default, get_or_past, get_or-map, set-get_or}
+use Rattle.std.proofs.Math.ListN.{get_or-map as map_at}
+use Rattle.std.specs.FinSet as set_of
+use Rattle.ic_unsafe_ref.specs.declared.place.Place.{Place}
+use Rattle.ic_unsafe_ref.specs.Places.{index_of}
+use Rattle.ic_unsafe_ref.specs.Objects.{Objects}
+use Rattle.ic_link_ops.specs.declared.linked_list.LinkOps.{LinkOps}
+use Rattle.ic_link_ops.specs.Sequences.{first}
+use Rattle.ic_link_ops.specs.Entries.{is_linked, entry_at, entries}
+use Rattle.ic_world.specs.declared.collection.Collection.{Collection}
+use Rattle.ic_world.specs.Tables.{Entries, table, linked_in, sequence, shown_as, at, family_of, HasObject}
+use Rattle.ic_world.specs.Step.{collection, linked_of, is_placed}
+use Rattle.ic_world.proofs.Linked.{in_linked}
+
+-- what a read of the vector of tables found
+pub table_read : {M : Type 0} (tables : List (LinkOps M)) (f : ℕ) (t : LinkOps M) → f < length tables → t ≡ get_or tables f t → table (map entries tables) f ≡ entries t
+table_read tables f t h e = get_or-map entries tables f t [] h ∙ ap entries (sym e)
+
+-- the first of a sequence
+pub first_is : (s : List Place) (p : Place) → Some p ≡ first s → s ≡ p ∷ drop 1 s
+first_is [] p e = cc
+first_is (x ∷ s) p e = cc
+
+-- what was read, written back, changes nothing
+pub set_back : {X : Type 0} (xs : List X) (i : ℕ) (x : X) → x ≡ get_or xs i x → set xs i x ≡ xs
+set_back xs i x e = ap (set xs i) e ∙ set-get_or xs i x
+
+module _ {V : Type 0} where
+  -- a read of the vector of collections found k
+  pub found_at : (cs : List (Option (Collection V))) (c n len : ℕ) (o : Option (Collection V)) (k : Collection V)
+      → c < n → n ≡ len → len ≡ length cs → o ≡ get_or cs c o → o ≡ Some k → at cs c ≡ Some k
+  found_at cs c n len o k h e l read is = get_or_default cs c None o (omega (arith, h, e, l)) ∙ sym read ∙ is
+
+  pub found_none : (cs : List (Option (Collection V))) (c n len : ℕ) (o : Option (Collection V))
+      → c < n → n ≡ len → len ≡ length cs → o ≡ get_or cs c o → o ≡ None → at cs c ≡ None
+  found_none cs c n len o h e l read is = get_or_default cs c None o (omega (arith, h, e, l)) ∙ sym read ∙ is
+
+  module _ (objects : Objects V) (ts : List Entries) (cs : List (Option (Collection V))) where
+    pub placed_there : (p : Place) → HasObject objects (index_of p) → is_placed (family_of objects ts cs) p ≡ true
+    placed_there p h = h
+
+    pub collection_at : (c : ℕ) → collection (family_of objects ts cs) c ≡ shown_as ts (at cs c)
+    collection_at c = map_at (shown_as ts) cs c None
+
+    pub collection_is : (c : ℕ) (k : Collection V) → at cs c ≡ Some k → collection (family_of objects ts cs) c ≡ Some (record { field = k.field; members = sequence ts k })
+    collection_is c k e = collection_at c ∙ ap (shown_as ts) e
+
+    pub collection_not : (c : ℕ) → at cs c ≡ None → collection (family_of objects ts cs) c ≡ None
+    collection_not c e = collection_at c ∙ ap (shown_as ts) e
+
+    pub collection_past : (c : ℕ) → length cs ≤ c → collection (family_of objects ts cs) c ≡ None
+    collection_past c h = collection_not c (get_or_past cs c None h)
+
+    pub linked_at : (f : ℕ) → f < length ts → linked_of (family_of objects ts cs) f ≡ linked_in (table ts f)
+    linked_at f h = get_or-map linked_in ts f [] set_of.empty h
+
+    pub linked_is : (f : ℕ) (p : Place) → f < length ts → set_of.contains (linked_of (family_of objects ts cs) f) (index_of p) ≡ is_linked (entry_at (table ts f) p)
+    linked_is f p h = ap (λ s. set_of.contains s (index_of p)) (linked_at f h) ∙ in_linked (table ts f) p

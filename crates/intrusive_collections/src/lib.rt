@@ -1,0 +1,22 @@
+//! Intrusive collections, proved: one name for each module.
+//!
+//! | Module | What it has |
+//! |---|---|
+//! | `unsafe_ref` | objects by place, and references to them |
+//! | `link_ops` | tables of links, and what collections ask of them |
+//! | `linked_list` | the doubly linked list |
+//! | `rbtree` | the red-black tree, of which only the keys' trait is there |
+//! | `key_adapter` | where the key of an object stands |
+//! | `world` | objects, fields and collections whose calls test every condition themselves |
+#![tactic(auto)]
+
+pub use ic_link_ops as link_ops;
+pub use ic_link_ops::LinkOps;
+pub use ic_linked_list as linked_list;
+pub use ic_linked_list::LinkedList;
+pub use ic_rbtree as rbtree;
+pub use ic_rbtree::key_adapter;
+pub use ic_rbtree::key_adapter::KeyAdapter;
+pub use ic_unsafe_ref as unsafe_ref;
+pub use ic_unsafe_ref::UnsafeRef;
+pub use ic_world as world;
