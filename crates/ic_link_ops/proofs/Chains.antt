@@ -1,10 +1,10 @@
 -- Chains and shown sequences: cut, joined, edited, and kept where the table keeps their entries.
-use Rattle.std.proofs.Common.{◌≡◌, ◌≢◌, ℕ, Option, Some, None, List, [], ◌∷◌, ◌++◌, Bool, true, false, refl, sym, ◌∙◌, ap, append_assoc, append-nil, drop}
+use Rattle.std.proofs.Common.{◌≡◌, Option, Some, List, [], ◌∷◌, ◌++◌, true, false, refl, ◌∙◌, ap}
 use Rattle.ic_unsafe_ref.specs.declared.place.Place.{Place}
 use Rattle.ic_link_ops.specs.Sequences.{IsAbsent, IsDistinct, IsDisjoint, first_or, last_or}
-use Rattle.ic_link_ops.specs.LinkedList.{Neighbors, IsBetween, IsChain}
+use Rattle.ic_link_ops.specs.LinkedList.{Neighbors, IsChain}
 use Rattle.ic_link_ops.specs.Joins.{Joined}
-use Rattle.ic_link_ops.proofs.SequenceLemmas.{IsOutside, first_or-append, last_or-append, absent_left, absent_right, distinct_disjoint, distinct_left, distinct_insert, distinct_remove, last_outside, first_outside, outside_not, outside_tail, last_not, first_not, none_not, head_of, tail_of, disjoint_cons, distinct_splice}
+use Rattle.ic_link_ops.proofs.SequenceLemmas.{IsOutside, first_or-append, absent_left, outside_not, outside_tail, last_not}
 
 module _ {E : Type 0} (n : E → Neighbors) where
   -- a chain depends on the entries of its members alone

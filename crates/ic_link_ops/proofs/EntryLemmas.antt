@@ -1,12 +1,11 @@
 -- The entries of a table as they are written and grow.
-use Rattle.std.proofs.Common.{◌≡◌, ◌≢◌, ℕ, zero, suc, ◌<◌, ◌≤◌, ◌-◌, true, Option, List, [], ◌∷◌, ◌++◌, length, replicate, slice_set, slice_index_or, not, nat_eq, refl, sym, ap, subst, ◌∙◌, arith}
+use Rattle.std.proofs.Common.{◌≡◌, ℕ, true, Option, List, slice_set, slice_index_or, not, nat_eq, sym, ap, ◌∙◌}
 use Rattle.std.proofs.lemmas.List.{get_or-set_other, get_or_default, length-set}
 use Rattle.std.proofs.lemmas.Grind.{get_or-set_at}
 use Rattle.ic_unsafe_ref.specs.declared.place.Place.{Place}
 use Rattle.ic_unsafe_ref.specs.Places.{index_of, place_at, word_of}
 use Rattle.ic_unsafe_ref.proofs.PlaceLemmas.{same_index, place_at_word, word_not_mark}
 use Rattle.ic_link_ops.specs.declared.linked_list.Link.{Link}
-use Rattle.ic_link_ops.specs.LinkedList.{Neighbors}
 use Rattle.ic_link_ops.specs.Entries.{unlinked, is_linked, neighbors_of, entry_at, table_of}
 use Rattle.ic_link_ops.specs.Tables.{ChangesOnly}
 use Rattle.ic_link_ops.specs.EntryLaws.{linked_in_range}

@@ -1,5 +1,5 @@
 -- Shown sequences: edited, read at a gap, and kept where the table keeps their entries.
-use Rattle.std.proofs.Common.{◌≡◌, ◌≢◌, ℕ, Option, Some, None, List, [], ◌∷◌, ◌++◌, Bool, true, false, refl, sym, ◌∙◌, ap, append_assoc, append-nil, drop}
+use Rattle.std.proofs.Common.{◌≡◌, ◌≢◌, Option, Some, None, List, [], ◌∷◌, ◌++◌, true, false, refl, sym, ◌∙◌, append_assoc, append-nil, drop}
 use Rattle.ic_unsafe_ref.specs.declared.place.Place.{Place}
 use Rattle.ic_link_ops.specs.Sequences.{IsAbsent, IsDistinct, IsDisjoint, first_or, last_or}
 use Rattle.ic_link_ops.specs.Tables.{Table}

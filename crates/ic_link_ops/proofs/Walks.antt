@@ -8,7 +8,7 @@ use Rattle.std.proofs.lemmas.Option.{same_Some}
 use Rattle.ic_unsafe_ref.specs.declared.place.Place.{Place}
 use Rattle.ic_unsafe_ref.specs.Places.{index_of}
 use Rattle.ic_unsafe_ref.proofs.PlaceLemmas.{same_index}
-use Rattle.ic_link_ops.specs.Sequences.{IsAbsent, IsDistinct, first_or, last_or, first, last}
+use Rattle.ic_link_ops.specs.Sequences.{IsAbsent, IsDistinct, first_or, last_or}
 use Rattle.ic_link_ops.specs.Tables.{Table, IsCovered}
 use Rattle.ic_link_ops.specs.LinkedList.{Neighbors, Ends, IsChain, Shows}
 use Rattle.ic_link_ops.specs.Walk.{walk, between, members, is_end, IsWalk}

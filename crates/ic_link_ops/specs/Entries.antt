@@ -1,10 +1,8 @@
 -- The entries of the table of doubly links.
-use Rattle.std.specs.Prelude.{◌≡◌, ◌≢◌, ℕ, List, length, slice_index_or, Option, Bool, nat_eq, not, refl}
+use Rattle.std.specs.Prelude.{List, length, slice_index_or, Bool, nat_eq, not, refl}
 use Rattle.std.proofs.Common.{arith}
-use Rattle.ic_unsafe_ref.specs.Numbers.{IsWord}
 use Rattle.ic_unsafe_ref.specs.declared.place.Place.{Place}
 use Rattle.ic_unsafe_ref.specs.Places.{index_of, place_at}
-use Rattle.ic_link_ops.specs.Words.{IsMarkOrWord}
 use Rattle.ic_link_ops.specs.Tables.{Table}
 use Rattle.ic_link_ops.specs.LinkedList.{Neighbors}
 use Rattle.ic_link_ops.specs.declared.linked_list.LinkOps.{LinkOps}

@@ -1,5 +1,5 @@
 -- Which sequence a table shows for a doubly linked list.
-use Rattle.std.specs.Prelude.{◌≡◌, Bool, true, Option, Some, None, ℕ, List, [], ◌∷◌}
+use Rattle.std.specs.Prelude.{◌≡◌, Bool, true, Option, Some, None, List, [], ◌∷◌}
 use Rattle.ic_unsafe_ref.specs.declared.place.Place.{Place}
 use Rattle.ic_link_ops.specs.Sequences.{IsDistinct, first_or, first, last}
 use Rattle.ic_link_ops.specs.Tables.{Table}
@@ -20,6 +20,10 @@ abbrev pub no_members : Ends
 no_members = record { head = None; tail = None }
 
 module _ {E : Type 0} (neighbors : E → Neighbors) where
+  -- what the entry at p says
+  abbrev pub neighbors_at : Table E → Place → Neighbors
+  neighbors_at t p = neighbors (t.entry p)
+
   -- p is linked, with this place before it and that one behind it
   pub record IsBetween (entry : Place → E) (p : Place) (before behind : Option Place) : Type 0 where
     pub linked : (neighbors (entry p)).linked ≡ true

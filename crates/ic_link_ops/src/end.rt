@@ -1,4 +1,8 @@
 //! An end of a collection.
+//!
+//! ```text
+//! End::of(Some(place)).get() // Some(place)
+//! ```
 
 ghost use Rattle.std.specs.Prelude.{◌≡◌};
 

@@ -1,4 +1,10 @@
 //! The answers of calls that are refused.
+//!
+//! ```text
+//! if let Err(AlreadyLinked(object)) = list.push_back(&mut links, object) {
+//!     // the object is in some list of this field
+//! }
+//! ```
 
 use ic_unsafe_ref::UnsafeRef;
 use thiserror::Error;

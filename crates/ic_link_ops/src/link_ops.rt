@@ -48,12 +48,14 @@ pub trait LinkOps {
         requires linked { IsLinked linked (table self.old) place }
         ensures released { IsUnlinked linked (table self.new) place }
         ensures frame { ChangesOnly (table self.old) (table self.new) place }
-        ensures keeps_acquired { (first : Self) (q : Place) → q ≢ place → Acquired first self.old q → Acquired first self.new q };
+        ensures keeps_acquired { (first : Self) (q : Place) → q ≢ place → Acquired first self.old q
+            → Acquired first self.new q };
 
     // The laws: only covered places are linked, and what the two relations mean for the entries.
     ghost linked_is_covered: { (t : Self) (p : Place) → IsLinked linked (table t) p → IsCovered (table t) p };
 
-    ghost acquired_links: { (old new : Self) (p : Place) → Acquired old new p → IsUnlinked linked (table old) p × IsLinked linked (table new) p };
+    ghost acquired_links: { (old new : Self) (p : Place) → Acquired old new p
+        → IsUnlinked linked (table old) p × IsLinked linked (table new) p };
 
     ghost refused_keeps: { (old new : Self) (p : Place) → Refused old new p → table new ≡ table old };
 }

@@ -1,11 +1,17 @@
 //! The links of doubly linked lists: what a list asks of its table, and the plain table.
+//!
+//! ```text
+//! let mut links = LinkOps::new(rt.alloc());
+//! links.cover(3)?;
+//! links.is_linked(place) // false, for each of the three places
+//! ```
 
-ghost use Rattle.std.specs.Prelude.{◌≡◌, ◌≢◌, ℕ, ◌<◌, ◌≤◌, ◌↔◌, max, Option, Some, None, length, OnOk, OnErr, IsTrue, Err};
+ghost use Rattle.std.specs.Prelude.{◌≡◌, ◌≢◌, ℕ, ◌<◌, ◌≤◌, ◌↔◌, max, Option, Some, None, length, OnOk, OnErr, IsOk, Err};
 ghost use Rattle.ic_unsafe_ref.specs.Numbers.{IsWord};
 ghost use Rattle.ic_unsafe_ref.specs.declared.place.Place.{Place};
 ghost use Rattle.ic_link_ops.specs.Words.{IsMarkOrWord};
 ghost use Rattle.ic_link_ops.specs.Tables.{IsLinked, IsUnlinked, ChangesOnly};
-ghost use Rattle.ic_link_ops.specs.LinkedList.{Neighbors};
+ghost use Rattle.ic_link_ops.specs.LinkedList.{Neighbors, neighbors_at};
 
 use crate::errors::CoverError;
 use crate::link_ops;
@@ -20,26 +26,30 @@ pub trait LinkedListOps: link_ops::LinkOps {
     /// The place behind `place`. It asks that the place is linked. O(1).
     fn next(&self, place: Place) -> Option<Place>
         requires linked { IsLinked Self.linked (Self.table self.now) place }
-        ensures { result ≡ (neighbors ((Self.table self.now).entry place)).next };
+        ensures { result ≡ (neighbors_at neighbors (Self.table self.now) place).next };
 
     /// The place before `place`. It asks that the place is linked. O(1).
     fn prev(&self, place: Place) -> Option<Place>
         requires linked { IsLinked Self.linked (Self.table self.now) place }
-        ensures { result ≡ (neighbors ((Self.table self.now).entry place)).prev };
+        ensures { result ≡ (neighbors_at neighbors (Self.table self.now) place).prev };
 
     /// Sets the place behind `place`. It asks that the place is linked. O(1).
     fn set_next(&mut self, place: Place, next: Option<Place>)
         requires linked { IsLinked Self.linked (Self.table self.old) place }
-        ensures set { neighbors ((Self.table self.new).entry place) ≡ record (neighbors ((Self.table self.old).entry place)) { next = next } }
+        ensures set { neighbors_at neighbors (Self.table self.new) place
+            ≡ record (neighbors_at neighbors (Self.table self.old) place) { next = next } }
         ensures frame { ChangesOnly (Self.table self.old) (Self.table self.new) place }
-        ensures keeps_acquired { (first : Self) (q : Place) → Self.Acquired first self.old q → Self.Acquired first self.new q };
+        ensures keeps_acquired { (first : Self) (q : Place) → Self.Acquired first self.old q
+            → Self.Acquired first self.new q };
 
     /// Sets the place before `place`. It asks that the place is linked. O(1).
     fn set_prev(&mut self, place: Place, prev: Option<Place>)
         requires linked { IsLinked Self.linked (Self.table self.old) place }
-        ensures set { neighbors ((Self.table self.new).entry place) ≡ record (neighbors ((Self.table self.old).entry place)) { prev = prev } }
+        ensures set { neighbors_at neighbors (Self.table self.new) place
+            ≡ record (neighbors_at neighbors (Self.table self.old) place) { prev = prev } }
         ensures frame { ChangesOnly (Self.table self.old) (Self.table self.new) place }
-        ensures keeps_acquired { (first : Self) (q : Place) → Self.Acquired first self.old q → Self.Acquired first self.new q };
+        ensures keeps_acquired { (first : Self) (q : Place) → Self.Acquired first self.old q
+            → Self.Acquired first self.new q };
 
     // The law: both traits say alike whether a place is linked.
     ghost linked_alike: { (e : Self.Entry) → (neighbors e).linked ≡ Self.linked e };
@@ -102,6 +112,7 @@ impl<A: Allocator> LinkOps<A> {
         ensures too_many { (result ≡ Err CoverError.TooManyPlaces) ↔ 4294967296 < count }
         ensures covers { OnOk result (length (entries self.new) ≡ max (length (entries self.old)) count) }
         ensures stays { (q : Place) → entry_at (entries self.new) q ≡ entry_at (entries self.old) q }
+        ensures enough { count ≤ length (entries self.old) → count ≤ 4294967296 → IsOk result }
         ensures refused { OnErr result (entries self.new ≡ entries self.old) }
     {
         if count > Place::COUNT {
@@ -143,7 +154,8 @@ impl<A: Allocator> link_ops::LinkOps for LinkOps<A> {
 
     ghost linked = { is_linked };
 
-    ghost Acquired = { λ old new p. IsUnlinked is_linked (table_of (entries old)) p × IsLinked is_linked (table_of (entries new)) p };
+    ghost Acquired = { λ old new p. IsUnlinked is_linked (table_of (entries old)) p
+        × IsLinked is_linked (table_of (entries new)) p };
 
     ghost Refused = { λ old new p. IsLinked is_linked (table_of (entries old)) p × (new ≡ old) };
 

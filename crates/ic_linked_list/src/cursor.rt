@@ -1,4 +1,12 @@
 //! A cursor that reads.
+//!
+//! ```text
+//! let mut cursor = list.cursor(&links); // null
+//! cursor.move_next();
+//! while let Some(place) = cursor.get_ptr() {
+//!     cursor.move_next();
+//! }
+//! ```
 
 ghost use Rattle.std.specs.Prelude.{◌≡◌, ◌↔◌, Option, None, IsTrue, ⊤};
 ghost use Rattle.ic_link_ops.specs.Sequences.{Cut, join, IsAfter, IsBefore};
@@ -69,7 +77,8 @@ impl<'a, T, L: LinkedListOps> Cursor<'a, T, L> {
     /// The gap that was after the cursor is then before it.
     #[inline]
     pub fn move_next(&mut self)
-        requires stands { (gap : Cut) × Shows L.neighbors (L.table (links_of self.old)) (list_of self.old) (join gap) × IsAfter gap (position self.old) }
+        requires stands { (gap : Cut) × Shows L.neighbors (L.table (links_of self.old)) (list_of self.old) (join gap)
+            × IsAfter gap (position self.old) }
         ensures moved { (gap : Cut) → Shows L.neighbors (L.table (links_of self.old)) (list_of self.old) (join gap)
             → IsAfter gap (position self.old) → IsBefore gap (position self.new) }
         ensures list { list_of self.new ≡ list_of self.old }

@@ -1,4 +1,10 @@
 //! A walk over the objects of a list.
+//!
+//! ```text
+//! for task in list.iter(&links, &objects) {
+//!     task.run();
+//! }
+//! ```
 
 ghost use Rattle.std.specs.Prelude.{◌≡◌, List, Option, Some};
 ghost use Rattle.std.specs.Iterator.{YieldsFirstRef, item_count};
@@ -78,7 +84,8 @@ impl<T> LinkedList<T> {
         objects: &'a Objects<T, A>,
     ) -> Iter<'a, T, L, A>
         requires shown { ShowsSome L.neighbors (L.table links.now) self.now }
-        requires placed { (s : List Place) → Shows L.neighbors (L.table links.now) self.now s → ArePlaced objects.now s }
+        requires placed { (s : List Place) → Shows L.neighbors (L.table links.now) self.now s
+            → ArePlaced objects.now s }
         ensures walks { (s : List Place) → Shows L.neighbors (L.table links.now) self.now s
             → objects_left L.neighbors L.table result ≡ values_at objects.now s }
         ensures can_walk { CanWalk L.neighbors L.table result }

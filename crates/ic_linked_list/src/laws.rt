@@ -12,20 +12,17 @@ use ic_link_ops::linked_list::LinkedListOps;
 /// Every table shows the empty sequence for a new list.
 pub fn new_shows_nothing<L: LinkedListOps>(_links: &L)
     ensures { Shows L.neighbors (L.table _links.now) no_members [] }
-{
-}
+{}
 
 /// A table shows at most one sequence for a list.
 pub fn one_sequence_is_shown<L: LinkedListOps>(_links: &L)
     ensures { (list : Ends) (s t : List Place) → Shows L.neighbors (L.table _links.now) list s
         → Shows L.neighbors (L.table _links.now) list t → s ≡ t }
-{
-}
+{}
 
 /// Where only entries at members of `touched` change, a list that shares no member with them keeps its sequence.
 pub fn other_lists_stay<L: LinkedListOps>(_old: &L, _new: &L)
     ensures { (list : Ends) (s touched : List Place) → Shows L.neighbors (L.table _old.now) list s
         → IsDisjoint s touched → KeepsBeside (L.table _old.now) (L.table _new.now) touched
         → Shows L.neighbors (L.table _new.now) list s }
-{
-}
+{}

@@ -13,10 +13,9 @@
 //! ```
 #![tactic(auto)]
 
-pub mod laws;
-
 mod cursor;
 mod iter;
+pub mod laws;
 mod list;
 mod surgery;
 

@@ -1,4 +1,9 @@
 //! The list.
+//!
+//! ```text
+//! list.push_back(&mut links, object)?;
+//! let first = list.pop_front(&mut links);
+//! ```
 
 ghost use Rattle.std.specs.Prelude.{◌≡◌, ◌≢◌, ◌↔◌, ◌++◌, ◌∷◌, List, Option, Some, None, IsTrue, OnOk, OnErr, IfErr, IfSome, IfNone};
 ghost use Rattle.ic_unsafe_ref.specs.declared.place.Place.{Place};
@@ -190,11 +195,13 @@ impl<T> LinkedList<T> {
         ensures shows { (front back : List Place) → Shows L.neighbors (L.table links.old) self.old (front ++ back)
             → IsAbsent place (front ++ back) → before ≡ last_or None front → behind ≡ first_or back None
             → Shows L.neighbors (L.table links.new) self.new (front ++ place ∷ back) }
-        ensures linked { (q : Place) → L.linked ((L.table links.new).entry q) ≡ L.linked ((L.table links.old).entry q) }
+        ensures linked { (q : Place) → L.linked ((L.table links.new).entry q)
+            ≡ L.linked ((L.table links.old).entry q) }
         ensures covers { (L.table links.new).covers ≡ (L.table links.old).covers }
         ensures others { (q : Place) → before ≢ Some q → q ≢ place → behind ≢ Some q
             → (L.table links.new).entry q ≡ (L.table links.old).entry q }
-        ensures keeps_acquired { (first : L) (q : Place) → L.Acquired first links.old q → L.Acquired first links.new q }
+        ensures keeps_acquired { (first : L) (q : Place) → L.Acquired first links.old q
+            → L.Acquired first links.new q }
     {
         join(links, before, Some(place));
         join(links, Some(place), behind);
@@ -208,7 +215,8 @@ impl<T> LinkedList<T> {
         requires { (front back : List Place) × Shows L.neighbors (L.table links.old) self.old (front ++ place ∷ back) }
         ensures shows { (front back : List Place) → Shows L.neighbors (L.table links.old) self.old (front ++ place ∷ back)
             → Shows L.neighbors (L.table links.new) self.new (front ++ back) }
-        ensures linked { (q : Place) → L.linked ((L.table links.new).entry q) ≡ L.linked ((L.table links.old).entry q) }
+        ensures linked { (q : Place) → L.linked ((L.table links.new).entry q)
+            ≡ L.linked ((L.table links.old).entry q) }
         ensures frame { (front back : List Place) → Shows L.neighbors (L.table links.old) self.old (front ++ place ∷ back)
             → KeepsBeside (L.table links.old) (L.table links.new) (front ++ place ∷ back) }
     {

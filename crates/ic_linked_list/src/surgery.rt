@@ -15,7 +15,8 @@ fn lead<L: LinkedListOps>(links: &mut L, place: Option<Place>, next: Option<Plac
     requires { (q : Place) → place ≡ Some q → IsLinked L.linked (L.table links.old) q }
     ensures leads { Leads L.neighbors (L.table links.old).entry (L.table links.new).entry place next }
     ensures covers { (L.table links.new).covers ≡ (L.table links.old).covers }
-    ensures keeps_acquired { (first : L) (q : Place) → L.Acquired first links.old q → L.Acquired first links.new q }
+    ensures keeps_acquired { (first : L) (q : Place) → L.Acquired first links.old q
+        → L.Acquired first links.new q }
 {
     if let Some(place) = place {
         links.set_next(place, next);
@@ -28,7 +29,8 @@ fn follow<L: LinkedListOps>(links: &mut L, place: Option<Place>, prev: Option<Pl
     requires { (q : Place) → place ≡ Some q → IsLinked L.linked (L.table links.old) q }
     ensures follows { Follows L.neighbors (L.table links.old).entry (L.table links.new).entry place prev }
     ensures covers { (L.table links.new).covers ≡ (L.table links.old).covers }
-    ensures keeps_acquired { (first : L) (q : Place) → L.Acquired first links.old q → L.Acquired first links.new q }
+    ensures keeps_acquired { (first : L) (q : Place) → L.Acquired first links.old q
+        → L.Acquired first links.new q }
 {
     if let Some(place) = place {
         links.set_prev(place, prev);
@@ -41,10 +43,13 @@ pub(crate) fn join<L: LinkedListOps>(links: &mut L, before: Option<Place>, behin
     requires before { (q : Place) → before ≡ Some q → IsLinked L.linked (L.table links.old) q }
     requires behind { (q : Place) → behind ≡ Some q → IsLinked L.linked (L.table links.old) q }
     ensures joined { Joined L.neighbors (L.table links.old).entry (L.table links.new).entry before behind }
-    ensures linked { (q : Place) → L.linked ((L.table links.new).entry q) ≡ L.linked ((L.table links.old).entry q) }
+    ensures linked { (q : Place) → L.linked ((L.table links.new).entry q)
+        ≡ L.linked ((L.table links.old).entry q) }
     ensures covers { (L.table links.new).covers ≡ (L.table links.old).covers }
-    ensures others { (q : Place) → before ≢ Some q → behind ≢ Some q → (L.table links.new).entry q ≡ (L.table links.old).entry q }
-    ensures keeps_acquired { (first : L) (q : Place) → L.Acquired first links.old q → L.Acquired first links.new q }
+    ensures others { (q : Place) → before ≢ Some q → behind ≢ Some q
+        → (L.table links.new).entry q ≡ (L.table links.old).entry q }
+    ensures keeps_acquired { (first : L) (q : Place) → L.Acquired first links.old q
+        → L.Acquired first links.new q }
 {
     lead(links, before, behind);
     follow(links, behind, before);

@@ -75,12 +75,7 @@ fn step(cursor: &mut Cursor<'_, u64, LinkOps>) -> Option<Place>
 }
 
 // A walk from null comes by these places, and to null again.
-fn assert_members(
-    rt: &impl Abort,
-    list: &LinkedList<u64>,
-    links: &LinkOps,
-    members: &[usize],
-)
+fn assert_members(rt: &impl Abort, list: &LinkedList<u64>, links: &LinkOps, members: &[usize])
     requires shown { ShowsSome neighbors_of (table_of (entries links.now)) list.now }
 {
     let mut cursor = start(list, links);
@@ -96,12 +91,7 @@ fn assert_members(
 }
 
 // A walk over both comes by the same places.
-fn assert_alike(
-    rt: &impl Abort,
-    list: &LinkedList<u64>,
-    links: &LinkOps,
-    plain: &PlainSequence,
-)
+fn assert_alike(rt: &impl Abort, list: &LinkedList<u64>, links: &LinkOps, plain: &PlainSequence)
     requires shown { ShowsSome neighbors_of (table_of (entries links.now)) list.now }
 {
     let mut cursor = start(list, links);
@@ -309,12 +299,24 @@ fn two_lists_of_one_table(rt: HostRuntime) -> Result<(), Fail> {
     let mut links = LinkOps::new(rt.alloc());
     links.cover(3)?;
     let (mut left, mut right) = empty_pair(&links);
-    assert_eq!(rt; push_second(&rt, &left, &mut right, &mut links, one), Ok(()));
+    assert_eq!(rt;
+        push_second(&rt, &left, &mut right, &mut links, one),
+        Ok(())
+    );
     assert_eq!(rt; push_first(&rt, &mut left, &right, &mut links, two), Ok(()));
-    assert_eq!(rt; push_first(&rt, &mut left, &right, &mut links, zero), Ok(()));
+    assert_eq!(rt;
+        push_first(&rt, &mut left, &right, &mut links, zero),
+        Ok(())
+    );
     assert_both(&rt, (&left, &right), &links, &[2, 0], &[1]);
-    assert_eq!(rt; push_first(&rt, &mut left, &right, &mut links, one), Err(one));
-    assert_eq!(rt; push_second(&rt, &left, &mut right, &mut links, two), Err(two));
+    assert_eq!(rt;
+        push_first(&rt, &mut left, &right, &mut links, one),
+        Err(one)
+    );
+    assert_eq!(rt;
+        push_second(&rt, &left, &mut right, &mut links, two),
+        Err(two)
+    );
     assert_both(&rt, (&left, &right), &links, &[2, 0], &[1]);
     Ok(())
 }
@@ -326,7 +328,16 @@ fn beside_the_plain_sequence(rt: HostRuntime) -> Result<(), Fail> {
     let mut list = empty_list(&links);
     let mut plain = PlainSequence::new(rt.alloc());
     // Some pushes are refused: the place is a member then, and the plain sequence stays.
-    for (index, pops) in [(2, 0), (0, 0), (2, 1), (3, 0), (2, 2), (1, 0), (0, 3), (3, 1)] {
+    for (index, pops) in [
+        (2, 0),
+        (0, 0),
+        (2, 1),
+        (3, 0),
+        (2, 2),
+        (1, 0),
+        (0, 3),
+        (3, 1),
+    ] {
         let place = place(&rt, index);
         match push(&rt, &mut list, &mut links, place) {
             Ok(()) => {

@@ -3,7 +3,7 @@
 ghost use Rattle.std.specs.Prelude.{◌≡◌, ◌≢◌, ◌⊎◌, ◌<◌, IfOk, OnOk, codes, length};
 ghost use Rattle.std.specs.Io.KnownBytes.{Appends};
 ghost use Rattle.ic_world.specs.Step.{Step, reply_of};
-ghost use Rattle.ic_main.specs.Answered.{reply_in};
+ghost use Rattle.ic_world.specs.Answers.{reply_in};
 ghost use Rattle.ic_main.specs.Line.{IsTextOf};
 
 use crate::command;
@@ -59,7 +59,8 @@ pub(crate) fn run_program<S, M: Allocator + Copy, R: BufRead, W: Write>(
     writer: &mut W,
 ) -> u8
     ensures status { (result ≡ 0) ⊎ (result ≡ 2) ⊎ (result ≡ FAULT) }
-    ensures arguments { 0 < length words.now → result ≢ FAULT → (result ≡ 2) × Appends (W.contents writer.old) (W.contents writer.new) (codes "bad arguments\n") }
+    ensures arguments { 0 < length words.now → result ≢ FAULT → (result ≡ 2)
+        × Appends (W.contents writer.old) (W.contents writer.new) (codes "bad arguments\n") }
 {
     let ending = if words.is_empty() {
         answer_lines(alloc, reader, writer)

@@ -4,3 +4,6 @@
 pub mod key_adapter;
 
 pub use key_adapter::KeyAdapter;
+
+#[cfg(test)]
+mod tests;

@@ -1,5 +1,5 @@
 -- Objects: a finite map from places to values, and where the next value will stand.
-use Rattle.std.specs.Prelude.{◌≡◌, ℕ, ◌<◌, Option, Some, None, Bool, is_some, cond, refl}
+use Rattle.std.specs.Prelude.{◌≡◌, ℕ, Option, None, Bool, is_some, refl}
 use Rattle.std.specs.Ordering.{nat_cmp}
 use Rattle.std.specs.FinMap as map
 use Rattle.std.specs.Coded.{Coded, code_by, coded×, coded_ℕ}

@@ -2,6 +2,12 @@
 //!
 //! An intrusive collection links objects which already exist. Here an object is a value in [`Objects`], it stands at a
 //! [`Place`], and a [`UnsafeRef`] names it by that place.
+//!
+//! ```text
+//! let mut objects = Objects::new(rt.alloc());
+//! let task = UnsafeRef::from_box(&mut objects, Task::new())?;
+//! objects.get(task.place()) // Some(&Task)
+//! ```
 #![tactic(auto)]
 
 mod objects;

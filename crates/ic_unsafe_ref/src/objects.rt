@@ -1,4 +1,9 @@
 //! The objects, each at its place.
+//!
+//! ```text
+//! let first = UnsafeRef::from_box(&mut objects, 10)?;
+//! objects.is_placed(first.place()) // true
+//! ```
 
 ghost use Rattle.std.specs.Prelude.{◌≡◌, ◌≤◌, ◌^◌, Some, None, MatchOption, option_copied, if◌then◌else◌};
 ghost use Rattle.std.specs.FinMap as map;

@@ -1,4 +1,9 @@
 //! Places: where objects stand, and how entries of links name them.
+//!
+//! ```text
+//! let third = Place::new(2)?; // Some: there are 4,294,967,296 places
+//! third.index() // 2
+//! ```
 
 ghost use Rattle.std.specs.Prelude.{◌≡◌, ℕ, ◌+◌, ◌*◌, ◌<◌, ◌≤◌, ◌%◌, ◌^◌, MatchOption};
 ghost use Rattle.ic_unsafe_ref.specs.Numbers.{IsNumber, IsWord};

@@ -1,4 +1,9 @@
 //! References to objects.
+//!
+//! ```text
+//! let object = UnsafeRef::from_box(&mut objects, value)?;
+//! list.push_back(&mut links, object)?;
+//! ```
 
 ghost use Rattle.std.specs.Prelude.{◌≡◌, ◌<◌, ◌^◌, IfOk, IfErr, ⊤};
 ghost use Rattle.ic_unsafe_ref.specs.Objects.{Places};

@@ -1,6 +1,6 @@
 -- What the family of some parts has at a place, in a field and under a number.
-use Rattle.std.proofs.Common.{◌≡◌, ℕ, ◌<◌, ◌≤◌, true, List, [], ◌∷◌, length, map, set, drop, get_or, Option, Some, None, sym, ap, ◌∙◌, arith}
-use Rattle.std.proofs.lemmas.List.{get_or_default, get_or_past, get_or-map, set-get_or}
+use Rattle.std.proofs.Common.{◌≡◌, ℕ, ◌<◌, ◌≤◌, true, List, [], ◌∷◌, length, map, set, drop, get_or, Option, Some, None, sym, ap, subst, ◌∙◌, arith}
+use Rattle.std.proofs.lemmas.List.{length-map, get_or_default, get_or_past, get_or-map, set-get_or}
 use Rattle.std.proofs.Math.ListN.{get_or-map as map_at}
 use Rattle.std.specs.FinSet as set_of
 use Rattle.ic_unsafe_ref.specs.declared.place.Place.{Place}
@@ -10,7 +10,7 @@ use Rattle.ic_link_ops.specs.declared.linked_list.LinkOps.{LinkOps}
 use Rattle.ic_link_ops.specs.Sequences.{first}
 use Rattle.ic_link_ops.specs.Entries.{is_linked, entry_at, entries}
 use Rattle.ic_world.specs.declared.collection.Collection.{Collection}
-use Rattle.ic_world.specs.Tables.{Entries, table, linked_in, sequence, shown_as, at, family_of, HasObject}
+use Rattle.ic_world.specs.Tables.{Entries, table, ShowsIn, linked_in, sequence, shown_as, at, family_of, HasObject, IsWhole}
 use Rattle.ic_world.specs.Step.{collection, linked_of, is_placed}
 use Rattle.ic_world.proofs.Linked.{in_linked}
 
@@ -28,14 +28,35 @@ pub set_back : {X : Type 0} (xs : List X) (i : ℕ) (x : X) → x ≡ get_or xs 
 set_back xs i x e = ap (set xs i) e ∙ set-get_or xs i x
 
 module _ {V : Type 0} where
-  -- a read of the vector of collections found k
-  pub found_at : (cs : List (Option (Collection V))) (c n len : ℕ) (o : Option (Collection V)) (k : Collection V)
-      → c < n → n ≡ len → len ≡ length cs → o ≡ get_or cs c o → o ≡ Some k → at cs c ≡ Some k
-  found_at cs c n len o k h e l read is = get_or_default cs c None o (omega (arith, h, e, l)) ∙ sym read ∙ is
+  -- what is known where a call has found k under number c, and has read the table of its field
+  pub record Found {M : Type 0} (tables : List (LinkOps M)) (cs : List (Option (Collection V))) (c : ℕ) (k : Collection V) (now : LinkOps M) : Type 0 where
+    pub is : at cs c ≡ Some k
+    pub field : k.field < length (map entries tables)
+    pub read : table (map entries tables) k.field ≡ entries now
+    pub shown : ShowsIn (entries now) k.list (sequence (map entries tables) k)
+    pub table_back : set tables k.field now ≡ tables
+    pub list_back : set cs c (Some k) ≡ cs
 
-  pub found_none : (cs : List (Option (Collection V))) (c n len : ℕ) (o : Option (Collection V))
-      → c < n → n ≡ len → len ≡ length cs → o ≡ get_or cs c o → o ≡ None → at cs c ≡ None
-  found_none cs c n len o h e l read is = get_or_default cs c None o (omega (arith, h, e, l)) ∙ sym read ∙ is
+  pub found_at : (cs : List (Option (Collection V))) (c : ℕ) {n len : ℕ} {o : Option (Collection V)} {k : Collection V}
+      → c < n → n ≡ len → len ≡ length cs → o ≡ get_or cs c o → o ≡ Some k → at cs c ≡ Some k
+  found_at cs c {n} {len} {o} {k} h e l read is = get_or_default cs c None o (omega (arith, h, e, l)) ∙ sym read ∙ is
+
+  pub found : {M : Type 0} {objects : Objects V} {room : ℕ} (tables : List (LinkOps M)) {cs : List (Option (Collection V))} {c n len : ℕ} {o : Option (Collection V)} {k : Collection V} {now : LinkOps M}
+      → IsWhole objects room (map entries tables) cs → c < n → n ≡ len → len ≡ length cs → o ≡ get_or cs c o → o ≡ Some k → now ≡ get_or tables k.field now
+      → Found tables cs c k now
+  found {M} {objects} {room} tables {cs} {c} {n} {len} {o} {k} {now} whole h e l collection is links =
+      let at_c = found_at cs c h e l collection is in
+      let field = whole.in_field c k at_c in
+      let read = table_read tables k.field now (rw length-map at field) links in
+      let P : Entries → Type 0 = λ t. ShowsIn t k.list (sequence (map entries tables) k) in
+      record {
+        is = at_c;
+        field = field;
+        read = read;
+        shown = subst P read (whole.shown c k at_c);
+        table_back = set_back tables k.field now links;
+        list_back = set_back cs c (Some k) (rw is at collection);
+      }
 
   module _ (objects : Objects V) (ts : List Entries) (cs : List (Option (Collection V))) where
     pub placed_there : (p : Place) → HasObject objects (index_of p) → is_placed (family_of objects ts cs) p ≡ true

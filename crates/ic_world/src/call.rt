@@ -1,4 +1,11 @@
 //! The calls of a world, and what they answer.
+//!
+//! ```text
+//! Command::PushBack(0, place) // answered by Answer::Done, or by Answer::Refused(Refusal::AlreadyLinked)
+//! ```
+
+ghost use Rattle.std.specs.Prelude.{◌≡◌};
+ghost use Rattle.ic_world.specs.Refusals.{number_of};
 
 use ic_unsafe_ref::Place;
 use std::alloc::{Allocator, Global};
@@ -64,7 +71,9 @@ pub enum Refusal {
 impl Refusal {
     /// The number of the refusal, 1 to 14.
     #[inline]
-    pub fn number(&self) -> u8 {
+    pub fn number(&self) -> u8
+        ensures { result ≡ number_of self.now }
+    {
         *self as u8
     }
 }

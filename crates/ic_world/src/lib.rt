@@ -12,6 +12,8 @@
 
 mod call;
 mod collection;
+#[cfg(test)]
+mod tests;
 mod world;
 
 pub use call::{Answer, Command, Kind, Refusal};

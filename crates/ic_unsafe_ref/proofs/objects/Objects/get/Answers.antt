@@ -1,5 +1,4 @@
-use Rattle.std.proofs.Common.{sym, ap, ◌∙◌}
-use Rattle.slab.specs.Slab.{get as slot}
+use Rattle.std.proofs.Common.{sym, ◌∙◌}
 use Rattle.ic_unsafe_ref.proofs.ObjectLemmas.{get_entries}
 use Rattle.ic_unsafe_ref.proofs.objects.Objects.get.Goals as goal
 

@@ -1,4 +1,4 @@
-use Rattle.std.proofs.Common.{◌≡◌, sym, ap, ◌∙◌, is_some}
+use Rattle.std.proofs.Common.{sym, ap, ◌∙◌, is_some}
 use Rattle.std.specs.Cmp.{both_ways}
 use Rattle.ic_unsafe_ref.proofs.ObjectLemmas.{get_entries}
 use Rattle.ic_unsafe_ref.proofs.objects.Objects.is_placed.Goals as goal

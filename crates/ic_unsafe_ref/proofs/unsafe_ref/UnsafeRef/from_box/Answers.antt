@@ -1,4 +1,3 @@
-use Rattle.std.proofs.Common.{◌∙◌}
 use Rattle.ic_unsafe_ref.proofs.ObjectLemmas.{places_value}
 use Rattle.ic_unsafe_ref.proofs.unsafe_ref.UnsafeRef.from_box.Goals as goal
 use Rattle.ic_unsafe_ref.proofs.unsafe_ref.UnsafeRef.from_box.Goals.{in-Ok, in-Err}

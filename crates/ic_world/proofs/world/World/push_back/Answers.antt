@@ -1,9 +1,9 @@
-use Rattle.std.proofs.Common.{◌<◌, ◌∙◌, length, sym, subst, arith, map, Some}
+use Rattle.std.proofs.Common.{◌∙◌, sym, arith, map, Some}
 use Rattle.std.proofs.lemmas.List.{length-map, map-set}
 use Rattle.ic_unsafe_ref.specs.Places.{index_of}
 use Rattle.ic_link_ops.specs.Entries.{entries}
-use Rattle.ic_world.specs.Tables.{Entries, sequence, ShowsIn, HasObject}
-use Rattle.ic_world.proofs.Readings.{found_at, table_read, set_back}
+use Rattle.ic_world.specs.Tables.{sequence, HasObject}
+use Rattle.ic_world.proofs.Readings.{found, found_at, set_back}
 use Rattle.ic_world.proofs.Steps.{from_ok, from_err, from_if_err}
 use Rattle.ic_world.proofs.Calls.{push_done, push_linked, push_unplaced, push_whole}
 use Rattle.ic_world.proofs.world.World.push_back.Goals as goal
@@ -12,7 +12,7 @@ pub returns-then-not-placed : goal.returns-then-not-placed
 returns-then-not-placed g c =
     let cs = c.self.inside.collections in
     let ts = map entries c.self.inside.fields.items in
-    let is = found_at cs.items c.args.collection c.len.result cs.len c.index_mut.result.now c.in-Some.found c.if-collection-len.false c.len.ensures cs.ok.0 c.index_mut.ensures.value c.in-Some.is in
+    let is = found_at cs.items c.args.collection c.if-collection-len.false c.len.ensures cs.ok.0 c.index_mut.ensures.value c.in-Some.is in
     let back = set_back cs.items c.args.collection (Some c.in-Some.found) (rw c.in-Some.is at c.index_mut.ensures.value) in
     rw (← c.self.view_is, back) (push_unplaced c.self.inside.objects ts cs.items c.args.collection c.args.object c.in-Some.found is
     (sym c.is_placed-placed.ensures ∙ c.if-not-placed.true))
@@ -21,7 +21,7 @@ pub index_mut-links-requires : goal.index_mut-links-requires
 index_mut-links-requires g c =
     let cs = c.self.inside.collections in
     let fields = c.self.inside.fields in
-    let is = found_at cs.items c.args.collection c.len.result cs.len c.index_mut.result.now c.in-Some.found c.if-collection-len.false c.len.ensures cs.ok.0 c.index_mut.ensures.value c.in-Some.is in
+    let is = found_at cs.items c.args.collection c.if-collection-len.false c.len.ensures cs.ok.0 c.index_mut.ensures.value c.in-Some.is in
     omega (arith, c.self.invariant.in_field c.args.collection c.in-Some.found is, length-map fields.items entries, fields.ok.0)
 
 pub push_back-requires-clause-covered : goal.push_back-requires-clause-covered
@@ -30,11 +30,9 @@ push_back-requires-clause-covered g c =
     let fields = c.self.inside.fields.items in
     let ts = map entries fields in
     let k = c.in-Some.found in
-    let is = found_at cs.items c.args.collection c.len.result cs.len c.index_mut.result.now k c.if-collection-len.false c.len.ensures cs.ok.0 c.index_mut.ensures.value c.in-Some.is in
-    let field : k.field < length ts = c.self.invariant.in_field c.args.collection k is in
-    let read = table_read fields k.field c.index_mut-links.result.now (rw length-map at field) c.index_mut-links.ensures.value in
+    let found_k = found fields c.self.invariant c.if-collection-len.false c.len.ensures cs.ok.0 c.index_mut.ensures.value c.in-Some.is c.index_mut-links.ensures.value in
     let has : HasObject c.self.inside.objects (index_of c.args.object) = sym c.is_placed-placed.ensures ∙ c.if-not-placed.false in
-    let covered = rw read at (c.self.invariant.covered k.field field) in
+    let covered = rw found_k.read at (c.self.invariant.covered k.field found_k.field) in
     let within = c.self.invariant.within (index_of c.args.object) has in
     rw c.new.ensures (omega (arith, covered, within))
 
@@ -44,11 +42,8 @@ push_back-requires-clause-shown g c =
     let fields = c.self.inside.fields.items in
     let ts = map entries fields in
     let k = c.in-Some.found in
-    let is = found_at cs.items c.args.collection c.len.result cs.len c.index_mut.result.now k c.if-collection-len.false c.len.ensures cs.ok.0 c.index_mut.ensures.value c.in-Some.is in
-    let field : k.field < length ts = c.self.invariant.in_field c.args.collection k is in
-    let read = table_read fields k.field c.index_mut-links.result.now (rw length-map at field) c.index_mut-links.ensures.value in
-    let P : Entries → Type 0 = λ t. ShowsIn t k.list (sequence ts k) in
-    (sequence ts k, subst P read (c.self.invariant.shown c.args.collection k is))
+    let found_k = found fields c.self.invariant c.if-collection-len.false c.len.ensures cs.ok.0 c.index_mut.ensures.value c.in-Some.is c.index_mut-links.ensures.value in
+    (sequence ts k, found_k.shown)
 
 pub invariant_of-self-then-is_err : goal.invariant_of-self-then-is_err
 invariant_of-self-then-is_err g c =
@@ -56,15 +51,10 @@ invariant_of-self-then-is_err g c =
     let fields = c.self.inside.fields.items in
     let ts = map entries fields in
     let k = c.in-Some.found in
-    let now = c.index_mut-links.result.now in
-    let is = found_at cs.items c.args.collection c.len.result cs.len c.index_mut.result.now k c.if-collection-len.false c.len.ensures cs.ok.0 c.index_mut.ensures.value c.in-Some.is in
-    let field : k.field < length ts = c.self.invariant.in_field c.args.collection k is in
-    let read = table_read fields k.field now (rw length-map at field) c.index_mut-links.ensures.value in
+    let found_k = found fields c.self.invariant c.if-collection-len.false c.len.ensures cs.ok.0 c.index_mut.ensures.value c.in-Some.is c.index_mut-links.ensures.value in
     let refused = from_err c.push_back.result c.if-is_err.ensures.negation c.push_back.ensures.refused in
     let same = from_if_err _ c.push_back.result c.if-is_err.ensures.negation c.push_back.ensures.unchanged in
-    let links = set_back fields k.field now c.index_mut-links.ensures.value in
-    let list = set_back cs.items c.args.collection (Some k) (rw c.in-Some.is at c.index_mut.ensures.value) in
-    rw (refused.1, same, links, list) c.self.invariant
+    rw (refused.1, same, found_k.table_back, found_k.list_back) c.self.invariant
 
 pub returns-then-is_err : goal.returns-then-is_err
 returns-then-is_err g c =
@@ -72,17 +62,12 @@ returns-then-is_err g c =
     let fields = c.self.inside.fields.items in
     let ts = map entries fields in
     let k = c.in-Some.found in
-    let now = c.index_mut-links.result.now in
-    let is = found_at cs.items c.args.collection c.len.result cs.len c.index_mut.result.now k c.if-collection-len.false c.len.ensures cs.ok.0 c.index_mut.ensures.value c.in-Some.is in
-    let field : k.field < length ts = c.self.invariant.in_field c.args.collection k is in
-    let read = table_read fields k.field now (rw length-map at field) c.index_mut-links.ensures.value in
+    let found_k = found fields c.self.invariant c.if-collection-len.false c.len.ensures cs.ok.0 c.index_mut.ensures.value c.in-Some.is c.index_mut-links.ensures.value in
     let refused = from_err c.push_back.result c.if-is_err.ensures.negation c.push_back.ensures.refused in
     let same = from_if_err _ c.push_back.result c.if-is_err.ensures.negation c.push_back.ensures.unchanged in
-    let links = set_back fields k.field now c.index_mut-links.ensures.value in
-    let list = set_back cs.items c.args.collection (Some k) (rw c.in-Some.is at c.index_mut.ensures.value) in
     let has = sym c.is_placed-placed.ensures ∙ c.if-not-placed.false in
-    rw (← c.self.view_is, refused.1, same, links, list)
-    (push_linked c.self.inside.objects ts cs.items c.args.collection c.args.object k is field has (rw (read, ← c.new.ensures) refused.0))
+    rw (← c.self.view_is, refused.1, same, found_k.table_back, found_k.list_back)
+    (push_linked c.self.inside.objects ts cs.items c.args.collection c.args.object k found_k.is found_k.field has (rw (found_k.read, ← c.new.ensures) refused.0))
 
 pub invariant_of-self-in-Some : goal.invariant_of-self-in-Some
 invariant_of-self-in-Some g c =
@@ -90,18 +75,13 @@ invariant_of-self-in-Some g c =
     let fields = c.self.inside.fields.items in
     let ts = map entries fields in
     let k = c.in-Some.found in
-    let now = c.index_mut-links.result.now in
-    let is = found_at cs.items c.args.collection c.len.result cs.len c.index_mut.result.now k c.if-collection-len.false c.len.ensures cs.ok.0 c.index_mut.ensures.value c.in-Some.is in
-    let field : k.field < length ts = c.self.invariant.in_field c.args.collection k is in
-    let read = table_read fields k.field now (rw length-map at field) c.index_mut-links.ensures.value in
-    let P : Entries → Type 0 = λ t. ShowsIn t k.list (sequence ts k) in
-    let shown = subst P read (c.self.invariant.shown c.args.collection k is) in
+    let found_k = found fields c.self.invariant c.if-collection-len.false c.len.ensures cs.ok.0 c.index_mut.ensures.value c.in-Some.is c.index_mut-links.ensures.value in
     let e = c.push_back.ensures in
-    let inserted = rw c.new.ensures at (from_ok c.push_back.result c.if-is_err.ensures.negation (e.inserted (sequence ts k) shown)) in
-    let linked = rw (c.new.ensures, ← read) at (from_ok c.push_back.result c.if-is_err.ensures.negation e.linked) in
-    let frame = rw (c.new.ensures, ← read) at (e.frame (sequence ts k) shown) in
+    let inserted = rw c.new.ensures at (from_ok c.push_back.result c.if-is_err.ensures.negation (e.inserted (sequence ts k) found_k.shown)) in
+    let linked = rw (c.new.ensures, ← found_k.read) at (from_ok c.push_back.result c.if-is_err.ensures.negation e.linked) in
+    let frame = rw (c.new.ensures, ← found_k.read) at (e.frame (sequence ts k) found_k.shown) in
     let has = sym c.is_placed-placed.ensures ∙ c.if-not-placed.false in
-    rw map-set (push_whole c.self.inside.objects ts cs.items c.self.invariant c.args.collection k is (entries c.push_back.new.links) c.push_back.new.self c.args.object
+    rw map-set (push_whole c.self.inside.objects ts cs.items c.self.invariant c.args.collection k found_k.is (entries c.push_back.new.links) c.push_back.new.self c.args.object
     inserted linked frame has)
 
 pub returns-else-is_err : goal.returns-else-is_err
@@ -110,16 +90,11 @@ returns-else-is_err g c =
     let fields = c.self.inside.fields.items in
     let ts = map entries fields in
     let k = c.in-Some.found in
-    let now = c.index_mut-links.result.now in
-    let is = found_at cs.items c.args.collection c.len.result cs.len c.index_mut.result.now k c.if-collection-len.false c.len.ensures cs.ok.0 c.index_mut.ensures.value c.in-Some.is in
-    let field : k.field < length ts = c.self.invariant.in_field c.args.collection k is in
-    let read = table_read fields k.field now (rw length-map at field) c.index_mut-links.ensures.value in
-    let P : Entries → Type 0 = λ t. ShowsIn t k.list (sequence ts k) in
-    let shown = subst P read (c.self.invariant.shown c.args.collection k is) in
+    let found_k = found fields c.self.invariant c.if-collection-len.false c.len.ensures cs.ok.0 c.index_mut.ensures.value c.in-Some.is c.index_mut-links.ensures.value in
     let e = c.push_back.ensures in
-    let inserted = rw c.new.ensures at (from_ok c.push_back.result c.if-is_err.ensures.negation (e.inserted (sequence ts k) shown)) in
-    let linked = rw (c.new.ensures, ← read) at (from_ok c.push_back.result c.if-is_err.ensures.negation e.linked) in
-    let frame = rw (c.new.ensures, ← read) at (e.frame (sequence ts k) shown) in
+    let inserted = rw c.new.ensures at (from_ok c.push_back.result c.if-is_err.ensures.negation (e.inserted (sequence ts k) found_k.shown)) in
+    let linked = rw (c.new.ensures, ← found_k.read) at (from_ok c.push_back.result c.if-is_err.ensures.negation e.linked) in
+    let frame = rw (c.new.ensures, ← found_k.read) at (e.frame (sequence ts k) found_k.shown) in
     let has = sym c.is_placed-placed.ensures ∙ c.if-not-placed.false in
-    rw (← c.self.view_is, map-set) (push_done c.self.inside.objects ts cs.items c.self.invariant c.args.collection k is (entries c.push_back.new.links) c.push_back.new.self c.args.object
+    rw (← c.self.view_is, map-set) (push_done c.self.inside.objects ts cs.items c.self.invariant c.args.collection k found_k.is (entries c.push_back.new.links) c.push_back.new.self c.args.object
     inserted linked frame has)

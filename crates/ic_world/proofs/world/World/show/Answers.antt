@@ -1,8 +1,8 @@
-use Rattle.std.proofs.Common.{◌<◌, length, subst, arith, map}
+use Rattle.std.proofs.Common.{arith, map}
 use Rattle.std.proofs.lemmas.List.{length-map}
 use Rattle.ic_link_ops.specs.Entries.{entries}
-use Rattle.ic_world.specs.Tables.{Entries, sequence, ShowsIn}
-use Rattle.ic_world.proofs.Readings.{found_at, table_read}
+use Rattle.ic_world.specs.Tables.{sequence}
+use Rattle.ic_world.proofs.Readings.{found, found_at}
 use Rattle.ic_world.proofs.Calls.{show_done}
 use Rattle.ic_world.proofs.world.World.show.Goals as goal
 
@@ -10,7 +10,7 @@ pub index-links-requires : goal.index-links-requires
 index-links-requires g c =
     let cs = c.self.inside.collections in
     let fields = c.self.inside.fields in
-    let is = found_at cs.items c.args.collection c.len.result cs.len c.index.result.now c.in-Some.found c.if-collection-len.false c.len.ensures cs.ok.0 c.index.ensures c.in-Some.is in
+    let is = found_at cs.items c.args.collection c.if-collection-len.false c.len.ensures cs.ok.0 c.index.ensures c.in-Some.is in
     omega (arith, c.self.invariant.in_field c.args.collection c.in-Some.found is, length-map fields.items entries, fields.ok.0)
 
 pub listed-requires : goal.listed-requires
@@ -19,11 +19,8 @@ listed-requires g c =
     let fields = c.self.inside.fields.items in
     let ts = map entries fields in
     let k = c.in-Some.found in
-    let is = found_at cs.items c.args.collection c.len.result cs.len c.index.result.now k c.if-collection-len.false c.len.ensures cs.ok.0 c.index.ensures c.in-Some.is in
-    let field : k.field < length ts = c.self.invariant.in_field c.args.collection k is in
-    let read = table_read fields k.field c.index-links.result.now (rw length-map at field) c.index-links.ensures in
-    let P : Entries → Type 0 = λ t. ShowsIn t k.list (sequence ts k) in
-    (sequence ts k, subst P read (c.self.invariant.shown c.args.collection k is))
+    let found_k = found fields c.self.invariant c.if-collection-len.false c.len.ensures cs.ok.0 c.index.ensures c.in-Some.is c.index-links.ensures in
+    (sequence ts k, found_k.shown)
 
 pub returns-in-Ok : goal.returns-in-Ok
 returns-in-Ok g c =
@@ -31,9 +28,5 @@ returns-in-Ok g c =
     let fields = c.self.inside.fields.items in
     let ts = map entries fields in
     let k = c.in-Some.found in
-    let is = found_at cs.items c.args.collection c.len.result cs.len c.index.result.now k c.if-collection-len.false c.len.ensures cs.ok.0 c.index.ensures c.in-Some.is in
-    let field : k.field < length ts = c.self.invariant.in_field c.args.collection k is in
-    let read = table_read fields k.field c.index-links.result.now (rw length-map at field) c.index-links.ensures in
-    let P : Entries → Type 0 = λ t. ShowsIn t k.list (sequence ts k) in
-    let shown = subst P read (c.self.invariant.shown c.args.collection k is) in
-    rw (← c.self.view_is) (show_done c.self.inside.objects ts cs.items c.args.collection k c.in-Ok.places.items is (c.in-Ok.ensures (sequence ts k) shown))
+    let found_k = found fields c.self.invariant c.if-collection-len.false c.len.ensures cs.ok.0 c.index.ensures c.in-Some.is c.index-links.ensures in
+    rw (← c.self.view_is) (show_done c.self.inside.objects ts cs.items c.args.collection k c.in-Ok.places.items found_k.is (c.in-Ok.ensures (sequence ts k) found_k.shown))
