@@ -1,10 +1,12 @@
 //! The answers of calls that are refused.
 //!
 //! ```text
-//! if let Err(AlreadyLinked(object)) = list.push_back(&mut links, object) {
-//!     // the object is in some list of this field
+//! if let Err(refused) = list.push_back(&mut links, object) {
+//!     let object = refused.into_object(); // it is in some list of this field
 //! }
 //! ```
+
+ghost use Rattle.std.specs.Prelude.{◌≡◌};
 
 use ic_unsafe_ref::UnsafeRef;
 use thiserror::Error;
@@ -12,6 +14,17 @@ use thiserror::Error;
 /// The object that was to be inserted is linked already. It comes back.
 #[derive(Debug)]
 pub struct AlreadyLinked<T>(pub UnsafeRef<T>);
+
+impl<T> AlreadyLinked<T> {
+    /// The object that was refused.
+    #[inline]
+    pub fn into_object(self) -> UnsafeRef<T>
+        ensures answer { result ≡ self.0 }
+    {
+        let AlreadyLinked(object) = self;
+        object
+    }
+}
 
 impl<T> Drop for AlreadyLinked<T> {
     fn drop(self) {

@@ -119,6 +119,12 @@ fn an_end_keeps_a_place(rt: HostRuntime) {
 }
 
 #[test]
+fn a_refused_object_comes_back(rt: HostRuntime) {
+    let refused: AlreadyLinked<u64> = AlreadyLinked(UnsafeRef::new(place(&rt, 3)));
+    assert_eq!(rt; refused.into_object().place().index(), 3);
+}
+
+#[test]
 fn a_refused_object_is_printed_with_its_index(rt: HostRuntime) -> Result<(), Fail> {
     let refused: AlreadyLinked<u64> = AlreadyLinked(UnsafeRef::new(place(&rt, 3)));
     let text = format!(in rt.alloc(); "{refused:?}")?;

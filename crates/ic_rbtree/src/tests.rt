@@ -13,6 +13,7 @@ struct ByDeadline;
 
 impl KeyAdapter for ByDeadline {
     type Value = Task;
+
     type Key = u64;
 
     ghost key_of = { λ _ task. task.deadline };

@@ -373,7 +373,7 @@ fn each_growth_refused_in_turn(rt: HostRuntime) -> Result<(), Fail> {
 #[test]
 fn each_later_growth_refused_in_turn(rt: HostRuntime) -> Result<(), Fail> {
     let kind = Kind::Doubly;
-    let (zeroth, first, second, third, fourth) = (at(0)?, at(1)?, at(2)?, at(3)?, fourth);
+    let (zeroth, first, second, third, fourth) = (at(0)?, at(1)?, at(2)?, at(3)?, at(4)?);
     let calls = [
         (Command::AddField(kind), "field 0", 1),
         (Command::AddField(kind), "field 1", 0),
