@@ -1,15 +1,24 @@
-//! Figures for the doubly linked list: `bench [MEMBERS TIMES]`.
+//! Figures for the doubly linked list and for the tables of links: `bench [MEMBERS TIMES]`.
 //!
 //! Where each kind of work ended goes to standard output, the time of one operation to standard error.
 #![tactic(auto)]
 
-ghost use Rattle.ic_link_ops.specs.Entries.{entries, table_of};
+ghost use Rattle.ic_link_ops.specs.DoublyEntries.{entries, table_of};
 ghost use Rattle.ic_link_ops.specs.Tables.{IsCovered};
+ghost use Rattle.std.specs.Prelude.{◌≡◌};
+ghost use Rattle.ic_link_ops.specs.PlainTables.{table};
 ghost use Rattle.bench.specs.Plain.{ShowsList};
 
+mod churn;
+
+use churn::{churn_doubly, churn_singly, churn_tree, churn_xor};
 use ic_link_ops::linked_list::LinkOps;
+use ic_link_ops::{PlainTable, Words, rbtree, singly_linked_list, xor_linked_list};
 use ic_linked_list::LinkedList;
 use ic_unsafe_ref::{Place, UnsafeRef};
+use std::alloc::Global;
+use std::process::Abort;
+use std::rt::Clock;
 use std::time::Instant;
 use std::{env, io};
 
@@ -96,6 +105,40 @@ fn report(
     eprintln!(rt; "{work}: {each} ns each")
 }
 
+// A table that covers one place.
+fn one_place<W: Words>(rt: &impl Abort, alloc: Global) -> PlainTable<W>
+    ensures { (table W.unlinked result).covers ≡ 1 }
+{
+    let mut links = PlainTable::new(alloc);
+    links.cover(1).expect(rt, "memory for one link");
+    links
+}
+
+// One place of each table linked and unlinked, so many times.
+fn tables(rt: &(impl Abort + Print + Eprint + Clock), alloc: Global, times: u64) -> io::Result<()> {
+    let place = Place::new(0).expect(rt, "the first place");
+
+    let mut links: singly_linked_list::LinkOps = one_place(rt, alloc);
+    let start = Instant::now(rt)?;
+    let end = churn_singly(&mut links, place, times);
+    report(rt, "singly link", end, start.elapsed(rt)?.as_nanos(), times)?;
+
+    let mut links: LinkOps = one_place(rt, alloc);
+    let start = Instant::now(rt)?;
+    let end = churn_doubly(&mut links, place, times);
+    report(rt, "doubly link", end, start.elapsed(rt)?.as_nanos(), times)?;
+
+    let mut links: xor_linked_list::LinkOps = one_place(rt, alloc);
+    let start = Instant::now(rt)?;
+    let end = churn_xor(&mut links, place, times);
+    report(rt, "XOR link", end, start.elapsed(rt)?.as_nanos(), times)?;
+
+    let mut links: rbtree::LinkOps = one_place(rt, alloc);
+    let start = Instant::now(rt)?;
+    let end = churn_tree(&mut links, place, times);
+    report(rt, "tree link", end, start.elapsed(rt)?.as_nanos(), times)
+}
+
 fn main(rt: HostRuntime) -> io::Result<()> {
     let words: Vec<String> = env::args(&rt)?.collect(rt.alloc())?;
     let members = number(words.get(1), 1000).min(4_294_967_296);
@@ -126,5 +169,6 @@ fn main(rt: HostRuntime) -> io::Result<()> {
     let start = Instant::now(&rt)?;
     let end = drain(&mut list, &mut links, members);
     let nanos = start.elapsed(&rt)?.as_nanos();
-    report(&rt, "pop_front", end, nanos, members)
+    report(&rt, "pop_front", end, nanos, members)?;
+    tables(&rt, rt.alloc(), times)
 }

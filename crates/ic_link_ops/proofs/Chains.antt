@@ -1,105 +1,161 @@
--- Chains and shown sequences: cut, joined, edited, and kept where the table keeps their entries.
-use Rattle.std.proofs.Common.{◌≡◌, Option, Some, List, [], ◌∷◌, ◌++◌, true, false, refl, ◌∙◌, ap}
+-- Chains: cut, glued, turned at their ends, and kept where the entries of their members are.
+use Rattle.std.proofs.Common.{◌≡◌, ◌≢◌, Option, Some, None, List, [], ◌∷◌, ◌++◌, reverse, Bool, true, false, refl, sym, ap}
+use Rattle.std.specs.List.{AllByRecursion}
 use Rattle.ic_unsafe_ref.specs.declared.place.Place.{Place}
-use Rattle.ic_link_ops.specs.Sequences.{IsAbsent, IsDistinct, IsDisjoint, first_or, last_or}
-use Rattle.ic_link_ops.specs.LinkedList.{Neighbors, IsChain}
-use Rattle.ic_link_ops.specs.Joins.{Joined}
-use Rattle.ic_link_ops.proofs.SequenceLemmas.{IsOutside, first_or-append, absent_left, outside_not, outside_tail, last_not}
+use Rattle.ic_link_ops.specs.Sequences.{IsAbsent, IsDistinct, IsDisjoint, first_or, last_or, first, last, but_last}
+use Rattle.ic_link_ops.specs.Chains.{IsChain}
+use Rattle.ic_link_ops.specs.Turns.{TurnsBehind, TurnsBefore}
+use Rattle.ic_link_ops.proofs.SequenceLemmas.{IsOutside, first_or-append, absent_left, absent_right, distinct_disjoint, distinct_left, distinct_right, distinct_middle, distinct_remove, last_outside, first_outside, last_not, none_not, some_same, disjoint_left, disjoint_right, disjoint_sym, reverse_cons, last_of_reverse}
 
-module _ {E : Type 0} (n : E → Neighbors) where
+module _ {E : Type 0} (between : E → Option Place → Option Place → Type 0) where
   -- a chain depends on the entries of its members alone
   pub chain_kept : (old new : Place → E) (b : Option Place) (s : List Place) (a : Option Place)
-      → ((q : Place) → (IsAbsent q s → ⊥) → new q ≡ old q) → IsChain n old b s a → IsChain n new b s a
+      → ((q : Place) → (IsAbsent q s → ⊥) → new q ≡ old q) → IsChain between old b s a → IsChain between new b s a
   chain_kept old new b [] a same c = tt
   chain_kept old new b (x ∷ s) a same c =
-      let e = same x (λ h. h.0 refl) in (
-        record { linked = ap (λ x. (n x).linked) e ∙ c.0.linked; prev = ap (λ x. (n x).prev) e ∙ c.0.prev; next = ap (λ x. (n x).next) e ∙ c.0.next },
-        chain_kept old new (Some x) s a (λ q h. same q (λ k. h k.1)) c.1,
-      )
+      (rw (same x (λ h. h.0 refl)) c.0, chain_kept old new (Some x) s a (λ q h. same q (λ k. h k.1)) c.1)
 
-  -- a chain stays where x and y are joined outside of it
-  pub chain_stays : (old new : Place → E) (x y b : Option Place) (s : List Place) (a : Option Place)
-      → Joined n old new x y → IsOutside x s → IsOutside y s → IsChain n old b s a → IsChain n new b s a
-  chain_stays old new x y b [] a j hx hy c = tt
-  chain_stays old new x y b (z ∷ s) a j hx hy c = (
-    record {
-      linked = j.linked z ∙ c.0.linked;
-      prev = j.prev_stays z (outside_not y z s hy) ∙ c.0.prev;
-      next = j.next_stays z (outside_not x z s hx) ∙ c.0.next;
-    },
-    chain_stays old new x y (Some z) s a j (outside_tail x z s hx) (outside_tail y z s hy) c.1,
-  )
+  -- it stays where nothing but the entry at a place outside of it is changed
+  pub chain_beside : (old new : Place → E) (at b : Option Place) (s : List Place) (a : Option Place)
+      → IsOutside at s → ((q : Place) → at ≢ Some q → new q ≡ old q) → IsChain between old b s a → IsChain between new b s a
+  chain_beside old new at b s a out same c = chain_kept old new b s a (λ q member. same q (λ e. member (rw e at out))) c
 
-  -- a cut
+  -- and where nothing but entries at members of t is changed, which are not its own
+  pub chain_frame : (old new : Place → E) (b : Option Place) (s : List Place) (a : Option Place) (t : List Place)
+      → IsDisjoint s t → ((q : Place) → IsAbsent q t → new q ≡ old q) → IsChain between old b s a → IsChain between new b s a
+  chain_frame old new b [] a t apart same c = tt
+  chain_frame old new b (x ∷ s) a t apart same c = (rw (same x apart.0) c.0, chain_frame old new (Some x) s a t apart.1 same c.1)
+
+  -- a chain cut in two
   pub chain_cut : (t : Place → E) (b : Option Place) (s r : List Place) (a : Option Place)
-      → IsChain n t b (s ++ r) a → IsChain n t b s (first_or r a) × IsChain n t (last_or b s) r a
+      → IsChain between t b (s ++ r) a → IsChain between t b s (first_or r a) × IsChain between t (last_or b s) r a
   chain_cut t b [] r a c = (tt, c)
-  chain_cut t b (x ∷ s) r a c =
-      let k = chain_cut t (Some x) s r a c.1 in
-      ((record { linked = c.0.linked; prev = c.0.prev; next = c.0.next ∙ first_or-append s r a }, k.0), k.1)
+  chain_cut t b (x ∷ s) r a c = let k = chain_cut t (Some x) s r a c.1 in ((rw (← first_or-append s r a) c.0, k.0), k.1)
 
-  -- a join
-  pub chain_join : (old new : Place → E) (b b' : Option Place) (s t : List Place) (a a' : Option Place)
-      → Joined n old new (last_or b s) (first_or t a)
-      → IsDistinct (s ++ t) → IsOutside (last_or b s) t → IsOutside (first_or t a) s
-      → IsChain n old b s a' → IsChain n old b' t a → IsChain n new b (s ++ t) a
-  chain_join old new b b' [] [] a a' j d l f c k = tt
-  chain_join old new b b' [] (y ∷ t) a a' j d l f c k = (
-    record {
-      linked = j.linked y ∙ k.0.linked;
-      prev = j.prev y refl;
-      next = j.next_stays y (outside_not b y t l) ∙ k.0.next;
-    },
-    chain_stays old new b (Some y) (Some y) t a j (outside_tail b y t l) d.0 k.1,
-  )
-  chain_join old new b b' (x ∷ []) t a a' j d l f c k = (
-    record {
-      linked = j.linked x ∙ c.0.linked;
-      prev = j.prev_stays x (outside_not (first_or t a) x [] f) ∙ c.0.prev;
-      next = j.next x refl;
-    },
-    chain_join old new (Some x) b' [] t a a' j d.1 l (outside_tail (first_or t a) x [] f) tt k,
-  )
-  chain_join old new b b' (x ∷ z ∷ s) t a a' j d l f c k = (
-    record {
-      linked = j.linked x ∙ c.0.linked;
-      prev = j.prev_stays x (outside_not (first_or t a) x (z ∷ s) f) ∙ c.0.prev;
-      next = j.next_stays x (last_not (Some z) s x (λ e. d.0.0 (cc)) (absent_left x s t d.0.1)) ∙ c.0.next;
-    },
-    chain_join old new (Some x) b' (z ∷ s) t a a' j d.1 l (outside_tail (first_or t a) x (z ∷ s) f) c.1 k,
+  -- and two chains glued
+  pub chain_glue : (t : Place → E) (b : Option Place) (s r : List Place) (a : Option Place)
+      → IsChain between t b s (first_or r a) → IsChain between t (last_or b s) r a → IsChain between t b (s ++ r) a
+  chain_glue t b [] r a c k = k
+  chain_glue t b (x ∷ s) r a c k = (rw (first_or-append s r a) c.0, chain_glue t (Some x) s r a c.1 k)
+
+  -- the last of a chain is turned
+  pub chain_last : (old new : Place → E) (b : Option Place) (s : List Place) (a a' : Option Place)
+      → TurnsBehind between old new (last s) a a' → IsDistinct s → IsChain between old b s a → IsChain between new b s a'
+  chain_last old new b [] a a' turn d c = tt
+  chain_last old new b (x ∷ []) a a' turn d c = (turn.turned x b refl c.0, tt)
+  chain_last old new b (x ∷ y ∷ s) a a' turn d c = (
+    rw (turn.others x (last_not (Some y) s x (λ e. d.0.0 (sym (some_same e))) d.0.1)) c.0,
+    chain_last old new (Some x) (y ∷ s) a a' turn d.1 c.1,
   )
 
-  -- what is not linked is no member
-  pub chain_absent : (t : Place → E) (b : Option Place) (s : List Place) (a : Option Place) (p : Place)
-      → IsChain n t b s a → (n (t p)).linked ≡ false → IsAbsent p s
-  chain_absent t b [] a p c h = tt
-  chain_absent t b (x ∷ s) a p c h =
-      ((λ e. let k : (n (t p)).linked ≡ true = rw e c.0.linked in cc), chain_absent t (Some x) s a p c.1 h)
+  -- the first of a chain is turned
+  pub chain_first : (old new : Place → E) (b b' : Option Place) (s : List Place) (a : Option Place)
+      → TurnsBefore between old new (first s) b b' → IsDistinct s → IsChain between old b s a → IsChain between new b' s a
+  chain_first old new b b' [] a turn d c = tt
+  chain_first old new b b' (x ∷ s) a turn d c =
+      (turn.turned x (first_or s a) refl c.0, chain_beside old new (Some x) (Some x) s a d.0 turn.others c.1)
 
-  pub last_linked : (t : Place → E) (b : Option Place) (s : List Place) (a : Option Place) (q : Place)
-      → IsChain n t b s a → (b ≡ Some q → (n (t q)).linked ≡ true) → last_or b s ≡ Some q → (n (t q)).linked ≡ true
-  last_linked t b [] a q c first e = first e
-  last_linked t b (x ∷ s) a q c first e =
-      last_linked t (Some x) s a q c.1 (λ k. let same : x ≡ q = cc in rw (← same) c.0.linked) e
-
-  pub first_linked : (t : Place → E) (b : Option Place) (s : List Place) (a : Option Place) (q : Place)
-      → IsChain n t b s a → (a ≡ Some q → (n (t q)).linked ≡ true) → first_or s a ≡ Some q → (n (t q)).linked ≡ true
-  first_linked t b [] a q c last e = last e
-  first_linked t b (x ∷ s) a q c last e = let same : x ≡ q = cc in rw (← same) c.0.linked
-
-  -- a chain beside the members of s and beside p stays
-  pub chain_frame : (old new : Place → E) (b : Option Place) (t : List Place) (a : Option Place) (s : List Place)
-      → IsDisjoint t s → ((q : Place) → IsAbsent q s → new q ≡ old q) → IsChain n old b t a → IsChain n new b t a
-  chain_frame old new b [] a s d same c = tt
-  chain_frame old new b (x ∷ t) a s d same c =
-      let e = same x d.0 in (
-        record { linked = ap (λ x. (n x).linked) e ∙ c.0.linked; prev = ap (λ x. (n x).prev) e ∙ c.0.prev; next = ap (λ x. (n x).next) e ∙ c.0.next },
-        chain_frame old new (Some x) t a s d.1 same c.1,
+  -- THE TWO SIDES OF A GAP are turned: first the last of s, then the first of r
+  pub chain_parts : (t0 t1 t2 : Place → E) (s r : List Place) (f g x y : Option Place) → IsDistinct (s ++ r)
+      → TurnsBehind between t0 t1 (last s) f x → TurnsBefore between t1 t2 (first r) g y
+      → IsChain between t0 None s f → IsChain between t0 g r None → IsChain between t2 None s x × IsChain between t2 y r None
+  chain_parts t0 t1 t2 s r f g x y d behind before c k =
+      let apart = distinct_disjoint s r d in (
+        chain_beside t1 t2 (first r) None s x (first_outside s r apart) before.others (chain_last t0 t1 None s f x behind (distinct_left s r d) c),
+        chain_first t1 t2 g y r None before (distinct_right s r d) (chain_beside t0 t1 (last s) g r None (last_outside None s r tt apart) behind.others k),
       )
 
-  -- what stands behind the last of a chain
-  pub last_next : (t : Place → E) (b : Option Place) (s : List Place) (a : Option Place) (q : Place)
-      → IsChain n t b s a → (b ≡ Some q → (n (t q)).next ≡ first_or s a) → last_or b s ≡ Some q → (n (t q)).next ≡ a
-  last_next t b [] a q c first e = first e
-  last_next t b (x ∷ s) a q c first e =
-      last_next t (Some x) s a q c.1 (λ k. let same : x ≡ q = cc in rw (← same) c.0.next) e
+  -- one place is put between two chains
+  pub chain_filled : (t0 t1 t2 t3 : Place → E) (s : List Place) (p : Place) (r : List Place) (f g : Option Place) → IsDistinct (s ++ p ∷ r)
+      → TurnsBehind between t0 t1 (last s) f (Some p) → TurnsBefore between t1 t2 (first r) g (Some p)
+      → between (t3 p) (last s) (first r) → ((q : Place) → q ≢ p → t3 q ≡ t2 q)
+      → IsChain between t0 None s f → IsChain between t0 g r None → IsChain between t3 None (s ++ p ∷ r) None
+  chain_filled t0 t1 t2 t3 s p r f g d behind before stands same c k =
+      let out = distinct_middle s r p d in
+      let others : (q : Place) → Some p ≢ Some q → t3 q ≡ t2 q = λ q n. same q (λ e. n (ap Some (sym e))) in
+      let parts = chain_parts t0 t1 t2 s r f g (Some p) (Some p) (distinct_remove s r p d) behind before c k in
+      chain_glue t3 None s (p ∷ r) None (chain_beside t2 t3 (Some p) None s (Some p) (absent_left p s r out) others parts.0)
+      (stands, chain_beside t2 t3 (Some p) (Some p) r None (absent_right p s r out) others parts.1)
+
+  -- another chain is put into a gap: the two sides of the gap are turned first, then its first and its last
+  pub chain_spliced : (t0 t1 t2 t3 t4 : Place → E) (s : List Place) (x : Place) (mid r : List Place)
+      → IsDistinct (s ++ r) → IsDistinct (x ∷ mid) → IsDisjoint (x ∷ mid) (s ++ r)
+      → TurnsBehind between t0 t1 (last s) (first r) (Some x) → TurnsBefore between t1 t2 (first r) (last s) (last (x ∷ mid))
+      → TurnsBefore between t2 t3 (Some x) None (last s) → TurnsBehind between t3 t4 (last (x ∷ mid)) None (first r)
+      → IsChain between t0 None (s ++ r) None → IsChain between t0 None (x ∷ mid) None → IsChain between t4 None (s ++ (x ∷ mid ++ r)) None
+  chain_spliced t0 t1 t2 t3 t4 s x mid r d e apart turn1 turn2 turn3 turn4 c k =
+      let m = x ∷ mid in
+      let m_s = disjoint_left m s r apart in
+      let m_r = disjoint_right m s r apart in
+      let s_m = disjoint_sym m s m_s in
+      let cut = chain_cut t0 None s r None c in
+      let parts = chain_parts t0 t1 t2 s r (first r) (last s) (Some x) (last m) d turn1 turn2 cut.0 cut.1 in
+      let m1 = chain_beside t0 t1 (last s) None m None (last_outside None s m tt s_m) turn1.others k in
+      let m2 = chain_beside t1 t2 (first r) None m None (first_outside m r m_r) turn2.others m1 in
+      let m3 = chain_first t2 t3 None (last s) m None turn3 e m2 in
+      let m4 = chain_last t3 t4 (last s) m None (first r) turn4 e m3 in
+      let s3 = chain_beside t2 t3 (Some x) None s (Some x) m_s.0 turn3.others parts.0 in
+      let s4 = chain_beside t3 t4 (last m) None s (Some x) (last_outside None m s tt m_s) turn4.others s3 in
+      let r3 = chain_beside t2 t3 (Some x) (last m) r None m_r.0 turn3.others parts.1 in
+      let r4 = chain_beside t3 t4 (last m) (last m) r None (last_outside None m r tt m_r) turn4.others r3 in
+      chain_glue t4 None s (m ++ r) None s4 (chain_glue t4 (last s) m r None m4 r4)
+
+  -- how the last of a chain stands, and the first
+  pub last_stands : (t : Place → E) (b : Option Place) (s : List Place) (a : Option Place) {q : Place}
+      → IsChain between t b s a → Some q ≡ last s → between (t q) (last_or b (but_last s)) a
+  last_stands t b [] a {q} c e = absurd (none_not q (sym e))
+  last_stands t b (x ∷ []) a c e = rw (some_same e) c.0
+  last_stands t b (x ∷ y ∷ s) a c e = last_stands t (Some x) (y ∷ s) a c.1 e
+
+  pub first_stands : (t : Place → E) (b : Option Place) (x : Place) (s : List Place) (a : Option Place) {q : Place}
+      → IsChain between t b (x ∷ s) a → q ≡ x → between (t q) b (first_or s a)
+  first_stands t b x s a c e = rw e c.0
+
+  -- a chain for a relation is one for a weaker relation
+  pub chain_weakened : (weaker : E → Option Place → Option Place → Type 0) → ((e : E) (b a : Option Place) → between e b a → weaker e b a)
+      → (t : Place → E) (b : Option Place) (s : List Place) (a : Option Place) → IsChain between t b s a → IsChain weaker t b s a
+  chain_weakened weaker weaken t b [] a c = tt
+  chain_weakened weaker weaken t b (x ∷ s) a c = (weaken (t x) b (first_or s a) c.0, chain_weakened weaker weaken t (Some x) s a c.1)
+
+  -- two chains from one place on are one, if an entry and what stands before it tell what stands behind
+  pub chain_one : ((e : E) (a b c : Option Place) → between e a b → between e a c → b ≡ c)
+      → (t : Place → E) (b : Option Place) (s r : List Place) → first s ≡ first r → IsChain between t b s None → IsChain between t b r None → s ≡ r
+  chain_one one t b [] [] e c k = refl
+  chain_one one t b [] (y ∷ r) e c k = absurd (none_not y e)
+  chain_one one t b (x ∷ s) [] e c k = absurd (none_not x (sym e))
+  chain_one one t b (x ∷ s) (y ∷ r) e c k =
+      let same : y ≡ x = some_same (sym e) in
+      let k' = rw same at k in
+      rw same (ap (λ (l : List Place). x ∷ l) (chain_one one t (Some x) s r (one (t x) b (first s) (first r) c.0 k'.0) c.1 k'.1))
+
+  module _ (linked : E → Bool) (law : (e : E) (b a : Option Place) → between e b a → linked e ≡ true) where
+    -- members are linked
+    pub chain_linked : (t : Place → E) (b : Option Place) (s : List Place) (a : Option Place)
+        → IsChain between t b s a → AllByRecursion (λ q. linked (t q) ≡ true) s
+    chain_linked t b [] a c = tt
+    chain_linked t b (x ∷ s) a c = (law (t x) b (first_or s a) c.0, chain_linked t (Some x) s a c.1)
+
+    -- what is not linked is no member
+    pub chain_absent : (t : Place → E) (b : Option Place) (s : List Place) (a : Option Place) (p : Place)
+        → IsChain between t b s a → linked (t p) ≡ false → IsAbsent p s
+    chain_absent t b [] a p c free = tt
+    chain_absent t b (x ∷ s) a p c free =
+        ((λ e. let k : linked (t p) ≡ true = rw e (law (t x) b (first_or s a) c.0) in cc), chain_absent t (Some x) s a p c.1 free)
+
+-- the mirror of a relation: what stands before an entry changes places with what stands behind
+abbrev pub mirrored : {E : Type 0} → (E → Option Place → Option Place → Type 0) → E → Option Place → Option Place → Type 0
+mirrored between e b a = between e a b
+
+module _ {E : Type 0} (between : E → Option Place → Option Place → Type 0) where
+  -- a chain read from its other end
+  pub chain_mirrored : (t : Place → E) (b : Option Place) (s : List Place) (a : Option Place)
+      → IsChain between t b s a → IsChain (mirrored between) t a (reverse s) b
+  chain_mirrored t b [] a c = tt
+  chain_mirrored t b (x ∷ s) a c =
+      rw (reverse_cons x s) (chain_glue (mirrored between) t a (reverse s) (x ∷ []) b (chain_mirrored t (Some x) s a c.1) (rw (last_of_reverse a s) c.0, tt))
+
+  -- which is a chain for the same relation, if that is symmetric
+  pub chain_reversed : ((e : E) (b a : Option Place) → between e b a → between e a b)
+      → (t : Place → E) (b : Option Place) (s : List Place) (a : Option Place) → IsChain between t b s a → IsChain between t a (reverse s) b
+  chain_reversed turn t b s a c =
+      chain_weakened (mirrored between) between (λ e x y. turn e y x) t a (reverse s) b (chain_mirrored t b s a c)

@@ -1,63 +1,59 @@
 -- The entries of a table as they are written and grow.
-use Rattle.std.proofs.Common.{◌≡◌, ℕ, true, Option, List, slice_set, slice_index_or, not, nat_eq, sym, ap, ◌∙◌}
+use Rattle.std.proofs.Common.{◌≡◌, ℕ, List, Option, Bool, true, false, slice_set, slice_index_or, sym, ap, ◌∙◌}
 use Rattle.std.proofs.lemmas.List.{get_or-set_other, get_or_default, length-set}
 use Rattle.std.proofs.lemmas.Grind.{get_or-set_at}
 use Rattle.ic_unsafe_ref.specs.declared.place.Place.{Place}
 use Rattle.ic_unsafe_ref.specs.Places.{index_of, place_at, word_of}
-use Rattle.ic_unsafe_ref.proofs.PlaceLemmas.{same_index, place_at_word, word_not_mark}
-use Rattle.ic_link_ops.specs.declared.linked_list.Link.{Link}
-use Rattle.ic_link_ops.specs.Entries.{unlinked, is_linked, neighbors_of, entry_at, table_of}
-use Rattle.ic_link_ops.specs.Tables.{ChangesOnly}
+use Rattle.ic_unsafe_ref.proofs.PlaceLemmas.{same_index, place_at_word}
+use Rattle.ic_link_ops.specs.Tables.{ChangesOnly, IsCovered}
+use Rattle.ic_link_ops.specs.PlainTables.{entry_at, table_of, linked_by}
+use Rattle.ic_link_ops.specs.Links.{link_of}
+use Rattle.ic_link_ops.specs.Readings.{successor_of, neighbors_of}
 use Rattle.ic_link_ops.specs.EntryLaws.{linked_in_range}
+use Rattle.ic_link_ops.specs.declared.link.Link.{Link}
 
--- a new entry at p changes only the entry of p
-pub changes_only : (es : List Link) (p : Place) (e : Link) (i : ℕ) → i ≡ index_of p → ChangesOnly (table_of es) (table_of (slice_set es i e)) p
-changes_only es p e i at_p = record {
-  covers = length-set es i e;
-  others = λ q apart. get_or-set_other es i (index_of q) e unlinked (λ k. apart (same_index q p (k ∙ at_p)));
-}
+module _ {E : Type 0} (d : E) where
+  -- a write at p changes only the entry of p
+  pub changes_only : (es : List E) (p : Place) (e : E) (i : ℕ) → i ≡ index_of p → ChangesOnly (table_of d es) (table_of d (slice_set es i e)) p
+  changes_only es p e i at_p = record {
+    covers = length-set es i e;
+    others = λ q apart. get_or-set_other es i (index_of q) e d (λ k. apart (same_index q p (k ∙ at_p)));
+  }
 
--- and there it is
-pub entry_same : (es : List Link) (p : Place) (e : Link) (i : ℕ) → i ≡ index_of p → is_linked (entry_at es p) ≡ true → entry_at (slice_set es i e) p ≡ e
-entry_same es p e i at_p linked =
-    get_or-set_at es i (index_of p) e unlinked (sym at_p) (rw at_p (linked_in_range es (index_of p) linked))
+  -- and there it is
+  pub entry_same : (es : List E) (p : Place) (e : E) (i : ℕ) → i ≡ index_of p → IsCovered (table_of d es) p → entry_at d (slice_set es i e) p ≡ e
+  entry_same es p e i at_p covered = get_or-set_at es i (index_of p) e d (sym at_p) (rw at_p covered)
 
--- what was read at p is its entry
-pub entry_read : (es : List Link) (p : Place) (e : Link) (i : ℕ) → i ≡ index_of p → is_linked (entry_at es p) ≡ true → e ≡ slice_index_or es i e → entry_at es p ≡ e
-entry_read es p e i at_p linked read =
-    rw (← at_p) (get_or_default es i unlinked e (rw at_p (linked_in_range es (index_of p) linked)) ∙ sym read)
+  -- what was read at p is its entry
+  pub entry_read : (es : List E) (p : Place) (e : E) (i : ℕ) → i ≡ index_of p → IsCovered (table_of d es) p → e ≡ slice_index_or es i e → entry_at d es p ≡ e
+  entry_read es p e i at_p covered read = rw (← at_p) (get_or_default es i d e (rw at_p covered) ∙ sym read)
 
--- a linked entry whose first word is written anew names that place as the next
-pub next_set : (es : List Link) (p : Place) (old new : Link) (i : ℕ) (next : Option Place) → i ≡ index_of p → is_linked (entry_at es p) ≡ true
-    → old ≡ slice_index_or es i old → new.next ≡ word_of next → new.prev ≡ old.prev
-    → neighbors_of (entry_at (slice_set es i new) p) ≡ record (neighbors_of (entry_at es p)) { next = next }
-next_set es p old new i next at_p linked read names stays =
-    ap neighbors_of (entry_same es p new i at_p linked) ∙ between
-  where
-    still : is_linked new ≡ is_linked (entry_at es p)
-    still = ap not (ap (λ n. nat_eq n 1) names ∙ word_not_mark next) ∙ sym linked
+module _ {W : Type 0} (is_linked : W → Bool) (d : W) (starts : is_linked d ≡ false) where
+  -- A WRITE AT A LINKED PLACE CHANGES WHAT THE ENTRY SAYS as it changes what was read there
+  pub says_written : {R : Type 0} (says : Link W → R) (change : R → R) (es : List (Link W)) (p : Place) (old new : Link W) (i : ℕ) → i ≡ index_of p
+      → linked_by is_linked (entry_at (link_of d) es p) ≡ true → old ≡ slice_index_or es i old → says new ≡ change (says old)
+      → says (entry_at (link_of d) (slice_set es i new) p) ≡ change (says (entry_at (link_of d) es p))
+  says_written says change es p old new i at_p linked read written =
+      let covered = linked_in_range (linked_by is_linked) (link_of d) starts es (index_of p) linked in
+      ap says (entry_same (link_of d) es p new i at_p covered) ∙ written ∙ ap (λ e. change (says e)) (sym (entry_read (link_of d) es p old i at_p covered read))
 
-    before : place_at new.prev ≡ place_at (entry_at es p).prev
-    before = ap place_at (stays ∙ ap (λ e. e.prev) (sym (entry_read es p old i at_p linked read)))
+module _ {W : Type 0} (next_word : W → ℕ) (is_linked : W → Bool) where
+  -- a link whose next word is that for a place names it as the next
+  pub successor_set : (old new : W) (next : Option Place) → is_linked new ≡ is_linked old → next_word new ≡ word_of next
+      → successor_of next_word is_linked (link_of new) ≡ record (successor_of next_word is_linked (link_of old)) { next = next }
+  successor_set old new next stays names =
+      let behind : place_at (next_word new) ≡ next = ap place_at names ∙ place_at_word next in
+      λ k. record { linked = stays k; next = behind k }
 
-    behind : place_at new.next ≡ next
-    behind = ap place_at names ∙ place_at_word next
+  -- the same where it names the one before as well
+  pub next_set : (prev : W → Option Place) (old new : W) (next : Option Place) → is_linked new ≡ is_linked old → next_word new ≡ word_of next → prev new ≡ prev old
+      → neighbors_of next_word is_linked prev (link_of new) ≡ record (neighbors_of next_word is_linked prev (link_of old)) { next = next }
+  next_set prev old new next stays names kept =
+      let behind : place_at (next_word new) ≡ next = ap place_at names ∙ place_at_word next in
+      λ k. record { linked = stays k; prev = kept k; next = behind k }
 
-    between : neighbors_of new ≡ record (neighbors_of (entry_at es p)) { next = next }
-    between = λ k. record { linked = still k; prev = before k; next = behind k }
-
--- one whose second word is written names it as the previous one
-pub prev_set : (es : List Link) (p : Place) (old new : Link) (i : ℕ) (prev : Option Place) → i ≡ index_of p → is_linked (entry_at es p) ≡ true
-    → old ≡ slice_index_or es i old → new.prev ≡ word_of prev → new.next ≡ old.next
-    → neighbors_of (entry_at (slice_set es i new) p) ≡ record (neighbors_of (entry_at es p)) { prev = prev }
-prev_set es p old new i prev at_p linked read names stays =
-    ap neighbors_of (entry_same es p new i at_p linked) ∙ between
-  where
-    same : new.next ≡ (entry_at es p).next
-    same = stays ∙ ap (λ e. e.next) (sym (entry_read es p old i at_p linked read))
-
-    before : place_at new.prev ≡ prev
-    before = ap place_at names ∙ place_at_word prev
-
-    between : neighbors_of new ≡ record (neighbors_of (entry_at es p)) { prev = prev }
-    between = λ k. record { linked = not (nat_eq (same k) 1); prev = before k; next = place_at (same k) }
+  -- and where the one before is set
+  pub prev_set : (prev : W → Option Place) (old new : W) (place : Option Place) → is_linked new ≡ is_linked old → next_word new ≡ next_word old → prev new ≡ place
+      → neighbors_of next_word is_linked prev (link_of new) ≡ record (neighbors_of next_word is_linked prev (link_of old)) { prev = place }
+  prev_set prev old new place stays kept names =
+      λ k. record { linked = stays k; prev = names k; next = place_at (kept k) }

@@ -1,8 +1,9 @@
 -- Sequences of distinct places: their ends, cut and joined.
-use Rattle.std.proofs.Common.{◌≡◌, ◌≢◌, Option, Some, None, List, [], ◌∷◌, ◌++◌, refl, sym, ◌∙◌, append_assoc, append-nil}
+use Rattle.std.proofs.Common.{◌≡◌, ◌≢◌, Option, Some, None, List, [], ◌∷◌, ◌++◌, reverse, refl, sym, ◌∙◌, ap, append_assoc, append-nil}
+use Rattle.std.proofs.lemmas.List.{reverse-append}
 use Rattle.ic_unsafe_ref.specs.declared.place.Place.{Place}
-use Rattle.ic_link_ops.specs.Sequences.{Cut, join, at_front, first, IsAfter, IsBefore, IsAbsent, IsDistinct, IsDisjoint, first_or, last_or}
-use Rattle.ic_link_ops.specs.Joins.{end_of}
+use Rattle.ic_link_ops.specs.Sequences.{Cut, join, at_front, first, last, but_last, IsAfter, IsBefore, IsAbsent, IsDistinct, IsDisjoint, first_or, last_or}
+use Rattle.ic_link_ops.specs.Chains.{end_of}
 
 -- an end that is no member of s
 abbrev pub IsOutside : Option Place → List Place → Type 0
@@ -29,6 +30,15 @@ pub absent_both : (q : Place) (s t : List Place) → IsAbsent q s → IsAbsent q
 absent_both q [] t h k = k
 absent_both q (x ∷ s) t h k = (h.0, absent_both q s t h.1 k)
 
+-- a member more, and one less
+pub absent_with : (s t : List Place) (p q : Place) → q ≢ p → IsAbsent q (s ++ t) → IsAbsent q (s ++ p ∷ t)
+absent_with [] t p q n h = (n, h)
+absent_with (x ∷ s) t p q n h = (h.0, absent_with s t p q n h.1)
+
+pub absent_without : (s t : List Place) (p q : Place) → IsAbsent q (s ++ p ∷ t) → IsAbsent q (s ++ t)
+absent_without [] t p q h = h.1
+absent_without (x ∷ s) t p q h = (h.0, absent_without s t p q h.1)
+
 pub distinct_disjoint : (s t : List Place) → IsDistinct (s ++ t) → IsDisjoint s t
 distinct_disjoint [] t d = tt
 distinct_disjoint (x ∷ s) t d = (absent_right x s t d.0, distinct_disjoint s t d.1)
@@ -50,6 +60,10 @@ pub distinct_remove : (s t : List Place) (p : Place) → IsDistinct (s ++ p ∷ 
 distinct_remove [] t p d = d.1
 distinct_remove (x ∷ s) t p d =
     (absent_both x s t (absent_left x s (p ∷ t) d.0) (absent_right x s (p ∷ t) d.0).1, distinct_remove s t p d.1)
+
+-- p replaced by r
+pub distinct_replace : (s t : List Place) (p r : Place) → IsDistinct (s ++ p ∷ t) → IsAbsent r (s ++ p ∷ t) → IsDistinct (s ++ r ∷ t)
+distinct_replace s t p r d out = distinct_insert s t r (distinct_remove s t p d) (absent_without s t p r out)
 
 -- what stands in the middle of a list with distinct members is at none of its other positions
 pub distinct_middle : (s t : List Place) (p : Place) → IsDistinct (s ++ p ∷ t) → IsAbsent p (s ++ t)
@@ -89,21 +103,39 @@ first_not (x ∷ s) a q n h e = h.0 (cc)
 pub none_not : (q : Place) → None ≢ Some q
 none_not q e = cc
 
+-- what is no member is at neither side of a gap, and no neighbour of a member
+pub gap_not : (front back : List Place) {q : Place} {before behind : Option Place} → before ≡ last front → behind ≡ first back → IsAbsent q (front ++ back)
+    → (before ≢ Some q) × (behind ≢ Some q)
+gap_not front back {q} e k out = (
+  (λ h. last_not None front q (none_not q) (absent_left q front back out) (sym e ∙ h)),
+  (λ h. first_not back None q (none_not q) (absent_right q front back out) (sym k ∙ h)),
+)
+
+pub beside_not : (front back : List Place) (p : Place) {q : Place} {before behind : Option Place} → before ≡ last front → behind ≡ first back
+    → IsAbsent q (front ++ p ∷ back) → (before ≢ Some q) × (behind ≢ Some q)
+beside_not front back p {q} e k out = gap_not front back e k (absent_without front back p q out)
+
 end_of-last : (x : Place) (s : List Place) (fresh old : Option Place) → end_of (last_or (Some x) s) fresh old ≡ old
 end_of-last x [] fresh old = refl
 end_of-last x (y ∷ s) fresh old = end_of-last y s fresh old
 
--- the head where what stands before back is the last of front
-pub head_of : (front : List Place) (fresh old a : Option Place) → old ≡ first_or front a
-    → end_of (last_or None front) fresh old ≡ first_or front fresh
-head_of [] fresh old a e = refl
-head_of (x ∷ s) fresh old a e = end_of-last x s fresh old ∙ e
+-- THE NEW HEAD, where `rest` now stands behind `front` in the place of `was`
+pub new_head : (front was rest : List Place) {before fresh old new : Option Place} → before ≡ last front → fresh ≡ first rest → old ≡ first (front ++ was)
+    → new ≡ end_of before fresh old → new ≡ first (front ++ rest)
+new_head [] was rest {before} {fresh} {old} e k h is = is ∙ ap (λ b. end_of b fresh old) e ∙ k
+new_head (x ∷ front) was rest {before} {fresh} {old} e k h is = is ∙ ap (λ b. end_of b fresh old) e ∙ end_of-last x front fresh old ∙ h
 
--- the tail where what stands after front is the first of back
-pub tail_of : (back : List Place) (fresh old b : Option Place) → old ≡ last_or b back
-    → end_of (first_or back None) fresh old ≡ last_or fresh back
-tail_of [] fresh old b e = refl
-tail_of (x ∷ s) fresh old b e = e
+-- the last of three parts
+last_of_parts : (front mid back : List Place) → last (front ++ (mid ++ back)) ≡ last_or (last_or (last front) mid) back
+last_of_parts front mid back = last_or-append None front (mid ++ back) ∙ last_or-append (last front) mid back
+
+-- THE NEW TAIL, where `mid` now stands between `front` and `back` in the place of `was`
+pub new_tail : (front was mid back : List Place) {behind fresh old new : Option Place} → behind ≡ first back → fresh ≡ last_or (last front) mid
+    → old ≡ last (front ++ (was ++ back)) → new ≡ end_of behind fresh old → new ≡ last (front ++ (mid ++ back))
+new_tail front was mid [] {behind} {fresh} {old} e k h is =
+    is ∙ ap (λ a. end_of a fresh old) e ∙ k ∙ sym (last_of_parts front mid [])
+new_tail front was mid (x ∷ back) {behind} {fresh} {old} e k h is =
+    is ∙ ap (λ a. end_of a fresh old) e ∙ h ∙ last_of_parts front was (x ∷ back) ∙ sym (last_of_parts front mid (x ∷ back))
 
 pub some_same : {x y : Place} → Some x ≡ Some y → x ≡ y
 some_same e = cc
@@ -115,6 +147,12 @@ disjoint_cons p (x ∷ t) s h d = (((λ e. h.0 (sym e)), d.0), disjoint_cons p t
 pub last_some : (x : Place) (s : List Place) → last_or (Some x) s ≢ None
 last_some x [] e = cc
 last_some x (y ∷ s) e = last_some y s e
+
+-- a sequence with a last member ends with it
+pub split_last : (s : List Place) {p : Place} → last s ≡ Some p → s ≡ but_last s ++ p ∷ []
+split_last [] {p} e = absurd (none_not p e)
+split_last (x ∷ []) e = ap (λ (z : Place). z ∷ []) (some_same e)
+split_last (x ∷ y ∷ s) e = ap (λ (l : List Place). x ∷ l) (split_last (y ∷ s) e)
 
 -- with nothing in front, the first of all is the first of back
 pub first_of_back : (front back : List Place) → None ≡ last_or None front → first_or (front ++ back) None ≡ first_or back None
@@ -145,6 +183,55 @@ disjoint_rest y (x ∷ s) t d = (d.0.1, disjoint_rest y s t d.1)
 pub disjoint_sym : (s t : List Place) → IsDisjoint s t → IsDisjoint t s
 disjoint_sym s [] d = tt
 disjoint_sym s (y ∷ t) d = (absent_before y s t d, disjoint_sym s t (disjoint_rest y s t d))
+
+-- a part of t is disjoint from s too
+pub disjoint_left : (s t r : List Place) → IsDisjoint s (t ++ r) → IsDisjoint s t
+disjoint_left s t r d = absent_swap s (t ++ r) d t (λ q h. absent_left q t r h)
+
+pub disjoint_right : (s t r : List Place) → IsDisjoint s (t ++ r) → IsDisjoint s r
+disjoint_right s t r d = absent_swap s (t ++ r) d r (λ q h. absent_right q t r h)
+
+-- both parts, joined
+pub disjoint_both : (s t u : List Place) → IsDisjoint s u → IsDisjoint t u → IsDisjoint (s ++ t) u
+disjoint_both [] t u h k = k
+disjoint_both (x ∷ s) t u h k = (h.0, disjoint_both s t u h.1 k)
+
+-- the same after p is inserted, removed, or replaced by r
+pub disjoint_insert : (s t u : List Place) (p : Place) → IsDisjoint (s ++ t) u → IsAbsent p u → IsDisjoint (s ++ p ∷ t) u
+disjoint_insert [] t u p d out = (out, d)
+disjoint_insert (x ∷ s) t u p d out = (d.0, disjoint_insert s t u p d.1 out)
+
+pub disjoint_remove : (s t u : List Place) (p : Place) → IsDisjoint (s ++ p ∷ t) u → IsDisjoint (s ++ t) u
+disjoint_remove [] t u p d = d.1
+disjoint_remove (x ∷ s) t u p d = (d.0, disjoint_remove s t u p d.1)
+
+pub disjoint_replace : (s t u : List Place) (p r : Place) → IsDisjoint (s ++ p ∷ t) u → IsAbsent r u → IsDisjoint (s ++ r ∷ t) u
+disjoint_replace s t u p r d out = disjoint_insert s t u r (disjoint_remove s t u p d) out
+
+-- turned round: the ends change places, and the members stay
+pub reverse_cons : (x : Place) (s : List Place) → reverse (x ∷ s) ≡ reverse s ++ x ∷ []
+reverse_cons x s = reverse-append (x ∷ []) s
+
+pub last_of_reverse : (b : Option Place) (s : List Place) → last_or b (reverse s) ≡ first_or s b
+last_of_reverse b [] = refl
+last_of_reverse b (x ∷ s) = ap (last_or b) (reverse_cons x s) ∙ last_or-append b (reverse s) (x ∷ [])
+
+pub first_of_reverse : (s : List Place) (a : Option Place) → first_or (reverse s) a ≡ last_or a s
+first_of_reverse [] a = refl
+first_of_reverse (x ∷ s) a =
+    ap (λ (l : List Place). first_or l a) (reverse_cons x s) ∙ first_or-append (reverse s) (x ∷ []) a ∙ first_of_reverse s (Some x)
+
+pub absent_reverse : (q : Place) (s : List Place) → IsAbsent q s → IsAbsent q (reverse s)
+absent_reverse q [] h = tt
+absent_reverse q (x ∷ s) h = rw (reverse_cons x s) (absent_both q (reverse s) (x ∷ []) (absent_reverse q s h.1) (h.0, tt))
+
+pub distinct_reverse : (s : List Place) → IsDistinct s → IsDistinct (reverse s)
+distinct_reverse [] d = tt
+distinct_reverse (x ∷ s) d =
+    rw (reverse_cons x s) (distinct_insert (reverse s) [] x (rw append-nil (distinct_reverse s d.1)) (rw append-nil (absent_reverse x s d.0)))
+
+pub disjoint_reverse : (s t : List Place) → IsDisjoint s t → IsDisjoint (reverse s) t
+disjoint_reverse s t d = disjoint_sym t (reverse s) (absent_swap t s (disjoint_sym s t d) (reverse s) (λ q h. absent_reverse q s h))
 
 -- WHERE A CURSOR STANDS NEXT: one that has a gap before it has a gap of the same sequence after it
 pub gap_after : (gap : Cut) (cursor : Option Place) → IsBefore gap cursor → (next : Cut) × (join next ≡ join gap) × IsAfter next cursor

@@ -1,19 +1,20 @@
--- The walk gives the members that the table shows.
-use Rattle.std.proofs.Common.{◌≡◌, ◌≢◌, ℕ, zero, suc, ◌<◌, ◌≤◌, Option, Some, None, List, [], ◌∷◌, length, Bool, true, false, nat_eq, ◌||◌, Bor, refl, sym, ◌∙◌, ap, arith, ne_eqb, eq-eqb, eqb-true}
+-- Walks: the parts of chains that they give, step by step from either end.
+use Rattle.std.proofs.Common.{◌≡◌, ◌≢◌, ℕ, zero, suc, ◌<◌, ◌≤◌, Option, Some, None, List, [], ◌∷◌, ◌++◌, reverse, drop, length, length-append, Bool, true, false, nat_eq, ◌||◌, Bor, refl, sym, ◌∙◌, ap, arith, subst, ne_eqb, eq-eqb, eqb-true}
 use Rattle.std.specs.Prelude.{IsSome}
 use Rattle.std.specs.Option.{option_copied}
 use Rattle.std.specs.List.{AllByRecursion, cons_option}
-use Rattle.std.specs.Iterator.{YieldsFirstRef, MakesProgress, item_count}
+use Rattle.std.specs.Iterator.{YieldsFirstRef, YieldsLastRef, MakesProgress, item_count}
 use Rattle.std.proofs.lemmas.Option.{same_Some}
 use Rattle.ic_unsafe_ref.specs.declared.place.Place.{Place}
 use Rattle.ic_unsafe_ref.specs.Places.{index_of}
 use Rattle.ic_unsafe_ref.proofs.PlaceLemmas.{same_index}
-use Rattle.ic_link_ops.specs.Sequences.{IsAbsent, IsDistinct, first_or, last_or}
+use Rattle.ic_link_ops.specs.Sequences.{IsAbsent, IsDistinct, first_or, last_or, first, last, but_last}
 use Rattle.ic_link_ops.specs.Tables.{Table, IsCovered}
-use Rattle.ic_link_ops.specs.LinkedList.{Neighbors, Ends, IsChain, Shows}
-use Rattle.ic_link_ops.specs.Walk.{walk, between, members, is_end, IsWalk}
+use Rattle.ic_link_ops.specs.Chains.{Ends, IsChain, IsStretch, ShowsBetween}
+use Rattle.ic_link_ops.specs.Walk.{walk, walked, is_end}
 use Rattle.ic_link_ops.proofs.Counting.{count, count_falls, count_at_most}
-use Rattle.ic_link_ops.proofs.SequenceLemmas.{last_not, none_not, some_same}
+use Rattle.ic_link_ops.proofs.SequenceLemmas.{distinct_left, distinct_reverse, first_of_reverse, last_of_reverse, last_not, none_not, some_same, last_some, split_last}
+use Rattle.ic_link_ops.proofs.Chains.{mirrored, chain_mirrored, chain_cut, last_stands, first_stands}
 
 nat_eq_refl : (i : ℕ) → nat_eq i i ≡ true
 nat_eq_refl i = eq-eqb i i refl
@@ -50,85 +51,142 @@ length_count (x ∷ w) n d h =
 pub pigeonhole : (w : List Place) (n : ℕ) → IsDistinct w → AllByRecursion (λ q. index_of q < n) w → length w ≤ n
 pigeonhole w n d h = omega (arith, length_count w n d h, count_at_most (member w) n)
 
-module _ {E : Type 0} (n : E → Neighbors) where
-  pub walk_is : (t : Place → E) (w : List Place) (fuel : ℕ) (b a : Option Place) → IsDistinct w → IsChain n t b w a → length w ≤ fuel
-      → walk n t fuel (first_or w None) (last_or None w) ≡ w
-  unfolding walk
-  walk_is t [] zero b a d c h = refl
-  walk_is t [] (suc m) b a d c h = refl
-  walk_is t (x ∷ w) zero b a d c h = absurd (omega (arith, h))
-  walk_is t (x ∷ []) (suc m) b a d c h = rw nat_eq_refl refl
-  walk_is t (x ∷ y ∷ w) (suc m) b a d c h =
-      let r = walk_is t (y ∷ w) m (Some x) a d.1 c.1 (omega (arith, h)) in
-      rw (is_end_not (last_or (Some y) w) x (last_not (Some y) w x (λ e. d.0.0 (sym (some_same e))) d.0.1), c.0.next) (ap (λ (l : List Place). x ∷ l) r)
+-- a step that reads nothing of what stands before gives the same walk, whatever stands there
+pub walk_blind : {E : Type 0} (next : E → Option Place) (t : Place → E) (fuel : ℕ) (b b' from to : Option Place)
+    → walk (λ e before. next e) t fuel b from to ≡ walk (λ e before. next e) t fuel b' from to
+unfolding walk
+walk_blind next t zero b b' from to = refl
+walk_blind next t (suc fuel) b b' None to = refl
+walk_blind next t (suc fuel) b b' (Some p) to = refl
 
-  covered : (t : Table E) → ((q : Place) → (n (t.entry q)).linked ≡ true → IsCovered t q) → (b : Option Place) (w : List Place) (a : Option Place)
-      → IsChain n t.entry b w a → AllByRecursion (λ q. index_of q < t.covers) w
-  covered t law b [] a c = tt
-  covered t law b (x ∷ w) a c = (law x c.0.linked, covered t law (Some x) w a c.1)
+-- the members of a chain are covered, if only covered places stand in chains
+chain_covered : {E : Type 0} (between : E → Option Place → Option Place → Type 0) (t : Table E)
+    → ((q : Place) (b a : Option Place) → between (t.entry q) b a → IsCovered t q)
+    → (b : Option Place) (w : List Place) (a : Option Place) → IsChain between t.entry b w a → AllByRecursion (λ q. index_of q < t.covers) w
+chain_covered between t covered b [] a c = tt
+chain_covered between t covered b (x ∷ w) a c = (covered x b (first_or w a) c.0, chain_covered between t covered (Some x) w a c.1)
 
-  -- a walk is no longer than what the table covers
-  pub walk_length : (t : Table E) → ((q : Place) → (n (t.entry q)).linked ≡ true → IsCovered t q)
-      → (from to : Option Place) (w : List Place) → IsWalk n t.entry from to w → length w ≤ t.covers
-  walk_length t law from to w k = pigeonhole w t.covers k.distinct (covered t law k.before w k.behind k.chain)
+module _ {E : Type 0} {between : E → Option Place → Option Place → Type 0} where
+  -- a part of a chain has no member where it has no first, or no last
+  pub stretch_none : {t : Place → E} {b a : Option Place} → IsStretch between t b None None a []
+  stretch_none = record { distinct = tt; chain = tt; starts = refl; ends = refl }
 
-  -- the walk gives what stands between its ends
-  pub walk_shown : (t : Table E) → ((q : Place) → (n (t.entry q)).linked ≡ true → IsCovered t q)
-      → (from to : Option Place) (w : List Place) → IsWalk n t.entry from to w → between n t from to ≡ w
-  walk_shown t law from to w k =
-      rw (k.starts, k.ends) (walk_is t.entry w t.covers k.before k.behind k.distinct k.chain (walk_length t law from to w k))
+  pub stretch_empty : {t : Place → E} {b from to a : Option Place} {w : List Place} → from ≡ None → IsStretch between t b from to a w → w ≡ []
+  stretch_empty {w = []} e k = refl
+  stretch_empty {w = x ∷ w} e k = absurd (none_not x (sym e ∙ k.starts))
 
-  -- a walk whose ends are one has one member
-  pub walk_last : (t : Place → E) (p : Place) (w : List Place) → IsWalk n t (Some p) (Some p) w → w ≡ p ∷ []
-  walk_last t p [] k = absurd (none_not p (sym k.starts))
-  walk_last t p (x ∷ []) k = let e : Some p ≡ Some x = k.starts in cc
-  walk_last t p (x ∷ y ∷ w) k =
+  pub stretch_empty_back : {t : Place → E} {b from to a : Option Place} {w : List Place} → to ≡ None → IsStretch between t b from to a w → w ≡ []
+  stretch_empty_back {w = []} e k = refl
+  stretch_empty_back {w = x ∷ w} e k = absurd (last_some x w (sym k.ends ∙ e))
+
+  -- one whose ends are one has one member
+  pub stretch_one : {t : Place → E} {b a : Option Place} {p : Place} {w : List Place} → IsStretch between t b (Some p) (Some p) a w → w ≡ p ∷ []
+  stretch_one {p = p} {w = []} k = absurd (none_not p (sym k.starts))
+  stretch_one {p = p} {w = x ∷ []} k = let e : Some p ≡ Some x = k.starts in cc
+  stretch_one {p = p} {w = x ∷ y ∷ w} k =
       let e : p ≡ x = some_same k.starts in
       absurd (last_not (Some y) w x (λ h. k.distinct.0.0 (sym (some_same h))) k.distinct.0.1 (sym k.ends ∙ ap Some e))
 
-  -- another one goes on behind its first member
-  pub walk_more : (t : Place → E) (p : Place) (to : Option Place) (w : List Place) → IsWalk n t (Some p) to w → to ≢ Some p
-      → (r : List Place) × (w ≡ p ∷ r) × IsWalk n t ((n (t p)).next) to r
-  walk_more t p to [] k n = absurd (none_not p (sym k.starts))
-  walk_more t p to (x ∷ []) k n = absurd (n (k.ends ∙ sym k.starts))
-  walk_more t p to (x ∷ y ∷ w) k n =
-      let e : p ≡ x = some_same k.starts in (
-        y ∷ w,
-        ap (λ (q : Place). q ∷ y ∷ w) (sym e),
+  -- all of a shown sequence is one
+  pub stretch_of : {t : Table E} {list : Ends} {s : List Place} → ShowsBetween between t list s → IsStretch between t.entry None list.head list.tail None s
+  stretch_of h = record { distinct = h.distinct; chain = h.chain; starts = h.head; ends = h.tail }
+
+  -- read from its other end, it is one for the mirrored relation
+  pub stretch_mirrored : {t : Place → E} {b from to a : Option Place} {w : List Place} → IsStretch between t b from to a w
+      → IsStretch (mirrored between) t a to from b (reverse w)
+  stretch_mirrored {t} {b} {from} {to} {a} {w} k = record {
+    distinct = distinct_reverse w k.distinct;
+    chain = chain_mirrored between t b w a k.chain;
+    starts = k.ends ∙ sym (first_of_reverse w None);
+    ends = k.starts ∙ sym (last_of_reverse None w);
+  }
+
+  -- how its first member stands, and its last
+  pub stretch_first : {t : Place → E} {b to a : Option Place} {p : Place} {w : List Place} → IsStretch between t b (Some p) to a w
+      → between (t p) b (first_or (drop 1 w) a)
+  stretch_first {p = p} {w = []} k = absurd (none_not p (sym k.starts))
+  stretch_first {t} {b} {to} {a} {p} {w = x ∷ w} k = first_stands between t b x w a k.chain (some_same k.starts)
+
+  pub stretch_last : {t : Place → E} {b from a : Option Place} {p : Place} {w : List Place} → IsStretch between t b from (Some p) a w
+      → between (t p) (last_or b (but_last w)) a
+  stretch_last {t} {b} {from} {a} {p} {w} k = last_stands between t b w a k.chain k.ends
+
+  -- no part of a chain is longer than what the table covers, if only covered places stand in chains
+  pub stretch_length : (t : Table E) → ((q : Place) (b a : Option Place) → between (t.entry q) b a → IsCovered t q)
+      → {b from to a : Option Place} {w : List Place} → IsStretch between t.entry b from to a w → length w ≤ t.covers
+  stretch_length t covered {b} {from} {to} {a} {w} k = pigeonhole w t.covers k.distinct (chain_covered between t covered b w a k.chain)
+
+  -- `law`: the step goes to what stands behind
+  module _ (step : E → Option Place → Option Place) (law : (e : E) (b a : Option Place) → between e b a → step e b ≡ a) where
+    walk_is : (t : Place → E) (w : List Place) (fuel : ℕ) (b a : Option Place) → IsDistinct w → IsChain between t b w a → length w ≤ fuel
+        → walk step t fuel b (first w) (last w) ≡ w
+    unfolding walk
+    walk_is t [] zero b a d c h = refl
+    walk_is t [] (suc m) b a d c h = refl
+    walk_is t (x ∷ w) zero b a d c h = absurd (omega (arith, h))
+    walk_is t (x ∷ []) (suc m) b a d c h = rw nat_eq_refl refl
+    walk_is t (x ∷ y ∷ w) (suc m) b a d c h =
+        let r = walk_is t (y ∷ w) m (Some x) a d.1 c.1 (omega (arith, h)) in
+        rw (is_end_not (last_or (Some y) w) x (last_not (Some y) w x (λ e. d.0.0 (sym (some_same e))) d.0.1), law (t x) b (Some y) c.0)
+        (ap (λ (l : List Place). x ∷ l) r)
+
+    -- the walk gives a part of a chain, from its first to its last
+    pub stretch_walked : (t : Table E) → ((q : Place) (b a : Option Place) → between (t.entry q) b a → IsCovered t q)
+        → {b from to a : Option Place} {w : List Place} → IsStretch between t.entry b from to a w → walked step t b from to ≡ w
+    stretch_walked t covered {b} {from} {to} {a} {w} k =
+        rw (k.starts, k.ends) (walk_is t.entry w t.covers b a k.distinct k.chain (stretch_length t covered k))
+
+    walk_through : (t : Place → E) (w : List Place) (fuel : ℕ) (b : Option Place) → IsChain between t b w None → length w ≤ fuel
+        → walk step t fuel b (first w) None ≡ w
+    unfolding walk
+    walk_through t [] zero b c h = refl
+    walk_through t [] (suc m) b c h = refl
+    walk_through t (x ∷ w) zero b c h = absurd (omega (arith, h))
+    walk_through t (x ∷ w) (suc m) b c h =
+        rw (law (t x) b (first w) c.0) (ap (λ (l : List Place). x ∷ l) (walk_through t w m (Some x) c.1 (omega (arith, h))))
+
+    -- and, where no last is told, the rest of a chain
+    pub stretch_through : (t : Table E) → ((q : Place) (b a : Option Place) → between (t.entry q) b a → IsCovered t q)
+        → {b from to : Option Place} {w : List Place} → IsStretch between t.entry b from to None w → walked step t b from None ≡ w
+    stretch_through t covered {b} {from} {to} {w} k = rw k.starts (walk_through t.entry w t.covers b k.chain (stretch_length t covered k))
+
+    -- a part of a chain goes on behind its first member
+    pub stretch_more : {t : Place → E} {b to a : Option Place} {p : Place} {w : List Place} → IsStretch between t b (Some p) to a w → to ≢ Some p
+        → (r : List Place) × (w ≡ p ∷ r) × IsStretch between t (Some p) (step (t p) b) to a r
+    stretch_more {p = p} {w = []} k apart = absurd (none_not p (sym k.starts))
+    stretch_more {w = x ∷ []} k apart = absurd (apart (k.ends ∙ sym k.starts))
+    stretch_more {t} {b} {to} {a} {p} {w = x ∷ y ∷ w} k apart =
+        let e : p ≡ x = some_same k.starts in (
+          y ∷ w,
+          ap (λ (q : Place). q ∷ y ∷ w) (sym e),
+          record {
+            distinct = k.distinct.1;
+            chain = rw e k.chain.1;
+            starts = rw e (law (t x) b (Some y) k.chain.0);
+            ends = k.ends;
+          },
+        )
+
+  -- and before its last, by a step back
+  pub stretch_less : (back : E → Option Place → Option Place) (law : (e : E) (b a : Option Place) → between e b a → back e a ≡ b)
+      → {t : Place → E} {b from a : Option Place} {p : Place} {w : List Place} → IsStretch between t b from (Some p) a w → from ≢ Some p
+      → (r : List Place) × (w ≡ r ++ p ∷ []) × IsStretch between t b from (back (t p) a) (Some p) r
+  stretch_less back law {p = p} {w = []} k apart = absurd (none_not p (sym k.ends))
+  stretch_less back law {w = x ∷ []} k apart = absurd (apart (k.starts ∙ sym k.ends))
+  stretch_less back law {t} {b} {from} {a} {p} {w = x ∷ y ∷ w} k apart =
+      let r = x ∷ but_last (y ∷ w) in
+      let e : x ∷ y ∷ w ≡ r ++ p ∷ [] = split_last (x ∷ y ∷ w) (sym k.ends) in
+      let P : List Place → Type 0 = λ l. IsChain between t b l a in
+      let cut = chain_cut between t b r (p ∷ []) a (subst P e k.chain) in (
+        r,
+        e,
         record {
-          distinct = k.distinct.1;
-          before = Some x;
-          behind = k.behind;
-          chain = k.chain.1;
-          starts = rw e k.chain.0.next;
-          ends = k.ends;
+          distinct = distinct_left r (p ∷ []) (subst IsDistinct e k.distinct);
+          chain = cut.0;
+          starts = k.starts;
+          ends = law (t p) (last_or b r) a cut.1.0;
         },
       )
-
-  -- the first of a walk is linked
-  pub walk_linked : (t : Place → E) (p : Place) (to : Option Place) (w : List Place) → IsWalk n t (Some p) to w → (n (t p)).linked ≡ true
-  walk_linked t p to [] k = absurd (none_not p (sym k.starts))
-  walk_linked t p to (x ∷ w) k = let e : p ≡ x = some_same k.starts in rw e k.chain.0.linked
-
-  pub walk_none : (t : Place → E) → IsWalk n t None None []
-  walk_none t = record { distinct = tt; before = None; behind = None; chain = tt; starts = refl; ends = refl }
-
-  pub walk_of : (t : Table E) {list : Ends} {s : List Place} → Shows n t list s → IsWalk n t.entry list.head list.tail s
-  walk_of t {list} {s} h = record { distinct = h.distinct; before = None; behind = None; chain = h.chain; starts = h.head; ends = h.tail }
-
-  pub walk_empty : (t : Place → E) (from to : Option Place) (w : List Place) → from ≡ None → IsWalk n t from to w → w ≡ []
-  walk_empty t from to [] e k = refl
-  walk_empty t from to (x ∷ w) e k = absurd (none_not x (sym e ∙ k.starts))
-
-  -- A TABLE SHOWS AT MOST ONE SEQUENCE for a list: its members
-  pub members_shown : (t : Table E) → ((q : Place) → (n (t.entry q)).linked ≡ true → IsCovered t q)
-      → (list : Ends) (s : List Place) → Shows n t list s → members n t list ≡ s
-  members_shown t law list s shown = walk_shown t law list.head list.tail s (walk_of t shown)
-
-  -- and it is no longer than what the table covers
-  pub shown_length : (t : Table E) → ((q : Place) → (n (t.entry q)).linked ≡ true → IsCovered t q)
-      → (list : Ends) (s : List Place) → Shows n t list s → length s ≤ t.covers
-  shown_length t law list s shown = walk_length t law list.head list.tail s (walk_of t shown)
 
 module _ {S T : Type 0} (rest : S → List T) where
   -- a step over a placed object gives that object
@@ -143,3 +201,15 @@ module _ {S T : Type 0} (rest : S → List T) where
   makes_progress can s t None on given = record { on = λ _. tt; keeps = tt; rests = λ _. tt }
   makes_progress can s t (Some x) on given =
       let e = ap length given in record { on = λ _. (on, tt, omega (arith, e)); keeps = on; rests = λ _. tt }
+
+  -- the same from the back
+  pub yields_placed_back : (s t : S) (r : Option (Bor T)) (o : Option T) → IsSome o → option_copied r ≡ o
+      → rest s ≡ rest t ++ cons_option o [] → YieldsLastRef rest s r t
+  yields_placed_back s t r None placed e left = cc
+  yields_placed_back s t None (Some v) placed e left = cc
+  yields_placed_back s t (Some x) (Some v) placed e left = left ∙ ap (λ v. rest t ++ v ∷ []) (sym (same_Some x.now v e))
+
+  pub makes_progress_back : (can : S → Type 0) (s t : S) (r : Option (Bor T)) → can t → YieldsLastRef rest s r t → MakesProgress can (item_count rest) s r t
+  makes_progress_back can s t None on given = record { on = λ _. tt; keeps = tt; rests = λ _. tt }
+  makes_progress_back can s t (Some x) on given =
+      let e = ap length given ∙ length-append (rest t) (x.now ∷ []) in record { on = λ _. (on, tt, omega (arith, e)); keeps = on; rests = λ _. tt }

@@ -1,8 +1,10 @@
 -- Which sequence a table shows for a doubly linked list.
-use Rattle.std.specs.Prelude.{◌≡◌, Bool, true, Option, Some, None, List, [], ◌∷◌}
+use Rattle.std.specs.Prelude.{◌≡◌, Bool, true, Option, None, List}
 use Rattle.ic_unsafe_ref.specs.declared.place.Place.{Place}
-use Rattle.ic_link_ops.specs.Sequences.{IsDistinct, first_or, first, last}
 use Rattle.ic_link_ops.specs.Tables.{Table}
+use Rattle.ic_link_ops.specs.Chains as chains
+use Rattle.ic_link_ops.specs.Chains.{Ends, IsStretch, ShowsBetween}
+use Rattle.ic_link_ops.specs.Walk.{walked}
 
 -- what an entry says: whether its place is linked, and between which places
 pub record Neighbors : Type 0 where
@@ -10,38 +12,43 @@ pub record Neighbors : Type 0 where
   pub prev : Option Place
   pub next : Option Place
 
--- the two ends of a list
-pub record Ends : Type 0 where
-  pub head : Option Place
-  pub tail : Option Place
-
--- the ends of a list with no members
-abbrev pub no_members : Ends
-no_members = record { head = None; tail = None }
-
 module _ {E : Type 0} (neighbors : E → Neighbors) where
   -- what the entry at p says
   abbrev pub neighbors_at : Table E → Place → Neighbors
   neighbors_at t p = neighbors (t.entry p)
 
-  -- p is linked, with this place before it and that one behind it
-  pub record IsBetween (entry : Place → E) (p : Place) (before behind : Option Place) : Type 0 where
-    pub linked : (neighbors (entry p)).linked ≡ true
-    pub prev : (neighbors (entry p)).prev ≡ before
-    pub next : (neighbors (entry p)).next ≡ behind
+  -- the entry says that its place is linked, with this place before it and that one behind it
+  pub record IsBetween (e : E) (before behind : Option Place) : Type 0 where
+    pub linked : (neighbors e).linked ≡ true
+    pub prev : (neighbors e).prev ≡ before
+    pub next : (neighbors e).next ≡ behind
 
-  -- each member of s is between its neighbours in s, `before` stands in front of the first and `behind` after the last
+  -- each member of s is between its neighbours in s
   abbrev pub IsChain : (Place → E) → Option Place → List Place → Option Place → Type 0
-  IsChain entry before [] behind = Unit {0}
-  IsChain entry before (x ∷ s) behind = IsBetween entry x before (first_or s behind) × IsChain entry (Some x) s behind
+  IsChain entry before s behind = chains.IsChain IsBetween entry before s behind
 
-  -- THE TABLE SHOWS s for the list with these ends: s is a chain of distinct places from the head to the tail
-  pub record Shows (t : Table E) (list : Ends) (s : List Place) : Type 0 where
-    pub distinct : IsDistinct s
-    pub chain : IsChain t.entry None s None
-    pub head : list.head ≡ first s
-    pub tail : list.tail ≡ last s
+  -- THE TABLE SHOWS s for the list with these ends
+  abbrev pub Shows : Table E → Ends → List Place → Type 0
+  Shows t list s = ShowsBetween IsBetween t list s
 
   -- the table shows a sequence for the list
   abbrev pub ShowsSome : Table E → Ends → Type 0
   ShowsSome t list = (s : List Place) × Shows t list s
+
+  -- the place behind, whatever stands before
+  abbrev pub next_of : E → Option Place → Option Place
+  next_of e before = (neighbors e).next
+
+  -- the members between two ends
+  abbrev pub between : Table E → Option Place → Option Place → List Place
+  between t front back = walked next_of t None front back
+
+  -- the members of a list
+  abbrev pub members : Table E → Ends → List Place
+  members t list = between t list.head list.tail
+
+  -- w is a part of a chain, from front to back
+  pub record IsWalk (entry : Place → E) (front back : Option Place) (w : List Place) : Type 0 where
+    pub before : Option Place
+    pub behind : Option Place
+    pub part : IsStretch IsBetween entry before front back behind w

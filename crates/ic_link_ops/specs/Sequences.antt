@@ -55,6 +55,12 @@ first s = first_or s None
 abbrev pub last : List Place → Option Place
 last s = last_or None s
 
+-- all of s but its last
+abbrev pub but_last : List Place → List Place
+but_last [] = []
+but_last (x ∷ []) = []
+but_last (x ∷ y ∷ s) = x ∷ but_last (y ∷ s)
+
 -- the gap is the one after the cursor: the cursor is on the last of front, and null where nothing stands there
 abbrev pub IsAfter : Cut → Option Place → Type 0
 IsAfter gap cursor = cursor ≡ last gap.front

@@ -42,3 +42,15 @@ module _ {E : Type 0} where
     pub was : IsLinked linked old p
     pub is : IsUnlinked linked new p
     pub others : (q : Place) → q ≢ p → linked (new.entry q) ≡ linked (old.entry q)
+
+  -- the linked places are the old ones, with p, which was not among them, in place of `out`, which was
+  pub record Exchanges (linked : E → Bool) (old new : Table E) (p out : Place) : Type 0 where
+    pub was : IsUnlinked linked old p
+    pub is : IsLinked linked new p
+    pub out_was : IsLinked linked old out
+    pub out_is : IsUnlinked linked new out
+    pub others : (q : Place) → q ≢ p → q ≢ out → linked (new.entry q) ≡ linked (old.entry q)
+
+  -- the same places are linked
+  abbrev pub KeepsLinked : (E → Bool) → Table E → Table E → Type 0
+  KeepsLinked linked old new = (q : Place) → linked (new.entry q) ≡ linked (old.entry q)

@@ -1,7 +1,24 @@
--- The words of an entry.
-use Rattle.std.specs.Prelude.{◌≢◌, ℕ}
-use Rattle.ic_unsafe_ref.specs.Numbers.{IsWord}
+-- The words of links.
+use Rattle.std.specs.Prelude.{ℕ, Bool, nat_eq, not, refl}
+use Rattle.ic_link_ops.specs.declared.word.Word.{Word}
+use Rattle.ic_link_ops.specs.declared.marked_word.MarkedWord.{MarkedWord}
 
--- the mark 1 of an unlinked entry, or the word for a place or none
-abbrev pub IsMarkOrWord : ℕ → Type 0
-IsMarkOrWord n = n ≢ 1 → IsWord n
+-- a word as a number
+abbrev pub bits_of : Word → ℕ
+bits_of w = w.bits
+
+-- the mark 1 of an unlinked place, or a word
+abbrev pub marked_bits_of : MarkedWord → ℕ
+marked_bits_of w = w.bits
+
+-- whether it is a word, and not the mark
+abbrev pub is_word : MarkedWord → Bool
+is_word w = not (nat_eq w.bits 1)
+
+-- the mark
+abbrev pub mark : MarkedWord
+mark = record { bits = 1; mark_or_even = λ n. absurd (n refl) }
+
+-- the word for no place
+abbrev pub none : Word
+none = record { bits = 0; even = refl }

@@ -32,6 +32,39 @@ impl<T> Drop for AlreadyLinked<T> {
     }
 }
 
+/// Why nothing was replaced. The object that was to be put in comes back.
+#[derive(Debug)]
+pub enum ReplaceError<T> {
+    /// The cursor was on no member, or nothing stood where the call replaces.
+    Null(UnsafeRef<T>),
+    /// The object is linked already, be it the member itself.
+    AlreadyLinked(UnsafeRef<T>),
+}
+
+impl<T> ReplaceError<T> {
+    ghost use Rattle.ic_link_ops.specs.Errors.{object_of};
+
+    /// The object that was refused.
+    #[inline]
+    pub fn into_object(self) -> UnsafeRef<T>
+        ensures answer { result ≡ object_of self }
+    {
+        match self {
+            ReplaceError::Null(object) => object,
+            ReplaceError::AlreadyLinked(object) => object,
+        }
+    }
+}
+
+impl<T> Drop for ReplaceError<T> {
+    fn drop(self) {
+        match self {
+            ReplaceError::Null(_) => {}
+            ReplaceError::AlreadyLinked(_) => {}
+        }
+    }
+}
+
 /// Why a table covers no more places than before.
 #[derive(Clone, Copy, PartialEq, Eq, Debug, Error)]
 pub enum CoverError {

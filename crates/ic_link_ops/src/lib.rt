@@ -9,14 +9,33 @@
 //! ```
 #![tactic(auto)]
 
+mod color;
 mod end;
 mod errors;
+mod link;
 mod link_ops;
 pub mod linked_list;
+mod marked_word;
+mod one_word;
+pub mod rbtree;
+mod side;
+pub mod singly_linked_list;
+mod table;
+mod tree_word;
+mod word;
+pub mod xor_linked_list;
 
+pub use color::Color;
 pub use end::End;
-pub use errors::{AlreadyLinked, CoverError};
+pub use errors::{AlreadyLinked, CoverError, ReplaceError};
+pub use link::{Link, NextWord, PrevPlace, Words};
 pub use link_ops::LinkOps;
+pub use marked_word::MarkedWord;
+pub use one_word::OneWord;
+pub use side::Side;
+pub use table::PlainTable;
+pub use tree_word::TreeWord;
+pub use word::Word;
 
 #[cfg(test)]
 mod tests;

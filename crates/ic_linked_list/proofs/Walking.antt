@@ -6,9 +6,10 @@ use Rattle.std.specs.Iterator.{YieldsFirstRef, MakesProgress, item_count}
 use Rattle.ic_unsafe_ref.specs.declared.place.Place.{Place}
 use Rattle.ic_unsafe_ref.specs.Objects.{object_at}
 use Rattle.ic_link_ops.specs.Tables.{Table, IsCovered}
-use Rattle.ic_link_ops.specs.LinkedList.{Neighbors}
-use Rattle.ic_link_ops.specs.Walk.{IsWalk, is_end}
-use Rattle.ic_link_ops.proofs.Walks.{walk_shown, walk_last, walk_more, walk_none, walk_empty, is_end_yes, is_end_no, yields_placed, makes_progress}
+use Rattle.ic_link_ops.specs.LinkedList.{Neighbors, IsWalk}
+use Rattle.ic_link_ops.specs.Walk.{is_end}
+use Rattle.ic_link_ops.proofs.Walks.{is_end_yes, is_end_no, yields_placed, makes_progress}
+use Rattle.ic_link_ops.proofs.DoublyLists.{walk_shown, walk_last, walk_more, walk_none, walk_empty}
 use Rattle.ic_linked_list.specs.declared.iter.Iter.{Iter}
 use Rattle.ic_linked_list.specs.Iter.{ArePlaced, values_at, objects_left, CanWalk}
 
@@ -26,10 +27,10 @@ module _ {T L A E : Type 0} (n : E → Neighbors) (table : L → Table E) where
       → Steps t (record t { head = None; tail = None }) p
   steps_last t p can at end =
       let k = rw (at, is_end_yes t.tail p end) at can.1 in
-      let e = walk_last n _ p can.0 k in
+      let e = walk_last _ p can.0 k in
       record {
         members = [];
-        walk = walk_none n _;
+        walk = walk_none _;
         whole = rw e at can.1;
         placed = rw e at can.2;
         objects = refl;
@@ -40,7 +41,7 @@ module _ {T L A E : Type 0} (n : E → Neighbors) (table : L → Table E) where
       → next ≡ (n ((table t.links.now).entry p)).next → Steps t (record t { head = next }) p
   steps_more t p next can at end is_next =
       let k = rw at at can.1 in
-      let r = walk_more n _ p t.tail can.0 k (is_end_no t.tail p end) in
+      let r = walk_more _ p t.tail can.0 k (is_end_no t.tail p end) in
       record {
         members = r.0;
         walk = rw is_next r.2;
@@ -57,11 +58,11 @@ module _ {T L A E : Type 0} (n : E → Neighbors) (table : L → Table E) where
     -- what is left is what stands at the members of the walk
     pub left_is : (t : Iter T L A) (w : List Place) → IsWalk n (table t.links.now).entry t.head t.tail w
         → objects_left n table t ≡ values_at t.objects.now w
-    left_is t w k = ap (values_at t.objects.now) (walk_shown n (table t.links.now) (law t.links.now) t.head t.tail w k)
+    left_is t w k = ap (values_at t.objects.now) (walk_shown (table t.links.now) (law t.links.now) t.head t.tail w k)
 
     -- where it has no first member, nothing is left
     pub none_left : (t : Iter T L A) → CanWalk n table t → t.head ≡ None → objects_left n table t ≡ []
-    none_left t can at = left_is t can.0 can.1 ∙ ap (values_at t.objects.now) (walk_empty n _ t.head t.tail can.0 at can.1)
+    none_left t can at = left_is t can.0 can.1 ∙ ap (values_at t.objects.now) (walk_empty _ t.head t.tail can.0 at can.1)
 
     -- the step gives the object at p
     pub gives : {old new : Iter T L A} {p : Place} (r : Option (Bor T)) → Steps old new p → option_copied r ≡ object_at new.objects.now p

@@ -1,7 +1,7 @@
 -- What clauses see of a cursor.
 use Rattle.std.specs.Prelude.{Option}
 use Rattle.ic_unsafe_ref.specs.declared.place.Place.{Place}
-use Rattle.ic_link_ops.specs.LinkedList.{Ends}
+use Rattle.ic_link_ops.specs.Chains.{Ends}
 use Rattle.ic_linked_list.specs.declared.cursor.Cursor.{Cursor}
 
 module _ {T L : Type 0} where

@@ -4,8 +4,7 @@ use Rattle.std.specs.List.{AllByRecursion, filter_map}
 use Rattle.ic_unsafe_ref.specs.declared.place.Place.{Place}
 use Rattle.ic_unsafe_ref.specs.Objects.{Objects, object_at}
 use Rattle.ic_link_ops.specs.Tables.{Table}
-use Rattle.ic_link_ops.specs.LinkedList.{Neighbors}
-use Rattle.ic_link_ops.specs.Walk.{between, IsWalk}
+use Rattle.ic_link_ops.specs.LinkedList.{Neighbors, between, IsWalk}
 use Rattle.ic_linked_list.specs.declared.iter.Iter.{Iter}
 
 module _ {T : Type 0} where

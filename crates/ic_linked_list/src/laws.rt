@@ -4,7 +4,8 @@ ghost use Rattle.std.specs.Prelude.{◌≡◌, List, []};
 ghost use Rattle.ic_unsafe_ref.specs.declared.place.Place.{Place};
 ghost use Rattle.ic_link_ops.specs.Sequences.{IsDisjoint};
 ghost use Rattle.ic_link_ops.specs.Tables.{KeepsBeside};
-ghost use Rattle.ic_link_ops.specs.LinkedList.{Ends, Shows, no_members};
+ghost use Rattle.ic_link_ops.specs.Chains.{Ends, no_members};
+ghost use Rattle.ic_link_ops.specs.LinkedList.{Shows};
 
 use ic_link_ops::LinkOps;
 use ic_link_ops::linked_list::LinkedListOps;

@@ -9,10 +9,10 @@ ghost use Rattle.std.specs.Prelude.{◌≡◌, ◌≢◌, ◌↔◌, ◌++◌, �
 ghost use Rattle.ic_unsafe_ref.specs.declared.place.Place.{Place};
 ghost use Rattle.ic_link_ops.specs.Sequences.{first, first_or, last_or, IsAbsent, at_front, at_back, insert, remove};
 ghost use Rattle.ic_link_ops.specs.Tables.{IsCovered, IsLinked, KeepsBeside, LinksAlso, Unlinks};
-ghost use Rattle.ic_link_ops.specs.LinkedList.{Shows, ShowsSome, no_members};
-ghost use Rattle.ic_link_ops.specs.Joins.{end_of};
+ghost use Rattle.ic_link_ops.specs.Chains.{no_members, end_of};
+ghost use Rattle.ic_link_ops.specs.LinkedList.{Shows, ShowsSome};
 
-use crate::surgery::join;
+use crate::surgery::{follow, lead, stand};
 use ic_link_ops::linked_list::LinkedListOps;
 use ic_link_ops::{AlreadyLinked, End, LinkOps};
 use ic_unsafe_ref::{Place, UnsafeRef};
@@ -29,7 +29,7 @@ pub struct LinkedList<T> {
 }
 
 impl<T> Model for LinkedList<T> {
-    ghost use Rattle.ic_link_ops.specs.LinkedList.{Ends};
+    ghost use Rattle.ic_link_ops.specs.Chains.{Ends};
 
     ghost Value = { Ends };
 
@@ -203,8 +203,9 @@ impl<T> LinkedList<T> {
         ensures keeps_acquired { (first : L) (q : Place) → L.Acquired first links.old q
             → L.Acquired first links.new q }
     {
-        join(links, before, Some(place));
-        join(links, Some(place), behind);
+        lead(links, before, Some(place));
+        follow(links, behind, Some(place));
+        stand(links, place, before, behind);
         self.head = End::of(end(before, Some(place), self.head.get()));
         self.tail = End::of(end(behind, Some(place), self.tail.get()));
     }
@@ -222,7 +223,8 @@ impl<T> LinkedList<T> {
     {
         let before = links.prev(place);
         let behind = links.next(place);
-        join(links, before, behind);
+        lead(links, before, behind);
+        follow(links, behind, before);
         self.head = End::of(end(before, behind, self.head.get()));
         self.tail = End::of(end(behind, before, self.tail.get()));
     }

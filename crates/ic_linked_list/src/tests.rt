@@ -6,7 +6,7 @@ ghost use Rattle.ic_unsafe_ref.specs.Places.{index_of};
 ghost use Rattle.ic_unsafe_ref.specs.Objects.{is_placed};
 ghost use Rattle.ic_link_ops.specs.Sequences.{Cut, join, IsAfter, IsDisjoint};
 ghost use Rattle.ic_link_ops.specs.LinkedList.{Shows, ShowsSome};
-ghost use Rattle.ic_link_ops.specs.Entries.{neighbors_of, entries, table_of};
+ghost use Rattle.ic_link_ops.specs.DoublyEntries.{neighbors_of, entries, table_of};
 ghost use Rattle.ic_linked_list.specs.Cursor.{list_of, links_of, position};
 
 use super::*;

@@ -70,6 +70,16 @@ pub place_at_word : (to : Option Place) → place_at (word_of to) ≡ to
 place_at_word None = place_at_other 0 (λ h. absurd (omega (arith, h.0)))
 place_at_word (Some p) = ap place_at (sym (number_of p)) ∙ place_at_is p.number p.is_number
 
+-- a word of a place or none is the word for what it names
+pub word_at : (n : ℕ) → IsWord n → word_of (place_at n) ≡ n
+word_at n h =
+    elim (eqb_tells n 0) [
+      | inl e ↦ ap (λ m. word_of (place_at m)) e.1 ∙ ap word_of (place_at_word None) ∙ sym e.1
+      | inr e ↦
+          let is : IsNumber n = (omega (arith, h.1, e.1), h.0, h.1) in
+          ap word_of (place_at_is n is) ∙ sym (number_of (place_of n is))
+    ]
+
 -- the word of a place or none is even and at most 2 ^ 33
 pub word_fits : (to : Option Place) → IsWord (word_of to)
 word_fits None = (omega arith, refl)

@@ -25,6 +25,9 @@ impl Place {
     /// How many places there are.
     pub const COUNT: usize = 4_294_967_296;
 
+    // The number of the last place.
+    const LAST_NUMBER: u64 = 8_589_934_592;
+
     /// The place with that index, or `None` from 4,294,967,296 on.
     #[inline]
     pub fn new(index: usize) -> Option<Place>
@@ -69,6 +72,22 @@ impl Place {
         ensures { result ≡ place_at word }
     {
         if word != 0 {
+            Some(Place { number: word })
+        } else {
+            None
+        }
+    }
+
+    /// The place with that number, or `None` where the even word is no place's number.
+    ///
+    /// Of words that may be more than a place or none, such as the exclusive or of two numbers.
+    #[inline]
+    #[tactic(auto, using(crate::proofs::PlaceLemmas::place_at_other))]
+    pub fn with_number(word: u64) -> Option<Place>
+        requires even { word % 2 ≡ 0 }
+        ensures { result ≡ place_at word }
+    {
+        if word != 0 && word <= Place::LAST_NUMBER {
             Some(Place { number: word })
         } else {
             None

@@ -44,6 +44,15 @@ fn places_as_words(rt: HostRuntime) {
 }
 
 #[test]
+fn places_with_a_number(rt: HostRuntime) {
+    let last = Some(place(&rt, 4_294_967_295));
+    assert_eq!(rt; Place::with_number(0), None);
+    assert_eq!(rt; Place::with_number(16), Some(place(&rt, 7)));
+    assert_eq!(rt; Place::with_number(8_589_934_592), last);
+    assert_eq!(rt; Place::with_number(8_589_934_594), None);
+}
+
+#[test]
 fn the_debug_text_is_the_index(rt: HostRuntime) -> Result<(), Fail> {
     let r: UnsafeRef<u64> = UnsafeRef::new(place(&rt, 0));
     let text = format!(in rt.alloc(); "{r:?}")?;

@@ -10,8 +10,8 @@ use Rattle.ic_unsafe_ref.specs.Objects.{Objects, Places}
 use Rattle.ic_unsafe_ref.proofs.PlaceLemmas.{same_index}
 use Rattle.ic_link_ops.specs.Sequences.{IsAbsent, first, at_front, at_back, insert, remove}
 use Rattle.ic_link_ops.specs.Tables.{KeepsBeside, LinksAlso, Unlinks}
-use Rattle.ic_link_ops.specs.LinkedList.{Ends}
-use Rattle.ic_link_ops.specs.Entries.{unlinked, is_linked, entry_at, table_of}
+use Rattle.ic_link_ops.specs.Chains.{Ends}
+use Rattle.ic_link_ops.specs.DoublyEntries.{unlinked, is_linked, entry_at, table_of}
 use Rattle.ic_link_ops.proofs.SequenceLemmas.{disjoint_cons, absent_both}
 use Rattle.ic_link_ops.proofs.ShownLists.{free_absent}
 use Rattle.ic_world.specs.declared.collection.Collection.{Collection}
@@ -70,7 +70,7 @@ module _ {V : Type 0} (objects : Objects V) (ts : List Entries) (cs : List (Opti
       beside = λ d l n is_l same.
           let P : ℕ → Type 0 = λ f. ShowsIn (table ts f) l.list (sequence ts l) in
           let here = subst P same (whole.shown d l is_l) in
-          disjoint_cons p (sequence ts l) (sequence ts k) (free_absent here links.was) (whole.apart d c l k n is_l is same);
+          disjoint_cons p (sequence ts l) (sequence ts k) (free_absent (λ e b a h. h.linked) here links.was) (whole.apart d c l k n is_l is same);
     }
 
     pub push_whole : (p : Place) → ShowsIn new ends (insert (at_back (sequence ts k)) p) → LinksAlso is_linked (table_of (table ts k.field)) (table_of new) p

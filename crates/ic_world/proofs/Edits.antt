@@ -6,13 +6,13 @@ use Rattle.ic_unsafe_ref.specs.declared.place.Place.{Place}
 use Rattle.ic_unsafe_ref.specs.Places.{index_of}
 use Rattle.ic_unsafe_ref.specs.Objects.{Objects}
 use Rattle.ic_link_ops.specs.Sequences.{IsAbsent, IsDisjoint}
-use Rattle.ic_link_ops.specs.LinkedList.{Ends}
-use Rattle.ic_link_ops.specs.Entries.{neighbors_of, is_linked, entry_at, table_of}
-use Rattle.ic_link_ops.specs.EntryLaws.{linked_in_range}
+use Rattle.ic_link_ops.specs.Chains.{Ends}
+use Rattle.ic_link_ops.specs.DoublyEntries.{is_linked, entry_at, table_of}
+use Rattle.ic_link_ops.specs.DoublyEntries.{linked_in_range}
 use Rattle.ic_link_ops.specs.Tables.{KeepsBeside}
 use Rattle.ic_link_ops.proofs.SequenceLemmas.{absent_swap, disjoint_sym}
 use Rattle.ic_link_ops.proofs.ShownLists.{shows_frame}
-use Rattle.ic_link_ops.proofs.Walks.{members_shown}
+use Rattle.ic_link_ops.proofs.DoublyLists.{members_shown}
 use Rattle.ic_world.specs.declared.collection.Collection.{Collection}
 use Rattle.ic_world.specs.Family.{Sequence}
 use Rattle.ic_world.specs.Tables.{Entries, table, ShowsIn, linked_in, members_in, sequence, shown_as, at, family_of, IsWhole, HasObject}
@@ -20,7 +20,7 @@ use Rattle.ic_world.specs.Step.{edited}
 
 -- a table shows one sequence, which the walk gives
 pub one_sequence : (t : Entries) (list : Ends) (s : List Place) → ShowsIn t list s → members_in t list ≡ s
-one_sequence t list s shown = members_shown neighbors_of (table_of t) (λ q h. linked_in_range t (index_of q) h) list s shown
+one_sequence t list s shown = members_shown (table_of t) (λ q h. linked_in_range t (index_of q) h) list s shown
 
 -- a map over two lists that differ at one index
 pub set_map_same : {A B : Type 0} (f g : A → B) (xs : List A) (c : ℕ) (y : B) (d : A)

@@ -12,8 +12,8 @@ use Rattle.ic_unsafe_ref.specs.declared.place.Place.{Place}
 use Rattle.ic_unsafe_ref.specs.Places.{index_of}
 use Rattle.ic_unsafe_ref.specs.Objects.{Objects, Places}
 use Rattle.ic_link_ops.specs.Sequences.{IsDisjoint}
-use Rattle.ic_link_ops.specs.LinkedList.{no_members}
-use Rattle.ic_link_ops.specs.Entries.{unlinked, is_linked, entry_at}
+use Rattle.ic_link_ops.specs.Chains.{no_members}
+use Rattle.ic_link_ops.specs.DoublyEntries.{unlinked, is_linked, entry_at}
 use Rattle.ic_link_ops.proofs.ShownLists.{shows_kept}
 use Rattle.ic_world.specs.declared.collection.Collection.{Collection}
 use Rattle.ic_world.specs.Family.{Sequence}

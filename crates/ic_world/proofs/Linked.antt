@@ -10,7 +10,7 @@ use Rattle.std.proofs.lemmas.List.{get_or_past}
 use Rattle.ic_unsafe_ref.specs.declared.place.Place.{Place}
 use Rattle.ic_unsafe_ref.specs.Places.{index_of}
 use Rattle.ic_unsafe_ref.proofs.PlaceLemmas.{index_small, place_with, same_index}
-use Rattle.ic_link_ops.specs.Entries.{unlinked, is_linked, entry_at}
+use Rattle.ic_link_ops.specs.DoublyEntries.{unlinked, is_linked, entry_at}
 use Rattle.ic_world.specs.Tables.{Entries, linked_below, linked_in}
 
 -- whether the entry at an index is linked

@@ -6,16 +6,16 @@ use Rattle.std.specs.FinSet as set_of
 use Rattle.ic_unsafe_ref.specs.declared.place.Place.{Place}
 use Rattle.ic_unsafe_ref.specs.Places.{index_of}
 use Rattle.ic_unsafe_ref.specs.Objects.{Objects}
-use Rattle.ic_link_ops.specs.declared.linked_list.LinkOps.{LinkOps}
+use Rattle.ic_link_ops.specs.DoublyEntries.{DoublyLinkOps}
 use Rattle.ic_link_ops.specs.Sequences.{first}
-use Rattle.ic_link_ops.specs.Entries.{is_linked, entry_at, entries}
+use Rattle.ic_link_ops.specs.DoublyEntries.{is_linked, entry_at, entries}
 use Rattle.ic_world.specs.declared.collection.Collection.{Collection}
 use Rattle.ic_world.specs.Tables.{Entries, table, ShowsIn, linked_in, sequence, shown_as, at, family_of, HasObject, IsWhole}
 use Rattle.ic_world.specs.Step.{collection, linked_of, is_placed}
 use Rattle.ic_world.proofs.Linked.{in_linked}
 
 -- what a read of the vector of tables found
-pub table_read : {M : Type 0} (tables : List (LinkOps M)) (f : ℕ) (t : LinkOps M) → f < length tables → t ≡ get_or tables f t → table (map entries tables) f ≡ entries t
+pub table_read : {M : Type 0} (tables : List (DoublyLinkOps M)) (f : ℕ) (t : DoublyLinkOps M) → f < length tables → t ≡ get_or tables f t → table (map entries tables) f ≡ entries t
 table_read tables f t h e = get_or-map entries tables f t [] h ∙ ap entries (sym e)
 
 -- the first of a sequence
@@ -29,7 +29,7 @@ set_back xs i x e = ap (set xs i) e ∙ set-get_or xs i x
 
 module _ {V : Type 0} where
   -- what is known where a call has found k under number c, and has read the table of its field
-  pub record Found {M : Type 0} (tables : List (LinkOps M)) (cs : List (Option (Collection V))) (c : ℕ) (k : Collection V) (now : LinkOps M) : Type 0 where
+  pub record Found {M : Type 0} (tables : List (DoublyLinkOps M)) (cs : List (Option (Collection V))) (c : ℕ) (k : Collection V) (now : DoublyLinkOps M) : Type 0 where
     pub is : at cs c ≡ Some k
     pub field : k.field < length (map entries tables)
     pub read : table (map entries tables) k.field ≡ entries now
@@ -41,7 +41,7 @@ module _ {V : Type 0} where
       → c < n → n ≡ len → len ≡ length cs → o ≡ get_or cs c o → o ≡ Some k → at cs c ≡ Some k
   found_at cs c {n} {len} {o} {k} h e l read is = get_or_default cs c None o (omega (arith, h, e, l)) ∙ sym read ∙ is
 
-  pub found : {M : Type 0} {objects : Objects V} {room : ℕ} (tables : List (LinkOps M)) {cs : List (Option (Collection V))} {c n len : ℕ} {o : Option (Collection V)} {k : Collection V} {now : LinkOps M}
+  pub found : {M : Type 0} {objects : Objects V} {room : ℕ} (tables : List (DoublyLinkOps M)) {cs : List (Option (Collection V))} {c n len : ℕ} {o : Option (Collection V)} {k : Collection V} {now : DoublyLinkOps M}
       → IsWhole objects room (map entries tables) cs → c < n → n ≡ len → len ≡ length cs → o ≡ get_or cs c o → o ≡ Some k → now ≡ get_or tables k.field now
       → Found tables cs c k now
   found {M} {objects} {room} tables {cs} {c} {n} {len} {o} {k} {now} whole h e l collection is links =

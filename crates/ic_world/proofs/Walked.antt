@@ -3,11 +3,11 @@ use Rattle.std.proofs.Common.{◌≡◌, ◌<◌, Some, None, List, [], ◌∷�
 use Rattle.ic_unsafe_ref.specs.declared.place.Place.{Place}
 use Rattle.ic_unsafe_ref.specs.Places.{index_of}
 use Rattle.ic_link_ops.specs.Sequences.{Cut, join, first, IsAfter}
-use Rattle.ic_link_ops.specs.LinkedList.{Ends}
-use Rattle.ic_link_ops.specs.Entries.{neighbors_of, table_of}
-use Rattle.ic_link_ops.specs.EntryLaws.{linked_in_range}
+use Rattle.ic_link_ops.specs.Chains.{Ends}
+use Rattle.ic_link_ops.specs.DoublyEntries.{table_of}
+use Rattle.ic_link_ops.specs.DoublyEntries.{linked_in_range}
 use Rattle.ic_link_ops.proofs.SequenceLemmas.{last_or-append}
-use Rattle.ic_link_ops.proofs.Walks.{shown_length}
+use Rattle.ic_link_ops.proofs.DoublyLists.{shown_length}
 use Rattle.ic_world.specs.Tables.{Entries, ShowsIn}
 use Rattle.ic_world.proofs.Readings.{first_is}
 
@@ -25,7 +25,7 @@ after_gap_behind done rest p = sym (last_or-append None done (p ∷ []))
 -- there are fewer members behind than the table covers
 pub passed_fewer : (t : Entries) (list : Ends) (s done rest : List Place) (p : Place) → ShowsIn t list s → s ≡ done ++ rest → Some p ≡ first rest → length done < length t
 passed_fewer t list s done rest p shown parts at_p =
-    let bound = shown_length neighbors_of (table_of t) (λ q h. linked_in_range t (index_of q) h) list s shown in
+    let bound = shown_length (table_of t) (λ q h. linked_in_range t (index_of q) h) list s shown in
     let whole = ap length parts ∙ length-append done rest in
     let one = ap length (first_is rest p at_p) in
     omega (arith, bound, whole, one)

@@ -7,17 +7,17 @@ use Rattle.std.specs.FinMap as map_of
 use Rattle.ic_unsafe_ref.specs.declared.place.Place.{Place}
 use Rattle.ic_unsafe_ref.specs.Places.{index_of}
 use Rattle.ic_unsafe_ref.specs.Objects.{Objects}
-use Rattle.ic_link_ops.specs.declared.linked_list.Link.{Link}
+use Rattle.ic_link_ops.specs.DoublyEntries.{DoublyLink}
 use Rattle.ic_link_ops.specs.Sequences.{IsDisjoint}
-use Rattle.ic_link_ops.specs.LinkedList.{Ends, Shows}
-use Rattle.ic_link_ops.specs.Walk.{members}
-use Rattle.ic_link_ops.specs.Entries.{unlinked, is_linked, neighbors_of, entry_at, table_of}
+use Rattle.ic_link_ops.specs.Chains.{Ends}
+use Rattle.ic_link_ops.specs.LinkedList.{Shows, members}
+use Rattle.ic_link_ops.specs.DoublyEntries.{unlinked, is_linked, neighbors_of, entry_at, table_of}
 use Rattle.ic_world.specs.declared.collection.Collection.{Collection}
 use Rattle.ic_world.specs.Family.{Family, Sequence}
 
 -- a field's table: the entries of its places
 abbrev pub Entries : Type 0
-Entries = List Link
+Entries = List DoublyLink
 
 -- the table of field f
 abbrev pub table : List Entries → ℕ → Entries

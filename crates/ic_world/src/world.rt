@@ -2,7 +2,7 @@
 
 ghost use Rattle.std.specs.Prelude.{◌≡◌, ◌<◌, ◌≤◌, ℕ, [], List, IfOk, IfErr, OnOk, length, map as map_list};
 ghost use Rattle.ic_unsafe_ref.specs.declared.place.Place.{Place};
-ghost use Rattle.ic_link_ops.specs.Entries.{entries};
+ghost use Rattle.ic_link_ops.specs.DoublyEntries.{entries};
 ghost use Rattle.ic_world.specs.Tables.{ShowsIn, table, Grown};
 ghost use Rattle.std.specs.FinMap as map;
 
@@ -39,7 +39,7 @@ impl<A: KeyAdapter, M: Allocator + Copy> Model for World<A, M> {
 
     ghost coded = { family_code A.Value.code };
 
-    ghost use Rattle.ic_link_ops.specs.Entries.{entries};
+    ghost use Rattle.ic_link_ops.specs.DoublyEntries.{entries};
     ghost use Rattle.ic_world.specs.Tables.{family_of, IsWhole};
 
     ghost view = { λ w. family_of w.objects (map entries w.fields.items) w.collections.items };

@@ -5,13 +5,20 @@
 //! | `unsafe_ref` | objects by place, and references to them |
 //! | `link_ops` | tables of links, and what collections ask of them |
 //! | `linked_list` | the doubly linked list |
-//! | `rbtree` | the red-black tree, of which only the keys' trait is there |
+//! | `singly_linked_list`, `xor_linked_list` | the links and the table of these lists, which are not there yet |
+//! | `rbtree` | the red-black tree, of which only the keys' trait, the links and the table are there |
 //! | `key_adapter` | where the key of an object stands |
 //! | `world` | objects, fields and collections whose calls test every condition themselves |
 #![tactic(auto)]
 
 pub use ic_link_ops as link_ops;
 pub use ic_link_ops::LinkOps;
+pub use ic_link_ops::linked_list::Link as LinkedListLink;
+pub use ic_link_ops::rbtree::Link as RBTreeLink;
+pub use ic_link_ops::singly_linked_list;
+pub use ic_link_ops::singly_linked_list::Link as SinglyLinkedListLink;
+pub use ic_link_ops::xor_linked_list;
+pub use ic_link_ops::xor_linked_list::Link as XorLinkedListLink;
 pub use ic_linked_list as linked_list;
 pub use ic_linked_list::LinkedList;
 pub use ic_rbtree as rbtree;

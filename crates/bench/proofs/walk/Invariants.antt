@@ -1,7 +1,7 @@
 use Rattle.std.proofs.Common.{◌≡◌}
 use Rattle.ic_link_ops.specs.Sequences.{Cut, join, IsAfter}
 use Rattle.ic_link_ops.specs.LinkedList.{Shows}
-use Rattle.ic_link_ops.specs.Entries.{neighbors_of, entries, table_of}
+use Rattle.ic_link_ops.specs.DoublyEntries.{neighbors_of, entries, table_of}
 use Rattle.ic_linked_list.specs.Cursor.{list_of, links_of, position}
 use Rattle.bench.proofs.walk.Given as goal
 

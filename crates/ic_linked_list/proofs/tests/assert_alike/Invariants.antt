@@ -1,6 +1,6 @@
 use Rattle.ic_link_ops.specs.Sequences.{Cut, join, IsAfter}
 use Rattle.ic_link_ops.specs.LinkedList.{Shows}
-use Rattle.ic_link_ops.specs.Entries.{neighbors_of, entries, table_of}
+use Rattle.ic_link_ops.specs.DoublyEntries.{neighbors_of, entries, table_of}
 use Rattle.ic_linked_list.specs.Cursor.{list_of, links_of, position}
 use Rattle.ic_linked_list.proofs.tests.assert_alike.Given as goal
 

@@ -1,5 +1,5 @@
 use Rattle.ic_link_ops.specs.LinkedList.{ShowsSome}
-use Rattle.ic_link_ops.specs.Entries.{neighbors_of, entries, table_of}
+use Rattle.ic_link_ops.specs.DoublyEntries.{neighbors_of, entries, table_of}
 use Rattle.ic_linked_list.proofs.tests.beside_the_plain_sequence.Given as goal
 
 abbrev pub invariant-loop : goal.invariant-loop

@@ -1,7 +1,9 @@
-use Rattle.std.proofs.Common.{◌∷◌, ◌++◌, []}
+use Rattle.std.proofs.Common.{◌∷◌, ◌++◌, [], refl}
 use Rattle.ic_link_ops.specs.Sequences.{insert, at_back}
 use Rattle.ic_link_ops.proofs.SequenceLemmas.{absent_both, absent_swap, disjoint_cons}
+use Rattle.ic_link_ops.specs.DoublyEntries.{is_linked, neighbors_of}
 use Rattle.ic_link_ops.proofs.ShownLists.{free_absent, shows_frame}
+use Rattle.ic_link_ops.proofs.DoublyLists.{between_linked}
 use Rattle.ic_linked_list.proofs.tests.push_first.Goals as goal
 
 pub returns-in-Ok : goal.returns-in-Ok
@@ -9,7 +11,7 @@ returns-in-Ok g c =
     let r = c.requires.shown in
     let p = c.new.result in
     let ok = c.in-Ok.ensures in
-    let apart = disjoint_cons p r.1 r.0 (free_absent r.3 ok.linked.was) r.4 in
+    let apart = disjoint_cons p r.1 r.0 (free_absent (between_linked {n = neighbors_of} {linked = is_linked} (λ e. refl)) r.3 ok.linked.was) r.4 in
     record {
       shown = (
         insert (at_back r.0) p,

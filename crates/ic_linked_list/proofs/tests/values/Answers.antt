@@ -2,15 +2,15 @@ use Rattle.std.proofs.Common.{◌≡◌, ℕ, ◌<◌, true, Option, Some, None,
 use Rattle.ic_unsafe_ref.specs.declared.place.Place.{Place}
 use Rattle.ic_unsafe_ref.specs.Places.{index_of}
 use Rattle.ic_unsafe_ref.specs.Objects.{Objects, is_placed}
-use Rattle.ic_link_ops.specs.declared.linked_list.Link.{Link}
+use Rattle.ic_link_ops.specs.DoublyEntries.{DoublyLink}
 use Rattle.ic_link_ops.specs.LinkedList.{IsChain}
-use Rattle.ic_link_ops.specs.Entries.{neighbors_of, entry_at, entries}
-use Rattle.ic_link_ops.specs.EntryLaws.{linked_in_range}
+use Rattle.ic_link_ops.specs.DoublyEntries.{neighbors_of, entry_at, entries}
+use Rattle.ic_link_ops.specs.DoublyEntries.{linked_in_range}
 use Rattle.ic_linked_list.specs.Iter.{ArePlaced}
 use Rattle.ic_linked_list.proofs.tests.values.Goals as goal
 
 -- the members of a chain are covered, and so they are placed
-are_placed : (es : List Link) (o : Objects ℕ) → ((q : Place) → index_of q < length es → is_placed o q ≡ true)
+are_placed : (es : List DoublyLink) (o : Objects ℕ) → ((q : Place) → index_of q < length es → is_placed o q ≡ true)
     → (before : Option Place) (s : List Place) → IsChain neighbors_of (entry_at es) before s None → ArePlaced o s
 are_placed es o all before [] k = tt
 are_placed es o all before (x ∷ s) k =

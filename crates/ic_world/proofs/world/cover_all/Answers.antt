@@ -1,7 +1,7 @@
 use Rattle.std.proofs.Common.{◌<◌, arith, map, length, [], inl, inr}
 use Rattle.std.proofs.lemmas.Bool.{cases_eq}
 use Rattle.std.proofs.lemmas.List.{length-map, map-set, get_or-map, get_or-set_same, get_or-set_other}
-use Rattle.ic_link_ops.specs.Entries.{entries}
+use Rattle.ic_link_ops.specs.DoublyEntries.{entries}
 use Rattle.ic_world.proofs.Growth.{grown_more, covers_more}
 use Rattle.ic_world.proofs.Steps.{from_ok}
 use Rattle.ic_world.proofs.world.cover_all.Goals as goal

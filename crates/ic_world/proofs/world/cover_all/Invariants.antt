@@ -1,5 +1,5 @@
 use Rattle.std.proofs.Common.{ℕ, ◌<◌, ◌≤◌, map, length}
-use Rattle.ic_link_ops.specs.Entries.{entries}
+use Rattle.ic_link_ops.specs.DoublyEntries.{entries}
 use Rattle.ic_world.specs.Tables.{table, Grown}
 use Rattle.ic_world.proofs.world.cover_all.Given as goal
 

@@ -1,7 +1,7 @@
 use Rattle.std.proofs.Common.{◌≡◌, ◌-◌, ◌++◌, List, length, vec_len}
 use Rattle.ic_unsafe_ref.specs.declared.place.Place.{Place}
 use Rattle.ic_link_ops.specs.Sequences.{first}
-use Rattle.ic_link_ops.specs.Entries.{entries}
+use Rattle.ic_link_ops.specs.DoublyEntries.{entries}
 use Rattle.ic_linked_list.specs.Cursor.{list_of, links_of, position}
 use Rattle.ic_world.specs.Tables.{ShowsIn}
 use Rattle.ic_world.proofs.world.listed.Given as goal

@@ -1,5 +1,5 @@
 use Rattle.std.proofs.Common.{sym, ◌∙◌, ap}
-use Rattle.ic_link_ops.proofs.Walks.{members_shown}
+use Rattle.ic_link_ops.proofs.DoublyLists.{members_shown}
 use Rattle.ic_linked_list.specs.Iter.{values_at}
 use Rattle.ic_linked_list.proofs.list.LinkedList.iter.Goals as goal
 
@@ -8,4 +8,4 @@ returns-clause-walks g c s shown =
     let alike = g.met.L.LinkedListOps.linked_alike in
     rw (c.head.ensures, c.tail.ensures)
     (ap (values_at c.args.objects.now)
-    (members_shown _ _ (λ q h. g.met.L.LinkOps.linked_is_covered _ q (sym (alike _) ∙ h)) _ s shown))
+    (members_shown _ (λ q h. g.met.L.LinkOps.linked_is_covered _ q (sym (alike _) ∙ h)) _ s shown))

@@ -1,36 +1,44 @@
-use Rattle.std.proofs.Common.{◌∙◌, sym, ap}
-use Rattle.ic_link_ops.specs.Joins.{end_of}
-use Rattle.ic_link_ops.proofs.ShownLists.{shows_remove, shows_middle, prev_linked, next_linked, prev_not, next_not}
+use Rattle.std.proofs.Common.{◌∷◌, None, ◌∙◌, sym, ap}
+use Rattle.ic_link_ops.specs.Chains.{end_of}
+use Rattle.ic_link_ops.proofs.SequenceLemmas.{beside_not}
+use Rattle.ic_link_ops.proofs.ShownLists.{shows_remove, shows_middle, gap_linked, next_linked}
+use Rattle.ic_link_ops.proofs.DoublyLists.{between_linked}
 use Rattle.ic_linked_list.proofs.list.LinkedList.take_out.Goals as goal
 
 pub prev-before-requires : goal.prev-before-requires
 prev-before-requires g c = record {
-  linked = sym (g.met.L.LinkedListOps.linked_alike _) ∙ (shows_middle c.requires.0 c.requires.1 c.requires.2).linked;
+  linked = between_linked g.met.L.LinkedListOps.linked_alike _ _ _ (shows_middle c.requires.0 c.requires.1 c.requires.2);
 }
 
 pub next-behind-requires : goal.next-behind-requires
 next-behind-requires g c = record {
-  linked = sym (g.met.L.LinkedListOps.linked_alike _) ∙ (shows_middle c.requires.0 c.requires.1 c.requires.2).linked;
+  linked = between_linked g.met.L.LinkedListOps.linked_alike _ _ _ (shows_middle c.requires.0 c.requires.1 c.requires.2);
 }
 
-pub join-requires-clause-before : goal.join-requires-clause-before
-join-requires-clause-before g c q e =
-    sym (g.met.L.LinkedListOps.linked_alike _) ∙ prev_linked c.requires.0 c.requires.1 c.requires.2 (sym c.prev-before.ensures ∙ e)
+pub lead-requires : goal.lead-requires
+lead-requires g c q e =
+    let r = c.requires in
+    gap_linked (between_linked g.met.L.LinkedListOps.linked_alike) r.0 (c.args.place ∷ r.1) r.2 (sym e ∙ c.prev-before.ensures ∙ (shows_middle r.0 r.1 r.2).prev)
 
-pub join-requires-clause-behind : goal.join-requires-clause-behind
-join-requires-clause-behind g c q e =
-    sym (g.met.L.LinkedListOps.linked_alike _) ∙ next_linked c.requires.0 c.requires.1 c.requires.2 (sym c.next-behind.ensures ∙ e)
+pub follow-requires : goal.follow-requires
+follow-requires g c q e =
+    let r = c.requires in
+    rw (c.lead.ensures.linked q)
+    (next_linked (between_linked g.met.L.LinkedListOps.linked_alike) r.0 c.args.place r.1 r.2 (sym e ∙ c.next-behind.ensures ∙ (shows_middle r.0 r.1 r.2).next))
 
 pub returns-clause-shows : goal.returns-clause-shows
 returns-clause-shows g c front back shown =
-    shows_remove front back c.args.place c.prev-before.ensures c.next-behind.ensures (rw (← c.self.view_is) at shown) c.join.ensures.joined
+    let stands = shows_middle front back shown in
+    shows_remove front back c.args.place (c.prev-before.ensures ∙ stands.prev) (c.next-behind.ensures ∙ stands.next) (rw (← c.self.view_is) at shown)
+    (c.lead.ensures.turns _) (c.follow.ensures.turns _)
     (c.of-self-inside.ensures ∙ c.end.ensures ∙ ap (end_of c.prev-before.result c.next-behind.result) c.get.ensures)
     (c.of-self-inside-2.ensures ∙ c.end-2.ensures ∙ ap (end_of c.next-behind.result c.prev-before.result) c.get-2.ensures)
 
 pub returns-clause-frame : goal.returns-clause-frame
-returns-clause-frame g c front back shown = record {
-  covers = c.join.ensures.covers;
-  others = λ q out.
-      c.join.ensures.others q (λ e. prev_not front back shown out (sym c.prev-before.ensures ∙ e))
-      (λ e. next_not front back shown out (sym c.next-behind.ensures ∙ e));
-}
+returns-clause-frame g c front back shown =
+    let stands = shows_middle front back shown in record {
+      covers = c.follow.ensures.covers ∙ c.lead.ensures.covers;
+      others = λ q out.
+          let beside = beside_not front back c.args.place (c.prev-before.ensures ∙ stands.prev) (c.next-behind.ensures ∙ stands.next) out in
+          (c.follow.ensures.turns None).others q beside.1 ∙ (c.lead.ensures.turns None).others q beside.0;
+    }

@@ -2,7 +2,7 @@ use Rattle.std.proofs.Common.{◌≡◌, ◌≤◌, ◌∙◌, length, arith, ma
 use Rattle.std.proofs.lemmas.List.{length-map, map-append, get_or_past}
 use Rattle.ic_unsafe_ref.specs.declared.place.Place.{Place}
 use Rattle.ic_unsafe_ref.specs.Places.{index_of}
-use Rattle.ic_link_ops.specs.Entries.{unlinked, entry_at, entries}
+use Rattle.ic_link_ops.specs.DoublyEntries.{unlinked, entry_at, entries}
 use Rattle.ic_world.proofs.Growth.{field_grown, field_covered, grown_whole}
 use Rattle.ic_world.proofs.Steps.{from_ok}
 use Rattle.ic_world.proofs.Calls.{field_done}

@@ -1,6 +1,6 @@
 use Rattle.std.proofs.Common.{◌<◌, ◌∙◌, length, arith, map}
 use Rattle.std.proofs.lemmas.List.{length-map}
-use Rattle.ic_link_ops.specs.Entries.{entries}
+use Rattle.ic_link_ops.specs.DoublyEntries.{entries}
 use Rattle.ic_world.proofs.Growth.{opened_whole}
 use Rattle.ic_world.proofs.Calls.{open_done, open_full}
 use Rattle.ic_world.proofs.world.World.open.Goals as goal

@@ -1,7 +1,7 @@
 use Rattle.std.proofs.Common.{◌≡◌, ℕ, ◌<◌, ◌≤◌, ◌∙◌, length, sym, ap, arith, map}
 use Rattle.std.proofs.lemmas.List.{length-map, with_items_is}
 use Rattle.ic_unsafe_ref.specs.Places.{index_of}
-use Rattle.ic_link_ops.specs.Entries.{entries}
+use Rattle.ic_link_ops.specs.DoublyEntries.{entries}
 use Rattle.ic_world.specs.Tables.{table, Grown, IsWhole}
 use Rattle.ic_world.proofs.Growth.{grown_whole, grown_family, still_covered, placed_whole}
 use Rattle.ic_world.proofs.Steps.{from_ok}

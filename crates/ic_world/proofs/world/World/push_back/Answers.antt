@@ -1,7 +1,7 @@
 use Rattle.std.proofs.Common.{◌∙◌, sym, arith, map, Some}
 use Rattle.std.proofs.lemmas.List.{length-map, map-set}
 use Rattle.ic_unsafe_ref.specs.Places.{index_of}
-use Rattle.ic_link_ops.specs.Entries.{entries}
+use Rattle.ic_link_ops.specs.DoublyEntries.{entries}
 use Rattle.ic_world.specs.Tables.{sequence, HasObject}
 use Rattle.ic_world.proofs.Readings.{found, found_at, set_back}
 use Rattle.ic_world.proofs.Steps.{from_ok, from_err, from_if_err}

@@ -1,6 +1,6 @@
 use Rattle.std.proofs.Common.{arith, map}
 use Rattle.std.proofs.lemmas.List.{length-map}
-use Rattle.ic_link_ops.specs.Entries.{entries}
+use Rattle.ic_link_ops.specs.DoublyEntries.{entries}
 use Rattle.ic_world.specs.Tables.{sequence}
 use Rattle.ic_world.proofs.Readings.{found, found_at}
 use Rattle.ic_world.proofs.Calls.{show_done}

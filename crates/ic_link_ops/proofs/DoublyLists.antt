@@ -1,0 +1,97 @@
+-- Doubly linked lists: their setters turn, what their entries tell, and their walks.
+use Rattle.std.proofs.Common.{◌≡◌, ◌≢◌, ◌≤◌, Option, Some, None, List, [], ◌∷◌, ◌++◌, reverse, length, Bool, true, sym, ◌∙◌, ap}
+use Rattle.ic_unsafe_ref.specs.declared.place.Place.{Place}
+use Rattle.ic_link_ops.specs.Tables.{Table, IsCovered, ChangesOnly}
+use Rattle.ic_link_ops.specs.Chains.{Ends}
+use Rattle.ic_link_ops.specs.Turns.{TurnsBehind, TurnsBefore}
+use Rattle.ic_link_ops.specs.Walk.{walked}
+use Rattle.ic_link_ops.specs.LinkedList.{Neighbors, neighbors_at, IsBetween, Shows, next_of, between, members, IsWalk}
+use Rattle.ic_link_ops.proofs.Turning.{turns_behind, turns_before}
+use Rattle.ic_link_ops.proofs.Walks.{walk_blind, stretch_walked, stretch_length, stretch_one, stretch_more, stretch_less, stretch_none, stretch_empty, stretch_empty_back, stretch_of, stretch_mirrored, stretch_first, stretch_last}
+
+module _ {E : Type 0} {n : E → Neighbors} where
+  -- EACH SETTER gives a turn, whatever stood there
+  pub next_turns : {old new : Table E} {p : Place} {to : Option Place} (from : Option Place) → ChangesOnly old new p
+      → neighbors_at n new p ≡ record (neighbors_at n old p) { next = to } → TurnsBehind (IsBetween n) old.entry new.entry (Some p) from to
+  next_turns from frame set =
+      turns_behind frame (λ a h. record { linked = ap (λ x. x.linked) set ∙ h.linked; prev = ap (λ x. x.prev) set ∙ h.prev; next = ap (λ x. x.next) set })
+
+  pub prev_turns : {old new : Table E} {p : Place} {to : Option Place} (from : Option Place) → ChangesOnly old new p
+      → neighbors_at n new p ≡ record (neighbors_at n old p) { prev = to } → TurnsBefore (IsBetween n) old.entry new.entry (Some p) from to
+  prev_turns from frame set =
+      turns_before frame (λ b h. record { linked = ap (λ x. x.linked) set ∙ h.linked; prev = ap (λ x. x.prev) set; next = ap (λ x. x.next) set ∙ h.next })
+
+  -- an entry and what stands before it tell what stands behind
+  pub between_one : (e : E) (a b c : Option Place) → IsBetween n e a b → IsBetween n e a c → b ≡ c
+  between_one e a b c h k = sym h.next ∙ k.next
+
+  -- its place is linked, as the table says too
+  pub between_linked : {linked : E → Bool} → ((e : E) → (n e).linked ≡ linked e) → (e : E) (b a : Option Place) → IsBetween n e b a → linked e ≡ true
+  between_linked alike e b a h = sym (alike e) ∙ h.linked
+
+  -- a walk is no longer than what the table covers
+  pub walk_length : (t : Table E) → ((q : Place) → (n (t.entry q)).linked ≡ true → IsCovered t q)
+      → (from to : Option Place) (w : List Place) → IsWalk n t.entry from to w → length w ≤ t.covers
+  walk_length t covered from to w k = stretch_length t (λ q b a h. covered q h.linked) k.part
+
+  -- the walk gives what stands between its ends
+  pub walk_shown : (t : Table E) → ((q : Place) → (n (t.entry q)).linked ≡ true → IsCovered t q)
+      → (from to : Option Place) (w : List Place) → IsWalk n t.entry from to w → between n t from to ≡ w
+  walk_shown t covered from to w k =
+      walk_blind (λ e. (n e).next) t.entry t.covers None k.before from to
+      ∙ stretch_walked (next_of n) (λ e a b h. h.next) t (λ q b a h. covered q h.linked) k.part
+
+  -- a walk whose ends are one has one member
+  pub walk_last : (t : Place → E) (p : Place) (w : List Place) → IsWalk n t (Some p) (Some p) w → w ≡ p ∷ []
+  walk_last t p w k = stretch_one k.part
+
+  -- another one goes on behind its first member
+  pub walk_more : (t : Place → E) (p : Place) (to : Option Place) (w : List Place) → IsWalk n t (Some p) to w → to ≢ Some p
+      → (r : List Place) × (w ≡ p ∷ r) × IsWalk n t ((n (t p)).next) to r
+  walk_more t p to w k apart =
+      let more = stretch_more (next_of n) (λ e a b h. h.next) k.part apart in
+      (more.0, more.1, record { before = Some p; behind = k.behind; part = more.2 })
+
+  -- and, from the back, before its last
+  pub walk_less : (t : Place → E) (from : Option Place) (p : Place) (w : List Place) → IsWalk n t from (Some p) w → from ≢ Some p
+      → (r : List Place) × (w ≡ r ++ p ∷ []) × IsWalk n t from ((n (t p)).prev) r
+  walk_less t from p w k apart =
+      let less = stretch_less (λ e behind. (n e).prev) (λ e a b h. h.prev) k.part apart in
+      (less.0, less.1, record { before = k.before; behind = Some p; part = less.2 })
+
+  -- the first of a walk is linked, and the last
+  pub walk_linked : (t : Place → E) (p : Place) (to : Option Place) (w : List Place) → IsWalk n t (Some p) to w → (n (t p)).linked ≡ true
+  walk_linked t p to w k = (stretch_first k.part).linked
+
+  pub walk_back_linked : (t : Place → E) (from : Option Place) (p : Place) (w : List Place) → IsWalk n t from (Some p) w → (n (t p)).linked ≡ true
+  walk_back_linked t from p w k = (stretch_last k.part).linked
+
+  -- a walk with no first member, or no last, has none
+  pub walk_none : (t : Place → E) → IsWalk n t None None []
+  walk_none t = record { before = None; behind = None; part = stretch_none }
+
+  pub walk_empty : (t : Place → E) (from to : Option Place) (w : List Place) → from ≡ None → IsWalk n t from to w → w ≡ []
+  walk_empty t from to w e k = stretch_empty e k.part
+
+  pub walk_empty_back : (t : Place → E) (from to : Option Place) (w : List Place) → to ≡ None → IsWalk n t from to w → w ≡ []
+  walk_empty_back t from to w e k = stretch_empty_back e k.part
+
+  -- a list's members are a walk
+  pub walk_of : (t : Table E) {list : Ends} {s : List Place} → Shows n t list s → IsWalk n t.entry list.head list.tail s
+  walk_of t h = record { before = None; behind = None; part = stretch_of h }
+
+  -- THE MEMBERS of a list are the one sequence that the table shows for it
+  pub members_shown : (t : Table E) → ((q : Place) → (n (t.entry q)).linked ≡ true → IsCovered t q)
+      → (list : Ends) (s : List Place) → Shows n t list s → members n t list ≡ s
+  members_shown t covered list s shown = walk_shown t covered list.head list.tail s (walk_of t shown)
+
+  -- and they are no more than what the table covers
+  pub shown_length : (t : Table E) → ((q : Place) → (n (t.entry q)).linked ≡ true → IsCovered t q)
+      → (list : Ends) (s : List Place) → Shows n t list s → length s ≤ t.covers
+  shown_length t covered list s shown = walk_length t covered list.head list.tail s (walk_of t shown)
+
+  -- from the back they are read turned round
+  pub members_back : (t : Table E) → ((q : Place) → (n (t.entry q)).linked ≡ true → IsCovered t q)
+      → (list : Ends) (s : List Place) → Shows n t list s → walked (λ e behind. (n e).prev) t None list.tail list.head ≡ reverse s
+  members_back t covered list s shown =
+      stretch_walked (λ e behind. (n e).prev) (λ e a b h. h.prev) t (λ q b a h. covered q h.linked) (stretch_mirrored (stretch_of shown))

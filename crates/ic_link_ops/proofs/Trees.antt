@@ -1,0 +1,185 @@
+-- Trees in a table: their members, what a setter makes of them, and that below a root there is one tree at most.
+use Rattle.std.proofs.Common.{◌≡◌, ◌≢◌, ◌<◌, Option, Some, None, List, [], ◌∷◌, ◌++◌, true, false, refl, sym, ap, ◌∙◌, subst}
+use Rattle.std.specs.List.{AllByRecursion}
+use Rattle.ic_unsafe_ref.specs.declared.place.Place.{Place}
+use Rattle.ic_unsafe_ref.specs.Places.{index_of}
+use Rattle.ic_link_ops.specs.declared.color.Color.{Color}
+use Rattle.ic_link_ops.specs.Sequences.{IsAbsent, first_or, first}
+use Rattle.ic_link_ops.specs.Tables.{Table, IsCovered}
+use Rattle.ic_link_ops.specs.Trees.{Tree, leaf, fork, top, in_order}
+use Rattle.ic_link_ops.specs.RedBlackTree.{Node, IsAt, IsTree}
+use Rattle.ic_link_ops.proofs.SequenceLemmas.{absent_left, absent_right, absent_both, first_or-append, none_not, some_same}
+
+-- a place that is no member is not the root
+pub top_not : (t : Tree) (q : Place) → IsAbsent q (in_order t) → top t ≢ Some q
+top_not leaf q out e = none_not q e
+top_not (fork c a p b) q out e = (absent_right q (in_order a) (p ∷ in_order b) out).0 (sym (some_same e))
+
+-- what is absent from a tree is not its root, and absent from both parts
+pub absent_parts : (c : Color) (a : Tree) (p : Place) (b : Tree) (q : Place) → IsAbsent q (in_order (fork c a p b))
+    → (q ≢ p) × IsAbsent q (in_order a) × IsAbsent q (in_order b)
+absent_parts c a p b q out =
+    let k = absent_right q (in_order a) (p ∷ in_order b) out in (k.0, absent_left q (in_order a) (p ∷ in_order b) out, k.1)
+
+-- what holds of the members of both parts holds of all
+all_both : (P : Place → Type 0) (s t : List Place) → AllByRecursion P s → AllByRecursion P t → AllByRecursion P (s ++ t)
+all_both P [] t h k = k
+all_both P (x ∷ s) t h k = (h.0, all_both P s t h.1 k)
+
+-- a sequence with a member has a first one
+some_first : (s : List Place) (p : Place) (t : List Place) → (x : Place) × (first (s ++ p ∷ t) ≡ Some x)
+some_first [] p t = (p, refl)
+some_first (x ∷ s) p t = (x, refl)
+
+-- a linked place with these readings
+abbrev member : Color → Option Place → Option Place → Option Place → Node
+member c a b up = record { linked = true; left = a; right = b; parent = up; color = c }
+
+module _ {E : Type 0} {n : E → Node} {entry : Place → E} {p : Place} {c : Color} {a b up : Option Place} where
+  -- A SETTER: an entry that reads as f makes it of what p read
+  at_set : (f : Node → Node) (e : Node) → e ≡ f (n (entry p)) → IsAt n entry p c a b up → e ≡ f (member c a b up)
+  at_set f e set h = set ∙ ap f (λ k. record { linked = h.linked k; left = h.left k; right = h.right k; parent = h.parent k; color = h.color k })
+
+  at_is : n (entry p) ≡ member c a b up → IsAt n entry p c a b up
+  at_is e = record {
+    linked = ap (λ x. x.linked) e;
+    left = ap (λ x. x.left) e;
+    right = ap (λ x. x.right) e;
+    parent = ap (λ x. x.parent) e;
+    color = ap (λ x. x.color) e;
+  }
+
+module _ {E : Type 0} {n : E → Node} {old new : Place → E} {p : Place} {c : Color} {a b up : Option Place} where
+  -- so each setter changes its own reading, and none is changed where the entry reads the same
+  pub at_same : n (new p) ≡ n (old p) → IsAt n old p c a b up → IsAt n new p c a b up
+  at_same same h = at_is (at_set (λ e. e) (n (new p)) same h)
+
+  pub at_left : (x : Option Place) → n (new p) ≡ record (n (old p)) { left = x } → IsAt n old p c a b up → IsAt n new p c x b up
+  at_left x set h = at_is (at_set (λ e. record e { left = x }) (n (new p)) set h)
+
+  pub at_right : (x : Option Place) → n (new p) ≡ record (n (old p)) { right = x } → IsAt n old p c a b up → IsAt n new p c a x up
+  at_right x set h = at_is (at_set (λ e. record e { right = x }) (n (new p)) set h)
+
+  pub at_parent : (x : Option Place) → n (new p) ≡ record (n (old p)) { parent = x } → IsAt n old p c a b up → IsAt n new p c a b x
+  at_parent x set h = at_is (at_set (λ e. record e { parent = x }) (n (new p)) set h)
+
+  pub at_color : (x : Color) → n (new p) ≡ record (n (old p)) { color = x } → IsAt n old p c a b up → IsAt n new p x a b up
+  at_color x set h = at_is (at_set (λ e. record e { color = x }) (n (new p)) set h)
+
+module _ {E : Type 0} (n : E → Node) where
+  -- a linked place, whatever it reads
+  pub at_loose : (entry : Place → E) (p : Place) → (n (entry p)).linked ≡ true
+      → IsAt n entry p (n (entry p)).color (n (entry p)).left (n (entry p)).right (n (entry p)).parent
+  at_loose entry p h = record { linked = h; left = refl; right = refl; parent = refl; color = refl }
+
+  -- a tree depends on the entries of its members alone
+  pub tree_kept : (old new : Place → E) (up : Option Place) (t : Tree)
+      → ((q : Place) → (IsAbsent q (in_order t) → ⊥) → new q ≡ old q) → IsTree n old up t → IsTree n new up t
+  tree_kept old new up leaf same h = tt
+  tree_kept old new up (fork c a p b) same h = (
+    at_same (ap n (same p (λ k. (absent_parts c a p b p k).0 refl))) h.0,
+    tree_kept old new (Some p) a (λ q m. same q (λ k. m (absent_parts c a p b q k).1)) h.1,
+    tree_kept old new (Some p) b (λ q m. same q (λ k. m (absent_parts c a p b q k).2)) h.2,
+  )
+
+  -- a tree in which p does not stand stays where p alone changes
+  pub tree_beside : (old new : Place → E) (p : Place) (up : Option Place) (t : Tree)
+      → IsAbsent p (in_order t) → ((q : Place) → q ≢ p → new q ≡ old q) → IsTree n old up t → IsTree n new up t
+  tree_beside old new p up t out same h = tree_kept old new up t (λ q m. same q (λ e. m (rw e out))) h
+
+  -- where its root p alone changes, a tree is what p makes of its subtrees
+  pub tree_top : (old new : Place → E) (x : Option Place) (c : Color) (a : Tree) (p : Place) (b : Tree)
+      → IsAbsent p (in_order a) → IsAbsent p (in_order b) → ((q : Place) → q ≢ p → new q ≡ old q)
+      → IsAt n new p c (top a) (top b) x → IsTree n old (Some p) a → IsTree n old (Some p) b → IsTree n new x (fork c a p b)
+  tree_top old new x c a p b out_a out_b same at ha hb =
+      (at, tree_beside old new p (Some p) a out_a same ha, tree_beside old new p (Some p) b out_b same hb)
+
+  -- so a tree whose root is given another parent stands below that one
+  pub tree_adopted : (old new : Place → E) (up x : Option Place) (c : Color) (a : Tree) (p : Place) (b : Tree)
+      → IsAbsent p (in_order a) → IsAbsent p (in_order b) → ((q : Place) → q ≢ p → new q ≡ old q)
+      → n (new p) ≡ record (n (old p)) { parent = x } → IsTree n old up (fork c a p b) → IsTree n new x (fork c a p b)
+  tree_adopted old new up x c a p b out_a out_b same set h = tree_top old new x c a p b out_a out_b same (at_parent x set h.0) h.1 h.2
+
+  -- what is not linked is no member
+  pub tree_absent : (entry : Place → E) (up : Option Place) (t : Tree) (q : Place)
+      → IsTree n entry up t → (n (entry q)).linked ≡ false → IsAbsent q (in_order t)
+  tree_absent entry up leaf q h free = tt
+  tree_absent entry up (fork c a p b) q h free =
+      absent_both q (in_order a) (p ∷ in_order b) (tree_absent entry (Some p) a q h.1 free)
+      ((λ e. let k : (n (entry q)).linked ≡ true = rw e h.0.linked in cc), tree_absent entry (Some p) b q h.2 free)
+
+  -- the root has the parent that the tree stands below
+  pub top_parent : (entry : Place → E) (up : Option Place) (t : Tree) (q : Place) → IsTree n entry up t → top t ≡ Some q → (n (entry q)).parent ≡ up
+  top_parent entry up leaf q h e = absurd (none_not q e)
+  top_parent entry up (fork c a p b) q h e = rw (← some_same e) h.0.parent
+
+  -- r is no member, and `read` gives children and parents: then a place that reads r is no member either
+  pub read_absent : (entry : Place → E) (read : Node → Option Place) (r : Place)
+      → ((p : Place) (c : Color) (a b up : Option Place) → IsAt n entry p c a b up → a ≢ Some r → b ≢ Some r → up ≢ Some r → read (n (entry p)) ≢ Some r)
+      → (up : Option Place) (t : Tree) → IsTree n entry up t → up ≢ Some r → IsAbsent r (in_order t)
+      → (q : Place) → read (n (entry q)) ≡ Some r → IsAbsent q (in_order t)
+  read_absent entry read r not up leaf h above out q e = tt
+  read_absent entry read r not up (fork c a p b) h above out q e =
+      let k = absent_parts c a p b r out in
+      let below : Some p ≢ Some r = λ i. k.0 (sym (some_same i)) in
+      absent_both q (in_order a) (p ∷ in_order b) (read_absent entry read r not (Some p) a h.1 below k.1 q e) (
+        (λ i. not p c (top a) (top b) up h.0 (top_not a r k.1) (top_not b r k.2) above (rw i at e)),
+        read_absent entry read r not (Some p) b h.2 below k.2 q e,
+      )
+
+  -- A TABLE HAS AT MOST ONE TREE below a root
+  pub one_tree : (entry : Place → E) (up : Option Place) (t t' : Tree) → IsTree n entry up t → IsTree n entry up t' → top t ≡ top t' → t ≡ t'
+  one_tree entry up leaf leaf h h' e = refl
+  one_tree entry up leaf (fork c a p b) h h' e = absurd (none_not p e)
+  one_tree entry up (fork c a p b) leaf h h' e = absurd (none_not p (sym e))
+  one_tree entry up (fork c a p b) (fork c' a' p' b') h h' e =
+      let same : p' ≡ p = sym (some_same e) in
+      let at : IsAt n entry p c' (top a') (top b') up = subst (λ (x : Place). IsAt n entry x c' (top a') (top b') up) same h'.0 in
+      let color : c ≡ c' = sym h.0.color ∙ at.color in
+      let left : a ≡ a' = one_tree entry (Some p) a a' h.1 (subst (λ (x : Place). IsTree n entry (Some x) a') same h'.1) (sym h.0.left ∙ at.left) in
+      let right : b ≡ b' = one_tree entry (Some p) b b' h.2 (subst (λ (x : Place). IsTree n entry (Some x) b') same h'.2) (sym h.0.right ∙ at.right) in
+      cc
+
+  -- its members are covered if what is linked is
+  pub tree_covered : (t : Table E) → ((q : Place) → (n (t.entry q)).linked ≡ true → IsCovered t q) → (up : Option Place) (tree : Tree)
+      → IsTree n t.entry up tree → AllByRecursion (λ q. index_of q < t.covers) (in_order tree)
+  tree_covered t law up leaf h = tt
+  tree_covered t law up (fork c a p b) h =
+      all_both (λ q. index_of q < t.covers) (in_order a) (p ∷ in_order b) (tree_covered t law (Some p) a h.1)
+      (law p h.0.linked, tree_covered t law (Some p) b h.2)
+
+-- the parents from p upwards end at the root r
+pub data LeadsUp {E : Type 0} (n : E → Node) (entry : Place → E) : Place → Place → Type 0 where
+  at_root : {p : Place} → (n (entry p)).parent ≡ None → LeadsUp n entry p p
+  step : {p q r : Place} → (n (entry p)).parent ≡ Some q → LeadsUp n entry q r → LeadsUp n entry p r
+
+module _ {E : Type 0} (n : E → Node) (entry : Place → E) where
+  -- they end at one root
+  pub one_root : {p r r' : Place} → LeadsUp n entry p r → LeadsUp n entry p r' → r ≡ r'
+  one_root (at_root e) (at_root k) = refl
+  one_root (at_root e) (step {q = q} k h) = absurd (none_not q (sym e ∙ k))
+  one_root (step {q = q} e h) (at_root k) = absurd (none_not q (sym k ∙ e))
+  one_root {r' = r'} (step e h) (step k i) = one_root h (subst (λ (z : Place). LeadsUp n entry z r') (some_same (sym k ∙ e)) i)
+
+  -- from the first member of a tree they lead through its root
+  pub first_leads : (u : Place) (t : Tree) (x r : Place) → IsTree n entry (Some u) t → LeadsUp n entry u r
+      → first_or (in_order t) (Some u) ≡ Some x → LeadsUp n entry x r
+  first_leads u leaf x r h up e = subst (λ (z : Place). LeadsUp n entry z r) (some_same e) up
+  first_leads u (fork c a p b) x r h up e =
+      first_leads p a x r h.1 (step h.0.parent up) (sym (first_or-append (in_order a) (p ∷ in_order b) (Some u)) ∙ e)
+
+  -- so there is one first member for one root
+  pub leads_root : (t : Tree) (x r : Place) → IsTree n entry None t → top t ≡ Some r → first_or (in_order t) None ≡ Some x → LeadsUp n entry x r
+  leads_root leaf x r h e k = absurd (none_not r e)
+  leads_root (fork c a p b) x r h e k =
+      let root : LeadsUp n entry p r = subst (λ (z : Place). LeadsUp n entry p z) (some_same e) (at_root h.0.parent) in
+      first_leads p a x r h.1 root (sym (first_or-append (in_order a) (p ∷ in_order b) None) ∙ k)
+
+  -- trees without a parent that begin with one member have one root
+  pub same_root : (t t' : Tree) → IsTree n entry None t → IsTree n entry None t' → first (in_order t) ≡ first (in_order t') → top t ≡ top t'
+  same_root leaf leaf h h' e = refl
+  same_root leaf (fork c a p b) h h' e = let x = some_first (in_order a) p (in_order b) in absurd (none_not x.0 (e ∙ x.1))
+  same_root (fork c a p b) leaf h h' e = let x = some_first (in_order a) p (in_order b) in absurd (none_not x.0 (sym e ∙ x.1))
+  same_root (fork c a p b) (fork c' a' p' b') h h' e =
+      let x = some_first (in_order a) p (in_order b) in
+      ap Some (one_root (leads_root (fork c a p b) x.0 p h refl x.1) (leads_root (fork c' a' p' b') x.0 p' h' refl (sym e ∙ x.1)))

@@ -1,0 +1,29 @@
+-- A change at one place, as a turn there.
+use Rattle.std.proofs.Common.{◌≡◌, Option, Some, None, refl, sym, ap}
+use Rattle.ic_unsafe_ref.specs.declared.place.Place.{Place}
+use Rattle.ic_link_ops.specs.Tables.{Table, ChangesOnly}
+use Rattle.ic_link_ops.specs.Turns.{TurnsBehind, TurnsBefore}
+use Rattle.ic_link_ops.proofs.SequenceLemmas.{some_same, none_not}
+
+module _ {E : Type 0} {between : E → Option Place → Option Place → Type 0} where
+  -- a change at p that gives it another neighbour on one side is a turn there
+  pub turns_behind : {old new : Table E} {p : Place} {from to : Option Place} → ChangesOnly old new p
+      → ((a : Option Place) → between (old.entry p) a from → between (new.entry p) a to) → TurnsBehind between old.entry new.entry (Some p) from to
+  turns_behind {old} {new} {p} {from} {to} frame turn = record {
+    turned = λ q a e h. let k : p ≡ q = some_same e in rw (← k) (turn a (rw (← k) at h));
+    others = λ q apart. frame.others q (λ e. apart (ap Some (sym e)));
+  }
+
+  pub turns_before : {old new : Table E} {p : Place} {from to : Option Place} → ChangesOnly old new p
+      → ((b : Option Place) → between (old.entry p) from b → between (new.entry p) to b) → TurnsBefore between old.entry new.entry (Some p) from to
+  turns_before {old} {new} {p} {from} {to} frame turn = record {
+    turned = λ q b e h. let k : p ≡ q = some_same e in rw (← k) (turn b (rw (← k) at h));
+    others = λ q apart. frame.others q (λ e. apart (ap Some (sym e)));
+  }
+
+  -- where there is no place, nothing has to be written
+  pub none_behind : {t : Place → E} {from to : Option Place} → TurnsBehind between t t None from to
+  none_behind = record { turned = λ q a e h. absurd (none_not q e); others = λ q apart. refl }
+
+  pub none_before : {t : Place → E} {from to : Option Place} → TurnsBefore between t t None from to
+  none_before = record { turned = λ q b e h. absurd (none_not q e); others = λ q apart. refl }

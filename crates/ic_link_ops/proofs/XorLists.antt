@@ -1,0 +1,69 @@
+-- XOR linked lists: their setter turns, what their entries tell, and their walks.
+use Rattle.std.proofs.Common.{◌≡◌, ◌≤◌, Option, Some, List, reverse, length, Bool, true, ◌∙◌}
+use Rattle.ic_unsafe_ref.specs.declared.place.Place.{Place}
+use Rattle.ic_link_ops.specs.Tables.{Table, IsCovered, ChangesOnly}
+use Rattle.ic_link_ops.specs.Chains.{Ends, IsStretch}
+use Rattle.ic_link_ops.specs.Walk.{walked}
+use Rattle.ic_link_ops.specs.Turns.{TurnsBehind, TurnsBefore}
+use Rattle.ic_link_ops.specs.XorLinkedList.{IsJoined, Shows, members}
+use Rattle.ic_link_ops.proofs.Turning.{turns_behind, turns_before}
+use Rattle.ic_link_ops.proofs.Walks.{stretch_of, stretch_mirrored, stretch_length, stretch_walked}
+
+module _ {E : Type 0} {linked : E → Bool} {joins : E → Option Place → Option Place → Type 0} where
+  -- A REPLACEMENT gives a turn on either side
+  pub replaced_before : {old new : Table E} {p : Place} {from to : Option Place} → ChangesOnly old new p → linked (new.entry p) ≡ linked (old.entry p)
+      → ((x : Option Place) → joins (old.entry p) from x → joins (new.entry p) to x) → TurnsBefore (IsJoined linked joins) old.entry new.entry (Some p) from to
+  replaced_before frame kept turn = turns_before frame (λ b h. record { linked = kept ∙ h.linked; joined = turn b h.joined })
+
+  pub replaced_behind : ((e : E) (a b : Option Place) → joins e a b → joins e b a)
+      → {old new : Table E} {p : Place} {from to : Option Place} → ChangesOnly old new p → linked (new.entry p) ≡ linked (old.entry p)
+      → ((x : Option Place) → joins (old.entry p) from x → joins (new.entry p) to x) → TurnsBehind (IsJoined linked joins) old.entry new.entry (Some p) from to
+  replaced_behind symmetric {old} {new} {p} {from} {to} frame kept turn =
+      turns_behind frame (λ a h. record { linked = kept ∙ h.linked; joined = symmetric (new.entry p) to a (turn a (symmetric (old.entry p) a from h.joined)) })
+
+  -- what the laws of `joins` say of linked places
+  pub joined_symmetric : ((e : E) (a b : Option Place) → joins e a b → joins e b a)
+      → (e : E) (a b : Option Place) → IsJoined linked joins e a b → IsJoined linked joins e b a
+  joined_symmetric symmetric e a b h = record { linked = h.linked; joined = symmetric e a b h.joined }
+
+  pub joined_one : ((e : E) (a b c : Option Place) → joins e a b → joins e a c → b ≡ c)
+      → (e : E) (a b c : Option Place) → IsJoined linked joins e a b → IsJoined linked joins e a c → b ≡ c
+  joined_one one e a b c h k = one e a b c h.joined k.joined
+
+  pub joined_linked : (e : E) (b a : Option Place) → IsJoined linked joins e b a → linked e ≡ true
+  joined_linked e b a h = h.linked
+
+  -- a part of a chain is no longer than what the table covers
+  pub part_length : (t : Table E) → ((q : Place) → linked (t.entry q) ≡ true → IsCovered t q)
+      → {before front back behind : Option Place} {w : List Place} → IsStretch (IsJoined linked joins) t.entry before front back behind w → length w ≤ t.covers
+  part_length t covered k = stretch_length t (λ q b a h. covered q h.linked) k
+
+  pub shown_length : (t : Table E) → ((q : Place) → linked (t.entry q) ≡ true → IsCovered t q)
+      → {list : Ends} {s : List Place} → Shows linked joins t list s → length s ≤ t.covers
+  shown_length t covered shown = part_length t covered (stretch_of shown)
+
+  -- `law`: other gives the other neighbour of the one told, so it is the step of a walk from either end
+  module _ (other : E → Option Place → Option Place) (law : (e : E) (a b : Option Place) → joins e a b → other e a ≡ b) where
+    pub joined_step : (e : E) (b a : Option Place) → IsJoined linked joins e b a → other e b ≡ a
+    joined_step e b a h = law e b a h.joined
+
+    pub joined_step_back : ((e : E) (a b : Option Place) → joins e a b → joins e b a) → (e : E) (b a : Option Place) → IsJoined linked joins e a b → other e b ≡ a
+    joined_step_back symmetric e b a h = law e b a (symmetric e a b h.joined)
+
+    -- the walk gives a part of a chain
+    pub part_walked : (t : Table E) → ((q : Place) → linked (t.entry q) ≡ true → IsCovered t q)
+        → {before front back behind : Option Place} {w : List Place} → IsStretch (IsJoined linked joins) t.entry before front back behind w
+        → walked other t before front back ≡ w
+    part_walked t covered k = stretch_walked other joined_step t (λ q b a h. covered q h.linked) k
+
+    -- and so the members of a list
+    pub members_shown : (t : Table E) → ((q : Place) → linked (t.entry q) ≡ true → IsCovered t q)
+        → (list : Ends) (s : List Place) → Shows linked joins t list s → members other t list ≡ s
+    members_shown t covered list s shown = part_walked t covered (stretch_of shown)
+
+    -- of a symmetric relation the same walk leads back
+    pub part_walked_back : ((e : E) (a b : Option Place) → joins e a b → joins e b a) → (t : Table E) → ((q : Place) → linked (t.entry q) ≡ true → IsCovered t q)
+        → {before front back behind : Option Place} {w : List Place} → IsStretch (IsJoined linked joins) t.entry before front back behind w
+        → walked other t behind back front ≡ reverse w
+    part_walked_back symmetric t covered k =
+        stretch_walked other (joined_step_back symmetric) t (λ q b a h. covered q h.linked) (stretch_mirrored k)

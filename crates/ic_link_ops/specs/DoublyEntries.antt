@@ -1,0 +1,49 @@
+-- The links of the table of doubly links.
+use Rattle.std.specs.Prelude.{◌≡◌, ℕ, ◌<◌, List, length, slice_index_or, Bool, true, refl}
+use Rattle.ic_unsafe_ref.specs.declared.place.Place.{Place}
+use Rattle.ic_link_ops.specs.declared.link.Link.{Link}
+use Rattle.ic_link_ops.specs.declared.linked_list.TwoWords.{TwoWords}
+use Rattle.ic_link_ops.specs.declared.table.PlainTable.{PlainTable}
+use Rattle.ic_link_ops.specs.Tables.{Table}
+use Rattle.ic_link_ops.specs.LinkedList.{Neighbors}
+use Rattle.ic_link_ops.specs.Links.{link_of}
+use Rattle.ic_link_ops.specs.TwoWords.{no_words, has_words, next_word_of, prev_of}
+use Rattle.ic_link_ops.specs.Readings as readings
+use Rattle.ic_link_ops.specs.EntryLaws as laws
+use Rattle.ic_link_ops.specs.PlainTables as plain
+
+-- a link with two words
+abbrev pub DoublyLink : Type 0
+DoublyLink = Link TwoWords
+
+-- a table of links with two words
+abbrev pub DoublyLinkOps : Type 0 → Type 0
+DoublyLinkOps A = PlainTable TwoWords A
+
+-- the link of an unlinked place
+abbrev pub unlinked : DoublyLink
+unlinked = link_of no_words
+
+-- whether a link is that of a linked place
+abbrev pub is_linked : DoublyLink → Bool
+is_linked = plain.linked_by has_words
+
+-- between which places a link stands
+abbrev pub neighbors_of : DoublyLink → Neighbors
+neighbors_of = readings.neighbors_of next_word_of has_words prev_of
+
+-- the links of a table, in the order of their places
+abbrev pub entries : {A : Type 0} → DoublyLinkOps A → List DoublyLink
+entries = plain.entries
+
+-- the link of a place, which is unlinked beyond the last one
+abbrev pub entry_at : List DoublyLink → Place → DoublyLink
+entry_at = plain.entry_at unlinked
+
+-- links as a table
+abbrev pub table_of : List DoublyLink → Table DoublyLink
+table_of = plain.table_of unlinked
+
+-- an index that is linked is within the table
+pub linked_in_range : (es : List DoublyLink) (i : ℕ) → is_linked (slice_index_or es i unlinked) ≡ true → i < length es
+linked_in_range = laws.linked_in_range is_linked unlinked refl

@@ -1,0 +1,9 @@
+-- What comes back from a refused replacement.
+use Rattle.ic_unsafe_ref.specs.declared.place.Place.{Place}
+use Rattle.ic_link_ops.specs.declared.errors.ReplaceError.{ReplaceError}
+use Rattle.ic_link_ops.specs.declared.errors.ReplaceError.TheVariants.{Null, AlreadyLinked}
+
+-- the object that was to be put in
+abbrev pub object_of : {T : Type 0} → ReplaceError T → Place
+object_of (Null object) = object
+object_of (AlreadyLinked object) = object

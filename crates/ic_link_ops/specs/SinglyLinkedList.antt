@@ -1,0 +1,45 @@
+-- Which sequence a table shows for a singly linked list.
+use Rattle.std.specs.Prelude.{◌≡◌, Bool, true, Option, None, List}
+use Rattle.ic_unsafe_ref.specs.declared.place.Place.{Place}
+use Rattle.ic_link_ops.specs.Sequences.{IsDistinct, first, last}
+use Rattle.ic_link_ops.specs.Tables.{Table}
+use Rattle.ic_link_ops.specs.Chains.{IsChain, IsStretch}
+use Rattle.ic_link_ops.specs.Walk.{walked}
+
+-- what an entry says: whether its place is linked, and which place stands behind it
+pub record Successor : Type 0 where
+  pub linked : Bool
+  pub next : Option Place
+
+module _ {E : Type 0} (successor : E → Successor) where
+  -- what the entry at p says
+  abbrev pub successor_at : Table E → Place → Successor
+  successor_at t p = successor (t.entry p)
+
+  -- the entry says that its place is linked, with that place behind it. It says nothing of the one before it
+  pub record IsFollowed (e : E) (before behind : Option Place) : Type 0 where
+    pub linked : (successor e).linked ≡ true
+    pub next : (successor e).next ≡ behind
+
+  -- THE TABLE SHOWS s for the list with this front, the one end that it keeps: s is a chain of distinct places from it on
+  pub record Shows (t : Table E) (front : Option Place) (s : List Place) : Type 0 where
+    pub distinct : IsDistinct s
+    pub chain : IsChain IsFollowed t.entry None s None
+    pub head : front ≡ first s
+
+  -- the table shows a sequence for the list
+  abbrev pub ShowsSome : Table E → Option Place → Type 0
+  ShowsSome t front = (s : List Place) × Shows t front s
+
+  -- the place behind, whatever stands before
+  abbrev pub next_of : E → Option Place → Option Place
+  next_of e before = (successor e).next
+
+  -- the members from a place on, and so those of the list with this front
+  abbrev pub members : Table E → Option Place → List Place
+  members t front = walked next_of t None front None
+
+  -- w is the rest of a chain, from front on
+  pub record IsWalk (entry : Place → E) (front : Option Place) (w : List Place) : Type 0 where
+    pub before : Option Place
+    pub part : IsStretch IsFollowed entry before front (last w) None w

@@ -1,0 +1,39 @@
+-- Links of three words.
+use Rattle.std.specs.Prelude.{ℕ, Bool, Option, None, List, [], ◌∷◌}
+use Rattle.ic_unsafe_ref.specs.declared.place.Place.{Place}
+use Rattle.ic_unsafe_ref.specs.Places.{place_at, word_of}
+use Rattle.ic_link_ops.specs.declared.rbtree.ThreeWords.{ThreeWords}
+use Rattle.ic_link_ops.specs.declared.link.Link.{Link}
+use Rattle.ic_link_ops.specs.Links.{words_of}
+use Rattle.ic_link_ops.specs.Words.{bits_of, none}
+use Rattle.ic_link_ops.specs.TreeWords.{unlinked, number_of}
+use Rattle.ic_link_ops.specs.RedBlackTree.{Node}
+
+-- the words of an unlinked place
+abbrev pub no_words : ThreeWords
+no_words = record { left = None; right = none; third = unlinked }
+
+-- whether the third word says that the place is linked
+abbrev pub has_link : ThreeWords → Bool
+has_link w = w.third.linked
+
+-- the place on the left, and the word on the right
+abbrev pub left_of : ThreeWords → Option Place
+left_of w = w.left
+
+abbrev pub right_word_of : ThreeWords → ℕ
+right_word_of w = bits_of w.right
+
+-- what the words say of a tree
+abbrev pub node_of : Link ThreeWords → Node
+node_of l = record {
+  linked = (words_of l).third.linked;
+  left = (words_of l).left;
+  right = place_at (bits_of (words_of l).right);
+  parent = (words_of l).third.parent;
+  color = (words_of l).third.color;
+}
+
+-- the words as numbers
+abbrev pub bits_in_order : ThreeWords → List ℕ
+bits_in_order w = word_of w.left ∷ bits_of w.right ∷ number_of w.third ∷ []

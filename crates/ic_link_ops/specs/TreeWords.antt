@@ -1,0 +1,40 @@
+-- The word of a tree link for the parent, the color and whether the place is linked.
+use Rattle.std.specs.Prelude.{ℕ, ◌+◌, ◌*◌, ◌/◌, ◌%◌, Bool, true, false, cond, nat_eq, Option, None}
+use Rattle.ic_unsafe_ref.specs.declared.place.Place.{Place}
+use Rattle.ic_unsafe_ref.specs.Places.{place_at, word_of}
+use Rattle.ic_link_ops.specs.declared.color.Color.{Color}
+use Rattle.ic_link_ops.specs.declared.color.Color.TheVariants.{Red, Black}
+
+-- what the word says
+pub record Standing : Type 0 where
+  pub linked : Bool
+  pub parent : Option Place
+  pub color : Color
+
+-- an unlinked place, and a linked one that is black and has no parent
+abbrev pub unlinked : Standing
+unlinked = record { linked = false; parent = None; color = Red }
+
+abbrev pub linked : Standing
+linked = record { linked = true; parent = None; color = Black }
+
+-- 1 for true, and for black
+abbrev pub one_if : Bool → ℕ
+one_if true = 1
+one_if false = 0
+
+abbrev pub one_if_black : Color → ℕ
+one_if_black Red = 0
+one_if_black Black = 1
+
+-- the word: 4 * (parent + 1) + 2 * linked + black, where a place's word is 2 * (index + 1)
+abbrev pub number_of : Standing → ℕ
+number_of s = 2 * word_of s.parent + 2 * one_if s.linked + one_if_black s.color
+
+-- what a word says
+abbrev pub standing_at : ℕ → Standing
+standing_at n = record {
+  linked = nat_eq (n / 2 % 2) 1;
+  parent = place_at (n / 4 * 2);
+  color = cond (nat_eq (n % 2) 0) Red Black;
+}

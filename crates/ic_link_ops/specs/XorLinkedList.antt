@@ -1,0 +1,27 @@
+-- Which sequence a table shows for an XOR linked list.
+use Rattle.std.specs.Prelude.{◌≡◌, Bool, true, Option, None, List}
+use Rattle.ic_unsafe_ref.specs.declared.place.Place.{Place}
+use Rattle.ic_link_ops.specs.Tables.{Table}
+use Rattle.ic_link_ops.specs.Chains.{Ends, ShowsBetween}
+use Rattle.ic_link_ops.specs.Walk.{walked}
+
+-- `is_linked e`: the place of e is linked. `joins e a b`: its two neighbours are a and b, none beyond an end
+module _ {E : Type 0} (is_linked : E → Bool) (joins : E → Option Place → Option Place → Type 0) where
+  -- the entry says that its place is linked, with these two neighbours
+  pub record IsJoined (e : E) (before behind : Option Place) : Type 0 where
+    pub linked : is_linked e ≡ true
+    pub joined : joins e before behind
+
+  -- THE TABLE SHOWS s for the list with these ends
+  abbrev pub Shows : Table E → Ends → List Place → Type 0
+  Shows t list s = ShowsBetween IsJoined t list s
+
+  -- the table shows a sequence for the list
+  abbrev pub ShowsSome : Table E → Ends → Type 0
+  ShowsSome t list = (s : List Place) × Shows t list s
+
+-- `other e a`: the neighbour of the place of e which is not a
+module _ {E : Type 0} (other : E → Option Place → Option Place) where
+  -- the members of a list
+  abbrev pub members : Table E → Ends → List Place
+  members t list = walked other t None list.head list.tail

@@ -1,0 +1,14 @@
+//! The colors of a red-black tree's members.
+//!
+//! ```text
+//! links.set_color(place, Color::Red);
+//! ```
+
+/// Red or black.
+#[derive(Clone, Copy, PartialEq, Eq, Debug)]
+pub enum Color {
+    /// No red member has a red child.
+    Red,
+    /// All paths from the root down to a missing child have equally many black members.
+    Black,
+}

@@ -1,0 +1,149 @@
+//! Links: what a table keeps at a place.
+//!
+//! ```text
+//! let link = links.link(place); // &Link
+//! link.is_linked() // whether its place is linked
+//! ```
+
+ghost use Rattle.std.specs.Prelude.{◌≡◌, ℕ, Bool, true, false, Option, ⊤};
+ghost use Rattle.ic_unsafe_ref.specs.declared.place.Place.{Place};
+
+use crate::word::Word;
+use ic_unsafe_ref::Place;
+use std::alloc::AllocError;
+use std::fmt;
+
+/// The words of a link: whether its place is linked, and what the traits below read.
+pub trait Words: Drop {
+    // The words of a place that no call has linked.
+    ghost unlinked: { Self };
+
+    // Whether the words are those of a linked place.
+    ghost is_linked: { Self → Bool };
+
+    /// The words of a place that no call has linked.
+    fn unlinked() -> Self
+        ensures { result ≡ unlinked };
+
+    /// Whether they are those of a linked place.
+    fn is_linked(&self) -> bool
+        ensures { result ≡ is_linked self.now };
+
+    /// Makes them those of a linked place.
+    fn link(&mut self)
+        ensures { is_linked self.new ≡ true };
+
+    /// Makes them those of an unlinked place.
+    fn unlink(&mut self)
+        ensures { is_linked self.new ≡ false };
+
+    // The law: a new link is unlinked.
+    ghost starts_unlinked: { is_linked unlinked ≡ false };
+}
+
+/// Words with one for what follows: the place of a singly or doubly linked list, or the neighbours of an XOR list.
+pub trait NextWord: Words {
+    // That word.
+    ghost next_word: { Self → ℕ };
+
+    // All else is as it was.
+    ghost KeepsOthers: { Self → Self → Type 0 };
+
+    ghost use Rattle.ic_link_ops.specs.Words.{bits_of};
+
+    /// That word. It asks that the place is linked.
+    fn next_word(&self) -> Word
+        requires linked { Self.is_linked self.now ≡ true }
+        ensures { bits_of result ≡ next_word self.now };
+
+    /// Sets that word. It asks that the place is linked.
+    fn set_next_word(&mut self, word: Word)
+        requires linked { Self.is_linked self.old ≡ true }
+        ensures set { next_word self.new ≡ bits_of word }
+        ensures linked { Self.is_linked self.new ≡ Self.is_linked self.old }
+        ensures others { KeepsOthers self.old self.new };
+}
+
+/// Words with a place before as well.
+pub trait PrevPlace: NextWord {
+    // That place, or none.
+    ghost prev: { Self → Option Place };
+
+    /// That place, or none.
+    fn prev(&self) -> Option<Place>
+        ensures { result ≡ prev self.now };
+
+    /// Sets that place.
+    fn set_prev(&mut self, place: Option<Place>)
+        ensures set { prev self.new ≡ place }
+        ensures linked { Self.is_linked self.new ≡ Self.is_linked self.old }
+        ensures next_word { Self.next_word self.new ≡ Self.next_word self.old };
+
+    // The law: it is among what a write of the next word leaves.
+    ghost keeps_prev: { (old new : Self) → Self.KeepsOthers old new → prev new ≡ prev old };
+}
+
+/// What a table keeps at a place: whether the place is linked, and the neighbours.
+///
+/// A copy of a link belongs to no place, so it is unlinked.
+#[derive(Drop)]
+pub struct Link<W> {
+    pub(crate) words: W,
+}
+
+impl<W: Words> Link<W> {
+    ghost use Rattle.ic_link_ops.specs.Links.{link_of, words_of};
+
+    /// The link of a place that no call has linked.
+    #[inline]
+    pub fn new() -> Link<W>
+        ensures { result ≡ link_of W.unlinked }
+    {
+        Link {
+            words: W::unlinked(),
+        }
+    }
+
+    /// Whether its place is linked.
+    #[inline]
+    pub fn is_linked(&self) -> bool
+        ensures { result ≡ W.is_linked (words_of self.now) }
+    {
+        self.words.is_linked()
+    }
+}
+
+impl<W: Words> Default for Link<W> {
+    ghost use Rattle.ic_link_ops.specs.Links.{link_of};
+
+    ghost is_default = { λ l. l ≡ link_of W.unlinked };
+
+    /// The link of a place that no call has linked.
+    fn default() -> Link<W> {
+        Link::new()
+    }
+}
+
+impl<W: Words> Clone for Link<W> {
+    ghost use Rattle.ic_link_ops.specs.Links.{link_of};
+
+    ghost is_clone = { λ _ copy. copy ≡ link_of W.unlinked };
+
+    ghost is_infallible = { λ _. ⊤ };
+
+    /// An unlinked link. It never fails.
+    fn clone(&self) -> Result<Self, AllocError> {
+        Ok(Link::new())
+    }
+}
+
+/// A link is printed as `linked` or `unlinked`.
+impl<W: Words> fmt::Debug for Link<W> {
+    fn fmt<F: fmt::Write>(&self, f: &mut fmt::Formatter<F>) -> fmt::Result {
+        if self.is_linked() {
+            f.write_str("linked")
+        } else {
+            f.write_str("unlinked")
+        }
+    }
+}

@@ -1,0 +1,250 @@
+//! The links of red-black trees: what a tree asks of its table, and the plain table.
+//!
+//! ```text
+//! let mut links = LinkOps::new(rt.alloc());
+//! links.cover(3)?;
+//! ```
+
+ghost use Rattle.std.specs.Prelude.{◌≡◌, ◌≢◌, Option};
+ghost use Rattle.ic_unsafe_ref.specs.declared.place.Place.{Place};
+ghost use Rattle.ic_link_ops.specs.Tables.{IsLinked, ChangesOnly};
+ghost use Rattle.ic_link_ops.specs.RedBlackTree.{Node, node_at};
+ghost use Rattle.ic_link_ops.specs.declared.color.Color.{Color};
+
+use crate::color::Color;
+use crate::end::End;
+use crate::link::{self, NextWord, PrevPlace, Words};
+use crate::link_ops;
+use crate::table::PlainTable;
+use crate::tree_word::TreeWord;
+use crate::word::Word;
+use ic_unsafe_ref::Place;
+use std::alloc::{Allocator, Global};
+
+/// A table whose entries name two children and a parent and have a color, which is what a red-black tree asks for.
+///
+/// Whether a place is linked has nothing to do with its color or its parent.
+pub trait RBTreeOps: link_ops::LinkOps {
+    // What an entry says: whether its place is linked, between which places, and in which color.
+    ghost node: { Self.Entry → Node };
+
+    /// The left child of `place`. It asks that the place is linked. O(1).
+    fn left(&self, place: Place) -> Option<Place>
+        requires linked { IsLinked Self.linked (Self.table self.now) place }
+        ensures { result ≡ (node_at node (Self.table self.now) place).left };
+
+    /// The right child of `place`. It asks that the place is linked. O(1).
+    fn right(&self, place: Place) -> Option<Place>
+        requires linked { IsLinked Self.linked (Self.table self.now) place }
+        ensures { result ≡ (node_at node (Self.table self.now) place).right };
+
+    /// The parent of `place`. It asks that the place is linked. O(1).
+    fn parent(&self, place: Place) -> Option<Place>
+        requires linked { IsLinked Self.linked (Self.table self.now) place }
+        ensures { result ≡ (node_at node (Self.table self.now) place).parent };
+
+    /// The color of `place`. It asks that the place is linked. O(1).
+    fn color(&self, place: Place) -> Color
+        requires linked { IsLinked Self.linked (Self.table self.now) place }
+        ensures { result ≡ (node_at node (Self.table self.now) place).color };
+
+    /// Sets the left child of `place`. It asks that the place is linked. O(1).
+    fn set_left(&mut self, place: Place, left: Option<Place>)
+        requires linked { IsLinked Self.linked (Self.table self.old) place }
+        ensures set { node_at node (Self.table self.new) place
+            ≡ record (node_at node (Self.table self.old) place) { left = left } }
+        ensures frame { ChangesOnly (Self.table self.old) (Self.table self.new) place }
+        ensures keeps_acquired { (first : Self) (q : Place) → Self.Acquired first self.old q
+            → Self.Acquired first self.new q };
+
+    /// Sets the right child of `place`. It asks that the place is linked. O(1).
+    fn set_right(&mut self, place: Place, right: Option<Place>)
+        requires linked { IsLinked Self.linked (Self.table self.old) place }
+        ensures set { node_at node (Self.table self.new) place
+            ≡ record (node_at node (Self.table self.old) place) { right = right } }
+        ensures frame { ChangesOnly (Self.table self.old) (Self.table self.new) place }
+        ensures keeps_acquired { (first : Self) (q : Place) → Self.Acquired first self.old q
+            → Self.Acquired first self.new q };
+
+    /// Sets the parent of `place`. It asks that the place is linked. O(1).
+    fn set_parent(&mut self, place: Place, parent: Option<Place>)
+        requires linked { IsLinked Self.linked (Self.table self.old) place }
+        ensures set { node_at node (Self.table self.new) place
+            ≡ record (node_at node (Self.table self.old) place) { parent = parent } }
+        ensures frame { ChangesOnly (Self.table self.old) (Self.table self.new) place }
+        ensures keeps_acquired { (first : Self) (q : Place) → Self.Acquired first self.old q
+            → Self.Acquired first self.new q };
+
+    /// Sets the color of `place`. It asks that the place is linked. O(1).
+    fn set_color(&mut self, place: Place, color: Color)
+        requires linked { IsLinked Self.linked (Self.table self.old) place }
+        ensures set { node_at node (Self.table self.new) place
+            ≡ record (node_at node (Self.table self.old) place) { color = color } }
+        ensures frame { ChangesOnly (Self.table self.old) (Self.table self.new) place }
+        ensures keeps_acquired { (first : Self) (q : Place) → Self.Acquired first self.old q
+            → Self.Acquired first self.new q };
+
+    // The law: both traits say alike whether a place is linked.
+    ghost linked_alike: { (e : Self.Entry) → (node e).linked ≡ Self.linked e };
+}
+
+/// The words of a tree link: the children, and one word for the parent, the color and whether the place is linked.
+///
+/// A list keeps its previous place on the left and its next one on the right; what an XOR list writes stands on the
+/// right.
+#[derive(Drop)]
+pub struct ThreeWords {
+    left: End,
+    right: Word,
+    third: TreeWord,
+}
+
+/// What the table keeps at a place: three words.
+pub type Link = link::Link<ThreeWords>;
+
+/// The plain table of tree links, three words for each place. It carries lists of all kinds as well.
+pub type LinkOps<A = Global> = PlainTable<ThreeWords, A>;
+
+impl link::Link<ThreeWords> {
+    ghost use Rattle.ic_link_ops.specs.Links.{words_of};
+    ghost use Rattle.ic_link_ops.specs.ThreeWords.{bits_in_order};
+
+    /// The three words: the numbers of the left and the right child, and
+    /// `4 * (parent + 1) + 2 * linked + black`, with 0 in place of `parent + 1` for no parent, and 1 for true.
+    ///
+    /// A child that is none has 0, and what an XOR list wrote stands on the right.
+    #[inline]
+    pub fn words(&self) -> [u64; 3]
+        ensures { result ≡ bits_in_order (words_of self.now) }
+    {
+        [
+            Place::to_word(self.words.left.get()),
+            self.words.right.bits(),
+            self.words.third.bits(),
+        ]
+    }
+}
+
+impl Words for ThreeWords {
+    ghost use Rattle.ic_link_ops.specs.ThreeWords.{no_words, has_link};
+    ghost use Rattle.std.specs.Prelude.{refl};
+
+    ghost unlinked = { no_words };
+
+    ghost is_linked = { has_link };
+
+    #[inline]
+    fn unlinked() -> Self {
+        ThreeWords {
+            left: End::of(None),
+            right: Word::none(),
+            third: TreeWord::unlinked(),
+        }
+    }
+
+    #[inline]
+    fn is_linked(&self) -> bool {
+        self.third.is_linked()
+    }
+
+    #[inline]
+    fn link(&mut self) {
+        self.third = TreeWord::linked();
+    }
+
+    #[inline]
+    fn unlink(&mut self) {
+        self.third = TreeWord::unlinked();
+    }
+
+    ghost starts_unlinked = { refl };
+}
+
+impl NextWord for ThreeWords {
+    ghost use Rattle.ic_link_ops.specs.ThreeWords.{right_word_of, left_of};
+
+    ghost next_word = { right_word_of };
+
+    ghost KeepsOthers = { λ old new. left_of new ≡ left_of old };
+
+    #[inline]
+    fn next_word(&self) -> Word {
+        self.right
+    }
+
+    #[inline]
+    fn set_next_word(&mut self, word: Word) {
+        self.right = word;
+    }
+}
+
+impl PrevPlace for ThreeWords {
+    ghost use Rattle.ic_link_ops.specs.ThreeWords.{left_of};
+
+    ghost prev = { left_of };
+
+    #[inline]
+    fn prev(&self) -> Option<Place> {
+        self.left.get()
+    }
+
+    #[inline]
+    fn set_prev(&mut self, place: Option<Place>) {
+        self.left = End::of(place);
+    }
+
+    ghost keeps_prev = { λ old new h. h };
+}
+
+impl<A: Allocator> RBTreeOps for PlainTable<ThreeWords, A> {
+    ghost use Rattle.std.specs.Prelude.{refl};
+    ghost use Rattle.ic_link_ops.specs.ThreeWords.{node_of};
+
+    ghost node = { node_of };
+
+    #[inline]
+    fn left(&self, place: Place) -> Option<Place> {
+        self.entries[place.index()].words.left.get()
+    }
+
+    #[inline]
+    fn right(&self, place: Place) -> Option<Place> {
+        self.entries[place.index()].words.right.place()
+    }
+
+    #[inline]
+    fn parent(&self, place: Place) -> Option<Place> {
+        self.entries[place.index()].words.third.parent()
+    }
+
+    #[inline]
+    fn color(&self, place: Place) -> Color {
+        self.entries[place.index()].words.third.color()
+    }
+
+    #[inline]
+    fn set_left(&mut self, place: Place, left: Option<Place>) {
+        let entry = &mut self.entries[place.index()];
+        entry.words.left = End::of(left);
+    }
+
+    #[inline]
+    fn set_right(&mut self, place: Place, right: Option<Place>) {
+        let entry = &mut self.entries[place.index()];
+        entry.words.right = Word::of(right);
+    }
+
+    #[inline]
+    fn set_parent(&mut self, place: Place, parent: Option<Place>) {
+        let entry = &mut self.entries[place.index()];
+        entry.words.third.set_parent(parent);
+    }
+
+    #[inline]
+    fn set_color(&mut self, place: Place, color: Color) {
+        let entry = &mut self.entries[place.index()];
+        entry.words.third.set_color(color);
+    }
+
+    ghost linked_alike = { λ e. refl };
+}

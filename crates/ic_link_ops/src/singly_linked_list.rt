@@ -1,0 +1,71 @@
+//! The links of singly linked lists: what a list asks of its table, and the plain table.
+//!
+//! ```text
+//! let mut links = LinkOps::new(rt.alloc());
+//! links.cover(3)?;
+//! ```
+
+ghost use Rattle.std.specs.Prelude.{◌≡◌, Option};
+ghost use Rattle.ic_unsafe_ref.specs.declared.place.Place.{Place};
+ghost use Rattle.ic_link_ops.specs.Tables.{IsLinked, ChangesOnly};
+ghost use Rattle.ic_link_ops.specs.SinglyLinkedList.{Successor, successor_at};
+
+use crate::link::{self, NextWord};
+use crate::link_ops;
+use crate::one_word::OneWord;
+use crate::table::PlainTable;
+use crate::word::Word;
+use ic_unsafe_ref::Place;
+use std::alloc::{Allocator, Global};
+
+/// A table whose entries name what stands behind, which is what a singly linked list asks for.
+pub trait SinglyLinkedListOps: link_ops::LinkOps {
+    // What an entry says: whether its place is linked, and what stands behind it.
+    ghost successor: { Self.Entry → Successor };
+
+    /// The place behind `place`. It asks that the place is linked. O(1).
+    fn next(&self, place: Place) -> Option<Place>
+        requires linked { IsLinked Self.linked (Self.table self.now) place }
+        ensures { result ≡ (successor_at successor (Self.table self.now) place).next };
+
+    /// Sets the place behind `place`. It asks that the place is linked. O(1).
+    fn set_next(&mut self, place: Place, next: Option<Place>)
+        requires linked { IsLinked Self.linked (Self.table self.old) place }
+        ensures set { successor_at successor (Self.table self.new) place
+            ≡ record (successor_at successor (Self.table self.old) place) { next = next } }
+        ensures frame { ChangesOnly (Self.table self.old) (Self.table self.new) place }
+        ensures keeps_acquired { (first : Self) (q : Place) → Self.Acquired first self.old q
+            → Self.Acquired first self.new q };
+
+    // The law: both traits say alike whether a place is linked.
+    ghost linked_alike: { (e : Self.Entry) → (successor e).linked ≡ Self.linked e };
+}
+
+/// The kind of links whose word is the number of the next place.
+pub struct Singly;
+
+/// What the table keeps at a place: one word.
+pub type Link = link::Link<OneWord<Singly>>;
+
+/// The plain table of singly links, one word for each place. It carries XOR lists as well.
+pub type LinkOps<A = Global> = PlainTable<OneWord<Singly>, A>;
+
+impl<W: NextWord, A: Allocator> SinglyLinkedListOps for PlainTable<W, A> {
+    ghost use Rattle.std.specs.Prelude.{refl};
+    ghost use Rattle.ic_link_ops.specs.Readings.{successor_of};
+
+    ghost successor = { successor_of W.next_word W.is_linked };
+
+    #[inline]
+    fn next(&self, place: Place) -> Option<Place> {
+        self.entries[place.index()].words.next_word().place()
+    }
+
+    #[inline]
+    fn set_next(&mut self, place: Place, next: Option<Place>) {
+        let entry = &mut self.entries[place.index()];
+        entry.words.set_next_word(Word::of(next));
+    }
+
+    ghost linked_alike = { λ e. refl };
+}

@@ -1,0 +1,144 @@
+//! The plain table, for every kind of links.
+//!
+//! ```text
+//! let mut links = linked_list::LinkOps::new(rt.alloc());
+//! links.cover(3)?;
+//! links.is_linked(place) // false, for each of the three places
+//! ```
+
+ghost use Rattle.std.specs.Prelude.{◌≡◌, ◌<◌, ◌≤◌, ◌↔◌, max, OnOk, OnErr, IsOk, Err};
+ghost use Rattle.ic_unsafe_ref.specs.declared.place.Place.{Place};
+ghost use Rattle.ic_link_ops.specs.Tables.{IsCovered, IsLinked, IsUnlinked, ChangesOnly};
+
+use crate::errors::CoverError;
+use crate::link::{Link, Words};
+use crate::link_ops::LinkOps;
+use ic_unsafe_ref::Place;
+use std::alloc::{Allocator, Global};
+
+/// A table with one link for each place that it covers, in one `Vec`.
+///
+/// Each kind of collection has its own by the name `LinkOps`, and a table carries every kind that its words can keep.
+#[derive(Drop)]
+pub struct PlainTable<W, A: Allocator = Global> {
+    pub(crate) entries: Vec<Link<W>, A>,
+}
+
+impl<W: Words, A: Allocator> PlainTable<W, A> {
+    ghost use Rattle.ic_link_ops.specs.PlainTables.{entries, table, linked_by};
+
+    /// A table that covers no place. It takes no memory.
+    pub fn new(alloc: A) -> PlainTable<W, A>
+        ensures { (table W.unlinked result).covers ≡ 0 }
+    {
+        PlainTable {
+            entries: Vec::new(alloc),
+        }
+    }
+
+    /// How many places are covered: those with a smaller index.
+    #[inline]
+    pub fn covers(&self) -> usize
+        ensures { result ≡ (table W.unlinked self.now).covers }
+    {
+        self.entries.len()
+    }
+
+    /// The link of `place`. It asks that the place is covered. O(1).
+    #[inline]
+    pub fn link(&self, place: Place) -> &Link<W>
+        requires covered { IsCovered (table W.unlinked self.now) place }
+        ensures { result.now ≡ (table W.unlinked self.now).entry place }
+    {
+        &self.entries[place.index()]
+    }
+
+    /// Whether `place` is linked. It asks that the place is covered. O(1).
+    #[inline]
+    pub fn is_linked(&self, place: Place) -> bool
+        requires covered { IsCovered (table W.unlinked self.now) place }
+        ensures { result ≡ linked_by W.is_linked ((table W.unlinked self.now).entry place) }
+    {
+        self.entries[place.index()].is_linked()
+    }
+
+    /// Unlinks `place`, whoever linked it. An unlinked place stays so. It asks that the place is covered. O(1).
+    ///
+    /// Every other entry stays, so each collection of which the place is no member keeps its sequence. For what
+    /// `fast_clear` leaves; a collection of which the place is a member is broken by it.
+    #[inline]
+    pub fn force_unlink(&mut self, place: Place)
+        requires covered { IsCovered (table W.unlinked self.old) place }
+        ensures unlinked { IsUnlinked (linked_by W.is_linked) (table W.unlinked self.new) place }
+        ensures frame { ChangesOnly (table W.unlinked self.old) (table W.unlinked self.new) place }
+    {
+        let entry = &mut self.entries[place.index()];
+        entry.words.unlink();
+    }
+
+    /// Covers the first `count` places, with an unlinked entry for each that is new.
+    ///
+    /// It is refused above 4,294,967,296 places, and where no memory is found; then nothing has changed. The entries
+    /// that are there stay, and where `count` is smaller than what is covered nothing changes. At most one request
+    /// for memory.
+    pub fn cover(&mut self, count: usize) -> Result<(), CoverError>
+        ensures too_many { (result ≡ Err CoverError.TooManyPlaces) ↔ 4294967296 < count }
+        ensures covers { OnOk result ((table W.unlinked self.new).covers ≡ max (table W.unlinked self.old).covers count) }
+        ensures stays { (q : Place) → (table W.unlinked self.new).entry q
+            ≡ (table W.unlinked self.old).entry q }
+        ensures enough { count ≤ (table W.unlinked self.old).covers → count ≤ 4294967296 → IsOk result }
+        ensures refused { OnErr result (entries self.new ≡ entries self.old) }
+    {
+        if count > Place::COUNT {
+            return Err(CoverError::TooManyPlaces);
+        }
+        if count <= self.entries.len() {
+            return Ok(());
+        }
+        match self.entries.resize(count, Link::new()) {
+            Ok(()) => Ok(()),
+            Err(_) => Err(CoverError::OutOfMemory),
+        }
+    }
+}
+
+impl<W: Words, A: Allocator> LinkOps for PlainTable<W, A> {
+    ghost use Rattle.ic_unsafe_ref.specs.Places.{index_of};
+    ghost use Rattle.ic_link_ops.specs.Links.{link_of};
+    ghost use Rattle.ic_link_ops.specs.PlainTables.{entries, table, linked_by};
+    ghost use Rattle.ic_link_ops.specs.EntryLaws.{linked_in_range};
+    ghost use Rattle.std.proofs.Common.{ap};
+
+    type Entry = Link<W>;
+
+    ghost table = { table W.unlinked };
+
+    ghost linked = { linked_by W.is_linked };
+
+    ghost Acquired = { λ old new p. IsUnlinked (linked_by W.is_linked) (table W.unlinked old) p
+        × IsLinked (linked_by W.is_linked) (table W.unlinked new) p };
+
+    ghost Refused = { λ old new p. IsLinked (linked_by W.is_linked) (table W.unlinked old) p × (new ≡ old) };
+
+    #[inline]
+    fn acquire_link(&mut self, place: Place) -> bool {
+        let index = place.index();
+        if self.entries[index].is_linked() {
+            return false;
+        }
+        let entry = &mut self.entries[index];
+        entry.words.link();
+        true
+    }
+
+    #[inline]
+    fn release_link(&mut self, place: Place) {
+        self.force_unlink(place);
+    }
+
+    ghost linked_is_covered = { λ t p h. linked_in_range (linked_by W.is_linked) (link_of W.unlinked) W.starts_unlinked (entries t) (index_of p) h };
+
+    ghost acquired_links = { λ old new p h. h };
+
+    ghost refused_keeps = { λ old new p h. ap (table W.unlinked) h.1 };
+}

@@ -1,0 +1,113 @@
+//! The word of a tree link for the parent, the color and whether the place is linked.
+//!
+//! ```text
+//! let mut word = TreeWord::linked(); // black, with no parent: 3
+//! word.set_color(Color::Red); // 2
+//! ```
+
+ghost use Rattle.std.specs.Prelude.{◌≡◌, Option};
+ghost use Rattle.ic_unsafe_ref.specs.declared.place.Place.{Place};
+ghost use Rattle.ic_link_ops.specs.declared.color.Color.{Color};
+ghost use Rattle.ic_link_ops.specs.TreeWords.{unlinked, linked, number_of};
+
+use crate::color::Color;
+use ic_unsafe_ref::Place;
+use std::marker::Model;
+
+/// `4 * (parent + 1) + 2 * linked + black`, with 0 in place of `parent + 1` for no parent, and 1 for true.
+///
+/// A clause sees what it says. It is linked whatever its color and its parent are.
+#[derive(Drop)]
+pub struct TreeWord {
+    bits: u64,
+}
+
+impl Model for TreeWord {
+    ghost use Rattle.std.specs.Prelude.{◌≤◌};
+    ghost use Rattle.ic_link_ops.specs.TreeWords.{Standing, standing_at};
+
+    ghost Value = { Standing };
+
+    ghost view = { λ w. standing_at w.bits };
+
+    ghost invariant = { λ w. w.bits ≤ 17179869187 };
+}
+
+impl TreeWord {
+    /// The word of an unlinked place: 0.
+    #[inline]
+    #[tactic(auto, using(crate::proofs::TreeWordLemmas::standing_at_0))]
+    pub fn unlinked() -> TreeWord
+        ensures { result ≡ unlinked }
+    {
+        TreeWord { bits: 0 }
+    }
+
+    /// The word of a linked place that is black and has no parent: 3.
+    #[inline]
+    #[tactic(auto, using(crate::proofs::TreeWordLemmas::standing_at_3))]
+    pub fn linked() -> TreeWord
+        ensures { result ≡ linked }
+    {
+        TreeWord { bits: 3 }
+    }
+
+    /// Whether its place is linked.
+    #[inline]
+    pub fn is_linked(&self) -> bool
+        ensures { result ≡ self.now.linked }
+    {
+        self.bits / 2 % 2 == 1
+    }
+
+    /// The parent.
+    #[inline]
+    pub fn parent(&self) -> Option<Place>
+        ensures { result ≡ self.now.parent }
+    {
+        Place::from_word(self.bits / 4 * 2)
+    }
+
+    /// The color.
+    #[inline]
+    pub fn color(&self) -> Color
+        ensures { result ≡ self.now.color }
+    {
+        if self.bits % 2 == 0 {
+            Color::Red
+        } else {
+            Color::Black
+        }
+    }
+
+    /// Sets the parent.
+    #[inline]
+    #[tactic(auto, using(crate::proofs::TreeWordLemmas::parent_set))]
+    pub fn set_parent(&mut self, parent: Option<Place>)
+        ensures { self.new ≡ record self.old { parent = parent } }
+    {
+        self.bits = Place::to_word(parent) * 2 + self.bits % 4;
+    }
+
+    /// Sets the color.
+    #[inline]
+    #[tactic(auto, using(crate::proofs::TreeWordLemmas::color_set))]
+    pub fn set_color(&mut self, color: Color)
+        ensures { self.new ≡ record self.old { color = color } }
+    {
+        let black = match color {
+            Color::Red => 0,
+            Color::Black => 1,
+        };
+        self.bits = self.bits / 2 * 2 + black;
+    }
+
+    /// The word as a number.
+    #[inline]
+    #[tactic(auto, using(crate::proofs::TreeWordLemmas::number_of_standing))]
+    pub fn bits(&self) -> u64
+        ensures { result ≡ number_of self.now }
+    {
+        self.bits
+    }
+}

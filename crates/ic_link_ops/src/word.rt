@@ -1,0 +1,86 @@
+//! The word of which links are made.
+//!
+//! A place is kept as its number, `2 * (index + 1)`, and no place as 0, so that each word of a linked place is even.
+//!
+//! ```text
+//! let word = Word::between(Some(first), Some(third));
+//! word.other(Some(first)) // Some(third)
+//! ```
+
+ghost use Rattle.std.specs.Prelude.{◌≡◌, ◌%◌, bit_xor};
+ghost use Rattle.ic_unsafe_ref.specs.Places.{word_of, place_at};
+
+use ic_unsafe_ref::Place;
+
+/// The number of a place, 0 for none, or the exclusive or of two of these.
+#[derive(Clone, Copy)]
+pub struct Word {
+    pub(crate) bits: u64,
+    pub ghost even: { bits % 2 ≡ 0 },
+}
+
+impl Word {
+    ghost use Rattle.ic_link_ops.specs.Words.{bits_of, none};
+
+    /// The word for no place: 0.
+    #[inline]
+    pub fn none() -> Word
+        ensures { result ≡ none }
+    {
+        Word { bits: 0 }
+    }
+
+    /// The word for a place or none.
+    #[inline]
+    pub fn of(place: Option<Place>) -> Word
+        ensures { bits_of result ≡ word_of place }
+    {
+        Word {
+            bits: Place::to_word(place),
+        }
+    }
+
+    /// The place whose number the word is, and none where it is no place's number.
+    #[inline]
+    pub fn place(self) -> Option<Place>
+        ensures { result ≡ place_at (bits_of self) }
+    {
+        Place::with_number(self.bits)
+    }
+
+    /// The word of the places on both sides: the exclusive or of their words.
+    #[inline]
+    pub fn between(prev: Option<Place>, next: Option<Place>) -> Word
+        ensures { bits_of result ≡ bit_xor (word_of prev) (word_of next) }
+    {
+        Word {
+            bits: Place::to_word(prev) ^ Place::to_word(next),
+        }
+    }
+
+    /// The place on the other side of the one that is told.
+    #[inline]
+    pub fn other(self, known: Option<Place>) -> Option<Place>
+        ensures { result ≡ place_at (bit_xor (bits_of self) (word_of known)) }
+    {
+        Place::with_number(self.bits ^ Place::to_word(known))
+    }
+
+    /// The word with the place `new` in place of `old` on one side.
+    #[inline]
+    pub fn replaced(self, old: Option<Place>, new: Option<Place>) -> Word
+        ensures { bits_of result ≡ bit_xor (bit_xor (bits_of self) (word_of old)) (word_of new) }
+    {
+        Word {
+            bits: self.bits ^ Place::to_word(old) ^ Place::to_word(new),
+        }
+    }
+
+    /// The word as a number.
+    #[inline]
+    pub fn bits(self) -> u64
+        ensures { result ≡ bits_of self }
+    {
+        self.bits
+    }
+}

@@ -1,0 +1,127 @@
+//! The links of XOR lists: what a list asks of its table, and the plain table.
+//!
+//! ```text
+//! let mut links = LinkOps::new(rt.alloc());
+//! links.cover(3)?;
+//! ```
+
+ghost use Rattle.std.specs.Prelude.{◌≡◌, Option};
+ghost use Rattle.ic_unsafe_ref.specs.declared.place.Place.{Place};
+ghost use Rattle.ic_link_ops.specs.Tables.{IsLinked, ChangesOnly};
+
+use crate::link::{self, NextWord};
+use crate::link_ops;
+use crate::one_word::OneWord;
+use crate::table::PlainTable;
+use crate::word::Word;
+use ic_unsafe_ref::Place;
+use std::alloc::{Allocator, Global};
+
+/// A table whose entries name two neighbours without telling which is which, as an XOR list asks for.
+///
+/// Only who knows one neighbour of a place can read the other.
+pub trait XorLinkedListOps: link_ops::LinkOps {
+    // The entry of a place stands between these two, in either order.
+    ghost Joins: { Self.Entry → Option Place → Option Place → Type 0 };
+
+    // The neighbour on the other side of the one that is told.
+    ghost other: { Self.Entry → Option Place → Option Place };
+
+    /// The place behind `place`, if `prev` stands before it. It asks that the place is linked. O(1).
+    fn next(&self, place: Place, prev: Option<Place>) -> Option<Place>
+        requires linked { IsLinked Self.linked (Self.table self.now) place }
+        ensures { result ≡ other ((Self.table self.now).entry place) prev };
+
+    /// The place before `place`, if `next` stands behind it. It asks that the place is linked. O(1).
+    fn prev(&self, place: Place, next: Option<Place>) -> Option<Place>
+        requires linked { IsLinked Self.linked (Self.table self.now) place }
+        ensures { result ≡ other ((Self.table self.now).entry place) next };
+
+    /// Sets both neighbours of `place`. It asks that the place is linked. O(1).
+    fn set(&mut self, place: Place, prev: Option<Place>, next: Option<Place>)
+        requires linked { IsLinked Self.linked (Self.table self.old) place }
+        ensures set { Joins ((Self.table self.new).entry place) prev next }
+        ensures linked { IsLinked Self.linked (Self.table self.new) place }
+        ensures frame { ChangesOnly (Self.table self.old) (Self.table self.new) place }
+        ensures keeps_acquired { (first : Self) (q : Place) → Self.Acquired first self.old q
+            → Self.Acquired first self.new q };
+
+    /// Puts `new` where `old` stood beside `place`. It asks that the place is linked. O(1).
+    fn replace_next_or_prev(&mut self, place: Place, old: Option<Place>, new: Option<Place>)
+        requires linked { IsLinked Self.linked (Self.table self.old) place }
+        ensures replaced { (x : Option Place) → Joins ((Self.table self.old).entry place) old x
+            → Joins ((Self.table self.new).entry place) new x }
+        ensures linked { IsLinked Self.linked (Self.table self.new) place }
+        ensures frame { ChangesOnly (Self.table self.old) (Self.table self.new) place }
+        ensures keeps_acquired { (first : Self) (q : Place) → Self.Acquired first self.old q
+            → Self.Acquired first self.new q };
+
+    // The laws: the two sides are alike, one neighbour tells the other, and `other` finds it.
+    ghost symmetric: { (e : Self.Entry) (a b : Option Place) → Joins e a b → Joins e b a };
+
+    ghost one_other: { (e : Self.Entry) (a b c : Option Place) → Joins e a b → Joins e a c → b ≡ c };
+
+    ghost finds_other: { (e : Self.Entry) (a b : Option Place) → Joins e a b → other e a ≡ b };
+}
+
+/// The kind of links whose word is the exclusive or of two neighbours' numbers.
+pub struct Xor;
+
+/// What the table keeps at a place: one word.
+pub type Link = link::Link<OneWord<Xor>>;
+
+/// The plain table of XOR links, one word for each place. It carries singly linked lists as well.
+pub type LinkOps<A = Global> = PlainTable<OneWord<Xor>, A>;
+
+impl link::Link<OneWord<Xor>> {
+    ghost use Rattle.ic_link_ops.specs.Links.{words_of};
+    ghost use Rattle.ic_link_ops.specs.OneWord.{next_word_of};
+
+    /// The exclusive or of the neighbours' numbers, where a place has the number `2 * (index + 1)` and none has 0; the
+    /// mark 1 while the place is unlinked.
+    #[inline]
+    pub fn word(&self) -> u64
+        ensures { result ≡ next_word_of (words_of self.now) }
+    {
+        self.words.word.bits()
+    }
+}
+
+impl<W: NextWord, A: Allocator> XorLinkedListOps for PlainTable<W, A> {
+    ghost use Rattle.ic_link_ops.specs.Readings.{XorJoins, xor_other};
+    ghost use Rattle.ic_link_ops.specs.Links.{words_of};
+    ghost use Rattle.ic_link_ops.specs.XorLaws.{joins_symmetric, joins_one_other, joins_finds_other};
+
+    ghost Joins = { XorJoins W.next_word };
+
+    ghost other = { xor_other W.next_word };
+
+    #[inline]
+    fn next(&self, place: Place, prev: Option<Place>) -> Option<Place> {
+        self.entries[place.index()].words.next_word().other(prev)
+    }
+
+    #[inline]
+    fn prev(&self, place: Place, next: Option<Place>) -> Option<Place> {
+        self.entries[place.index()].words.next_word().other(next)
+    }
+
+    #[inline]
+    fn set(&mut self, place: Place, prev: Option<Place>, next: Option<Place>) {
+        let entry = &mut self.entries[place.index()];
+        entry.words.set_next_word(Word::between(prev, next));
+    }
+
+    #[inline]
+    fn replace_next_or_prev(&mut self, place: Place, old: Option<Place>, new: Option<Place>) {
+        let entry = &mut self.entries[place.index()];
+        let word = entry.words.next_word();
+        entry.words.set_next_word(word.replaced(old, new));
+    }
+
+    ghost symmetric = { λ e a b j. joins_symmetric (W.next_word (words_of e)) a b j };
+
+    ghost one_other = { λ e a b c j k. joins_one_other (W.next_word (words_of e)) a b c j k };
+
+    ghost finds_other = { λ e a b j. joins_finds_other (W.next_word (words_of e)) a b j };
+}
