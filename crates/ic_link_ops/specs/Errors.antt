@@ -7,3 +7,8 @@ use Rattle.ic_link_ops.specs.declared.errors.ReplaceError.TheVariants.{Null, Alr
 abbrev pub object_of : {T : Type 0} → ReplaceError T → Place
 object_of (Null object) = object
 object_of (AlreadyLinked object) = object
+
+-- what holds where nothing was replaced: `null` where nothing stood there, `linked` where the link was refused
+abbrev pub ByCause : {T : Type 0} → Type 0 → Type 0 → ReplaceError T → Type 0
+ByCause null linked (Null object) = null
+ByCause null linked (AlreadyLinked object) = linked

@@ -1,1 +1,7 @@
 pub mod Walking
+pub mod Placed
+pub mod Standing
+pub mod Clearing
+pub mod Taking
+pub mod BothEnds
+pub mod Pushing

@@ -1,17 +1,23 @@
 -- The walk over a list's objects: one step of it, and its end.
-use Rattle.std.proofs.Common.{◌≡◌, Option, Some, None, List, [], ◌∷◌, true, false, Bor, refl, sym, ◌∙◌, ap}
+use Rattle.std.proofs.Common.{◌≡◌, Option, Some, None, List, [], ◌∷◌, ◌++◌, true, false, Bor, refl, sym, ◌∙◌, ap}
 use Rattle.std.specs.Option.{option_copied}
-use Rattle.std.specs.List.{cons_option}
-use Rattle.std.specs.Iterator.{YieldsFirstRef, MakesProgress, item_count}
+use Rattle.std.specs.List.{AllByRecursion, cons_option, filter_map}
+use Rattle.std.specs.Iterator.{YieldsFirstRef, YieldsLastRef, MakesProgress, item_count}
+use Rattle.std.proofs.lemmas.List.Elements.{filter_map-append}
 use Rattle.ic_unsafe_ref.specs.declared.place.Place.{Place}
 use Rattle.ic_unsafe_ref.specs.Objects.{object_at}
 use Rattle.ic_link_ops.specs.Tables.{Table, IsCovered}
 use Rattle.ic_link_ops.specs.LinkedList.{Neighbors, IsWalk}
 use Rattle.ic_link_ops.specs.Walk.{is_end}
-use Rattle.ic_link_ops.proofs.Walks.{is_end_yes, is_end_no, yields_placed, makes_progress}
-use Rattle.ic_link_ops.proofs.DoublyLists.{walk_shown, walk_last, walk_more, walk_none, walk_empty}
+use Rattle.ic_link_ops.proofs.Walks.{is_end_yes, is_end_no, yields_placed, makes_progress, yields_placed_back, makes_progress_back}
+use Rattle.ic_link_ops.proofs.DoublyLists.{walk_shown, walk_last, walk_more, walk_less, walk_none, walk_empty, walk_empty_back}
 use Rattle.ic_linked_list.specs.declared.iter.Iter.{Iter}
 use Rattle.ic_linked_list.specs.Iter.{ArePlaced, values_at, objects_left, CanWalk}
+
+-- what holds of all members holds of all but the last, and of the last
+all_but_last : (P : Place → Type 0) (w : List Place) (p : Place) → AllByRecursion P (w ++ p ∷ []) → AllByRecursion P w × P p
+all_but_last P [] p h = (tt, h.0)
+all_but_last P (x ∷ w) p h = let k = all_but_last P w p h.1 in ((h.0, k.0), k.1)
 
 module _ {T L A E : Type 0} (n : E → Neighbors) (table : L → Table E) where
   -- the walk gave out the member at p, and goes on behind it
@@ -50,7 +56,44 @@ module _ {T L A E : Type 0} (n : E → Neighbors) (table : L → Table E) where
         objects = refl;
       }
 
+  -- the same from the back: it gave out the member at p, and ends before it
+  pub record StepsBack (old new : Iter T L A) (p : Place) : Type 0 where
+    pub members : List Place
+    pub walk : IsWalk n (table new.links.now).entry new.head new.tail members
+    pub whole : IsWalk n (table old.links.now).entry old.head old.tail (members ++ p ∷ [])
+    pub placed : ArePlaced old.objects.now (members ++ p ∷ [])
+    pub objects : new.objects.now ≡ old.objects.now
+
+  pub steps_back_last : (t : Iter T L A) (p : Place) → CanWalk n table t → t.tail ≡ Some p → is_end t.head p ≡ true
+      → StepsBack t (record t { head = None; tail = None }) p
+  steps_back_last t p can at end =
+      let k = rw (at, is_end_yes t.head p end) at can.1 in
+      let e = walk_last _ p can.0 k in
+      record {
+        members = [];
+        walk = walk_none _;
+        whole = rw e at can.1;
+        placed = rw e at can.2;
+        objects = refl;
+      }
+
+  pub steps_back_more : (t : Iter T L A) (p : Place) (prev : Option Place) → CanWalk n table t → t.tail ≡ Some p → is_end t.head p ≡ false
+      → prev ≡ (n ((table t.links.now).entry p)).prev → StepsBack t (record t { tail = prev }) p
+  steps_back_more t p prev can at end is_prev =
+      let k = rw at at can.1 in
+      let r = walk_less _ t.head p can.0 k (is_end_no t.head p end) in
+      record {
+        members = r.0;
+        walk = rw is_prev r.2;
+        whole = rw r.1 at can.1;
+        placed = rw r.1 at can.2;
+        objects = refl;
+      }
+
   -- the walk can go on
+  pub can_walk_back : {old new : Iter T L A} {p : Place} → StepsBack old new p → CanWalk n table new
+  can_walk_back k = (k.members, k.walk, rw k.objects (all_but_last _ k.members _ k.placed).0)
+
   pub can_walk : {old new : Iter T L A} {p : Place} → Steps old new p → CanWalk n table new
   can_walk k = (k.members, k.walk, rw k.objects k.placed.1)
 
@@ -76,3 +119,20 @@ module _ {T L A E : Type 0} (n : E → Neighbors) (table : L → Table E) where
     pub goes : {old new : Iter T L A} {p : Place} (r : Option (Bor T)) → Steps old new p → option_copied r ≡ object_at new.objects.now p
         → MakesProgress (CanWalk n table) (item_count (objects_left n table)) old r new
     goes {old} {new} {p} r k is = makes_progress (objects_left n table) (CanWalk n table) old new r (can_walk k) (gives r k is)
+
+    -- the same from the back
+    pub none_left_back : (t : Iter T L A) → CanWalk n table t → t.tail ≡ None → objects_left n table t ≡ []
+    none_left_back t can at = left_is t can.0 can.1 ∙ ap (values_at t.objects.now) (walk_empty_back _ t.head t.tail can.0 at can.1)
+
+    pub gives_back : {old new : Iter T L A} {p : Place} (r : Option (Bor T)) → StepsBack old new p → option_copied r ≡ object_at new.objects.now p
+        → YieldsLastRef (objects_left n table) old r new
+    gives_back {old} {new} {p} r k is =
+        yields_placed_back (objects_left n table) old new r (object_at old.objects.now p) (all_but_last _ k.members p k.placed).1 (rw k.objects at is)
+        (left_is old (k.members ++ p ∷ []) k.whole
+        ∙ filter_map-append (object_at old.objects.now) k.members (p ∷ [])
+        ∙ ap (λ (l : List T). l ++ cons_option (object_at old.objects.now p) []) (sym (left_is new k.members k.walk ∙ ap (λ o. values_at o k.members) k.objects)))
+
+    pub goes_back : {old new : Iter T L A} {p : Place} (r : Option (Bor T)) → StepsBack old new p → option_copied r ≡ object_at new.objects.now p
+        → MakesProgress (CanWalk n table) (item_count (objects_left n table)) old r new
+    goes_back {old} {new} {p} r k is =
+        makes_progress_back (objects_left n table) (CanWalk n table) old new r (can_walk_back k) (gives_back r k is)

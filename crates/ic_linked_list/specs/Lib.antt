@@ -1,2 +1,7 @@
+pub mod Stands
 pub mod Cursor
+pub mod CursorMut
+pub mod CursorOwning
 pub mod Iter
+pub mod IntoIter
+pub mod BothEnds

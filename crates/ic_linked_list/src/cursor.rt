@@ -8,21 +8,24 @@
 //! }
 //! ```
 
-ghost use Rattle.std.specs.Prelude.{◌≡◌, ◌↔◌, Option, None, IsTrue, ⊤};
-ghost use Rattle.ic_link_ops.specs.Sequences.{Cut, join, IsAfter, IsBefore};
+ghost use Rattle.std.specs.Prelude.{◌≡◌, ◌↔◌, List, Option, Some, None, IsTrue, ⊤};
+ghost use Rattle.std.specs.Option.{option_copied};
+ghost use Rattle.ic_unsafe_ref.specs.declared.place.Place.{Place};
+ghost use Rattle.ic_link_ops.specs.Sequences.{Cut, join, first, last, IsAfter, IsBefore};
 ghost use Rattle.ic_link_ops.specs.LinkedList.{Shows};
+ghost use Rattle.ic_linked_list.specs.Stands.{Stands, MovesOn, MovesBack, object_there};
 
 use crate::LinkedList;
 use ic_link_ops::LinkOps;
 use ic_link_ops::linked_list::LinkedListOps;
-use ic_unsafe_ref::Place;
-use std::alloc::AllocError;
+use ic_unsafe_ref::{Objects, Place, UnsafeRef};
+use std::alloc::{AllocError, Allocator};
 
 /// A position in a list: on a member, or null, which stands between the last and the first.
 pub struct Cursor<'a, T, L> {
-    list: &'a LinkedList<T>,
-    links: &'a L,
-    current: Option<Place>,
+    pub(crate) list: &'a LinkedList<T>,
+    pub(crate) links: &'a L,
+    pub(crate) current: Option<Place>,
 }
 
 impl<T, L> Drop for Cursor<'_, T, L> {
@@ -51,6 +54,55 @@ impl<T> LinkedList<T> {
             current: None,
         }
     }
+
+    /// A cursor on the object, of which it asks that it is a member.
+    #[inline]
+    pub fn cursor_from_ptr<'a, L: LinkedListOps>(
+        &'a self,
+        links: &'a L,
+        object: UnsafeRef<T>,
+    ) -> Cursor<'a, T, L>
+        requires member { Stands L.neighbors (L.table links.now) self.now (Some object) }
+        ensures list { list_of result ≡ self.now }
+        ensures links { links_of result ≡ links.now }
+        ensures position { position result ≡ Some object }
+    {
+        Cursor {
+            list: self,
+            links,
+            current: Some(object.place()),
+        }
+    }
+
+    /// A cursor on the first member, null in an empty list.
+    #[inline]
+    pub fn front<'a, L: LinkedListOps>(&'a self, links: &'a L) -> Cursor<'a, T, L>
+        ensures list { list_of result ≡ self.now }
+        ensures links { links_of result ≡ links.now }
+        ensures position { (s : List Place) → Shows L.neighbors (L.table links.now) self.now s
+            → position result ≡ first s }
+    {
+        Cursor {
+            list: self,
+            links,
+            current: self.head(),
+        }
+    }
+
+    /// A cursor on the last member, null in an empty list.
+    #[inline]
+    pub fn back<'a, L: LinkedListOps>(&'a self, links: &'a L) -> Cursor<'a, T, L>
+        ensures list { list_of result ≡ self.now }
+        ensures links { links_of result ≡ links.now }
+        ensures position { (s : List Place) → Shows L.neighbors (L.table links.now) self.now s
+            → position result ≡ last s }
+    {
+        Cursor {
+            list: self,
+            links,
+            current: self.tail(),
+        }
+    }
 }
 
 impl<'a, T, L: LinkedListOps> Cursor<'a, T, L> {
@@ -72,22 +124,81 @@ impl<'a, T, L: LinkedListOps> Cursor<'a, T, L> {
         self.current
     }
 
+    /// The object that the cursor is on, `None` at null. One look-up, O(1).
+    #[inline]
+    pub fn get<'b, A: Allocator>(&self, objects: &'b Objects<T, A>) -> Option<&'b T>
+        ensures { option_copied result ≡ object_there objects.now (position self.now) }
+    {
+        objects.get(self.current?)
+    }
+
+    /// A reference to the object that the cursor is on, `None` at null.
+    #[inline]
+    pub fn clone_pointer(&self) -> Option<UnsafeRef<T>>
+        ensures { result ≡ position self.now }
+    {
+        let place = self.current?;
+        Some(UnsafeRef::new(place))
+    }
+
     /// Moves to the next member, from null to the first one, and from the last one to null. O(1).
     ///
     /// The gap that was after the cursor is then before it.
     #[inline]
     pub fn move_next(&mut self)
-        requires stands { (gap : Cut) × Shows L.neighbors (L.table (links_of self.old)) (list_of self.old) (join gap)
-            × IsAfter gap (position self.old) }
-        ensures moved { (gap : Cut) → Shows L.neighbors (L.table (links_of self.old)) (list_of self.old) (join gap)
-            → IsAfter gap (position self.old) → IsBefore gap (position self.new) }
+        requires stands { Stands L.neighbors (L.table (links_of self.old)) (list_of self.old) (position self.old) }
+        ensures moved { MovesOn L.neighbors (L.table (links_of self.old))
+            (list_of self.old) (position self.old) (position self.new) }
         ensures list { list_of self.new ≡ list_of self.old }
         ensures links { links_of self.new ≡ links_of self.old }
     {
-        self.current = match self.current {
-            None => self.list.head(),
-            Some(place) => self.links.next(place),
-        };
+        self.current = self.list.next_of(self.links, self.current);
+    }
+
+    /// Moves to the previous member, from null to the last one, and from the first one to null. O(1).
+    ///
+    /// The gap that was before the cursor is then after it.
+    #[inline]
+    pub fn move_prev(&mut self)
+        requires stands { Stands L.neighbors (L.table (links_of self.old)) (list_of self.old) (position self.old) }
+        ensures moved { MovesBack L.neighbors (L.table (links_of self.old))
+            (list_of self.old) (position self.old) (position self.new) }
+        ensures list { list_of self.new ≡ list_of self.old }
+        ensures links { links_of self.new ≡ links_of self.old }
+    {
+        self.current = self.list.prev_of(self.links, self.current);
+    }
+
+    /// A cursor where [`Cursor::move_next`] would stand.
+    #[inline]
+    pub fn peek_next(&self) -> Cursor<'a, T, L>
+        requires stands { Stands L.neighbors (L.table (links_of self.now)) (list_of self.now) (position self.now) }
+        ensures moved { MovesOn L.neighbors (L.table (links_of self.now))
+            (list_of self.now) (position self.now) (position result) }
+        ensures list { list_of result ≡ list_of self.now }
+        ensures links { links_of result ≡ links_of self.now }
+    {
+        Cursor {
+            list: self.list,
+            links: self.links,
+            current: self.list.next_of(self.links, self.current),
+        }
+    }
+
+    /// A cursor where [`Cursor::move_prev`] would stand.
+    #[inline]
+    pub fn peek_prev(&self) -> Cursor<'a, T, L>
+        requires stands { Stands L.neighbors (L.table (links_of self.now)) (list_of self.now) (position self.now) }
+        ensures moved { MovesBack L.neighbors (L.table (links_of self.now))
+            (list_of self.now) (position self.now) (position result) }
+        ensures list { list_of result ≡ list_of self.now }
+        ensures links { links_of result ≡ links_of self.now }
+    {
+        Cursor {
+            list: self.list,
+            links: self.links,
+            current: self.list.prev_of(self.links, self.current),
+        }
     }
 }
 

@@ -4,10 +4,11 @@
 //! for task in list.iter(&links, &objects) {
 //!     task.run();
 //! }
+//! let newest = list.iter(&links, &objects).next_back();
 //! ```
 
-ghost use Rattle.std.specs.Prelude.{◌≡◌, List, Option, Some};
-ghost use Rattle.std.specs.Iterator.{YieldsFirstRef, item_count};
+ghost use Rattle.std.specs.Prelude.{◌≡◌, List, Option, Some, ⊤};
+ghost use Rattle.std.specs.Iterator.{YieldsFirstRef, YieldsLastRef, item_count};
 ghost use Rattle.ic_unsafe_ref.specs.declared.place.Place.{Place};
 ghost use Rattle.ic_link_ops.specs.LinkedList.{Shows, ShowsSome};
 ghost use Rattle.ic_link_ops.specs.Walk.{is_end};
@@ -16,9 +17,11 @@ use crate::LinkedList;
 use ic_link_ops::LinkOps;
 use ic_link_ops::linked_list::LinkedListOps;
 use ic_unsafe_ref::{Objects, Place};
-use std::alloc::{Allocator, Global};
+use std::alloc::{AllocError, Allocator, Global};
 
-/// The objects of a list that are not given out yet, from the front.
+/// The objects of a list that are not given out yet: from the front by `next`, from the back by `next_back`.
+///
+/// When the two ends meet, both are exhausted.
 pub struct Iter<'a, T, L, A: Allocator = Global> {
     links: &'a L,
     objects: &'a Objects<T, A>,
@@ -74,10 +77,47 @@ impl<'a, T, L: LinkedListOps, A: Allocator> Iterator for Iter<'a, T, L, A> {
     }
 }
 
+impl<'a, T, L: LinkedListOps, A: Allocator> DoubleEndedIterator for Iter<'a, T, L, A> {
+    ghost use Rattle.ic_linked_list.specs.Iter.{objects_left, CanWalk};
+
+    ghost can_next_back = { CanWalk L.neighbors L.table };
+
+    ghost next_back_gives = { YieldsLastRef (objects_left L.neighbors L.table) };
+
+    /// The next object from the back. O(1), as `next`.
+    fn next_back(&mut self) -> Option<&'a T> {
+        let place = self.tail?;
+        if is_at(self.head, place) {
+            self.head = None;
+            self.tail = None;
+        } else {
+            self.tail = self.links.prev(place);
+        }
+        let objects: &'a Objects<T, A> = self.objects;
+        objects.get(place)
+    }
+}
+
+impl<T, L, A: Allocator> Clone for Iter<'_, T, L, A> {
+    ghost is_clone = { λ t copy. copy ≡ t };
+
+    ghost is_infallible = { λ _. ⊤ };
+
+    /// A walk over the same objects, from the same two ends. It never fails.
+    fn clone(&self) -> Result<Self, AllocError> {
+        Ok(Iter {
+            links: self.links,
+            objects: self.objects,
+            head: self.head,
+            tail: self.tail,
+        })
+    }
+}
+
 impl<T> LinkedList<T> {
     ghost use Rattle.ic_linked_list.specs.Iter.{ArePlaced, values_at, objects_left, CanWalk};
 
-    /// A walk over the objects of the list, from the front. It asks that all members are placed.
+    /// A walk over the objects of the list, from either end. It asks that all members are placed.
     pub fn iter<'a, L: LinkedListOps, A: Allocator>(
         &self,
         links: &'a L,

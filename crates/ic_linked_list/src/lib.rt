@@ -14,13 +14,21 @@
 #![tactic(auto)]
 
 mod cursor;
+mod cursor_mut;
+mod cursor_owning;
+mod edits;
+mod into_iter;
 mod iter;
 pub mod laws;
 mod list;
 mod surgery;
+mod whole;
 
 pub use cursor::Cursor;
+pub use cursor_mut::CursorMut;
+pub use cursor_owning::CursorOwning;
 pub use ic_link_ops::linked_list::{Link, LinkOps, LinkedListOps};
+pub use into_iter::IntoIter;
 pub use iter::Iter;
 pub use list::LinkedList;
 

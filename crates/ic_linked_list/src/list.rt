@@ -7,9 +7,10 @@
 
 ghost use Rattle.std.specs.Prelude.{◌≡◌, ◌≢◌, ◌↔◌, ◌++◌, ◌∷◌, List, Option, Some, None, IsTrue, OnOk, OnErr, IfErr, IfSome, IfNone};
 ghost use Rattle.ic_unsafe_ref.specs.declared.place.Place.{Place};
-ghost use Rattle.ic_link_ops.specs.Sequences.{first, first_or, last_or, IsAbsent, at_front, at_back, insert, remove};
+ghost use Rattle.ic_link_ops.specs.Sequences.{Cut, join, first, last, IsAbsent, IsDisjoint, IsAfter, IsBefore, at_front, at_back, insert, remove};
 ghost use Rattle.ic_link_ops.specs.Tables.{IsCovered, IsLinked, KeepsBeside, LinksAlso, Unlinks};
 ghost use Rattle.ic_link_ops.specs.Chains.{no_members, end_of};
+ghost use Rattle.ic_link_ops.specs.Edits.{Inserts, Splices, Splits};
 ghost use Rattle.ic_link_ops.specs.LinkedList.{Shows, ShowsSome};
 
 use crate::surgery::{follow, lead, stand};
@@ -92,14 +93,13 @@ impl<T> LinkedList<T> {
     }
 }
 
-// An end of a list whose first or last member has this neighbour now: it stays where there is one.
+// The end of a list, where what stood there has this neighbour beyond it now: a fresh end if it has none.
 #[inline]
-fn end(neighbor: Option<Place>, fresh: Option<Place>, end: Option<Place>) -> Option<Place>
-    ensures { result ≡ end_of neighbor fresh end }
+fn settle(end: &mut End, neighbor: Option<Place>, fresh: Option<Place>)
+    ensures { end.new ≡ end_of neighbor fresh end.old }
 {
-    match neighbor {
-        None => fresh,
-        Some(_) => end,
+    if neighbor.is_none() {
+        *end = End::of(fresh);
     }
 }
 
@@ -130,6 +130,31 @@ impl<T> LinkedList<T> {
         self.insert_between(links, tail, object, None)
     }
 
+    /// Puts the object at the front of the list, unless its link is refused. O(1), and it takes no memory.
+    ///
+    /// It asks and answers as [`LinkedList::push_back`] does. Good for stacks, and for what was used last.
+    #[inline]
+    pub fn push_front<L: LinkedListOps>(
+        &mut self,
+        links: &mut L,
+        object: UnsafeRef<T>,
+    ) -> Result<(), AlreadyLinked<T>>
+        requires covered { IsCovered (L.table links.old) object }
+        requires shown { ShowsSome L.neighbors (L.table links.old) self.old }
+
+        ensures inserted { (s : List Place) → Shows L.neighbors (L.table links.old) self.old s
+            → OnOk result (Shows L.neighbors (L.table links.new) self.new (insert (at_front s) object)) }
+        ensures acquired { OnOk result (L.Acquired links.old links.new object) }
+        ensures linked { OnOk result (LinksAlso L.linked (L.table links.old) (L.table links.new) object) }
+        ensures refused { OnErr result (L.Refused links.old links.new object) }
+        ensures unchanged { IfErr result (λ refused. (refused.0 ≡ object) × (self.new ≡ self.old)) }
+        ensures frame { (s : List Place) → Shows L.neighbors (L.table links.old) self.old s
+            → KeepsBeside (L.table links.old) (L.table links.new) (object ∷ s) }
+    {
+        let head = self.head();
+        self.insert_between(links, None, object, head)
+    }
+
     /// Takes the object at the front off the list and answers it, or `None` if the list is empty. O(1).
     #[inline]
     pub fn pop_front<L: LinkedListOps>(&mut self, links: &mut L) -> Option<UnsafeRef<T>>
@@ -151,7 +176,7 @@ impl<T> LinkedList<T> {
 
     // Puts the object into the gap between two neighbours, unless its link is refused.
     #[inline]
-    fn insert_between<L: LinkedListOps>(
+    pub(crate) fn insert_between<L: LinkedListOps>(
         &mut self,
         links: &mut L,
         before: Option<Place>,
@@ -159,18 +184,21 @@ impl<T> LinkedList<T> {
         behind: Option<Place>,
     ) -> Result<(), AlreadyLinked<T>>
         requires covered { IsCovered (L.table links.old) object }
-        requires shown { (front back : List Place) × Shows L.neighbors (L.table links.old) self.old (front ++ back)
-            × (before ≡ last_or None front) × (behind ≡ first_or back None) }
-        ensures inserted { (front back : List Place) → Shows L.neighbors (L.table links.old) self.old (front ++ back)
-            → before ≡ last_or None front → behind ≡ first_or back None
-            → OnOk result (Shows L.neighbors (L.table links.new) self.new (front ++ object ∷ back)) }
+        requires shown { (gap : Cut) × Shows L.neighbors (L.table links.old) self.old (join gap)
+            × IsAfter gap before × IsBefore gap behind }
+        ensures inserted { (gap : Cut) → Shows L.neighbors (L.table links.old) self.old (join gap)
+            → IsAfter gap before → IsBefore gap behind → OnOk result (Inserts L.linked (Shows L.neighbors)
+            (L.table links.old) (L.table links.new) self.new gap object) }
         ensures acquired { OnOk result (L.Acquired links.old links.new object) }
         ensures linked { OnOk result (LinksAlso L.linked (L.table links.old) (L.table links.new) object) }
         ensures refused { OnErr result (L.Refused links.old links.new object) }
         ensures unchanged { IfErr result (λ refused. (refused.0 ≡ object) × (self.new ≡ self.old)) }
-        ensures frame { (front back : List Place) → Shows L.neighbors (L.table links.old) self.old (front ++ back)
-            → before ≡ last_or None front → behind ≡ first_or back None
-            → KeepsBeside (L.table links.old) (L.table links.new) (object ∷ (front ++ back)) }
+        ensures shown { (gap : Cut) → Shows L.neighbors (L.table links.old) self.old (join gap)
+            → IsAfter gap before → IsBefore gap behind
+            → OnOk result (Shows L.neighbors (L.table links.new) self.new (insert gap object)) }
+        ensures frame { (gap : Cut) → Shows L.neighbors (L.table links.old) self.old (join gap)
+            → IsAfter gap before → IsBefore gap behind
+            → KeepsBeside (L.table links.old) (L.table links.new) (object ∷ join gap) }
     {
         let place = object.place();
         if !links.acquire_link(place) {
@@ -180,9 +208,9 @@ impl<T> LinkedList<T> {
         Ok(())
     }
 
-    // Puts the linked place between two neighbours.
+    // Puts the linked place between two others, be they neighbours or those of the member that it replaces.
     #[inline]
-    fn put_between<L: LinkedListOps>(
+    pub(crate) fn put_between<L: LinkedListOps>(
         &mut self,
         links: &mut L,
         before: Option<Place>,
@@ -193,7 +221,11 @@ impl<T> LinkedList<T> {
         requires before { (q : Place) → before ≡ Some q → IsLinked L.linked (L.table links.old) q }
         requires behind { (q : Place) → behind ≡ Some q → IsLinked L.linked (L.table links.old) q }
         ensures shows { (front back : List Place) → Shows L.neighbors (L.table links.old) self.old (front ++ back)
-            → IsAbsent place (front ++ back) → before ≡ last_or None front → behind ≡ first_or back None
+            → IsAbsent place (front ++ back) → before ≡ last front → behind ≡ first back
+            → Shows L.neighbors (L.table links.new) self.new (front ++ place ∷ back) }
+        ensures replaces { (front back : List Place) (out : Place)
+            → Shows L.neighbors (L.table links.old) self.old (front ++ out ∷ back)
+            → IsAbsent place (front ++ out ∷ back) → before ≡ last front → behind ≡ first back
             → Shows L.neighbors (L.table links.new) self.new (front ++ place ∷ back) }
         ensures linked { (q : Place) → L.linked ((L.table links.new).entry q)
             ≡ L.linked ((L.table links.old).entry q) }
@@ -206,16 +238,42 @@ impl<T> LinkedList<T> {
         lead(links, before, Some(place));
         follow(links, behind, Some(place));
         stand(links, place, before, behind);
-        self.head = End::of(end(before, Some(place), self.head.get()));
-        self.tail = End::of(end(behind, Some(place), self.tail.get()));
+        settle(&mut self.head, before, Some(place));
+        settle(&mut self.tail, behind, Some(place));
     }
 
-    // Takes the member out of the chain. It stays linked.
+    // Puts the linked place, which is no member, where the member `out` is.
     #[inline]
-    fn take_out<L: LinkedListOps>(&mut self, links: &mut L, place: Place)
+    pub(crate) fn put_in_place<L: LinkedListOps>(&mut self, links: &mut L, out: Place, place: Place)
+        requires held { IsLinked L.linked (L.table links.old) place }
+        requires shown { (front back : List Place) × Shows L.neighbors (L.table links.old) self.old (front ++ out ∷ back) }
+        ensures shows { (front back : List Place) → Shows L.neighbors (L.table links.old) self.old (front ++ out ∷ back)
+            → IsAbsent place (front ++ out ∷ back)
+            → Shows L.neighbors (L.table links.new) self.new (front ++ place ∷ back) }
+        ensures linked { (q : Place) → L.linked ((L.table links.new).entry q)
+            ≡ L.linked ((L.table links.old).entry q) }
+        ensures frame { (front back : List Place) → Shows L.neighbors (L.table links.old) self.old (front ++ out ∷ back)
+            → KeepsBeside (L.table links.old) (L.table links.new) (place ∷ (front ++ out ∷ back)) }
+        ensures keeps_acquired { (first : L) (q : Place) → L.Acquired first links.old q
+            → L.Acquired first links.new q }
+    {
+        let before = links.prev(out);
+        let behind = links.next(out);
+        self.put_between(links, before, place, behind);
+    }
+
+    // Takes the member out of the chain, and answers the one behind it. It stays linked.
+    #[inline]
+    pub(crate) fn take_out<L: LinkedListOps>(
+        &mut self,
+        links: &mut L,
+        place: Place,
+    ) -> Option<Place>
         requires { (front back : List Place) × Shows L.neighbors (L.table links.old) self.old (front ++ place ∷ back) }
         ensures shows { (front back : List Place) → Shows L.neighbors (L.table links.old) self.old (front ++ place ∷ back)
             → Shows L.neighbors (L.table links.new) self.new (front ++ back) }
+        ensures behind { (front back : List Place) → Shows L.neighbors (L.table links.old) self.old (front ++ place ∷ back)
+            → result ≡ first back }
         ensures linked { (q : Place) → L.linked ((L.table links.new).entry q)
             ≡ L.linked ((L.table links.old).entry q) }
         ensures frame { (front back : List Place) → Shows L.neighbors (L.table links.old) self.old (front ++ place ∷ back)
@@ -225,7 +283,68 @@ impl<T> LinkedList<T> {
         let behind = links.next(place);
         lead(links, before, behind);
         follow(links, behind, before);
-        self.head = End::of(end(before, behind, self.head.get()));
-        self.tail = End::of(end(behind, before, self.tail.get()));
+        settle(&mut self.head, before, behind);
+        settle(&mut self.tail, behind, before);
+        behind
+    }
+
+    // Puts all of the given list into the gap between two neighbours.
+    #[inline]
+    pub(crate) fn splice_between<L: LinkedListOps>(
+        &mut self,
+        links: &mut L,
+        before: Option<Place>,
+        given: LinkedList<T>,
+        behind: Option<Place>,
+    )
+        requires shown { (gap : Cut) × Shows L.neighbors (L.table links.old) self.old (join gap)
+            × IsAfter gap before × IsBefore gap behind }
+        requires given { ShowsSome L.neighbors (L.table links.old) given }
+        ensures spliced { (gap : Cut) (t : List Place) → Shows L.neighbors (L.table links.old) self.old (join gap)
+            → IsAfter gap before → IsBefore gap behind → Shows L.neighbors (L.table links.old) given t
+            → IsDisjoint t (join gap) → Splices L.linked (Shows L.neighbors)
+            (L.table links.old) (L.table links.new) self.new gap t }
+    {
+        let LinkedList { head, tail, of: _ } = given;
+        let head = head.get();
+        let tail = tail.get();
+        match head {
+            None => {}
+            Some(_) => {
+                lead(links, before, head);
+                follow(links, behind, tail);
+                follow(links, head, before);
+                lead(links, tail, behind);
+                settle(&mut self.head, before, head);
+                settle(&mut self.tail, behind, tail);
+            }
+        }
+    }
+
+    // Cuts the list between two neighbours. It keeps what is in front of the cut, and the rest is handed out.
+    #[inline]
+    pub(crate) fn split_between<L: LinkedListOps>(
+        &mut self,
+        links: &mut L,
+        before: Option<Place>,
+        behind: Option<Place>,
+    ) -> LinkedList<T>
+        requires shown { (gap : Cut) × Shows L.neighbors (L.table links.old) self.old (join gap)
+            × IsAfter gap before × IsBefore gap behind }
+        ensures split { (gap : Cut) → Shows L.neighbors (L.table links.old) self.old (join gap)
+            → IsAfter gap before → IsBefore gap behind → Splits L.linked (Shows L.neighbors)
+            (L.table links.old) (L.table links.new) self.new result gap.front gap.back }
+    {
+        lead(links, before, None);
+        follow(links, behind, None);
+        settle(&mut self.tail, behind, None);
+        let rest = LinkedList {
+            head: End::of(behind),
+            tail: End::of(self.tail.get()),
+            of: PhantomData,
+        };
+        settle(&mut self.head, before, None);
+        self.tail = End::of(before);
+        rest
     }
 }

@@ -16,6 +16,11 @@ use std::alloc::Global;
 use std::process::Abort;
 use std::test::Fail;
 
+mod borrowed;
+mod owned;
+mod walks;
+mod whole;
+
 fn place(rt: &impl Abort, index: usize) -> Place {
     Place::new(index).expect(rt, "the index of a place")
 }

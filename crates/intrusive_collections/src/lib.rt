@@ -6,11 +6,13 @@
 //! | `link_ops` | tables of links, and what collections ask of them |
 //! | `linked_list` | the doubly linked list |
 //! | `singly_linked_list`, `xor_linked_list` | the links and the table of these lists, which are not there yet |
+//! | `atomic` | claims on places, which threads share |
 //! | `rbtree` | the red-black tree, of which only the keys' trait, the links and the table are there |
 //! | `key_adapter` | where the key of an object stands |
 //! | `world` | objects, fields and collections whose calls test every condition themselves |
 #![tactic(auto)]
 
+pub use ic_atomic as atomic;
 pub use ic_link_ops as link_ops;
 pub use ic_link_ops::LinkOps;
 pub use ic_link_ops::linked_list::Link as LinkedListLink;

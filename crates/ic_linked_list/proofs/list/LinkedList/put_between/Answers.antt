@@ -1,15 +1,19 @@
-use Rattle.std.proofs.Common.{◌∙◌, ap, Some, None}
-use Rattle.ic_link_ops.specs.Chains.{end_of}
-use Rattle.ic_link_ops.proofs.ShownLists.{shows_insert}
+use Rattle.std.proofs.Common.{◌∙◌, None}
+use Rattle.ic_link_ops.proofs.ShownLists.{shows_insert, shows_replace}
 use Rattle.ic_linked_list.proofs.list.LinkedList.put_between.Goals as goal
 
 pub returns-clause-shows : goal.returns-clause-shows
 returns-clause-shows g c front back shown free before behind =
     shows_insert front back before behind (rw (← c.self.view_is) at shown) free
     (c.lead.ensures.turns _) (c.follow.ensures.turns _) c.stand.ensures.stands c.stand.ensures.frame.others
-    (c.of-self-inside.ensures ∙ c.end.ensures ∙ ap (end_of c.args.before (Some c.args.place)) c.get.ensures)
-    (c.of-self-inside-2.ensures ∙ c.end-2.ensures ∙ ap (end_of c.args.behind (Some c.args.place)) c.get-2.ensures)
+    c.settle.ensures c.settle-2.ensures
 
 pub returns-clause-others : goal.returns-clause-others
 returns-clause-others g c q before at behind =
     c.stand.ensures.frame.others q at ∙ (c.follow.ensures.turns None).others q behind ∙ (c.lead.ensures.turns None).others q before
+
+pub returns-clause-replaces : goal.returns-clause-replaces
+returns-clause-replaces g c front back out shown free before behind =
+    shows_replace front back out before behind (rw (← c.self.view_is) at shown) free
+    (c.lead.ensures.turns _) (c.follow.ensures.turns _) c.stand.ensures.stands c.stand.ensures.frame.others
+    c.settle.ensures c.settle-2.ensures

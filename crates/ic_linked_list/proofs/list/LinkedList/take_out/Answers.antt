@@ -1,5 +1,4 @@
-use Rattle.std.proofs.Common.{◌∷◌, None, ◌∙◌, sym, ap}
-use Rattle.ic_link_ops.specs.Chains.{end_of}
+use Rattle.std.proofs.Common.{◌∷◌, None, ◌∙◌, sym}
 use Rattle.ic_link_ops.proofs.SequenceLemmas.{beside_not}
 use Rattle.ic_link_ops.proofs.ShownLists.{shows_remove, shows_middle, gap_linked, next_linked}
 use Rattle.ic_link_ops.proofs.DoublyLists.{between_linked}
@@ -31,8 +30,7 @@ returns-clause-shows g c front back shown =
     let stands = shows_middle front back shown in
     shows_remove front back c.args.place (c.prev-before.ensures ∙ stands.prev) (c.next-behind.ensures ∙ stands.next) (rw (← c.self.view_is) at shown)
     (c.lead.ensures.turns _) (c.follow.ensures.turns _)
-    (c.of-self-inside.ensures ∙ c.end.ensures ∙ ap (end_of c.prev-before.result c.next-behind.result) c.get.ensures)
-    (c.of-self-inside-2.ensures ∙ c.end-2.ensures ∙ ap (end_of c.next-behind.result c.prev-before.result) c.get-2.ensures)
+    c.settle.ensures c.settle-2.ensures
 
 pub returns-clause-frame : goal.returns-clause-frame
 returns-clause-frame g c front back shown =
@@ -42,3 +40,6 @@ returns-clause-frame g c front back shown =
           let beside = beside_not front back c.args.place (c.prev-before.ensures ∙ stands.prev) (c.next-behind.ensures ∙ stands.next) out in
           (c.follow.ensures.turns None).others q beside.1 ∙ (c.lead.ensures.turns None).others q beside.0;
     }
+
+pub returns-clause-behind : goal.returns-clause-behind
+returns-clause-behind g c front back shown = c.next-behind.ensures ∙ (shows_middle front back shown).next

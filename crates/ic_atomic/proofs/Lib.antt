@@ -1,0 +1,5 @@
+pub mod Lists
+pub mod LastChangeLemmas
+pub mod RecordLemmas
+pub mod OneListLemmas
+pub mod RuleLemmas

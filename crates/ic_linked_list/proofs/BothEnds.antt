@@ -1,0 +1,23 @@
+-- What a walk from both ends gives out is its sequence.
+use Rattle.std.proofs.Common.{◌≡◌, Option, Some, List, [], ◌∷◌, ◌++◌, reverse, sym, ◌∙◌, ap, subst, append_assoc}
+use Rattle.std.proofs.lemmas.List.{reverse-append}
+use Rattle.ic_linked_list.specs.BothEnds.{Item, at_the_front, at_the_back, Leads, from_front, from_back}
+
+-- `Left s w`: w is what is left at s. A call at the front takes its first, and one at the back its last
+module _ {S A B : Type 0} (view : A → B) (next_gives next_back_gives : S → Option A → S → Type 0) (Left : S → List B → Type 0)
+    (takes_first : (s t : S) (x : A) (w : List B) → next_gives s (Some x) t → Left s w → (r : List B) × (w ≡ view x ∷ r) × Left t r)
+    (takes_last : (s t : S) (x : A) (w : List B) → next_back_gives s (Some x) t → Left s w → (r : List B) × (w ≡ r ++ view x ∷ []) × Left t r) where
+  pub both_ends : (s t : S) (items : List (Item A)) (w : List B) → Leads next_gives next_back_gives s items t → Left s w
+      → ((r : List B) → Left t r → r ≡ []) → from_front view items ++ reverse (from_back view items) ≡ w
+  both_ends s t [] w leads left over = sym (over w (subst (λ (u : S). Left u w) leads left))
+  both_ends s t (at_the_front x ∷ items) w leads left over =
+      let k = takes_first s leads.0 x w leads.1 left in
+      ap (λ (l : List B). view x ∷ l) (both_ends leads.0 t items k.0 leads.2 k.2 over) ∙ sym k.1
+  both_ends s t (at_the_back x ∷ items) w leads left over =
+      let k = takes_last s leads.0 x w leads.1 left in
+      let fronts = from_front view items in
+      let backs = from_back view items in
+      ap (λ (l : List B). fronts ++ l) (reverse-append (view x ∷ []) backs)
+      ∙ sym (append_assoc fronts (reverse backs) (view x ∷ []))
+      ∙ ap (λ (l : List B). l ++ view x ∷ []) (both_ends leads.0 t items k.0 leads.2 k.2 over)
+      ∙ sym k.1

@@ -1,0 +1,20 @@
+use Rattle.std.proofs.Common.{◌∙◌}
+use Rattle.ic_link_ops.specs.Sequences.{insert, at_back}
+use Rattle.ic_link_ops.specs.DoublyEntries.{entries, is_linked, table_of}
+use Rattle.ic_linked_list.proofs.Pushing.{last_of_push, but_last_of_push, linked_again}
+use Rattle.ic_linked_list.proofs.laws.push_then_pop.Goals as goal
+
+pub returns-clause-answer : goal.returns-clause-answer
+returns-clause-answer g c =
+    let s = c.requires.shown in
+    c.pop_back.ensures.answer (insert (at_back s.0) c.args.object) (c.in-Ok.ensures.inserted s.0 s.1) ∙ last_of_push s.0 c.args.object
+
+pub returns-clause-sequence : goal.returns-clause-sequence
+returns-clause-sequence g c s shown =
+    rw (but_last_of_push s c.args.object) at (c.pop_back.ensures.removed (insert (at_back s) c.args.object) (c.in-Ok.ensures.inserted s shown))
+
+pub returns-clause-linked : goal.returns-clause-linked
+returns-clause-linked g c q =
+    let off = rw (returns-clause-answer g c) at c.pop_back.ensures.unlinked in
+    linked_again {linked = is_linked} (table_of (entries c.args.links.now)) (table_of (entries c.push_back.new.links)) (table_of (entries c.pop_back.new.links))
+    c.args.object c.in-Ok.ensures.linked off q

@@ -1,0 +1,39 @@
+use Rattle.std.proofs.Common.{None, ◌∙◌, sym}
+use Rattle.ic_link_ops.specs.Chains.{Ends}
+use Rattle.ic_link_ops.proofs.SequenceLemmas.{gap_not}
+use Rattle.ic_link_ops.proofs.ShownLists.{shows_split, gap_linked, gap_behind_linked}
+use Rattle.ic_link_ops.proofs.DoublyLists.{between_linked}
+use Rattle.ic_linked_list.proofs.list.LinkedList.split_between.Goals as goal
+
+pub lead-requires : goal.lead-requires
+lead-requires g c q e =
+    let r = c.requires.shown in
+    gap_linked (between_linked g.met.L.LinkedListOps.linked_alike) r.0.front r.0.back r.1 (sym e ∙ r.2)
+
+pub follow-requires : goal.follow-requires
+follow-requires g c q e =
+    let r = c.requires.shown in
+    rw (c.lead.ensures.linked q)
+    (gap_behind_linked (between_linked g.met.L.LinkedListOps.linked_alike) r.0.front r.0.back r.1 (sym e ∙ r.3))
+
+pub returns : goal.returns
+returns g c = record {
+  split = λ gap shown before behind.
+      let fronts : Ends = record { head = c.settle-2.new.end; tail = c.of-self-inside.result } in
+      let backs : Ends = record { head = c.of.result; tail = c.of-2.result } in
+      let parts = shows_split {t2 = g.L.LinkOps.table c.follow.new.links} {fronts = fronts} {backs = backs} gap.front gap.back before behind
+      (rw (← c.self.view_is) at shown) (c.lead.ensures.turns _) (c.follow.ensures.turns _)
+      c.settle-2.ensures c.of-self-inside.ensures
+      c.of.ensures (c.of-2.ensures ∙ c.get.ensures ∙ c.settle.ensures) in
+      record {
+        keeps = parts.0;
+        hands_out = parts.1;
+        links = λ q. c.follow.ensures.linked q ∙ c.lead.ensures.linked q;
+        frame = record {
+          covers = c.follow.ensures.covers ∙ c.lead.ensures.covers;
+          others = λ q out.
+              let beside = gap_not gap.front gap.back before behind out in
+              (c.follow.ensures.turns None).others q beside.1 ∙ (c.lead.ensures.turns None).others q beside.0;
+        };
+      };
+}

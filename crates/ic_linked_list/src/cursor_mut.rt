@@ -1,0 +1,363 @@
+//! A cursor that edits.
+//!
+//! ```text
+//! let mut cursor = list.cursor_mut(&mut links); // null
+//! cursor.move_next();
+//! let removed = cursor.remove(); // the first, and the cursor is on the second
+//! cursor.insert_before(object)?;
+//! ```
+
+ghost use Rattle.std.specs.Prelude.{◌≡◌, ◌≢◌, ◌↔◌, List, Option, Some, None, IsTrue, OnOk, OnErr, IfOk, IfErr, IfSome, IfNone};
+ghost use Rattle.std.specs.Option.{option_copied};
+ghost use Rattle.ic_unsafe_ref.specs.declared.place.Place.{Place};
+ghost use Rattle.ic_link_ops.specs.Sequences.{Cut, join, first, last, IsAfter, IsBefore, IsDisjoint};
+ghost use Rattle.ic_link_ops.specs.Tables.{IsCovered};
+ghost use Rattle.ic_link_ops.specs.Edits.{Inserts, Removes, Replaces, Splices, Splits};
+ghost use Rattle.ic_link_ops.specs.Errors.{object_of, ByCause};
+ghost use Rattle.ic_link_ops.specs.LinkedList.{Shows, ShowsSome};
+ghost use Rattle.ic_linked_list.specs.Stands.{Stands, MovesOn, MovesBack, IsBehind, object_there};
+
+use crate::{Cursor, LinkedList};
+use ic_link_ops::linked_list::LinkedListOps;
+use ic_link_ops::{AlreadyLinked, LinkOps, ReplaceError};
+use ic_unsafe_ref::{Objects, Place, UnsafeRef};
+use std::alloc::Allocator;
+
+/// A position in a list that it edits, with the list and the table of its links.
+pub struct CursorMut<'a, T, L> {
+    list: &'a mut LinkedList<T>,
+    links: &'a mut L,
+    current: Option<Place>,
+}
+
+impl<T, L> Drop for CursorMut<'_, T, L> {
+    fn drop(self)
+        ensures list { self.exit.0.now ≡ self.entry.list.now }
+        ensures links { self.exit.1.0.now ≡ self.entry.links.now }
+    {
+        let CursorMut {
+            list: _,
+            links: _,
+            current: _,
+        } = self;
+    }
+}
+
+impl<T> LinkedList<T> {
+    ghost use Rattle.ic_linked_list.specs.CursorMut.{list_of, links_of, position, IsBorrowed};
+
+    /// A cursor at null that edits.
+    #[inline]
+    pub fn cursor_mut<'a, L: LinkedListOps>(&'a mut self, links: &'a mut L) -> CursorMut<'a, T, L>
+        ensures borrows { IsBorrowed self.entry links.entry result }
+        ensures null { position result ≡ None }
+    {
+        CursorMut {
+            list: self,
+            links,
+            current: None,
+        }
+    }
+
+    /// A cursor that edits, on the object, of which it asks that it is a member.
+    #[inline]
+    pub fn cursor_mut_from_ptr<'a, L: LinkedListOps>(
+        &'a mut self,
+        links: &'a mut L,
+        object: UnsafeRef<T>,
+    ) -> CursorMut<'a, T, L>
+        requires member { Stands L.neighbors (L.table links.old) self.old (Some object) }
+        ensures borrows { IsBorrowed self.entry links.entry result }
+        ensures position { position result ≡ Some object }
+    {
+        let current = Some(object.place());
+        CursorMut {
+            list: self,
+            links,
+            current,
+        }
+    }
+
+    /// A cursor that edits, on the first member, null in an empty list.
+    #[inline]
+    pub fn front_mut<'a, L: LinkedListOps>(&'a mut self, links: &'a mut L) -> CursorMut<'a, T, L>
+        ensures borrows { IsBorrowed self.entry links.entry result }
+        ensures position { (s : List Place) → Shows L.neighbors (L.table links.old) self.old s
+            → position result ≡ first s }
+    {
+        let current = self.head();
+        CursorMut {
+            list: self,
+            links,
+            current,
+        }
+    }
+
+    /// A cursor that edits, on the last member, null in an empty list.
+    #[inline]
+    pub fn back_mut<'a, L: LinkedListOps>(&'a mut self, links: &'a mut L) -> CursorMut<'a, T, L>
+        ensures borrows { IsBorrowed self.entry links.entry result }
+        ensures position { (s : List Place) → Shows L.neighbors (L.table links.old) self.old s
+            → position result ≡ last s }
+    {
+        let current = self.tail();
+        CursorMut {
+            list: self,
+            links,
+            current,
+        }
+    }
+}
+
+impl<'a, T, L: LinkedListOps> CursorMut<'a, T, L> {
+    ghost use Rattle.ic_linked_list.specs.CursorMut.{list_of, links_of, position, SameBorrows, Stays};
+    ghost use Rattle.ic_linked_list.specs.Cursor as reading;
+
+    /// Whether the cursor is on no member.
+    #[inline]
+    pub fn is_null(&self) -> bool
+        ensures { IsTrue result ↔ (position self.now ≡ None) }
+    {
+        self.current.is_none()
+    }
+
+    /// The place of the member that the cursor is on, `None` at null.
+    #[inline]
+    pub fn get_ptr(&self) -> Option<Place>
+        ensures { result ≡ position self.now }
+    {
+        self.current
+    }
+
+    /// The object that the cursor is on, `None` at null. One look-up, O(1).
+    #[inline]
+    pub fn get<'b, A: Allocator>(&self, objects: &'b Objects<T, A>) -> Option<&'b T>
+        ensures { option_copied result ≡ object_there objects.now (position self.now) }
+    {
+        objects.get(self.current?)
+    }
+
+    /// Ends the edits and answers as [`CursorMut::get`]. List and table stay as they are.
+    #[inline]
+    pub fn into_ref<'b, A: Allocator>(self, objects: &'b Objects<T, A>) -> Option<&'b T>
+        ensures answer { option_copied result ≡ object_there objects.now (position self.entry) }
+        ensures list { self.exit.0.now ≡ list_of self.entry }
+        ensures links { self.exit.1.0.now ≡ links_of self.entry }
+    {
+        self.get(objects)
+    }
+
+    /// A cursor that reads, at the same position.
+    #[inline]
+    pub fn as_cursor(&self) -> Cursor<'_, T, L>
+        ensures list { reading.list_of result ≡ list_of self.now }
+        ensures links { reading.links_of result ≡ links_of self.now }
+        ensures position { reading.position result ≡ position self.now }
+    {
+        Cursor {
+            list: &*self.list,
+            links: &*self.links,
+            current: self.current,
+        }
+    }
+
+    /// Moves to the next member, from null to the first one, and from the last one to null. O(1).
+    ///
+    /// The gap that was after the cursor is then before it.
+    #[inline]
+    pub fn move_next(&mut self)
+        requires stands { Stands L.neighbors (L.table (links_of self.old)) (list_of self.old) (position self.old) }
+        ensures moved { MovesOn L.neighbors (L.table (links_of self.old))
+            (list_of self.old) (position self.old) (position self.new) }
+        ensures stays { Stays self.old self.new }
+    {
+        self.current = self.list.next_of(&*self.links, self.current);
+    }
+
+    /// Moves to the previous member, from null to the last one, and from the first one to null. O(1).
+    ///
+    /// The gap that was before the cursor is then after it.
+    #[inline]
+    pub fn move_prev(&mut self)
+        requires stands { Stands L.neighbors (L.table (links_of self.old)) (list_of self.old) (position self.old) }
+        ensures moved { MovesBack L.neighbors (L.table (links_of self.old))
+            (list_of self.old) (position self.old) (position self.new) }
+        ensures stays { Stays self.old self.new }
+    {
+        self.current = self.list.prev_of(&*self.links, self.current);
+    }
+
+    /// A cursor that reads, where [`CursorMut::move_next`] would stand.
+    #[inline]
+    pub fn peek_next(&self) -> Cursor<'_, T, L>
+        requires stands { Stands L.neighbors (L.table (links_of self.now)) (list_of self.now) (position self.now) }
+        ensures moved { MovesOn L.neighbors (L.table (links_of self.now))
+            (list_of self.now) (position self.now) (reading.position result) }
+        ensures list { reading.list_of result ≡ list_of self.now }
+        ensures links { reading.links_of result ≡ links_of self.now }
+    {
+        let cursor = self.as_cursor();
+        cursor.peek_next()
+    }
+
+    /// A cursor that reads, where [`CursorMut::move_prev`] would stand.
+    #[inline]
+    pub fn peek_prev(&self) -> Cursor<'_, T, L>
+        requires stands { Stands L.neighbors (L.table (links_of self.now)) (list_of self.now) (position self.now) }
+        ensures moved { MovesBack L.neighbors (L.table (links_of self.now))
+            (list_of self.now) (position self.now) (reading.position result) }
+        ensures list { reading.list_of result ≡ list_of self.now }
+        ensures links { reading.links_of result ≡ links_of self.now }
+    {
+        let cursor = self.as_cursor();
+        cursor.peek_prev()
+    }
+
+    /// Puts the object behind the cursor, and in front of the first member at null, unless its link is refused. O(1).
+    ///
+    /// It asks that the object's place is covered. The cursor stays where it is.
+    #[inline]
+    pub fn insert_after(&mut self, object: UnsafeRef<T>) -> Result<(), AlreadyLinked<T>>
+        requires covered { IsCovered (L.table (links_of self.old)) object }
+        requires stands { Stands L.neighbors (L.table (links_of self.old)) (list_of self.old) (position self.old) }
+        ensures inserted { (gap : Cut) → Shows L.neighbors (L.table (links_of self.old)) (list_of self.old) (join gap)
+            → IsAfter gap (position self.old) → OnOk result (Inserts L.linked (Shows L.neighbors)
+            (L.table (links_of self.old)) (L.table (links_of self.new)) (list_of self.new) gap object) }
+        ensures acquired { OnOk result (L.Acquired (links_of self.old) (links_of self.new) object) }
+        ensures refused { OnErr result (L.Refused (links_of self.old) (links_of self.new) object) }
+        ensures unchanged { IfErr result (λ refused. (refused.0 ≡ object) × (list_of self.new ≡ list_of self.old)) }
+        ensures position { position self.new ≡ position self.old }
+        ensures borrows { SameBorrows self.old self.new }
+    {
+        self.list.insert_after(self.links, self.current, object)
+    }
+
+    /// Puts the object in front of the cursor, and behind the last member at null, unless its link is refused. O(1).
+    ///
+    /// It asks that the object's place is covered. The cursor stays where it is.
+    #[inline]
+    pub fn insert_before(&mut self, object: UnsafeRef<T>) -> Result<(), AlreadyLinked<T>>
+        requires covered { IsCovered (L.table (links_of self.old)) object }
+        requires stands { Stands L.neighbors (L.table (links_of self.old)) (list_of self.old) (position self.old) }
+        ensures inserted { (gap : Cut) → Shows L.neighbors (L.table (links_of self.old)) (list_of self.old) (join gap)
+            → IsBefore gap (position self.old) → OnOk result (Inserts L.linked (Shows L.neighbors)
+            (L.table (links_of self.old)) (L.table (links_of self.new)) (list_of self.new) gap object) }
+        ensures acquired { OnOk result (L.Acquired (links_of self.old) (links_of self.new) object) }
+        ensures refused { OnErr result (L.Refused (links_of self.old) (links_of self.new) object) }
+        ensures unchanged { IfErr result (λ refused. (refused.0 ≡ object) × (list_of self.new ≡ list_of self.old)) }
+        ensures position { position self.new ≡ position self.old }
+        ensures borrows { SameBorrows self.old self.new }
+    {
+        self.list.insert_before(self.links, self.current, object)
+    }
+
+    /// Removes the member that the cursor is on and answers it, `None` at null. O(1).
+    ///
+    /// The cursor goes on to the following member, or to null.
+    #[inline]
+    pub fn remove(&mut self) -> Option<UnsafeRef<T>>
+        requires stands { Stands L.neighbors (L.table (links_of self.old)) (list_of self.old) (position self.old) }
+        ensures answer { result ≡ position self.old }
+        ensures removed { (gap : Cut) → Shows L.neighbors (L.table (links_of self.old)) (list_of self.old) (join gap)
+            → IsBefore gap (position self.old) → IfSome result (λ object. Removes L.linked (Shows L.neighbors)
+            (L.table (links_of self.old)) (L.table (links_of self.new)) (list_of self.new) gap object) }
+        ensures moved { (gap : Cut) → Shows L.neighbors (L.table (links_of self.old)) (list_of self.old) (join gap)
+            → IsBefore gap (position self.old) → IsBehind gap (position self.new) }
+        ensures null { IfNone result ((list_of self.new ≡ list_of self.old)
+            × (links_of self.new ≡ links_of self.old) × (position self.new ≡ None)) }
+        ensures borrows { SameBorrows self.old self.new }
+    {
+        self.list.remove(self.links, &mut self.current)
+    }
+
+    /// Puts the object in the place of the member that the cursor is on, and answers that member. O(1).
+    ///
+    /// It asks that the object's place is covered. At null it answers [`ReplaceError::Null`], whether or not the object
+    /// is linked. Then the cursor is on the object.
+    #[inline]
+    pub fn replace_with(&mut self, object: UnsafeRef<T>) -> Result<UnsafeRef<T>, ReplaceError<T>>
+        requires covered { IsCovered (L.table (links_of self.old)) object }
+        requires stands { Stands L.neighbors (L.table (links_of self.old)) (list_of self.old) (position self.old) }
+        ensures answer { IfOk result (λ out. position self.old ≡ Some out) }
+        ensures replaced { (gap : Cut) → Shows L.neighbors (L.table (links_of self.old)) (list_of self.old) (join gap)
+            → IsBefore gap (position self.old) → IfOk result (λ out. Replaces L.linked (Shows L.neighbors)
+            (L.table (links_of self.old)) (L.table (links_of self.new)) (list_of self.new) gap object out) }
+        ensures moved { OnOk result (position self.new ≡ Some object) }
+        ensures acquired { OnOk result (L.Acquired (links_of self.old) (links_of self.new) object) }
+        ensures refused { IfErr result (ByCause
+            ((position self.old ≡ None) × (links_of self.new ≡ links_of self.old))
+            ((position self.old ≢ None) × L.Refused (links_of self.old) (links_of self.new) object)) }
+        ensures unchanged { IfErr result (λ refused. (object_of refused ≡ object)
+            × (list_of self.new ≡ list_of self.old) × (position self.new ≡ position self.old)) }
+        ensures borrows { SameBorrows self.old self.new }
+    {
+        self.list
+            .replace_with(self.links, &mut self.current, object)
+    }
+
+    /// Puts all of the given list behind the cursor, and in front of the first member at null. O(1).
+    ///
+    /// It asks that the table shows the given list too; the two share no member. The cursor stays where it is.
+    #[inline]
+    pub fn splice_after(&mut self, given: LinkedList<T>)
+        requires stands { Stands L.neighbors (L.table (links_of self.old)) (list_of self.old) (position self.old) }
+        requires given { ShowsSome L.neighbors (L.table (links_of self.old)) given }
+        ensures spliced { (gap : Cut) (t : List Place)
+            → Shows L.neighbors (L.table (links_of self.old)) (list_of self.old) (join gap)
+            → IsAfter gap (position self.old) → Shows L.neighbors (L.table (links_of self.old)) given t
+            → IsDisjoint t (join gap) → Splices L.linked (Shows L.neighbors)
+            (L.table (links_of self.old)) (L.table (links_of self.new)) (list_of self.new) gap t }
+        ensures position { position self.new ≡ position self.old }
+        ensures borrows { SameBorrows self.old self.new }
+    {
+        self.list.splice_after(self.links, self.current, given);
+    }
+
+    /// Puts all of the given list in front of the cursor, and behind the last member at null. O(1).
+    ///
+    /// It asks that the table shows the given list too; the two share no member. The cursor stays where it is.
+    #[inline]
+    pub fn splice_before(&mut self, given: LinkedList<T>)
+        requires stands { Stands L.neighbors (L.table (links_of self.old)) (list_of self.old) (position self.old) }
+        requires given { ShowsSome L.neighbors (L.table (links_of self.old)) given }
+        ensures spliced { (gap : Cut) (t : List Place)
+            → Shows L.neighbors (L.table (links_of self.old)) (list_of self.old) (join gap)
+            → IsBefore gap (position self.old) → Shows L.neighbors (L.table (links_of self.old)) given t
+            → IsDisjoint t (join gap) → Splices L.linked (Shows L.neighbors)
+            (L.table (links_of self.old)) (L.table (links_of self.new)) (list_of self.new) gap t }
+        ensures position { position self.new ≡ position self.old }
+        ensures borrows { SameBorrows self.old self.new }
+    {
+        self.list.splice_before(self.links, self.current, given);
+    }
+
+    /// Hands out the members behind the cursor, and at null the whole list. O(1).
+    ///
+    /// The cursor stays where it is.
+    #[inline]
+    pub fn split_after(&mut self) -> LinkedList<T>
+        requires stands { Stands L.neighbors (L.table (links_of self.old)) (list_of self.old) (position self.old) }
+        ensures split { (gap : Cut) → Shows L.neighbors (L.table (links_of self.old)) (list_of self.old) (join gap)
+            → IsAfter gap (position self.old) → Splits L.linked (Shows L.neighbors)
+            (L.table (links_of self.old)) (L.table (links_of self.new)) (list_of self.new) result gap.front gap.back }
+        ensures position { position self.new ≡ position self.old }
+        ensures borrows { SameBorrows self.old self.new }
+    {
+        self.list.split_after(self.links, self.current)
+    }
+
+    /// Hands out the members in front of the cursor, and at null the whole list. O(1).
+    ///
+    /// The cursor stays where it is.
+    #[inline]
+    pub fn split_before(&mut self) -> LinkedList<T>
+        requires stands { Stands L.neighbors (L.table (links_of self.old)) (list_of self.old) (position self.old) }
+        ensures split { (gap : Cut) → Shows L.neighbors (L.table (links_of self.old)) (list_of self.old) (join gap)
+            → IsBefore gap (position self.old) → Splits L.linked (Shows L.neighbors)
+            (L.table (links_of self.old)) (L.table (links_of self.new)) (list_of self.new) result gap.back gap.front }
+        ensures position { position self.new ≡ position self.old }
+        ensures borrows { SameBorrows self.old self.new }
+    {
+        self.list.split_before(self.links, self.current)
+    }
+}

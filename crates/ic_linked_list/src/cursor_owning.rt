@@ -1,0 +1,306 @@
+//! A cursor that keeps the list, and borrows nothing.
+//!
+//! ```text
+//! let mut cursor = list.cursor_owning(); // null
+//! cursor.move_next(&links);
+//! let removed = cursor.remove(&mut links);
+//! let list = cursor.into_inner();
+//! ```
+
+ghost use Rattle.std.specs.Prelude.{◌≡◌, ◌≢◌, List, Option, Some, None, OnOk, OnErr, IfOk, IfErr, IfSome, IfNone};
+ghost use Rattle.ic_unsafe_ref.specs.declared.place.Place.{Place};
+ghost use Rattle.ic_link_ops.specs.Sequences.{Cut, join, first, last, IsAfter, IsBefore, IsDisjoint};
+ghost use Rattle.ic_link_ops.specs.Tables.{IsCovered};
+ghost use Rattle.ic_link_ops.specs.Edits.{Inserts, Removes, Replaces, Splices, Splits};
+ghost use Rattle.ic_link_ops.specs.Errors.{object_of, ByCause};
+ghost use Rattle.ic_link_ops.specs.LinkedList.{Shows, ShowsSome};
+ghost use Rattle.ic_linked_list.specs.Stands.{Stands, MovesOn, MovesBack, IsBehind};
+
+use crate::{Cursor, LinkedList};
+use ic_link_ops::linked_list::LinkedListOps;
+use ic_link_ops::{AlreadyLinked, LinkOps, ReplaceError};
+use ic_unsafe_ref::{Place, UnsafeRef};
+
+/// A position in a list that it keeps. Its calls take the table of the list's links each time.
+pub struct CursorOwning<T> {
+    list: LinkedList<T>,
+    current: Option<Place>,
+}
+
+impl<T> Drop for CursorOwning<T> {
+    fn drop(self) {
+        let CursorOwning {
+            list: _,
+            current: _,
+        } = self;
+    }
+}
+
+impl<T> LinkedList<T> {
+    ghost use Rattle.ic_linked_list.specs.CursorOwning.{list_of, position};
+
+    /// A cursor at null that keeps the list.
+    #[inline]
+    pub fn cursor_owning(self) -> CursorOwning<T>
+        ensures list { list_of result ≡ self }
+        ensures null { position result ≡ None }
+    {
+        CursorOwning {
+            list: self,
+            current: None,
+        }
+    }
+
+    /// A cursor that keeps the list, on the object, of which it asks that it is a member.
+    #[inline]
+    pub fn cursor_owning_from_ptr<L: LinkedListOps>(
+        self,
+        links: &L,
+        object: UnsafeRef<T>,
+    ) -> CursorOwning<T>
+        requires member { Stands L.neighbors (L.table links.now) self (Some object) }
+        ensures list { list_of result ≡ self }
+        ensures position { position result ≡ Some object }
+    {
+        let _ = links;
+        CursorOwning {
+            list: self,
+            current: Some(object.place()),
+        }
+    }
+
+    /// A cursor that keeps the list, on the first member, null in an empty list.
+    #[inline]
+    pub fn front_owning<L: LinkedListOps>(self, links: &L) -> CursorOwning<T>
+        ensures list { list_of result ≡ self }
+        ensures position { (s : List Place) → Shows L.neighbors (L.table links.now) self s
+            → position result ≡ first s }
+    {
+        let _ = links;
+        let current = self.head();
+        CursorOwning {
+            list: self,
+            current,
+        }
+    }
+
+    /// A cursor that keeps the list, on the last member, null in an empty list.
+    #[inline]
+    pub fn back_owning<L: LinkedListOps>(self, links: &L) -> CursorOwning<T>
+        ensures list { list_of result ≡ self }
+        ensures position { (s : List Place) → Shows L.neighbors (L.table links.now) self s
+            → position result ≡ last s }
+    {
+        let _ = links;
+        let current = self.tail();
+        CursorOwning {
+            list: self,
+            current,
+        }
+    }
+}
+
+impl<T> CursorOwning<T> {
+    ghost use Rattle.ic_linked_list.specs.CursorOwning.{list_of, position};
+    ghost use Rattle.ic_linked_list.specs.Cursor as reading;
+
+    /// The list, as it is.
+    #[inline]
+    pub fn into_inner(self) -> LinkedList<T>
+        ensures { result ≡ list_of self }
+    {
+        let CursorOwning { list, current: _ } = self;
+        list
+    }
+
+    /// A cursor that reads, at the same position.
+    #[inline]
+    pub fn as_cursor<'a, L: LinkedListOps>(&'a self, links: &'a L) -> Cursor<'a, T, L>
+        ensures list { reading.list_of result ≡ list_of self.now }
+        ensures links { reading.links_of result ≡ links.now }
+        ensures position { reading.position result ≡ position self.now }
+    {
+        Cursor {
+            list: &self.list,
+            links,
+            current: self.current,
+        }
+    }
+
+    /// Moves to the next member, from null to the first one, and from the last one to null. O(1).
+    ///
+    /// The gap that was after the cursor is then before it.
+    #[inline]
+    pub fn move_next<L: LinkedListOps>(&mut self, links: &L)
+        requires stands { Stands L.neighbors (L.table links.now) (list_of self.old) (position self.old) }
+        ensures moved { MovesOn L.neighbors (L.table links.now)
+            (list_of self.old) (position self.old) (position self.new) }
+        ensures list { list_of self.new ≡ list_of self.old }
+    {
+        self.current = self.list.next_of(links, self.current);
+    }
+
+    /// Moves to the previous member, from null to the last one, and from the first one to null. O(1).
+    ///
+    /// The gap that was before the cursor is then after it.
+    #[inline]
+    pub fn move_prev<L: LinkedListOps>(&mut self, links: &L)
+        requires stands { Stands L.neighbors (L.table links.now) (list_of self.old) (position self.old) }
+        ensures moved { MovesBack L.neighbors (L.table links.now)
+            (list_of self.old) (position self.old) (position self.new) }
+        ensures list { list_of self.new ≡ list_of self.old }
+    {
+        self.current = self.list.prev_of(links, self.current);
+    }
+
+    /// Puts the object behind the cursor, and in front of the first member at null, unless its link is refused. O(1).
+    ///
+    /// It asks that the object's place is covered. The cursor stays where it is.
+    #[inline]
+    pub fn insert_after<L: LinkedListOps>(
+        &mut self,
+        links: &mut L,
+        object: UnsafeRef<T>,
+    ) -> Result<(), AlreadyLinked<T>>
+        requires covered { IsCovered (L.table links.old) object }
+        requires stands { Stands L.neighbors (L.table links.old) (list_of self.old) (position self.old) }
+        ensures inserted { (gap : Cut) → Shows L.neighbors (L.table links.old) (list_of self.old) (join gap)
+            → IsAfter gap (position self.old) → OnOk result (Inserts L.linked (Shows L.neighbors)
+            (L.table links.old) (L.table links.new) (list_of self.new) gap object) }
+        ensures acquired { OnOk result (L.Acquired links.old links.new object) }
+        ensures refused { OnErr result (L.Refused links.old links.new object) }
+        ensures unchanged { IfErr result (λ refused. (refused.0 ≡ object) × (list_of self.new ≡ list_of self.old)) }
+        ensures position { position self.new ≡ position self.old }
+    {
+        self.list.insert_after(links, self.current, object)
+    }
+
+    /// Puts the object in front of the cursor, and behind the last member at null, unless its link is refused. O(1).
+    ///
+    /// It asks that the object's place is covered. The cursor stays where it is.
+    #[inline]
+    pub fn insert_before<L: LinkedListOps>(
+        &mut self,
+        links: &mut L,
+        object: UnsafeRef<T>,
+    ) -> Result<(), AlreadyLinked<T>>
+        requires covered { IsCovered (L.table links.old) object }
+        requires stands { Stands L.neighbors (L.table links.old) (list_of self.old) (position self.old) }
+        ensures inserted { (gap : Cut) → Shows L.neighbors (L.table links.old) (list_of self.old) (join gap)
+            → IsBefore gap (position self.old) → OnOk result (Inserts L.linked (Shows L.neighbors)
+            (L.table links.old) (L.table links.new) (list_of self.new) gap object) }
+        ensures acquired { OnOk result (L.Acquired links.old links.new object) }
+        ensures refused { OnErr result (L.Refused links.old links.new object) }
+        ensures unchanged { IfErr result (λ refused. (refused.0 ≡ object) × (list_of self.new ≡ list_of self.old)) }
+        ensures position { position self.new ≡ position self.old }
+    {
+        self.list.insert_before(links, self.current, object)
+    }
+
+    /// Removes the member that the cursor is on and answers it, `None` at null. O(1).
+    ///
+    /// The cursor goes on to the following member, or to null.
+    #[inline]
+    pub fn remove<L: LinkedListOps>(&mut self, links: &mut L) -> Option<UnsafeRef<T>>
+        requires stands { Stands L.neighbors (L.table links.old) (list_of self.old) (position self.old) }
+        ensures answer { result ≡ position self.old }
+        ensures removed { (gap : Cut) → Shows L.neighbors (L.table links.old) (list_of self.old) (join gap)
+            → IsBefore gap (position self.old) → IfSome result (λ object. Removes L.linked (Shows L.neighbors)
+            (L.table links.old) (L.table links.new) (list_of self.new) gap object) }
+        ensures moved { (gap : Cut) → Shows L.neighbors (L.table links.old) (list_of self.old) (join gap)
+            → IsBefore gap (position self.old) → IsBehind gap (position self.new) }
+        ensures null { IfNone result ((list_of self.new ≡ list_of self.old) × (links.new ≡ links.old)
+            × (position self.new ≡ None)) }
+    {
+        self.list.remove(links, &mut self.current)
+    }
+
+    /// Puts the object in the place of the member that the cursor is on, and answers that member. O(1).
+    ///
+    /// It asks that the object's place is covered. At null it answers [`ReplaceError::Null`], whether or not the object
+    /// is linked. Then the cursor is on the object.
+    #[inline]
+    pub fn replace_with<L: LinkedListOps>(
+        &mut self,
+        links: &mut L,
+        object: UnsafeRef<T>,
+    ) -> Result<UnsafeRef<T>, ReplaceError<T>>
+        requires covered { IsCovered (L.table links.old) object }
+        requires stands { Stands L.neighbors (L.table links.old) (list_of self.old) (position self.old) }
+        ensures answer { IfOk result (λ out. position self.old ≡ Some out) }
+        ensures replaced { (gap : Cut) → Shows L.neighbors (L.table links.old) (list_of self.old) (join gap)
+            → IsBefore gap (position self.old) → IfOk result (λ out. Replaces L.linked (Shows L.neighbors)
+            (L.table links.old) (L.table links.new) (list_of self.new) gap object out) }
+        ensures moved { OnOk result (position self.new ≡ Some object) }
+        ensures acquired { OnOk result (L.Acquired links.old links.new object) }
+        ensures refused { IfErr result (ByCause
+            ((position self.old ≡ None) × (links.new ≡ links.old))
+            ((position self.old ≢ None) × L.Refused links.old links.new object)) }
+        ensures unchanged { IfErr result (λ refused. (object_of refused ≡ object)
+            × (list_of self.new ≡ list_of self.old) × (position self.new ≡ position self.old)) }
+    {
+        self.list.replace_with(links, &mut self.current, object)
+    }
+
+    /// Puts all of the given list behind the cursor, and in front of the first member at null. O(1).
+    ///
+    /// It asks that the table shows the given list too; the two share no member. The cursor stays where it is.
+    #[inline]
+    pub fn splice_after<L: LinkedListOps>(&mut self, links: &mut L, given: LinkedList<T>)
+        requires stands { Stands L.neighbors (L.table links.old) (list_of self.old) (position self.old) }
+        requires given { ShowsSome L.neighbors (L.table links.old) given }
+        ensures spliced { (gap : Cut) (t : List Place)
+            → Shows L.neighbors (L.table links.old) (list_of self.old) (join gap)
+            → IsAfter gap (position self.old) → Shows L.neighbors (L.table links.old) given t
+            → IsDisjoint t (join gap) → Splices L.linked (Shows L.neighbors)
+            (L.table links.old) (L.table links.new) (list_of self.new) gap t }
+        ensures position { position self.new ≡ position self.old }
+    {
+        self.list.splice_after(links, self.current, given);
+    }
+
+    /// Puts all of the given list in front of the cursor, and behind the last member at null. O(1).
+    ///
+    /// It asks that the table shows the given list too; the two share no member. The cursor stays where it is.
+    #[inline]
+    pub fn splice_before<L: LinkedListOps>(&mut self, links: &mut L, given: LinkedList<T>)
+        requires stands { Stands L.neighbors (L.table links.old) (list_of self.old) (position self.old) }
+        requires given { ShowsSome L.neighbors (L.table links.old) given }
+        ensures spliced { (gap : Cut) (t : List Place)
+            → Shows L.neighbors (L.table links.old) (list_of self.old) (join gap)
+            → IsBefore gap (position self.old) → Shows L.neighbors (L.table links.old) given t
+            → IsDisjoint t (join gap) → Splices L.linked (Shows L.neighbors)
+            (L.table links.old) (L.table links.new) (list_of self.new) gap t }
+        ensures position { position self.new ≡ position self.old }
+    {
+        self.list.splice_before(links, self.current, given);
+    }
+
+    /// Hands out the members behind the cursor, and at null the whole list. O(1).
+    ///
+    /// The cursor stays where it is.
+    #[inline]
+    pub fn split_after<L: LinkedListOps>(&mut self, links: &mut L) -> LinkedList<T>
+        requires stands { Stands L.neighbors (L.table links.old) (list_of self.old) (position self.old) }
+        ensures split { (gap : Cut) → Shows L.neighbors (L.table links.old) (list_of self.old) (join gap)
+            → IsAfter gap (position self.old) → Splits L.linked (Shows L.neighbors)
+            (L.table links.old) (L.table links.new) (list_of self.new) result gap.front gap.back }
+        ensures position { position self.new ≡ position self.old }
+    {
+        self.list.split_after(links, self.current)
+    }
+
+    /// Hands out the members in front of the cursor, and at null the whole list. O(1).
+    ///
+    /// The cursor stays where it is.
+    #[inline]
+    pub fn split_before<L: LinkedListOps>(&mut self, links: &mut L) -> LinkedList<T>
+        requires stands { Stands L.neighbors (L.table links.old) (list_of self.old) (position self.old) }
+        ensures split { (gap : Cut) → Shows L.neighbors (L.table links.old) (list_of self.old) (join gap)
+            → IsBefore gap (position self.old) → Splits L.linked (Shows L.neighbors)
+            (L.table links.old) (L.table links.new) (list_of self.new) result gap.back gap.front }
+        ensures position { position self.new ≡ position self.old }
+    {
+        self.list.split_before(links, self.current)
+    }
+}

@@ -1,0 +1,90 @@
+//! Calls on a list as a whole, and the one that takes its last member off.
+//!
+//! ```text
+//! let rest = list.take();      // `list` is empty now
+//! rest.dispose(&mut links);    // and its members are unlinked
+//! ```
+
+ghost use Rattle.std.specs.Prelude.{◌≡◌, List, IfSome, IfNone};
+ghost use Rattle.ic_unsafe_ref.specs.declared.place.Place.{Place};
+ghost use Rattle.ic_link_ops.specs.Sequences.{last, but_last};
+ghost use Rattle.ic_link_ops.specs.Tables.{KeepsBeside, Unlinks};
+ghost use Rattle.ic_link_ops.specs.Edits.{Clears};
+ghost use Rattle.ic_link_ops.specs.Chains.{no_members};
+ghost use Rattle.ic_link_ops.specs.LinkedList.{Shows, ShowsSome};
+
+use crate::LinkedList;
+use ic_link_ops::LinkOps;
+use ic_link_ops::linked_list::LinkedListOps;
+use ic_unsafe_ref::UnsafeRef;
+use std::mem;
+
+impl<T> LinkedList<T> {
+    /// Takes the object at the back off the list and answers it, or `None` if the list is empty. O(1).
+    #[inline]
+    pub fn pop_back<L: LinkedListOps>(&mut self, links: &mut L) -> Option<UnsafeRef<T>>
+        requires shown { ShowsSome L.neighbors (L.table links.old) self.old }
+
+        ensures answer { (s : List Place) → Shows L.neighbors (L.table links.old) self.old s → result ≡ last s }
+        ensures removed { (s : List Place) → Shows L.neighbors (L.table links.old) self.old s
+            → Shows L.neighbors (L.table links.new) self.new (but_last s) }
+        ensures unlinked { IfSome result (Unlinks L.linked (L.table links.old) (L.table links.new)) }
+        ensures empty { IfNone result ((self.new ≡ self.old) × (links.new ≡ links.old)) }
+        ensures frame { (s : List Place) → Shows L.neighbors (L.table links.old) self.old s
+            → KeepsBeside (L.table links.old) (L.table links.new) s }
+    {
+        let place = self.tail()?;
+        self.take_out(links, place);
+        links.release_link(place);
+        Some(UnsafeRef::new(place))
+    }
+
+    /// Takes all objects off the list: each member is unlinked, and the list is empty.
+    ///
+    /// One step for each member, and no memory. Lists that share no member with this one stay.
+    pub fn clear<L: LinkedListOps>(&mut self, links: &mut L)
+        requires shown { ShowsSome L.neighbors (L.table links.old) self.old }
+
+        ensures empty { self.new ≡ no_members }
+        ensures cleared { (s : List Place) → Shows L.neighbors (L.table links.old) self.old s
+            → Clears L.linked (L.table links.old) (L.table links.new) s }
+    {
+        let mut current = self.head();
+        self.fast_clear();
+        while let Some(place) = current {
+            current = links.next(place);
+            links.release_link(place);
+        }
+    }
+
+    /// Takes all objects off a list that is given up. What [`clear`](Self::clear) says of the table holds here as well.
+    pub fn dispose<L: LinkedListOps>(self, links: &mut L)
+        requires shown { ShowsSome L.neighbors (L.table links.old) self }
+
+        ensures cleared { (s : List Place) → Shows L.neighbors (L.table links.old) self s
+            → Clears L.linked (L.table links.old) (L.table links.new) s }
+    {
+        let mut list = self;
+        list.clear(links);
+    }
+
+    /// Empties the list, and leaves the objects that were in it linked. O(1): it reads no table.
+    ///
+    /// A linked object goes into no list, until the table is made to forget its link, by the call `force_unlink` of a
+    /// plain one.
+    #[inline]
+    pub fn fast_clear(&mut self)
+        ensures empty { self.new ≡ no_members }
+    {
+        let _ = self.take();
+    }
+
+    /// Hands out all of the list, and leaves it empty. O(1): it reads no table, and no link changes.
+    #[inline]
+    pub fn take(&mut self) -> LinkedList<T>
+        ensures whole { result ≡ self.old }
+        ensures empty { self.new ≡ no_members }
+    {
+        mem::take(self)
+    }
+}
