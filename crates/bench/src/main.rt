@@ -5,7 +5,7 @@
 
 ghost use Rattle.ic_link_ops.specs.DoublyEntries.{entries, table_of};
 ghost use Rattle.ic_link_ops.specs.Tables.{IsCovered};
-ghost use Rattle.std.specs.Prelude.{◌≡◌};
+ghost use Rattle.std.specs.Prelude.{◌≡◌, IfSome};
 ghost use Rattle.ic_link_ops.specs.PlainTables.{table};
 ghost use Rattle.bench.specs.Plain.{ShowsList};
 
@@ -17,7 +17,6 @@ use ic_link_ops::{PlainTable, Words, rbtree, singly_linked_list, xor_linked_list
 use ic_linked_list::LinkedList;
 use ic_unsafe_ref::{Place, UnsafeRef};
 use std::alloc::Global;
-use std::process::Abort;
 use std::rt::Clock;
 use std::time::Instant;
 use std::{env, io};
@@ -105,38 +104,47 @@ fn report(
     eprintln!(rt; "{work}: {each} ns each")
 }
 
-// A table that covers one place.
-fn one_place<W: Words>(rt: &impl Abort, alloc: Global) -> PlainTable<W>
-    ensures { (table W.unlinked result).covers ≡ 1 }
+// A table that covers one place, if there is memory for it.
+fn one_place<W: Words>(alloc: Global) -> Option<PlainTable<W>>
+    ensures { IfSome result (λ links. (table W.unlinked links).covers ≡ 1) }
 {
     let mut links = PlainTable::new(alloc);
-    links.cover(1).expect(rt, "memory for one link");
-    links
+    match links.cover(1) {
+        Ok(()) => Some(links),
+        Err(_) => None,
+    }
 }
 
 // One place of each table linked and unlinked, so many times.
-fn tables(rt: &(impl Abort + Print + Eprint + Clock), alloc: Global, times: u64) -> io::Result<()> {
-    let place = Place::new(0).expect(rt, "the first place");
-
-    let mut links: singly_linked_list::LinkOps = one_place(rt, alloc);
-    let start = Instant::now(rt)?;
-    let end = churn_singly(&mut links, place, times);
-    report(rt, "singly link", end, start.elapsed(rt)?.as_nanos(), times)?;
-
-    let mut links: LinkOps = one_place(rt, alloc);
-    let start = Instant::now(rt)?;
-    let end = churn_doubly(&mut links, place, times);
-    report(rt, "doubly link", end, start.elapsed(rt)?.as_nanos(), times)?;
-
-    let mut links: xor_linked_list::LinkOps = one_place(rt, alloc);
-    let start = Instant::now(rt)?;
-    let end = churn_xor(&mut links, place, times);
-    report(rt, "XOR link", end, start.elapsed(rt)?.as_nanos(), times)?;
-
-    let mut links: rbtree::LinkOps = one_place(rt, alloc);
-    let start = Instant::now(rt)?;
-    let end = churn_tree(&mut links, place, times);
-    report(rt, "tree link", end, start.elapsed(rt)?.as_nanos(), times)
+fn tables(rt: &(impl Print + Eprint + Clock), alloc: Global, times: u64) -> io::Result<()> {
+    let Some(place) = Place::new(0) else {
+        return Ok(());
+    };
+    let singly: Option<singly_linked_list::LinkOps> = one_place(alloc);
+    if let Some(mut links) = singly {
+        let start = Instant::now(rt)?;
+        let end = churn_singly(&mut links, place, times);
+        report(rt, "singly link", end, start.elapsed(rt)?.as_nanos(), times)?;
+    }
+    let doubly: Option<LinkOps> = one_place(alloc);
+    if let Some(mut links) = doubly {
+        let start = Instant::now(rt)?;
+        let end = churn_doubly(&mut links, place, times);
+        report(rt, "doubly link", end, start.elapsed(rt)?.as_nanos(), times)?;
+    }
+    let xor: Option<xor_linked_list::LinkOps> = one_place(alloc);
+    if let Some(mut links) = xor {
+        let start = Instant::now(rt)?;
+        let end = churn_xor(&mut links, place, times);
+        report(rt, "XOR link", end, start.elapsed(rt)?.as_nanos(), times)?;
+    }
+    let tree: Option<rbtree::LinkOps> = one_place(alloc);
+    if let Some(mut links) = tree {
+        let start = Instant::now(rt)?;
+        let end = churn_tree(&mut links, place, times);
+        report(rt, "tree link", end, start.elapsed(rt)?.as_nanos(), times)?;
+    }
+    Ok(())
 }
 
 fn main(rt: HostRuntime) -> io::Result<()> {
