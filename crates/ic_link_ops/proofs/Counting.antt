@@ -1,11 +1,7 @@
 -- How many numbers below a bound pass a test.
 use Rattle.std.proofs.Common.{◌≡◌, ◌≢◌, ℕ, zero, suc, ◌+◌, ◌<◌, ◌≤◌, Bool, true, false, arith, refl, ap, sym, ◌∙◌, inl, inr}
 use Rattle.std.proofs.Math.Nat.{eq-or-lt_of_le}
-
--- 1 for true
-abbrev one_if : Bool → ℕ
-one_if true = 1
-one_if false = 0
+use Rattle.ic_link_ops.specs.TreeWords.{one_if}
 
 -- how many numbers below n pass f
 pub count : (ℕ → Bool) → ℕ → ℕ

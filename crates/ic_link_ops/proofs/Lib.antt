@@ -4,6 +4,7 @@ pub mod Chains
 pub mod ShownLists
 pub mod Turning
 pub mod Walks
+pub mod LinkedSets
 pub mod DoublyLists
 pub mod SinglyLists
 pub mod XorLists

@@ -1,8 +1,8 @@
 -- Sequences of distinct places: their ends, cut and joined.
-use Rattle.std.proofs.Common.{◌≡◌, ◌≢◌, Option, Some, None, List, [], ◌∷◌, ◌++◌, reverse, refl, sym, ◌∙◌, ap, append_assoc, append-nil}
+use Rattle.std.proofs.Common.{◌≡◌, ◌≢◌, ◌<◌, Option, Some, None, List, [], ◌∷◌, ◌++◌, drop, length, reverse, refl, sym, ◌∙◌, ap, arith, append_assoc, append-nil}
 use Rattle.std.proofs.lemmas.List.{reverse-append}
 use Rattle.ic_unsafe_ref.specs.declared.place.Place.{Place}
-use Rattle.ic_link_ops.specs.Sequences.{Cut, join, at_front, first, last, but_last, IsAfter, IsBefore, IsAbsent, IsDistinct, IsDisjoint, first_or, last_or}
+use Rattle.ic_link_ops.specs.Sequences.{Cut, join, at_front, at_back, first, last, but_last, IsAfter, IsBefore, IsAbsent, IsDistinct, IsDisjoint, first_or, last_or}
 use Rattle.ic_link_ops.specs.Chains.{end_of}
 
 -- an end that is no member of s
@@ -240,3 +240,53 @@ gap_after gap cursor before = behind gap.front gap.back cursor before where
   behind front [] cursor before = (at_front front, sym (append-nil front), before)
   behind front (x ∷ back) cursor before =
       (record { front = front ++ x ∷ []; back = back }, append_assoc front (x ∷ []) back, before ∙ sym (last_or-append None front (x ∷ [])))
+
+-- and one that has a gap after it has a gap of the same sequence before it
+pub gap_before : (gap : Cut) (cursor : Option Place) → IsAfter gap cursor → (prev : Cut) × (join prev ≡ join gap) × IsBefore prev cursor
+gap_before gap cursor after = before gap.front gap.back cursor after where
+  before : (front back : List Place) (cursor : Option Place) → cursor ≡ last front → (prev : Cut) × (join prev ≡ front ++ back) × IsBefore prev cursor
+  before [] back cursor after = (at_back back, append-nil back, after)
+  before (x ∷ front) back None after = absurd (last_some x front (sym after))
+  before (x ∷ front) back (Some p) after = (
+    record { front = but_last (x ∷ front); back = p ∷ back },
+    sym (ap (λ (l : List Place). l ++ back) (split_last (x ∷ front) (sym after)) ∙ append_assoc (but_last (x ∷ front)) (p ∷ []) back),
+    refl,
+  )
+
+-- with nothing behind the gap, the last of all is the last in front of it
+pub last_of_front : (front back : List Place) → None ≡ first back → last (front ++ back) ≡ last front
+last_of_front front [] e = ap last (append-nil front)
+last_of_front front (x ∷ s) e = absurd (none_not x e)
+
+-- a sequence begins with its first
+pub first_is : (s : List Place) {p : Place} → Some p ≡ first s → s ≡ p ∷ drop 1 s
+first_is [] {p} e = absurd (none_not p (sym e))
+first_is (x ∷ s) e = ap (λ (q : Place). q ∷ s) (sym (some_same e))
+
+-- one with no last has no member to leave out
+pub but_last_of_none : (s : List Place) → last s ≡ None → but_last s ≡ s
+but_last_of_none [] e = refl
+but_last_of_none (x ∷ s) e = absurd (last_some x s e)
+
+-- what is put at the back is the last then, and the others are those of before
+pub last_of_push : (s : List Place) (p : Place) → last (s ++ p ∷ []) ≡ Some p
+last_of_push s p = last_or-append None s (p ∷ [])
+
+pub but_last_of_push : (s : List Place) (p : Place) → but_last (s ++ p ∷ []) ≡ s
+but_last_of_push [] p = refl
+but_last_of_push (x ∷ []) p = refl
+but_last_of_push (x ∷ y ∷ s) p = ap (λ (l : List Place). x ∷ l) (but_last_of_push (y ∷ s) p)
+
+-- without its first a sequence is shorter, and without its last
+pub fewer : (s : List Place) (p : Place) → Some p ≡ first s → length (drop 1 s) < length s
+fewer [] p e = absurd (none_not p (sym e))
+fewer (x ∷ s) p e = omega arith
+
+pub fewer_back : (s : List Place) (p : Place) → Some p ≡ last s → length (but_last s) < length s
+fewer_back [] p e = absurd (none_not p (sym e))
+fewer_back (x ∷ []) p e = omega arith
+fewer_back (x ∷ y ∷ s) p e = omega (arith, fewer_back (y ∷ s) p e)
+
+-- what is absent from two parts is absent from them in the other order
+pub absent_turned : (q : Place) (s t : List Place) → IsAbsent q (t ++ s) → IsAbsent q (s ++ t)
+absent_turned q s t h = absent_both q s t (absent_right q t s h) (absent_left q t s h)

@@ -1,30 +1,15 @@
 -- A list whose members are unlinked one after the other, from the front.
 use Rattle.std.proofs.Common.{◌≡◌, ◌≢◌, ◌<◌, Option, Some, None, List, [], ◌∷◌, ◌++◌, drop, length, Bool, true, false, refl, sym, ◌∙◌, ap, subst, arith, append_assoc, append-nil}
 use Rattle.ic_unsafe_ref.specs.declared.place.Place.{Place}
-use Rattle.ic_link_ops.specs.Sequences.{IsAbsent, IsDistinct, first, last, but_last}
-use Rattle.ic_link_ops.specs.Tables.{Table, IsCovered, IsLinked, IsUnlinked, KeepsBeside, ChangesOnly}
+use Rattle.ic_link_ops.specs.Sequences.{IsAbsent, IsDistinct, first, last}
+use Rattle.ic_link_ops.specs.Tables.{Table, IsCovered}
 use Rattle.ic_link_ops.specs.Chains.{Ends}
 use Rattle.ic_link_ops.specs.Edits.{Clears}
 use Rattle.ic_link_ops.specs.LinkedList.{Neighbors, IsBetween, IsChain, Shows, next_of, between, neighbors_at}
-use Rattle.ic_link_ops.proofs.SequenceLemmas.{absent_both, absent_right, distinct_middle, distinct_right, last_or-append, none_not, some_same, last_some}
+use Rattle.ic_link_ops.proofs.SequenceLemmas.{absent_both, absent_right, distinct_middle, distinct_right, last_or-append, none_not, first_is}
+use Rattle.ic_link_ops.proofs.LinkedSets.{not_linked}
 use Rattle.ic_link_ops.proofs.Chains.{chain_beside}
 use Rattle.ic_link_ops.proofs.Walks.{walk_blind, stretch_through}
-use Rattle.ic_link_ops.proofs.DoublyLists.{between_linked}
-
--- a sequence begins with its first
-pub first_is : (s : List Place) {p : Place} → Some p ≡ first s → s ≡ p ∷ drop 1 s
-first_is [] {p} e = absurd (none_not p (sym e))
-first_is (x ∷ s) {p} e = ap (λ (q : Place). q ∷ s) (sym (some_same e))
-
--- one with no last has no member to leave out
-pub but_last_of_none : (s : List Place) → last s ≡ None → but_last s ≡ s
-but_last_of_none [] e = refl
-but_last_of_none (x ∷ s) e = absurd (last_some x s e)
-
--- what cannot be linked is unlinked
-not_linked : (b : Bool) → (b ≡ true → ⊥) → b ≡ false
-not_linked true h = absurd (h refl)
-not_linked false h = refl
 
 module _ {E : Type 0} (linked : E → Bool) (n : E → Neighbors) where
   -- the members of s before `current` are unlinked, and those from there on are still a chain

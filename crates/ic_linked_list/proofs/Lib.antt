@@ -4,4 +4,3 @@ pub mod Standing
 pub mod Clearing
 pub mod Taking
 pub mod BothEnds
-pub mod Pushing

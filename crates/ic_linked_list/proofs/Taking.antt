@@ -1,24 +1,12 @@
 -- The walk that takes the members off: each call leaves fewer.
-use Rattle.std.proofs.Common.{◌≡◌, ◌<◌, Option, Some, None, List, [], ◌∷◌, drop, length, true, sym, ap, arith}
+use Rattle.std.proofs.Common.{◌≡◌, ◌<◌, Option, Some, None, List, length, true, ap, arith}
 use Rattle.std.specs.Iterator.{MakesProgress, item_count}
 use Rattle.ic_unsafe_ref.specs.declared.place.Place.{Place}
-use Rattle.ic_link_ops.specs.Sequences.{first, last, but_last}
 use Rattle.ic_link_ops.specs.Tables.{Table, IsCovered}
 use Rattle.ic_link_ops.specs.LinkedList.{Neighbors}
-use Rattle.ic_link_ops.proofs.SequenceLemmas.{none_not}
 use Rattle.ic_link_ops.proofs.DoublyLists.{members_shown}
 use Rattle.ic_linked_list.specs.declared.into_iter.IntoIter.{IntoIter}
 use Rattle.ic_linked_list.specs.IntoIter.{Leaves, CanTake, members_left}
-
--- without its first a sequence is shorter, and without its last
-pub fewer : (w : List Place) (p : Place) → Some p ≡ first w → length (drop 1 w) < length w
-fewer [] p e = absurd (none_not p (sym e))
-fewer (x ∷ w) p e = omega arith
-
-pub fewer_back : (w : List Place) (p : Place) → Some p ≡ last w → length (but_last w) < length w
-fewer_back [] p e = absurd (none_not p (sym e))
-fewer_back (x ∷ []) p e = omega arith
-fewer_back (x ∷ y ∷ w) p e = omega (arith, fewer_back (y ∷ w) p e)
 
 module _ {T L E : Type 0} (n : E → Neighbors) (table : L → Table E) where
   -- a call that gave out a member leaves fewer

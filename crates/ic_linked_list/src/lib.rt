@@ -11,6 +11,19 @@
 //! list.push_back(&mut links, second)?;
 //! let taken = list.pop_front(&mut links); // the first
 //! ```
+//!
+//! A cursor is on a member, or at null, which stands between the last and the first. [`Cursor`] reads. [`CursorMut`]
+//! edits: it inserts, removes, replaces, splices and splits, each in O(1). [`CursorOwning`] edits too, and keeps its
+//! list, so it can stand in a structure; it is handed the table at each call.
+//!
+//! ```text
+//! let mut cursor = list.front_mut(&mut links);
+//! cursor.insert_after(object)?;    // behind the first
+//! let rest = cursor.split_after(); // the list ends with the first now
+//! ```
+//!
+//! [`Iter`] lends the objects, and [`IntoIter`] takes the members off, each from both ends. [`laws`] has what follows
+//! for every table.
 #![tactic(auto)]
 
 mod cursor;

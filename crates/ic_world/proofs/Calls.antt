@@ -12,7 +12,7 @@ use Rattle.ic_link_ops.specs.Sequences.{IsAbsent, first, at_front, at_back, inse
 use Rattle.ic_link_ops.specs.Tables.{KeepsBeside, LinksAlso, Unlinks}
 use Rattle.ic_link_ops.specs.Chains.{Ends}
 use Rattle.ic_link_ops.specs.DoublyEntries.{unlinked, is_linked, entry_at, table_of}
-use Rattle.ic_link_ops.proofs.SequenceLemmas.{disjoint_cons, absent_both}
+use Rattle.ic_link_ops.proofs.SequenceLemmas.{disjoint_cons, absent_both, first_is}
 use Rattle.ic_link_ops.proofs.ShownLists.{free_absent}
 use Rattle.ic_world.specs.declared.collection.Collection.{Collection}
 use Rattle.ic_world.specs.declared.call.Refusal.TheVariants.{NoSuchField, NoSuchCollection, NoSuchObject, AlreadyLinked, OutOfMemory}
@@ -22,7 +22,7 @@ use Rattle.ic_world.specs.Family.{Family}
 use Rattle.ic_world.specs.Tables.{Entries, table, ShowsIn, sequence, at, family_of, IsWhole, Grown, HasObject}
 use Rattle.ic_world.specs.Step.{Step, refusal, is_placed, done, nothing, object, field, opened, items, refused}
 use Rattle.ic_world.proofs.Linked.{linked_gains, linked_loses}
-use Rattle.ic_world.proofs.Readings.{collection_is, collection_not, linked_at, linked_is, first_is}
+use Rattle.ic_world.proofs.Readings.{collection_is, collection_not, linked_at, linked_is}
 use Rattle.ic_world.proofs.Steps.{step_accepted, step_refused, field_there, field_missing, passes, fails}
 use Rattle.ic_world.proofs.Edits.{Edit, edited_family, edited_whole}
 use Rattle.ic_world.proofs.Growth.{opened_family, fresh, field_family, placed_family, grown_family}
@@ -102,7 +102,7 @@ module _ {V : Type 0} (objects : Objects V) (ts : List Entries) (cs : List (Opti
       was = is;
       shown = shown;
       frame = frame;
-      within = λ q h. (let a : IsAbsent q (p ∷ drop 1 (sequence ts k)) = subst (IsAbsent q) (first_is (sequence ts k) p answer) h in a).1;
+      within = λ q h. (let a : IsAbsent q (p ∷ drop 1 (sequence ts k)) = subst (IsAbsent q) (first_is (sequence ts k) answer) h in a).1;
       beside = λ d l n is_l same. whole.apart d c l k n is_l is same;
     }
 

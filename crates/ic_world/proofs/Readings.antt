@@ -1,5 +1,5 @@
 -- What the family of some parts has at a place, in a field and under a number.
-use Rattle.std.proofs.Common.{◌≡◌, ℕ, ◌<◌, ◌≤◌, true, List, [], ◌∷◌, length, map, set, drop, get_or, Option, Some, None, sym, ap, subst, ◌∙◌, arith}
+use Rattle.std.proofs.Common.{◌≡◌, ℕ, ◌<◌, ◌≤◌, true, List, [], length, map, set, get_or, Option, Some, None, sym, ap, subst, ◌∙◌, arith}
 use Rattle.std.proofs.lemmas.List.{length-map, get_or_default, get_or_past, get_or-map, set-get_or}
 use Rattle.std.proofs.Math.ListN.{get_or-map as map_at}
 use Rattle.std.specs.FinSet as set_of
@@ -7,7 +7,6 @@ use Rattle.ic_unsafe_ref.specs.declared.place.Place.{Place}
 use Rattle.ic_unsafe_ref.specs.Places.{index_of}
 use Rattle.ic_unsafe_ref.specs.Objects.{Objects}
 use Rattle.ic_link_ops.specs.DoublyEntries.{DoublyLinkOps}
-use Rattle.ic_link_ops.specs.Sequences.{first}
 use Rattle.ic_link_ops.specs.DoublyEntries.{is_linked, entry_at, entries}
 use Rattle.ic_world.specs.declared.collection.Collection.{Collection}
 use Rattle.ic_world.specs.Tables.{Entries, table, ShowsIn, linked_in, sequence, shown_as, at, family_of, HasObject, IsWhole}
@@ -17,11 +16,6 @@ use Rattle.ic_world.proofs.Linked.{in_linked}
 -- what a read of the vector of tables found
 pub table_read : {M : Type 0} (tables : List (DoublyLinkOps M)) (f : ℕ) (t : DoublyLinkOps M) → f < length tables → t ≡ get_or tables f t → table (map entries tables) f ≡ entries t
 table_read tables f t h e = get_or-map entries tables f t [] h ∙ ap entries (sym e)
-
--- the first of a sequence
-pub first_is : (s : List Place) (p : Place) → Some p ≡ first s → s ≡ p ∷ drop 1 s
-first_is [] p e = cc
-first_is (x ∷ s) p e = cc
 
 -- what was read, written back, changes nothing
 pub set_back : {X : Type 0} (xs : List X) (i : ℕ) (x : X) → x ≡ get_or xs i x → set xs i x ≡ xs

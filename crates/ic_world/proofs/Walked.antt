@@ -6,10 +6,9 @@ use Rattle.ic_link_ops.specs.Sequences.{Cut, join, first, IsAfter}
 use Rattle.ic_link_ops.specs.Chains.{Ends}
 use Rattle.ic_link_ops.specs.DoublyEntries.{table_of}
 use Rattle.ic_link_ops.specs.DoublyEntries.{linked_in_range}
-use Rattle.ic_link_ops.proofs.SequenceLemmas.{last_or-append}
+use Rattle.ic_link_ops.proofs.SequenceLemmas.{last_or-append, first_is}
 use Rattle.ic_link_ops.proofs.DoublyLists.{shown_length}
 use Rattle.ic_world.specs.Tables.{Entries, ShowsIn}
-use Rattle.ic_world.proofs.Readings.{first_is}
 
 -- the gap behind p, which is the first of the rest
 abbrev pub gap_behind : List Place → Place → List Place → Cut
@@ -17,7 +16,7 @@ gap_behind done p rest = record { front = done ++ p ∷ []; back = drop 1 rest }
 
 pub join-gap_behind : (s done rest : List Place) (p : Place) → s ≡ done ++ rest → Some p ≡ first rest → join (gap_behind done p rest) ≡ s
 join-gap_behind s done rest p parts at_p =
-    append_assoc done (p ∷ []) (drop 1 rest) ∙ ap (λ (l : List Place). done ++ l) (sym (first_is rest p at_p)) ∙ sym parts
+    append_assoc done (p ∷ []) (drop 1 rest) ∙ ap (λ (l : List Place). done ++ l) (sym (first_is rest at_p)) ∙ sym parts
 
 pub after_gap_behind : (done rest : List Place) (p : Place) → IsAfter (gap_behind done p rest) (Some p)
 after_gap_behind done rest p = sym (last_or-append None done (p ∷ []))
@@ -27,5 +26,5 @@ pub passed_fewer : (t : Entries) (list : Ends) (s done rest : List Place) (p : P
 passed_fewer t list s done rest p shown parts at_p =
     let bound = shown_length (table_of t) (λ q h. linked_in_range t (index_of q) h) list s shown in
     let whole = ap length parts ∙ length-append done rest in
-    let one = ap length (first_is rest p at_p) in
+    let one = ap length (first_is rest at_p) in
     omega (arith, bound, whole, one)

@@ -1,7 +1,8 @@
 use Rattle.std.proofs.Common.{◌∙◌}
 use Rattle.ic_link_ops.specs.Sequences.{insert, at_back}
 use Rattle.ic_link_ops.specs.DoublyEntries.{entries, is_linked, table_of}
-use Rattle.ic_linked_list.proofs.Pushing.{last_of_push, but_last_of_push, linked_again}
+use Rattle.ic_link_ops.proofs.SequenceLemmas.{last_of_push, but_last_of_push}
+use Rattle.ic_link_ops.proofs.LinkedSets.{linked_again}
 use Rattle.ic_linked_list.proofs.laws.push_then_pop.Goals as goal
 
 pub returns-clause-answer : goal.returns-clause-answer

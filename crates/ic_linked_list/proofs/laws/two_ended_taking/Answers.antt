@@ -1,10 +1,9 @@
 use Rattle.std.proofs.Common.{drop, sym}
 use Rattle.ic_link_ops.specs.Sequences.{but_last}
-use Rattle.ic_link_ops.proofs.SequenceLemmas.{split_last}
+use Rattle.ic_link_ops.proofs.SequenceLemmas.{split_last, first_is}
 use Rattle.ic_link_ops.proofs.ShownLists.{shows_one}
 use Rattle.ic_link_ops.proofs.DoublyLists.{between_one}
 use Rattle.ic_linked_list.specs.IntoIter.{Leaves, TakesFirst, TakesLast}
-use Rattle.ic_linked_list.proofs.Clearing.{first_is}
 use Rattle.ic_linked_list.proofs.BothEnds.{both_ends}
 use Rattle.ic_linked_list.proofs.laws.two_ended_taking.Goals as goal
 

@@ -1,8 +1,8 @@
 use Rattle.std.proofs.Common.{◌≡◌, ◌<◌, Some, ◌++◌, ◌∷◌, sym, ap, ◌∙◌, true, false, length, arith}
 use Rattle.ic_unsafe_ref.specs.Places.{index_of}
-use Rattle.ic_link_ops.specs.Sequences.{Cut, join, remove}
+use Rattle.ic_link_ops.specs.Sequences.{remove}
 use Rattle.ic_link_ops.specs.DoublyEntries.{entries, entry_at, is_linked, linked_in_range}
-use Rattle.ic_linked_list.proofs.Standing.{gap_before}
+use Rattle.ic_link_ops.proofs.SequenceLemmas.{gap_before}
 use Rattle.uses.proofs.Touching.{accepted}
 use Rattle.uses.proofs.lru.touch.Goals as goal
 

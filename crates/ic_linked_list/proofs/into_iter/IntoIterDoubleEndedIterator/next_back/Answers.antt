@@ -2,7 +2,8 @@ use Rattle.std.proofs.Common.{◌≡◌, true, sym, ◌∙◌}
 use Rattle.ic_unsafe_ref.specs.declared.place.Place.{Place}
 use Rattle.ic_link_ops.specs.Sequences.{last, but_last}
 use Rattle.ic_link_ops.specs.Tables.{IsCovered}
-use Rattle.ic_linked_list.proofs.Taking.{goes, fewer_back}
+use Rattle.ic_link_ops.proofs.SequenceLemmas.{fewer_back}
+use Rattle.ic_linked_list.proofs.Taking.{goes}
 use Rattle.ic_linked_list.proofs.into_iter.IntoIterDoubleEndedIterator.next_back.Goals as goal
 use Rattle.ic_linked_list.proofs.into_iter.IntoIterDoubleEndedIterator.next_back.Given.{Over}
 

@@ -2,7 +2,8 @@ use Rattle.std.proofs.Common.{◌≡◌, true, sym, ◌∙◌, drop}
 use Rattle.ic_unsafe_ref.specs.declared.place.Place.{Place}
 use Rattle.ic_link_ops.specs.Sequences.{first}
 use Rattle.ic_link_ops.specs.Tables.{IsCovered}
-use Rattle.ic_linked_list.proofs.Taking.{goes, fewer}
+use Rattle.ic_link_ops.proofs.SequenceLemmas.{fewer}
+use Rattle.ic_linked_list.proofs.Taking.{goes}
 use Rattle.ic_linked_list.proofs.into_iter.IntoIterIterator.next.Goals as goal
 use Rattle.ic_linked_list.proofs.into_iter.IntoIterIterator.next.Given.{Over}
 

@@ -2,7 +2,7 @@ use Rattle.std.proofs.Common.{◌≡◌, true, refl, sym, ◌∙◌}
 use Rattle.ic_unsafe_ref.specs.declared.place.Place.{Place}
 use Rattle.ic_link_ops.specs.Tables.{IsCovered}
 use Rattle.ic_link_ops.proofs.DoublyLists.{between_linked}
-use Rattle.ic_linked_list.proofs.Clearing.{Releases, releases_none, releases_more, releases_all, releases_fewer, stands}
+use Rattle.ic_linked_list.proofs.Clearing.{releases_none, releases_more, releases_all, releases_fewer, stands}
 use Rattle.ic_linked_list.proofs.list.LinkedList.clear.Goals as goal
 use Rattle.ic_linked_list.proofs.list.LinkedList.clear.Given.{Over}
 

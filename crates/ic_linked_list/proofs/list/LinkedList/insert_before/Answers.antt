@@ -1,4 +1,4 @@
-use Rattle.ic_linked_list.proofs.Standing.{gap_before}
+use Rattle.ic_link_ops.proofs.SequenceLemmas.{gap_before}
 use Rattle.ic_linked_list.proofs.list.LinkedList.insert_before.Goals as goal
 
 pub insert_between-requires-clause-shown : goal.insert_between-requires-clause-shown

@@ -1,9 +1,8 @@
 use Rattle.std.proofs.Common.{[], ◌∷◌, sym, ◌∙◌, ap, append-nil}
 use Rattle.ic_link_ops.specs.Sequences.{but_last}
-use Rattle.ic_link_ops.proofs.SequenceLemmas.{distinct_middle, absent_right}
+use Rattle.ic_link_ops.proofs.SequenceLemmas.{distinct_middle, absent_right, but_last_of_none}
 use Rattle.ic_link_ops.proofs.ShownLists.{shows_last, shows_beside, tail_linked}
 use Rattle.ic_link_ops.proofs.DoublyLists.{between_linked}
-use Rattle.ic_linked_list.proofs.Clearing.{but_last_of_none}
 use Rattle.ic_linked_list.proofs.list.LinkedList.pop_back.Goals as goal
 
 pub returns-in_err-place-clause-removed : goal.returns-in_err-place-clause-removed

@@ -1,7 +1,7 @@
 use Rattle.std.proofs.Common.{◌∙◌, sym}
 use Rattle.ic_link_ops.proofs.ShownLists.{gap_linked, stands_behind}
 use Rattle.ic_link_ops.proofs.DoublyLists.{between_linked}
-use Rattle.ic_linked_list.proofs.Standing.{last_of_front}
+use Rattle.ic_link_ops.proofs.SequenceLemmas.{last_of_front}
 use Rattle.ic_linked_list.proofs.list.LinkedList.prev_of.Goals as goal
 
 pub prev-requires : goal.prev-requires

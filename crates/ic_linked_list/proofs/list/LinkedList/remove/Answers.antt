@@ -1,8 +1,7 @@
 use Rattle.std.proofs.Common.{◌∷◌, drop, ◌∙◌, sym, ap}
-use Rattle.ic_link_ops.proofs.SequenceLemmas.{absent_right, distinct_middle}
+use Rattle.ic_link_ops.proofs.SequenceLemmas.{absent_right, distinct_middle, gap_before, first_is}
 use Rattle.ic_link_ops.proofs.ShownLists.{shows_middle, shows_beside}
 use Rattle.ic_link_ops.proofs.DoublyLists.{between_linked}
-use Rattle.ic_linked_list.proofs.Standing.{gap_before, first_behind}
 use Rattle.ic_linked_list.proofs.list.LinkedList.remove.Goals as goal
 
 pub take_out-requires : goal.take_out-requires
@@ -10,20 +9,20 @@ take_out-requires g c =
     let r = c.requires.stands in
     let k = gap_before r.0 _ r.2 in
     let shown = rw (← k.1) at r.1 in
-    (k.0.front, drop 1 k.0.back, rw (first_behind k.0.back (sym c.in_ok-place.was ∙ k.2)) at shown)
+    (k.0.front, drop 1 k.0.back, rw (first_is k.0.back (sym c.in_ok-place.was ∙ k.2)) at shown)
 
 pub release_link-requires : goal.release_link-requires
 release_link-requires g c =
     let r = c.requires.stands in
     let k = gap_before r.0 _ r.2 in
     let shown = rw (← k.1) at r.1 in
-    let whole = rw (first_behind k.0.back (sym c.in_ok-place.was ∙ k.2)) at shown in record {
+    let whole = rw (first_is k.0.back (sym c.in_ok-place.was ∙ k.2)) at shown in record {
       linked = c.take_out.ensures.linked _ ∙ between_linked g.met.L.LinkedListOps.linked_alike _ _ _ (shows_middle k.0.front (drop 1 k.0.back) whole);
     }
 
 pub returns-clause-removed : goal.returns-clause-removed
 returns-clause-removed g c gap shown before =
-    let is = first_behind gap.back (sym c.in_ok-place.was ∙ before) in
+    let is = first_is gap.back (sym c.in_ok-place.was ∙ before) in
     let rest = drop 1 gap.back in
     let whole = rw is at shown in
     let kept = c.take_out.ensures.frame gap.front rest whole in

@@ -1,8 +1,7 @@
 use Rattle.std.proofs.Common.{◌∷◌, drop, ◌∙◌, sym, ap}
-use Rattle.ic_link_ops.proofs.SequenceLemmas.{absent_right, absent_with, distinct_middle}
+use Rattle.ic_link_ops.proofs.SequenceLemmas.{absent_right, absent_with, distinct_middle, gap_before, first_is}
 use Rattle.ic_link_ops.proofs.ShownLists.{shows_middle, shows_beside, free_absent}
 use Rattle.ic_link_ops.proofs.DoublyLists.{between_linked}
-use Rattle.ic_linked_list.proofs.Standing.{gap_before, first_behind}
 use Rattle.ic_linked_list.proofs.list.LinkedList.replace_with.Goals as goal
 
 pub put_in_place-requires-clause-shown : goal.put_in_place-requires-clause-shown
@@ -11,7 +10,7 @@ put_in_place-requires-clause-shown g c =
     let k = gap_before r.0 _ r.2 in
     let a = c.if-not-acquire_link.ensures in
     let shown = rw (← k.1) at r.1 in
-    let whole = rw (first_behind k.0.back (sym c.in-Some.is ∙ k.2)) at shown in
+    let whole = rw (first_is k.0.back (sym c.in-Some.is ∙ k.2)) at shown in
     let absent = free_absent (between_linked g.met.L.LinkedListOps.linked_alike) whole (g.met.L.LinkOps.acquired_links _ _ _ a.acquired).0 in
     (k.0.front, drop 1 k.0.back, shows_beside {new = g.L.LinkOps.table c.acquire_link.new.self} whole absent a.frame.others)
 
@@ -21,7 +20,7 @@ release_link-requires g c =
     let k = gap_before r.0 _ r.2 in
     let a = c.if-not-acquire_link.ensures in
     let shown = rw (← k.1) at r.1 in
-    let whole = rw (first_behind k.0.back (sym c.in-Some.is ∙ k.2)) at shown in
+    let whole = rw (first_is k.0.back (sym c.in-Some.is ∙ k.2)) at shown in
     let law = between_linked g.met.L.LinkedListOps.linked_alike in
     let absent = free_absent law whole (g.met.L.LinkOps.acquired_links _ _ _ a.acquired).0 in
     let now = shows_beside {new = g.L.LinkOps.table c.acquire_link.new.self} whole absent a.frame.others in
@@ -30,7 +29,7 @@ release_link-requires g c =
 pub returns-clause-replaced : goal.returns-clause-replaced
 returns-clause-replaced g c gap shown before =
     let rest = drop 1 gap.back in
-    let is = first_behind gap.back (sym c.in-Some.is ∙ before) in
+    let is = first_is gap.back (sym c.in-Some.is ∙ before) in
     let whole = rw is at shown in
     let law = between_linked g.met.L.LinkedListOps.linked_alike in
     let a = c.if-not-acquire_link.ensures in
@@ -67,7 +66,7 @@ returns-clause-acquired g c =
     let k = gap_before r.0 _ r.2 in
     let a = c.if-not-acquire_link.ensures in
     let shown = rw (← k.1) at r.1 in
-    let whole = rw (first_behind k.0.back (sym c.in-Some.is ∙ k.2)) at shown in
+    let whole = rw (first_is k.0.back (sym c.in-Some.is ∙ k.2)) at shown in
     let absent = free_absent (between_linked g.met.L.LinkedListOps.linked_alike) whole (g.met.L.LinkOps.acquired_links _ _ _ a.acquired).0 in
     let apart = (absent_right c.place-place.result k.0.front (c.in-Some.out ∷ drop 1 k.0.back) absent).0 in
     rw (← c.place-place.ensures) (c.release_link.ensures.keeps_acquired _ _ apart (c.put_in_place.ensures.keeps_acquired _ _ a.acquired))

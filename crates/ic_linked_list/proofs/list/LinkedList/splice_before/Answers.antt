@@ -1,4 +1,4 @@
-use Rattle.ic_linked_list.proofs.Standing.{gap_before}
+use Rattle.ic_link_ops.proofs.SequenceLemmas.{gap_before}
 use Rattle.ic_linked_list.proofs.list.LinkedList.splice_before.Goals as goal
 
 pub splice_between-requires-clause-shown : goal.splice_between-requires-clause-shown

@@ -1,4 +1,4 @@
-use Rattle.ic_linked_list.proofs.Standing.{gap_before, absent_turned}
+use Rattle.ic_link_ops.proofs.SequenceLemmas.{gap_before, absent_turned}
 use Rattle.ic_linked_list.proofs.list.LinkedList.split_before.Goals as goal
 
 pub split_between-rest-requires : goal.split_between-rest-requires

@@ -1,6 +1,7 @@
 use Rattle.std.proofs.Common.{rules}
 use Rattle.ic_link_ops.specs.Sequences.{insert}
-use Rattle.ic_linked_list.proofs.Standing.{gap_before, stands_last}
+use Rattle.ic_link_ops.proofs.SequenceLemmas.{gap_before}
+use Rattle.ic_linked_list.proofs.Standing.{stands_last}
 use Rattle.ic_linked_list.proofs.tests.borrowed.put_last_but_one.Goals as goal
 
 pub insert_before-requires-clause-stands : goal.insert_before-requires-clause-stands

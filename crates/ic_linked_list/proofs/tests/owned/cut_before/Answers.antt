@@ -1,5 +1,6 @@
 use Rattle.ic_link_ops.specs.Sequences.{at_front}
-use Rattle.ic_linked_list.proofs.Standing.{gap_before, stands_before}
+use Rattle.ic_link_ops.proofs.SequenceLemmas.{gap_before}
+use Rattle.ic_linked_list.proofs.Standing.{stands_before}
 use Rattle.ic_linked_list.proofs.tests.owned.cut_before.Goals as goal
 
 pub returns : goal.returns

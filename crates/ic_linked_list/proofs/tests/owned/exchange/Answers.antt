@@ -1,4 +1,5 @@
-use Rattle.ic_linked_list.proofs.Standing.{gap_before, replaced}
+use Rattle.ic_link_ops.proofs.SequenceLemmas.{gap_before}
+use Rattle.ic_linked_list.proofs.Standing.{replaced}
 use Rattle.ic_linked_list.proofs.tests.owned.exchange.Goals as goal
 
 pub returns-in-Ok : goal.returns-in-Ok

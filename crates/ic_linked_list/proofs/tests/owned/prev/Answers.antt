@@ -1,4 +1,4 @@
-use Rattle.ic_linked_list.proofs.Standing.{gap_before}
+use Rattle.ic_link_ops.proofs.SequenceLemmas.{gap_before}
 use Rattle.ic_linked_list.proofs.tests.owned.prev.Goals as goal
 
 pub returns : goal.returns

@@ -1,4 +1,5 @@
-use Rattle.ic_linked_list.proofs.Standing.{gap_before, inserted_before}
+use Rattle.ic_link_ops.proofs.SequenceLemmas.{gap_before}
+use Rattle.ic_linked_list.proofs.Standing.{inserted_before}
 use Rattle.ic_linked_list.proofs.tests.owned.put_before.Goals as goal
 
 pub returns-in-Ok : goal.returns-in-Ok

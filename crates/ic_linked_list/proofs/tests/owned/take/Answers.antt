@@ -1,5 +1,6 @@
 use Rattle.ic_link_ops.specs.Sequences.{join}
-use Rattle.ic_linked_list.proofs.Standing.{gap_before, removed, stands_null}
+use Rattle.ic_link_ops.proofs.SequenceLemmas.{gap_before}
+use Rattle.ic_linked_list.proofs.Standing.{removed, stands_null}
 use Rattle.ic_linked_list.proofs.tests.owned.take.Goals as goal
 
 pub returns-in_err-removed : goal.returns-in_err-removed

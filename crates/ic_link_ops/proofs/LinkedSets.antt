@@ -1,19 +1,10 @@
--- A place that is put at the back and taken off there again.
-use Rattle.std.proofs.Common.{◌≡◌, ◌≢◌, Some, None, List, [], ◌∷◌, ◌++◌, Bool, true, false, refl, sym, ◌∙◌, ap, subst}
+-- The linked places after several edits.
+use Rattle.std.proofs.Common.{◌≡◌, ◌≢◌, Some, Bool, true, false, refl, sym, ◌∙◌, ap, subst}
 use Rattle.ic_unsafe_ref.specs.declared.place.Place.{Place}
-use Rattle.ic_link_ops.specs.Sequences.{last, but_last}
 use Rattle.ic_link_ops.specs.Tables.{Table, LinksAlso, Unlinks, KeepsLinked}
 use Rattle.ic_link_ops.specs.Walk.{is_end}
-use Rattle.ic_link_ops.proofs.SequenceLemmas.{last_or-append, some_same}
+use Rattle.ic_link_ops.proofs.SequenceLemmas.{some_same}
 use Rattle.ic_link_ops.proofs.Walks.{is_end_yes, is_end_no}
-
-pub last_of_push : (s : List Place) (p : Place) → last (s ++ p ∷ []) ≡ Some p
-last_of_push s p = last_or-append None s (p ∷ [])
-
-pub but_last_of_push : (s : List Place) (p : Place) → but_last (s ++ p ∷ []) ≡ s
-but_last_of_push [] p = refl
-but_last_of_push (x ∷ []) p = refl
-but_last_of_push (x ∷ y ∷ s) p = ap (λ (l : List Place). x ∷ l) (but_last_of_push (y ∷ s) p)
 
 -- what holds at p and at every other place holds everywhere
 everywhere : (P : Place → Type 0) (p q : Place) → P p → (q ≢ p → P q) → P q
@@ -27,3 +18,8 @@ pub linked_again : {E : Type 0} {linked : E → Bool} (t0 t1 t2 : Table E) (p : 
     → KeepsLinked linked t0 t2
 linked_again {E} {linked} t0 t1 t2 p on off q =
     everywhere (λ x. linked (t2.entry x) ≡ linked (t0.entry x)) p q (off.is ∙ sym on.was) (λ n. off.others q n ∙ on.others q n)
+
+-- what cannot be linked is unlinked
+pub not_linked : (b : Bool) → (b ≡ true → ⊥) → b ≡ false
+not_linked true h = absurd (h refl)
+not_linked false h = refl
