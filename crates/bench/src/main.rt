@@ -1,6 +1,11 @@
-//! Figures for the doubly linked list and for the tables of links: `bench [MEMBERS TIMES]`.
+//! Figures for the doubly linked list, for the order of a cache and for the tables of links.
 //!
-//! Where each kind of work ended goes to standard output, the time of one operation to standard error.
+//! Where each kind of work ended goes to standard output, the time of one operation to standard error. The list has the
+//! given number of members, and all work but `pop_front` is done the given number of times.
+//!
+//! ```text
+//! rt run -- 1000 100001
+//! ```
 #![tactic(auto)]
 
 ghost use Rattle.ic_link_ops.specs.DoublyEntries.{entries, table_of};
@@ -10,16 +15,21 @@ ghost use Rattle.ic_link_ops.specs.PlainTables.{table};
 ghost use Rattle.bench.specs.Plain.{ShowsList};
 
 mod churn;
+mod order;
 
 use churn::{churn_doubly, churn_singly, churn_tree, churn_xor};
 use ic_link_ops::linked_list::LinkOps;
 use ic_link_ops::{PlainTable, Words, rbtree, singly_linked_list, xor_linked_list};
 use ic_linked_list::LinkedList;
 use ic_unsafe_ref::{Place, UnsafeRef};
+use order::{split_and_splice_often, touch_often};
 use std::alloc::Global;
 use std::rt::Clock;
 use std::time::Instant;
 use std::{env, io};
+
+// How far apart in the table the neighbours in a cache's order stand, so that no two share a line of memory.
+const STRIDE: usize = 7919;
 
 // Puts the object at the back of the list, unless it is linked already.
 #[inline]
@@ -31,12 +41,13 @@ fn put(list: &mut LinkedList<u64>, links: &mut LinkOps, object: UnsafeRef<u64>)
     let _ = list.push_back(links, object);
 }
 
-// Puts the first `members` places into the list, as far as the table covers them.
-fn fill(list: &mut LinkedList<u64>, links: &mut LinkOps, members: usize)
+// Puts the first `members` places into the list, as far as the table covers them, neighbours so far apart in it.
+fn fill(list: &mut LinkedList<u64>, links: &mut LinkOps, members: usize, stride: usize)
     requires { ShowsList links.old list.old }
     ensures { ShowsList links.new list.new }
 {
-    for index in 0..members {
+    for count in 0..members {
+        let index = count.wrapping_mul(stride) % members;
         if let Some(place) = Place::new(index) {
             if index < links.covers() {
                 put(list, links, UnsafeRef::new(place));
@@ -90,12 +101,13 @@ fn number(word: Option<&String>, default: u64) -> u64 {
 
 // Prints where a kind of work ended, and the time of one of its operations.
 fn report(
-    rt: &(impl Print + Eprint),
+    rt: &(impl Print + Eprint + Clock),
     work: &str,
     end: Option<Place>,
-    nanos: u128,
+    start: Instant,
     count: u64,
 ) -> io::Result<()> {
+    let nanos = start.elapsed(rt)?.as_nanos();
     match end {
         None => println!(rt; "{work}: nowhere")?,
         Some(place) => println!(rt; "{work}: at {place:?}")?,
@@ -124,59 +136,90 @@ fn tables(rt: &(impl Print + Eprint + Clock), alloc: Global, times: u64) -> io::
     if let Some(mut links) = singly {
         let start = Instant::now(rt)?;
         let end = churn_singly(&mut links, place, times);
-        report(rt, "singly link", end, start.elapsed(rt)?.as_nanos(), times)?;
+        report(rt, "singly link", end, start, times)?;
     }
     let doubly: Option<LinkOps> = one_place(alloc);
     if let Some(mut links) = doubly {
         let start = Instant::now(rt)?;
         let end = churn_doubly(&mut links, place, times);
-        report(rt, "doubly link", end, start.elapsed(rt)?.as_nanos(), times)?;
+        report(rt, "doubly link", end, start, times)?;
     }
     let xor: Option<xor_linked_list::LinkOps> = one_place(alloc);
     if let Some(mut links) = xor {
         let start = Instant::now(rt)?;
         let end = churn_xor(&mut links, place, times);
-        report(rt, "XOR link", end, start.elapsed(rt)?.as_nanos(), times)?;
+        report(rt, "XOR link", end, start, times)?;
     }
     let tree: Option<rbtree::LinkOps> = one_place(alloc);
     if let Some(mut links) = tree {
         let start = Instant::now(rt)?;
         let end = churn_tree(&mut links, place, times);
-        report(rt, "tree link", end, start.elapsed(rt)?.as_nanos(), times)?;
+        report(rt, "tree link", end, start, times)?;
     }
     Ok(())
 }
 
-fn main(rt: HostRuntime) -> io::Result<()> {
-    let words: Vec<String> = env::args(&rt)?.collect(rt.alloc())?;
-    let members = number(words.get(1), 1000).min(4_294_967_296);
-    let times = number(words.get(2), 100_001);
-    let mut links = LinkOps::new(rt.alloc());
+// One list of so many members, worked on so many times.
+fn one_list(
+    rt: &(impl Print + Eprint + Clock),
+    alloc: Global,
+    members: u64,
+    times: u64,
+) -> io::Result<()> {
+    let mut links = LinkOps::new(alloc);
     if links.cover(members as usize).is_err() {
-        return eprintln!(rt; "no memory for so many members");
+        return eprintln!(rt; "no memory for {members} members");
     }
     let mut list = LinkedList::new();
-    fill(&mut list, &mut links, members as usize);
+    fill(&mut list, &mut links, members as usize, 1);
 
-    let start = Instant::now(&rt)?;
+    let start = Instant::now(rt)?;
     turn(&mut list, &mut links, times);
-    let nanos = start.elapsed(&rt)?.as_nanos();
-    report(
-        &rt,
-        "push_back and pop_front",
-        walk(&list, &links, 1),
-        nanos,
-        times,
-    )?;
+    let end = walk(&list, &links, 1);
+    report(rt, "push_back and pop_front", end, start, times)?;
 
-    let start = Instant::now(&rt)?;
+    let start = Instant::now(rt)?;
     let end = walk(&list, &links, times);
-    let nanos = start.elapsed(&rt)?.as_nanos();
-    report(&rt, "move_next", end, nanos, times)?;
+    report(rt, "move_next", end, start, times)?;
 
-    let start = Instant::now(&rt)?;
+    let start = Instant::now(rt)?;
+    split_and_splice_often(&mut list, &mut links, times);
+    let end = walk(&list, &links, 2);
+    report(rt, "split and splice", end, start, times)?;
+
+    let start = Instant::now(rt)?;
     let end = drain(&mut list, &mut links, members);
-    let nanos = start.elapsed(&rt)?.as_nanos();
-    report(&rt, "pop_front", end, nanos, members)?;
-    tables(&rt, rt.alloc(), times)
+    report(rt, "pop_front", end, start, members)
+}
+
+// The order of a cache with so many members, touched so many times.
+fn touches(
+    rt: &(impl Print + Eprint + Clock),
+    alloc: Global,
+    work: &str,
+    members: usize,
+    times: u64,
+) -> io::Result<()> {
+    let mut links = LinkOps::new(alloc);
+    if links.cover(members).is_err() {
+        return eprintln!(rt; "{work}: no memory");
+    }
+    let mut order = LinkedList::new();
+    fill(&mut order, &mut links, members, STRIDE);
+
+    let start = Instant::now(rt)?;
+    touch_often(&mut order, &mut links, times);
+    let end = walk(&order, &links, 1);
+    report(rt, work, end, start, times)
+}
+
+fn main(rt: HostRuntime) -> io::Result<()> {
+    let words: Vec<String> = env::args(&rt)?.collect(rt.alloc())?;
+    let members = number(words.get(1), 1000);
+    let times = number(words.get(2), 100_001);
+    one_list(&rt, rt.alloc(), members, times)?;
+    tables(&rt, rt.alloc(), times)?;
+    touches(&rt, rt.alloc(), "lru touch of 1000", 1000, times)?;
+    touches(&rt, rt.alloc(), "lru touch of 100000", 100_000, times)?;
+    touches(&rt, rt.alloc(), "lru touch of 1000000", 1_000_000, times)
 }

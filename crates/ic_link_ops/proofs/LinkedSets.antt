@@ -13,11 +13,16 @@ everywhere P p q at other = by (is_end (Some p) q) refl where
   by true e = subst P (some_same (is_end_yes (Some p) q e)) at
   by false e = other (λ h. is_end_no (Some p) q e (ap Some (sym h)))
 
--- linked and unlinked again: the linked places are the old ones
-pub linked_again : {E : Type 0} {linked : E → Bool} (t0 t1 t2 : Table E) (p : Place) → LinksAlso linked t0 t1 p → Unlinks linked t1 t2 p
-    → KeepsLinked linked t0 t2
-linked_again {E} {linked} t0 t1 t2 p on off q =
-    everywhere (λ x. linked (t2.entry x) ≡ linked (t0.entry x)) p q (off.is ∙ sym on.was) (λ n. off.others q n ∙ on.others q n)
+module _ {E : Type 0} {linked : E → Bool} (t0 t1 t2 : Table E) (p : Place) where
+  -- linked and unlinked again: the linked places are the old ones
+  pub unlinked_again : LinksAlso linked t0 t1 p → Unlinks linked t1 t2 p → KeepsLinked linked t0 t2
+  unlinked_again on off q =
+      everywhere (λ x. linked (t2.entry x) ≡ linked (t0.entry x)) p q (off.is ∙ sym on.was) (λ n. off.others q n ∙ on.others q n)
+
+  -- unlinked and linked again
+  pub linked_again : Unlinks linked t0 t1 p → LinksAlso linked t1 t2 p → KeepsLinked linked t0 t2
+  linked_again off on q =
+      everywhere (λ x. linked (t2.entry x) ≡ linked (t0.entry x)) p q (on.is ∙ sym off.was) (λ n. on.others q n ∙ off.others q n)
 
 -- what cannot be linked is unlinked
 pub not_linked : (b : Bool) → (b ≡ true → ⊥) → b ≡ false

@@ -1,15 +1,17 @@
 //! Lists over plain tables, walked by a cursor and by an iterator after the calls.
 
-ghost use Rattle.std.specs.Prelude.{◌≡◌, ◌<◌, List, length, true};
+ghost use Rattle.std.specs.Prelude.{◌≡◌, ◌<◌, List, Some, IfSome, length, true};
 ghost use Rattle.ic_unsafe_ref.specs.declared.place.Place.{Place};
 ghost use Rattle.ic_unsafe_ref.specs.Places.{index_of};
 ghost use Rattle.ic_unsafe_ref.specs.Objects.{is_placed};
 ghost use Rattle.ic_link_ops.specs.Sequences.{Cut, join, IsAfter, IsDisjoint};
 ghost use Rattle.ic_link_ops.specs.LinkedList.{Shows, ShowsSome};
 ghost use Rattle.ic_link_ops.specs.DoublyEntries.{neighbors_of, entries, table_of};
+ghost use Rattle.ic_linked_list.specs.Stands.{Stands};
 ghost use Rattle.ic_linked_list.specs.Cursor.{list_of, links_of, position};
 
 use super::*;
+use ic_link_ops::ReplaceError;
 use ic_unsafe_ref::{Objects, Place, UnsafeRef};
 use plain_sequence::PlainSequence;
 use std::alloc::Global;
@@ -17,9 +19,27 @@ use std::process::Abort;
 use std::test::Fail;
 
 mod borrowed;
+mod editing;
 mod owned;
+mod reading;
 mod walks;
 mod whole;
+
+// A refused replacement, by the place that came back.
+#[derive(Clone, Copy, PartialEq, Eq, Debug)]
+enum Refused {
+    Null(Place),
+    AlreadyLinked(Place),
+}
+
+impl Refused {
+    fn of(error: &ReplaceError<u64>) -> Refused {
+        match error {
+            ReplaceError::Null(object) => Refused::Null(object.place()),
+            ReplaceError::AlreadyLinked(object) => Refused::AlreadyLinked(object.place()),
+        }
+    }
+}
 
 fn place(rt: &impl Abort, index: usize) -> Place {
     Place::new(index).expect(rt, "the index of a place")
@@ -50,6 +70,18 @@ fn push(
     }
 }
 
+// A list of these places.
+fn list_with(rt: &impl Abort, links: &mut LinkOps, members: &[usize]) -> LinkedList<u64>
+    ensures shown { ShowsSome neighbors_of (table_of (entries links.new)) result }
+{
+    let mut list = empty_list(links);
+    for member in members.iter() {
+        let place = place(rt, *member);
+        assert_eq!(rt; push(rt, &mut list, links, place), Ok(()));
+    }
+    list
+}
+
 // Takes the first object off.
 fn pop(list: &mut LinkedList<u64>, links: &mut LinkOps) -> Option<Place>
     requires shown { ShowsSome neighbors_of (table_of (entries links.old)) list.old }
@@ -77,6 +109,26 @@ fn step(cursor: &mut Cursor<'_, u64, LinkOps>) -> Option<Place>
 {
     cursor.move_next();
     cursor.get_ptr()
+}
+
+// The next moves come by these places.
+fn assert_steps(rt: &impl Abort, cursor: &mut Cursor<'_, u64, LinkOps>, members: &[usize])
+    requires stands { Stands neighbors_of (table_of (entries (links_of cursor.old))) (list_of cursor.old) (position cursor.old) }
+    ensures stands { Stands neighbors_of (table_of (entries (links_of cursor.new))) (list_of cursor.new) (position cursor.new) }
+{
+    for member in members.iter() {
+        assert_eq!(rt; step(cursor), Place::new(*member));
+    }
+}
+
+// The second member, on which a cursor may stand.
+fn second(list: &LinkedList<u64>, links: &LinkOps) -> Option<UnsafeRef<u64>>
+    requires shown { ShowsSome neighbors_of (table_of (entries links.now)) list.now }
+    ensures member { IfSome result (λ object. Stands neighbors_of (table_of (entries links.now)) list.now (Some object)) }
+{
+    let cursor = list.front(links);
+    let next = cursor.peek_next();
+    next.clone_pointer()
 }
 
 // A walk from null comes by these places, and to null again.
@@ -178,6 +230,28 @@ fn push_second(
         × Shows neighbors_of (table_of (entries links.new)) list.new t × IsDisjoint t s }
 {
     push_first(rt, list, other, links, place)
+}
+
+// Two lists of one table, of these places.
+fn pair_with(
+    rt: &impl Abort,
+    links: &mut LinkOps,
+    first: &[usize],
+    second: &[usize],
+) -> (LinkedList<u64>, LinkedList<u64>)
+    ensures shown { (s t : List Place) × Shows neighbors_of (table_of (entries links.new)) result.0 s
+        × Shows neighbors_of (table_of (entries links.new)) result.1 t × IsDisjoint t s }
+{
+    let (mut left, mut right) = empty_pair(links);
+    for member in first.iter() {
+        let place = place(rt, *member);
+        assert_eq!(rt; push_first(rt, &mut left, &right, links, place), Ok(()));
+    }
+    for member in second.iter() {
+        let place = place(rt, *member);
+        assert_eq!(rt; push_second(rt, &left, &mut right, links, place), Ok(()));
+    }
+    (left, right)
 }
 
 // Walks come by these places of two lists of one table.

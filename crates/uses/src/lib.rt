@@ -1,6 +1,8 @@
 //! Uses of the collections, as a caller writes them: each with a contract, and run by a test.
 #![tactic(auto)]
 
+pub mod first_steps;
 pub mod lru;
+pub mod queue;
 #[cfg(test)]
 mod tests;

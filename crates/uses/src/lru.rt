@@ -6,10 +6,10 @@
 //! let forgotten = lru::forget_oldest(&mut order, &mut links);
 //! ```
 
-ghost use Rattle.std.specs.Prelude.{◌≡◌, ◌++◌, ◌∷◌, List, Some, OnOk, OnErr};
+ghost use Rattle.std.specs.Prelude.{◌≡◌, ◌++◌, ◌∷◌, List, Some, OnOk, OnErr, IfErr, IfSome, IfNone};
 ghost use Rattle.ic_unsafe_ref.specs.declared.place.Place.{Place};
 ghost use Rattle.ic_link_ops.specs.Sequences.{Cut, join, last, but_last, IsBefore};
-ghost use Rattle.ic_link_ops.specs.Tables.{IsCovered, IsLinked, KeepsBeside, KeepsLinked};
+ghost use Rattle.ic_link_ops.specs.Tables.{IsCovered, IsLinked, KeepsBeside, KeepsLinked, LinksAlso, Unlinks};
 ghost use Rattle.ic_link_ops.specs.Edits.{Removes};
 ghost use Rattle.ic_link_ops.specs.LinkedList.{Shows, ShowsSome};
 ghost use Rattle.ic_link_ops.specs.DoublyEntries.{entries, is_linked, neighbors_of, table_of};
@@ -21,7 +21,9 @@ use ic_linked_list::LinkedList;
 use ic_unsafe_ref::{Place, UnsafeRef};
 use std::alloc::Allocator;
 
-/// Puts an object into the cache, as the one touched last. An object that is linked already comes back. O(1).
+/// Puts an object into the cache, as the one touched last. O(1), and it takes no memory.
+///
+/// It asks that the object's place is covered. An object that is linked already comes back, and nothing has changed.
 pub fn insert<T, A: Allocator>(
     order: &mut LinkedList<T>,
     links: &mut LinkOps<A>,
@@ -31,7 +33,12 @@ pub fn insert<T, A: Allocator>(
     requires shown { ShowsSome neighbors_of (table_of (entries links.old)) order.old }
     ensures inserted { (s : List Place) → Shows neighbors_of (table_of (entries links.old)) order.old s
         → OnOk result (Shows neighbors_of (table_of (entries links.new)) order.new (object ∷ s)) }
+    ensures linked { OnOk result
+        (LinksAlso is_linked (table_of (entries links.old)) (table_of (entries links.new)) object) }
     ensures refused { OnErr result (IsLinked is_linked (table_of (entries links.old)) object) }
+    ensures unchanged { IfErr result (λ refused. (refused.0 ≡ object) × (order.new ≡ order.old) × (links.new ≡ links.old)) }
+    ensures frame { (s : List Place) → Shows neighbors_of (table_of (entries links.old)) order.old s
+        → KeepsBeside (table_of (entries links.old)) (table_of (entries links.new)) (object ∷ s) }
 {
     order.push_front(links, object)
 }
@@ -49,6 +56,8 @@ fn take_off<T, L: LinkedListOps>(list: &mut LinkedList<T>, links: &mut L, place:
 }
 
 /// Makes a member the one touched last: all others keep their order. O(1), and it takes no memory.
+///
+/// It asks that the object is a member, and is never refused. The same objects are linked before and after.
 pub fn touch<T, A: Allocator>(
     order: &mut LinkedList<T>,
     links: &mut LinkOps<A>,
@@ -58,12 +67,18 @@ pub fn touch<T, A: Allocator>(
     ensures touched { (front back : List Place)
         → Shows neighbors_of (table_of (entries links.old)) order.old (front ++ object ∷ back)
         → Shows neighbors_of (table_of (entries links.new)) order.new (object ∷ (front ++ back)) }
+    ensures linked { KeepsLinked is_linked (table_of (entries links.old)) (table_of (entries links.new)) }
+    ensures frame { (front back : List Place)
+        → Shows neighbors_of (table_of (entries links.old)) order.old (front ++ object ∷ back)
+        → KeepsBeside (table_of (entries links.old)) (table_of (entries links.new)) (front ++ object ∷ back) }
 {
     take_off(order, links, object.place());
     let _ = order.push_front(links, object);
 }
 
 /// Takes the object out that was touched longest ago, or `None` if there is none. O(1).
+///
+/// That object is unlinked then. An empty cache stays as it is, and so does the table.
 pub fn forget_oldest<T, A: Allocator>(
     order: &mut LinkedList<T>,
     links: &mut LinkOps<A>,
@@ -72,6 +87,10 @@ pub fn forget_oldest<T, A: Allocator>(
     ensures oldest { (s : List Place) → Shows neighbors_of (table_of (entries links.old)) order.old s → result ≡ last s }
     ensures rest { (s : List Place) → Shows neighbors_of (table_of (entries links.old)) order.old s
         → Shows neighbors_of (table_of (entries links.new)) order.new (but_last s) }
+    ensures unlinked { IfSome result (Unlinks is_linked (table_of (entries links.old)) (table_of (entries links.new))) }
+    ensures empty { IfNone result ((order.new ≡ order.old) × (links.new ≡ links.old)) }
+    ensures frame { (s : List Place) → Shows neighbors_of (table_of (entries links.old)) order.old s
+        → KeepsBeside (table_of (entries links.old)) (table_of (entries links.new)) s }
 {
     order.pop_back(links)
 }

@@ -1,5 +1,5 @@
 use Rattle.bench.specs.Plain.{ShowsList}
 use Rattle.bench.proofs.fill.Given as goal
 
-abbrev pub invariant-loop-index : goal.invariant-loop-index
-invariant-loop-index l = ShowsList l.links l.list
+abbrev pub invariant-loop-count : goal.invariant-loop-count
+invariant-loop-count l = ShowsList l.links l.list

@@ -1,5 +1,5 @@
 use Rattle.ic_link_ops.specs.Sequences.{insert, at_back}
-use Rattle.bench.proofs.Either.{either}
+use Rattle.uses.proofs.Outcomes.{either}
 use Rattle.bench.proofs.put.Goals as goal
 
 pub returns : goal.returns

@@ -1,15 +1,13 @@
 //! Cursors that borrow their list: what the list and the table are after the borrow.
 
-ghost use Rattle.std.specs.Prelude.{◌≡◌, ◌∷◌, List, Option, Some, IfSome};
+ghost use Rattle.std.specs.Prelude.{◌≡◌, ◌∷◌, List, Option, Some};
 ghost use Rattle.ic_unsafe_ref.specs.declared.place.Place.{Place};
 ghost use Rattle.ic_link_ops.specs.Sequences.{first};
 ghost use Rattle.ic_link_ops.specs.LinkedList.{Shows, ShowsSome};
 ghost use Rattle.ic_link_ops.specs.DoublyEntries.{neighbors_of, entries, table_of};
-ghost use Rattle.ic_linked_list.specs.Stands.{Stands};
-ghost use Rattle.ic_linked_list.specs.CursorMut.{list_of, links_of, position, Stays};
 
-use super::{assert_members, empty_list, place, push, three_objects};
-use crate::{CursorMut, LinkOps, LinkedList};
+use super::{assert_members, empty_list, list_with, place, push, three_objects};
+use crate::{LinkOps, LinkedList};
 use ic_link_ops::linked_list::LinkedListOps;
 use ic_unsafe_ref::{Objects, Place, UnsafeRef};
 use std::process::Abort;
@@ -30,13 +28,13 @@ fn remove_first<T, L: LinkedListOps>(
     cursor.remove()
 }
 
-// Moves on by one member.
-fn step(cursor: &mut CursorMut<'_, u64, LinkOps>)
-    requires stands { Stands neighbors_of (table_of (entries (links_of cursor.old))) (list_of cursor.old) (position cursor.old) }
-    ensures stands { Stands neighbors_of (table_of (entries (links_of cursor.new))) (list_of cursor.new) (position cursor.new) }
-    ensures stays { Stays cursor.old cursor.new }
+// Removes the first member of a list that has one, and answers its place.
+fn take_first(rt: &impl Abort, list: &mut LinkedList<u64>, links: &mut LinkOps) -> Place
+    requires shown { ShowsSome neighbors_of (table_of (entries links.old)) list.old }
+    ensures shown { ShowsSome neighbors_of (table_of (entries links.new)) list.new }
 {
-    cursor.move_next();
+    let removed = remove_first(list, links).expect(rt, "the first member");
+    removed.place()
 }
 
 // Puts the place behind the first member.
@@ -120,5 +118,17 @@ fn the_list_after_a_cursor(rt: HostRuntime) -> Result<(), Fail> {
     split_and_splice(&mut list, &mut links);
     assert_members(&rt, &list, &links, &[0, 1, 2]);
     read_at_the_front(&rt, &mut list, &mut links, &objects);
+    Ok(())
+}
+
+#[test]
+fn the_first_member_removed(rt: HostRuntime) -> Result<(), Fail> {
+    let mut links = LinkOps::new(rt.alloc());
+    links.cover(3)?;
+    let mut list = list_with(&rt, &mut links, &[2, 0]);
+    assert_eq!(rt; take_first(&rt, &mut list, &mut links), place(&rt, 2));
+    assert_members(&rt, &list, &links, &[0]);
+    assert_eq!(rt; take_first(&rt, &mut list, &mut links), place(&rt, 0));
+    assert_members(&rt, &list, &links, &[]);
     Ok(())
 }

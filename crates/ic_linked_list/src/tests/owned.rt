@@ -1,26 +1,19 @@
 //! Cursors that keep their list.
 
-ghost use Rattle.std.specs.Prelude.{◌≡◌, Option, Some};
+ghost use Rattle.std.specs.Prelude.{◌≡◌, Option, Some, List};
 ghost use Rattle.ic_unsafe_ref.specs.declared.place.Place.{Place};
+ghost use Rattle.ic_link_ops.specs.Sequences.{IsDisjoint};
 ghost use Rattle.ic_link_ops.specs.LinkedList.{Shows, ShowsSome};
 ghost use Rattle.ic_link_ops.specs.DoublyEntries.{neighbors_of, entries, table_of};
 ghost use Rattle.ic_linked_list.specs.Stands.{Stands};
 ghost use Rattle.ic_linked_list.specs.CursorOwning.{list_of, position};
 
-use super::{assert_members, empty_list, place, push};
+use super::{Refused, assert_members, empty_list, list_with, pair_with, place, push, second};
 use crate::{CursorOwning, LinkOps, LinkedList};
-use ic_link_ops::ReplaceError;
 use ic_unsafe_ref::{Place, UnsafeRef};
 use std::alloc::Global;
 use std::process::Abort;
 use std::test::Fail;
-
-// A refused replacement, by the place that came back.
-#[derive(Clone, Copy, PartialEq, Eq, Debug)]
-enum Refused {
-    Null(Place),
-    AlreadyLinked(Place),
-}
 
 // At null.
 fn own(list: LinkedList<u64>, links: &LinkOps) -> CursorOwning<u64>
@@ -45,6 +38,14 @@ fn own_back(list: LinkedList<u64>, links: &LinkOps) -> CursorOwning<u64>
     ensures stands { Stands neighbors_of (table_of (entries links.now)) (list_of result) (position result) }
 {
     list.back_owning(links)
+}
+
+// On the object.
+fn own_at(list: LinkedList<u64>, links: &LinkOps, object: UnsafeRef<u64>) -> CursorOwning<u64>
+    requires member { Stands neighbors_of (table_of (entries links.now)) list (Some object) }
+    ensures stands { Stands neighbors_of (table_of (entries links.now)) (list_of result) (position result) }
+{
+    list.cursor_owning_from_ptr(links, object)
 }
 
 // The place that it is on.
@@ -139,8 +140,7 @@ fn exchange(
     let replaced = cursor.replace_with(links, UnsafeRef::new(place));
     match &replaced {
         Ok(out) => Ok(out.place()),
-        Err(ReplaceError::Null(object)) => Err(Refused::Null(object.place())),
-        Err(ReplaceError::AlreadyLinked(object)) => Err(Refused::AlreadyLinked(object.place())),
+        Err(error) => Err(Refused::of(error)),
     }
 }
 
@@ -162,16 +162,34 @@ fn cut_before(cursor: &mut CursorOwning<u64>, links: &mut LinkOps) -> LinkedList
     cursor.split_before(links)
 }
 
-// A list of these places.
-fn list_with(rt: &impl Abort, links: &mut LinkOps, members: &[usize]) -> LinkedList<u64>
+// Puts the other list in front of the first member, by a cursor at null, and answers the whole.
+fn put_list_first(
+    list: LinkedList<u64>,
+    links: &mut LinkOps,
+    other: LinkedList<u64>,
+) -> LinkedList<u64>
+    requires apart { (s t : List Place) × Shows neighbors_of (table_of (entries links.old)) list s
+        × Shows neighbors_of (table_of (entries links.old)) other t × IsDisjoint t s }
     ensures shown { ShowsSome neighbors_of (table_of (entries links.new)) result }
 {
-    let mut list = empty_list(links);
-    for member in members.iter() {
-        let place = place(rt, *member);
-        assert_eq!(rt; push(rt, &mut list, links, place), Ok(()));
-    }
-    list
+    let mut cursor = list.cursor_owning();
+    cursor.splice_after(links, other);
+    cursor.into_inner()
+}
+
+// Puts the other list in front of the last member, and answers the whole.
+fn put_list_last_but_one(
+    list: LinkedList<u64>,
+    links: &mut LinkOps,
+    other: LinkedList<u64>,
+) -> LinkedList<u64>
+    requires apart { (s t : List Place) × Shows neighbors_of (table_of (entries links.old)) list s
+        × Shows neighbors_of (table_of (entries links.old)) other t × IsDisjoint t s }
+    ensures shown { ShowsSome neighbors_of (table_of (entries links.new)) result }
+{
+    let mut cursor = list.back_owning(links);
+    cursor.splice_before(links, other);
+    cursor.into_inner()
 }
 
 // Whether the place is linked.
@@ -326,6 +344,36 @@ fn a_cursor_keeps_its_list(rt: HostRuntime) -> Result<(), Fail> {
     assert_eq!(rt; take(&mut cursor, &mut links), None);
     let members = list(cursor, &links);
     assert_members(&rt, &members, &links, &[1, 2]);
+    Ok(())
+}
+
+#[test]
+fn on_a_given_object(rt: HostRuntime) -> Result<(), Fail> {
+    let mut links = LinkOps::new(rt.alloc());
+    links.cover(5)?;
+    let members = list_with(&rt, &mut links, &[1, 2, 3, 4]);
+    let object = second(&members, &links).expect(&rt, "the second member");
+    let mut cursor = own_at(members, &links, object);
+    assert_eq!(rt; at(&cursor, &links), Place::new(2));
+    assert_eq!(rt; prev(&mut cursor, &links), Place::new(1));
+    assert_eq!(rt; prev(&mut cursor, &links), None);
+    let members = list(cursor, &links);
+    assert_members(&rt, &members, &links, &[1, 2, 3, 4]);
+    Ok(())
+}
+
+#[test]
+fn a_list_goes_first_and_last_but_one(rt: HostRuntime) -> Result<(), Fail> {
+    let mut links = LinkOps::new(rt.alloc());
+    links.cover(5)?;
+    let (members, other) = pair_with(&rt, &mut links, &[1, 2, 3], &[0, 4]);
+    let whole = put_list_first(members, &mut links, other);
+    assert_members(&rt, &whole, &links, &[0, 4, 1, 2, 3]);
+    let mut links = LinkOps::new(rt.alloc());
+    links.cover(5)?;
+    let (members, other) = pair_with(&rt, &mut links, &[1, 2, 3], &[0, 4]);
+    let whole = put_list_last_but_one(members, &mut links, other);
+    assert_members(&rt, &whole, &links, &[1, 2, 0, 4, 3]);
     Ok(())
 }
 

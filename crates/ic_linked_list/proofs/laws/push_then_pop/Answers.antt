@@ -2,7 +2,7 @@ use Rattle.std.proofs.Common.{◌∙◌}
 use Rattle.ic_link_ops.specs.Sequences.{insert, at_back}
 use Rattle.ic_link_ops.specs.DoublyEntries.{entries, is_linked, table_of}
 use Rattle.ic_link_ops.proofs.SequenceLemmas.{last_of_push, but_last_of_push}
-use Rattle.ic_link_ops.proofs.LinkedSets.{linked_again}
+use Rattle.ic_link_ops.proofs.LinkedSets.{unlinked_again}
 use Rattle.ic_linked_list.proofs.laws.push_then_pop.Goals as goal
 
 pub returns-clause-answer : goal.returns-clause-answer
@@ -17,5 +17,5 @@ returns-clause-sequence g c s shown =
 pub returns-clause-linked : goal.returns-clause-linked
 returns-clause-linked g c q =
     let off = rw (returns-clause-answer g c) at c.pop_back.ensures.unlinked in
-    linked_again {linked = is_linked} (table_of (entries c.args.links.now)) (table_of (entries c.push_back.new.links)) (table_of (entries c.pop_back.new.links))
+    unlinked_again {linked = is_linked} (table_of (entries c.args.links.now)) (table_of (entries c.push_back.new.links)) (table_of (entries c.pop_back.new.links))
     c.args.object c.in-Ok.ensures.linked off q

@@ -1,9 +1,11 @@
 use Rattle.std.proofs.Common.{◌≡◌, ◌<◌, Some, ◌++◌, ◌∷◌, sym, ap, ◌∙◌, true, false, length, arith}
 use Rattle.ic_unsafe_ref.specs.Places.{index_of}
 use Rattle.ic_link_ops.specs.Sequences.{remove}
-use Rattle.ic_link_ops.specs.DoublyEntries.{entries, entry_at, is_linked, linked_in_range}
+use Rattle.ic_link_ops.specs.DoublyEntries.{entries, linked_in_range}
 use Rattle.ic_link_ops.proofs.SequenceLemmas.{gap_before}
-use Rattle.uses.proofs.Touching.{accepted}
+use Rattle.ic_link_ops.proofs.LinkedSets.{linked_again}
+use Rattle.uses.proofs.Outcomes.{either}
+use Rattle.uses.proofs.PutBack.{kept_beside}
 use Rattle.uses.proofs.lru.touch.Goals as goal
 
 pub take_off-requires : goal.take_off-requires
@@ -24,11 +26,25 @@ push_front-requires-clause-shown g c =
     let prev = gap_before m.0 (Some c.args.object) m.2 in
     (remove prev.0, (c.take_off.ensures prev.0 (rw prev.1 m.1) (ap (λ p. Some p) c.place.ensures ∙ prev.2)).shows)
 
-pub returns : goal.returns
-returns g c = record {
-  touched = λ front back shown.
-      let taken = c.take_off.ensures (record { front = front; back = c.args.object ∷ back }) shown (ap (λ p. Some p) c.place.ensures) in
-      let free : is_linked (entry_at (entries c.take_off.new.links) c.args.object) ≡ false = rw (← c.place.ensures) taken.unlinks.is in
-      accepted c.push_front.result (c.push_front.ensures.inserted (front ++ back) taken.shows) c.push_front.ensures.refused
-      (λ refused. let never : false ≡ true = sym free ∙ refused.0 in cc);
-}
+pub returns-clause-touched : goal.returns-clause-touched
+returns-clause-touched g c front back shown =
+    let put = c.push_front.ensures in
+    let taken = c.take_off.ensures (record { front = front; back = c.args.object ∷ back }) shown (ap (λ p. Some p) c.place.ensures) in
+    let off = rw c.place.ensures at taken.unlinks in
+    either _ c.push_front.result (put.inserted (front ++ back) taken.shows) put.refused put.unchanged
+    (λ shown. shown) (λ refused same. let never : false ≡ true = sym off.is ∙ refused.0 in absurd (cc))
+
+pub returns-clause-linked : goal.returns-clause-linked
+returns-clause-linked g c =
+    let put = c.push_front.ensures in
+    let m = c.requires.member in
+    let prev = gap_before m.0 (Some c.args.object) m.2 in
+    let taken = c.take_off.ensures prev.0 (rw prev.1 m.1) (ap (λ p. Some p) c.place.ensures ∙ prev.2) in
+    let off = rw c.place.ensures at taken.unlinks in
+    either _ c.push_front.result put.linked put.refused put.unchanged
+    (λ on. linked_again _ _ _ c.args.object off on) (λ refused same. let never : false ≡ true = sym off.is ∙ refused.0 in absurd (cc))
+
+pub returns-clause-frame : goal.returns-clause-frame
+returns-clause-frame g c front back shown =
+    let taken = c.take_off.ensures (record { front = front; back = c.args.object ∷ back }) shown (ap (λ p. Some p) c.place.ensures) in
+    kept_beside _ _ _ c.args.object front back taken.frame (c.push_front.ensures.frame (front ++ back) taken.shows)

@@ -1,0 +1,35 @@
+use Rattle.std.proofs.Common.{◌<◌, [], ◌∷◌, ◌∙◌, length, arith, rules}
+use Rattle.ic_unsafe_ref.specs.Places.{index_of}
+use Rattle.ic_link_ops.specs.Sequences.{at_front}
+use Rattle.ic_link_ops.specs.LinkedList.{Shows}
+use Rattle.ic_link_ops.specs.DoublyEntries.{entries, neighbors_of, table_of}
+use Rattle.ic_linked_list.proofs.Standing.{stands_null}
+use Rattle.uses.proofs.first_steps.first_steps.Goals as goal
+
+pub push_back-requires-2-clause-covered : goal.push_back-requires-2-clause-covered
+push_back-requires-2-clause-covered g c =
+    let none : Shows neighbors_of (table_of (entries c.args.links)) c.new-list.result [] = search rules in
+    let kept = c.in_ok-push_back.ensures.frame [] none in
+    let within : index_of c.args.second < length (entries c.push_back.new.links) = omega (arith, kept.covers, c.requires.second) in
+    within
+
+pub push_back-requires-2-clause-shown : goal.push_back-requires-2-clause-shown
+push_back-requires-2-clause-shown g c =
+    let none : Shows neighbors_of (table_of (entries c.args.links)) c.new-list.result [] = search rules in
+    (c.args.first ∷ [], c.in_ok-push_back.ensures.inserted [] none)
+
+pub move_next-requires : goal.move_next-requires
+move_next-requires g c =
+    let none : Shows neighbors_of (table_of (entries c.args.links)) c.new-list.result [] = search rules in
+    let one = c.in_ok-push_back.ensures.inserted [] none in
+    let two = c.in_ok-push_back-2.ensures.inserted (c.args.first ∷ []) one in
+    let e = c.cursor-cursor.ensures in
+    record { stands = stands_null (c.args.first ∷ c.args.second ∷ []) (rw (e.links, e.list) two) _ e.null }
+
+pub returns-clause-position : goal.returns-clause-position
+returns-clause-position g c =
+    let none : Shows neighbors_of (table_of (entries c.args.links)) c.new-list.result [] = search rules in
+    let one = c.in_ok-push_back.ensures.inserted [] none in
+    let two = c.in_ok-push_back-2.ensures.inserted (c.args.first ∷ []) one in
+    let e = c.cursor-cursor.ensures in
+    c.get_ptr.ensures ∙ c.move_next.ensures.moved (at_front (c.args.first ∷ c.args.second ∷ [])) (rw (e.links, e.list) two) e.null

@@ -1,0 +1,40 @@
+//! The first steps: two objects pushed into a new list, and a cursor on the first of them.
+//!
+//! ```text
+//! let position = first_steps(links, first, second)?; // Some(first)
+//! ```
+
+ghost use Rattle.std.specs.Prelude.{◌≡◌, ◌≢◌, ◌↔◌, Some, IsOk, IfOk, IfErr, if◌then◌else◌};
+ghost use Rattle.ic_link_ops.specs.Tables.{IsCovered, IsUnlinked};
+ghost use Rattle.ic_link_ops.specs.DoublyEntries.{entries, is_linked, table_of};
+
+use ic_link_ops::AlreadyLinked;
+use ic_link_ops::linked_list::{LinkOps, LinkedListOps};
+use ic_linked_list::LinkedList;
+use ic_unsafe_ref::{Place, UnsafeRef};
+use std::alloc::Allocator;
+
+/// Pushes two objects into a new list, and answers where a cursor stands that has moved once: on the first of them.
+///
+/// It asks that the table covers both places, and uses the table up. An object that is linked already, or pushed twice,
+/// comes back. O(1), and it takes no memory.
+pub fn first_steps<T, A: Allocator>(
+    mut links: LinkOps<A>,
+    first: UnsafeRef<T>,
+    second: UnsafeRef<T>,
+) -> Result<Option<Place>, AlreadyLinked<T>>
+    requires first { IsCovered (table_of (entries links)) first }
+    requires second { IsCovered (table_of (entries links)) second }
+    ensures accepted { IsOk result ↔ (IsUnlinked is_linked (table_of (entries links)) first
+        × IsUnlinked is_linked (table_of (entries links)) second × (second ≢ first)) }
+    ensures position { IfOk result (λ position. position ≡ Some first) }
+    ensures refused { IfErr result (λ refused. refused.0
+        ≡ (if is_linked ((table_of (entries links)).entry first) then first else second)) }
+{
+    let mut list = LinkedList::new();
+    list.push_back(&mut links, first)?; // Err(AlreadyLinked(first)) if it is linked in this field
+    list.push_back(&mut links, second)?;
+    let mut cursor = list.cursor(&links); // null
+    cursor.move_next(); // on the first
+    Ok(cursor.get_ptr())
+}
