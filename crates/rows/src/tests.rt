@@ -1,0 +1,120 @@
+//! A player that finds what is wrong, on a stack of numbers.
+
+use super::*;
+use std::fmt::Write;
+use std::test::Fail;
+
+#[derive(Drop)]
+struct Numbers {
+    numbers: Vec<u64>,
+}
+
+impl Played for Numbers {
+    type Answer = Answer;
+
+    fn call(&mut self, words: &[&str]) -> Answer {
+        match *words {
+            ["push", word] => match word.parse() {
+                Ok(number) => match self.numbers.push(number) {
+                    Ok(()) => Answer::Done,
+                    Err(_) => Answer::Refused("memory"),
+                },
+                Err(_) => Answer::Refused("number"),
+            },
+            ["pop"] => self
+                .numbers
+                .pop()
+                .map_or(Answer::Nothing, |number| Answer::Number(number)),
+            ["is_empty"] => Answer::Truth(self.numbers.is_empty()),
+            _ => Answer::Refused("call"),
+        }
+    }
+
+    fn show(&self, shown: &mut String) -> fmt::Result {
+        for number in &self.numbers {
+            write!(shown, "{number} ")?;
+        }
+        Ok(())
+    }
+}
+
+// The run, and the row that is to be found wrong with what is found, or none.
+const RUNS: [(Run, &str); 7] = [
+    (
+        Run {
+            name: "all right",
+            rows: "
+            is_empty | yes
+            push 1   | ok     | 1
+            push 2   |  ok    | 1   2
+
+            push x   | number
+            jump     | call
+            is_empty | no
+            pop      | 2      | 1
+            pop      | 1      |
+            pop      | none
+            ",
+        },
+        "",
+    ),
+    (
+        Run {
+            name: "a wrong answer",
+            rows: "push 1 | 1 | 1\npop | 1 |",
+        },
+        "a wrong answer: push 1 | 1 | 1: found ok | 1 ",
+    ),
+    (
+        Run {
+            name: "a wrong showing",
+            rows: "push 1 | ok | 1\npush 2 | ok | 2 1",
+        },
+        "a wrong showing: push 2 | ok | 2 1: found ok | 1 2 ",
+    ),
+    (
+        Run {
+            name: "a change that is not told",
+            rows: "push 1 | ok",
+        },
+        "a change that is not told: push 1 | ok: found ok | 1 ",
+    ),
+    (
+        Run {
+            name: "a change that was not made",
+            rows: "pop | none | 1",
+        },
+        "a change that was not made: pop | none | 1: found none | ",
+    ),
+    (
+        Run {
+            name: "no answer",
+            rows: "pop",
+        },
+        "no answer: pop: found none | ",
+    ),
+    (
+        Run {
+            name: "no row",
+            rows: "\n  \n",
+        },
+        "no row",
+    ),
+];
+
+#[test]
+fn the_first_wrong_row_is_found(rt: HostRuntime) -> Result<(), Fail> {
+    for (run, wanted) in RUNS {
+        let mut numbers = Numbers {
+            numbers: Vec::new(rt.alloc()),
+        };
+        let found = match play(rt.alloc(), &mut numbers, &run) {
+            Ok(()) => String::new(rt.alloc()),
+            Err(Wrong::Row(text)) => text,
+            Err(Wrong::NoRow(name)) => String::from_str(rt.alloc(), name)?,
+            Err(Wrong::OutOfMemory) => String::from_str(rt.alloc(), "memory")?,
+        };
+        assert_eq!(rt; found.as_str(), wanted);
+    }
+    Ok(())
+}
