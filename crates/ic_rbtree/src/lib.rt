@@ -7,5 +7,3 @@ pub use ic_link_ops::Color;
 pub use ic_link_ops::rbtree::{Link, LinkOps, RBTreeOps};
 pub use key_adapter::KeyAdapter;
 
-#[cfg(test)]
-mod tests;

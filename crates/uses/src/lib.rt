@@ -4,5 +4,3 @@
 pub mod first_steps;
 pub mod lru;
 pub mod queue;
-#[cfg(test)]
-mod tests;

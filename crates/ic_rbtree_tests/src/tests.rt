@@ -1,6 +1,6 @@
-//! An adapter, called by name and through its bound.
+//! Tasks by their deadlines.
 
-use super::*;
+use ic_rbtree::KeyAdapter;
 
 #[derive(Drop)]
 struct Task {
@@ -37,9 +37,12 @@ fn a_key_is_read(rt: HostRuntime) {
         number: 2,
         deadline: 20,
     };
-    assert_eq!(rt; *ByDeadline.get_key(&late), 30);
-    assert_eq!(rt; *ByDeadline.get_key(&early), 20);
-    assert!(rt; is_before(ByDeadline, &early, &late));
-    assert!(rt; !is_before(ByDeadline, &late, &early));
-    assert_eq!(rt; (late.number, early.number), (1, 2));
+    let keys = [*ByDeadline.get_key(&late), *ByDeadline.get_key(&early)];
+    let orders = [
+        is_before(ByDeadline, &early, &late),
+        is_before(ByDeadline, &late, &early),
+    ];
+    assert!(rt;
+        keys == [30, 20] && orders == [true, false] && [late.number, early.number] == [1, 2]
+    );
 }

@@ -1,0 +1,5 @@
+//! Each use of the collections, run once or more.
+#![tactic(auto)]
+
+#[cfg(test)]
+mod tests;

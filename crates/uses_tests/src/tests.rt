@@ -1,0 +1,113 @@
+//! A cache, a queue and the first steps, over a table of three places.
+
+ghost use Rattle.std.specs.Prelude.{[]};
+ghost use Rattle.ic_link_ops.specs.Tables.{IsCovered};
+ghost use Rattle.ic_link_ops.specs.LinkedList.{Shows};
+ghost use Rattle.ic_link_ops.specs.DoublyEntries.{entries, neighbors_of, table_of};
+
+use ic_link_ops::AlreadyLinked;
+use ic_link_ops::linked_list::LinkOps;
+use ic_linked_list::LinkedList;
+use ic_unsafe_ref::{Place, UnsafeRef};
+use std::process::Abort;
+use std::test::Fail;
+use uses::first_steps::first_steps;
+use uses::{lru, queue};
+
+// Asserts that these places were found. The one assert of the tests.
+fn same(rt: &impl Abort, found: &[Option<Place>], wanted: &[usize]) {
+    let indices = wanted.iter().map(|index| Place::new(*index));
+    assert!(rt; found.iter().copied().eq(indices));
+}
+
+// The place with that index, which the table covers.
+fn covered(rt: &impl Abort, links: &LinkOps, index: usize) -> Place
+    ensures { IsCovered (table_of (entries links.now)) result }
+{
+    let place = Place::new(index).expect(rt, "the index of a place");
+    assert!(rt; place.index() < links.covers());
+    place
+}
+
+// Two objects, of which the older one is touched: the one that is forgotten then, and the one that is left.
+fn touch_the_older(
+    order: &mut LinkedList<u64>,
+    links: &mut LinkOps,
+    older: Place,
+    newer: Place,
+) -> Result<[Option<Place>; 2], AlreadyLinked<u64>>
+    requires empty { Shows neighbors_of (table_of (entries links.old)) order.old [] }
+    requires older { IsCovered (table_of (entries links.old)) older }
+    requires newer { IsCovered (table_of (entries links.old)) newer }
+{
+    lru::insert(order, links, UnsafeRef::new(older))?;
+    lru::insert(order, links, UnsafeRef::new(newer))?;
+    lru::touch(order, links, UnsafeRef::new(older));
+    let oldest = lru::forget_oldest(order, links);
+    let left = order.back(links).get_ptr();
+    Ok([oldest.map(|object| object.place()), left])
+}
+
+#[test]
+fn a_touched_object_is_forgotten_last(rt: HostRuntime) -> Result<(), Fail> {
+    let mut links = LinkOps::new(rt.alloc());
+    links.cover(3)?;
+    let (older, newer) = (covered(&rt, &links, 0), covered(&rt, &links, 1));
+    let found = touch_the_older(&mut LinkedList::new(), &mut links, older, newer)?;
+    same(&rt, &found, &[1, 0]);
+    Ok(())
+}
+
+// Two objects that have two turns and one, and which is last and which is first, in the order of the calls.
+fn give_turns(
+    waiting: &mut LinkedList<u64>,
+    links: &mut LinkOps,
+    first: Place,
+    second: Place,
+) -> Result<[Option<Place>; 5], AlreadyLinked<u64>>
+    requires empty { Shows neighbors_of (table_of (entries links.old)) waiting.old [] }
+    requires first { IsCovered (table_of (entries links.old)) first }
+    requires second { IsCovered (table_of (entries links.old)) second }
+{
+    waiting.push_back(links, UnsafeRef::new(first))?;
+    waiting.push_back(links, UnsafeRef::new(second))?;
+    let one = queue::turn(waiting, links);
+    let last = waiting.back(links).get_ptr();
+    let two = queue::turn(waiting, links);
+    let three = queue::turn(waiting, links);
+    let front = waiting.front(links).get_ptr();
+    Ok([one, last, two, three, front])
+}
+
+#[test]
+fn each_object_has_its_turn(rt: HostRuntime) -> Result<(), Fail> {
+    let mut links = LinkOps::new(rt.alloc());
+    links.cover(3)?;
+    let mut waiting: LinkedList<u64> = LinkedList::new();
+    let nobody = queue::turn(&mut waiting, &mut links);
+    assert!(rt; nobody.is_none());
+    let (first, second) = (covered(&rt, &links, 2), covered(&rt, &links, 0));
+    let found = give_turns(&mut LinkedList::new(), &mut links, first, second)?;
+    same(&rt, &found, &[2, 2, 0, 2, 0]);
+    Ok(())
+}
+
+#[test]
+fn the_first_steps_end_on_the_first_object(rt: HostRuntime) -> Result<(), Fail> {
+    let mut links = LinkOps::new(rt.alloc());
+    links.cover(2)?;
+    let (first, second) = (covered(&rt, &links, 1), covered(&rt, &links, 0));
+    let position = first_steps::<u64, _>(links, UnsafeRef::new(first), UnsafeRef::new(second))?;
+    same(&rt, &[position], &[1]);
+    Ok(())
+}
+
+#[test]
+fn an_object_is_not_pushed_twice(rt: HostRuntime) -> Result<(), Fail> {
+    let mut links = LinkOps::new(rt.alloc());
+    links.cover(1)?;
+    let only = covered(&rt, &links, 0);
+    let ended = first_steps::<u64, _>(links, UnsafeRef::new(only), UnsafeRef::new(only));
+    same(&rt, &[ended.err().map(|refused| refused.0.place())], &[0]);
+    Ok(())
+}
