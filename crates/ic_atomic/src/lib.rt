@@ -23,6 +23,3 @@ mod step;
 pub use claims::{Claims, ClaimsError, Holder};
 pub use machine::Core;
 pub use step::{Event, Record, Step};
-
-#[cfg(test)]
-mod tests;

@@ -1,12 +1,7 @@
 //! A world at the command line: reads calls from standard input, one a line, and prints the answer to each.
 #![tactic(auto)]
 
-mod command;
-mod program;
-#[cfg(test)]
-mod tests;
-
-use program::{FAULT, run_program};
+use ic_program::{FAULT, run_program};
 use std::alloc::Global;
 use std::env;
 use std::io::{self, BufReader, BufWriter, ErrorKind};

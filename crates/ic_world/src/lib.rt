@@ -12,8 +12,6 @@
 
 mod call;
 mod collection;
-#[cfg(test)]
-mod tests;
 mod world;
 
 pub use call::{Answer, Command, Kind, Refusal};

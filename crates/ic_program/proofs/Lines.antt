@@ -1,7 +1,7 @@
 -- What is left of a line without its end.
 use Rattle.std.proofs.Common.{◌≡◌, ◌≢◌, ℕ, List, [], ◌∷◌, ◌++◌, Option, Some, None, MatchOption, Bor, inl, inr, ap, ◌∙◌, append_assoc}
 use Rattle.std.specs.Prelude.{unwrap_or}
-use Rattle.ic_main.specs.Line.{IsTextOf}
+use Rattle.ic_program.specs.Line.{IsTextOf}
 
 -- a line that ends with `\n`, and what stands before that and a `\r`
 pub text_before : (line : List ℕ) (front : Bor (List ℕ)) (r : Option (Bor (List ℕ))) → line ≡ front.now ++ 10 ∷ [] → MatchOption r ((rest : List ℕ) → front.now ≢ rest ++ 13 ∷ []) (λ text. front.now ≡ text.now ++ 13 ∷ []) → IsTextOf line (unwrap_or r front).now

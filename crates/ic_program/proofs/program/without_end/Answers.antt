@@ -1,8 +1,8 @@
 use Rattle.std.proofs.Common.{ℕ, List, Some, None, Bor, inr, refl, sym, subst, lit<}
 use Rattle.std.proofs.lemmas.Str.Pattern.{strip_suffix_char}
-use Rattle.ic_main.specs.Line.{IsTextOf}
-use Rattle.ic_main.proofs.Lines.{text_before}
-use Rattle.ic_main.proofs.program.without_end.Goals as goal
+use Rattle.ic_program.specs.Line.{IsTextOf}
+use Rattle.ic_program.proofs.Lines.{text_before}
+use Rattle.ic_program.proofs.program.without_end.Goals as goal
 
 pub returns-in-Some : goal.returns-in-Some
 returns-in-Some c =

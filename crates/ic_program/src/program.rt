@@ -4,7 +4,7 @@ ghost use Rattle.std.specs.Prelude.{◌≡◌, ◌≢◌, ◌⊎◌, ◌<◌, If
 ghost use Rattle.std.specs.Io.KnownBytes.{Appends};
 ghost use Rattle.ic_world.specs.Step.{Step, reply_of};
 ghost use Rattle.ic_world.specs.Answers.{reply_in};
-ghost use Rattle.ic_main.specs.Line.{IsTextOf};
+ghost use Rattle.ic_program.specs.Line.{IsTextOf};
 
 use crate::command;
 use ic_rbtree::KeyAdapter;
@@ -13,7 +13,7 @@ use std::alloc::Allocator;
 use std::io::{self, BufRead, ErrorKind, Write};
 
 /// The status after a fault of reading or writing, input that is not UTF-8, or want of memory.
-pub(crate) const FAULT: u8 = 3;
+pub const FAULT: u8 = 3;
 
 // How a run ends that meets no fault.
 #[derive(Clone, Copy)]
@@ -24,9 +24,9 @@ enum Ending {
     NotUnderstood = 2,
 }
 
-/// A value is its own key.
+/// The program's objects are numbers, and a value is its own key.
 #[derive(Clone, Copy)]
-struct OwnKey;
+pub struct OwnKey;
 
 impl KeyAdapter for OwnKey {
     type Value = u64;
@@ -51,7 +51,9 @@ impl KeyAdapter for OwnKey {
 ///   written, and nothing more is read.
 /// - 3 at a fault of reading or writing, input that is not UTF-8, or want of memory outside the world. What was answered
 ///   before is written, as far as the writer takes it.
-pub(crate) fn run_program<S, M: Allocator + Copy, R: BufRead, W: Write>(
+///
+/// O(1) beside each call of the world, and the bytes read and written.
+pub fn run_program<S, M: Allocator + Copy, R: BufRead, W: Write>(
     _rt: &S,
     alloc: M,
     words: &[String],
@@ -122,8 +124,11 @@ fn without_end(line: &str) -> &str
     }
 }
 
-// Makes the call, and answers what is printed for it. A call that the world refuses leaves it as it was.
-fn answer<M: Allocator + Copy>(world: &mut World<OwnKey, M>, command: Command<u64>) -> Answer<M>
+/// Makes the call, and answers what is printed for it.
+///
+/// It asks nothing: the world tests every condition. A call that the world refuses is answered by `Answer::Refused` with
+/// the first refusal that applies, and leaves the world as it was. It costs what the call of the world costs.
+pub fn answer<M: Allocator + Copy>(world: &mut World<OwnKey, M>, command: Command<u64>) -> Answer<M>
     ensures { Step world.old command (reply_in result) world.new }
 {
     match call(world, command) {

@@ -5,27 +5,32 @@ ghost use Rattle.std.specs.Char.{is_ascii_digit};
 ghost use Rattle.std.specs.List.{list_all};
 ghost use Rattle.std.specs.Str.Parse.{digits_value};
 ghost use Rattle.ic_unsafe_ref.specs.Places.{index_of};
-ghost use Rattle.ic_main.specs.Number.{IsNumber};
+ghost use Rattle.ic_program.specs.Number.{IsNumber};
 
 use arrayvec::ArrayVec;
 use ic_unsafe_ref::Place;
 use ic_world::{Command, Kind};
 
-// The longest command has three words, so a fourth tells that a line is none.
-const MOST_WORDS: usize = 4;
+/// The most words that `words_of` gives. The longest command has three, so a fourth tells that a line is none.
+pub const MOST_WORDS: usize = 4;
 
 // The most digits of a number, leading zeros included.
 const MOST_DIGITS: usize = 20;
 
 /// The words of a line, which stand between spaces. Of a line that is longer than any command the first four.
-pub(crate) fn words_of(line: &str) -> ArrayVec<&str, MOST_WORDS> {
+///
+/// It asks nothing, and takes no memory. O(bytes).
+pub fn words_of(line: &str) -> ArrayVec<&str, MOST_WORDS> {
     let mut words = ArrayVec::new();
     let _ = words.extend(line.split(' ').filter(|word| !word.is_empty()));
     words
 }
 
 /// The command that these words are. `None`: they are no command.
-pub(crate) fn from_words(words: &[&str]) -> Option<Command<u64>> {
+///
+/// It asks nothing, and takes no memory. A number is 1 to 20 decimal digits with a value below 2^64, and an object's
+/// number is below 2^32. O(bytes).
+pub fn from_words(words: &[&str]) -> Option<Command<u64>> {
     match *words {
         ["field", of] => Some(Command::AddField(kind(of)?)),
         ["open", field, of] => Some(Command::Open(index(field)?, kind(of)?)),

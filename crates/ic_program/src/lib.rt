@@ -1,0 +1,15 @@
+//! The program over a world: words are commands, and each command has an answer in one line.
+//!
+//! ```text
+//! let mut world = World::new(alloc, OwnKey);
+//! from_words(&words_of("field doubly")) // Some(Command::AddField(Kind::Doubly))
+//! answer(&mut world, Command::AddField(Kind::Doubly)) // printed as `field 0`
+//! run_program(&rt, alloc, &[], &mut reader, &mut writer) // answers each line of the reader, and gives the status
+//! ```
+#![tactic(auto)]
+
+mod command;
+mod program;
+
+pub use command::{MOST_WORDS, from_words, words_of};
+pub use program::{FAULT, OwnKey, answer, run_program};

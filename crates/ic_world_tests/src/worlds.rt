@@ -1,0 +1,169 @@
+//! A world whose requests for memory are refused where a row says so.
+
+use ic_program::{OwnKey, answer, from_words};
+use ic_unsafe_ref::Place;
+use ic_world::{Answer as Made, Command, World};
+use rationed::Rationed;
+use rows::{Answer, Played};
+use std::alloc::{AllocError, Global};
+use std::fmt::{self, Write};
+
+// How many numbers of objects and of collections are asked for. No run makes as many.
+const ASKED: usize = 8;
+
+// The request to refuse where none is.
+const NONE: u64 = u64::MAX;
+
+/// A world, with the calls that made it. A row is a command of the program, or one of these:
+///
+/// - `refuse N COMMAND`: the command, with request number N of its requests for memory refused, counted from 0.
+/// - `again`: the command that was refused last, made once more. Then a new world takes the place of this one, after
+///   the same accepted commands with nothing refused.
+///
+/// A value that is refused and comes back is a part of the answer.
+#[derive(Drop)]
+pub(crate) struct Worlds<'r> {
+    alloc: Global,
+    rationed: &'r Rationed,
+    world: World<OwnKey, &'r Rationed>,
+    accepted: Vec<Command<u64>>,
+    refused: Option<Command<u64>>,
+}
+
+// Makes the call, and answers the value too that came back.
+fn make<'r>(
+    world: &mut World<OwnKey, &'r Rationed>,
+    command: Command<u64>,
+) -> (Made<&'r Rationed>, Option<u64>) {
+    match command {
+        Command::Place(value) => match world.place(value) {
+            Ok(object) => (Made::Object(object), None),
+            Err((refusal, back)) => (Made::Refused(refusal), Some(back)),
+        },
+        _ => (answer(world, command), None),
+    }
+}
+
+// What was made as text.
+fn text(alloc: Global, made: &Made<&Rationed>, back: Option<u64>) -> Result<String, AllocError> {
+    match back {
+        Some(value) => format!(in alloc; "{made} back {value}"),
+        None => format!(in alloc; "{made}"),
+    }
+}
+
+// A new world after these calls.
+fn world_after<'r>(
+    rationed: &'r Rationed,
+    commands: &[Command<u64>],
+) -> World<OwnKey, &'r Rationed> {
+    let mut world = World::new(rationed, OwnKey);
+    for command in commands {
+        let _ = answer(&mut world, *command);
+    }
+    world
+}
+
+impl<'r> Worlds<'r> {
+    pub(crate) fn new(alloc: Global, rationed: &'r Rationed) -> Worlds<'r> {
+        Worlds {
+            alloc,
+            rationed,
+            world: World::new(rationed, OwnKey),
+            accepted: Vec::new(alloc),
+            refused: None,
+        }
+    }
+
+    // Makes the call, with that request refused.
+    fn refusing(&mut self, refused: u64, command: Command<u64>) -> Result<String, AllocError> {
+        self.rationed.refuse(refused);
+        let (made, back) = make(&mut self.world, command);
+        self.rationed.refuse(NONE);
+        if let Made::Refused(_) = &made {
+            self.refused = Some(command);
+        } else {
+            self.accepted.push(command)?;
+        }
+        text(self.alloc, &made, back)
+    }
+
+    // Makes the refused call again, and then a new world.
+    fn again(&mut self, command: Command<u64>) -> Result<String, AllocError> {
+        let (made, back) = make(&mut self.world, command);
+        self.world = world_after(self.rationed, &self.accepted);
+        text(self.alloc, &made, back)
+    }
+
+    // Makes the call of these words, with that request refused.
+    fn command(&mut self, refused: u64, words: &[&str]) -> Answer {
+        match from_words(words) {
+            Some(command) => told(self.refusing(refused, command)),
+            None => Answer::Refused("no command"),
+        }
+    }
+}
+
+// The line as a row's answer.
+fn told(line: Result<String, AllocError>) -> Answer {
+    match line {
+        Ok(text) => Answer::Text(text),
+        Err(_) => Answer::Refused("memory"),
+    }
+}
+
+// Writes the object with that number and its value, where there is one.
+fn show_object(world: &World<OwnKey, &Rationed>, index: usize, shown: &mut String) -> fmt::Result {
+    let Some(place) = Place::new(index) else {
+        return Ok(());
+    };
+    if let Some(value) = world.objects().get(place) {
+        write!(shown, " {index}={value}")?;
+    }
+    Ok(())
+}
+
+// Writes the members of that collection, where there is one.
+fn show_members(
+    world: &World<OwnKey, &Rationed>,
+    collection: usize,
+    shown: &mut String,
+) -> fmt::Result {
+    let Ok(places) = world.show(collection) else {
+        return Ok(());
+    };
+    write!(shown, " {collection}:")?;
+    for place in &places {
+        write!(shown, " {}", place.index())?;
+    }
+    Ok(())
+}
+
+impl Played for Worlds<'_> {
+    type Answer = Answer;
+
+    fn call(&mut self, words: &[&str]) -> Answer {
+        match *words {
+            ["again"] => match self.refused {
+                Some(command) => told(self.again(command)),
+                None => Answer::Refused("nothing was refused"),
+            },
+            ["refuse", number, ..] => match number.parse() {
+                Ok(refused) => self.command(refused, &words[2..]),
+                Err(_) => Answer::Refused("no number"),
+            },
+            _ => self.command(NONE, words),
+        }
+    }
+
+    fn show(&self, shown: &mut String) -> fmt::Result {
+        write!(shown, "{} objects", self.world.objects().len())?;
+        for index in 0..ASKED {
+            show_object(&self.world, index, shown)?;
+        }
+        for collection in 0..ASKED {
+            show_members(&self.world, collection, shown)?;
+        }
+        Ok(())
+    }
+}
