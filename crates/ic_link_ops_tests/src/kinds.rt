@@ -32,11 +32,7 @@ pub(crate) trait Kind: Words {
 }
 
 // A call of the singly linked list's trait.
-fn singly<W: NextWord>(
-    links: &mut PlainTable<W, &Rationed>,
-    place: Place,
-    words: &[&str],
-) -> Answer
+fn singly<W: NextWord>(links: &mut PlainTable<W, &Rationed>, place: Place, words: &[&str]) -> Answer
     requires linked { IsLinked (linked_by W.is_linked) (table W.unlinked links.old) place }
 {
     match *words {
@@ -93,11 +89,7 @@ fn doubly<W: PrevPlace>(
 }
 
 // A call of the tree's trait.
-fn tree(
-    links: &mut PlainTable<ThreeWords, &Rationed>,
-    place: Place,
-    words: &[&str],
-) -> Answer
+fn tree(links: &mut PlainTable<ThreeWords, &Rationed>, place: Place, words: &[&str]) -> Answer
     requires linked { IsLinked (linked_by ⟦<ThreeWords as Words>⟧.is_linked) (table ⟦<ThreeWords as Words>⟧.unlinked links.old) place }
 {
     match *words {

@@ -4,6 +4,8 @@
 #[cfg(test)]
 mod answers;
 #[cfg(test)]
+mod any_table;
+#[cfg(test)]
 mod errors;
 #[cfg(test)]
 mod kinds;

@@ -8,7 +8,7 @@ use crate::kinds::Kind;
 use ic_link_ops::{CoverError, Link, LinkOps, PlainTable, Words};
 use ic_unsafe_ref::Place;
 use rationed::Rationed;
-use rows::{Answer, Played};
+use rows::Answer;
 use std::alloc::Global;
 use std::fmt::{self, Write};
 
@@ -45,8 +45,10 @@ impl<'a, W: Words> Table<'a, W> {
     {
         match call {
             "acquire_link" => Answer::Truth(self.links.acquire_link(place)),
-            "release_link" if !self.links.is_linked(place) => return Answer::Refused("unlinked"),
             "release_link" => {
+                if !self.links.is_linked(place) {
+                    return Answer::Refused("unlinked");
+                }
                 self.links.release_link(place);
                 Answer::Done
             }
@@ -110,10 +112,9 @@ impl<W: Kind> Table<'_, W> {
     }
 }
 
-impl<W: Kind> Played for Table<'_, W> {
-    type Answer = Answer;
-
-    fn call(&mut self, words: &[&str]) -> Answer {
+impl<W: Kind> Table<'_, W> {
+    /// Makes the call that these words are.
+    pub(crate) fn call(&mut self, words: &[&str]) -> Answer {
         match *words {
             ["covers"] => Answer::Number(self.links.covers() as u64),
             ["new_is_linked"] => Answer::Truth(Link::<W>::new().is_linked()),
@@ -134,8 +135,8 @@ impl<W: Kind> Played for Table<'_, W> {
         }
     }
 
-    // How many places are covered, and which of them are linked.
-    fn show(&self, shown: &mut String) -> fmt::Result {
+    /// Writes how many places are covered, and which of them are linked.
+    pub(crate) fn show(&self, shown: &mut String) -> fmt::Result {
         let covers = self.links.covers();
         write!(shown, "{covers}:")?;
         for index in 0..covers {

@@ -1,12 +1,6 @@
 //! The worked rows of the plain tables, and which table carries what.
 
-use crate::kinds::Kind;
-use crate::table::Table;
-use ic_link_ops::OneWord;
-use ic_link_ops::linked_list::TwoWords;
-use ic_link_ops::rbtree::ThreeWords;
-use ic_link_ops::singly_linked_list::Singly;
-use ic_link_ops::xor_linked_list::Xor;
+use crate::any_table::{AnyTable, Form};
 use rationed::Rationed;
 use rows::{Run, Wrong, play};
 use std::alloc::Global;
@@ -259,9 +253,9 @@ const THREE_WORDS: [Run; 1] = [Run {
 }];
 
 // Plays the runs one after another on one table.
-fn play_in_turn<W: Kind>(alloc: Global, runs: &[Run]) -> Result<(), Wrong> {
+fn play_in_turn(alloc: Global, form: Form, runs: &[Run]) -> Result<(), Wrong> {
     let rationed = Rationed::new(alloc, u64::MAX);
-    let mut table: Table<W> = Table::new(alloc, &rationed);
+    let mut table = AnyTable::new(alloc, &rationed, form);
     for run in runs {
         play(alloc, &mut table, run)?;
     }
@@ -269,33 +263,33 @@ fn play_in_turn<W: Kind>(alloc: Global, runs: &[Run]) -> Result<(), Wrong> {
 }
 
 // Plays the runs that each table is to pass and these, each on a table of its own.
-fn play_each<W: Kind>(alloc: Global, runs: &[Run]) -> Result<(), Wrong> {
+fn play_each(alloc: Global, form: Form, runs: &[Run]) -> Result<(), Wrong> {
     for run in COMMON.iter().chain(runs) {
-        play_in_turn::<W>(alloc, &[*run])?;
+        play_in_turn(alloc, form, &[*run])?;
     }
     Ok(())
 }
 
 #[test]
 fn the_singly_table_carries_two_kinds(rt: HostRuntime) -> Result<(), Fail> {
-    play_each::<OneWord<Singly>>(rt.alloc(), &[])?;
-    Ok(play_in_turn::<OneWord<Singly>>(rt.alloc(), &[SINGLY, XOR])?)
+    play_each(rt.alloc(), Form::Singly, &[])?;
+    Ok(play_in_turn(rt.alloc(), Form::Singly, &[SINGLY, XOR])?)
 }
 
 #[test]
 fn the_xor_table_carries_two_kinds(rt: HostRuntime) -> Result<(), Fail> {
-    play_each::<OneWord<Xor>>(rt.alloc(), &XOR_WORD)?;
-    Ok(play_in_turn::<OneWord<Xor>>(rt.alloc(), &[SINGLY, XOR])?)
+    play_each(rt.alloc(), Form::Xor, &XOR_WORD)?;
+    Ok(play_in_turn(rt.alloc(), Form::Xor, &[SINGLY, XOR])?)
 }
 
 #[test]
 fn the_doubly_table_carries_three_kinds(rt: HostRuntime) -> Result<(), Fail> {
-    play_each::<TwoWords>(rt.alloc(), &TWO_WORDS)?;
-    Ok(play_in_turn::<TwoWords>(rt.alloc(), &[SINGLY, XOR, DOUBLY])?)
+    play_each(rt.alloc(), Form::Doubly, &TWO_WORDS)?;
+    Ok(play_in_turn(rt.alloc(), Form::Doubly, &[SINGLY, XOR, DOUBLY])?)
 }
 
 #[test]
 fn the_tree_table_carries_four_kinds(rt: HostRuntime) -> Result<(), Fail> {
-    play_each::<ThreeWords>(rt.alloc(), &THREE_WORDS)?;
-    Ok(play_in_turn::<ThreeWords>(rt.alloc(), &[SINGLY, XOR, DOUBLY, TREE])?)
+    play_each(rt.alloc(), Form::Tree, &THREE_WORDS)?;
+    Ok(play_in_turn(rt.alloc(), Form::Tree, &[SINGLY, XOR, DOUBLY, TREE])?)
 }
