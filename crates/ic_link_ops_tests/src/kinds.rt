@@ -89,8 +89,8 @@ fn doubly<W: PrevPlace>(
 }
 
 // A call of the tree's trait.
-fn tree(links: &mut PlainTable<ThreeWords, &Rationed>, place: Place, words: &[&str]) -> Answer
-    requires linked { IsLinked (linked_by ⟦<ThreeWords as Words>⟧.is_linked) (table ⟦<ThreeWords as Words>⟧.unlinked links.old) place }
+fn tree<L: RBTreeOps>(links: &mut L, place: Place, words: &[&str]) -> Answer
+    requires linked { IsLinked L.linked (L.table links.old) place }
 {
     match *words {
         ["left"] => return place_or_none(links.left(place)),

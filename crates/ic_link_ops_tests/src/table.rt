@@ -38,26 +38,31 @@ impl<'a, W: Words> Table<'a, W> {
             Err(CoverError::OutOfMemory) => Answer::Refused("OutOfMemory"),
         }
     }
+}
 
-    // A call that changes the entry of a covered place.
-    fn change(&mut self, call: &str, place: Place) -> Answer
-        requires covered { IsCovered (table W.unlinked self.old.links) place }
-    {
-        match call {
-            "acquire_link" => Answer::Truth(self.links.acquire_link(place)),
-            "release_link" => {
-                if !self.links.is_linked(place) {
-                    return Answer::Refused("unlinked");
-                }
-                self.links.release_link(place);
-                Answer::Done
-            }
-            "force_unlink" => {
-                self.links.force_unlink(place);
-                Answer::Done
-            }
-            _ => Answer::Refused("call"),
+// Unlinks a covered place, if it is linked.
+fn release<W: Words>(links: &mut PlainTable<W, &Rationed>, place: Place) -> Answer
+    requires covered { IsCovered (table W.unlinked links.old) place }
+{
+    if !links.is_linked(place) {
+        return Answer::Refused("unlinked");
+    }
+    links.release_link(place);
+    Answer::Done
+}
+
+// A call that changes the entry of a covered place.
+fn change<W: Words>(links: &mut PlainTable<W, &Rationed>, call: &str, place: Place) -> Answer
+    requires covered { IsCovered (table W.unlinked links.old) place }
+{
+    match call {
+        "acquire_link" => Answer::Truth(links.acquire_link(place)),
+        "release_link" => release(links, place),
+        "force_unlink" => {
+            links.force_unlink(place);
+            Answer::Done
         }
+        _ => Answer::Refused("call"),
     }
 }
 
@@ -96,7 +101,7 @@ impl<W: Kind> Table<'_, W> {
             "link" | "link_is_linked" | "clone_is_linked" | "numbers" => {
                 read(self.alloc, self.links.link(place), call)
             }
-            _ => self.change(call, place),
+            _ => change(&mut self.links, call, place),
         }
     }
 

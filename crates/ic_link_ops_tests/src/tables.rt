@@ -252,44 +252,43 @@ const THREE_WORDS: [Run; 1] = [Run {
     ",
 }];
 
-// Plays the runs one after another on one table.
-fn play_in_turn(alloc: Global, form: Form, runs: &[Run]) -> Result<(), Wrong> {
-    let rationed = Rationed::new(alloc, u64::MAX);
-    let mut table = AnyTable::new(alloc, &rationed, form);
+// Each form, with what only a table of that form does, and the kinds of links that it carries.
+const FORMS: [(Form, &[Run], &[Run]); 4] = [
+    (Form::Singly, &[], &[SINGLY, XOR]),
+    (Form::Xor, &XOR_WORD, &[SINGLY, XOR]),
+    (Form::Doubly, &TWO_WORDS, &[SINGLY, XOR, DOUBLY]),
+    (Form::Tree, &THREE_WORDS, &[SINGLY, XOR, DOUBLY, TREE]),
+];
+
+// Plays the runs one after another on that table.
+fn play_on(alloc: Global, table: &mut AnyTable<'_>, runs: &[Run]) -> Result<(), Wrong> {
     for run in runs {
-        play(alloc, &mut table, run)?;
+        play(alloc, table, run)?;
     }
     Ok(())
 }
 
-// Plays the runs that each table is to pass and these, each on a table of its own.
+// Plays the runs one after another on a new table.
+fn play_in_turn(alloc: Global, form: Form, runs: &[Run]) -> Result<(), Wrong> {
+    let rationed = Rationed::new(alloc, u64::MAX);
+    let mut table = AnyTable::new(alloc, &rationed, form);
+    play_on(alloc, &mut table, runs)
+}
+
+// Plays the runs, each on a new table.
 fn play_each(alloc: Global, form: Form, runs: &[Run]) -> Result<(), Wrong> {
-    for run in COMMON.iter().chain(runs) {
+    for run in runs {
         play_in_turn(alloc, form, &[*run])?;
     }
     Ok(())
 }
 
 #[test]
-fn the_singly_table_carries_two_kinds(rt: HostRuntime) -> Result<(), Fail> {
-    play_each(rt.alloc(), Form::Singly, &[])?;
-    Ok(play_in_turn(rt.alloc(), Form::Singly, &[SINGLY, XOR])?)
-}
-
-#[test]
-fn the_xor_table_carries_two_kinds(rt: HostRuntime) -> Result<(), Fail> {
-    play_each(rt.alloc(), Form::Xor, &XOR_WORD)?;
-    Ok(play_in_turn(rt.alloc(), Form::Xor, &[SINGLY, XOR])?)
-}
-
-#[test]
-fn the_doubly_table_carries_three_kinds(rt: HostRuntime) -> Result<(), Fail> {
-    play_each(rt.alloc(), Form::Doubly, &TWO_WORDS)?;
-    Ok(play_in_turn(rt.alloc(), Form::Doubly, &[SINGLY, XOR, DOUBLY])?)
-}
-
-#[test]
-fn the_tree_table_carries_four_kinds(rt: HostRuntime) -> Result<(), Fail> {
-    play_each(rt.alloc(), Form::Tree, &THREE_WORDS)?;
-    Ok(play_in_turn(rt.alloc(), Form::Tree, &[SINGLY, XOR, DOUBLY, TREE])?)
+fn worked_rows(rt: HostRuntime) -> Result<(), Fail> {
+    for (form, own, carried) in FORMS {
+        play_each(rt.alloc(), form, &COMMON)?;
+        play_each(rt.alloc(), form, own)?;
+        play_in_turn(rt.alloc(), form, carried)?;
+    }
+    Ok(())
 }
