@@ -36,6 +36,3 @@ pub use side::Side;
 pub use table::PlainTable;
 pub use tree_word::TreeWord;
 pub use word::Word;
-
-#[cfg(test)]
-mod tests;

@@ -17,6 +17,3 @@ mod unsafe_ref;
 pub use objects::Objects;
 pub use place::Place;
 pub use unsafe_ref::UnsafeRef;
-
-#[cfg(test)]
-mod tests;

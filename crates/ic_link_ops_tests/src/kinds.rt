@@ -1,0 +1,195 @@
+//! The calls of the traits that a table carries, by the form of its words.
+
+ghost use Rattle.ic_link_ops.specs.Tables.{IsLinked};
+ghost use Rattle.ic_link_ops.specs.PlainTables.{table, linked_by};
+
+use crate::answers::{color, place_or_none, read_place, text};
+use ic_link_ops::linked_list::{LinkedListOps, TwoWords};
+use ic_link_ops::rbtree::{RBTreeOps, ThreeWords};
+use ic_link_ops::singly_linked_list::{Singly, SinglyLinkedListOps};
+use ic_link_ops::xor_linked_list::{Xor, XorLinkedListOps};
+use ic_link_ops::{Color, Link, NextWord, OneWord, PlainTable, PrevPlace, Words};
+use ic_unsafe_ref::Place;
+use rationed::Rationed;
+use rows::Answer;
+use std::alloc::Global;
+
+/// Words of a table, with the calls of the traits that the table carries.
+pub(crate) trait Kind: Words {
+    /// The words of a link as numbers, where the link tells them.
+    fn numbers(_alloc: Global, _link: &Link<Self>) -> Answer {
+        Answer::Refused("numbers")
+    }
+
+    /// The call of the trait that the first word names, at a linked place.
+    fn call(
+        links: &mut PlainTable<Self, &Rationed>,
+        place: Place,
+        kind: &str,
+        words: &[&str],
+    ) -> Answer
+        requires linked { IsLinked (linked_by Self.is_linked) (table Self.unlinked links.old) place };
+}
+
+// A call of the singly linked list's trait.
+fn singly<W: NextWord>(links: &mut PlainTable<W, &Rationed>, place: Place, words: &[&str]) -> Answer
+    requires linked { IsLinked (linked_by W.is_linked) (table W.unlinked links.old) place }
+{
+    match *words {
+        ["next"] => place_or_none(SinglyLinkedListOps::next(links, place)),
+        ["set_next", next] => {
+            SinglyLinkedListOps::set_next(links, place, read_place(next));
+            Answer::Done
+        }
+        _ => Answer::Refused("call"),
+    }
+}
+
+// A call of the XOR list's trait.
+fn xor<W: NextWord>(links: &mut PlainTable<W, &Rationed>, place: Place, words: &[&str]) -> Answer
+    requires linked { IsLinked (linked_by W.is_linked) (table W.unlinked links.old) place }
+{
+    match *words {
+        ["next", prev] => place_or_none(XorLinkedListOps::next(links, place, read_place(prev))),
+        ["prev", next] => place_or_none(XorLinkedListOps::prev(links, place, read_place(next))),
+        ["set", prev, next] => {
+            XorLinkedListOps::set(links, place, read_place(prev), read_place(next));
+            Answer::Done
+        }
+        ["replace_next_or_prev", old, new] => {
+            let (old, new) = (read_place(old), read_place(new));
+            XorLinkedListOps::replace_next_or_prev(links, place, old, new);
+            Answer::Done
+        }
+        _ => Answer::Refused("call"),
+    }
+}
+
+// A call of the doubly linked list's trait.
+fn doubly<W: PrevPlace>(
+    links: &mut PlainTable<W, &Rationed>,
+    place: Place,
+    words: &[&str],
+) -> Answer
+    requires linked { IsLinked (linked_by W.is_linked) (table W.unlinked links.old) place }
+{
+    match *words {
+        ["next"] => place_or_none(LinkedListOps::next(links, place)),
+        ["prev"] => place_or_none(LinkedListOps::prev(links, place)),
+        ["set_next", next] => {
+            LinkedListOps::set_next(links, place, read_place(next));
+            Answer::Done
+        }
+        ["set_prev", prev] => {
+            LinkedListOps::set_prev(links, place, read_place(prev));
+            Answer::Done
+        }
+        _ => Answer::Refused("call"),
+    }
+}
+
+// A call of the tree's trait.
+fn tree<L: RBTreeOps>(links: &mut L, place: Place, words: &[&str]) -> Answer
+    requires linked { IsLinked L.linked (L.table links.old) place }
+{
+    match *words {
+        ["left"] => return place_or_none(links.left(place)),
+        ["right"] => return place_or_none(links.right(place)),
+        ["parent"] => return place_or_none(links.parent(place)),
+        ["color"] => return color(links.color(place)),
+        ["set_left", left] => links.set_left(place, read_place(left)),
+        ["set_right", right] => links.set_right(place, read_place(right)),
+        ["set_parent", parent] => links.set_parent(place, read_place(parent)),
+        ["set_color", "red"] => links.set_color(place, Color::Red),
+        ["set_color", "black"] => links.set_color(place, Color::Black),
+        _ => return Answer::Refused("call"),
+    }
+    Answer::Done
+}
+
+// A call of a trait whose links have a next word.
+fn next_word<W: NextWord>(
+    links: &mut PlainTable<W, &Rationed>,
+    place: Place,
+    kind: &str,
+    words: &[&str],
+) -> Answer
+    requires linked { IsLinked (linked_by W.is_linked) (table W.unlinked links.old) place }
+{
+    match kind {
+        "singly" => singly(links, place, words),
+        "xor" => xor(links, place, words),
+        _ => Answer::Refused("kind"),
+    }
+}
+
+// A call of a trait whose links have a previous place or a next word.
+fn prev_place<W: PrevPlace>(
+    links: &mut PlainTable<W, &Rationed>,
+    place: Place,
+    kind: &str,
+    words: &[&str],
+) -> Answer
+    requires linked { IsLinked (linked_by W.is_linked) (table W.unlinked links.old) place }
+{
+    match kind {
+        "doubly" => doubly(links, place, words),
+        _ => next_word(links, place, kind, words),
+    }
+}
+
+impl Kind for OneWord<Singly> {
+    fn call(
+        links: &mut PlainTable<Self, &Rationed>,
+        place: Place,
+        kind: &str,
+        words: &[&str],
+    ) -> Answer {
+        next_word(links, place, kind, words)
+    }
+}
+
+impl Kind for OneWord<Xor> {
+    fn numbers(_alloc: Global, link: &Link<Self>) -> Answer {
+        Answer::Number(link.word())
+    }
+
+    fn call(
+        links: &mut PlainTable<Self, &Rationed>,
+        place: Place,
+        kind: &str,
+        words: &[&str],
+    ) -> Answer {
+        next_word(links, place, kind, words)
+    }
+}
+
+impl Kind for TwoWords {
+    fn call(
+        links: &mut PlainTable<Self, &Rationed>,
+        place: Place,
+        kind: &str,
+        words: &[&str],
+    ) -> Answer {
+        prev_place(links, place, kind, words)
+    }
+}
+
+impl Kind for ThreeWords {
+    fn numbers(alloc: Global, link: &Link<Self>) -> Answer {
+        let numbers = link.words();
+        text(format!(in alloc; "{numbers:?}"))
+    }
+
+    fn call(
+        links: &mut PlainTable<Self, &Rationed>,
+        place: Place,
+        kind: &str,
+        words: &[&str],
+    ) -> Answer {
+        match kind {
+            "tree" => tree(links, place, words),
+            _ => prev_place(links, place, kind, words),
+        }
+    }
+}

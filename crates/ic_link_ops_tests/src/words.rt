@@ -1,0 +1,158 @@
+//! Ends, and the words of which links are made.
+
+use crate::answers::{color, place_or_none, read_place};
+use ic_link_ops::{Color, End, MarkedWord, TreeWord, Word};
+use rows::{Answer, Played, Run, play};
+use std::fmt::{self, Write};
+use std::test::Fail;
+
+// A word of each form.
+#[derive(Drop)]
+struct Words {
+    word: Word,
+    marked: MarkedWord,
+    tree: TreeWord,
+}
+
+impl Words {
+    // A call of the word.
+    fn of_word(&mut self, words: &[&str]) -> Answer {
+        match *words {
+            ["place"] => return place_or_none(self.word.place()),
+            ["other", known] => return place_or_none(self.word.other(read_place(known))),
+            ["none"] => self.word = Word::none(),
+            ["of", place] => self.word = Word::of(read_place(place)),
+            ["between", prev, next] => {
+                self.word = Word::between(read_place(prev), read_place(next));
+            }
+            ["replace", old, new] => {
+                self.word = self.word.replaced(read_place(old), read_place(new));
+            }
+            _ => return Answer::Refused("call"),
+        }
+        Answer::Done
+    }
+
+    // A call of the word that may be a mark.
+    fn of_marked(&mut self, words: &[&str]) -> Answer {
+        match *words {
+            ["is_word"] => return Answer::Truth(self.marked.is_word()),
+            ["word"] => {
+                if !self.marked.is_word() {
+                    return Answer::Refused("mark");
+                }
+                return Answer::Number(self.marked.word().bits());
+            }
+            ["mark"] => self.marked = MarkedWord::mark(),
+            ["of", place] => self.marked = MarkedWord::of(Word::of(read_place(place))),
+            _ => return Answer::Refused("call"),
+        }
+        Answer::Done
+    }
+
+    // A call of the tree's word.
+    fn of_tree(&mut self, words: &[&str]) -> Answer {
+        match *words {
+            ["is_linked"] => return Answer::Truth(self.tree.is_linked()),
+            ["parent"] => return place_or_none(self.tree.parent()),
+            ["color"] => return color(self.tree.color()),
+            ["linked"] => self.tree = TreeWord::linked(),
+            ["unlinked"] => self.tree = TreeWord::unlinked(),
+            ["set_parent", parent] => self.tree.set_parent(read_place(parent)),
+            ["set_color", "red"] => self.tree.set_color(Color::Red),
+            ["set_color", "black"] => self.tree.set_color(Color::Black),
+            _ => return Answer::Refused("call"),
+        }
+        Answer::Done
+    }
+}
+
+impl Played for Words {
+    type Answer = Answer;
+
+    fn call(&mut self, words: &[&str]) -> Answer {
+        match *words {
+            ["end", place] => place_or_none(End::of(read_place(place)).get()),
+            ["word", ..] => self.of_word(&words[1..]),
+            ["marked", ..] => self.of_marked(&words[1..]),
+            ["tree", ..] => self.of_tree(&words[1..]),
+            _ => Answer::Refused("call"),
+        }
+    }
+
+    // The three words as numbers.
+    fn show(&self, shown: &mut String) -> fmt::Result {
+        let (word, marked, tree) = (self.word.bits(), self.marked.bits(), self.tree.bits());
+        write!(shown, "{word} {marked} {tree}")?;
+        Ok(())
+    }
+}
+
+const RUNS: [Run; 4] = [
+    Run {
+        name: "an end keeps a place",
+        rows: "
+        end none | none
+        end 7    | 7
+        ",
+    },
+    Run {
+        name: "a word names both sides",
+        rows: "
+        word none           | ok   | 0 1 0
+        word of none        | ok   | 0 1 0
+        word place          | none
+        word of 5           | ok   | 12 1 0
+        word place          | 5
+        word between 2 5    | ok   | 10 1 0
+        word other 2        | 5
+        word other 5        | 2
+        word replace 2 none | ok   | 12 1 0
+        word place          | 5
+        word between 2 5    | ok   | 10 1 0
+        word replace 5 2    | ok   | 0 1 0
+        ",
+    },
+    Run {
+        name: "a mark is no word",
+        rows: "
+        marked mark    | ok   | 0 1 0
+        marked is_word | no
+        marked of 5    | ok   | 0 12 0
+        marked is_word | yes
+        marked word    | 12
+        ",
+    },
+    Run {
+        name: "a tree word keeps three things apart",
+        rows: "
+        tree linked          | ok   | 0 1 3
+        tree color           | black
+        tree parent          | none
+        tree set_parent 0    | ok   | 0 1 7
+        tree set_color red   | ok   | 0 1 6
+        tree is_linked       | yes
+        tree parent          | 0
+        tree set_parent none | ok   | 0 1 2
+        tree color           | red
+        tree is_linked       | yes
+        tree unlinked        | ok   | 0 1 0
+        tree set_color black | ok   | 0 1 1
+        tree set_parent 0    | ok   | 0 1 5
+        tree is_linked       | no
+        ",
+    },
+];
+
+#[test]
+fn worked_rows(rt: HostRuntime) -> Result<(), Fail> {
+    for run in RUNS {
+        let mut words = Words {
+            word: Word::none(),
+            marked: MarkedWord::mark(),
+            tree: TreeWord::unlinked(),
+        };
+        play(rt.alloc(), &mut words, &run)?;
+    }
+    Ok(())
+}

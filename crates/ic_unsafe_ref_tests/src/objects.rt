@@ -1,0 +1,141 @@
+//! Objects by their places, with memory and without.
+
+use crate::answers::{place_or_none, read_place};
+use ic_unsafe_ref::{Objects, Place, UnsafeRef};
+use rationed::Rationed;
+use rows::{Answer, Played, Run, play};
+use std::fmt::{self, Write};
+use std::test::Fail;
+
+// Objects over an allocator that refuses the requests which a row names, and the value that came back last.
+#[derive(Drop)]
+struct Stand<'a> {
+    rationed: &'a Rationed,
+    objects: Objects<u64, &'a Rationed>,
+    back: Option<u64>,
+}
+
+impl Stand<'_> {
+    // Places the value, where a place is left.
+    fn place(&mut self, value: u64) -> Answer {
+        let Some(next) = self.objects.next_place() else {
+            return Answer::Refused("full");
+        };
+        let _small = next.index();
+        self.back = None;
+        match UnsafeRef::from_box(&mut self.objects, value) {
+            Ok(object) => place_or_none(Some(object.place())),
+            Err((_, value)) => {
+                self.back = Some(value);
+                Answer::Refused("memory")
+            }
+        }
+    }
+
+    // A call with a place.
+    fn of_place(&self, call: &str, place: Place) -> Answer {
+        match call {
+            "get" => match self.objects.get(place) {
+                Some(value) => Answer::Number(*value),
+                None => Answer::Nothing,
+            },
+            "is_placed" => Answer::Truth(self.objects.is_placed(place)),
+            "at" => place_or_none(self.objects.at(place).map(|object| object.place())),
+            _ => Answer::Refused("call"),
+        }
+    }
+
+    // A call with a number.
+    fn of_number(&mut self, call: &str, number: u64) -> Answer {
+        match call {
+            "refuse" => {
+                self.rationed.refuse(number);
+                Answer::Done
+            }
+            _ => self.place(number),
+        }
+    }
+}
+
+impl Played for Stand<'_> {
+    type Answer = Answer;
+
+    fn call(&mut self, words: &[&str]) -> Answer {
+        match *words {
+            ["len"] => Answer::Number(self.objects.len() as u64),
+            ["next_place"] => place_or_none(self.objects.next_place()),
+            ["refuse" | "place", number] => match number.parse() {
+                Ok(number) => self.of_number(words[0], number),
+                Err(_) => Answer::Refused("number"),
+            },
+            [call, place] => match read_place(place) {
+                Some(place) => self.of_place(call, place),
+                None => Answer::Refused("place"),
+            },
+            _ => Answer::Refused("call"),
+        }
+    }
+
+    // The objects at the first places, each by its index, and what came back.
+    fn show(&self, shown: &mut String) -> fmt::Result {
+        for index in 0..4 {
+            if let Some(place) = Place::new(index)
+                && let Some(value) = self.objects.get(place)
+            {
+                write!(shown, "{index}:{value} ")?;
+            }
+        }
+        if let Some(value) = self.back {
+            write!(shown, "back {value}")?;
+        }
+        Ok(())
+    }
+}
+
+const RUNS: [Run; 2] = [
+    Run {
+        name: "objects by place",
+        rows: "
+        len         | 0    |
+        next_place  | 0
+        is_placed 0 | no
+        place 10    | 0    | 0:10
+        place 20    | 1    | 0:10 1:20
+        len         | 2
+        get 0       | 10
+        get 1       | 20
+        get 2       | none
+        is_placed 1 | yes
+        is_placed 2 | no
+        at 1        | 1
+        at 2        | none
+        next_place  | 2
+        ",
+    },
+    Run {
+        name: "each growth refused in turn",
+        rows: "
+        refuse 0    | ok     |
+        place 10    | memory | back 10
+        len         | 0
+        is_placed 0 | no
+        next_place  | 0
+        place 10    | 0      | 0:10
+        get 0       | 10
+        ",
+    },
+];
+
+#[test]
+fn worked_rows(rt: HostRuntime) -> Result<(), Fail> {
+    for run in RUNS {
+        let rationed = Rationed::new(rt.alloc(), u64::MAX);
+        let mut stand = Stand {
+            rationed: &rationed,
+            objects: Objects::new(&rationed),
+            back: None,
+        };
+        play(rt.alloc(), &mut stand, &run)?;
+    }
+    Ok(())
+}
