@@ -1,20 +1,11 @@
-//! Two lists of one table with a cursor, whose calls ask nothing.
+//! Two lists of one table with a position in the first, whose calls ask nothing.
 
-ghost use Rattle.std.specs.Prelude.{◌≡◌};
-ghost use Rattle.ic_link_ops.specs.LinkedList.{ShowsSome};
-ghost use Rattle.ic_link_ops.specs.DoublyEntries.{neighbors_of, entries, table_of};
-ghost use Rattle.ic_linked_list.specs.Stands.{Stands};
-ghost use Rattle.ic_linked_list.specs.CursorOwning as owned;
-ghost use Rattle.ic_linked_list.specs.CursorMut as lent;
-ghost use Rattle.ic_linked_list.specs.Cursor as reads;
-
+use crate::answers::{inserted, object};
 use ic_link_ops::linked_list::LinkOps;
-use ic_link_ops::{AlreadyLinked, ReplaceError};
-use ic_linked_list::{Cursor, CursorMut, CursorOwning, LinkedList};
-use ic_unsafe_ref::{Place, UnsafeRef};
-use rows::{Answer, Played};
+use ic_linked_list::{LinkedList, laws};
+use ic_unsafe_ref::{Objects, Place, UnsafeRef};
+use rows::Answer;
 use std::alloc::Global;
-use std::fmt::{self, Write};
 use std::marker::Model;
 use std::mem;
 use std::test::Fail;
@@ -22,18 +13,23 @@ use std::test::Fail;
 /// By which cursor the calls at a position are made.
 #[derive(Clone, Copy)]
 pub(crate) enum By {
+    /// Moves by a cursor that reads, and edits by one that borrows the list.
+    Ref,
+    /// All by a cursor that borrows the list.
     Mut,
+    /// All by a cursor that keeps the list.
     Owning,
 }
 
 /// Two lists that share no member, and a position in the first.
 #[derive(Drop)]
 pub(crate) struct Lists {
-    by: By,
-    links: LinkOps,
-    list: LinkedList<u64>,
-    other: LinkedList<u64>,
-    at: Option<Place>,
+    pub(crate) alloc: Global,
+    pub(crate) by: By,
+    pub(crate) links: LinkOps,
+    pub(crate) list: LinkedList<u64>,
+    pub(crate) other: LinkedList<u64>,
+    pub(crate) at: Option<Place>,
 }
 
 impl Model for Lists {
@@ -48,94 +44,24 @@ impl Model for Lists {
     ghost invariant = { λ l. AreApart (table_of (entries l.links)) l.list l.other l.at };
 }
 
-// A cursor that keeps the list, at that position.
-fn owning(list: &mut LinkedList<u64>, links: &LinkOps, at: Option<Place>) -> CursorOwning<u64>
-    requires stands { Stands neighbors_of (table_of (entries links.now)) list.old at }
-    ensures list { owned.list_of result ≡ list.old }
-    ensures position { owned.position result ≡ at }
-{
-    let list = list.take();
-    match at {
-        None => list.cursor_owning(),
-        Some(place) => list.cursor_owning_from_ptr(links, UnsafeRef::new(place)),
-    }
-}
-
-// A cursor that borrows the list, at that position.
-fn borrowing<'a>(
-    list: &'a mut LinkedList<u64>,
-    links: &'a mut LinkOps,
-    at: Option<Place>,
-) -> CursorMut<'a, u64, LinkOps>
-    requires stands { Stands neighbors_of (table_of (entries links.old)) list.old at }
-    ensures borrows { lent.IsBorrowed list.entry links.entry result }
-    ensures position { lent.position result ≡ at }
-{
-    match at {
-        None => list.cursor_mut(links),
-        Some(place) => list.cursor_mut_from_ptr(links, UnsafeRef::new(place)),
-    }
-}
-
-// A cursor that reads, at that position.
-fn reading<'a>(
-    list: &'a LinkedList<u64>,
-    links: &'a LinkOps,
-    at: Option<Place>,
-) -> Cursor<'a, u64, LinkOps>
-    requires stands { Stands neighbors_of (table_of (entries links.now)) list.now at }
-    ensures list { reads.list_of result ≡ list.now }
-    ensures links { reads.links_of result ≡ links.now }
-    ensures position { reads.position result ≡ at }
-{
-    match at {
-        None => list.cursor(links),
-        Some(place) => list.cursor_from_ptr(links, UnsafeRef::new(place)),
-    }
-}
-
-// What a place is answered as.
-fn number(place: Place) -> Answer {
-    Answer::Number(place.index() as u64)
-}
-
-// What an object that comes back is answered as.
-fn object(found: Option<UnsafeRef<u64>>) -> Answer {
-    match found {
-        Some(object) => number(object.place()),
-        None => Answer::Nothing,
-    }
-}
-
-// Whether an object was taken in.
-fn inserted(given: &Result<(), AlreadyLinked<u64>>) -> Answer {
-    match given {
-        Ok(()) => Answer::Done,
-        Err(_) => Answer::Refused("linked"),
-    }
-}
-
-// What was replaced.
-fn replaced(given: &Result<UnsafeRef<u64>, ReplaceError<u64>>) -> Answer {
-    match given {
-        Ok(out) => number(out.place()),
-        Err(ReplaceError::Null(_)) => Answer::Refused("null"),
-        Err(ReplaceError::AlreadyLinked(_)) => Answer::Refused("linked"),
-    }
-}
-
 impl Lists {
     /// Two empty lists, a new one and the default, of a table that covers so many places.
     pub(crate) fn new(alloc: Global, by: By, covers: usize) -> Result<Lists, Fail> {
         let mut links = LinkOps::new(alloc);
         links.cover(covers)?;
         Ok(Lists {
+            alloc,
             by,
             links,
             list: LinkedList::new(),
             other: LinkedList::default(),
             at: None,
         })
+    }
+
+    /// Whether neither list has a member.
+    pub(crate) fn is_empty(&self) -> bool {
+        self.list.is_empty() && self.other.is_empty()
     }
 
     fn push_back(&mut self, place: Place) -> Answer {
@@ -212,260 +138,128 @@ impl Lists {
         Answer::Done
     }
 
-    fn null(&mut self) -> Answer {
+    // The cursor goes to null.
+    pub(crate) fn null(&mut self) -> Answer {
         self.at = None;
         Answer::Done
     }
 
-    fn front(&mut self) -> Answer {
-        match self.by {
-            By::Mut => self.at = self.list.front_mut(&mut self.links).get_ptr(),
-            By::Owning => {
-                let cursor = self.list.take().front_owning(&self.links);
-                self.at = cursor.as_cursor(&self.links).get_ptr();
-                self.list = cursor.into_inner();
-            }
+    // The whole list is the other one then. Only where that has no member.
+    fn take(&mut self) -> Answer {
+        if !self.other.is_empty() {
+            return Answer::Refused("two lists");
         }
+        self.at = None;
+        self.other = self.list.take();
         Answer::Done
     }
 
-    fn back(&mut self) -> Answer {
-        match self.by {
-            By::Mut => self.at = self.list.back_mut(&mut self.links).get_ptr(),
-            By::Owning => {
-                let cursor = self.list.take().back_owning(&self.links);
-                self.at = cursor.as_cursor(&self.links).get_ptr();
-                self.list = cursor.into_inner();
-            }
-        }
-        Answer::Done
-    }
-
-    fn move_next(&mut self) -> Answer {
-        match self.by {
-            By::Mut => {
-                let mut cursor = borrowing(&mut self.list, &mut self.links, self.at);
-                cursor.move_next();
-                self.at = cursor.get_ptr();
-            }
-            By::Owning => {
-                let mut cursor = owning(&mut self.list, &self.links, self.at);
-                cursor.move_next(&self.links);
-                self.at = cursor.as_cursor(&self.links).get_ptr();
-                self.list = cursor.into_inner();
-            }
-        }
-        Answer::Done
-    }
-
-    fn move_prev(&mut self) -> Answer {
-        match self.by {
-            By::Mut => {
-                let mut cursor = borrowing(&mut self.list, &mut self.links, self.at);
-                cursor.move_prev();
-                self.at = cursor.get_ptr();
-            }
-            By::Owning => {
-                let mut cursor = owning(&mut self.list, &self.links, self.at);
-                cursor.move_prev(&self.links);
-                self.at = cursor.as_cursor(&self.links).get_ptr();
-                self.list = cursor.into_inner();
-            }
-        }
-        Answer::Done
-    }
-
-    fn insert_after(&mut self, place: Place) -> Answer {
+    // Puts an unlinked place at the back and takes it off there again. Only where there is no other list.
+    fn push_then_pop(&mut self, place: Place) -> Answer {
         if place.index() >= self.links.covers() {
             return Answer::Refused("beyond");
         }
-        match self.by {
-            By::Mut => inserted(&borrowing(&mut self.list, &mut self.links, self.at).insert_after(
-                UnsafeRef::new(place),
-            )),
-            By::Owning => {
-                let mut cursor = owning(&mut self.list, &self.links, self.at);
-                let result = cursor.insert_after(&mut self.links, UnsafeRef::new(place));
-                self.list = cursor.into_inner();
-                inserted(&result)
-            }
+        if self.links.is_linked(place) {
+            return Answer::Refused("linked");
         }
-    }
-
-    fn insert_before(&mut self, place: Place) -> Answer {
-        if place.index() >= self.links.covers() {
-            return Answer::Refused("beyond");
+        if !self.other.is_empty() {
+            return Answer::Refused("two lists");
         }
-        match self.by {
-            By::Mut => inserted(&borrowing(&mut self.list, &mut self.links, self.at).insert_before(
-                UnsafeRef::new(place),
-            )),
-            By::Owning => {
-                let mut cursor = owning(&mut self.list, &self.links, self.at);
-                let result = cursor.insert_before(&mut self.links, UnsafeRef::new(place));
-                self.list = cursor.into_inner();
-                inserted(&result)
-            }
-        }
-    }
-
-    fn remove(&mut self) -> Answer {
-        match self.by {
-            By::Mut => {
-                let mut cursor = borrowing(&mut self.list, &mut self.links, self.at);
-                let removed = cursor.remove();
-                self.at = cursor.get_ptr();
-                object(removed)
-            }
-            By::Owning => {
-                let mut cursor = owning(&mut self.list, &self.links, self.at);
-                let removed = cursor.remove(&mut self.links);
-                self.at = cursor.as_cursor(&self.links).get_ptr();
-                self.list = cursor.into_inner();
-                object(removed)
-            }
-        }
-    }
-
-    fn replace_with(&mut self, place: Place) -> Answer {
-        if place.index() >= self.links.covers() {
-            return Answer::Refused("beyond");
-        }
-        match self.by {
-            By::Mut => {
-                let mut cursor = borrowing(&mut self.list, &mut self.links, self.at);
-                let result = cursor.replace_with(UnsafeRef::new(place));
-                self.at = cursor.get_ptr();
-                replaced(&result)
-            }
-            By::Owning => {
-                let mut cursor = owning(&mut self.list, &self.links, self.at);
-                let result = cursor.replace_with(&mut self.links, UnsafeRef::new(place));
-                self.at = cursor.as_cursor(&self.links).get_ptr();
-                self.list = cursor.into_inner();
-                replaced(&result)
-            }
-        }
-    }
-
-    // All of the other list goes in.
-    fn splice_after(&mut self) -> Answer {
-        let given = self.other.take();
-        match self.by {
-            By::Mut => borrowing(&mut self.list, &mut self.links, self.at).splice_after(given),
-            By::Owning => {
-                let mut cursor = owning(&mut self.list, &self.links, self.at);
-                cursor.splice_after(&mut self.links, given);
-                self.list = cursor.into_inner();
-            }
-        }
-        Answer::Done
-    }
-
-    fn splice_before(&mut self) -> Answer {
-        let given = self.other.take();
-        match self.by {
-            By::Mut => borrowing(&mut self.list, &mut self.links, self.at).splice_before(given),
-            By::Owning => {
-                let mut cursor = owning(&mut self.list, &self.links, self.at);
-                cursor.splice_before(&mut self.links, given);
-                self.list = cursor.into_inner();
-            }
-        }
-        Answer::Done
-    }
-
-    // What is handed out is the other list then.
-    fn split_after(&mut self) -> Answer {
-        match self.by {
-            By::Mut => {
-                self.other = borrowing(&mut self.list, &mut self.links, self.at).split_after();
-            }
-            By::Owning => {
-                let mut cursor = owning(&mut self.list, &self.links, self.at);
-                self.other = cursor.split_after(&mut self.links);
-                self.list = cursor.into_inner();
-            }
-        }
-        Answer::Done
-    }
-
-    fn split_before(&mut self) -> Answer {
-        match self.by {
-            By::Mut => {
-                self.other = borrowing(&mut self.list, &mut self.links, self.at).split_before();
-            }
-            By::Owning => {
-                let mut cursor = owning(&mut self.list, &self.links, self.at);
-                self.other = cursor.split_before(&mut self.links);
-                self.list = cursor.into_inner();
-            }
-        }
-        Answer::Done
-    }
-
-    fn peek_next(&mut self) -> Answer {
-        match self.by {
-            By::Mut => {
-                let cursor = borrowing(&mut self.list, &mut self.links, self.at);
-                object(cursor.peek_next().clone_pointer())
-            }
-            By::Owning => {
-                let cursor = reading(&self.list, &self.links, self.at);
-                object(cursor.peek_next().clone_pointer())
-            }
-        }
-    }
-
-    fn peek_prev(&mut self) -> Answer {
-        match self.by {
-            By::Mut => {
-                let cursor = borrowing(&mut self.list, &mut self.links, self.at);
-                object(cursor.peek_prev().clone_pointer())
-            }
-            By::Owning => {
-                let cursor = reading(&self.list, &self.links, self.at);
-                object(cursor.peek_prev().clone_pointer())
-            }
-        }
+        self.at = None;
+        self.other = LinkedList::new();
+        object(laws::push_then_pop(&mut self.list, &mut self.links, UnsafeRef::new(place)))
     }
 
     // A call that is given a place.
-    fn call_with(&mut self, name: &str, place: Place) -> Answer {
+    fn call_at(&mut self, name: &str, place: Place) -> Answer {
         match name {
             "push_back" => self.push_back(place),
             "push_front" => self.push_front(place),
             "insert_after" => self.insert_after(place),
             "insert_before" => self.insert_before(place),
             "replace_with" => self.replace_with(place),
+            "push_then_pop" => self.push_then_pop(place),
             "force_unlink" => self.force_unlink(place),
             "is_linked" => self.is_linked(place),
+            "text" => self.text(place),
+            "on" => self.on(place),
             _ => Answer::Refused("no such call"),
         }
     }
 
-    // A call that is given nothing.
+    // The calls that are given one of these places each, and what the last one answers.
+    fn call_at_each(&mut self, name: &str, places: &[&str]) -> Answer {
+        let mut answer = Answer::Nothing;
+        for word in places {
+            answer = match place(word) {
+                Some(place) => self.call_at(name, place),
+                None => Answer::Refused("no such place"),
+            };
+        }
+        answer
+    }
+
+    // A call that is given nothing and edits.
     fn call_alone(&mut self, name: &str) -> Answer {
         match name {
             "pop_front" => self.pop_front(),
             "pop_back" => self.pop_back(),
             "clear" => self.clear(),
+            "take" => self.take(),
             "dispose" => self.dispose(),
             "fast_clear" => self.fast_clear(),
             "swap" => self.swap(),
+            "remove" => self.remove(),
+            "remove_first" => self.remove_first(),
+            "splice_after" => self.splice_after(),
+            "splice_before" => self.splice_before(),
+            "split_after" => self.split_after(),
+            "split_before" => self.split_before(),
+            _ => self.call_to_move(name),
+        }
+    }
+
+    // A call that is given nothing and moves the cursor.
+    fn call_to_move(&mut self, name: &str) -> Answer {
+        match name {
             "null" => self.null(),
             "front" => self.front(),
             "back" => self.back(),
             "move_next" => self.move_next(),
             "move_prev" => self.move_prev(),
+            _ => Answer::Refused("no such call"),
+        }
+    }
+
+    // A call that is given nothing and reads.
+    fn call_to_read(&mut self, objects: &Objects<u64>, name: &str) -> Answer {
+        match name {
+            "is_empty" => Answer::Truth(self.list.is_empty()),
+            "is_null" => self.is_null(),
             "peek_next" => self.peek_next(),
             "peek_prev" => self.peek_prev(),
-            "remove" => self.remove(),
-            "splice_after" => self.splice_after(),
-            "splice_before" => self.splice_before(),
-            "split_after" => self.split_after(),
-            "split_before" => self.split_before(),
-            _ => Answer::Refused("no such call"),
+            "get" => self.get(objects),
+            "into_ref" => self.into_ref(objects),
+            "as_cursor" => self.as_cursor(),
+            "clone_pointer" => self.clone_pointer(),
+            "copy" => self.copy(),
+            "values" => self.values(objects),
+            "linked" => self.linked(),
+            _ => self.call_alone(name),
+        }
+    }
+
+    /// Makes the call that these words are.
+    pub(crate) fn call(&mut self, objects: &Objects<u64>, words: &[&str]) -> Answer {
+        let Some((name, rest)) = words.split_first() else {
+            return Answer::Refused("no call");
+        };
+        match *name {
+            "walk" => self.walk(objects, rest),
+            "take_and_drop" => self.take_off(rest, false),
+            "take_and_finish" => self.take_off(rest, true),
+            name if rest.is_empty() => self.call_to_read(objects, name),
+            name => self.call_at_each(name, rest),
         }
     }
 }
@@ -473,72 +267,4 @@ impl Lists {
 // The place that the word is.
 fn place(word: &str) -> Option<Place> {
     Place::new(word.parse().ok()?)
-}
-
-impl Played for Lists {
-    type Answer = Answer;
-
-    fn call(&mut self, words: &[&str]) -> Answer {
-        let Some((name, places)) = words.split_first() else {
-            return Answer::Refused("no call");
-        };
-        if places.is_empty() {
-            return self.call_alone(name);
-        }
-        let mut answer = Answer::Done;
-        for word in places {
-            answer = match place(word) {
-                Some(place) => self.call_with(name, place),
-                None => Answer::Refused("no such place"),
-            };
-        }
-        answer
-    }
-
-    fn show(&self, shown: &mut String) -> fmt::Result {
-        write_walk(shown, &self.list, &self.links, self.at)?;
-        if !self.other.is_empty() {
-            write!(shown, "+ ")?;
-            write_walk(shown, &self.other, &self.links, None)?;
-        }
-        Ok(())
-    }
-}
-
-// Moves the cursor, and answers where it is then, and whether a move back would lead where it was.
-fn step(cursor: &mut Cursor<'_, u64, LinkOps>) -> (Option<Place>, bool)
-    requires stands { Stands neighbors_of (table_of (entries (reads.links_of cursor.old))) (reads.list_of cursor.old) (reads.position cursor.old) }
-    ensures stands { Stands neighbors_of (table_of (entries (reads.links_of cursor.new))) (reads.list_of cursor.new) (reads.position cursor.new) }
-{
-    let before = cursor.get_ptr();
-    cursor.move_next();
-    let back = cursor.peek_prev();
-    (cursor.get_ptr(), back.get_ptr() == before)
-}
-
-// The members as a walk from null to null comes by them, with a mark at the cursor's.
-fn write_walk(
-    shown: &mut String,
-    list: &LinkedList<u64>,
-    links: &LinkOps,
-    at: Option<Place>,
-) -> fmt::Result
-    requires shown { ShowsSome neighbors_of (table_of (entries links.now)) list.now }
-{
-    let mut cursor = reading(list, links, None);
-    for _ in 0..=links.covers() {
-        let (here, leads_back) = step(&mut cursor);
-        if !leads_back {
-            write!(shown, "no way back ")?;
-        }
-        let Some(place) = here else {
-            break;
-        };
-        if here == at {
-            write!(shown, "({}) ", place.index())?;
-        } else {
-            write!(shown, "{} ", place.index())?;
-        }
-    }
-    Ok(())
 }
