@@ -2,6 +2,7 @@ pub mod SequenceLemmas
 pub mod Counting
 pub mod Chains
 pub mod ShownLists
+pub mod TwoLists
 pub mod Turning
 pub mod Walks
 pub mod LinkedSets

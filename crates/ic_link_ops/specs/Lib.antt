@@ -3,6 +3,7 @@ pub mod Tables
 pub mod Chains
 pub mod Turns
 pub mod Edits
+pub mod TwoLists
 pub mod Errors
 pub mod Walk
 pub mod LinkedList

@@ -44,6 +44,3 @@ pub use ic_link_ops::linked_list::{Link, LinkOps, LinkedListOps};
 pub use into_iter::IntoIter;
 pub use iter::Iter;
 pub use list::LinkedList;
-
-#[cfg(test)]
-mod tests;

@@ -18,7 +18,7 @@ mod lists;
 mod tests;
 
 pub use answer::Answer;
-pub use lists::BOTH_ENDS;
+pub use lists::{BOTH_ENDS, EDITS, MOVES, ONE_END, SPLICES_AND_SPLITS, WALKS, WHOLE_LISTS};
 use std::alloc::{AllocError, Global};
 use std::fmt;
 

@@ -1,0 +1,16 @@
+-- Two lists of one table, of whatever kind, and a position in the first.
+use Rattle.std.specs.Prelude.{Option, List}
+use Rattle.ic_unsafe_ref.specs.declared.place.Place.{Place}
+use Rattle.ic_link_ops.specs.Sequences.{Cut, join, IsAfter, IsDisjoint}
+use Rattle.ic_link_ops.specs.Tables.{Table}
+
+-- `Shows t head s`: the table shows s for the list with this head
+module _ {E H : Type 0} (Shows : Table E → H → List Place → Type 0) where
+  -- the table shows two lists that share no member, and the position is one of the first
+  pub record AreApart (t : Table E) (list other : H) (position : Option Place) : Type 0 where
+    pub gap : Cut
+    pub rest : List Place
+    pub shown : Shows t list (join gap)
+    pub after : IsAfter gap position
+    pub other_shown : Shows t other rest
+    pub apart : IsDisjoint rest (join gap)

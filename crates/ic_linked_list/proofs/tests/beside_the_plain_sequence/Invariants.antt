@@ -1,9 +1,0 @@
-use Rattle.ic_link_ops.specs.LinkedList.{ShowsSome}
-use Rattle.ic_link_ops.specs.DoublyEntries.{neighbors_of, entries, table_of}
-use Rattle.ic_linked_list.proofs.tests.beside_the_plain_sequence.Given as goal
-
-abbrev pub invariant-loop : goal.invariant-loop
-invariant-loop g l = record { shown : ShowsSome neighbors_of (table_of (entries l.links)) l.list }
-
-abbrev pub invariant-loop-index : goal.invariant-loop-index
-invariant-loop-index g l = record { shown : ShowsSome neighbors_of (table_of (entries l.links)) l.list }

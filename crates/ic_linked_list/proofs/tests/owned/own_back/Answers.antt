@@ -1,8 +1,0 @@
-use Rattle.ic_linked_list.proofs.Standing.{stands_last}
-use Rattle.ic_linked_list.proofs.tests.owned.own_back.Goals as goal
-
-pub returns : goal.returns
-returns c =
-    let s = c.requires.shown in
-    let e = c.back_owning.ensures in
-    record { stands = stands_last s.0 (rw e.list s.1) _ (e.position s.0 s.1) }

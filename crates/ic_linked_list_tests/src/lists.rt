@@ -1,0 +1,270 @@
+//! Two lists of one table with a position in the first, whose calls ask nothing.
+
+use crate::answers::{inserted, object};
+use ic_link_ops::linked_list::LinkOps;
+use ic_linked_list::{LinkedList, laws};
+use ic_unsafe_ref::{Objects, Place, UnsafeRef};
+use rows::Answer;
+use std::alloc::Global;
+use std::marker::Model;
+use std::mem;
+use std::test::Fail;
+
+/// By which cursor the calls at a position are made.
+#[derive(Clone, Copy)]
+pub(crate) enum By {
+    /// Moves by a cursor that reads, and edits by one that borrows the list.
+    Ref,
+    /// All by a cursor that borrows the list.
+    Mut,
+    /// All by a cursor that keeps the list.
+    Owning,
+}
+
+/// Two lists that share no member, and a position in the first.
+#[derive(Drop)]
+pub(crate) struct Lists {
+    pub(crate) alloc: Global,
+    pub(crate) by: By,
+    pub(crate) links: LinkOps,
+    pub(crate) list: LinkedList<u64>,
+    pub(crate) other: LinkedList<u64>,
+    pub(crate) at: Option<Place>,
+}
+
+impl Model for Lists {
+    ghost use Rattle.std.specs.Prelude.{ℕ};
+    ghost use Rattle.ic_link_ops.specs.DoublyEntries.{entries, table_of};
+    ghost use Rattle.ic_linked_list_tests.specs.Lists.{AreApart};
+
+    ghost Value = { ℕ };
+
+    ghost view = { λ _. 0 };
+
+    ghost invariant = { λ l. AreApart (table_of (entries l.links)) l.list l.other l.at };
+}
+
+impl Lists {
+    /// Two empty lists, a new one and the default, of a table that covers so many places.
+    pub(crate) fn new(alloc: Global, by: By, covers: usize) -> Result<Lists, Fail> {
+        let mut links = LinkOps::new(alloc);
+        links.cover(covers)?;
+        Ok(Lists {
+            alloc,
+            by,
+            links,
+            list: LinkedList::new(),
+            other: LinkedList::default(),
+            at: None,
+        })
+    }
+
+    /// Whether neither list has a member.
+    pub(crate) fn is_empty(&self) -> bool {
+        self.list.is_empty() && self.other.is_empty()
+    }
+
+    fn push_back(&mut self, place: Place) -> Answer {
+        self.at = None;
+        if place.index() >= self.links.covers() {
+            return Answer::Refused("beyond");
+        }
+        inserted(&self.list.push_back(&mut self.links, UnsafeRef::new(place)))
+    }
+
+    fn push_front(&mut self, place: Place) -> Answer {
+        self.at = None;
+        if place.index() >= self.links.covers() {
+            return Answer::Refused("beyond");
+        }
+        inserted(&self.list.push_front(&mut self.links, UnsafeRef::new(place)))
+    }
+
+    fn pop_front(&mut self) -> Answer {
+        self.at = None;
+        object(self.list.pop_front(&mut self.links))
+    }
+
+    fn pop_back(&mut self) -> Answer {
+        self.at = None;
+        object(self.list.pop_back(&mut self.links))
+    }
+
+    fn clear(&mut self) -> Answer {
+        self.at = None;
+        self.list.clear(&mut self.links);
+        Answer::Done
+    }
+
+    fn dispose(&mut self) -> Answer {
+        self.at = None;
+        let whole = self.list.take();
+        whole.dispose(&mut self.links);
+        Answer::Done
+    }
+
+    fn fast_clear(&mut self) -> Answer {
+        self.at = None;
+        self.list.fast_clear();
+        Answer::Done
+    }
+
+    // Only where there is no list of which the place could be a member.
+    fn force_unlink(&mut self, place: Place) -> Answer {
+        if place.index() >= self.links.covers() {
+            return Answer::Refused("beyond");
+        }
+        if !self.list.is_empty() || !self.other.is_empty() {
+            return Answer::Refused("member");
+        }
+        self.at = None;
+        self.list = LinkedList::new();
+        self.other = LinkedList::new();
+        self.links.force_unlink(place);
+        Answer::Done
+    }
+
+    fn is_linked(&self, place: Place) -> Answer {
+        if place.index() >= self.links.covers() {
+            return Answer::Refused("beyond");
+        }
+        Answer::Truth(self.links.is_linked(place))
+    }
+
+    // The two lists change places.
+    fn swap(&mut self) -> Answer {
+        self.at = None;
+        mem::swap(&mut self.list, &mut self.other);
+        Answer::Done
+    }
+
+    // The cursor goes to null.
+    pub(crate) fn null(&mut self) -> Answer {
+        self.at = None;
+        Answer::Done
+    }
+
+    // The whole list is the other one then. Only where that has no member.
+    fn take(&mut self) -> Answer {
+        if !self.other.is_empty() {
+            return Answer::Refused("two lists");
+        }
+        self.at = None;
+        self.other = self.list.take();
+        Answer::Done
+    }
+
+    // Puts an unlinked place at the back and takes it off there again. Only where there is no other list.
+    fn push_then_pop(&mut self, place: Place) -> Answer {
+        if place.index() >= self.links.covers() {
+            return Answer::Refused("beyond");
+        }
+        if self.links.is_linked(place) {
+            return Answer::Refused("linked");
+        }
+        if !self.other.is_empty() {
+            return Answer::Refused("two lists");
+        }
+        self.at = None;
+        self.other = LinkedList::new();
+        object(laws::push_then_pop(&mut self.list, &mut self.links, UnsafeRef::new(place)))
+    }
+
+    // A call that is given a place.
+    fn call_at(&mut self, name: &str, place: Place) -> Answer {
+        match name {
+            "push_back" => self.push_back(place),
+            "push_front" => self.push_front(place),
+            "insert_after" => self.insert_after(place),
+            "insert_before" => self.insert_before(place),
+            "replace_with" => self.replace_with(place),
+            "push_then_pop" => self.push_then_pop(place),
+            "force_unlink" => self.force_unlink(place),
+            "is_linked" => self.is_linked(place),
+            "text" => self.text(place),
+            "on" => self.on(place),
+            _ => Answer::Refused("no such call"),
+        }
+    }
+
+    // The calls that are given one of these places each, and what the last one answers.
+    fn call_at_each(&mut self, name: &str, places: &[&str]) -> Answer {
+        let mut answer = Answer::Nothing;
+        for word in places {
+            answer = match place(word) {
+                Some(place) => self.call_at(name, place),
+                None => Answer::Refused("no such place"),
+            };
+        }
+        answer
+    }
+
+    // A call that is given nothing and edits.
+    fn call_alone(&mut self, name: &str) -> Answer {
+        match name {
+            "pop_front" => self.pop_front(),
+            "pop_back" => self.pop_back(),
+            "clear" => self.clear(),
+            "take" => self.take(),
+            "dispose" => self.dispose(),
+            "fast_clear" => self.fast_clear(),
+            "swap" => self.swap(),
+            "remove" => self.remove(),
+            "remove_first" => self.remove_first(),
+            "splice_after" => self.splice_after(),
+            "splice_before" => self.splice_before(),
+            "split_after" => self.split_after(),
+            "split_before" => self.split_before(),
+            _ => self.call_to_move(name),
+        }
+    }
+
+    // A call that is given nothing and moves the cursor.
+    fn call_to_move(&mut self, name: &str) -> Answer {
+        match name {
+            "null" => self.null(),
+            "front" => self.front(),
+            "back" => self.back(),
+            "move_next" => self.move_next(),
+            "move_prev" => self.move_prev(),
+            _ => Answer::Refused("no such call"),
+        }
+    }
+
+    // A call that is given nothing and reads.
+    fn call_to_read(&mut self, objects: &Objects<u64>, name: &str) -> Answer {
+        match name {
+            "is_empty" => Answer::Truth(self.list.is_empty()),
+            "is_null" => self.is_null(),
+            "peek_next" => self.peek_next(),
+            "peek_prev" => self.peek_prev(),
+            "get" => self.get(objects),
+            "into_ref" => self.into_ref(objects),
+            "as_cursor" => self.as_cursor(),
+            "clone_pointer" => self.clone_pointer(),
+            "copy" => self.copy(),
+            "values" => self.values(objects),
+            "linked" => self.linked(),
+            _ => self.call_alone(name),
+        }
+    }
+
+    /// Makes the call that these words are.
+    pub(crate) fn call(&mut self, objects: &Objects<u64>, words: &[&str]) -> Answer {
+        let Some((name, rest)) = words.split_first() else {
+            return Answer::Refused("no call");
+        };
+        match *name {
+            "walk" => self.walk(objects, rest),
+            "take_and_drop" => self.take_off(rest, false),
+            "take_and_finish" => self.take_off(rest, true),
+            name if rest.is_empty() => self.call_to_read(objects, name),
+            name => self.call_at_each(name, rest),
+        }
+    }
+}
+
+// The place that the word is.
+fn place(word: &str) -> Option<Place> {
+    Place::new(word.parse().ok()?)
+}

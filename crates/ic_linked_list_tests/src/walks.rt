@@ -1,0 +1,284 @@
+//! What is read at a position, and by a walk.
+
+ghost use Rattle.std.specs.Prelude.{◌≡◌, ◌<◌, IfSome, IsTrue, length, true};
+ghost use Rattle.ic_unsafe_ref.specs.declared.place.Place.{Place};
+ghost use Rattle.ic_unsafe_ref.specs.Places.{index_of};
+ghost use Rattle.ic_unsafe_ref.specs.Objects.{is_placed};
+ghost use Rattle.ic_link_ops.specs.LinkedList.{ShowsSome};
+ghost use Rattle.ic_link_ops.specs.DoublyEntries.{neighbors_of, entries, table_of};
+ghost use Rattle.ic_linked_list.specs.Stands.{Stands};
+ghost use Rattle.ic_linked_list.specs.Cursor as reads;
+ghost use Rattle.ic_linked_list.specs.Iter.{CanWalk};
+
+use crate::answers::{answered, object, standing, value};
+use crate::cursors::{borrowing, reading};
+use crate::lists::{By, Lists};
+use ic_link_ops::linked_list::LinkOps;
+use ic_linked_list::{Cursor, Iter, LinkedList};
+use ic_unsafe_ref::{Objects, Place};
+use rows::Answer;
+use std::alloc::{AllocError, Global};
+use std::fmt::{self, Write};
+
+// Moves the cursor, and answers where it is then, and whether a move back would lead where it was.
+fn step(cursor: &mut Cursor<'_, u64, LinkOps>) -> (Option<Place>, bool)
+    requires stands { Stands neighbors_of (table_of (entries (reads.links_of cursor.old))) (reads.list_of cursor.old) (reads.position cursor.old) }
+    ensures stands { Stands neighbors_of (table_of (entries (reads.links_of cursor.new))) (reads.list_of cursor.new) (reads.position cursor.new) }
+{
+    let before = cursor.get_ptr();
+    cursor.move_next();
+    let back = cursor.peek_prev();
+    (cursor.get_ptr(), back.get_ptr() == before)
+}
+
+/// The members as a walk from null to null comes by them, with a mark at the cursor's.
+pub(crate) fn write_walk(
+    shown: &mut String,
+    list: &LinkedList<u64>,
+    links: &LinkOps,
+    at: Option<Place>,
+) -> fmt::Result
+    requires shown { ShowsSome neighbors_of (table_of (entries links.now)) list.now }
+{
+    let mut cursor = reading(list, links, None);
+    let mut is_empty = true;
+    for _ in 0..=links.covers() {
+        let (here, leads_back) = step(&mut cursor);
+        if !leads_back {
+            write!(shown, "no way back ")?;
+        }
+        let Some(place) = here else {
+            break;
+        };
+        is_empty = false;
+        if here == at {
+            write!(shown, "({}) ", place.index())?;
+        } else {
+            write!(shown, "{} ", place.index())?;
+        }
+    }
+    if list.is_empty() != is_empty {
+        write!(shown, "is_empty is wrong")?;
+    }
+    Ok(())
+}
+
+// Whether an object stands at each place that is covered.
+fn are_placed(links: &LinkOps, objects: &Objects<u64>) -> bool
+    ensures placed { IsTrue result → (q : Place) → index_of q < length (entries links.now) → is_placed objects.now q ≡ true }
+{
+    for index in 0..links.covers() {
+        let Some(place) = Place::new(index) else {
+            return false;
+        };
+        if !objects.is_placed(place) {
+            return false;
+        }
+    }
+    true
+}
+
+// A walk over the objects of the list, if one stands at each place.
+fn walk_over<'a>(
+    list: &LinkedList<u64>,
+    links: &'a LinkOps,
+    objects: &'a Objects<u64>,
+) -> Option<Iter<'a, u64, LinkOps>>
+    requires shown { ShowsSome neighbors_of (table_of (entries links.now)) list.now }
+    ensures can { IfSome result (λ walk. CanWalk neighbors_of (λ links. table_of (entries links)) walk) }
+{
+    if are_placed(links, objects) {
+        return Some(list.iter(links, objects));
+    }
+    None
+}
+
+// The next object at the front, or at the back.
+fn next_at<'a>(walk: &mut Iter<'a, u64, LinkOps>, at_the_front: bool) -> Option<&'a u64>
+    requires can { CanWalk neighbors_of (λ links. table_of (entries links)) walk.old }
+    ensures can { IfSome result (λ _. CanWalk neighbors_of (λ links. table_of (entries links)) walk.new) }
+{
+    if at_the_front {
+        return walk.next();
+    }
+    walk.next_back()
+}
+
+// The objects that calls at these ends give, then what the walk gives at the front, and a copy of it at the back.
+fn write_ends(text: &mut String, mut walk: Iter<'_, u64, LinkOps>, ends: &[&str]) -> fmt::Result
+    requires can { CanWalk neighbors_of (λ links. table_of (entries links)) walk }
+{
+    for end in ends {
+        let Some(given) = next_at(&mut walk, *end == "front") else {
+            write!(text, "none")?;
+            return Ok(());
+        };
+        write!(text, "{given} ")?;
+    }
+    let mut copy = walk.clone()?;
+    write!(
+        text,
+        "then {} {}",
+        value(walk.next()),
+        value(copy.next_back())
+    )?;
+    Ok(())
+}
+
+// The objects of a walk as the text of a slice.
+fn collected(alloc: Global, walk: Iter<'_, u64, LinkOps>) -> Result<String, AllocError>
+    requires can { CanWalk neighbors_of (λ links. table_of (entries links)) walk }
+{
+    let mut found = Vec::new(alloc);
+    for given in walk {
+        found.push(*given)?;
+    }
+    format!(in alloc; "{:?}", found.as_slice())
+}
+
+/// The places that are linked.
+pub(crate) fn write_linked(text: &mut String, links: &LinkOps) -> fmt::Result {
+    for index in 0..links.covers() {
+        let Some(place) = Place::new(index) else {
+            break;
+        };
+        if links.is_linked(place) {
+            write!(text, "{index} ")?;
+        }
+    }
+    Ok(())
+}
+
+impl Lists {
+    /// What a walk from null gives, of both lists.
+    pub(crate) fn write(&self, shown: &mut String) -> fmt::Result {
+        write_walk(shown, &self.list, &self.links, self.at)?;
+        if !self.other.is_empty() {
+            write!(shown, "+ ")?;
+            write_walk(shown, &self.other, &self.links, None)?;
+        }
+        Ok(())
+    }
+
+    /// The objects that a walk gives at these ends.
+    pub(crate) fn walk(&self, objects: &Objects<u64>, ends: &[&str]) -> Answer {
+        let Some(walk) = walk_over(&self.list, &self.links, objects) else {
+            return Answer::Refused("not placed");
+        };
+        let mut text = String::new(self.alloc);
+        let written = write_ends(&mut text, walk, ends);
+        answered(written, text)
+    }
+
+    /// The objects of the list.
+    pub(crate) fn values(&self, objects: &Objects<u64>) -> Answer {
+        let Some(walk) = walk_over(&self.list, &self.links, objects) else {
+            return Answer::Refused("not placed");
+        };
+        match collected(self.alloc, walk) {
+            Ok(text) => Answer::Text(text),
+            Err(_) => Answer::Refused("memory"),
+        }
+    }
+
+    /// The places that are linked.
+    pub(crate) fn linked(&self) -> Answer {
+        let mut text = String::new(self.alloc);
+        let written = write_linked(&mut text, &self.links);
+        answered(written, text)
+    }
+
+    /// What the link of a place is printed as.
+    pub(crate) fn text(&self, place: Place) -> Answer {
+        if place.index() >= self.links.covers() {
+            return Answer::Refused("beyond");
+        }
+        match format!(in self.alloc; "{:?}", self.links.link(place)) {
+            Ok(text) => Answer::Text(text),
+            Err(_) => Answer::Refused("memory"),
+        }
+    }
+
+    /// The place where a move on would lead.
+    pub(crate) fn peek_next(&mut self) -> Answer {
+        match self.by {
+            By::Mut => {
+                let cursor = borrowing(&mut self.list, &mut self.links, self.at);
+                standing(cursor.peek_next().get_ptr())
+            }
+            By::Ref | By::Owning => {
+                let cursor = reading(&self.list, &self.links, self.at);
+                standing(cursor.peek_next().get_ptr())
+            }
+        }
+    }
+
+    /// The place where a move back would lead.
+    pub(crate) fn peek_prev(&mut self) -> Answer {
+        match self.by {
+            By::Mut => {
+                let cursor = borrowing(&mut self.list, &mut self.links, self.at);
+                standing(cursor.peek_prev().get_ptr())
+            }
+            By::Ref | By::Owning => {
+                let cursor = reading(&self.list, &self.links, self.at);
+                standing(cursor.peek_prev().get_ptr())
+            }
+        }
+    }
+
+    /// Whether the cursor is at null.
+    pub(crate) fn is_null(&mut self) -> Answer {
+        match self.by {
+            By::Mut => {
+                let cursor = borrowing(&mut self.list, &mut self.links, self.at);
+                Answer::Truth(cursor.is_null())
+            }
+            By::Ref | By::Owning => {
+                let cursor = reading(&self.list, &self.links, self.at);
+                Answer::Truth(cursor.is_null())
+            }
+        }
+    }
+
+    /// The object that the cursor is on.
+    pub(crate) fn get(&mut self, objects: &Objects<u64>) -> Answer {
+        match self.by {
+            By::Mut => {
+                let cursor = borrowing(&mut self.list, &mut self.links, self.at);
+                value(cursor.get(objects))
+            }
+            By::Ref | By::Owning => {
+                let cursor = reading(&self.list, &self.links, self.at);
+                value(cursor.get(objects))
+            }
+        }
+    }
+
+    /// The object that a cursor that edits was on when it ended.
+    pub(crate) fn into_ref(&mut self, objects: &Objects<u64>) -> Answer {
+        let cursor = borrowing(&mut self.list, &mut self.links, self.at);
+        value(cursor.into_ref(objects))
+    }
+
+    /// Where the cursor is that reads in place of one that edits.
+    pub(crate) fn as_cursor(&mut self) -> Answer {
+        let cursor = borrowing(&mut self.list, &mut self.links, self.at);
+        standing(cursor.as_cursor().get_ptr())
+    }
+
+    /// A reference to the object that the cursor is on.
+    pub(crate) fn clone_pointer(&self) -> Answer {
+        object(reading(&self.list, &self.links, self.at).clone_pointer())
+    }
+
+    /// Where a copy of the cursor is when the cursor has moved on.
+    pub(crate) fn copy(&self) -> Answer {
+        let mut cursor = reading(&self.list, &self.links, self.at);
+        let Ok(copy) = cursor.clone() else {
+            return Answer::Refused("memory");
+        };
+        cursor.move_next();
+        standing(copy.get_ptr())
+    }
+}
