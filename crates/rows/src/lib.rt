@@ -20,7 +20,7 @@ mod tests;
 pub use answer::Answer;
 pub use lists::{BOTH_ENDS, EDITS, MOVES, ONE_END, SPLICES_AND_SPLITS, WALKS, WHOLE_LISTS};
 use std::alloc::{AllocError, Global};
-use std::fmt;
+use std::fmt::{self, Write};
 
 /// Rows that follow on one another, under a name. A row is a line; blank lines are passed over.
 #[derive(Clone, Copy)]
@@ -46,8 +46,8 @@ pub trait Played {
 /// How a run went otherwise than its rows say.
 #[derive(Debug, Drop)]
 pub enum Wrong {
-    /// This row did, in this run, with what was found in place of it.
-    Row(String),
+    /// In the run of this name, this was found in place of this row.
+    Row(&'static str, String),
     /// The run of this name has no row, so it shows nothing.
     NoRow(&'static str),
     /// There was no memory for the texts to compare, or what is shown could not be written.
@@ -60,56 +60,72 @@ impl From<AllocError> for Wrong {
     }
 }
 
+impl From<fmt::Error> for Wrong {
+    fn from(_: fmt::Error) -> Wrong {
+        Wrong::OutOfMemory
+    }
+}
+
 // Whether two texts have the same words.
 fn is_alike(found: &str, wanted: &str) -> bool {
     found.split_whitespace().eq(wanted.split_whitespace())
 }
 
-// What is shown.
-fn shown_by(alloc: Global, played: &impl Played) -> Result<String, Wrong> {
-    let mut shown = String::new(alloc);
-    match played.show(&mut shown) {
-        Ok(()) => Ok(shown),
-        Err(_) => Err(Wrong::OutOfMemory),
-    }
+// What the call answers and what is shown then, as a row writes them.
+fn found_by(alloc: Global, played: &mut impl Played, words: &[&str]) -> Result<String, Wrong> {
+    let mut found = String::new(alloc);
+    let answer = played.call(words);
+    write!(found, "{answer} | ")?;
+    played.show(&mut found)?;
+    Ok(found)
 }
 
-// Makes the call of the row, and answers whether it went as the row says, and what was found.
+// What is shown, of a text of what was found.
+fn shown_of(found: &str) -> &str {
+    found.split_once('|').unwrap_or(("", found)).1
+}
+
+// Whether this was wanted. A row that does not say what is shown says that it stays as it was.
+fn is_wanted<'t>(found: &'t str, wanted: &'t str, before: &'t str) -> bool {
+    let (answer, shown) = found.split_once('|').unwrap_or((found, ""));
+    let (answers, shows) = wanted.split_once('|').unwrap_or((wanted, before));
+    is_alike(answer, answers) && is_alike(shown, shows)
+}
+
+// Makes the call of the row, and answers what was found, or the row and what was found where that is otherwise.
 fn play_row(
     alloc: Global,
     played: &mut impl Played,
+    name: &'static str,
     row: &str,
     before: &str,
-) -> Result<(bool, String), Wrong> {
+) -> Result<String, Wrong> {
     // A row with no answer is no row, so it goes wrong.
     let (call, wanted) = row.split_once('|').unwrap_or((row, "an answer"));
     let words: Vec<&str> = call.split_whitespace().collect(alloc)?;
-    let answer = played.call(words.as_slice());
-    let answer = format!(in alloc; "{answer}")?;
-    let shown = shown_by(alloc, played)?;
-    let (answers, shows) = wanted.split_once('|').unwrap_or((wanted, before));
-    let is_wanted = is_alike(answer.as_str(), answers) && is_alike(shown.as_str(), shows);
-    Ok((is_wanted, format!(in alloc; "{answer} | {shown}")?))
+    let mut found = found_by(alloc, played, words.as_slice())?;
+    if is_wanted(found.as_str(), wanted, before) {
+        return Ok(found);
+    }
+    write!(found, " in place of {row}")?;
+    Err(Wrong::Row(name, found))
 }
 
 /// Plays the rows of the run in order, up to the first that goes otherwise than it says, which is the error then.
 pub fn play(alloc: Global, played: &mut impl Played, run: &Run) -> Result<(), Wrong> {
-    let name = run.name;
+    let mut before = String::new(alloc);
+    played.show(&mut before)?;
     let mut has_row = false;
     for row in run.rows.lines() {
-        if row.trim().is_empty() {
-            continue;
-        }
-        has_row = true;
-        let before = shown_by(alloc, played)?;
-        let (is_wanted, found) = play_row(alloc, played, row, before.as_str())?;
-        if !is_wanted {
-            return Err(Wrong::Row(format!(in alloc; "{name}: {row}: found {found}")?));
+        if !row.trim().is_empty() {
+            let found = play_row(alloc, played, run.name, row, shown_of(before.as_str()))?;
+            before = found;
+            has_row = true;
         }
     }
     if has_row {
         Ok(())
     } else {
-        Err(Wrong::NoRow(name))
+        Err(Wrong::NoRow(run.name))
     }
 }

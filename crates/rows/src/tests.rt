@@ -63,35 +63,35 @@ const RUNS: [(Run, &str); 7] = [
             name: "a wrong answer",
             rows: "push 1 | 1 | 1\npop | 1 |",
         },
-        "a wrong answer: push 1 | 1 | 1: found ok | 1 ",
+        "ok | 1  in place of push 1 | 1 | 1",
     ),
     (
         Run {
             name: "a wrong showing",
             rows: "push 1 | ok | 1\npush 2 | ok | 2 1",
         },
-        "a wrong showing: push 2 | ok | 2 1: found ok | 1 2 ",
+        "ok | 1 2  in place of push 2 | ok | 2 1",
     ),
     (
         Run {
             name: "a change that is not told",
             rows: "push 1 | ok",
         },
-        "a change that is not told: push 1 | ok: found ok | 1 ",
+        "ok | 1  in place of push 1 | ok",
     ),
     (
         Run {
             name: "a change that was not made",
             rows: "pop | none | 1",
         },
-        "a change that was not made: pop | none | 1: found none | ",
+        "none |  in place of pop | none | 1",
     ),
     (
         Run {
             name: "no answer",
             rows: "pop",
         },
-        "no answer: pop: found none | ",
+        "none |  in place of pop",
     ),
     (
         Run {
@@ -110,7 +110,7 @@ fn the_first_wrong_row_is_found(rt: HostRuntime) -> Result<(), Fail> {
         };
         let found = match play(rt.alloc(), &mut numbers, &run) {
             Ok(()) => String::new(rt.alloc()),
-            Err(Wrong::Row(text)) => text,
+            Err(Wrong::Row(_, text)) => text,
             Err(Wrong::NoRow(name)) => String::from_str(rt.alloc(), name)?,
             Err(Wrong::OutOfMemory) => String::from_str(rt.alloc(), "memory")?,
         };
