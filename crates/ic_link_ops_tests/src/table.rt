@@ -44,11 +44,11 @@ impl<'a, W: Words> Table<'a, W> {
 fn release<W: Words>(links: &mut PlainTable<W, &Rationed>, place: Place) -> Answer
     requires covered { IsCovered (table W.unlinked links.old) place }
 {
-    if !links.is_linked(place) {
-        return Answer::Refused("unlinked");
+    if links.is_linked(place) {
+        links.release_link(place);
+        return Answer::Done;
     }
-    links.release_link(place);
-    Answer::Done
+    Answer::Refused("unlinked")
 }
 
 // A call that changes the entry of a covered place.
@@ -110,10 +110,10 @@ impl<W: Kind> Table<'_, W> {
         if place.index() >= self.links.covers() {
             return Answer::Refused("beyond");
         }
-        if !self.links.is_linked(place) {
-            return Answer::Refused("unlinked");
+        if self.links.is_linked(place) {
+            return W::call(&mut self.links, place, kind, words);
         }
-        W::call(&mut self.links, place, kind, words)
+        Answer::Refused("unlinked")
     }
 }
 
