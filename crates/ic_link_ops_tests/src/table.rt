@@ -1,7 +1,7 @@
 //! A plain table whose calls ask nothing.
 
-ghost use Rattle.ic_link_ops.specs.Tables.{IsCovered};
-ghost use Rattle.ic_link_ops.specs.PlainTables.{table};
+ghost use Rattle.ic_link_ops.specs.Tables.{IsCovered, IsLinked};
+ghost use Rattle.ic_link_ops.specs.PlainTables.{table, linked_by};
 
 use crate::answers::{read_place, text};
 use crate::kinds::Kind;
@@ -40,13 +40,10 @@ impl<'a, W: Words> Table<'a, W> {
     }
 }
 
-// Unlinks a covered place, if it is linked.
+// Unlinks a linked place.
 fn release<W: Words>(links: &mut PlainTable<W, &Rationed>, place: Place) -> Answer
-    requires covered { IsCovered (table W.unlinked links.old) place }
+    requires linked { IsLinked (linked_by W.is_linked) (table W.unlinked links.old) place }
 {
-    if !links.is_linked(place) {
-        return Answer::Refused("unlinked");
-    }
     links.release_link(place);
     Answer::Done
 }
@@ -57,7 +54,12 @@ fn change<W: Words>(links: &mut PlainTable<W, &Rationed>, call: &str, place: Pla
 {
     match call {
         "acquire_link" => Answer::Truth(links.acquire_link(place)),
-        "release_link" => release(links, place),
+        "release_link" => {
+            if links.is_linked(place) {
+                return release(links, place);
+            }
+            Answer::Refused("unlinked")
+        }
         "force_unlink" => {
             links.force_unlink(place);
             Answer::Done
@@ -110,10 +112,10 @@ impl<W: Kind> Table<'_, W> {
         if place.index() >= self.links.covers() {
             return Answer::Refused("beyond");
         }
-        if !self.links.is_linked(place) {
-            return Answer::Refused("unlinked");
+        if self.links.is_linked(place) {
+            return W::call(&mut self.links, place, kind, words);
         }
-        W::call(&mut self.links, place, kind, words)
+        Answer::Refused("unlinked")
     }
 }
 

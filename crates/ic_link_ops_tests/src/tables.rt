@@ -283,12 +283,17 @@ fn play_each(alloc: Global, form: Form, runs: &[Run]) -> Result<(), Wrong> {
     Ok(())
 }
 
+// Plays what each table does and what this form alone does, and then the kinds of links that it carries.
+fn play_form(alloc: Global, form: Form, own: &[Run], carried: &[Run]) -> Result<(), Wrong> {
+    play_each(alloc, form, &COMMON)?;
+    play_each(alloc, form, own)?;
+    play_in_turn(alloc, form, carried)
+}
+
 #[test]
 fn worked_rows(rt: HostRuntime) -> Result<(), Fail> {
     for (form, own, carried) in FORMS {
-        play_each(rt.alloc(), form, &COMMON)?;
-        play_each(rt.alloc(), form, own)?;
-        play_in_turn(rt.alloc(), form, carried)?;
+        play_form(rt.alloc(), form, own, carried)?;
     }
     Ok(())
 }

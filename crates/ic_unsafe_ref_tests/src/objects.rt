@@ -40,7 +40,10 @@ impl Stand<'_> {
                 None => Answer::Nothing,
             },
             "is_placed" => Answer::Truth(self.objects.is_placed(place)),
-            "at" => place_or_none(self.objects.at(place).map(|object| object.place())),
+            "at" => match self.objects.at(place) {
+                Some(object) => place_or_none(Some(object.place())),
+                None => Answer::Nothing,
+            },
             _ => Answer::Refused("call"),
         }
     }

@@ -23,10 +23,10 @@ fn text(alloc: Global, value: &impl fmt::Debug) -> Answer {
 
 // The place that a word names, where the word is that of a place or none.
 fn from_word(word: u64) -> Answer {
-    if word > 8_589_934_592 || word % 2 != 0 {
-        return Answer::Refused("word");
+    if word <= 8_589_934_592 && word % 2 == 0 {
+        return place_or_none(Place::from_word(word));
     }
-    place_or_none(Place::from_word(word))
+    Answer::Refused("word")
 }
 
 // The place with a number, where the number is even.
