@@ -13,16 +13,13 @@ use std::alloc::Global;
 use std::fmt::{self, Write};
 use std::test::Fail;
 
-// The request to refuse where none is.
-const NONE: u64 = u64::MAX;
-
 /// A core, and the answers to the steps that it replayed, which are what is shown. A row is one of these:
 ///
 /// - `A claim 3`, or B, and a release or a look: one step, by `apply`.
 /// - `replay A claim 3 B look 3 ..`: these steps, whose answers are appended.
 /// - `core N`: a new core of N places.
 /// - `A leaves`: the party asks nothing more. A core keeps what it holds.
-/// - `refuse N ROW`: a replay or a new core, with request number N of its requests for memory refused.
+/// - `refuse N`: request number N of the next requests for memory is to be refused, counted from 0.
 #[derive(Drop)]
 struct Cores<'r> {
     alloc: Global,
@@ -103,36 +100,29 @@ impl<'r> Cores<'r> {
         }
     }
 
-    fn renew(&mut self, count: &str) -> Answer {
-        let Ok(places) = count.parse() else {
-            return Answer::Refused("no number");
-        };
-        match Core::new(self.rationed, places) {
-            Ok(core) => {
-                self.core = core;
-                self.places = places;
+    fn renew(&mut self, places: usize) -> Result<(), ClaimsError> {
+        self.core = Core::new(self.rationed, places)?;
+        self.places = places;
+        Ok(())
+    }
+
+    fn refuse(&self, request: &str) -> Answer {
+        match request.parse() {
+            Ok(number) => {
+                self.rationed.refuse(number);
                 Answer::Done
             }
-            Err(ClaimsError::TooManyPlaces) => Answer::Refused("TooManyPlaces"),
-            Err(ClaimsError::OutOfMemory) => Answer::Refused("OutOfMemory"),
+            Err(_) => Answer::Refused("no number"),
         }
     }
+}
 
-    fn make(&mut self, words: &[&str]) -> Answer {
-        match *words {
-            ["core", count] => self.renew(count),
-            ["replay", ..] => self.replay(&words[1..]),
-            [_, "leaves"] => Answer::Done,
-            [letter, name, index] => self.apply(letter, name, index),
-            _ => Answer::Refused("no call"),
-        }
-    }
-
-    fn refusing(&mut self, request: &str, words: &[&str]) -> Answer {
-        self.rationed.refuse(request.parse().unwrap_or(NONE));
-        let answer = self.make(words);
-        self.rationed.refuse(NONE);
-        answer
+// Whether it was done, or why not.
+fn told(done: Result<(), ClaimsError>) -> Answer {
+    match done {
+        Ok(()) => Answer::Done,
+        Err(ClaimsError::TooManyPlaces) => Answer::Refused("TooManyPlaces"),
+        Err(ClaimsError::OutOfMemory) => Answer::Refused("OutOfMemory"),
     }
 }
 
@@ -141,8 +131,15 @@ impl Played for Cores<'_> {
 
     fn call(&mut self, words: &[&str]) -> Answer {
         match *words {
-            ["refuse", request, ..] => self.refusing(request, &words[2..]),
-            _ => self.make(words),
+            ["refuse", request] => self.refuse(request),
+            ["core", count] => match count.parse() {
+                Ok(places) => told(self.renew(places)),
+                Err(_) => Answer::Refused("no number"),
+            },
+            ["replay", ..] => self.replay(&words[1..]),
+            [_, "leaves"] => Answer::Done,
+            [letter, name, index] => self.apply(letter, name, index),
+            _ => Answer::Refused("no call"),
         }
     }
 
@@ -170,26 +167,30 @@ const PLAIN_RUNS: [Run; 4] = [
     Run {
         name: "each growth of core refused in turn",
         rows: "
-        refuse 0 core 1 | OutOfMemory
-        refuse 1 core 1 | ok
-        A claim 0       | yes
+        refuse 0  | ok
+        core 1    | OutOfMemory
+        refuse 1  | ok
+        core 1    | ok
+        A claim 0 | yes
         ",
     },
     Run {
         name: "each growth of replay refused in turn",
         rows: "
-        core 1                              | ok
-        refuse 0 replay A claim 0 B claim 0 | OutOfMemory
-        A look 0                            | no
-        refuse 1 replay A claim 0 B claim 0 | ok          | yes no
+        core 1                     | ok
+        refuse 0                   | ok
+        replay A claim 0 B claim 0 | OutOfMemory
+        A look 0                   | no
+        refuse 1                   | ok
+        replay A claim 0 B claim 0 | ok          | yes no
         ",
     },
 ];
 
 // Plays the runs, each on four places that are free.
 fn play_each(alloc: Global, runs: &[Run]) -> Result<(), Fail> {
-    let rationed = Rationed::new(alloc, NONE);
     for run in runs {
+        let rationed = Rationed::new(alloc, u64::MAX);
         play(alloc, &mut Cores::new(alloc, &rationed, 4)?, run)?;
     }
     Ok(())

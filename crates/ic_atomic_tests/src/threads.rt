@@ -1,6 +1,6 @@
 //! Claims by several threads.
 
-ghost use Rattle.std.specs.Prelude.{◌≡◌, ◌<◌, All};
+ghost use Rattle.std.specs.Prelude.{◌≡◌, ◌<◌, All, IfOk};
 ghost use Rattle.ic_unsafe_ref.specs.Places.{index_of};
 ghost use Rattle.ic_atomic.specs.Holders.{places_of, IsOf};
 
@@ -8,7 +8,6 @@ use crate::runs::same;
 use ic_atomic::{Claims, Holder};
 use ic_unsafe_ref::Place;
 use std::alloc::{AllocError, Global};
-use std::process::Abort;
 use std::sync::Wait;
 use std::test::Fail;
 use std::thread;
@@ -16,10 +15,13 @@ use std::thread::Threads;
 
 const ROUNDS: usize = 1000;
 
-fn place(rt: &impl Abort, index: usize) -> Place
-    ensures { index_of result ≡ index }
+fn place(index: usize) -> Result<Place, Fail>
+    ensures { IfOk result (λ place. index_of place ≡ index) }
 {
-    Place::new(index).expect(rt, "the index of a place")
+    match Place::new(index) {
+        Some(place) => Ok(place),
+        None => Err(Fail::from("no such place")),
+    }
 }
 
 // What a thread does at each of its places.
@@ -146,7 +148,7 @@ fn in_threads<'c, R: Threads + Wait + Sync>(
 #[test]
 fn two_threads_claim_one_place(rt: HostRuntime) -> Result<(), Fail> {
     let (claims, holders) = Claims::new(rt.alloc(), 1, 2)?;
-    let places = [place(&rt, 0)];
+    let places = [place(0)?];
     let two = workers(rt.alloc(), &claims, holders, &places, Task::Claim)?;
     let done = in_threads(&rt, rt.alloc(), two)?;
     same(&rt, done.len(), 2);
@@ -158,7 +160,7 @@ fn two_threads_claim_one_place(rt: HostRuntime) -> Result<(), Fail> {
 #[test]
 fn eight_threads_share_four_places(rt: HostRuntime) -> Result<(), Fail> {
     let (claims, holders) = Claims::new(rt.alloc(), 4, 8)?;
-    let places = [place(&rt, 0), place(&rt, 1), place(&rt, 2), place(&rt, 3)];
+    let places = [place(0)?, place(1)?, place(2)?, place(3)?];
     let eight = workers(rt.alloc(), &claims, holders, &places, Task::Rounds)?;
     let mut done = in_threads(&rt, rt.alloc(), eight)?;
     same(&rt, done.len(), 8);
