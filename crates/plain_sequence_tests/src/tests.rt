@@ -1,11 +1,13 @@
 //! Each method called once or more, and what the lists are compared with.
 
 use crate::sequence::Sequence;
-use rows::{BOTH_ENDS, Run, play};
+use rows::{BESIDE_THE_PLAIN_SEQUENCE, BOTH_ENDS, ONE_END, Run, play};
 use std::test::Fail;
 
-const RUNS: [Run; 3] = [
+const RUNS: [Run; 5] = [
+    ONE_END,
     BOTH_ENDS,
+    BESIDE_THE_PLAIN_SEQUENCE,
     Run {
         name: "the empty sequence has no member",
         rows: "

@@ -18,7 +18,10 @@ mod lists;
 mod tests;
 
 pub use answer::Answer;
-pub use lists::{BOTH_ENDS, EDITS, MOVES, ONE_END, SPLICES_AND_SPLITS, WALKS, WHOLE_LISTS};
+pub use lists::{
+    BESIDE_THE_PLAIN_SEQUENCE, BOTH_ENDS, EDITS, MOVES, ONE_END, SPLICES_AND_SPLITS, WALKS,
+    WHOLE_LISTS,
+};
 use std::alloc::{AllocError, Global};
 use std::fmt::{self, Write};
 

@@ -39,6 +39,28 @@ pub const BOTH_ENDS: Run = Run {
     ",
 };
 
+/// Pushes among pops, which a plain sequence passes too.
+pub const BESIDE_THE_PLAIN_SEQUENCE: Run = Run {
+    name: "beside the plain sequence",
+    rows: "
+    push_back 2 | ok | 2
+    push_back 0 | ok | 2 0
+    push_back 2 | linked
+    pop_front   | 2  | 0
+    push_back 3 | ok | 0 3
+    push_back 2 | ok | 0 3 2
+    pop_front   | 0  | 3 2
+    pop_front   | 3  | 2
+    push_back 1 | ok | 2 1
+    push_back 0 | ok | 2 1 0
+    pop_front   | 2  | 1 0
+    pop_front   | 1  | 0
+    pop_front   | 0  |
+    push_back 3 | ok | 3
+    pop_front   | 3  |
+    ",
+};
+
 /// Pushes and pops at both ends, and calls on whole lists.
 pub const WHOLE_LISTS: [Run; 8] = [
     ONE_END,
@@ -84,26 +106,7 @@ pub const WHOLE_LISTS: [Run; 8] = [
         push_back 2   | linked
         ",
     },
-    Run {
-        name: "beside the plain sequence",
-        rows: "
-        push_back 2 | ok | 2
-        push_back 0 | ok | 2 0
-        push_back 2 | linked
-        pop_front   | 2  | 0
-        push_back 3 | ok | 0 3
-        push_back 2 | ok | 0 3 2
-        pop_front   | 0  | 3 2
-        pop_front   | 3  | 2
-        push_back 1 | ok | 2 1
-        push_back 0 | ok | 2 1 0
-        pop_front   | 2  | 1 0
-        pop_front   | 1  | 0
-        pop_front   | 0  |
-        push_back 3 | ok | 3
-        pop_front   | 3  |
-        ",
-    },
+    BESIDE_THE_PLAIN_SEQUENCE,
     Run {
         name: "fast clear and force unlink",
         rows: "
