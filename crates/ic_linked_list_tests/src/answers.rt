@@ -19,7 +19,7 @@ pub(crate) fn object(found: Option<UnsafeRef<u64>>) -> Answer {
 }
 
 /// Whether an object was taken in.
-pub(crate) fn inserted(given: &Result<(), AlreadyLinked<u64>>) -> Answer {
+pub(crate) fn inserted(given: Result<(), AlreadyLinked<u64>>) -> Answer {
     match given {
         Ok(()) => Answer::Done,
         Err(_) => Answer::Refused("linked"),
@@ -27,8 +27,8 @@ pub(crate) fn inserted(given: &Result<(), AlreadyLinked<u64>>) -> Answer {
 }
 
 /// What was replaced.
-pub(crate) fn replaced(given: &Result<UnsafeRef<u64>, ReplaceError<u64>>) -> Answer {
-    match given {
+pub(crate) fn replaced(given: Result<UnsafeRef<u64>, ReplaceError<u64>>) -> Answer {
+    match &given {
         Ok(out) => number(out.place()),
         Err(ReplaceError::Null(_)) => Answer::Refused("null"),
         Err(ReplaceError::AlreadyLinked(_)) => Answer::Refused("linked"),

@@ -163,7 +163,7 @@ impl Lists {
             return Answer::Refused("beyond");
         }
         match self.by {
-            By::Ref | By::Mut => inserted(&borrowing(
+            By::Ref | By::Mut => inserted(borrowing(
                 &mut self.list,
                 &mut self.links,
                 self.at,
@@ -172,7 +172,7 @@ impl Lists {
                 let mut cursor = owning(&mut self.list, &self.links, self.at);
                 let result = cursor.insert_after(&mut self.links, UnsafeRef::new(place));
                 self.list = cursor.into_inner();
-                inserted(&result)
+                inserted(result)
             }
         }
     }
@@ -183,7 +183,7 @@ impl Lists {
             return Answer::Refused("beyond");
         }
         match self.by {
-            By::Ref | By::Mut => inserted(&borrowing(
+            By::Ref | By::Mut => inserted(borrowing(
                 &mut self.list,
                 &mut self.links,
                 self.at,
@@ -192,7 +192,7 @@ impl Lists {
                 let mut cursor = owning(&mut self.list, &self.links, self.at);
                 let result = cursor.insert_before(&mut self.links, UnsafeRef::new(place));
                 self.list = cursor.into_inner();
-                inserted(&result)
+                inserted(result)
             }
         }
     }
@@ -226,14 +226,14 @@ impl Lists {
                 let mut cursor = borrowing(&mut self.list, &mut self.links, self.at);
                 let result = cursor.replace_with(UnsafeRef::new(place));
                 self.at = cursor.get_ptr();
-                replaced(&result)
+                replaced(result)
             }
             By::Owning => {
                 let mut cursor = owning(&mut self.list, &self.links, self.at);
                 let result = cursor.replace_with(&mut self.links, UnsafeRef::new(place));
                 self.at = cursor.as_cursor(&self.links).get_ptr();
                 self.list = cursor.into_inner();
-                replaced(&result)
+                replaced(result)
             }
         }
     }

@@ -69,7 +69,7 @@ impl Lists {
         if place.index() >= self.links.covers() {
             return Answer::Refused("beyond");
         }
-        inserted(&self.list.push_back(&mut self.links, UnsafeRef::new(place)))
+        inserted(self.list.push_back(&mut self.links, UnsafeRef::new(place)))
     }
 
     fn push_front(&mut self, place: Place) -> Answer {
@@ -77,7 +77,7 @@ impl Lists {
         if place.index() >= self.links.covers() {
             return Answer::Refused("beyond");
         }
-        inserted(&self.list.push_front(&mut self.links, UnsafeRef::new(place)))
+        inserted(self.list.push_front(&mut self.links, UnsafeRef::new(place)))
     }
 
     fn pop_front(&mut self) -> Answer {

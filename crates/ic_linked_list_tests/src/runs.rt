@@ -4,7 +4,7 @@
 use rows::Run;
 
 /// Two fields, and calls that only this list has.
-pub(crate) const OWN: [Run; 5] = [
+pub(crate) const OWN: &[Run] = &[
     Run {
         name: "two fields",
         rows: "

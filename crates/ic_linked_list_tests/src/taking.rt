@@ -4,7 +4,7 @@ ghost use Rattle.ic_link_ops.specs.LinkedList.{ShowsSome};
 ghost use Rattle.ic_link_ops.specs.DoublyEntries.{neighbors_of, entries, table_of};
 ghost use Rattle.ic_linked_list.specs.IntoIter.{CanTake};
 
-use crate::answers::answered;
+use crate::answers::{answered, object};
 use crate::lists::Lists;
 use crate::walks::write_linked;
 use ic_link_ops::linked_list::LinkOps;
@@ -24,6 +24,19 @@ fn take_at(rest: &mut IntoIter<'_, u64, LinkOps>, at_the_front: bool) -> Option<
     rest.next_back()
 }
 
+// Writes which member came off.
+fn write_object(text: &mut String, taken: Option<UnsafeRef<u64>>) -> fmt::Result {
+    let answer = object(taken);
+    write!(text, "{answer} ")?;
+    Ok(())
+}
+
+// Writes which places are linked before the rest of the walk.
+fn write_still_linked(text: &mut String, links: &LinkOps) -> fmt::Result {
+    write!(text, "linked ")?;
+    write_linked(text, links)
+}
+
 // Takes off members at these ends, tells them and what is linked then, and finishes the walk or drops it.
 fn write_taken(
     text: &mut String,
@@ -36,13 +49,9 @@ fn write_taken(
 {
     let mut rest = list.into_iter(links);
     for end in ends {
-        match take_at(&mut rest, *end == "front") {
-            Some(object) => write!(text, "{} ", object.place().index())?,
-            None => write!(text, "none ")?,
-        }
+        write_object(text, take_at(&mut rest, *end == "front"))?;
     }
-    write!(text, "linked ")?;
-    write_linked(text, rest.links())?;
+    write_still_linked(text, rest.links())?;
     if finishes {
         rest.finish();
     }

@@ -19,10 +19,8 @@ fn play_all(alloc: Global, runs: &[Run]) -> Result<(), Fail> {
 
 #[test]
 fn worked_rows(rt: HostRuntime) -> Result<(), Fail> {
-    play_all(rt.alloc(), WHOLE_LISTS.as_slice())?;
-    play_all(rt.alloc(), MOVES.as_slice())?;
-    play_all(rt.alloc(), EDITS.as_slice())?;
-    play_all(rt.alloc(), SPLICES_AND_SPLITS.as_slice())?;
-    play_all(rt.alloc(), WALKS.as_slice())?;
-    play_all(rt.alloc(), OWN.as_slice())
+    for runs in [WHOLE_LISTS, MOVES, EDITS, SPLICES_AND_SPLITS, WALKS, OWN] {
+        play_all(rt.alloc(), runs)?;
+    }
+    Ok(())
 }

@@ -31,6 +31,25 @@ fn step(cursor: &mut Cursor<'_, u64, LinkOps>) -> (Option<Place>, bool)
     (cursor.get_ptr(), back.get_ptr() == before)
 }
 
+// Writes the word where it holds.
+fn write_where(text: &mut String, holds: bool, word: &str) -> fmt::Result {
+    if holds {
+        write!(text, "{word}")?;
+    }
+    Ok(())
+}
+
+// Writes a member, with a mark if the cursor is on it.
+fn write_member(text: &mut String, place: Place, is_marked: bool) -> fmt::Result {
+    let index = place.index();
+    if is_marked {
+        write!(text, "({index}) ")?;
+    } else {
+        write!(text, "{index} ")?;
+    }
+    Ok(())
+}
+
 /// The members as a walk from null to null comes by them, with a mark at the cursor's.
 pub(crate) fn write_walk(
     shown: &mut String,
@@ -44,23 +63,14 @@ pub(crate) fn write_walk(
     let mut is_empty = true;
     for _ in 0..=links.covers() {
         let (here, leads_back) = step(&mut cursor);
-        if !leads_back {
-            write!(shown, "no way back ")?;
-        }
+        write_where(shown, !leads_back, "no way back ")?;
         let Some(place) = here else {
             break;
         };
         is_empty = false;
-        if here == at {
-            write!(shown, "({}) ", place.index())?;
-        } else {
-            write!(shown, "{} ", place.index())?;
-        }
+        write_member(shown, place, here == at)?;
     }
-    if list.is_empty() != is_empty {
-        write!(shown, "is_empty is wrong")?;
-    }
-    Ok(())
+    write_where(shown, list.is_empty() != is_empty, "is_empty is wrong")
 }
 
 // Whether an object stands at each place that is covered.
@@ -104,25 +114,29 @@ fn next_at<'a>(walk: &mut Iter<'a, u64, LinkOps>, at_the_front: bool) -> Option<
     walk.next_back()
 }
 
+// Writes what a walk gave.
+fn write_given(text: &mut String, given: Option<&u64>) -> fmt::Result {
+    match given {
+        Some(object) => write!(text, "{object} ")?,
+        None => write!(text, "none ")?,
+    }
+    Ok(())
+}
+
 // The objects that calls at these ends give, then what the walk gives at the front, and a copy of it at the back.
 fn write_ends(text: &mut String, mut walk: Iter<'_, u64, LinkOps>, ends: &[&str]) -> fmt::Result
     requires can { CanWalk neighbors_of (λ links. table_of (entries links)) walk }
 {
     for end in ends {
         let Some(given) = next_at(&mut walk, *end == "front") else {
-            write!(text, "none")?;
-            return Ok(());
+            return write_given(text, None);
         };
-        write!(text, "{given} ")?;
+        write_given(text, Some(given))?;
     }
     let mut copy = walk.clone()?;
-    write!(
-        text,
-        "then {} {}",
-        value(walk.next()),
-        value(copy.next_back())
-    )?;
-    Ok(())
+    write_where(text, true, "then ")?;
+    write_given(text, walk.next())?;
+    write_given(text, copy.next_back())
 }
 
 // The objects of a walk as the text of a slice.

@@ -62,7 +62,7 @@ pub const BESIDE_THE_PLAIN_SEQUENCE: Run = Run {
 };
 
 /// Pushes and pops at both ends, and calls on whole lists.
-pub const WHOLE_LISTS: [Run; 8] = [
+pub const WHOLE_LISTS: &[Run] = &[
     ONE_END,
     BOTH_ENDS,
     Run {
@@ -148,7 +148,7 @@ pub const WHOLE_LISTS: [Run; 8] = [
 ];
 
 /// A cursor that moves both ways.
-pub const MOVES: [Run; 8] = [
+pub const MOVES: &[Run] = &[
     Run {
         name: "a cursor walks",
         rows: "
@@ -260,7 +260,7 @@ pub const MOVES: [Run; 8] = [
 ];
 
 /// Inserts, removals and replacements at a cursor, and in front of it.
-pub const EDITS: [Run; 6] = [
+pub const EDITS: &[Run] = &[
     Run {
         name: "a removal leads to the following member",
         rows: "
@@ -351,7 +351,7 @@ pub const EDITS: [Run; 6] = [
 ];
 
 /// Splices and splits at a cursor.
-pub const SPLICES_AND_SPLITS: [Run; 7] = [
+pub const SPLICES_AND_SPLITS: &[Run] = &[
     Run {
         name: "the list after a cursor",
         rows: "
@@ -450,7 +450,7 @@ pub const SPLICES_AND_SPLITS: [Run; 7] = [
 ];
 
 /// Walks from both ends, over the objects and of those that take the members off.
-pub const WALKS: [Run; 4] = [
+pub const WALKS: &[Run] = &[
     Run {
         name: "a walk from both ends",
         rows: "
