@@ -6,4 +6,3 @@ pub mod key_adapter;
 pub use ic_link_ops::Color;
 pub use ic_link_ops::rbtree::{Link, LinkOps, RBTreeOps};
 pub use key_adapter::KeyAdapter;
-

@@ -10,7 +10,6 @@ use ic_unsafe_ref::Place;
 use std::alloc::{AllocError, Allocator, Global};
 use std::marker::Model;
 
-
 /// A sequence of places. A clause sees it as the list of them.
 #[derive(Drop)]
 pub struct PlainSequence<A: Allocator = Global> {
