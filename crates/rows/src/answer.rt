@@ -3,7 +3,7 @@
 use std::fmt;
 
 /// What a call answers.
-#[derive(Debug, Drop)]
+#[derive(Drop)]
 pub enum Answer {
     /// It is done: `ok`.
     Done,
@@ -22,13 +22,13 @@ pub enum Answer {
 impl fmt::Display for Answer {
     fn fmt<W: fmt::Write>(&self, f: &mut fmt::Formatter<W>) -> fmt::Result {
         match self {
-            Answer::Done => write!(f, "ok"),
-            Answer::Nothing => write!(f, "none"),
-            Answer::Number(number) => write!(f, "{number}"),
-            Answer::Truth(true) => write!(f, "yes"),
-            Answer::Truth(false) => write!(f, "no"),
-            Answer::Text(text) => write!(f, "{text}"),
-            Answer::Refused(reason) => write!(f, "{reason}"),
+            Answer::Done => f.write_str("ok"),
+            Answer::Nothing => f.write_str("none"),
+            Answer::Number(number) => number.fmt(f),
+            Answer::Truth(true) => f.write_str("yes"),
+            Answer::Truth(false) => f.write_str("no"),
+            Answer::Text(text) => f.write_str(text.as_str()),
+            Answer::Refused(reason) => f.write_str(reason),
         }
     }
 }
