@@ -1,6 +1,8 @@
-//! Worked rows of a world, in the text of its commands.
+//! Worked rows of a world, in the text of its commands, and a key adapter.
 #![tactic(auto)]
 
+#[cfg(test)]
+mod keys;
 #[cfg(test)]
 mod runs;
 #[cfg(test)]

@@ -14,8 +14,6 @@
 
 mod answer;
 mod lists;
-#[cfg(test)]
-mod tests;
 
 pub use answer::Answer;
 pub use lists::{

@@ -1,4 +1,4 @@
-//! Each method called once or more, and what the lists are compared with.
+//! The plain sequence: each method called once or more, and the rows of the lists that it can play.
 
 use crate::sequence::Sequence;
 use rows::{BESIDE_THE_PLAIN_SEQUENCE, BOTH_ENDS, ONE_END, Run, play};
@@ -47,7 +47,7 @@ const RUNS: [Run; 5] = [
 ];
 
 #[test]
-fn worked_rows(rt: HostRuntime) -> Result<(), Fail> {
+fn rows_of_a_plain_sequence(rt: HostRuntime) -> Result<(), Fail> {
     for run in RUNS {
         play(rt.alloc(), &mut Sequence::new(rt.alloc()), &run)?;
     }

@@ -108,7 +108,7 @@ const RUNS: [(u64, Run); 3] = [
 ];
 
 #[test]
-fn worked_rows(rt: HostRuntime) -> Result<(), Fail> {
+fn rows_of_rationed_memory(rt: HostRuntime) -> Result<(), Fail> {
     for (refused, run) in RUNS {
         let rationed = Rationed::new(rt.alloc(), refused);
         let mut numbers = Numbers {

@@ -1,7 +1,8 @@
 //! A player that finds what is wrong, on a stack of numbers.
 
-use super::*;
-use std::fmt::Write;
+use rows::{Answer, Played, Run, Wrong, play};
+use std::alloc::Global;
+use std::fmt::{self, Write};
 use std::test::Fail;
 
 #[derive(Drop)]

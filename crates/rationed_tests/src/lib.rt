@@ -1,5 +1,0 @@
-//! The worked rows of an allocator that refuses one request.
-#![tactic(auto)]
-
-#[cfg(test)]
-mod tests;
