@@ -1,12 +1,14 @@
 -- Doubly linked lists: their setters turn, what their entries tell, and their walks.
-use Rattle.std.proofs.Common.{◌≡◌, ◌≢◌, ◌≤◌, Option, Some, None, List, [], ◌∷◌, ◌++◌, reverse, length, Bool, true, sym, ◌∙◌, ap}
+use Rattle.std.proofs.Common.{◌≡◌, ◌≢◌, ◌≤◌, Option, Some, None, List, [], ◌∷◌, ◌++◌, reverse, length, Bool, true, refl, sym, ◌∙◌, ap}
 use Rattle.ic_unsafe_ref.specs.declared.place.Place.{Place}
 use Rattle.ic_link_ops.specs.Tables.{Table, IsCovered, ChangesOnly}
-use Rattle.ic_link_ops.specs.Chains.{Ends}
+use Rattle.ic_link_ops.specs.Chains.{Ends, no_members}
 use Rattle.ic_link_ops.specs.Turns.{TurnsBehind, TurnsBefore}
 use Rattle.ic_link_ops.specs.Walk.{walked}
 use Rattle.ic_link_ops.specs.LinkedList.{Neighbors, neighbors_at, IsBetween, Shows, next_of, between, members, IsWalk}
 use Rattle.ic_link_ops.proofs.Turning.{turns_behind, turns_before}
+use Rattle.ic_link_ops.proofs.ShownLists.{shows_frame, shows_one, free_absent}
+use Rattle.ic_link_ops.proofs.CollectionLaws.{IsKind}
 use Rattle.ic_link_ops.proofs.Walks.{walk_blind, stretch_walked, stretch_length, stretch_one, stretch_more, stretch_less, stretch_none, stretch_empty, stretch_empty_back, stretch_of, stretch_mirrored, stretch_first, stretch_last}
 
 module _ {E : Type 0} {n : E → Neighbors} where
@@ -31,14 +33,14 @@ module _ {E : Type 0} {n : E → Neighbors} where
 
   -- a walk is no longer than what the table covers
   pub walk_length : (t : Table E) → ((q : Place) → (n (t.entry q)).linked ≡ true → IsCovered t q)
-      → (from to : Option Place) (w : List Place) → IsWalk n t.entry from to w → length w ≤ t.covers
+      → (from to : Option Place) (w : List Place) → IsWalk n t.entry from to w → length w ≤ t.extent.places
   walk_length t covered from to w k = stretch_length t (λ q b a h. covered q h.linked) k.part
 
   -- the walk gives what stands between its ends
   pub walk_shown : (t : Table E) → ((q : Place) → (n (t.entry q)).linked ≡ true → IsCovered t q)
       → (from to : Option Place) (w : List Place) → IsWalk n t.entry from to w → between n t from to ≡ w
   walk_shown t covered from to w k =
-      walk_blind (λ e. (n e).next) t.entry t.covers None k.before from to
+      walk_blind (λ e. (n e).next) t.entry t.extent.places None k.before from to
       ∙ stretch_walked (next_of n) (λ e a b h. h.next) t (λ q b a h. covered q h.linked) k.part
 
   -- a walk whose ends are one has one member
@@ -87,7 +89,7 @@ module _ {E : Type 0} {n : E → Neighbors} where
 
   -- and they are no more than what the table covers
   pub shown_length : (t : Table E) → ((q : Place) → (n (t.entry q)).linked ≡ true → IsCovered t q)
-      → (list : Ends) (s : List Place) → Shows n t list s → length s ≤ t.covers
+      → (list : Ends) (s : List Place) → Shows n t list s → length s ≤ t.extent.places
   shown_length t covered list s shown = walk_length t covered list.head list.tail s (walk_of t shown)
 
   -- from the back they are read turned round
@@ -95,3 +97,13 @@ module _ {E : Type 0} {n : E → Neighbors} where
       → (list : Ends) (s : List Place) → Shows n t list s → walked (λ e behind. (n e).prev) t None list.tail list.head ≡ reverse s
   members_back t covered list s shown =
       stretch_walked (λ e behind. (n e).prev) (λ e a b h. h.prev) t (λ q b a h. covered q h.linked) (stretch_mirrored (stretch_of shown))
+
+-- the five facts of doubly linked lists, where both traits say alike whether a place is linked
+pub doubly_lists : {E : Type 0} {n : E → Neighbors} {linked : E → Bool} → ((e : E) → (n e).linked ≡ linked e) → IsKind (Shows n) linked no_members
+doubly_lists {n = n} alike = record {
+  frame = λ old new list s touched shown apart same. shows_frame touched shown apart same;
+  free = λ t list s p shown off. free_absent (between_linked alike) shown off;
+  distinct = λ t list s shown. shown.distinct;
+  nothing = λ t. record { distinct = tt; chain = tt; head = refl; tail = refl };
+  one = λ t list s u shown other. shows_one (between_one {n = n}) shown other;
+}

@@ -5,7 +5,7 @@ use Rattle.std.proofs.lemmas.Grind.{get_or-set_at}
 use Rattle.ic_unsafe_ref.specs.declared.place.Place.{Place}
 use Rattle.ic_unsafe_ref.specs.Places.{index_of, place_at, word_of}
 use Rattle.ic_unsafe_ref.proofs.PlaceLemmas.{same_index, place_at_word}
-use Rattle.ic_link_ops.specs.Tables.{ChangesOnly, IsCovered}
+use Rattle.ic_link_ops.specs.Tables.{ChangesOnly, IsCovered, owned}
 use Rattle.ic_link_ops.specs.PlainTables.{entry_at, table_of, linked_by}
 use Rattle.ic_link_ops.specs.Links.{link_of}
 use Rattle.ic_link_ops.specs.Readings.{successor_of, neighbors_of}
@@ -16,7 +16,7 @@ module _ {E : Type 0} (d : E) where
   -- a write at p changes only the entry of p
   pub changes_only : (es : List E) (p : Place) (e : E) (i : ℕ) → i ≡ index_of p → ChangesOnly (table_of d es) (table_of d (slice_set es i e)) p
   changes_only es p e i at_p = record {
-    covers = length-set es i e;
+    extent = ap owned (length-set es i e);
     others = λ q apart. get_or-set_other es i (index_of q) e d (λ k. apart (same_index q p (k ∙ at_p)));
   }
 

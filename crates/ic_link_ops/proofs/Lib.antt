@@ -2,10 +2,14 @@ pub mod SequenceLemmas
 pub mod Counting
 pub mod Chains
 pub mod ShownLists
+pub mod Covering
+pub mod CollectionLaws
 pub mod TwoLists
 pub mod Turning
 pub mod Walks
+pub mod BothEnds
 pub mod LinkedSets
+pub mod StepLemmas
 pub mod DoublyLists
 pub mod SinglyLists
 pub mod XorLists

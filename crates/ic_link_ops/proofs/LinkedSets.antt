@@ -7,7 +7,7 @@ use Rattle.ic_link_ops.proofs.SequenceLemmas.{some_same}
 use Rattle.ic_link_ops.proofs.Walks.{is_end_yes, is_end_no}
 
 -- what holds at p and at every other place holds everywhere
-everywhere : (P : Place → Type 0) (p q : Place) → P p → (q ≢ p → P q) → P q
+pub everywhere : (P : Place → Type 0) (p q : Place) → P p → (q ≢ p → P q) → P q
 everywhere P p q at other = by (is_end (Some p) q) refl where
   by : (b : Bool) → is_end (Some p) q ≡ b → P q
   by true e = subst P (some_same (is_end_yes (Some p) q e)) at

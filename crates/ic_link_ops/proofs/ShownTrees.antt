@@ -78,9 +78,9 @@ module _ {E : Type 0} {n : E → Node} where
 
   -- there are no more members than the table covers, if only covered places are linked
   pub holds_length : (t : Table E) → ((q : Place) → (n (t.entry q)).linked ≡ true → IsCovered t q)
-      → {tree : Tree} {s : List Place} → Holds n t tree s → length s ≤ t.covers
+      → {tree : Tree} {s : List Place} → Holds n t tree s → length s ≤ t.extent.places
   holds_length t law {tree} {s} h =
-      pigeonhole s t.covers h.distinct (rw (← h.order) (tree_covered n t law None tree h.entries))
+      pigeonhole s t.extent.places h.distinct (rw (← h.order) (tree_covered n t law None tree h.entries))
 
   -- the empty tree
   pub holds_nothing : (t : Table E) → Holds n t leaf []

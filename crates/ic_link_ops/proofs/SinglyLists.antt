@@ -108,7 +108,7 @@ module _ {E : Type 0} {s : E → Successor} where
   pub walk_shown : (t : Table E) → ((q : Place) → (s (t.entry q)).linked ≡ true → IsCovered t q)
       → (front : Option Place) (w : List Place) → IsWalk s t.entry front w → members s t front ≡ w
   walk_shown t covered front w k =
-      walk_blind (λ e. (s e).next) t.entry t.covers None k.before front None
+      walk_blind (λ e. (s e).next) t.entry t.extent.places None k.before front None
       ∙ stretch_through (next_of s) (λ e b a h. h.next) t (λ q b a h. covered q h.linked) k.part
 
   -- it goes on behind its first member, which is linked
@@ -139,5 +139,5 @@ module _ {E : Type 0} {s : E → Successor} where
   members_shown t covered head m shown = walk_shown t covered head m (walk_of t shown)
 
   pub shown_length : (t : Table E) → ((q : Place) → (s (t.entry q)).linked ≡ true → IsCovered t q)
-      → (head : Option Place) (m : List Place) → Shows s t head m → length m ≤ t.covers
+      → (head : Option Place) (m : List Place) → Shows s t head m → length m ≤ t.extent.places
   shown_length t covered head m shown = stretch_length t (λ q b a h. covered q h.linked) (stretch_of (two_ended shown))

@@ -142,10 +142,10 @@ module _ {E : Type 0} (n : E → Node) where
 
   -- its members are covered if what is linked is
   pub tree_covered : (t : Table E) → ((q : Place) → (n (t.entry q)).linked ≡ true → IsCovered t q) → (up : Option Place) (tree : Tree)
-      → IsTree n t.entry up tree → AllByRecursion (λ q. index_of q < t.covers) (in_order tree)
+      → IsTree n t.entry up tree → AllByRecursion (λ q. index_of q < t.extent.places) (in_order tree)
   tree_covered t law up leaf h = tt
   tree_covered t law up (fork c a p b) h =
-      all_both (λ q. index_of q < t.covers) (in_order a) (p ∷ in_order b) (tree_covered t law (Some p) a h.1)
+      all_both (λ q. index_of q < t.extent.places) (in_order a) (p ∷ in_order b) (tree_covered t law (Some p) a h.1)
       (law p h.0.linked, tree_covered t law (Some p) b h.2)
 
 -- the parents from p upwards end at the root r

@@ -1,13 +1,15 @@
--- What an edit leaves of two lists that share no member, for any kind of list of which four facts hold.
-use Rattle.std.proofs.Common.{◌≡◌, ◌∙◌, Bool, Result, Ok, Err, OnOk, OnErr, IfOk, IfErr, IfSome, IfNone, Option, Some, None, List, [], ◌∷◌, ◌++◌, refl, drop, append-nil, append_assoc}
+-- What an edit leaves of two lists that share no member, for any kind of list.
+use Rattle.std.proofs.Common.{◌≡◌, ◌∙◌, Bool, Result, Ok, Err, OnOk, OnErr, IfOk, IfErr, OnSome, IfNone, Option, Some, None, List, [], ◌∷◌, ◌++◌, refl, drop, append-nil, append_assoc}
 use Rattle.ic_unsafe_ref.specs.declared.place.Place.{Place}
-use Rattle.ic_link_ops.specs.Sequences.{Cut, join, at_front, at_back, insert, remove, replace, first, last, but_last, IsAbsent, IsDistinct, IsAfter, IsBefore, IsDisjoint}
+use Rattle.ic_link_ops.specs.Sequences.{Cut, join, at_front, at_back, insert, remove, replace, first, last, but_last, IsAbsent, IsAfter, IsBefore, IsDisjoint}
 use Rattle.ic_link_ops.specs.Tables.{Table, KeepsBeside, LinksAlso, IsUnlinked}
+use Rattle.ic_link_ops.specs.LinkSteps.{acquires, releases, Replays}
 use Rattle.ic_link_ops.specs.Edits.{Inserts, Removes, Replaces, Splices, Splits}
 use Rattle.ic_link_ops.specs.Errors.{ByCause, object_of}
 use Rattle.ic_link_ops.specs.declared.errors.ReplaceError.{ReplaceError}
 use Rattle.ic_link_ops.specs.declared.errors.ReplaceError.TheVariants.{Null, AlreadyLinked}
 use Rattle.ic_link_ops.specs.TwoLists.{AreApart}
+use Rattle.ic_link_ops.proofs.CollectionLaws.{IsKind}
 use Rattle.ic_link_ops.proofs.SequenceLemmas.{absent_with, absent_without, absent_swap, disjoint_cons, disjoint_sym, distinct_disjoint, gap_after, gap_before}
 
 -- a member fewer is still none of theirs
@@ -19,15 +21,6 @@ absent_but_last : (s : List Place) (q : Place) → IsAbsent q s → IsAbsent q (
 absent_but_last [] q h = h
 absent_but_last (x ∷ []) q h = tt
 absent_but_last (x ∷ y ∷ s) q h = (h.0, absent_but_last (y ∷ s) q h.1)
-
--- what a kind brings: its lists keep their sequence where only other entries change, what is unlinked is no member, no
--- place stands twice in a sequence, and every table shows the empty one for the empty list
-pub record IsKind {E H : Type 0} (Shows : Table E → H → List Place → Type 0) (linked : E → Bool) (empty : H) : Type 0 where
-  pub frame : (old new : Table E) (list : H) (s touched : List Place)
-      → Shows old list s → IsDisjoint s touched → ((q : Place) → IsAbsent q touched → new.entry q ≡ old.entry q) → Shows new list s
-  pub free : (t : Table E) (list : H) (s : List Place) (p : Place) → Shows t list s → IsUnlinked linked t p → IsAbsent p s
-  pub distinct : (t : Table E) (list : H) (s : List Place) → Shows t list s → IsDistinct s
-  pub nothing : (t : Table E) → Shows t empty []
 
 module _ {E H : Type 0} {Shows : Table E → H → List Place → Type 0} {linked : E → Bool} {empty : H} (kind : IsKind Shows linked empty) where
   pub none_apart : (t : Table E) → AreApart Shows t empty empty None
@@ -86,23 +79,45 @@ module _ {E H : Type 0} {Shows : Table E → H → List Place → Type 0} {linke
     free p was = kind.free t other a.rest p a.other_shown was
 
     module _ {t' : Table E} {list' : H} {p : Place} where
-      pub inserted_after : ((gap : Cut) → Shows t list (join gap) → IsAfter gap position → Inserts linked Shows t t' list' gap p) → AreApart Shows t' list' other position
-      inserted_after inserts =
+      pub inserted_after : IsUnlinked linked t p → ((gap : Cut) → Shows t list (join gap) → IsAfter gap position → Inserts Shows t t' list' gap p) → AreApart Shows t' list' other position
+      inserted_after was inserts =
           let i = inserts a.gap a.shown a.after in
-          let apart = disjoint_cons p a.rest (join a.gap) (free p i.links.was) a.apart in
+          let apart = disjoint_cons p a.rest (join a.gap) (free p was) a.apart in
           edited (p ∷ join a.gap) i.frame apart (record { front = a.gap.front; back = p ∷ a.gap.back }) i.shows
           (absent_swap a.rest (p ∷ join a.gap) apart (insert a.gap p) (λ q h. absent_with a.gap.front a.gap.back p q h.0 h.1)) a.after
 
-      pub inserted_before : ((gap : Cut) → Shows t list (join gap) → IsBefore gap position → Inserts linked Shows t t' list' gap p) → AreApart Shows t' list' other position
-      inserted_before inserts =
+      pub inserted_before : IsUnlinked linked t p → ((gap : Cut) → Shows t list (join gap) → IsBefore gap position → Inserts Shows t t' list' gap p) → AreApart Shows t' list' other position
+      inserted_before was inserts =
           let k = gap_before a.gap position a.after in
           let i = inserts k.0 (rw k.1 a.shown) k.2 in
-          let apart = disjoint_cons p a.rest (join k.0) (free p i.links.was) (rw k.1 a.apart) in
+          let apart = disjoint_cons p a.rest (join k.0) (free p was) (rw k.1 a.apart) in
           let new : Cut = record { front = k.0.front ++ p ∷ []; back = k.0.back } in
           edited_before (p ∷ join k.0) i.frame apart new (rw (append_assoc k.0.front (p ∷ []) k.0.back) i.shows)
           (rw (append_assoc k.0.front (p ∷ []) k.0.back) (absent_swap a.rest (p ∷ join k.0) apart (insert k.0 p) (λ q h. absent_with k.0.front k.0.back p q h.0 h.1))) k.2
 
-      pub removed : ((gap : Cut) → Shows t list (join gap) → IsBefore gap position → Removes linked Shows t t' list' gap p)
+      pub replaced : IsUnlinked linked t p → ((gap : Cut) → Shows t list (join gap) → IsBefore gap position → Replaces Shows t t' list' gap p)
+          → (new : Option Place) → new ≡ Some p → AreApart Shows t' list' other new
+      replaced was replaces new is =
+          let k = gap_before a.gap position a.after in
+          let r = replaces k.0 (rw k.1 a.shown) k.2 in
+          let apart = disjoint_cons p a.rest (join k.0) (free p was) (rw k.1 a.apart) in
+          edited_before (p ∷ join k.0) r.frame apart (record { front = k.0.front; back = p ∷ drop 1 k.0.back }) r.shows
+          (absent_swap a.rest (p ∷ join k.0) apart (replace k.0 p) (λ q h. absent_with k.0.front (drop 1 k.0.back) p q h.0 (absent_dropped k.0.front k.0.back q h.1))) is
+
+      -- put in and taken off again
+      pub put_and_taken : IsUnlinked linked t p → Shows t' list' (join a.gap) → KeepsBeside t t' (p ∷ join a.gap) → AreApart Shows t' list' other None
+      put_and_taken was shown frame =
+          edited (p ∷ join a.gap) frame (disjoint_cons p a.rest (join a.gap) (free p was) a.apart) (at_front (join a.gap)) shown a.apart refl
+
+      -- at an end, whichever
+      pub pushed : IsUnlinked linked t p → (gap : Cut) → join gap ≡ join a.gap → Shows t' list' (insert gap p) → KeepsBeside t t' (p ∷ join a.gap) → AreApart Shows t' list' other None
+      pushed was gap e shown frame =
+          let apart = disjoint_cons p a.rest (join a.gap) (free p was) a.apart in
+          edited (p ∷ join a.gap) frame apart (at_front (insert gap p)) shown
+          (absent_swap a.rest (p ∷ join a.gap) apart (insert gap p) (λ q h. absent_with gap.front gap.back p q h.0 (rw e h.1))) refl
+
+    module _ {t' : Table E} {list' : H} where
+      pub removed : ((gap : Cut) → Shows t list (join gap) → IsBefore gap position → Removes Shows t t' list' gap)
           → (new : Option Place) → ((gap : Cut) → Shows t list (join gap) → IsBefore gap position → new ≡ first (drop 1 gap.back)) → AreApart Shows t' list' other new
       removed removes new behind =
           let k = gap_before a.gap position a.after in
@@ -112,32 +127,15 @@ module _ {E H : Type 0} {Shows : Table E → H → List Place → Type 0} {linke
           edited_before (join k.0) r.frame apart (record { front = k.0.front; back = drop 1 k.0.back }) r.shows
           (absent_swap a.rest (join k.0) apart (remove k.0) (λ q h. absent_dropped k.0.front k.0.back q h)) (behind k.0 shown k.2)
 
-      pub replaced : {out : Place} → ((gap : Cut) → Shows t list (join gap) → IsBefore gap position → Replaces linked Shows t t' list' gap p out)
-          → (new : Option Place) → new ≡ Some p → AreApart Shows t' list' other new
-      replaced replaces new is =
-          let k = gap_before a.gap position a.after in
-          let r = replaces k.0 (rw k.1 a.shown) k.2 in
-          let apart = disjoint_cons p a.rest (join k.0) (free p r.exchanges.was) (rw k.1 a.apart) in
-          edited_before (p ∷ join k.0) r.frame apart (record { front = k.0.front; back = p ∷ drop 1 k.0.back }) r.shows
-          (absent_swap a.rest (p ∷ join k.0) apart (replace k.0 p) (λ q h. absent_with k.0.front (drop 1 k.0.back) p q h.0 (absent_dropped k.0.front k.0.back q h.1))) is
-
-      -- at an end, whichever
-      pub pushed : (gap : Cut) → join gap ≡ join a.gap → Shows t' list' (insert gap p) → LinksAlso linked t t' p → KeepsBeside t t' (p ∷ join a.gap) → AreApart Shows t' list' other None
-      pushed gap e shown links frame =
-          let apart = disjoint_cons p a.rest (join a.gap) (free p links.was) a.apart in
-          edited (p ∷ join a.gap) frame apart (at_front (insert gap p)) shown
-          (absent_swap a.rest (p ∷ join a.gap) apart (insert gap p) (λ q h. absent_with gap.front gap.back p q h.0 (rw e h.1))) refl
-
-    module _ {t' : Table E} {list' : H} where
       -- all of the other list goes in
       pub spliced_after : ((gap : Cut) (s : List Place) → Shows t list (join gap) → IsAfter gap position → Shows t other s → IsDisjoint s (join gap)
-          → Splices linked Shows t t' list' gap s) → AreApart Shows t' list' empty position
+          → Splices Shows t t' list' gap s) → AreApart Shows t' list' empty position
       spliced_after splices =
           let s = splices a.gap a.rest a.shown a.after a.other_shown a.apart in
           record { gap = record { front = a.gap.front; back = a.rest ++ a.gap.back }; rest = []; shown = s.shows; after = a.after; other_shown = kind.nothing t'; apart = tt }
 
       pub spliced_before : ((gap : Cut) (s : List Place) → Shows t list (join gap) → IsBefore gap position → Shows t other s → IsDisjoint s (join gap)
-          → Splices linked Shows t t' list' gap s) → AreApart Shows t' list' empty position
+          → Splices Shows t t' list' gap s) → AreApart Shows t' list' empty position
       spliced_before splices =
           let k = gap_before a.gap position a.after in
           let s = splices k.0 a.rest (rw k.1 a.shown) k.2 a.other_shown (rw k.1 a.apart) in
@@ -146,7 +144,7 @@ module _ {E H : Type 0} {Shows : Table E → H → List Place → Type 0} {linke
 
       module _ {handed : H} where
         -- a part is the other list then
-        pub split_after : ((gap : Cut) → Shows t list (join gap) → IsAfter gap position → Splits linked Shows t t' list' handed gap.front gap.back)
+        pub split_after : ((gap : Cut) → Shows t list (join gap) → IsAfter gap position → Splits Shows t t' list' handed gap.front gap.back)
             → AreApart Shows t' list' handed position
         split_after splits =
             let s = splits a.gap a.shown a.after in
@@ -159,7 +157,7 @@ module _ {E H : Type 0} {Shows : Table E → H → List Place → Type 0} {linke
               apart = rw (append-nil a.gap.front) (disjoint_sym a.gap.front a.gap.back (distinct_disjoint a.gap.front a.gap.back (kind.distinct t list (join a.gap) a.shown)));
             }
 
-        pub split_before : ((gap : Cut) → Shows t list (join gap) → IsBefore gap position → Splits linked Shows t t' list' handed gap.back gap.front)
+        pub split_before : ((gap : Cut) → Shows t list (join gap) → IsBefore gap position → Splits Shows t t' list' handed gap.back gap.front)
             → AreApart Shows t' list' handed position
         split_before splits =
             let k = gap_before a.gap position a.after in
@@ -174,6 +172,10 @@ module _ {E H : Type 0} {Shows : Table E → H → List Place → Type 0} {linke
               other_shown = s.hands_out;
               apart = rw n.1 (distinct_disjoint k.0.front k.0.back (kind.distinct t list (join k.0) shown));
             }
+
+      -- taken apart and put together again
+      pub put_together : Shows t' list' (join a.gap) → KeepsBeside t t' (join a.gap) → AreApart Shows t' list' other position
+      put_together shown frame = edited (join a.gap) frame a.apart a.gap shown a.apart a.after
 
       -- a member fewer at an end
       pub popped_front : Shows t' list' (drop 1 (join a.gap)) → KeepsBeside t t' (join a.gap) → AreApart Shows t' list' other None
@@ -198,16 +200,18 @@ module _ {E H : Type 0} {Shows : Table E → H → List Place → Type 0} {linke
 
     module _ {X F : Type 0} (p : Place) (P : Type 0) (Q : F → Type 0) where
       pub after_insert_after : (r : Result X F)
-          → ((gap : Cut) → Shows (table old) list (join gap) → IsAfter gap position → OnOk r (Inserts linked Shows (table old) (table new) list' gap p))
+          → ((gap : Cut) → Shows (table old) list (join gap) → IsAfter gap position → OnOk r (Inserts Shows (table old) (table new) list' gap p))
+          → OnOk r (LinksAlso linked (table old) (table new) p)
           → OnErr r (P × (new ≡ old)) → IfErr r (λ e. Q e × (list' ≡ list)) → AreApart Shows (table new) list' other position
-      after_insert_after (Ok x) inserts refused unchanged = inserted_after a inserts
-      after_insert_after (Err e) inserts refused unchanged = as_it_was refused.1 unchanged.1 refl
+      after_insert_after (Ok x) inserts links refused unchanged = inserted_after a links.was inserts
+      after_insert_after (Err e) inserts links refused unchanged = as_it_was refused.1 unchanged.1 refl
 
       pub after_insert_before : (r : Result X F)
-          → ((gap : Cut) → Shows (table old) list (join gap) → IsBefore gap position → OnOk r (Inserts linked Shows (table old) (table new) list' gap p))
+          → ((gap : Cut) → Shows (table old) list (join gap) → IsBefore gap position → OnOk r (Inserts Shows (table old) (table new) list' gap p))
+          → OnOk r (LinksAlso linked (table old) (table new) p)
           → OnErr r (P × (new ≡ old)) → IfErr r (λ e. Q e × (list' ≡ list)) → AreApart Shows (table new) list' other position
-      after_insert_before (Ok x) inserts refused unchanged = inserted_before a inserts
-      after_insert_before (Err e) inserts refused unchanged = as_it_was refused.1 unchanged.1 refl
+      after_insert_before (Ok x) inserts links refused unchanged = inserted_before a links.was inserts
+      after_insert_before (Err e) inserts links refused unchanged = as_it_was refused.1 unchanged.1 refl
 
       pub after_push : (r : Result X F) (at : List Place → Cut) → ((s : List Place) → join (at s) ≡ s)
           → ((s : List Place) → Shows (table old) list s → OnOk r (Shows (table new) list' (insert (at s) p)))
@@ -215,12 +219,12 @@ module _ {E H : Type 0} {Shows : Table E → H → List Place → Type 0} {linke
           → ((s : List Place) → Shows (table old) list s → KeepsBeside (table old) (table new) (p ∷ s))
           → OnErr r (P × (new ≡ old)) → IfErr r (λ e. Q e × (list' ≡ list)) → AreApart Shows (table new) list' other None
       after_push (Ok x) at same shows links frame refused unchanged =
-          pushed a (at (join a.gap)) (same (join a.gap)) (shows (join a.gap) a.shown) links (frame (join a.gap) a.shown)
+          pushed a links.was (at (join a.gap)) (same (join a.gap)) (shows (join a.gap) a.shown) (frame (join a.gap) a.shown)
       after_push (Err e) at same shows links frame refused unchanged = at_null (as_it_was refused.1 unchanged.1 refl)
 
     pub after_remove : {position' : Option Place} (r : Option Place) → r ≡ position
         → ((gap : Cut) → Shows (table old) list (join gap) → IsBefore gap position
-        → IfSome r (λ p. Removes linked Shows (table old) (table new) list' gap p))
+        → OnSome r (Removes Shows (table old) (table new) list' gap))
         → ((gap : Cut) → Shows (table old) list (join gap) → IsBefore gap position → position' ≡ first (drop 1 gap.back))
         → IfNone r ((list' ≡ list) × (new ≡ old) × (position' ≡ None)) → AreApart Shows (table new) list' other position'
     after_remove {position'} (Some p) is removes behind null = removed a removes position' behind
@@ -228,9 +232,9 @@ module _ {E H : Type 0} {Shows : Table E → H → List Place → Type 0} {linke
 
     pub after_replace : {position' : Option Place} {T : Type 0} (p : Place) (P Q R : Type 0) (r : Result Place (ReplaceError T))
         → ((gap : Cut) → Shows (table old) list (join gap) → IsBefore gap position
-        → IfOk r (λ out. Replaces linked Shows (table old) (table new) list' gap p out))
-        → OnOk r (position' ≡ Some p) → IfErr r (ByCause (P × (new ≡ old)) (Q × (R × (new ≡ old))))
+        → OnOk r (Replaces Shows (table old) (table new) list' gap p))
+        → OnOk r (position' ≡ Some p) → IfOk r (λ out. Replays linked (table old) (table new) (acquires p ∷ releases out ∷ [])) → IfErr r (ByCause (P × (new ≡ old)) (Q × (R × (new ≡ old))))
         → IfErr r (λ e. (object_of e ≡ p) × (list' ≡ list) × (position' ≡ position)) → AreApart Shows (table new) list' other position'
-    after_replace {position'} p P Q R (Ok out) replaces moves refused unchanged = replaced a replaces position' moves
-    after_replace p P Q R (Err (Null e)) replaces moves refused unchanged = as_it_was refused.1 unchanged.1 unchanged.2
-    after_replace p P Q R (Err (AlreadyLinked e)) replaces moves refused unchanged = as_it_was refused.1.1 unchanged.1 unchanged.2
+    after_replace {position'} p P Q R (Ok out) replaces moves exchanged refused unchanged = replaced a exchanged.1.was replaces position' moves
+    after_replace p P Q R (Err (Null e)) replaces moves exchanged refused unchanged = as_it_was refused.1 unchanged.1 unchanged.2
+    after_replace p P Q R (Err (AlreadyLinked e)) replaces moves exchanged refused unchanged = as_it_was refused.1.1 unchanged.1 unchanged.2

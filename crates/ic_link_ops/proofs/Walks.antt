@@ -3,7 +3,7 @@ use Rattle.std.proofs.Common.{◌≡◌, ◌≢◌, ℕ, zero, suc, ◌<◌, ◌
 use Rattle.std.specs.Prelude.{IsSome}
 use Rattle.std.specs.Option.{option_copied}
 use Rattle.std.specs.List.{AllByRecursion, cons_option}
-use Rattle.std.specs.Iterator.{YieldsFirstRef, YieldsLastRef, MakesProgress, item_count}
+use Rattle.std.specs.Iterator.{MakesProgress, item_count}
 use Rattle.std.proofs.lemmas.Option.{same_Some}
 use Rattle.ic_unsafe_ref.specs.declared.place.Place.{Place}
 use Rattle.ic_unsafe_ref.specs.Places.{index_of}
@@ -11,7 +11,7 @@ use Rattle.ic_unsafe_ref.proofs.PlaceLemmas.{same_index}
 use Rattle.ic_link_ops.specs.Sequences.{IsAbsent, IsDistinct, first_or, last_or, first, last, but_last}
 use Rattle.ic_link_ops.specs.Tables.{Table, IsCovered}
 use Rattle.ic_link_ops.specs.Chains.{Ends, IsChain, IsStretch, ShowsBetween}
-use Rattle.ic_link_ops.specs.Walk.{walk, walked, is_end}
+use Rattle.ic_link_ops.specs.Walk.{walk, walked, is_end, GivesFirst, GivesLast}
 use Rattle.ic_link_ops.proofs.Counting.{count, count_falls, count_at_most}
 use Rattle.ic_link_ops.proofs.SequenceLemmas.{distinct_left, distinct_reverse, first_of_reverse, last_of_reverse, last_not, none_not, some_same, last_some, split_last}
 use Rattle.ic_link_ops.proofs.Chains.{mirrored, chain_mirrored, chain_cut, last_stands, first_stands}
@@ -62,7 +62,7 @@ walk_blind next t (suc fuel) b b' (Some p) to = refl
 -- the members of a chain are covered, if only covered places stand in chains
 chain_covered : {E : Type 0} (between : E → Option Place → Option Place → Type 0) (t : Table E)
     → ((q : Place) (b a : Option Place) → between (t.entry q) b a → IsCovered t q)
-    → (b : Option Place) (w : List Place) (a : Option Place) → IsChain between t.entry b w a → AllByRecursion (λ q. index_of q < t.covers) w
+    → (b : Option Place) (w : List Place) (a : Option Place) → IsChain between t.entry b w a → AllByRecursion (λ q. index_of q < t.extent.places) w
 chain_covered between t covered b [] a c = tt
 chain_covered between t covered b (x ∷ w) a c = (covered x b (first_or w a) c.0, chain_covered between t covered (Some x) w a c.1)
 
@@ -113,8 +113,8 @@ module _ {E : Type 0} {between : E → Option Place → Option Place → Type 0}
 
   -- no part of a chain is longer than what the table covers, if only covered places stand in chains
   pub stretch_length : (t : Table E) → ((q : Place) (b a : Option Place) → between (t.entry q) b a → IsCovered t q)
-      → {b from to a : Option Place} {w : List Place} → IsStretch between t.entry b from to a w → length w ≤ t.covers
-  stretch_length t covered {b} {from} {to} {a} {w} k = pigeonhole w t.covers k.distinct (chain_covered between t covered b w a k.chain)
+      → {b from to a : Option Place} {w : List Place} → IsStretch between t.entry b from to a w → length w ≤ t.extent.places
+  stretch_length t covered {b} {from} {to} {a} {w} k = pigeonhole w t.extent.places k.distinct (chain_covered between t covered b w a k.chain)
 
   -- `law`: the step goes to what stands behind
   module _ (step : E → Option Place → Option Place) (law : (e : E) (b a : Option Place) → between e b a → step e b ≡ a) where
@@ -134,7 +134,7 @@ module _ {E : Type 0} {between : E → Option Place → Option Place → Type 0}
     pub stretch_walked : (t : Table E) → ((q : Place) (b a : Option Place) → between (t.entry q) b a → IsCovered t q)
         → {b from to a : Option Place} {w : List Place} → IsStretch between t.entry b from to a w → walked step t b from to ≡ w
     stretch_walked t covered {b} {from} {to} {a} {w} k =
-        rw (k.starts, k.ends) (walk_is t.entry w t.covers b a k.distinct k.chain (stretch_length t covered k))
+        rw (k.starts, k.ends) (walk_is t.entry w t.extent.places b a k.distinct k.chain (stretch_length t covered k))
 
     walk_through : (t : Place → E) (w : List Place) (fuel : ℕ) (b : Option Place) → IsChain between t b w None → length w ≤ fuel
         → walk step t fuel b (first w) None ≡ w
@@ -148,7 +148,7 @@ module _ {E : Type 0} {between : E → Option Place → Option Place → Type 0}
     -- and, where no last is told, the rest of a chain
     pub stretch_through : (t : Table E) → ((q : Place) (b a : Option Place) → between (t.entry q) b a → IsCovered t q)
         → {b from to : Option Place} {w : List Place} → IsStretch between t.entry b from to None w → walked step t b from None ≡ w
-    stretch_through t covered {b} {from} {to} {w} k = rw k.starts (walk_through t.entry w t.covers b k.chain (stretch_length t covered k))
+    stretch_through t covered {b} {from} {to} {w} k = rw k.starts (walk_through t.entry w t.extent.places b k.chain (stretch_length t covered k))
 
     -- a part of a chain goes on behind its first member
     pub stretch_more : {t : Place → E} {b to a : Option Place} {p : Place} {w : List Place} → IsStretch between t b (Some p) to a w → to ≢ Some p
@@ -191,25 +191,25 @@ module _ {E : Type 0} {between : E → Option Place → Option Place → Type 0}
 module _ {S T : Type 0} (rest : S → List T) where
   -- a step over a placed object gives that object
   pub yields_placed : (s t : S) (r : Option (Bor T)) (o : Option T) → IsSome o → option_copied r ≡ o
-      → rest s ≡ cons_option o (rest t) → YieldsFirstRef rest s r t
+      → rest s ≡ cons_option o (rest t) → GivesFirst rest s r t
   yields_placed s t r None placed e left = cc
   yields_placed s t None (Some v) placed e left = cc
-  yields_placed s t (Some x) (Some v) placed e left = left ∙ ap (λ v. v ∷ rest t) (sym (same_Some x.now v e))
+  yields_placed s t (Some x) (Some v) placed e left = (left ∙ ap (λ v. v ∷ rest t) (sym (same_Some x.now v e)), tt)
 
   -- a step that gave an object left one less
-  pub makes_progress : (can : S → Type 0) (s t : S) (r : Option (Bor T)) → can t → YieldsFirstRef rest s r t → MakesProgress can (item_count rest) s r t
+  pub makes_progress : (can : S → Type 0) (s t : S) (r : Option (Bor T)) → can t → GivesFirst rest s r t → MakesProgress can (item_count rest) s r t
   makes_progress can s t None on given = record { on = λ _. tt; keeps = tt; rests = λ _. tt }
   makes_progress can s t (Some x) on given =
-      let e = ap length given in record { on = λ _. (on, tt, omega (arith, e)); keeps = on; rests = λ _. tt }
+      let e = ap length given.0 in record { on = λ _. (on, tt, omega (arith, e)); keeps = on; rests = λ _. tt }
 
   -- the same from the back
   pub yields_placed_back : (s t : S) (r : Option (Bor T)) (o : Option T) → IsSome o → option_copied r ≡ o
-      → rest s ≡ rest t ++ cons_option o [] → YieldsLastRef rest s r t
+      → rest s ≡ rest t ++ cons_option o [] → GivesLast rest s r t
   yields_placed_back s t r None placed e left = cc
   yields_placed_back s t None (Some v) placed e left = cc
-  yields_placed_back s t (Some x) (Some v) placed e left = left ∙ ap (λ v. rest t ++ v ∷ []) (sym (same_Some x.now v e))
+  yields_placed_back s t (Some x) (Some v) placed e left = (left ∙ ap (λ v. rest t ++ v ∷ []) (sym (same_Some x.now v e)), tt)
 
-  pub makes_progress_back : (can : S → Type 0) (s t : S) (r : Option (Bor T)) → can t → YieldsLastRef rest s r t → MakesProgress can (item_count rest) s r t
+  pub makes_progress_back : (can : S → Type 0) (s t : S) (r : Option (Bor T)) → can t → GivesLast rest s r t → MakesProgress can (item_count rest) s r t
   makes_progress_back can s t None on given = record { on = λ _. tt; keeps = tt; rests = λ _. tt }
   makes_progress_back can s t (Some x) on given =
-      let e = ap length given ∙ length-append (rest t) (x.now ∷ []) in record { on = λ _. (on, tt, omega (arith, e)); keeps = on; rests = λ _. tt }
+      let e = ap length given.0 ∙ length-append (rest t) (x.now ∷ []) in record { on = λ _. (on, tt, omega (arith, e)); keeps = on; rests = λ _. tt }

@@ -35,11 +35,11 @@ module _ {E : Type 0} {linked : E → Bool} {joins : E → Option Place → Opti
 
   -- a part of a chain is no longer than what the table covers
   pub part_length : (t : Table E) → ((q : Place) → linked (t.entry q) ≡ true → IsCovered t q)
-      → {before front back behind : Option Place} {w : List Place} → IsStretch (IsJoined linked joins) t.entry before front back behind w → length w ≤ t.covers
+      → {before front back behind : Option Place} {w : List Place} → IsStretch (IsJoined linked joins) t.entry before front back behind w → length w ≤ t.extent.places
   part_length t covered k = stretch_length t (λ q b a h. covered q h.linked) k
 
   pub shown_length : (t : Table E) → ((q : Place) → linked (t.entry q) ≡ true → IsCovered t q)
-      → {list : Ends} {s : List Place} → Shows linked joins t list s → length s ≤ t.covers
+      → {list : Ends} {s : List Place} → Shows linked joins t list s → length s ≤ t.extent.places
   shown_length t covered shown = part_length t covered (stretch_of shown)
 
   -- `law`: other gives the other neighbour of the one told, so it is the step of a walk from either end

@@ -2,10 +2,12 @@ pub mod Sequences
 pub mod Tables
 pub mod Chains
 pub mod Turns
+pub mod LinkSteps
 pub mod Edits
 pub mod TwoLists
 pub mod Errors
 pub mod Walk
+pub mod BothEnds
 pub mod LinkedList
 pub mod SinglyLinkedList
 pub mod XorLinkedList
@@ -22,5 +24,6 @@ pub mod TwoWords
 pub mod ThreeWords
 pub mod Readings
 pub mod EntryLaws
+pub mod StepLaws
 pub mod PlainTables
 pub mod DoublyEntries

@@ -2,7 +2,7 @@
 use Rattle.std.specs.Prelude.{List, length, slice_index_or, Bool}
 use Rattle.ic_unsafe_ref.specs.declared.place.Place.{Place}
 use Rattle.ic_unsafe_ref.specs.Places.{index_of}
-use Rattle.ic_link_ops.specs.Tables.{Table}
+use Rattle.ic_link_ops.specs.Tables.{Table, owned}
 use Rattle.ic_link_ops.specs.Links.{link_of, words_of}
 use Rattle.ic_link_ops.specs.declared.link.Link.{Link}
 use Rattle.ic_link_ops.specs.declared.table.PlainTable.{PlainTable}
@@ -18,7 +18,7 @@ module _ {E : Type 0} (unlinked : E) where
 
   -- entries as a table
   abbrev pub table_of : List E → Table E
-  table_of es = record { covers = length es; entry = entry_at es }
+  table_of es = record { extent = owned (length es); entry = entry_at es }
 
 module _ {W : Type 0} where
   -- what clauses see of a table whose new links have these words

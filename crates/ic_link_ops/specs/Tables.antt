@@ -1,18 +1,32 @@
 -- What clauses see of a table of links at one moment, and how it may change.
-use Rattle.std.specs.Prelude.{◌≡◌, ◌≢◌, ℕ, ◌<◌, Bool, true, false, List}
+use Rattle.std.specs.Prelude.{◌≡◌, ◌≢◌, ℕ, ◌<◌, Bool, true, false, List, []}
 use Rattle.ic_unsafe_ref.specs.declared.place.Place.{Place}
 use Rattle.ic_unsafe_ref.specs.Places.{index_of}
 use Rattle.ic_link_ops.specs.Sequences.{IsAbsent}
 
--- how many places it covers, and all that it keeps at each
+-- how many places a table covers, and what makes it this table and not another of its type: nothing where it owns its entries,
+-- the variant's number where its type is a sum of tables, the name of each borrow that it holds. Each call keeps both
+pub record Extent : Type 0 where
+  pub places : ℕ
+  pub identity : List ℕ
+
+-- the extent of a table that owns its entries
+abbrev pub owned : ℕ → Extent
+owned n = record { places = n; identity = [] }
+
+-- its extent, and all that it keeps at each place
 pub record Table (E : Type 0) : Type 0 where
-  pub covers : ℕ
+  pub extent : Extent
   pub entry : Place → E
 
 module _ {E : Type 0} where
+  -- the same entries in another extent
+  abbrev pub with_extent : Extent → Table E → Table E
+  with_extent e t = record { extent = e; entry = t.entry }
+
   -- p is one of the places that the table covers
   abbrev pub IsCovered : Table E → Place → Type 0
-  IsCovered t p = index_of p < t.covers
+  IsCovered t p = index_of p < t.extent.places
 
   -- the entry at p says that p is linked, or that it is not
   abbrev pub IsLinked : (E → Bool) → Table E → Place → Type 0
@@ -23,12 +37,12 @@ module _ {E : Type 0} where
 
   -- nothing but the entry at p is changed
   pub record ChangesOnly (old new : Table E) (p : Place) : Type 0 where
-    pub covers : new.covers ≡ old.covers
+    pub extent : new.extent ≡ old.extent
     pub others : (q : Place) → q ≢ p → new.entry q ≡ old.entry q
 
   -- THE FRAME: nothing but entries at members of s is changed
   pub record KeepsBeside (old new : Table E) (s : List Place) : Type 0 where
-    pub covers : new.covers ≡ old.covers
+    pub extent : new.extent ≡ old.extent
     pub others : (q : Place) → IsAbsent q s → new.entry q ≡ old.entry q
 
   -- the linked places are the old ones, and p, which was not among them

@@ -1,5 +1,7 @@
 -- The members between two ends, as the entries lead through them.
-use Rattle.std.specs.Prelude.{ℕ, Bool, false, nat_eq, cond, Option, Some, None, List, [], ◌∷◌}
+use Rattle.std.specs.Prelude.{◌≡◌, ℕ, Bool, false, nat_eq, cond, Option, Some, None, IfNone, List, [], ◌∷◌}
+use Rattle.std.specs.Borrow.{Bor}
+use Rattle.std.specs.Iterator.{YieldsFirstRef, YieldsLastRef}
 use Rattle.std.proofs.Common.{zero, suc}
 use Rattle.ic_unsafe_ref.specs.declared.place.Place.{Place}
 use Rattle.ic_unsafe_ref.specs.Places.{index_of}
@@ -20,4 +22,15 @@ module _ {E : Type 0} (step : E → Option Place → Option Place) where
 
   -- the members between two ends: no walk through distinct places is longer than what the table covers
   abbrev pub walked : Table E → Option Place → Option Place → Option Place → List Place
-  walked t before front back = walk t.entry t.covers before front back
+  walked t before front back = walk t.entry t.extent.places before front back
+
+-- A walk that lends the objects of a collection: `rest` are those that it has not given out yet
+module _ {S T : Type 0} (rest : S → List T) where
+  -- a call from s answered r and left t: the first of the rest is given out; or there was none, and the walk stays as it was, so
+  -- that either end may be called again and answers none
+  abbrev pub GivesFirst : S → Option (Bor T) → S → Type 0
+  GivesFirst s r t = YieldsFirstRef rest s r t × IfNone r (t ≡ s)
+
+  -- the same from the back
+  abbrev pub GivesLast : S → Option (Bor T) → S → Type 0
+  GivesLast s r t = YieldsLastRef rest s r t × IfNone r (t ≡ s)

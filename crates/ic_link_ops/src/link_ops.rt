@@ -1,9 +1,10 @@
 //! What every table of links can do.
 
-ghost use Rattle.std.specs.Prelude.{◌≡◌, ◌≢◌, Bool};
+ghost use Rattle.std.specs.Prelude.{◌≡◌, Bool, List, [], ◌∷◌, ◌++◌};
 ghost use Rattle.std.specs.Bool.{OnTrue, OnFalse};
 ghost use Rattle.ic_unsafe_ref.specs.declared.place.Place.{Place};
-ghost use Rattle.ic_link_ops.specs.Tables.{Table, IsCovered, IsLinked, IsUnlinked, ChangesOnly};
+ghost use Rattle.ic_link_ops.specs.Tables.{Table, IsCovered, IsLinked, ChangesOnly};
+ghost use Rattle.ic_link_ops.specs.LinkSteps.{LinkStep, acquires, releases, Replays};
 
 use ic_unsafe_ref::Place;
 
@@ -28,8 +29,8 @@ pub trait LinkOps {
     // Whether an entry is that of a linked place.
     ghost linked: { Self.Entry → Bool };
 
-    // The place was not linked and now it is.
-    ghost Acquired: { Self → Self → Place → Type 0 };
+    // THE STEPS: from the one state to the other the table made these steps, in this order, and no other.
+    ghost Does: { Self → Self → List LinkStep → Type 0 };
 
     // The place could not be had, and no entry has changed.
     ghost Refused: { Self → Self → Place → Type 0 };
@@ -39,23 +40,25 @@ pub trait LinkOps {
     /// It asks that the place is covered. O(1).
     fn acquire_link(&mut self, place: Place) -> bool
         requires covered { IsCovered (table self.old) place }
-        ensures acquired { OnTrue result (Acquired self.old self.new place) }
+        ensures acquired { OnTrue result (Does self.old self.new (acquires place ∷ [])) }
         ensures refused { OnFalse result (Refused self.old self.new place) }
         ensures frame { ChangesOnly (table self.old) (table self.new) place };
 
     /// Unlinks `place`. It asks that the place is linked. O(1).
     fn release_link(&mut self, place: Place)
         requires linked { IsLinked linked (table self.old) place }
-        ensures released { IsUnlinked linked (table self.new) place }
-        ensures frame { ChangesOnly (table self.old) (table self.new) place }
-        ensures keeps_acquired { (first : Self) (q : Place) → q ≢ place → Acquired first self.old q
-            → Acquired first self.new q };
+        ensures released { Does self.old self.new (releases place ∷ []) }
+        ensures frame { ChangesOnly (table self.old) (table self.new) place };
 
-    // The laws: only covered places are linked, and what the two relations mean for the entries.
+    // The laws: only covered places are linked; what stays took no step; steps and then more steps are all of them; the
+    // linked places are what the steps lead to; a refusal changes no entry.
     ghost linked_is_covered: { (t : Self) (p : Place) → IsLinked linked (table t) p → IsCovered (table t) p };
 
-    ghost acquired_links: { (old new : Self) (p : Place) → Acquired old new p
-        → IsUnlinked linked (table old) p × IsLinked linked (table new) p };
+    ghost does_nothing: { (t : Self) → Does t t [] };
+
+    ghost does_on: { (a b c : Self) (s t : List LinkStep) → Does a b s → Does b c t → Does a c (s ++ t) };
+
+    ghost does_replay: { (old new : Self) (s : List LinkStep) → Does old new s → Replays linked (table old) (table new) s };
 
     ghost refused_keeps: { (old new : Self) (p : Place) → Refused old new p → table new ≡ table old };
 }

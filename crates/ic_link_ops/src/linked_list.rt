@@ -6,7 +6,7 @@
 //! links.is_linked(place) // false, for each of the three places
 //! ```
 
-ghost use Rattle.std.specs.Prelude.{◌≡◌, Option};
+ghost use Rattle.std.specs.Prelude.{◌≡◌, Option, []};
 ghost use Rattle.ic_unsafe_ref.specs.declared.place.Place.{Place};
 ghost use Rattle.ic_link_ops.specs.Tables.{IsLinked, ChangesOnly};
 ghost use Rattle.ic_link_ops.specs.LinkedList.{Neighbors, neighbors_at};
@@ -41,8 +41,7 @@ pub trait LinkedListOps: link_ops::LinkOps {
         ensures set { neighbors_at neighbors (Self.table self.new) place
             ≡ record (neighbors_at neighbors (Self.table self.old) place) { next = next } }
         ensures frame { ChangesOnly (Self.table self.old) (Self.table self.new) place }
-        ensures keeps_acquired { (first : Self) (q : Place) → Self.Acquired first self.old q
-            → Self.Acquired first self.new q };
+        ensures no_step { Self.Does self.old self.new [] };
 
     /// Sets the place before `place`. It asks that the place is linked. O(1).
     fn set_prev(&mut self, place: Place, prev: Option<Place>)
@@ -50,8 +49,7 @@ pub trait LinkedListOps: link_ops::LinkOps {
         ensures set { neighbors_at neighbors (Self.table self.new) place
             ≡ record (neighbors_at neighbors (Self.table self.old) place) { prev = prev } }
         ensures frame { ChangesOnly (Self.table self.old) (Self.table self.new) place }
-        ensures keeps_acquired { (first : Self) (q : Place) → Self.Acquired first self.old q
-            → Self.Acquired first self.new q };
+        ensures no_step { Self.Does self.old self.new [] };
 
     // The law: both traits say alike whether a place is linked.
     ghost linked_alike: { (e : Self.Entry) → (neighbors e).linked ≡ Self.linked e };

@@ -5,7 +5,7 @@
 //! links.cover(3)?;
 //! ```
 
-ghost use Rattle.std.specs.Prelude.{◌≡◌, ◌≢◌, Option};
+ghost use Rattle.std.specs.Prelude.{◌≡◌, ◌≢◌, Option, []};
 ghost use Rattle.ic_unsafe_ref.specs.declared.place.Place.{Place};
 ghost use Rattle.ic_link_ops.specs.Tables.{IsLinked, ChangesOnly};
 ghost use Rattle.ic_link_ops.specs.RedBlackTree.{Node, node_at};
@@ -54,8 +54,7 @@ pub trait RBTreeOps: link_ops::LinkOps {
         ensures set { node_at node (Self.table self.new) place
             ≡ record (node_at node (Self.table self.old) place) { left = left } }
         ensures frame { ChangesOnly (Self.table self.old) (Self.table self.new) place }
-        ensures keeps_acquired { (first : Self) (q : Place) → Self.Acquired first self.old q
-            → Self.Acquired first self.new q };
+        ensures no_step { Self.Does self.old self.new [] };
 
     /// Sets the right child of `place`. It asks that the place is linked. O(1).
     fn set_right(&mut self, place: Place, right: Option<Place>)
@@ -63,8 +62,7 @@ pub trait RBTreeOps: link_ops::LinkOps {
         ensures set { node_at node (Self.table self.new) place
             ≡ record (node_at node (Self.table self.old) place) { right = right } }
         ensures frame { ChangesOnly (Self.table self.old) (Self.table self.new) place }
-        ensures keeps_acquired { (first : Self) (q : Place) → Self.Acquired first self.old q
-            → Self.Acquired first self.new q };
+        ensures no_step { Self.Does self.old self.new [] };
 
     /// Sets the parent of `place`. It asks that the place is linked. O(1).
     fn set_parent(&mut self, place: Place, parent: Option<Place>)
@@ -72,8 +70,7 @@ pub trait RBTreeOps: link_ops::LinkOps {
         ensures set { node_at node (Self.table self.new) place
             ≡ record (node_at node (Self.table self.old) place) { parent = parent } }
         ensures frame { ChangesOnly (Self.table self.old) (Self.table self.new) place }
-        ensures keeps_acquired { (first : Self) (q : Place) → Self.Acquired first self.old q
-            → Self.Acquired first self.new q };
+        ensures no_step { Self.Does self.old self.new [] };
 
     /// Sets the color of `place`. It asks that the place is linked. O(1).
     fn set_color(&mut self, place: Place, color: Color)
@@ -81,8 +78,7 @@ pub trait RBTreeOps: link_ops::LinkOps {
         ensures set { node_at node (Self.table self.new) place
             ≡ record (node_at node (Self.table self.old) place) { color = color } }
         ensures frame { ChangesOnly (Self.table self.old) (Self.table self.new) place }
-        ensures keeps_acquired { (first : Self) (q : Place) → Self.Acquired first self.old q
-            → Self.Acquired first self.new q };
+        ensures no_step { Self.Does self.old self.new [] };
 
     // The law: both traits say alike whether a place is linked.
     ghost linked_alike: { (e : Self.Entry) → (node e).linked ≡ Self.linked e };

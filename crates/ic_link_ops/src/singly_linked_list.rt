@@ -5,7 +5,7 @@
 //! links.cover(3)?;
 //! ```
 
-ghost use Rattle.std.specs.Prelude.{◌≡◌, Option};
+ghost use Rattle.std.specs.Prelude.{◌≡◌, Option, []};
 ghost use Rattle.ic_unsafe_ref.specs.declared.place.Place.{Place};
 ghost use Rattle.ic_link_ops.specs.Tables.{IsLinked, ChangesOnly};
 ghost use Rattle.ic_link_ops.specs.SinglyLinkedList.{Successor, successor_at};
@@ -34,8 +34,7 @@ pub trait SinglyLinkedListOps: link_ops::LinkOps {
         ensures set { successor_at successor (Self.table self.new) place
             ≡ record (successor_at successor (Self.table self.old) place) { next = next } }
         ensures frame { ChangesOnly (Self.table self.old) (Self.table self.new) place }
-        ensures keeps_acquired { (first : Self) (q : Place) → Self.Acquired first self.old q
-            → Self.Acquired first self.new q };
+        ensures no_step { Self.Does self.old self.new [] };
 
     // The law: both traits say alike whether a place is linked.
     ghost linked_alike: { (e : Self.Entry) → (successor e).linked ≡ Self.linked e };

@@ -29,7 +29,7 @@ impl<W: Words, A: Allocator> PlainTable<W, A> {
 
     /// A table that covers no place. It takes no memory.
     pub fn new(alloc: A) -> PlainTable<W, A>
-        ensures { (table W.unlinked result).covers ≡ 0 }
+        ensures { (table W.unlinked result).extent.places ≡ 0 }
     {
         PlainTable {
             entries: Vec::new(alloc),
@@ -39,7 +39,7 @@ impl<W: Words, A: Allocator> PlainTable<W, A> {
     /// How many places are covered: those with a smaller index.
     #[inline]
     pub fn covers(&self) -> usize
-        ensures { result ≡ (table W.unlinked self.now).covers }
+        ensures { result ≡ (table W.unlinked self.now).extent.places }
     {
         self.entries.len()
     }
@@ -83,10 +83,10 @@ impl<W: Words, A: Allocator> PlainTable<W, A> {
     /// for memory.
     pub fn cover(&mut self, count: usize) -> Result<(), CoverError>
         ensures too_many { (result ≡ Err CoverError.TooManyPlaces) ↔ 4294967296 < count }
-        ensures covers { OnOk result ((table W.unlinked self.new).covers ≡ max (table W.unlinked self.old).covers count) }
+        ensures covers { OnOk result ((table W.unlinked self.new).extent.places ≡ max (table W.unlinked self.old).extent.places count) }
         ensures stays { (q : Place) → (table W.unlinked self.new).entry q
             ≡ (table W.unlinked self.old).entry q }
-        ensures enough { count ≤ (table W.unlinked self.old).covers → count ≤ 4294967296 → IsOk result }
+        ensures enough { count ≤ (table W.unlinked self.old).extent.places → count ≤ 4294967296 → IsOk result }
         ensures refused { OnErr result (entries self.new ≡ entries self.old) }
     {
         if count > Place::COUNT {
@@ -107,7 +107,9 @@ impl<W: Words, A: Allocator> LinkOps for PlainTable<W, A> {
     ghost use Rattle.ic_link_ops.specs.Links.{link_of};
     ghost use Rattle.ic_link_ops.specs.PlainTables.{entries, table, linked_by};
     ghost use Rattle.ic_link_ops.specs.EntryLaws.{linked_in_range};
-    ghost use Rattle.std.proofs.Common.{ap};
+    ghost use Rattle.ic_link_ops.specs.LinkSteps.{Replays};
+    ghost use Rattle.ic_link_ops.specs.StepLaws.{replays_on};
+    ghost use Rattle.std.proofs.Common.{ap, refl};
 
     type Entry = Link<W>;
 
@@ -115,8 +117,7 @@ impl<W: Words, A: Allocator> LinkOps for PlainTable<W, A> {
 
     ghost linked = { linked_by W.is_linked };
 
-    ghost Acquired = { λ old new p. IsUnlinked (linked_by W.is_linked) (table W.unlinked old) p
-        × IsLinked (linked_by W.is_linked) (table W.unlinked new) p };
+    ghost Does = { λ old new s. Replays (linked_by W.is_linked) (table W.unlinked old) (table W.unlinked new) s };
 
     ghost Refused = { λ old new p. IsLinked (linked_by W.is_linked) (table W.unlinked old) p × (new ≡ old) };
 
@@ -138,7 +139,11 @@ impl<W: Words, A: Allocator> LinkOps for PlainTable<W, A> {
 
     ghost linked_is_covered = { λ t p h. linked_in_range (linked_by W.is_linked) (link_of W.unlinked) W.starts_unlinked (entries t) (index_of p) h };
 
-    ghost acquired_links = { λ old new p h. h };
+    ghost does_nothing = { λ t q. refl };
+
+    ghost does_on = { λ a b c s t h k. replays_on (linked_by W.is_linked) s t (table W.unlinked a) (table W.unlinked b) (table W.unlinked c) h k };
+
+    ghost does_replay = { λ old new s h. h };
 
     ghost refused_keeps = { λ old new p h. ap (table W.unlinked) h.1 };
 }

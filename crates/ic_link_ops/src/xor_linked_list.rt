@@ -5,7 +5,7 @@
 //! links.cover(3)?;
 //! ```
 
-ghost use Rattle.std.specs.Prelude.{◌≡◌, Option};
+ghost use Rattle.std.specs.Prelude.{◌≡◌, Option, []};
 ghost use Rattle.ic_unsafe_ref.specs.declared.place.Place.{Place};
 ghost use Rattle.ic_link_ops.specs.Tables.{IsLinked, ChangesOnly};
 
@@ -43,8 +43,7 @@ pub trait XorLinkedListOps: link_ops::LinkOps {
         ensures set { Joins ((Self.table self.new).entry place) prev next }
         ensures linked { IsLinked Self.linked (Self.table self.new) place }
         ensures frame { ChangesOnly (Self.table self.old) (Self.table self.new) place }
-        ensures keeps_acquired { (first : Self) (q : Place) → Self.Acquired first self.old q
-            → Self.Acquired first self.new q };
+        ensures no_step { Self.Does self.old self.new [] };
 
     /// Puts `new` where `old` stood beside `place`. It asks that the place is linked. O(1).
     fn replace_next_or_prev(&mut self, place: Place, old: Option<Place>, new: Option<Place>)
@@ -53,8 +52,7 @@ pub trait XorLinkedListOps: link_ops::LinkOps {
             → Joins ((Self.table self.new).entry place) new x }
         ensures linked { IsLinked Self.linked (Self.table self.new) place }
         ensures frame { ChangesOnly (Self.table self.old) (Self.table self.new) place }
-        ensures keeps_acquired { (first : Self) (q : Place) → Self.Acquired first self.old q
-            → Self.Acquired first self.new q };
+        ensures no_step { Self.Does self.old self.new [] };
 
     // The laws: the two sides are alike, one neighbour tells the other, and `other` finds it.
     ghost symmetric: { (e : Self.Entry) (a b : Option Place) → Joins e a b → Joins e b a };

@@ -2,4 +2,4 @@ pub mod Walking
 pub mod Standing
 pub mod Clearing
 pub mod Taking
-pub mod BothEnds
+pub mod WalkLaws

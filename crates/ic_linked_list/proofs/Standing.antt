@@ -15,6 +15,10 @@ module _ {E : Type 0} {n : E → Neighbors} {t : Table E} {list : Ends} where
   stands_before gap position shown before =
       let k = gap_after gap position before in (k.0, rw k.1 shown, k.2)
 
+  -- the gap behind the last member
+  pub at_its_end : (s : List Place) → Shows n t list s → Shows n t list (join (at_back s))
+  at_its_end s shown = rw append-nil shown
+
   -- at null, and at either end
   pub stands_null : (s : List Place) → Shows n t list s → (position : Option Place) → position ≡ None → Stands n t list position
   stands_null s shown position e = (at_front s, shown, e)
@@ -23,4 +27,4 @@ module _ {E : Type 0} {n : E → Neighbors} {t : Table E} {list : Ends} where
   stands_first s shown position e = stands_before (at_front s) position shown e
 
   pub stands_last : (s : List Place) → Shows n t list s → (position : Option Place) → position ≡ last s → Stands n t list position
-  stands_last s shown position e = (at_back s, rw append-nil shown, e)
+  stands_last s shown position e = (at_back s, at_its_end s shown, e)

@@ -2,13 +2,13 @@
 use Rattle.std.proofs.Common.{◌≡◌, Option, Some, None, List, [], ◌∷◌, ◌++◌, true, false, Bor, refl, sym, ◌∙◌, ap}
 use Rattle.std.specs.Option.{option_copied}
 use Rattle.std.specs.List.{AllByRecursion, cons_option}
-use Rattle.std.specs.Iterator.{YieldsFirstRef, YieldsLastRef, MakesProgress, item_count}
+use Rattle.std.specs.Iterator.{MakesProgress, item_count}
 use Rattle.std.proofs.lemmas.List.Elements.{filter_map-append}
 use Rattle.ic_unsafe_ref.specs.declared.place.Place.{Place}
 use Rattle.ic_unsafe_ref.specs.Objects.{object_at}
 use Rattle.ic_link_ops.specs.Tables.{Table, IsCovered}
 use Rattle.ic_link_ops.specs.LinkedList.{Neighbors, IsWalk}
-use Rattle.ic_link_ops.specs.Walk.{is_end}
+use Rattle.ic_link_ops.specs.Walk.{is_end, GivesFirst, GivesLast}
 use Rattle.ic_link_ops.proofs.Walks.{is_end_yes, is_end_no, yields_placed, makes_progress, yields_placed_back, makes_progress_back}
 use Rattle.ic_link_ops.proofs.DoublyLists.{walk_shown, walk_last, walk_more, walk_less, walk_none, walk_empty, walk_empty_back}
 use Rattle.ic_linked_list.specs.declared.iter.Iter.{Iter}
@@ -109,7 +109,7 @@ module _ {T L A E : Type 0} (n : E → Neighbors) (table : L → Table E) where
 
     -- the step gives the object at p
     pub gives : {old new : Iter T L A} {p : Place} (r : Option (Bor T)) → Steps old new p → option_copied r ≡ object_at new.objects.now p
-        → YieldsFirstRef (objects_left n table) old r new
+        → GivesFirst (objects_left n table) old r new
     gives {old} {new} {p} r k is =
         yields_placed (objects_left n table) old new r (object_at old.objects.now p) k.placed.0 (rw k.objects at is)
         (left_is old (p ∷ k.members) k.whole
@@ -125,7 +125,7 @@ module _ {T L A E : Type 0} (n : E → Neighbors) (table : L → Table E) where
     none_left_back t can at = left_is t can.0 can.1 ∙ ap (values_at t.objects.now) (walk_empty_back _ t.head t.tail can.0 at can.1)
 
     pub gives_back : {old new : Iter T L A} {p : Place} (r : Option (Bor T)) → StepsBack old new p → option_copied r ≡ object_at new.objects.now p
-        → YieldsLastRef (objects_left n table) old r new
+        → GivesLast (objects_left n table) old r new
     gives_back {old} {new} {p} r k is =
         yields_placed_back (objects_left n table) old new r (object_at old.objects.now p) (all_but_last _ k.members p k.placed).1 (rw k.objects at is)
         (left_is old (k.members ++ p ∷ []) k.whole

@@ -4,4 +4,3 @@ pub mod CursorMut
 pub mod CursorOwning
 pub mod Iter
 pub mod IntoIter
-pub mod BothEnds

@@ -7,11 +7,12 @@
 //! cursor.insert_before(object)?;
 //! ```
 
-ghost use Rattle.std.specs.Prelude.{◌≡◌, ◌≢◌, ◌↔◌, List, Option, Some, None, IsTrue, OnOk, OnErr, IfOk, IfErr, IfSome, IfNone};
+ghost use Rattle.std.specs.Prelude.{◌≡◌, ◌≢◌, ◌↔◌, ◌∷◌, List, [], Option, Some, None, IsTrue, OnOk, OnErr, OnSome, IfOk, IfErr, IfSome, IfNone};
 ghost use Rattle.std.specs.Option.{option_copied};
 ghost use Rattle.ic_unsafe_ref.specs.declared.place.Place.{Place};
 ghost use Rattle.ic_link_ops.specs.Sequences.{Cut, join, first, last, IsAfter, IsBefore, IsDisjoint};
 ghost use Rattle.ic_link_ops.specs.Tables.{IsCovered};
+ghost use Rattle.ic_link_ops.specs.LinkSteps.{acquires, releases};
 ghost use Rattle.ic_link_ops.specs.Edits.{Inserts, Removes, Replaces, Splices, Splits};
 ghost use Rattle.ic_link_ops.specs.Errors.{object_of, ByCause};
 ghost use Rattle.ic_link_ops.specs.LinkedList.{Shows, ShowsSome};
@@ -221,9 +222,9 @@ impl<'a, T, L: LinkedListOps> CursorMut<'a, T, L> {
         requires covered { IsCovered (L.table (links_of self.old)) object }
         requires stands { Stands L.neighbors (L.table (links_of self.old)) (list_of self.old) (position self.old) }
         ensures inserted { (gap : Cut) → Shows L.neighbors (L.table (links_of self.old)) (list_of self.old) (join gap)
-            → IsAfter gap (position self.old) → OnOk result (Inserts L.linked (Shows L.neighbors)
+            → IsAfter gap (position self.old) → OnOk result (Inserts (Shows L.neighbors)
             (L.table (links_of self.old)) (L.table (links_of self.new)) (list_of self.new) gap object) }
-        ensures acquired { OnOk result (L.Acquired (links_of self.old) (links_of self.new) object) }
+        ensures acquired { OnOk result (L.Does (links_of self.old) (links_of self.new) (acquires object ∷ [])) }
         ensures refused { OnErr result (L.Refused (links_of self.old) (links_of self.new) object) }
         ensures unchanged { IfErr result (λ refused. (refused.0 ≡ object) × (list_of self.new ≡ list_of self.old)) }
         ensures position { position self.new ≡ position self.old }
@@ -240,9 +241,9 @@ impl<'a, T, L: LinkedListOps> CursorMut<'a, T, L> {
         requires covered { IsCovered (L.table (links_of self.old)) object }
         requires stands { Stands L.neighbors (L.table (links_of self.old)) (list_of self.old) (position self.old) }
         ensures inserted { (gap : Cut) → Shows L.neighbors (L.table (links_of self.old)) (list_of self.old) (join gap)
-            → IsBefore gap (position self.old) → OnOk result (Inserts L.linked (Shows L.neighbors)
+            → IsBefore gap (position self.old) → OnOk result (Inserts (Shows L.neighbors)
             (L.table (links_of self.old)) (L.table (links_of self.new)) (list_of self.new) gap object) }
-        ensures acquired { OnOk result (L.Acquired (links_of self.old) (links_of self.new) object) }
+        ensures acquired { OnOk result (L.Does (links_of self.old) (links_of self.new) (acquires object ∷ [])) }
         ensures refused { OnErr result (L.Refused (links_of self.old) (links_of self.new) object) }
         ensures unchanged { IfErr result (λ refused. (refused.0 ≡ object) × (list_of self.new ≡ list_of self.old)) }
         ensures position { position self.new ≡ position self.old }
@@ -259,8 +260,9 @@ impl<'a, T, L: LinkedListOps> CursorMut<'a, T, L> {
         requires stands { Stands L.neighbors (L.table (links_of self.old)) (list_of self.old) (position self.old) }
         ensures answer { result ≡ position self.old }
         ensures removed { (gap : Cut) → Shows L.neighbors (L.table (links_of self.old)) (list_of self.old) (join gap)
-            → IsBefore gap (position self.old) → IfSome result (λ object. Removes L.linked (Shows L.neighbors)
-            (L.table (links_of self.old)) (L.table (links_of self.new)) (list_of self.new) gap object) }
+            → IsBefore gap (position self.old) → OnSome result (Removes (Shows L.neighbors)
+            (L.table (links_of self.old)) (L.table (links_of self.new)) (list_of self.new) gap) }
+        ensures released { IfSome result (λ object. L.Does (links_of self.old) (links_of self.new) (releases object ∷ [])) }
         ensures moved { (gap : Cut) → Shows L.neighbors (L.table (links_of self.old)) (list_of self.old) (join gap)
             → IsBefore gap (position self.old) → IsBehind gap (position self.new) }
         ensures null { IfNone result ((list_of self.new ≡ list_of self.old)
@@ -280,10 +282,11 @@ impl<'a, T, L: LinkedListOps> CursorMut<'a, T, L> {
         requires stands { Stands L.neighbors (L.table (links_of self.old)) (list_of self.old) (position self.old) }
         ensures answer { IfOk result (λ out. position self.old ≡ Some out) }
         ensures replaced { (gap : Cut) → Shows L.neighbors (L.table (links_of self.old)) (list_of self.old) (join gap)
-            → IsBefore gap (position self.old) → IfOk result (λ out. Replaces L.linked (Shows L.neighbors)
-            (L.table (links_of self.old)) (L.table (links_of self.new)) (list_of self.new) gap object out) }
+            → IsBefore gap (position self.old) → OnOk result (Replaces (Shows L.neighbors)
+            (L.table (links_of self.old)) (L.table (links_of self.new)) (list_of self.new) gap object) }
         ensures moved { OnOk result (position self.new ≡ Some object) }
-        ensures acquired { OnOk result (L.Acquired (links_of self.old) (links_of self.new) object) }
+        ensures exchanged { IfOk result (λ out. L.Does (links_of self.old) (links_of self.new)
+            (acquires object ∷ releases out ∷ [])) }
         ensures refused { IfErr result (ByCause
             ((position self.old ≡ None) × (links_of self.new ≡ links_of self.old))
             ((position self.old ≢ None) × L.Refused (links_of self.old) (links_of self.new) object)) }
@@ -305,8 +308,9 @@ impl<'a, T, L: LinkedListOps> CursorMut<'a, T, L> {
         ensures spliced { (gap : Cut) (t : List Place)
             → Shows L.neighbors (L.table (links_of self.old)) (list_of self.old) (join gap)
             → IsAfter gap (position self.old) → Shows L.neighbors (L.table (links_of self.old)) given t
-            → IsDisjoint t (join gap) → Splices L.linked (Shows L.neighbors)
+            → IsDisjoint t (join gap) → Splices (Shows L.neighbors)
             (L.table (links_of self.old)) (L.table (links_of self.new)) (list_of self.new) gap t }
+        ensures no_step { L.Does (links_of self.old) (links_of self.new) [] }
         ensures position { position self.new ≡ position self.old }
         ensures borrows { SameBorrows self.old self.new }
     {
@@ -323,8 +327,9 @@ impl<'a, T, L: LinkedListOps> CursorMut<'a, T, L> {
         ensures spliced { (gap : Cut) (t : List Place)
             → Shows L.neighbors (L.table (links_of self.old)) (list_of self.old) (join gap)
             → IsBefore gap (position self.old) → Shows L.neighbors (L.table (links_of self.old)) given t
-            → IsDisjoint t (join gap) → Splices L.linked (Shows L.neighbors)
+            → IsDisjoint t (join gap) → Splices (Shows L.neighbors)
             (L.table (links_of self.old)) (L.table (links_of self.new)) (list_of self.new) gap t }
+        ensures no_step { L.Does (links_of self.old) (links_of self.new) [] }
         ensures position { position self.new ≡ position self.old }
         ensures borrows { SameBorrows self.old self.new }
     {
@@ -338,8 +343,9 @@ impl<'a, T, L: LinkedListOps> CursorMut<'a, T, L> {
     pub fn split_after(&mut self) -> LinkedList<T>
         requires stands { Stands L.neighbors (L.table (links_of self.old)) (list_of self.old) (position self.old) }
         ensures split { (gap : Cut) → Shows L.neighbors (L.table (links_of self.old)) (list_of self.old) (join gap)
-            → IsAfter gap (position self.old) → Splits L.linked (Shows L.neighbors)
+            → IsAfter gap (position self.old) → Splits (Shows L.neighbors)
             (L.table (links_of self.old)) (L.table (links_of self.new)) (list_of self.new) result gap.front gap.back }
+        ensures no_step { L.Does (links_of self.old) (links_of self.new) [] }
         ensures position { position self.new ≡ position self.old }
         ensures borrows { SameBorrows self.old self.new }
     {
@@ -353,8 +359,9 @@ impl<'a, T, L: LinkedListOps> CursorMut<'a, T, L> {
     pub fn split_before(&mut self) -> LinkedList<T>
         requires stands { Stands L.neighbors (L.table (links_of self.old)) (list_of self.old) (position self.old) }
         ensures split { (gap : Cut) → Shows L.neighbors (L.table (links_of self.old)) (list_of self.old) (join gap)
-            → IsBefore gap (position self.old) → Splits L.linked (Shows L.neighbors)
+            → IsBefore gap (position self.old) → Splits (Shows L.neighbors)
             (L.table (links_of self.old)) (L.table (links_of self.new)) (list_of self.new) result gap.back gap.front }
+        ensures no_step { L.Does (links_of self.old) (links_of self.new) [] }
         ensures position { position self.new ≡ position self.old }
         ensures borrows { SameBorrows self.old self.new }
     {

@@ -7,10 +7,11 @@
 //! let list = cursor.into_inner();
 //! ```
 
-ghost use Rattle.std.specs.Prelude.{◌≡◌, ◌≢◌, List, Option, Some, None, OnOk, OnErr, IfOk, IfErr, IfSome, IfNone};
+ghost use Rattle.std.specs.Prelude.{◌≡◌, ◌≢◌, ◌∷◌, List, [], Option, Some, None, OnOk, OnErr, OnSome, IfOk, IfErr, IfSome, IfNone};
 ghost use Rattle.ic_unsafe_ref.specs.declared.place.Place.{Place};
 ghost use Rattle.ic_link_ops.specs.Sequences.{Cut, join, first, last, IsAfter, IsBefore, IsDisjoint};
 ghost use Rattle.ic_link_ops.specs.Tables.{IsCovered};
+ghost use Rattle.ic_link_ops.specs.LinkSteps.{acquires, releases};
 ghost use Rattle.ic_link_ops.specs.Edits.{Inserts, Removes, Replaces, Splices, Splits};
 ghost use Rattle.ic_link_ops.specs.Errors.{object_of, ByCause};
 ghost use Rattle.ic_link_ops.specs.LinkedList.{Shows, ShowsSome};
@@ -127,6 +128,31 @@ impl<T> CursorOwning<T> {
         }
     }
 
+    /// The list that the cursor keeps, to be read while the cursor stays where it is. O(1).
+    #[inline]
+    pub fn list(&self) -> &LinkedList<T>
+        ensures { result.now ≡ list_of self.now }
+    {
+        &self.list
+    }
+
+    /// The place of the member that the cursor is on, `None` at null. O(1).
+    #[inline]
+    pub fn get_ptr(&self) -> Option<Place>
+        ensures { result ≡ position self.now }
+    {
+        self.current
+    }
+
+    /// Moves to null, from wherever the cursor is. It reads no entry, and asks nothing. O(1).
+    #[inline]
+    pub fn go_null(&mut self)
+        ensures list { list_of self.new ≡ list_of self.old }
+        ensures null { position self.new ≡ None }
+    {
+        self.current = None;
+    }
+
     /// Moves to the next member, from null to the first one, and from the last one to null. O(1).
     ///
     /// The gap that was after the cursor is then before it.
@@ -165,9 +191,9 @@ impl<T> CursorOwning<T> {
         requires covered { IsCovered (L.table links.old) object }
         requires stands { Stands L.neighbors (L.table links.old) (list_of self.old) (position self.old) }
         ensures inserted { (gap : Cut) → Shows L.neighbors (L.table links.old) (list_of self.old) (join gap)
-            → IsAfter gap (position self.old) → OnOk result (Inserts L.linked (Shows L.neighbors)
+            → IsAfter gap (position self.old) → OnOk result (Inserts (Shows L.neighbors)
             (L.table links.old) (L.table links.new) (list_of self.new) gap object) }
-        ensures acquired { OnOk result (L.Acquired links.old links.new object) }
+        ensures acquired { OnOk result (L.Does links.old links.new (acquires object ∷ [])) }
         ensures refused { OnErr result (L.Refused links.old links.new object) }
         ensures unchanged { IfErr result (λ refused. (refused.0 ≡ object) × (list_of self.new ≡ list_of self.old)) }
         ensures position { position self.new ≡ position self.old }
@@ -187,9 +213,9 @@ impl<T> CursorOwning<T> {
         requires covered { IsCovered (L.table links.old) object }
         requires stands { Stands L.neighbors (L.table links.old) (list_of self.old) (position self.old) }
         ensures inserted { (gap : Cut) → Shows L.neighbors (L.table links.old) (list_of self.old) (join gap)
-            → IsBefore gap (position self.old) → OnOk result (Inserts L.linked (Shows L.neighbors)
+            → IsBefore gap (position self.old) → OnOk result (Inserts (Shows L.neighbors)
             (L.table links.old) (L.table links.new) (list_of self.new) gap object) }
-        ensures acquired { OnOk result (L.Acquired links.old links.new object) }
+        ensures acquired { OnOk result (L.Does links.old links.new (acquires object ∷ [])) }
         ensures refused { OnErr result (L.Refused links.old links.new object) }
         ensures unchanged { IfErr result (λ refused. (refused.0 ≡ object) × (list_of self.new ≡ list_of self.old)) }
         ensures position { position self.new ≡ position self.old }
@@ -205,8 +231,9 @@ impl<T> CursorOwning<T> {
         requires stands { Stands L.neighbors (L.table links.old) (list_of self.old) (position self.old) }
         ensures answer { result ≡ position self.old }
         ensures removed { (gap : Cut) → Shows L.neighbors (L.table links.old) (list_of self.old) (join gap)
-            → IsBefore gap (position self.old) → IfSome result (λ object. Removes L.linked (Shows L.neighbors)
-            (L.table links.old) (L.table links.new) (list_of self.new) gap object) }
+            → IsBefore gap (position self.old) → OnSome result (Removes (Shows L.neighbors)
+            (L.table links.old) (L.table links.new) (list_of self.new) gap) }
+        ensures released { IfSome result (λ object. L.Does links.old links.new (releases object ∷ [])) }
         ensures moved { (gap : Cut) → Shows L.neighbors (L.table links.old) (list_of self.old) (join gap)
             → IsBefore gap (position self.old) → IsBehind gap (position self.new) }
         ensures null { IfNone result ((list_of self.new ≡ list_of self.old) × (links.new ≡ links.old)
@@ -229,10 +256,11 @@ impl<T> CursorOwning<T> {
         requires stands { Stands L.neighbors (L.table links.old) (list_of self.old) (position self.old) }
         ensures answer { IfOk result (λ out. position self.old ≡ Some out) }
         ensures replaced { (gap : Cut) → Shows L.neighbors (L.table links.old) (list_of self.old) (join gap)
-            → IsBefore gap (position self.old) → IfOk result (λ out. Replaces L.linked (Shows L.neighbors)
-            (L.table links.old) (L.table links.new) (list_of self.new) gap object out) }
+            → IsBefore gap (position self.old) → OnOk result (Replaces (Shows L.neighbors)
+            (L.table links.old) (L.table links.new) (list_of self.new) gap object) }
         ensures moved { OnOk result (position self.new ≡ Some object) }
-        ensures acquired { OnOk result (L.Acquired links.old links.new object) }
+        ensures exchanged { IfOk result (λ out. L.Does links.old links.new
+            (acquires object ∷ releases out ∷ [])) }
         ensures refused { IfErr result (ByCause
             ((position self.old ≡ None) × (links.new ≡ links.old))
             ((position self.old ≢ None) × L.Refused links.old links.new object)) }
@@ -252,8 +280,9 @@ impl<T> CursorOwning<T> {
         ensures spliced { (gap : Cut) (t : List Place)
             → Shows L.neighbors (L.table links.old) (list_of self.old) (join gap)
             → IsAfter gap (position self.old) → Shows L.neighbors (L.table links.old) given t
-            → IsDisjoint t (join gap) → Splices L.linked (Shows L.neighbors)
+            → IsDisjoint t (join gap) → Splices (Shows L.neighbors)
             (L.table links.old) (L.table links.new) (list_of self.new) gap t }
+        ensures no_step { L.Does links.old links.new [] }
         ensures position { position self.new ≡ position self.old }
     {
         self.list.splice_after(links, self.current, given);
@@ -269,8 +298,9 @@ impl<T> CursorOwning<T> {
         ensures spliced { (gap : Cut) (t : List Place)
             → Shows L.neighbors (L.table links.old) (list_of self.old) (join gap)
             → IsBefore gap (position self.old) → Shows L.neighbors (L.table links.old) given t
-            → IsDisjoint t (join gap) → Splices L.linked (Shows L.neighbors)
+            → IsDisjoint t (join gap) → Splices (Shows L.neighbors)
             (L.table links.old) (L.table links.new) (list_of self.new) gap t }
+        ensures no_step { L.Does links.old links.new [] }
         ensures position { position self.new ≡ position self.old }
     {
         self.list.splice_before(links, self.current, given);
@@ -283,8 +313,9 @@ impl<T> CursorOwning<T> {
     pub fn split_after<L: LinkedListOps>(&mut self, links: &mut L) -> LinkedList<T>
         requires stands { Stands L.neighbors (L.table links.old) (list_of self.old) (position self.old) }
         ensures split { (gap : Cut) → Shows L.neighbors (L.table links.old) (list_of self.old) (join gap)
-            → IsAfter gap (position self.old) → Splits L.linked (Shows L.neighbors)
+            → IsAfter gap (position self.old) → Splits (Shows L.neighbors)
             (L.table links.old) (L.table links.new) (list_of self.new) result gap.front gap.back }
+        ensures no_step { L.Does links.old links.new [] }
         ensures position { position self.new ≡ position self.old }
     {
         self.list.split_after(links, self.current)
@@ -297,8 +328,9 @@ impl<T> CursorOwning<T> {
     pub fn split_before<L: LinkedListOps>(&mut self, links: &mut L) -> LinkedList<T>
         requires stands { Stands L.neighbors (L.table links.old) (list_of self.old) (position self.old) }
         ensures split { (gap : Cut) → Shows L.neighbors (L.table links.old) (list_of self.old) (join gap)
-            → IsBefore gap (position self.old) → Splits L.linked (Shows L.neighbors)
+            → IsBefore gap (position self.old) → Splits (Shows L.neighbors)
             (L.table links.old) (L.table links.new) (list_of self.new) result gap.back gap.front }
+        ensures no_step { L.Does links.old links.new [] }
         ensures position { position self.new ≡ position self.old }
     {
         self.list.split_before(links, self.current)

@@ -3,10 +3,11 @@
 //! "After" is the gap behind the position's member, or the first gap at null; "before" is the gap in front of it, or
 //! the last gap at null.
 
-ghost use Rattle.std.specs.Prelude.{◌≡◌, ◌≢◌, List, Option, Some, None, OnOk, OnErr, IfOk, IfErr, IfSome, IfNone};
+ghost use Rattle.std.specs.Prelude.{◌≡◌, ◌≢◌, ◌∷◌, List, [], Option, Some, None, OnOk, OnErr, OnSome, IfOk, IfErr, IfSome, IfNone};
 ghost use Rattle.ic_unsafe_ref.specs.declared.place.Place.{Place};
 ghost use Rattle.ic_link_ops.specs.Sequences.{Cut, join, IsAfter, IsBefore, IsDisjoint};
 ghost use Rattle.ic_link_ops.specs.Tables.{IsCovered};
+ghost use Rattle.ic_link_ops.specs.LinkSteps.{acquires, releases};
 ghost use Rattle.ic_link_ops.specs.Edits.{Inserts, Removes, Replaces, Splices, Splits};
 ghost use Rattle.ic_link_ops.specs.Errors.{object_of, ByCause};
 ghost use Rattle.ic_link_ops.specs.LinkedList.{Shows, ShowsSome};
@@ -61,9 +62,9 @@ impl<T> LinkedList<T> {
         requires covered { IsCovered (L.table links.old) object }
         requires stands { Stands L.neighbors (L.table links.old) self.old current }
         ensures inserted { (gap : Cut) → Shows L.neighbors (L.table links.old) self.old (join gap)
-            → IsAfter gap current → OnOk result (Inserts L.linked (Shows L.neighbors)
+            → IsAfter gap current → OnOk result (Inserts (Shows L.neighbors)
             (L.table links.old) (L.table links.new) self.new gap object) }
-        ensures acquired { OnOk result (L.Acquired links.old links.new object) }
+        ensures acquired { OnOk result (L.Does links.old links.new (acquires object ∷ [])) }
         ensures refused { OnErr result (L.Refused links.old links.new object) }
         ensures unchanged { IfErr result (λ refused. (refused.0 ≡ object) × (self.new ≡ self.old)) }
     {
@@ -81,9 +82,9 @@ impl<T> LinkedList<T> {
         requires covered { IsCovered (L.table links.old) object }
         requires stands { Stands L.neighbors (L.table links.old) self.old current }
         ensures inserted { (gap : Cut) → Shows L.neighbors (L.table links.old) self.old (join gap)
-            → IsBefore gap current → OnOk result (Inserts L.linked (Shows L.neighbors)
+            → IsBefore gap current → OnOk result (Inserts (Shows L.neighbors)
             (L.table links.old) (L.table links.new) self.new gap object) }
-        ensures acquired { OnOk result (L.Acquired links.old links.new object) }
+        ensures acquired { OnOk result (L.Does links.old links.new (acquires object ∷ [])) }
         ensures refused { OnErr result (L.Refused links.old links.new object) }
         ensures unchanged { IfErr result (λ refused. (refused.0 ≡ object) × (self.new ≡ self.old)) }
     {
@@ -101,8 +102,9 @@ impl<T> LinkedList<T> {
         requires stands { Stands L.neighbors (L.table links.old) self.old current.old }
         ensures answer { result ≡ current.old }
         ensures removed { (gap : Cut) → Shows L.neighbors (L.table links.old) self.old (join gap)
-            → IsBefore gap current.old → IfSome result (λ object. Removes L.linked (Shows L.neighbors)
-            (L.table links.old) (L.table links.new) self.new gap object) }
+            → IsBefore gap current.old → OnSome result (Removes (Shows L.neighbors)
+            (L.table links.old) (L.table links.new) self.new gap) }
+        ensures released { IfSome result (λ object. L.Does links.old links.new (releases object ∷ [])) }
         ensures moved { (gap : Cut) → Shows L.neighbors (L.table links.old) self.old (join gap)
             → IsBefore gap current.old → IsBehind gap current.new }
         ensures null { IfNone result ((self.new ≡ self.old) × (links.new ≡ links.old) × (current.new ≡ None)) }
@@ -125,10 +127,10 @@ impl<T> LinkedList<T> {
         requires stands { Stands L.neighbors (L.table links.old) self.old current.old }
         ensures answer { IfOk result (λ out. current.old ≡ Some out) }
         ensures replaced { (gap : Cut) → Shows L.neighbors (L.table links.old) self.old (join gap)
-            → IsBefore gap current.old → IfOk result (λ out. Replaces L.linked (Shows L.neighbors)
-            (L.table links.old) (L.table links.new) self.new gap object out) }
+            → IsBefore gap current.old → OnOk result (Replaces (Shows L.neighbors)
+            (L.table links.old) (L.table links.new) self.new gap object) }
         ensures moved { OnOk result (current.new ≡ Some object) }
-        ensures acquired { OnOk result (L.Acquired links.old links.new object) }
+        ensures exchanged { IfOk result (λ out. L.Does links.old links.new (acquires object ∷ releases out ∷ [])) }
         ensures refused { IfErr result (ByCause ((current.old ≡ None) × (links.new ≡ links.old))
             ((current.old ≢ None) × L.Refused links.old links.new object)) }
         ensures unchanged { IfErr result (λ refused. (object_of refused ≡ object) × (self.new ≡ self.old)
@@ -158,7 +160,8 @@ impl<T> LinkedList<T> {
         requires given { ShowsSome L.neighbors (L.table links.old) given }
         ensures spliced { (gap : Cut) (t : List Place) → Shows L.neighbors (L.table links.old) self.old (join gap)
             → IsAfter gap current → Shows L.neighbors (L.table links.old) given t → IsDisjoint t (join gap)
-            → Splices L.linked (Shows L.neighbors) (L.table links.old) (L.table links.new) self.new gap t }
+            → Splices (Shows L.neighbors) (L.table links.old) (L.table links.new) self.new gap t }
+        ensures no_step { L.Does links.old links.new [] }
     {
         let behind = self.next_of(&*links, current);
         self.splice_between(links, current, given, behind);
@@ -175,7 +178,8 @@ impl<T> LinkedList<T> {
         requires given { ShowsSome L.neighbors (L.table links.old) given }
         ensures spliced { (gap : Cut) (t : List Place) → Shows L.neighbors (L.table links.old) self.old (join gap)
             → IsBefore gap current → Shows L.neighbors (L.table links.old) given t → IsDisjoint t (join gap)
-            → Splices L.linked (Shows L.neighbors) (L.table links.old) (L.table links.new) self.new gap t }
+            → Splices (Shows L.neighbors) (L.table links.old) (L.table links.new) self.new gap t }
+        ensures no_step { L.Does links.old links.new [] }
     {
         let before = self.prev_of(&*links, current);
         self.splice_between(links, before, given, current);
@@ -189,8 +193,9 @@ impl<T> LinkedList<T> {
     ) -> LinkedList<T>
         requires stands { Stands L.neighbors (L.table links.old) self.old current }
         ensures split { (gap : Cut) → Shows L.neighbors (L.table links.old) self.old (join gap)
-            → IsAfter gap current → Splits L.linked (Shows L.neighbors)
+            → IsAfter gap current → Splits (Shows L.neighbors)
             (L.table links.old) (L.table links.new) self.new result gap.front gap.back }
+        ensures no_step { L.Does links.old links.new [] }
     {
         let behind = self.next_of(&*links, current);
         self.split_between(links, current, behind)
@@ -204,8 +209,9 @@ impl<T> LinkedList<T> {
     ) -> LinkedList<T>
         requires stands { Stands L.neighbors (L.table links.old) self.old current }
         ensures split { (gap : Cut) → Shows L.neighbors (L.table links.old) self.old (join gap)
-            → IsBefore gap current → Splits L.linked (Shows L.neighbors)
+            → IsBefore gap current → Splits (Shows L.neighbors)
             (L.table links.old) (L.table links.new) self.new result gap.back gap.front }
+        ensures no_step { L.Does links.old links.new [] }
     {
         let before = self.prev_of(&*links, current);
         let rest = self.split_between(links, before, current);

@@ -10,7 +10,8 @@
 ghost use Rattle.std.specs.Prelude.{◌≡◌, List};
 ghost use Rattle.std.specs.Iterator.{item_count};
 ghost use Rattle.ic_unsafe_ref.specs.declared.place.Place.{Place};
-ghost use Rattle.ic_link_ops.specs.Edits.{Clears};
+ghost use Rattle.ic_link_ops.specs.Tables.{KeepsBeside};
+ghost use Rattle.ic_link_ops.specs.LinkSteps.{releases_each};
 ghost use Rattle.ic_link_ops.specs.LinkedList.{ShowsSome};
 
 use crate::LinkedList;
@@ -42,7 +43,7 @@ impl<'a, T, L: LinkedListOps> Iterator for IntoIter<'a, T, L> {
 
     ghost can_next = { CanTake L.neighbors L.table };
 
-    ghost next_gives = { TakesFirst L.neighbors L.table L.linked };
+    ghost next_gives = { TakesFirst L.neighbors L.table L.Does };
 
     ghost remaining = { item_count (members_left L.neighbors L.table) };
 
@@ -58,7 +59,7 @@ impl<'a, T, L: LinkedListOps> DoubleEndedIterator for IntoIter<'a, T, L> {
 
     ghost can_next_back = { CanTake L.neighbors L.table };
 
-    ghost next_back_gives = { TakesLast L.neighbors L.table L.linked };
+    ghost next_back_gives = { TakesLast L.neighbors L.table L.Does };
 
     /// Takes the next object from the back off the list. O(1).
     #[inline]
@@ -81,8 +82,10 @@ impl<'a, T, L: LinkedListOps> IntoIter<'a, T, L> {
     /// Unlinks the members that were not given out. One step for each of them, and no memory.
     pub fn finish(self)
         requires can_take { CanTake L.neighbors L.table self }
-        ensures cleared { (w : List Place) → Leaves L.neighbors L.table self.entry w
-            → Clears L.linked (L.table self.entry.links.now) (L.table self.exit.1.0.now) w }
+        ensures released { (w : List Place) → Leaves L.neighbors L.table self.entry w
+            → L.Does self.entry.links.now self.exit.1.0.now (releases_each w) }
+        ensures frame { (w : List Place) → Leaves L.neighbors L.table self.entry w
+            → KeepsBeside (L.table self.entry.links.now) (L.table self.exit.1.0.now) w }
     {
         let IntoIter { list, links } = self;
         list.dispose(links);

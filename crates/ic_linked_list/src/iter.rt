@@ -8,10 +8,10 @@
 //! ```
 
 ghost use Rattle.std.specs.Prelude.{◌≡◌, List, Option, Some, ⊤};
-ghost use Rattle.std.specs.Iterator.{YieldsFirstRef, YieldsLastRef, item_count};
+ghost use Rattle.std.specs.Iterator.{item_count};
 ghost use Rattle.ic_unsafe_ref.specs.declared.place.Place.{Place};
 ghost use Rattle.ic_link_ops.specs.LinkedList.{Shows, ShowsSome};
-ghost use Rattle.ic_link_ops.specs.Walk.{is_end};
+ghost use Rattle.ic_link_ops.specs.Walk.{is_end, GivesFirst, GivesLast};
 
 use crate::LinkedList;
 use ic_link_ops::LinkOps;
@@ -54,12 +54,12 @@ fn is_at(end: Option<Place>, place: Place) -> bool
 impl<'a, T, L: LinkedListOps, A: Allocator> Iterator for Iter<'a, T, L, A> {
     type Item = &'a T;
 
-    ghost use Rattle.std.specs.Iterator.{YieldsFirstRef, item_count};
+    ghost use Rattle.std.specs.Iterator.{item_count};
     ghost use Rattle.ic_linked_list.specs.Iter.{objects_left, CanWalk};
 
     ghost can_next = { CanWalk L.neighbors L.table };
 
-    ghost next_gives = { YieldsFirstRef (objects_left L.neighbors L.table) };
+    ghost next_gives = { GivesFirst (objects_left L.neighbors L.table) };
 
     ghost remaining = { item_count (objects_left L.neighbors L.table) };
 
@@ -82,7 +82,7 @@ impl<'a, T, L: LinkedListOps, A: Allocator> DoubleEndedIterator for Iter<'a, T, 
 
     ghost can_next_back = { CanWalk L.neighbors L.table };
 
-    ghost next_back_gives = { YieldsLastRef (objects_left L.neighbors L.table) };
+    ghost next_back_gives = { GivesLast (objects_left L.neighbors L.table) };
 
     /// The next object from the back. O(1), as `next`.
     fn next_back(&mut self) -> Option<&'a T> {

@@ -1,103 +1,109 @@
-//! What follows from the definitions for every table, each law as the contract of a function that does nothing, or
-//! that makes the calls of which the law speaks.
+//! What follows of several calls together, each law as the contract of a function that makes them.
+//!
+//! ```text
+//! laws::split_then_splice(&mut cursor); // the list is what it was
+//! ```
+//!
+//! What holds of collections of every kind stands with the tables, as lemmas for proofs: every table shows nothing for
+//! a new collection, no table shows two sequences for one, and an edit leaves all others.
 
-ghost use Rattle.std.specs.Prelude.{◌≡◌, ◌++◌, List, [], Option, Some, None, reverse};
-ghost use Rattle.std.specs.Borrow.{Bor};
-ghost use Rattle.std.specs.Iterator.{YieldsFirstRef, YieldsLastRef};
+ghost use Rattle.std.specs.Prelude.{◌≡◌, List, [], ◌∷◌, None, Some, IsTrue};
 ghost use Rattle.ic_unsafe_ref.specs.declared.place.Place.{Place};
-ghost use Rattle.ic_link_ops.specs.Sequences.{Cut, join, at_back, first, last, IsDisjoint};
-ghost use Rattle.ic_link_ops.specs.Edits.{Splices, Splits};
-ghost use Rattle.ic_link_ops.specs.Tables.{IsCovered, IsUnlinked, KeepsBeside, KeepsLinked};
-ghost use Rattle.ic_link_ops.specs.Chains.{Ends, no_members};
+ghost use Rattle.ic_link_ops.specs.Sequences.{insert, at_back, first, last};
+ghost use Rattle.ic_link_ops.specs.Tables.{IsCovered, IsUnlinked, KeepsBeside, KeepsLinked, LinksAlso};
 ghost use Rattle.ic_link_ops.specs.LinkedList.{Shows, ShowsSome};
 ghost use Rattle.ic_link_ops.specs.DoublyEntries.{entries, is_linked, neighbors_of, table_of};
-ghost use Rattle.ic_linked_list.specs.Stands.{MovesOn, MovesBack};
-ghost use Rattle.ic_linked_list.specs.Iter.{objects_left};
-ghost use Rattle.ic_linked_list.specs.IntoIter.{Leaves, TakesFirst, TakesLast};
-ghost use Rattle.ic_linked_list.specs.BothEnds.{Item, Leads, from_front, from_back};
+ghost use Rattle.ic_linked_list.specs.Stands.{Stands};
+ghost use Rattle.ic_linked_list.specs.Cursor as reads;
+ghost use Rattle.ic_linked_list.specs.CursorMut as edits;
 
-use crate::{IntoIter, Iter, LinkedList};
-use ic_link_ops::LinkOps;
-use ic_link_ops::linked_list::{self, LinkedListOps};
-use ic_unsafe_ref::UnsafeRef;
+use crate::{Cursor, CursorMut, LinkedList};
+use ic_link_ops::linked_list::{LinkOps, LinkedListOps};
+use ic_unsafe_ref::{Place, UnsafeRef};
 use std::alloc::Allocator;
 
-/// Every table shows the empty sequence for a new list.
-pub fn new_shows_nothing<L: LinkedListOps>(_links: &L)
-    ensures { Shows L.neighbors (L.table _links.now) no_members [] }
-{}
-
-/// A table shows at most one sequence for a list.
-pub fn one_sequence_is_shown<L: LinkedListOps>(_links: &L)
-    ensures { (list : Ends) (s t : List Place) → Shows L.neighbors (L.table _links.now) list s
-        → Shows L.neighbors (L.table _links.now) list t → s ≡ t }
-{}
-
-/// Where only entries at members of `touched` change, a list that shares no member with them keeps its sequence.
-pub fn other_lists_stay<L: LinkedListOps>(_old: &L, _new: &L)
-    ensures { (list : Ends) (s touched : List Place) → Shows L.neighbors (L.table _old.now) list s
-        → IsDisjoint s touched → KeepsBeside (L.table _old.now) (L.table _new.now) touched
-        → Shows L.neighbors (L.table _new.now) list s }
-{}
-
-/// What a cursor at null does when it is moved: on and back again it is at null; on, it is at the front; back, at the
-/// back, or at null where there is no member.
+/// Moves a cursor from null on and back again, and then back and on: it was at the front and at the back, which are the
+/// answer, and is at null. Of an empty list both are `None`. O(1).
 ///
-/// A move on puts the gap after the cursor before it, and a move back the gap before it after it.
-pub fn null_there_and_back<L: LinkedListOps>(_links: &L)
-    ensures there { (list : Ends) (s : List Place) (next : Option Place) → Shows L.neighbors (L.table _links.now) list s
-        → MovesOn L.neighbors (L.table _links.now) list None next → next ≡ first s }
-    ensures back { (list : Ends) (s : List Place) (prev : Option Place) → Shows L.neighbors (L.table _links.now) list s
-        → MovesBack L.neighbors (L.table _links.now) list None prev → prev ≡ last s }
-    ensures and_back { (list : Ends) (s : List Place) (next again : Option Place)
-        → Shows L.neighbors (L.table _links.now) list s → MovesOn L.neighbors (L.table _links.now) list None next
-        → MovesBack L.neighbors (L.table _links.now) list next again → again ≡ None }
-{}
+/// It asks that the cursor is at null, in a list for which the table shows a sequence.
+pub fn null_there_and_back<T, L: LinkedListOps>(
+    cursor: &mut Cursor<'_, T, L>,
+) -> (Option<Place>, Option<Place>)
+    requires shown { ShowsSome L.neighbors (L.table (reads.links_of cursor.old)) (reads.list_of cursor.old) }
+    requires null { reads.position cursor.old ≡ None }
+    ensures there { (s : List Place) → Shows L.neighbors (L.table (reads.links_of cursor.old)) (reads.list_of cursor.old) s
+        → result.0 ≡ first s }
+    ensures back { (s : List Place) → Shows L.neighbors (L.table (reads.links_of cursor.old)) (reads.list_of cursor.old) s
+        → result.1 ≡ last s }
+    ensures again { reads.position cursor.new ≡ None }
+    ensures list { reads.list_of cursor.new ≡ reads.list_of cursor.old }
+    ensures links { reads.links_of cursor.new ≡ reads.links_of cursor.old }
+{
+    cursor.move_next();
+    let front = cursor.get_ptr();
+    cursor.move_prev();
+    cursor.move_prev();
+    let back = cursor.get_ptr();
+    cursor.move_next();
+    (front, back)
+}
 
-/// A split behind a member, and then a splice of what was handed out behind the same member, give the old sequence.
-pub fn split_then_splice<L: LinkedListOps>(_old: &L, _split: &L, _spliced: &L)
-    ensures { (gap : Cut) (kept rest list : Ends)
-        → Splits L.linked (Shows L.neighbors) (L.table _old.now) (L.table _split.now) kept rest gap.front gap.back
-        → Splices L.linked (Shows L.neighbors) (L.table _split.now) (L.table _spliced.now) list (at_back gap.front) gap.back
-        → Shows L.neighbors (L.table _spliced.now) list (join gap) }
-{}
+/// Splits a list behind the cursor and splices what was handed out in again there: the list is what it was. O(1).
+///
+/// It asks that the cursor stands in its list. No link is acquired or released.
+pub fn split_then_splice<T, L: LinkedListOps>(cursor: &mut CursorMut<'_, T, L>)
+    requires stands { Stands L.neighbors (L.table (edits.links_of cursor.old)) (edits.list_of cursor.old) (edits.position cursor.old) }
+    ensures sequence { (s : List Place) → Shows L.neighbors (L.table (edits.links_of cursor.old)) (edits.list_of cursor.old) s
+        → Shows L.neighbors (L.table (edits.links_of cursor.new)) (edits.list_of cursor.new) s }
+    ensures frame { (s : List Place) → Shows L.neighbors (L.table (edits.links_of cursor.old)) (edits.list_of cursor.old) s
+        → KeepsBeside (L.table (edits.links_of cursor.old)) (L.table (edits.links_of cursor.new)) s }
+    ensures no_step { L.Does (edits.links_of cursor.old) (edits.links_of cursor.new) [] }
+    ensures position { edits.position cursor.new ≡ edits.position cursor.old }
+    ensures borrows { edits.SameBorrows cursor.old cursor.new }
+{
+    let rest = cursor.split_after();
+    cursor.splice_after(rest);
+}
 
-/// A list depends on the entries of its own field's table alone: writes through another field's table, which leave
-/// them as they are, change no list of this field.
-pub fn fields_are_apart<L: LinkedListOps>(_old: &L, _new: &L)
-    ensures { ((q : Place) → (L.table _new.now).entry q ≡ (L.table _old.now).entry q) → (list : Ends) (s : List Place)
-        → Shows L.neighbors (L.table _old.now) list s → Shows L.neighbors (L.table _new.now) list s }
-{}
+/// Puts one object at the back of a list of each of two fields, over plain tables: a link in one field is none in the
+/// other, so both take it, and the answer is true. O(1).
+///
+/// It asks that both tables cover the object's place, that it is linked in neither, and that each shows a sequence.
+pub fn fields_are_apart<T, A: Allocator, B: Allocator>(
+    first: &mut LinkedList<T>,
+    first_links: &mut LinkOps<A>,
+    second: &mut LinkedList<T>,
+    second_links: &mut LinkOps<B>,
+    object: Place,
+) -> bool
+    requires first_covered { IsCovered (table_of (entries first_links.old)) object }
+    requires first_unlinked { IsUnlinked is_linked (table_of (entries first_links.old)) object }
+    requires first_shown { ShowsSome neighbors_of (table_of (entries first_links.old)) first.old }
+    requires second_covered { IsCovered (table_of (entries second_links.old)) object }
+    requires second_unlinked { IsUnlinked is_linked (table_of (entries second_links.old)) object }
+    requires second_shown { ShowsSome neighbors_of (table_of (entries second_links.old)) second.old }
+    ensures answer { IsTrue result }
+    ensures first { (s : List Place) → Shows neighbors_of (table_of (entries first_links.old)) first.old s
+        → Shows neighbors_of (table_of (entries first_links.new)) first.new (insert (at_back s) object) }
+    ensures first_linked { LinksAlso is_linked (table_of (entries first_links.old)) (table_of (entries first_links.new)) object }
+    ensures second { (s : List Place) → Shows neighbors_of (table_of (entries second_links.old)) second.old s
+        → Shows neighbors_of (table_of (entries second_links.new)) second.new (insert (at_back s) object) }
+    ensures second_linked { LinksAlso is_linked (table_of (entries second_links.old)) (table_of (entries second_links.new)) object }
+{
+    let in_first = first.push_back(first_links, UnsafeRef::new(object)).is_ok();
+    let in_second = second
+        .push_back(second_links, UnsafeRef::new(object))
+        .is_ok();
+    in_first && in_second
+}
 
-/// What a walk gives out until nothing is left is its sequence, each object once: the items from the front, and then
-/// those from the back, turned round.
-pub fn two_ended_walk<'a, T, L: LinkedListOps, A: Allocator>(
-    _start: &Iter<'a, T, L, A>,
-    _end: &Iter<'a, T, L, A>,
-)
-    ensures { (items : List (Item (Bor T))) → Leads (YieldsFirstRef (objects_left L.neighbors L.table))
-        (YieldsLastRef (objects_left L.neighbors L.table)) _start.now items _end.now
-        → objects_left L.neighbors L.table _end.now ≡ []
-        → from_front (λ x. x.now) items ++ reverse (from_back (λ x. x.now) items)
-        ≡ objects_left L.neighbors L.table _start.now }
-{}
-
-/// The same of a walk that takes the members off.
-pub fn two_ended_taking<'a, T, L: LinkedListOps>(
-    _start: &IntoIter<'a, T, L>,
-    _end: &IntoIter<'a, T, L>,
-)
-    ensures { (w : List Place) (items : List (Item Place)) → Leaves L.neighbors L.table _start.now w
-        → Leads (TakesFirst L.neighbors L.table L.linked) (TakesLast L.neighbors L.table L.linked) _start.now items _end.now
-        → Leaves L.neighbors L.table _end.now []
-        → from_front (λ p. p) items ++ reverse (from_back (λ p. p) items) ≡ w }
-{}
-
-/// Over a plain table, an unlinked object that is put at the back comes off there again, and the list and the linked
-/// places are as they were.
+/// Puts an unlinked object at the back, over a plain table, and takes it off there again: the list and the linked places
+/// are as they were, and so is every other list. O(1).
+///
+/// It asks that the table covers the object's place, that it is not linked, and that the table shows a sequence.
 pub fn push_then_pop<T, A: Allocator>(
     list: &mut LinkedList<T>,
-    links: &mut linked_list::LinkOps<A>,
+    links: &mut LinkOps<A>,
     object: UnsafeRef<T>,
 ) -> Option<UnsafeRef<T>>
     requires covered { IsCovered (table_of (entries links.old)) object }
@@ -107,6 +113,8 @@ pub fn push_then_pop<T, A: Allocator>(
     ensures sequence { (s : List Place) → Shows neighbors_of (table_of (entries links.old)) list.old s
         → Shows neighbors_of (table_of (entries links.new)) list.new s }
     ensures linked { KeepsLinked is_linked (table_of (entries links.old)) (table_of (entries links.new)) }
+    ensures frame { (s : List Place) → Shows neighbors_of (table_of (entries links.old)) list.old s
+        → KeepsBeside (table_of (entries links.old)) (table_of (entries links.new)) (object ∷ s) }
 {
     let Ok(()) = list.push_back(links, object) else {
         return None;

@@ -5,10 +5,11 @@
 //! let first = list.pop_front(&mut links);
 //! ```
 
-ghost use Rattle.std.specs.Prelude.{◌≡◌, ◌≢◌, ◌↔◌, ◌++◌, ◌∷◌, List, Option, Some, None, IsTrue, OnOk, OnErr, IfErr, IfSome, IfNone};
+ghost use Rattle.std.specs.Prelude.{◌≡◌, ◌≢◌, ◌↔◌, ◌++◌, ◌∷◌, List, [], Option, Some, None, IsTrue, OnOk, OnErr, IfErr, IfSome, IfNone};
 ghost use Rattle.ic_unsafe_ref.specs.declared.place.Place.{Place};
 ghost use Rattle.ic_link_ops.specs.Sequences.{Cut, join, first, last, IsAbsent, IsDisjoint, IsAfter, IsBefore, at_front, at_back, insert, remove};
-ghost use Rattle.ic_link_ops.specs.Tables.{IsCovered, IsLinked, KeepsBeside, LinksAlso, Unlinks};
+ghost use Rattle.ic_link_ops.specs.Tables.{IsCovered, IsLinked, KeepsBeside};
+ghost use Rattle.ic_link_ops.specs.LinkSteps.{acquires, releases};
 ghost use Rattle.ic_link_ops.specs.Chains.{no_members, end_of};
 ghost use Rattle.ic_link_ops.specs.Edits.{Inserts, Splices, Splits};
 ghost use Rattle.ic_link_ops.specs.LinkedList.{Shows, ShowsSome};
@@ -119,8 +120,7 @@ impl<T> LinkedList<T> {
 
         ensures inserted { (s : List Place) → Shows L.neighbors (L.table links.old) self.old s
             → OnOk result (Shows L.neighbors (L.table links.new) self.new (insert (at_back s) object)) }
-        ensures acquired { OnOk result (L.Acquired links.old links.new object) }
-        ensures linked { OnOk result (LinksAlso L.linked (L.table links.old) (L.table links.new) object) }
+        ensures acquired { OnOk result (L.Does links.old links.new (acquires object ∷ [])) }
         ensures refused { OnErr result (L.Refused links.old links.new object) }
         ensures unchanged { IfErr result (λ refused. (refused.0 ≡ object) × (self.new ≡ self.old)) }
         ensures frame { (s : List Place) → Shows L.neighbors (L.table links.old) self.old s
@@ -144,8 +144,7 @@ impl<T> LinkedList<T> {
 
         ensures inserted { (s : List Place) → Shows L.neighbors (L.table links.old) self.old s
             → OnOk result (Shows L.neighbors (L.table links.new) self.new (insert (at_front s) object)) }
-        ensures acquired { OnOk result (L.Acquired links.old links.new object) }
-        ensures linked { OnOk result (LinksAlso L.linked (L.table links.old) (L.table links.new) object) }
+        ensures acquired { OnOk result (L.Does links.old links.new (acquires object ∷ [])) }
         ensures refused { OnErr result (L.Refused links.old links.new object) }
         ensures unchanged { IfErr result (λ refused. (refused.0 ≡ object) × (self.new ≡ self.old)) }
         ensures frame { (s : List Place) → Shows L.neighbors (L.table links.old) self.old s
@@ -163,7 +162,7 @@ impl<T> LinkedList<T> {
         ensures answer { (s : List Place) → Shows L.neighbors (L.table links.old) self.old s → result ≡ first s }
         ensures removed { (s : List Place) → Shows L.neighbors (L.table links.old) self.old s
             → Shows L.neighbors (L.table links.new) self.new (remove (at_front s)) }
-        ensures unlinked { IfSome result (Unlinks L.linked (L.table links.old) (L.table links.new)) }
+        ensures released { IfSome result (λ object. L.Does links.old links.new (releases object ∷ [])) }
         ensures empty { IfNone result ((self.new ≡ self.old) × (links.new ≡ links.old)) }
         ensures frame { (s : List Place) → Shows L.neighbors (L.table links.old) self.old s
             → KeepsBeside (L.table links.old) (L.table links.new) s }
@@ -187,10 +186,9 @@ impl<T> LinkedList<T> {
         requires shown { (gap : Cut) × Shows L.neighbors (L.table links.old) self.old (join gap)
             × IsAfter gap before × IsBefore gap behind }
         ensures inserted { (gap : Cut) → Shows L.neighbors (L.table links.old) self.old (join gap)
-            → IsAfter gap before → IsBefore gap behind → OnOk result (Inserts L.linked (Shows L.neighbors)
+            → IsAfter gap before → IsBefore gap behind → OnOk result (Inserts (Shows L.neighbors)
             (L.table links.old) (L.table links.new) self.new gap object) }
-        ensures acquired { OnOk result (L.Acquired links.old links.new object) }
-        ensures linked { OnOk result (LinksAlso L.linked (L.table links.old) (L.table links.new) object) }
+        ensures acquired { OnOk result (L.Does links.old links.new (acquires object ∷ [])) }
         ensures refused { OnErr result (L.Refused links.old links.new object) }
         ensures unchanged { IfErr result (λ refused. (refused.0 ≡ object) × (self.new ≡ self.old)) }
         ensures shown { (gap : Cut) → Shows L.neighbors (L.table links.old) self.old (join gap)
@@ -227,13 +225,10 @@ impl<T> LinkedList<T> {
             → Shows L.neighbors (L.table links.old) self.old (front ++ out ∷ back)
             → IsAbsent place (front ++ out ∷ back) → before ≡ last front → behind ≡ first back
             → Shows L.neighbors (L.table links.new) self.new (front ++ place ∷ back) }
-        ensures linked { (q : Place) → L.linked ((L.table links.new).entry q)
-            ≡ L.linked ((L.table links.old).entry q) }
-        ensures covers { (L.table links.new).covers ≡ (L.table links.old).covers }
+        ensures no_step { L.Does links.old links.new [] }
+        ensures extent { (L.table links.new).extent ≡ (L.table links.old).extent }
         ensures others { (q : Place) → before ≢ Some q → q ≢ place → behind ≢ Some q
             → (L.table links.new).entry q ≡ (L.table links.old).entry q }
-        ensures keeps_acquired { (first : L) (q : Place) → L.Acquired first links.old q
-            → L.Acquired first links.new q }
     {
         lead(links, before, Some(place));
         follow(links, behind, Some(place));
@@ -250,12 +245,9 @@ impl<T> LinkedList<T> {
         ensures shows { (front back : List Place) → Shows L.neighbors (L.table links.old) self.old (front ++ out ∷ back)
             → IsAbsent place (front ++ out ∷ back)
             → Shows L.neighbors (L.table links.new) self.new (front ++ place ∷ back) }
-        ensures linked { (q : Place) → L.linked ((L.table links.new).entry q)
-            ≡ L.linked ((L.table links.old).entry q) }
+        ensures no_step { L.Does links.old links.new [] }
         ensures frame { (front back : List Place) → Shows L.neighbors (L.table links.old) self.old (front ++ out ∷ back)
             → KeepsBeside (L.table links.old) (L.table links.new) (place ∷ (front ++ out ∷ back)) }
-        ensures keeps_acquired { (first : L) (q : Place) → L.Acquired first links.old q
-            → L.Acquired first links.new q }
     {
         let before = links.prev(out);
         let behind = links.next(out);
@@ -274,8 +266,7 @@ impl<T> LinkedList<T> {
             → Shows L.neighbors (L.table links.new) self.new (front ++ back) }
         ensures behind { (front back : List Place) → Shows L.neighbors (L.table links.old) self.old (front ++ place ∷ back)
             → result ≡ first back }
-        ensures linked { (q : Place) → L.linked ((L.table links.new).entry q)
-            ≡ L.linked ((L.table links.old).entry q) }
+        ensures no_step { L.Does links.old links.new [] }
         ensures frame { (front back : List Place) → Shows L.neighbors (L.table links.old) self.old (front ++ place ∷ back)
             → KeepsBeside (L.table links.old) (L.table links.new) (front ++ place ∷ back) }
     {
@@ -302,8 +293,9 @@ impl<T> LinkedList<T> {
         requires given { ShowsSome L.neighbors (L.table links.old) given }
         ensures spliced { (gap : Cut) (t : List Place) → Shows L.neighbors (L.table links.old) self.old (join gap)
             → IsAfter gap before → IsBefore gap behind → Shows L.neighbors (L.table links.old) given t
-            → IsDisjoint t (join gap) → Splices L.linked (Shows L.neighbors)
+            → IsDisjoint t (join gap) → Splices (Shows L.neighbors)
             (L.table links.old) (L.table links.new) self.new gap t }
+        ensures no_step { L.Does links.old links.new [] }
     {
         let LinkedList { head, tail, of: _ } = given;
         let head = head.get();
@@ -332,8 +324,9 @@ impl<T> LinkedList<T> {
         requires shown { (gap : Cut) × Shows L.neighbors (L.table links.old) self.old (join gap)
             × IsAfter gap before × IsBefore gap behind }
         ensures split { (gap : Cut) → Shows L.neighbors (L.table links.old) self.old (join gap)
-            → IsAfter gap before → IsBefore gap behind → Splits L.linked (Shows L.neighbors)
+            → IsAfter gap before → IsBefore gap behind → Splits (Shows L.neighbors)
             (L.table links.old) (L.table links.new) self.new result gap.front gap.back }
+        ensures no_step { L.Does links.old links.new [] }
     {
         lead(links, before, None);
         follow(links, behind, None);

@@ -1,6 +1,6 @@
 //! The only writers of neighbours.
 
-ghost use Rattle.std.specs.Prelude.{◌≡◌, ◌≢◌, Option, Some, None};
+ghost use Rattle.std.specs.Prelude.{◌≡◌, Option, Some, []};
 ghost use Rattle.ic_unsafe_ref.specs.declared.place.Place.{Place};
 ghost use Rattle.ic_link_ops.specs.Tables.{IsLinked, ChangesOnly};
 ghost use Rattle.ic_link_ops.specs.Turns.{TurnsBehind, TurnsBefore};
@@ -16,11 +16,8 @@ pub(crate) fn lead<L: LinkedListOps>(links: &mut L, place: Option<Place>, next: 
     requires { (q : Place) → place ≡ Some q → IsLinked L.linked (L.table links.old) q }
     ensures turns { (from : Option Place)
         → TurnsBehind (IsBetween L.neighbors) (L.table links.old).entry (L.table links.new).entry place from next }
-    ensures linked { (q : Place) → L.linked ((L.table links.new).entry q)
-        ≡ L.linked ((L.table links.old).entry q) }
-    ensures covers { (L.table links.new).covers ≡ (L.table links.old).covers }
-    ensures keeps_acquired { (first : L) (q : Place) → L.Acquired first links.old q
-        → L.Acquired first links.new q }
+    ensures extent { (L.table links.new).extent ≡ (L.table links.old).extent }
+    ensures no_step { L.Does links.old links.new [] }
 {
     if let Some(place) = place {
         links.set_next(place, next);
@@ -33,11 +30,8 @@ pub(crate) fn follow<L: LinkedListOps>(links: &mut L, place: Option<Place>, prev
     requires { (q : Place) → place ≡ Some q → IsLinked L.linked (L.table links.old) q }
     ensures turns { (from : Option Place)
         → TurnsBefore (IsBetween L.neighbors) (L.table links.old).entry (L.table links.new).entry place from prev }
-    ensures linked { (q : Place) → L.linked ((L.table links.new).entry q)
-        ≡ L.linked ((L.table links.old).entry q) }
-    ensures covers { (L.table links.new).covers ≡ (L.table links.old).covers }
-    ensures keeps_acquired { (first : L) (q : Place) → L.Acquired first links.old q
-        → L.Acquired first links.new q }
+    ensures extent { (L.table links.new).extent ≡ (L.table links.old).extent }
+    ensures no_step { L.Does links.old links.new [] }
 {
     if let Some(place) = place {
         links.set_prev(place, prev);
@@ -54,11 +48,8 @@ pub(crate) fn stand<L: LinkedListOps>(
 )
     requires { IsLinked L.linked (L.table links.old) place }
     ensures stands { IsBetween L.neighbors ((L.table links.new).entry place) before behind }
-    ensures linked { (q : Place) → L.linked ((L.table links.new).entry q)
-        ≡ L.linked ((L.table links.old).entry q) }
     ensures frame { ChangesOnly (L.table links.old) (L.table links.new) place }
-    ensures keeps_acquired { (first : L) (q : Place) → L.Acquired first links.old q
-        → L.Acquired first links.new q }
+    ensures no_step { L.Does links.old links.new [] }
 {
     links.set_prev(place, before);
     links.set_next(place, behind);

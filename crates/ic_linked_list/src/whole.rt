@@ -5,11 +5,11 @@
 //! rest.dispose(&mut links);    // and its members are unlinked
 //! ```
 
-ghost use Rattle.std.specs.Prelude.{◌≡◌, List, IfSome, IfNone};
+ghost use Rattle.std.specs.Prelude.{◌≡◌, ◌∷◌, List, [], IfSome, IfNone};
 ghost use Rattle.ic_unsafe_ref.specs.declared.place.Place.{Place};
 ghost use Rattle.ic_link_ops.specs.Sequences.{last, but_last};
-ghost use Rattle.ic_link_ops.specs.Tables.{KeepsBeside, Unlinks};
-ghost use Rattle.ic_link_ops.specs.Edits.{Clears};
+ghost use Rattle.ic_link_ops.specs.Tables.{KeepsBeside};
+ghost use Rattle.ic_link_ops.specs.LinkSteps.{releases, releases_each};
 ghost use Rattle.ic_link_ops.specs.Chains.{no_members};
 ghost use Rattle.ic_link_ops.specs.LinkedList.{Shows, ShowsSome};
 
@@ -28,7 +28,7 @@ impl<T> LinkedList<T> {
         ensures answer { (s : List Place) → Shows L.neighbors (L.table links.old) self.old s → result ≡ last s }
         ensures removed { (s : List Place) → Shows L.neighbors (L.table links.old) self.old s
             → Shows L.neighbors (L.table links.new) self.new (but_last s) }
-        ensures unlinked { IfSome result (Unlinks L.linked (L.table links.old) (L.table links.new)) }
+        ensures released { IfSome result (λ object. L.Does links.old links.new (releases object ∷ [])) }
         ensures empty { IfNone result ((self.new ≡ self.old) × (links.new ≡ links.old)) }
         ensures frame { (s : List Place) → Shows L.neighbors (L.table links.old) self.old s
             → KeepsBeside (L.table links.old) (L.table links.new) s }
@@ -46,8 +46,10 @@ impl<T> LinkedList<T> {
         requires shown { ShowsSome L.neighbors (L.table links.old) self.old }
 
         ensures empty { self.new ≡ no_members }
-        ensures cleared { (s : List Place) → Shows L.neighbors (L.table links.old) self.old s
-            → Clears L.linked (L.table links.old) (L.table links.new) s }
+        ensures released { (s : List Place) → Shows L.neighbors (L.table links.old) self.old s
+            → L.Does links.old links.new (releases_each s) }
+        ensures frame { (s : List Place) → Shows L.neighbors (L.table links.old) self.old s
+            → KeepsBeside (L.table links.old) (L.table links.new) s }
     {
         let mut current = self.head();
         self.fast_clear();
@@ -61,8 +63,10 @@ impl<T> LinkedList<T> {
     pub fn dispose<L: LinkedListOps>(self, links: &mut L)
         requires shown { ShowsSome L.neighbors (L.table links.old) self }
 
-        ensures cleared { (s : List Place) → Shows L.neighbors (L.table links.old) self s
-            → Clears L.linked (L.table links.old) (L.table links.new) s }
+        ensures released { (s : List Place) → Shows L.neighbors (L.table links.old) self s
+            → L.Does links.old links.new (releases_each s) }
+        ensures frame { (s : List Place) → Shows L.neighbors (L.table links.old) self s
+            → KeepsBeside (L.table links.old) (L.table links.new) s }
     {
         let mut list = self;
         list.clear(links);

@@ -1,5 +1,5 @@
 -- What the doubly linked list brings to two lists of one table, and where its members are placed.
-use Rattle.std.proofs.Common.{◌≡◌, ℕ, ◌<◌, Bool, true, Option, Some, None, IfSome, IfNone, List, [], ◌∷◌, length, refl, drop}
+use Rattle.std.proofs.Common.{◌≡◌, ℕ, ◌<◌, true, Option, Some, None, OnSome, IfNone, List, [], ◌∷◌, length, refl, drop}
 use Rattle.ic_unsafe_ref.specs.declared.place.Place.{Place}
 use Rattle.ic_unsafe_ref.specs.Places.{index_of}
 use Rattle.ic_unsafe_ref.specs.Objects.{Objects, is_placed}
@@ -11,18 +11,12 @@ use Rattle.ic_link_ops.specs.LinkedList.{IsChain}
 use Rattle.ic_link_ops.specs.LinkedList as list
 use Rattle.ic_link_ops.specs.DoublyEntries.{DoublyLink, DoublyLinkOps, neighbors_of, is_linked, entries, entry_at, table_of, linked_in_range}
 use Rattle.ic_link_ops.proofs.SequenceLemmas.{none_not}
-use Rattle.ic_link_ops.proofs.ShownLists.{free_absent, shows_frame}
-use Rattle.ic_link_ops.proofs.DoublyLists.{between_linked}
-use Rattle.ic_link_ops.proofs.TwoLists.{IsKind}
+use Rattle.ic_link_ops.proofs.CollectionLaws.{IsKind}
+use Rattle.ic_link_ops.proofs.DoublyLists.{doubly_lists}
 use Rattle.ic_linked_list.specs.Iter.{ArePlaced}
 
 pub doubly : IsKind (list.Shows neighbors_of) is_linked no_members
-doubly = record {
-  frame = λ old new list s touched shown apart same. shows_frame touched shown apart same;
-  free = λ t list s p shown was. free_absent (between_linked {n = neighbors_of} {linked = is_linked} (λ e. refl)) shown was;
-  distinct = λ t list s shown. shown.distinct;
-  nothing = λ t. record { distinct = tt; chain = tt; head = refl; tail = refl };
-}
+doubly = doubly_lists (λ e. refl)
 
 -- the links of a table as a table
 abbrev pub table : {A : Type 0} → DoublyLinkOps A → Table DoublyLink
@@ -36,9 +30,9 @@ are_placed es o all before (x ∷ s) k =
     (all x (linked_in_range es (index_of x) k.0.linked), are_placed es o all (Some x) s k.1)
 
 -- what is left where the first member was removed, or nothing where there was none
-pub without_first : {E L : Type 0} (P : Type 0) (linked : E → Bool) (Shows : Table E → Ends → List Place → Type 0) (table : L → Table E) (old new : L) {list list' : Ends}
-    (r : Option Place) (s : List Place) → r ≡ first s → IfSome r (Removes linked Shows (table old) (table new) list' (at_front s))
+pub without_first : {E L : Type 0} (P : Type 0) (Shows : Table E → Ends → List Place → Type 0) (table : L → Table E) (old new : L) {list list' : Ends}
+    (r : Option Place) (s : List Place) → r ≡ first s → OnSome r (Removes Shows (table old) (table new) list' (at_front s))
     → IfNone r ((list' ≡ list) × (new ≡ old) × P) → Shows (table old) list s → Shows (table new) list' (drop 1 s)
-without_first P linked Shows table old new (Some p) s is removes null shown = removes.shows
-without_first P linked Shows table old new None [] is removes null shown = rw (null.0, null.1) shown
-without_first P linked Shows table old new None (x ∷ s) is removes null shown = absurd (none_not x is)
+without_first P Shows table old new (Some p) s is removes null shown = removes.shows
+without_first P Shows table old new None [] is removes null shown = rw (null.0, null.1) shown
+without_first P Shows table old new None (x ∷ s) is removes null shown = absurd (none_not x is)

@@ -13,7 +13,7 @@ ghost use Rattle.ic_linked_list.specs.Cursor as reads;
 use crate::answers::{inserted, object, replaced};
 use crate::lists::{By, Lists};
 use ic_link_ops::linked_list::{LinkOps, LinkedListOps};
-use ic_linked_list::{Cursor, CursorMut, CursorOwning, LinkedList};
+use ic_linked_list::{Cursor, CursorMut, CursorOwning, LinkedList, laws};
 use ic_unsafe_ref::{Place, UnsafeRef};
 use rows::Answer;
 
@@ -90,10 +90,26 @@ impl Lists {
             By::Mut => self.at = self.list.front_mut(&mut self.links).get_ptr(),
             By::Owning => {
                 let cursor = self.list.take().front_owning(&self.links);
-                self.at = cursor.as_cursor(&self.links).get_ptr();
+                self.at = cursor.get_ptr();
                 self.list = cursor.into_inner();
             }
         }
+        Answer::Done
+    }
+
+    /// Moves the cursor to null.
+    pub(crate) fn null(&mut self) -> Answer {
+        let mut cursor = owning(&mut self.list, &self.links, self.at);
+        cursor.go_null();
+        self.at = cursor.get_ptr();
+        self.list = cursor.into_inner();
+        Answer::Done
+    }
+
+    /// Splits the list behind the cursor, and puts it together again.
+    pub(crate) fn split_then_splice(&mut self) -> Answer {
+        let mut cursor = borrowing(&mut self.list, &mut self.links, self.at);
+        laws::split_then_splice(&mut cursor);
         Answer::Done
     }
 
@@ -104,7 +120,7 @@ impl Lists {
             By::Mut => self.at = self.list.back_mut(&mut self.links).get_ptr(),
             By::Owning => {
                 let cursor = self.list.take().back_owning(&self.links);
-                self.at = cursor.as_cursor(&self.links).get_ptr();
+                self.at = cursor.get_ptr();
                 self.list = cursor.into_inner();
             }
         }
@@ -127,7 +143,7 @@ impl Lists {
             By::Owning => {
                 let mut cursor = owning(&mut self.list, &self.links, self.at);
                 cursor.move_next(&self.links);
-                self.at = cursor.as_cursor(&self.links).get_ptr();
+                self.at = cursor.get_ptr();
                 self.list = cursor.into_inner();
             }
         }
@@ -150,7 +166,7 @@ impl Lists {
             By::Owning => {
                 let mut cursor = owning(&mut self.list, &self.links, self.at);
                 cursor.move_prev(&self.links);
-                self.at = cursor.as_cursor(&self.links).get_ptr();
+                self.at = cursor.get_ptr();
                 self.list = cursor.into_inner();
             }
         }
@@ -209,7 +225,7 @@ impl Lists {
             By::Owning => {
                 let mut cursor = owning(&mut self.list, &self.links, self.at);
                 let removed = cursor.remove(&mut self.links);
-                self.at = cursor.as_cursor(&self.links).get_ptr();
+                self.at = cursor.get_ptr();
                 self.list = cursor.into_inner();
                 object(removed)
             }
@@ -231,7 +247,7 @@ impl Lists {
             By::Owning => {
                 let mut cursor = owning(&mut self.list, &self.links, self.at);
                 let result = cursor.replace_with(&mut self.links, UnsafeRef::new(place));
-                self.at = cursor.as_cursor(&self.links).get_ptr();
+                self.at = cursor.get_ptr();
                 self.list = cursor.into_inner();
                 replaced(result)
             }

@@ -1,7 +1,7 @@
 //! Objects with two link fields, and lists in either field.
 
 use crate::answers::number;
-use crate::lists::{By, Lists};
+use crate::lists::{self, By, Lists};
 use ic_unsafe_ref::{Objects, UnsafeRef};
 use rows::{Answer, Played};
 use std::alloc::Global;
@@ -51,6 +51,25 @@ impl Fields {
     }
 }
 
+impl Fields {
+    // Puts an object at the back of a list of each field.
+    fn push_in_both(&mut self, word: &str) -> Answer {
+        match lists::place(word) {
+            Some(place) => self.first.push_in_both(&mut self.second, place),
+            None => Answer::Refused("no such place"),
+        }
+    }
+
+    // The same of these objects one after the other, and what the last call answers.
+    fn push_in_both_all(&mut self, words: &[&str]) -> Answer {
+        let mut answer = Answer::Nothing;
+        for word in words {
+            answer = self.push_in_both(word);
+        }
+        answer
+    }
+}
+
 impl Played for Fields {
     type Answer = Answer;
 
@@ -63,6 +82,7 @@ impl Played for Fields {
             "place" => self.place_all(rest),
             "placed" => Answer::Number(self.objects.len() as u64),
             "second" => self.second.call(&self.objects, rest),
+            "push_in_both" => self.push_in_both_all(rest),
             _ => self.first.call(&self.objects, words),
         }
     }

@@ -138,12 +138,6 @@ impl Lists {
         Answer::Done
     }
 
-    // The cursor goes to null.
-    pub(crate) fn null(&mut self) -> Answer {
-        self.at = None;
-        Answer::Done
-    }
-
     // The whole list is the other one then. Only where that has no member.
     fn take(&mut self) -> Answer {
         if !self.other.is_empty() {
@@ -154,7 +148,7 @@ impl Lists {
         Answer::Done
     }
 
-    // Puts an unlinked place at the back and takes it off there again. Only where there is no other list.
+    // Puts an unlinked place at the back and takes it off there again.
     fn push_then_pop(&mut self, place: Place) -> Answer {
         if place.index() >= self.links.covers() {
             return Answer::Refused("beyond");
@@ -162,12 +156,33 @@ impl Lists {
         if self.links.is_linked(place) {
             return Answer::Refused("linked");
         }
-        if !self.other.is_empty() {
+        self.at = None;
+        object(laws::push_then_pop(&mut self.list, &mut self.links, UnsafeRef::new(place)))
+    }
+
+    /// Puts a place at the back of the list here and of one of another field, where it is linked in neither and each field
+    /// has one list.
+    pub(crate) fn push_in_both(&mut self, field: &mut Lists, place: Place) -> Answer {
+        if place.index() >= self.links.covers() || place.index() >= field.links.covers() {
+            return Answer::Refused("beyond");
+        }
+        if self.links.is_linked(place) || field.links.is_linked(place) {
+            return Answer::Refused("linked");
+        }
+        if !self.other.is_empty() || !field.other.is_empty() {
             return Answer::Refused("two lists");
         }
         self.at = None;
         self.other = LinkedList::new();
-        object(laws::push_then_pop(&mut self.list, &mut self.links, UnsafeRef::new(place)))
+        field.at = None;
+        field.other = LinkedList::new();
+        Answer::Truth(laws::fields_are_apart(
+            &mut self.list,
+            &mut self.links,
+            &mut field.list,
+            &mut field.links,
+            place,
+        ))
     }
 
     // A call that is given a place.
@@ -211,6 +226,7 @@ impl Lists {
             "swap" => self.swap(),
             "remove" => self.remove(),
             "remove_first" => self.remove_first(),
+            "split_then_splice" => self.split_then_splice(),
             "splice_after" => self.splice_after(),
             "splice_before" => self.splice_before(),
             "split_after" => self.split_after(),
@@ -236,6 +252,8 @@ impl Lists {
         match name {
             "is_empty" => Answer::Truth(self.list.is_empty()),
             "is_null" => self.is_null(),
+            "kept" => self.kept(),
+            "there_and_back" => self.there_and_back(),
             "peek_next" => self.peek_next(),
             "peek_prev" => self.peek_prev(),
             "get" => self.get(objects),
@@ -264,7 +282,7 @@ impl Lists {
     }
 }
 
-// The place that the word is.
-fn place(word: &str) -> Option<Place> {
+/// The place that the word is.
+pub(crate) fn place(word: &str) -> Option<Place> {
     Place::new(word.parse().ok()?)
 }

@@ -43,6 +43,57 @@ pub(crate) const OWN: &[Run] = &[
         push_back 1     | ok | 1
         push_then_pop 1 | linked
         push_then_pop 2 | 2
+        take            | ok | + 1
+        push_then_pop 3 | 3
+        ",
+    },
+    Run {
+        name: "split and put together again",
+        rows: "
+        split_then_splice | ok
+        push_back 0 1 2 3 | ok | 0 1 2 3
+        split_then_splice | ok
+        front             | ok | (0) 1 2 3
+        split_then_splice | ok
+        split_after       | ok | (0) + 1 2 3
+        split_then_splice | ok
+        back              | ok
+        split_then_splice | ok
+        ",
+    },
+    Run {
+        name: "null there and back",
+        rows: "
+        there_and_back  | none none
+        push_back 1     | ok  | 1
+        there_and_back  | 1 1
+        push_back 0 2   | ok  | 1 0 2
+        there_and_back  | 1 2
+        ",
+    },
+    Run {
+        name: "one object in both fields",
+        rows: "
+        push_back 0           | ok | 0
+        second push_back 1    | ok | 0 / 1
+        push_in_both 2 3      | yes | 0 2 3 / 1 2 3
+        push_in_both 0        | linked
+        push_in_both 1        | linked
+        second pop_back       | 3 | 0 2 3 / 1 2
+        is_linked 3           | yes
+        second is_linked 3    | no
+        ",
+    },
+    Run {
+        name: "a cursor keeps its list and its place",
+        rows: "
+        kept             | yes
+        push_back 0 1    | ok | 0 1
+        kept             | yes
+        back             | ok | 0 (1)
+        kept             | yes
+        null             | ok | 0 1
+        kept             | yes
         ",
     },
     Run {

@@ -11,10 +11,10 @@ ghost use Rattle.ic_linked_list.specs.Cursor as reads;
 ghost use Rattle.ic_linked_list.specs.Iter.{CanWalk};
 
 use crate::answers::{answered, object, standing, value};
-use crate::cursors::{borrowing, reading};
+use crate::cursors::{borrowing, owning, reading};
 use crate::lists::{By, Lists};
 use ic_link_ops::linked_list::LinkOps;
-use ic_linked_list::{Cursor, Iter, LinkedList};
+use ic_linked_list::{Cursor, Iter, LinkedList, laws};
 use ic_unsafe_ref::{Objects, Place};
 use rows::Answer;
 use std::alloc::{AllocError, Global};
@@ -106,7 +106,7 @@ fn walk_over<'a>(
 // The next object at the front, or at the back.
 fn next_at<'a>(walk: &mut Iter<'a, u64, LinkOps>, at_the_front: bool) -> Option<&'a u64>
     requires can { CanWalk neighbors_of (λ links. table_of (entries links)) walk.old }
-    ensures can { IfSome result (λ _. CanWalk neighbors_of (λ links. table_of (entries links)) walk.new) }
+    ensures can { CanWalk neighbors_of (λ links. table_of (entries links)) walk.new }
 {
     if at_the_front {
         return walk.next();
@@ -128,10 +128,7 @@ fn write_ends(text: &mut String, mut walk: Iter<'_, u64, LinkOps>, ends: &[&str]
     requires can { CanWalk neighbors_of (λ links. table_of (entries links)) walk }
 {
     for end in ends {
-        let Some(given) = next_at(&mut walk, *end == "front") else {
-            return write_given(text, None);
-        };
-        write_given(text, Some(given))?;
+        write_given(text, next_at(&mut walk, *end == "front"))?;
     }
     let mut copy = walk.clone()?;
     write_where(text, true, "then ")?;
@@ -148,6 +145,14 @@ fn collected(alloc: Global, walk: Iter<'_, u64, LinkOps>) -> Result<String, Allo
         found.push(*given)?;
     }
     format!(in alloc; "{:?}", found.as_slice())
+}
+
+// Writes the two ends of a list.
+fn write_both_ends(text: &mut String, ends: (Option<Place>, Option<Place>)) -> fmt::Result {
+    let front = standing(ends.0);
+    let back = standing(ends.1);
+    write!(text, "{front} {back}")?;
+    Ok(())
 }
 
 /// The places that are linked.
@@ -279,6 +284,24 @@ impl Lists {
     pub(crate) fn as_cursor(&mut self) -> Answer {
         let cursor = borrowing(&mut self.list, &mut self.links, self.at);
         standing(cursor.as_cursor().get_ptr())
+    }
+
+    /// Whether the list that a cursor keeps is the one that it was given, and where the cursor is.
+    pub(crate) fn kept(&mut self) -> Answer {
+        let is_empty = self.list.is_empty();
+        let cursor = owning(&mut self.list, &self.links, self.at);
+        let same = cursor.list().is_empty() == is_empty && cursor.get_ptr() == self.at;
+        self.list = cursor.into_inner();
+        Answer::Truth(same)
+    }
+
+    /// Where a cursor at null is when it is moved on, and when it is moved back.
+    pub(crate) fn there_and_back(&self) -> Answer {
+        let mut cursor = reading(&self.list, &self.links, None);
+        let ends = laws::null_there_and_back(&mut cursor);
+        let mut text = String::new(self.alloc);
+        let written = write_both_ends(&mut text, ends);
+        answered(written, text)
     }
 
     /// A reference to the object that the cursor is on.

@@ -9,7 +9,7 @@ use Rattle.ic_link_ops.specs.Sequences.{IsAbsent, IsDisjoint}
 use Rattle.ic_link_ops.specs.Chains.{Ends}
 use Rattle.ic_link_ops.specs.DoublyEntries.{is_linked, entry_at, table_of}
 use Rattle.ic_link_ops.specs.DoublyEntries.{linked_in_range}
-use Rattle.ic_link_ops.specs.Tables.{KeepsBeside}
+use Rattle.ic_link_ops.specs.Tables.{Extent, KeepsBeside}
 use Rattle.ic_link_ops.proofs.SequenceLemmas.{absent_swap, disjoint_sym}
 use Rattle.ic_link_ops.proofs.ShownLists.{shows_frame}
 use Rattle.ic_link_ops.proofs.DoublyLists.{members_shown}
@@ -128,7 +128,7 @@ module _ {V : Type 0} where
       within = whole.within;
       covered = λ f within.
           elim (cases_eq f k.field) [
-            | inl same ↦ rw (same, table_here ts k.field t (in_ts e), e.frame.covers) (whole.covered k.field (in_ts e))
+            | inl same ↦ rw (same, table_here ts k.field t (in_ts e), ap (λ (x : Extent). x.places) e.frame.extent) (whole.covered k.field (in_ts e))
             | inr other ↦ rw (table_other ts k.field f t other) (whole.covered f (rw length-set at within))
           ];
       placed = λ f q h.

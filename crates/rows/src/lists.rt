@@ -464,6 +464,17 @@ pub const WALKS: &[Run] = &[
         ",
     },
     Run {
+        name: "after its end a walk gives none at either end",
+        rows: "
+        place 1 2 3 4 5       | 4
+        walk back front back  | none none none then none none
+        push_back 0 1 2       | ok | 0 1 2
+        walk front front front front back front | 1 2 3 none none none then none none
+        walk back back back back front back     | 3 2 1 none none none then none none
+        walk front back front back front        | 1 3 2 none none then none none
+        ",
+    },
+    Run {
         name: "the debug text of the objects",
         rows: "
         place 1 2 3 4 5   | 4

@@ -9,6 +9,6 @@ module _ {E : Type 0} (t0 t1 t2 : Table E) (p : Place) where
   pub kept_beside : (front back : List Place) → KeepsBeside t0 t1 (front ++ p ∷ back) → KeepsBeside t1 t2 (p ∷ (front ++ back))
       → KeepsBeside t0 t2 (front ++ p ∷ back)
   kept_beside front back taken put = record {
-    covers = put.covers ∙ taken.covers;
+    extent = put.extent ∙ taken.extent;
     others = λ q out. put.others q ((absent_right q front (p ∷ back) out).0, absent_without front back p q out) ∙ taken.others q out;
   }

@@ -1,6 +1,10 @@
 //! Uses of the collections, as a caller writes them: each with a contract, and run by a test.
 #![tactic(auto)]
 
+pub mod either_table;
 pub mod first_steps;
+pub mod lent_table;
 pub mod lru;
+pub mod pairs;
 pub mod queue;
+pub mod recorded_table;

@@ -6,10 +6,11 @@
 //! let forgotten = lru::forget_oldest(&mut order, &mut links);
 //! ```
 
-ghost use Rattle.std.specs.Prelude.{◌≡◌, ◌++◌, ◌∷◌, List, Some, OnOk, OnErr, IfErr, IfSome, IfNone};
+ghost use Rattle.std.specs.Prelude.{◌≡◌, ◌++◌, ◌∷◌, List, [], Some, OnOk, OnErr, IfErr, IfSome, IfNone};
 ghost use Rattle.ic_unsafe_ref.specs.declared.place.Place.{Place};
 ghost use Rattle.ic_link_ops.specs.Sequences.{Cut, join, last, but_last, IsBefore};
 ghost use Rattle.ic_link_ops.specs.Tables.{IsCovered, IsLinked, KeepsBeside, KeepsLinked, LinksAlso, Unlinks};
+ghost use Rattle.ic_link_ops.specs.LinkSteps.{releases};
 ghost use Rattle.ic_link_ops.specs.Edits.{Removes};
 ghost use Rattle.ic_link_ops.specs.LinkedList.{Shows, ShowsSome};
 ghost use Rattle.ic_link_ops.specs.DoublyEntries.{entries, is_linked, neighbors_of, table_of};
@@ -47,9 +48,10 @@ pub fn insert<T, A: Allocator>(
 #[inline]
 fn take_off<T, L: LinkedListOps>(list: &mut LinkedList<T>, links: &mut L, place: Place)
     requires member { Stands L.neighbors (L.table links.old) list.old (Some place) }
-    ensures { (gap : Cut) → Shows L.neighbors (L.table links.old) list.old (join gap)
-        → IsBefore gap (Some place) → Removes L.linked (Shows L.neighbors)
-        (L.table links.old) (L.table links.new) list.new gap place }
+    ensures removed { (gap : Cut) → Shows L.neighbors (L.table links.old) list.old (join gap)
+        → IsBefore gap (Some place) → Removes (Shows L.neighbors)
+        (L.table links.old) (L.table links.new) list.new gap }
+    ensures released { L.Does links.old links.new (releases place ∷ []) }
 {
     let mut cursor = list.cursor_mut_from_ptr(links, UnsafeRef::new(place));
     let _ = cursor.remove();

@@ -11,8 +11,9 @@ use ic_linked_list::LinkedList;
 use ic_unsafe_ref::{Place, UnsafeRef};
 use std::process::Abort;
 use std::test::Fail;
+use uses::either_table::EitherTable;
 use uses::first_steps::first_steps;
-use uses::{lru, queue};
+use uses::{lent_table, lru, pairs, queue};
 
 // Asserts that these places were found. The one assert of the tests.
 fn same(rt: &impl Abort, found: &[Option<Place>], wanted: &[usize]) {
@@ -109,5 +110,58 @@ fn an_object_is_not_pushed_twice(rt: HostRuntime) -> Result<(), Fail> {
     let only = covered(&rt, &links, 0);
     let ended = first_steps::<u64, _>(links, UnsafeRef::new(only), UnsafeRef::new(only));
     same(&rt, &[ended.err().map(|refused| refused.0.place())], &[0]);
+    Ok(())
+}
+
+// Two objects that go into a list by views of its table, and come off it from both ends.
+fn pair_by_views(
+    links: &mut LinkOps,
+    first: Place,
+    second: Place,
+) -> Result<[Option<Place>; 2], AlreadyLinked<u64>>
+    requires first { IsCovered (table_of (entries links.old)) first }
+    requires second { IsCovered (table_of (entries links.old)) second }
+{
+    let mut list: LinkedList<u64> = LinkedList::new();
+    lent_table::push_back(&mut list, links, UnsafeRef::new(first))?;
+    lent_table::push_back(&mut list, links, UnsafeRef::new(second))?;
+    let Some((one, two)) = pairs::take_both(list, links) else {
+        return Ok([None, None]);
+    };
+    Ok([Some(one.place()), Some(two.place())])
+}
+
+#[test]
+fn two_members_come_off_from_both_ends(rt: HostRuntime) -> Result<(), Fail> {
+    let mut links = LinkOps::new(rt.alloc());
+    links.cover(4)?;
+    let (first, second) = (covered(&rt, &links, 3), covered(&rt, &links, 1));
+    let found = pair_by_views(&mut links, first, second)?;
+    same(&rt, &found, &[3, 1]);
+    let (low, high) = pairs::in_order(first, second);
+    same(&rt, &[Some(low), Some(high)], &[1, 3]);
+    Ok(())
+}
+
+// An object that goes into a list over the second of two tables, and the first member then, if it is the second still.
+fn over_the_second(links: LinkOps, object: Place) -> Result<Option<Place>, AlreadyLinked<u64>>
+    requires covered { IsCovered (table_of (entries links)) object }
+{
+    let mut list: LinkedList<u64> = LinkedList::new();
+    let mut links = EitherTable::Second(links);
+    links.push_back(&mut list, UnsafeRef::new(object))?;
+    match &links {
+        EitherTable::First(_) => Ok(None),
+        EitherTable::Second(second) => Ok(list.front(second).get_ptr()),
+    }
+}
+
+#[test]
+fn a_table_stays_the_second_of_two(rt: HostRuntime) -> Result<(), Fail> {
+    let mut links = LinkOps::new(rt.alloc());
+    links.cover(3)?;
+    let object = covered(&rt, &links, 2);
+    let found = over_the_second(links, object)?;
+    same(&rt, &[found], &[2]);
     Ok(())
 }

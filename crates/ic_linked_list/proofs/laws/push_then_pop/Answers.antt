@@ -1,7 +1,7 @@
-use Rattle.std.proofs.Common.{◌∙◌}
+use Rattle.std.proofs.Common.{[], ◌∷◌, ◌∙◌}
 use Rattle.ic_link_ops.specs.Sequences.{insert, at_back}
 use Rattle.ic_link_ops.specs.DoublyEntries.{entries, is_linked, table_of}
-use Rattle.ic_link_ops.proofs.SequenceLemmas.{last_of_push, but_last_of_push}
+use Rattle.ic_link_ops.proofs.SequenceLemmas.{last_of_push, but_last_of_push, absent_both}
 use Rattle.ic_link_ops.proofs.LinkedSets.{unlinked_again}
 use Rattle.ic_linked_list.proofs.laws.push_then_pop.Goals as goal
 
@@ -16,6 +16,14 @@ returns-clause-sequence g c s shown =
 
 pub returns-clause-linked : goal.returns-clause-linked
 returns-clause-linked g c q =
-    let off = rw (returns-clause-answer g c) at c.pop_back.ensures.unlinked in
+    let off = rw (returns-clause-answer g c) at c.pop_back.ensures.released in
     unlinked_again {linked = is_linked} (table_of (entries c.args.links.now)) (table_of (entries c.push_back.new.links)) (table_of (entries c.pop_back.new.links))
-    c.args.object c.in-Ok.ensures.linked off q
+    c.args.object c.in-Ok.ensures.acquired off q
+
+pub returns-clause-frame : goal.returns-clause-frame
+returns-clause-frame g c s shown =
+    let put = c.in-Ok.ensures.frame s shown in
+    let taken = c.pop_back.ensures.frame (insert (at_back s) c.args.object) (c.in-Ok.ensures.inserted s shown) in record {
+      extent = taken.extent ∙ put.extent;
+      others = λ q out. taken.others q (absent_both q s (c.args.object ∷ []) out.1 (out.0, tt)) ∙ put.others q out;
+    }

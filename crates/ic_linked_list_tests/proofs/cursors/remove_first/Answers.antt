@@ -33,5 +33,5 @@ returns-clause-removed g c s shown =
     let is = c.move_next.ensures.moved (at_front s) now c.cursor_mut-cursor.ensures.null in
     let now' = rw (← m.2, ← m.3) at now in
     let r = c.remove.ensures in
-    let left = without_first _ g.L.LinkOps.linked (Shows g.L.LinkedListOps.neighbors) g.L.LinkOps.table _ _ c.remove.result s (r.answer ∙ is) (r.removed (at_front s) now' is) r.null now' in
+    let left = without_first _ (Shows g.L.LinkedListOps.neighbors) g.L.LinkOps.table _ _ c.remove.result s (r.answer ∙ is) (r.removed (at_front s) now' is) r.null now' in
     search rules

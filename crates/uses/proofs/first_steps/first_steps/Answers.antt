@@ -1,17 +1,15 @@
-use Rattle.std.proofs.Common.{◌<◌, [], ◌∷◌, ◌∙◌, length, arith, rules}
-use Rattle.ic_unsafe_ref.specs.Places.{index_of}
+use Rattle.std.proofs.Common.{[], ◌∷◌, ◌∙◌, rules}
 use Rattle.ic_link_ops.specs.Sequences.{at_front}
 use Rattle.ic_link_ops.specs.LinkedList.{Shows}
 use Rattle.ic_link_ops.specs.DoublyEntries.{entries, neighbors_of, table_of}
+use Rattle.ic_link_ops.proofs.Covering.{still_covered}
 use Rattle.ic_linked_list.proofs.Standing.{stands_null}
 use Rattle.uses.proofs.first_steps.first_steps.Goals as goal
 
 pub push_back-requires-2-clause-covered : goal.push_back-requires-2-clause-covered
 push_back-requires-2-clause-covered g c =
     let none : Shows neighbors_of (table_of (entries c.args.links)) c.new-list.result [] = search rules in
-    let kept = c.in_ok-push_back.ensures.frame [] none in
-    let within : index_of c.args.second < length (entries c.push_back.new.links) = omega (arith, kept.covers, c.requires.second) in
-    within
+    still_covered c.args.second (c.in_ok-push_back.ensures.frame [] none) c.requires.second
 
 pub push_back-requires-2-clause-shown : goal.push_back-requires-2-clause-shown
 push_back-requires-2-clause-shown g c =

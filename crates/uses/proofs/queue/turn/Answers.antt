@@ -9,4 +9,4 @@ returns-clause-turned g c x s shown =
     let put = c.push_back.ensures in
     let first = some_same (pop.answer (x ∷ s) shown) in
     either _ c.push_back.result (put.inserted s (pop.removed (x ∷ s) shown)) put.refused put.unchanged
-    (λ now. rw first at now) (λ refused same. let never : false ≡ true = sym pop.unlinked.is ∙ refused.0 in absurd (cc))
+    (λ now. rw first at now) (λ refused same. let never : false ≡ true = sym pop.released.is ∙ refused.0 in absurd (cc))

@@ -1,9 +1,10 @@
 use Rattle.std.proofs.Common.{◌∷◌, []}
+use Rattle.ic_link_ops.proofs.Covering.{still_covered}
 use Rattle.uses_tests.proofs.tests.give_turns.Goals as goal
 
 pub push_back-requires-2-clause-covered : goal.push_back-requires-2-clause-covered
 push_back-requires-2-clause-covered c =
-    rw ((c.in_ok-push_back.ensures.frame [] c.requires.empty).covers, c.new-2.ensures) c.requires.second
+    rw c.new-2.ensures (still_covered c.args.second (c.in_ok-push_back.ensures.frame [] c.requires.empty) c.requires.second)
 
 pub push_back-requires-2-clause-shown : goal.push_back-requires-2-clause-shown
 push_back-requires-2-clause-shown c = (c.new.result ∷ [], c.in_ok-push_back.ensures.inserted [] c.requires.empty)

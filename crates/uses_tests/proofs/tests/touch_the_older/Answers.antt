@@ -1,9 +1,10 @@
 use Rattle.std.proofs.Common.{◌≡◌, [], ◌∷◌, Some, ap, sym, ◌∙◌}
+use Rattle.ic_link_ops.proofs.Covering.{still_covered}
 use Rattle.uses_tests.proofs.tests.touch_the_older.Goals as goal
 
 pub insert-requires-2-clause-covered : goal.insert-requires-2-clause-covered
 insert-requires-2-clause-covered c =
-    rw ((c.in_ok-insert.ensures.frame [] c.requires.empty).covers, c.new-2.ensures) c.requires.newer
+    rw c.new-2.ensures (still_covered c.args.newer (c.in_ok-insert.ensures.frame [] c.requires.empty) c.requires.newer)
 
 pub insert-requires-2-clause-shown : goal.insert-requires-2-clause-shown
 insert-requires-2-clause-shown c = (c.new.result ∷ [], c.in_ok-insert.ensures.inserted [] c.requires.empty)

@@ -1,4 +1,4 @@
-use Rattle.std.proofs.Common.{◌≡◌, true, sym, ◌∙◌}
+use Rattle.std.proofs.Common.{◌≡◌, true, refl, sym, ◌∙◌}
 use Rattle.ic_unsafe_ref.specs.declared.place.Place.{Place}
 use Rattle.ic_link_ops.specs.Tables.{IsCovered}
 use Rattle.ic_link_ops.proofs.DoublyLists.{walk_back_linked}
@@ -29,8 +29,8 @@ step g c =
 
 pub returns-in_err-place-clause-steps : goal.returns-in_err-place-clause-steps
 returns-in_err-place-clause-steps g c =
-    let none = none_left_back _ _ (law g) c.args.self.now c.requires c.in_err-place.was in
-    rw c.from_residual.ensures (none, none)
+    let none = none_left_back g.L.LinkedListOps.neighbors g.L.LinkOps.table (law g) c.args.self.now c.requires c.in_err-place.was in
+    rw c.from_residual.ensures ((none, none), refl)
 
 pub returns-clause-steps : goal.returns-clause-steps
 returns-clause-steps g c = gives_back _ _ (law g) c.get.result (step g c) c.get.ensures

@@ -1,7 +1,8 @@
-use Rattle.std.proofs.Common.{◌≡◌, true, refl, sym, ◌∙◌}
+use Rattle.std.proofs.Common.{◌≡◌, true, [], ◌∷◌, refl, sym, ◌∙◌}
 use Rattle.ic_unsafe_ref.specs.declared.place.Place.{Place}
 use Rattle.ic_link_ops.specs.Tables.{IsCovered}
 use Rattle.ic_link_ops.proofs.DoublyLists.{between_linked}
+use Rattle.ic_link_ops.proofs.StepLemmas.{releases_append}
 use Rattle.ic_linked_list.proofs.Clearing.{releases_none, releases_more, releases_all, releases_fewer, stands}
 use Rattle.ic_linked_list.proofs.list.LinkedList.clear.Goals as goal
 use Rattle.ic_linked_list.proofs.list.LinkedList.clear.Given.{Over}
@@ -12,32 +13,40 @@ law : (g : Over) (t : _) (q : Place) → (g.L.LinkedListOps.neighbors ((g.L.Link
 law g t q h = g.met.L.LinkOps.linked_is_covered t q (sym (g.met.L.LinkedListOps.linked_alike _) ∙ h)
 
 pub loop-current-init : goal.loop-current-init
+unfolding releases_none
 loop-current-init g c = record {
-  covers = refl;
-  released = λ s shown. rw c.head-current.ensures (releases_none shown);
+  extent = refl;
+  released = λ s shown. (releases_none shown c.head-current.ensures, g.met.L.LinkOps.does_nothing _);
 }
 
 pub next-current-requires : goal.next-current-requires
-next-current-requires g c = record {
-  linked = between_linked g.met.L.LinkedListOps.linked_alike _ _ _ (stands (rw c.in-Some.is at (c.loop-current.invariant.released c.requires.shown.0 c.requires.shown.1)));
-}
+next-current-requires g c =
+    let k = (c.loop-current.invariant.released c.requires.shown.0 c.requires.shown.1).0 in record {
+      linked = between_linked g.met.L.LinkedListOps.linked_alike _ _ _ (stands (rw c.in-Some.is at k));
+    }
 
 pub loop-current-smaller : goal.loop-current-smaller
 loop-current-smaller g c =
     let shown = c.requires.shown.1 in
-    let k = rw c.in-Some.is at (c.loop-current.invariant.released c.requires.shown.0 shown) in
+    let k = rw c.in-Some.is at (c.loop-current.invariant.released c.requires.shown.0 shown).0 in
     rw c.in-Some.is
-    (releases_fewer (law g c.loop-current.links) (law g c.release_link.new.self) shown.distinct k
-    (releases_more shown.distinct k c.release_link.ensures.released c.release_link.ensures.frame.others c.next-current.ensures))
+    (releases_fewer {new' = g.L.LinkOps.table c.release_link.new.self} (law g c.loop-current.links) (law g c.release_link.new.self) shown.distinct k
+    (releases_more shown.distinct k c.release_link.ensures.frame.others c.next-current.ensures))
 
 pub loop-current-preserved : goal.loop-current-preserved
 loop-current-preserved g c = record {
-  covers = c.release_link.ensures.frame.covers ∙ c.loop-current.invariant.covers;
+  extent = c.release_link.ensures.frame.extent ∙ c.loop-current.invariant.extent;
   released = λ s shown.
-      let k = rw c.in-Some.is at (c.loop-current.invariant.released s shown) in
-      (releases_more shown.distinct k c.release_link.ensures.released c.release_link.ensures.frame.others c.next-current.ensures).0;
+      let was = rw c.in-Some.is at (c.loop-current.invariant.released s shown) in
+      let more = releases_more shown.distinct was.0 c.release_link.ensures.frame.others c.next-current.ensures in
+      let steps = g.met.L.LinkOps.does_on _ _ _ _ _ was.1 c.release_link.ensures.released in
+      (more.0, rw (more.2, releases_append was.0.done (c.in-Some.place ∷ [])) steps);
 }
 
-pub returns-clause-cleared : goal.returns-clause-cleared
-returns-clause-cleared g c s shown =
-    releases_all (c.loop-current.invariant.released s shown) c.in_default.is c.loop-current.invariant.covers
+pub returns-clause-released : goal.returns-clause-released
+returns-clause-released g c s shown =
+    let k = c.loop-current.invariant.released s shown in rw (releases_all k.0 c.in_default.is) at k.1
+
+pub returns-clause-frame : goal.returns-clause-frame
+returns-clause-frame g c s shown =
+    let k = c.loop-current.invariant.released s shown in record { extent = c.loop-current.invariant.extent; others = k.0.others }

@@ -19,6 +19,10 @@ returns-clause-frame g c s shown =
     let is_first = shows_first s shown (sym c.head.ensures ∙ c.in_ok-place.was) in
     let kept = c.take_out.ensures.frame [] (drop 1 s) (rw is_first at shown) in
     let released = c.release_link.ensures.frame in record {
-      covers = released.covers ∙ kept.covers;
+      extent = released.extent ∙ kept.extent;
       others = λ q out. released.others q (rw is_first at out).0 ∙ kept.others q (rw is_first at out);
     }
+
+pub returns-clause-released : goal.returns-clause-released
+returns-clause-released g c =
+    rw c.new.ensures (g.met.L.LinkOps.does_on _ _ _ _ _ c.take_out.ensures.no_step c.release_link.ensures.released)

@@ -15,4 +15,4 @@ returns-clause-inserted g c s shown =
 pub returns-clause-frame : goal.returns-clause-frame
 returns-clause-frame g c s shown =
     let frame = c.insert_between.ensures.frame (at_back s) (rw append-nil shown) (c.tail-tail.ensures ∙ shown.tail) refl in
-    record { covers = frame.covers; others = λ q out. frame.others q (out.0, absent_both q s [] out.1 tt) }
+    record { extent = frame.extent; others = λ q out. frame.others q (out.0, absent_both q s [] out.1 tt) }

@@ -17,3 +17,7 @@ returns-clause-replaces g c front back out shown free before behind =
     shows_replace front back out before behind (rw (← c.self.view_is) at shown) free
     (c.lead.ensures.turns _) (c.follow.ensures.turns _) c.stand.ensures.stands c.stand.ensures.frame.others
     c.settle.ensures c.settle-2.ensures
+
+pub returns-clause-no_step : goal.returns-clause-no_step
+returns-clause-no_step g c =
+    let L = g.met.L.LinkOps in L.does_on _ _ _ _ _ (L.does_on _ _ _ _ _ c.lead.ensures.no_step c.follow.ensures.no_step) c.stand.ensures.no_step

@@ -32,7 +32,7 @@ returns-clause-shows g c front back shown absent =
 pub returns-clause-frame : goal.returns-clause-frame
 returns-clause-frame g c front back shown =
     let stands = shows_middle front back shown in record {
-      covers = c.put_between.ensures.covers;
+      extent = c.put_between.ensures.extent;
       others = λ q out.
           let beside = beside_not front back c.args.out (c.prev-before.ensures ∙ stands.prev) (c.next-behind.ensures ∙ stands.next) out.1 in
           c.put_between.ensures.others q beside.0 out.0 beside.1;

@@ -1,4 +1,4 @@
-use Rattle.std.proofs.Common.{◌∷◌, drop, ◌∙◌, sym, ap}
+use Rattle.std.proofs.Common.{[], ◌∷◌, drop, ◌∙◌, sym}
 use Rattle.ic_link_ops.proofs.SequenceLemmas.{absent_right, distinct_middle, gap_before, first_is}
 use Rattle.ic_link_ops.proofs.ShownLists.{shows_middle, shows_beside}
 use Rattle.ic_link_ops.proofs.DoublyLists.{between_linked}
@@ -17,7 +17,7 @@ release_link-requires g c =
     let k = gap_before r.0 _ r.2 in
     let shown = rw (← k.1) at r.1 in
     let whole = rw (first_is k.0.back (sym c.in_ok-place.was ∙ k.2)) at shown in record {
-      linked = c.take_out.ensures.linked _ ∙ between_linked g.met.L.LinkedListOps.linked_alike _ _ _ (shows_middle k.0.front (drop 1 k.0.back) whole);
+      linked = g.met.L.LinkOps.does_replay _ _ [] c.take_out.ensures.no_step _ ∙ between_linked g.met.L.LinkedListOps.linked_alike _ _ _ (shows_middle k.0.front (drop 1 k.0.back) whole);
     }
 
 pub returns-clause-removed : goal.returns-clause-removed
@@ -27,18 +27,17 @@ returns-clause-removed g c gap shown before =
     let whole = rw is at shown in
     let kept = c.take_out.ensures.frame gap.front rest whole in
     let released = c.release_link.ensures.frame in
-    rw c.new.ensures (record {
+    record {
       shows = shows_beside {new = g.L.LinkOps.table c.release_link.new.self} (c.take_out.ensures.shows gap.front rest whole)
           (distinct_middle gap.front rest _ whole.distinct) released.others;
-      unlinks = record {
-        was = between_linked g.met.L.LinkedListOps.linked_alike _ _ _ (shows_middle gap.front rest whole);
-        is = c.release_link.ensures.released;
-        others = λ q n. ap g.L.LinkOps.linked (released.others q n) ∙ c.take_out.ensures.linked q;
-      };
       frame = record {
-        covers = released.covers ∙ kept.covers;
+        extent = released.extent ∙ kept.extent;
         others = λ q out'.
             let out = rw is at out' in
             released.others q (absent_right q gap.front (c.in_ok-place.place ∷ rest) out).0 ∙ kept.others q out;
       };
-    })
+    }
+
+pub returns-clause-released : goal.returns-clause-released
+returns-clause-released g c =
+    rw c.new.ensures (g.met.L.LinkOps.does_on _ _ _ _ _ c.take_out.ensures.no_step c.release_link.ensures.released)

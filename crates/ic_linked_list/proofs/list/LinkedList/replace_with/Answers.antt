@@ -1,4 +1,4 @@
-use Rattle.std.proofs.Common.{◌∷◌, drop, ◌∙◌, sym, ap}
+use Rattle.std.proofs.Common.{[], ◌∷◌, drop, ◌∙◌, sym}
 use Rattle.ic_link_ops.proofs.SequenceLemmas.{absent_right, absent_with, distinct_middle, gap_before, first_is}
 use Rattle.ic_link_ops.proofs.ShownLists.{shows_middle, shows_beside, free_absent}
 use Rattle.ic_link_ops.proofs.DoublyLists.{between_linked}
@@ -11,7 +11,7 @@ put_in_place-requires-clause-shown g c =
     let a = c.if-not-acquire_link.ensures in
     let shown = rw (← k.1) at r.1 in
     let whole = rw (first_is k.0.back (sym c.in-Some.is ∙ k.2)) at shown in
-    let absent = free_absent (between_linked g.met.L.LinkedListOps.linked_alike) whole (g.met.L.LinkOps.acquired_links _ _ _ a.acquired).0 in
+    let absent = free_absent (between_linked g.met.L.LinkedListOps.linked_alike) whole (g.met.L.LinkOps.does_replay _ _ _ a.acquired).was in
     (k.0.front, drop 1 k.0.back, shows_beside {new = g.L.LinkOps.table c.acquire_link.new.self} whole absent a.frame.others)
 
 pub release_link-requires : goal.release_link-requires
@@ -22,9 +22,9 @@ release_link-requires g c =
     let shown = rw (← k.1) at r.1 in
     let whole = rw (first_is k.0.back (sym c.in-Some.is ∙ k.2)) at shown in
     let law = between_linked g.met.L.LinkedListOps.linked_alike in
-    let absent = free_absent law whole (g.met.L.LinkOps.acquired_links _ _ _ a.acquired).0 in
+    let absent = free_absent law whole (g.met.L.LinkOps.does_replay _ _ _ a.acquired).was in
     let now = shows_beside {new = g.L.LinkOps.table c.acquire_link.new.self} whole absent a.frame.others in
-    record { linked = c.put_in_place.ensures.linked _ ∙ law _ _ _ (shows_middle k.0.front (drop 1 k.0.back) now) }
+    record { linked = g.met.L.LinkOps.does_replay _ _ [] c.put_in_place.ensures.no_step _ ∙ law _ _ _ (shows_middle k.0.front (drop 1 k.0.back) now) }
 
 pub returns-clause-replaced : goal.returns-clause-replaced
 returns-clause-replaced g c gap shown before =
@@ -33,40 +33,26 @@ returns-clause-replaced g c gap shown before =
     let whole = rw is at shown in
     let law = between_linked g.met.L.LinkedListOps.linked_alike in
     let a = c.if-not-acquire_link.ensures in
-    let both = g.met.L.LinkOps.acquired_links _ _ _ a.acquired in
-    let absent = free_absent law whole both.0 in
+    let absent = free_absent law whole (g.met.L.LinkOps.does_replay _ _ _ a.acquired).was in
     let now = shows_beside {new = g.L.LinkOps.table c.acquire_link.new.self} whole absent a.frame.others in
     let apart = (absent_right c.place-place.result gap.front (c.in-Some.out ∷ rest) absent).0 in
     let put = c.put_in_place.ensures in
     let kept = put.frame gap.front rest now in
     let released = c.release_link.ensures.frame in
-    let linked = g.L.LinkOps.linked in
-    rw (← c.place-place.ensures, c.new.ensures) (record {
+    rw (← c.place-place.ensures) (record {
       shows = shows_beside {new = g.L.LinkOps.table c.release_link.new.self} (put.shows gap.front rest now absent)
           (absent_with gap.front rest c.place-place.result c.in-Some.out (λ e. apart (sym e)) (distinct_middle gap.front rest c.in-Some.out whole.distinct))
           released.others;
-      exchanges = record {
-        was = both.0;
-        is = ap linked (released.others c.place-place.result apart) ∙ put.linked c.place-place.result ∙ both.1;
-        out_was = law _ _ _ (shows_middle gap.front rest whole);
-        out_is = c.release_link.ensures.released;
-        others = λ q n m. ap linked (released.others q m) ∙ put.linked q ∙ ap linked (a.frame.others q n);
-      };
       frame = record {
-        covers = released.covers ∙ kept.covers ∙ a.frame.covers;
+        extent = released.extent ∙ kept.extent ∙ a.frame.extent;
         others = λ q out'.
             let out = rw is at out'.1 in
             released.others q (absent_right q gap.front (c.in-Some.out ∷ rest) out).0 ∙ kept.others q (out'.0, out) ∙ a.frame.others q out'.0;
       };
     })
 
-pub returns-clause-acquired : goal.returns-clause-acquired
-returns-clause-acquired g c =
-    let r = c.requires.stands in
-    let k = gap_before r.0 _ r.2 in
-    let a = c.if-not-acquire_link.ensures in
-    let shown = rw (← k.1) at r.1 in
-    let whole = rw (first_is k.0.back (sym c.in-Some.is ∙ k.2)) at shown in
-    let absent = free_absent (between_linked g.met.L.LinkedListOps.linked_alike) whole (g.met.L.LinkOps.acquired_links _ _ _ a.acquired).0 in
-    let apart = (absent_right c.place-place.result k.0.front (c.in-Some.out ∷ drop 1 k.0.back) absent).0 in
-    rw (← c.place-place.ensures) (c.release_link.ensures.keeps_acquired _ _ apart (c.put_in_place.ensures.keeps_acquired _ _ a.acquired))
+pub returns-clause-exchanged : goal.returns-clause-exchanged
+returns-clause-exchanged g c =
+    let L = g.met.L.LinkOps in
+    rw (← c.place-place.ensures, c.new.ensures)
+    (L.does_on _ _ _ _ _ (L.does_on _ _ _ _ _ c.if-not-acquire_link.ensures.acquired c.put_in_place.ensures.no_step) c.release_link.ensures.released)

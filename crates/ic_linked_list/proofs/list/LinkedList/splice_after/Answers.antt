@@ -7,4 +7,5 @@ splice_between-requires-clause-shown g c =
 pub returns : goal.returns
 returns g c = record {
   spliced = λ gap t shown is_after given apart. c.splice_between.ensures.spliced gap t shown is_after (c.next_of-behind.ensures gap shown is_after) given apart;
+  no_step = c.splice_between.ensures.no_step;
 }

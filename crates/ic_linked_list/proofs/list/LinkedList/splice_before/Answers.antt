@@ -11,4 +11,5 @@ splice_between-requires-clause-shown g c =
 pub returns : goal.returns
 returns g c = record {
   spliced = λ gap t shown is_before given apart. c.splice_between.ensures.spliced gap t shown (c.prev_of-before.ensures gap shown is_before) is_before given apart;
+  no_step = c.splice_between.ensures.no_step;
 }

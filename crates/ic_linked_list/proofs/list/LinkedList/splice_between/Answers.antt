@@ -1,4 +1,4 @@
-use Rattle.std.proofs.Common.{None, ◌++◌, ◌∙◌, sym}
+use Rattle.std.proofs.Common.{[], None, ◌++◌, ◌∙◌, sym}
 use Rattle.ic_link_ops.specs.Chains.{Ends}
 use Rattle.ic_link_ops.specs.LinkedList.{Shows}
 use Rattle.ic_link_ops.proofs.SequenceLemmas.{gap_not, absent_left, absent_right, absent_both}
@@ -14,12 +14,12 @@ lead-requires g c q e =
 pub follow-requires : goal.follow-requires
 follow-requires g c q e =
     let r = c.requires.shown in
-    rw (c.lead.ensures.linked q)
+    rw (g.met.L.LinkOps.does_replay _ _ [] c.lead.ensures.no_step q)
     (gap_behind_linked (between_linked g.met.L.LinkedListOps.linked_alike) r.0.front r.0.back r.1 (sym e ∙ r.3))
 
 pub lead-requires-in-Some : goal.lead-requires-in-Some
 lead-requires-in-Some g c q e =
-    rw (c.follow-in-Some.ensures.linked q, c.follow.ensures.linked q, c.lead.ensures.linked q)
+    rw (g.met.L.LinkOps.does_replay _ _ [] c.follow-in-Some.ensures.no_step q, g.met.L.LinkOps.does_replay _ _ [] c.follow.ensures.no_step q, g.met.L.LinkOps.does_replay _ _ [] c.lead.ensures.no_step q)
     (tail_linked (between_linked g.met.L.LinkedListOps.linked_alike) (rw (← c.given.view_is) at c.requires.given.1) (sym c.get-tail.ensures ∙ e))
 
 pub returns-in-Some : goal.returns-in-Some
@@ -32,10 +32,8 @@ returns-in-Some g c = record {
         shows = shows_splice gap.front t gap.back c.in-Some.field-0 c.in-Some.is before behind (rw (← c.self.view_is) at shown) given apart
             (c.lead.ensures.turns _) (c.follow.ensures.turns _) (c.follow-in-Some.ensures.turns _) (c.lead-in-Some.ensures.turns _)
             c.settle.ensures c.settle-in-Some.ensures;
-        links = λ q.
-            c.lead-in-Some.ensures.linked q ∙ c.follow-in-Some.ensures.linked q ∙ c.follow.ensures.linked q ∙ c.lead.ensures.linked q;
         frame = record {
-          covers = c.lead-in-Some.ensures.covers ∙ c.follow-in-Some.ensures.covers ∙ c.follow.ensures.covers ∙ c.lead.ensures.covers;
+          extent = c.lead-in-Some.ensures.extent ∙ c.follow-in-Some.ensures.extent ∙ c.follow.ensures.extent ∙ c.lead.ensures.extent;
           others = λ q out.
               let rest = absent_right q gap.front (t ++ gap.back) out in
               let beside = gap_not gap.front gap.back before behind
@@ -45,4 +43,7 @@ returns-in-Some g c = record {
               ∙ (c.follow.ensures.turns None).others q beside.1 ∙ (c.lead.ensures.turns None).others q beside.0;
         };
       };
+  no_step =
+      let L = g.met.L.LinkOps in
+      L.does_on _ _ _ _ _ (L.does_on _ _ _ _ _ (L.does_on _ _ _ _ _ c.lead.ensures.no_step c.follow.ensures.no_step) c.follow-in-Some.ensures.no_step) c.lead-in-Some.ensures.no_step;
 }

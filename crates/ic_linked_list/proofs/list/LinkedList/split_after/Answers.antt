@@ -7,4 +7,5 @@ split_between-requires g c =
 pub returns : goal.returns
 returns g c = record {
   split = λ gap shown is_after. c.split_between.ensures.split gap shown is_after (c.next_of-behind.ensures gap shown is_after);
+  no_step = c.split_between.ensures.no_step;
 }

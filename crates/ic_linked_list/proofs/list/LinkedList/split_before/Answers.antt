@@ -14,7 +14,7 @@ returns g c = record {
       let split = c.split_between-rest.ensures.split gap shown (c.prev_of-before.ensures gap shown is_before) is_before in record {
         keeps = rw c.replace.ensures.after split.hands_out;
         hands_out = rw c.replace.ensures.value split.keeps;
-        links = split.links;
-        frame = record { covers = split.frame.covers; others = λ q out. split.frame.others q (absent_turned q gap.front gap.back out) };
+        frame = record { extent = split.frame.extent; others = λ q out. split.frame.others q (absent_turned q gap.front gap.back out) };
       };
+  no_step = c.split_between-rest.ensures.no_step;
 }

@@ -1,4 +1,4 @@
-use Rattle.std.proofs.Common.{None, ◌∙◌, sym}
+use Rattle.std.proofs.Common.{[], None, ◌∙◌, sym}
 use Rattle.ic_link_ops.specs.Chains.{Ends}
 use Rattle.ic_link_ops.proofs.SequenceLemmas.{gap_not}
 use Rattle.ic_link_ops.proofs.ShownLists.{shows_split, gap_linked, gap_behind_linked}
@@ -13,7 +13,7 @@ lead-requires g c q e =
 pub follow-requires : goal.follow-requires
 follow-requires g c q e =
     let r = c.requires.shown in
-    rw (c.lead.ensures.linked q)
+    rw (g.met.L.LinkOps.does_replay _ _ [] c.lead.ensures.no_step q)
     (gap_behind_linked (between_linked g.met.L.LinkedListOps.linked_alike) r.0.front r.0.back r.1 (sym e ∙ r.3))
 
 pub returns : goal.returns
@@ -28,12 +28,12 @@ returns g c = record {
       record {
         keeps = parts.0;
         hands_out = parts.1;
-        links = λ q. c.follow.ensures.linked q ∙ c.lead.ensures.linked q;
         frame = record {
-          covers = c.follow.ensures.covers ∙ c.lead.ensures.covers;
+          extent = c.follow.ensures.extent ∙ c.lead.ensures.extent;
           others = λ q out.
               let beside = gap_not gap.front gap.back before behind out in
               (c.follow.ensures.turns None).others q beside.1 ∙ (c.lead.ensures.turns None).others q beside.0;
         };
       };
+  no_step = g.met.L.LinkOps.does_on _ _ _ _ _ c.lead.ensures.no_step c.follow.ensures.no_step;
 }

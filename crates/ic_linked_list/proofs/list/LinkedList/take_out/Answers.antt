@@ -1,4 +1,4 @@
-use Rattle.std.proofs.Common.{◌∷◌, None, ◌∙◌, sym}
+use Rattle.std.proofs.Common.{[], ◌∷◌, None, ◌∙◌, sym}
 use Rattle.ic_link_ops.proofs.SequenceLemmas.{beside_not}
 use Rattle.ic_link_ops.proofs.ShownLists.{shows_remove, shows_middle, gap_linked, next_linked}
 use Rattle.ic_link_ops.proofs.DoublyLists.{between_linked}
@@ -22,7 +22,7 @@ lead-requires g c q e =
 pub follow-requires : goal.follow-requires
 follow-requires g c q e =
     let r = c.requires in
-    rw (c.lead.ensures.linked q)
+    rw (g.met.L.LinkOps.does_replay _ _ [] c.lead.ensures.no_step q)
     (next_linked (between_linked g.met.L.LinkedListOps.linked_alike) r.0 c.args.place r.1 r.2 (sym e ∙ c.next-behind.ensures ∙ (shows_middle r.0 r.1 r.2).next))
 
 pub returns-clause-shows : goal.returns-clause-shows
@@ -35,7 +35,7 @@ returns-clause-shows g c front back shown =
 pub returns-clause-frame : goal.returns-clause-frame
 returns-clause-frame g c front back shown =
     let stands = shows_middle front back shown in record {
-      covers = c.follow.ensures.covers ∙ c.lead.ensures.covers;
+      extent = c.follow.ensures.extent ∙ c.lead.ensures.extent;
       others = λ q out.
           let beside = beside_not front back c.args.place (c.prev-before.ensures ∙ stands.prev) (c.next-behind.ensures ∙ stands.next) out in
           (c.follow.ensures.turns None).others q beside.1 ∙ (c.lead.ensures.turns None).others q beside.0;
@@ -43,3 +43,6 @@ returns-clause-frame g c front back shown =
 
 pub returns-clause-behind : goal.returns-clause-behind
 returns-clause-behind g c front back shown = c.next-behind.ensures ∙ (shows_middle front back shown).next
+
+pub returns-clause-no_step : goal.returns-clause-no_step
+returns-clause-no_step g c = g.met.L.LinkOps.does_on _ _ _ _ _ c.lead.ensures.no_step c.follow.ensures.no_step

@@ -53,7 +53,7 @@ invariant_of-self-in-Some g c =
     let e = c.in-Some-pop_front.ensures in
     let p = c.in-Some-pop_front.taken in
     let frame = rw (← found_k.read) at (e.frame (sequence ts k) found_k.shown) in
-    let unlinked = rw (← found_k.read) at e.unlinked in
+    let unlinked = rw (← found_k.read) at e.released in
     rw map-set (pop_whole c.self.inside.objects ts cs.items c.self.invariant c.args.collection k found_k.is (entries c.pop_front.new.links) c.pop_front.new.self
     (e.removed (sequence ts k) found_k.shown) frame p (e.answer (sequence ts k) found_k.shown) unlinked)
 
@@ -67,6 +67,6 @@ returns-in-Some-pop_front g c =
     let e = c.in-Some-pop_front.ensures in
     let p = c.in-Some-pop_front.taken in
     let frame = rw (← found_k.read) at (e.frame (sequence ts k) found_k.shown) in
-    let unlinked = rw (← found_k.read) at e.unlinked in
+    let unlinked = rw (← found_k.read) at e.released in
     rw (← c.self.view_is, c.place.ensures, map-set) (pop_done c.self.inside.objects ts cs.items c.self.invariant c.args.collection k found_k.is (entries c.pop_front.new.links) c.pop_front.new.self
     (e.removed (sequence ts k) found_k.shown) frame p (e.answer (sequence ts k) found_k.shown) unlinked)

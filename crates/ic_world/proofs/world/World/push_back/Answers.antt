@@ -78,7 +78,7 @@ invariant_of-self-in-Some g c =
     let found_k = found fields c.self.invariant c.if-collection-len.false c.len.ensures cs.ok.0 c.index_mut.ensures.value c.in-Some.is c.index_mut-links.ensures.value in
     let e = c.push_back.ensures in
     let inserted = rw c.new.ensures at (from_ok c.push_back.result c.if-is_err.ensures.negation (e.inserted (sequence ts k) found_k.shown)) in
-    let linked = rw (c.new.ensures, ← found_k.read) at (from_ok c.push_back.result c.if-is_err.ensures.negation e.linked) in
+    let linked = rw (c.new.ensures, ← found_k.read) at (from_ok c.push_back.result c.if-is_err.ensures.negation e.acquired) in
     let frame = rw (c.new.ensures, ← found_k.read) at (e.frame (sequence ts k) found_k.shown) in
     let has = sym c.is_placed-placed.ensures ∙ c.if-not-placed.false in
     rw map-set (push_whole c.self.inside.objects ts cs.items c.self.invariant c.args.collection k found_k.is (entries c.push_back.new.links) c.push_back.new.self c.args.object
@@ -93,7 +93,7 @@ returns-else-is_err g c =
     let found_k = found fields c.self.invariant c.if-collection-len.false c.len.ensures cs.ok.0 c.index_mut.ensures.value c.in-Some.is c.index_mut-links.ensures.value in
     let e = c.push_back.ensures in
     let inserted = rw c.new.ensures at (from_ok c.push_back.result c.if-is_err.ensures.negation (e.inserted (sequence ts k) found_k.shown)) in
-    let linked = rw (c.new.ensures, ← found_k.read) at (from_ok c.push_back.result c.if-is_err.ensures.negation e.linked) in
+    let linked = rw (c.new.ensures, ← found_k.read) at (from_ok c.push_back.result c.if-is_err.ensures.negation e.acquired) in
     let frame = rw (c.new.ensures, ← found_k.read) at (e.frame (sequence ts k) found_k.shown) in
     let has = sym c.is_placed-placed.ensures ∙ c.if-not-placed.false in
     rw (← c.self.view_is, map-set) (push_done c.self.inside.objects ts cs.items c.self.invariant c.args.collection k found_k.is (entries c.push_back.new.links) c.push_back.new.self c.args.object

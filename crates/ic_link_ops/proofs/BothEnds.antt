@@ -1,7 +1,7 @@
 -- What a walk from both ends gives out is its sequence.
 use Rattle.std.proofs.Common.{◌≡◌, Option, Some, List, [], ◌∷◌, ◌++◌, reverse, sym, ◌∙◌, ap, subst, append_assoc}
 use Rattle.std.proofs.lemmas.List.{reverse-append}
-use Rattle.ic_linked_list.specs.BothEnds.{Item, at_the_front, at_the_back, Leads, from_front, from_back}
+use Rattle.ic_link_ops.specs.BothEnds.{Item, at_the_front, at_the_back, Leads, from_front, from_back}
 
 -- `Left s w`: w is what is left at s. A call at the front takes its first, and one at the back its last
 module _ {S A B : Type 0} (view : A → B) (next_gives next_back_gives : S → Option A → S → Type 0) (Left : S → List B → Type 0)

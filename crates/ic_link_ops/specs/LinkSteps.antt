@@ -1,0 +1,25 @@
+-- The steps by which a table links and unlinks places, and what they make of the linked places.
+use Rattle.std.specs.Prelude.{List, [], ◌∷◌, Bool, map}
+use Rattle.ic_unsafe_ref.specs.declared.place.Place.{Place}
+use Rattle.ic_link_ops.specs.Tables.{Table, LinksAlso, Unlinks, KeepsLinked}
+
+-- one step: p is linked, or it is unlinked
+pub data LinkStep : Type 0 where
+  acquires : Place → LinkStep
+  releases : Place → LinkStep
+
+-- each place of s is unlinked, in the order of s
+abbrev pub releases_each : List Place → List LinkStep
+releases_each s = map releases s
+
+module _ {E : Type 0} (linked : E → Bool) where
+  -- what one step makes of the linked places: p, which was not among them, joins them; or p, which was, leaves them
+  abbrev pub Makes : LinkStep → Table E → Table E → Type 0
+  Makes (acquires p) old new = LinksAlso linked old new p
+  Makes (releases p) old new = Unlinks linked old new p
+
+  -- and what these steps make of them, one after the other: none leaves them as they are
+  abbrev pub Replays : Table E → Table E → List LinkStep → Type 0
+  Replays old new [] = KeepsLinked linked old new
+  Replays old new (step ∷ []) = Makes step old new
+  Replays old new (step ∷ next ∷ rest) = (mid : Table E) × Makes step old mid × Replays mid new (next ∷ rest)

@@ -1,0 +1,65 @@
+-- A table that is one of two, as a table of links.
+use Rattle.std.specs.Prelude.{◌≡◌, Bool, List, [], ◌∷◌, ◌++◌, ℕ}
+use Rattle.std.proofs.Common.{ap}
+use Rattle.ic_unsafe_ref.specs.declared.place.Place.{Place}
+use Rattle.ic_link_ops.specs.Tables.{Extent, Table, IsLinked, IsCovered, with_extent}
+use Rattle.ic_link_ops.specs.LinkSteps.{LinkStep, Replays}
+use Rattle.ic_link_ops.specs.StepLaws.{replays_within}
+use Rattle.uses.specs.declared.either_table.EitherTable.{EitherTable}
+use Rattle.uses.specs.declared.either_table.EitherTable.TheVariants.{First, Second}
+
+-- the number of the variant tells the two apart
+abbrev pub numbered : ℕ → Extent → Extent
+numbered n e = record { places = e.places; identity = n ∷ e.identity }
+
+-- what holds of two tables that are both the first, or both the second
+abbrev pub Alike : {L X : Type 0} → (L → L → X → Type 0) → EitherTable L → EitherTable L → X → Type 0
+Alike R (First a) (First b) x = R a b x
+Alike R (First a) (Second b) x = ⊥
+Alike R (Second a) (First b) x = ⊥
+Alike R (Second a) (Second b) x = R a b x
+
+-- which of the two it is
+abbrev pub variant : {L : Type 0} → EitherTable L → ℕ
+variant (First t) = 0
+variant (Second t) = 1
+
+module _ {L E : Type 0} (table : L → Table E) where
+  -- its entries are those of the table that it is
+  abbrev pub one_of : EitherTable L → Table E
+  one_of (First t) = with_extent (numbered 0 (table t).extent) (table t)
+  one_of (Second t) = with_extent (numbered 1 (table t).extent) (table t)
+
+  module _ (linked : E → Bool) where
+    pub covered : ((t : L) (p : Place) → IsLinked linked (table t) p → IsCovered (table t) p)
+        → (t : EitherTable L) (p : Place) → IsLinked linked (one_of t) p → IsCovered (one_of t) p
+    covered law (First t) p h = law t p h
+    covered law (Second t) p h = law t p h
+
+    pub replay : (Does : L → L → List LinkStep → Type 0) → ((a b : L) (s : List LinkStep) → Does a b s → Replays linked (table a) (table b) s)
+        → (a b : EitherTable L) (s : List LinkStep) → Alike Does a b s → Replays linked (one_of a) (one_of b) s
+    replay Does law (First a) (First b) s d = replays_within linked (numbered 0 (table a).extent) (numbered 0 (table b).extent) s (table a) (table b) (law a b s d)
+    replay Does law (Second a) (Second b) s d = replays_within linked (numbered 1 (table a).extent) (numbered 1 (table b).extent) s (table a) (table b) (law a b s d)
+    replay Does law (First a) (Second b) s d = absurd d
+    replay Does law (Second a) (First b) s d = absurd d
+
+  pub kept : (Refused : L → L → Place → Type 0) → ((a b : L) (p : Place) → Refused a b p → table b ≡ table a)
+      → (a b : EitherTable L) (p : Place) → Alike Refused a b p → one_of b ≡ one_of a
+  kept Refused law (First a) (First b) p r = ap (λ t. with_extent (numbered 0 t.extent) t) (law a b p r)
+  kept Refused law (Second a) (Second b) p r = ap (λ t. with_extent (numbered 1 t.extent) t) (law a b p r)
+  kept Refused law (First a) (Second b) p r = absurd r
+  kept Refused law (Second a) (First b) p r = absurd r
+
+module _ {L : Type 0} (Does : L → L → List LinkStep → Type 0) where
+  pub nothing : ((t : L) → Does t t []) → (t : EitherTable L) → Alike Does t t []
+  nothing law (First t) = law t
+  nothing law (Second t) = law t
+
+  pub on : ((a b c : L) (s t : List LinkStep) → Does a b s → Does b c t → Does a c (s ++ t))
+      → (a b c : EitherTable L) (s t : List LinkStep) → Alike Does a b s → Alike Does b c t → Alike Does a c (s ++ t)
+  on law (First a) (First b) (First c) s t d e = law a b c s t d e
+  on law (Second a) (Second b) (Second c) s t d e = law a b c s t d e
+  on law (First a) (Second b) c s t d e = absurd d
+  on law (Second a) (First b) c s t d e = absurd d
+  on law (First a) (First b) (Second c) s t d e = absurd e
+  on law (Second a) (Second b) (First c) s t d e = absurd e

@@ -1,0 +1,4 @@
+pub mod EitherTables
+pub mod LentTables
+pub mod Notes
+pub mod RecordedTables

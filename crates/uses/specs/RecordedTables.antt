@@ -1,0 +1,13 @@
+-- What clauses see of a table that notes its steps.
+use Rattle.std.specs.Prelude.{List}
+use Rattle.uses.specs.declared.recorded_table.Note.{Note}
+use Rattle.uses.specs.declared.recorded_table.RecordedTable.{RecordedTable}
+
+module _ {L R : Type 0} where
+  -- the table whose steps are noted
+  abbrev pub links_of : RecordedTable L R → L
+  links_of t = t.links
+
+  -- the notes so far
+  abbrev pub notes_of : (R → List Note) → RecordedTable L R → List Note
+  notes_of notes t = notes t.recorder

@@ -1,0 +1,127 @@
+//! A table that is lent: a view of it that has the same link traits.
+//!
+//! ```text
+//! let mut view = LentTable::new(&mut links);
+//! list.push_back(&mut view, object)?; // when the view ends, `links` has what it showed
+//! ```
+
+ghost use Rattle.std.specs.Prelude.{◌≡◌, ◌∷◌, List, [], OnOk, OnErr};
+ghost use Rattle.ic_unsafe_ref.specs.declared.place.Place.{Place};
+ghost use Rattle.ic_link_ops.specs.Sequences.{insert, at_back};
+ghost use Rattle.ic_link_ops.specs.Tables.{IsCovered, KeepsBeside};
+ghost use Rattle.ic_link_ops.specs.LinkSteps.{acquires};
+ghost use Rattle.ic_link_ops.specs.LinkedList.{Shows, ShowsSome};
+
+use ic_link_ops::linked_list::LinkedListOps;
+use ic_link_ops::{AlreadyLinked, LinkOps};
+use ic_linked_list::LinkedList;
+use ic_unsafe_ref::{Place, UnsafeRef};
+
+/// A view of a table, for as long as it is borrowed. No call makes it a view of another one.
+pub struct LentTable<'a, L> {
+    links: &'a mut L,
+}
+
+impl<L> Drop for LentTable<'_, L> {
+    fn drop(self)
+        ensures links { self.exit.0.now ≡ self.entry.links.now }
+    {
+        let LentTable { links: _ } = self;
+    }
+}
+
+impl<'a, L> LentTable<'a, L> {
+    ghost use Rattle.uses.specs.LentTables.{IsLent};
+
+    /// A view of the table. O(1).
+    #[inline]
+    pub fn new(links: &'a mut L) -> LentTable<'a, L>
+        ensures { IsLent links.entry result }
+    {
+        LentTable { links }
+    }
+}
+
+impl<L: LinkOps> LinkOps for LentTable<'_, L> {
+    ghost use Rattle.uses.specs.LentTables.{lent, named, links_of};
+    ghost use Rattle.ic_link_ops.specs.StepLaws.{replays_within};
+
+    type Entry = L::Entry;
+
+    ghost table = { lent L.table };
+
+    ghost linked = { L.linked };
+
+    ghost Does = { λ old new s. L.Does (links_of old) (links_of new) s };
+
+    ghost Refused = { λ old new p. L.Refused (links_of old) (links_of new) p × (lent L.table new ≡ lent L.table old) };
+
+    #[inline]
+    fn acquire_link(&mut self, place: Place) -> bool {
+        self.links.acquire_link(place)
+    }
+
+    #[inline]
+    fn release_link(&mut self, place: Place) {
+        self.links.release_link(place);
+    }
+
+    ghost linked_is_covered = { λ t p h. L.linked_is_covered (links_of t) p h };
+
+    ghost does_nothing = { λ t. L.does_nothing (links_of t) };
+
+    ghost does_on = { λ a b c s t h k. L.does_on (links_of a) (links_of b) (links_of c) s t h k };
+
+    ghost does_replay = { λ old new s h. replays_within L.linked (named L.table old) (named L.table new) s
+        (L.table (links_of old)) (L.table (links_of new)) (L.does_replay (links_of old) (links_of new) s h) };
+
+    ghost refused_keeps = { λ old new p h. h.1 };
+}
+
+impl<L: LinkedListOps> LinkedListOps for LentTable<'_, L> {
+    ghost neighbors = { L.neighbors };
+
+    #[inline]
+    fn next(&self, place: Place) -> Option<Place> {
+        self.links.next(place)
+    }
+
+    #[inline]
+    fn prev(&self, place: Place) -> Option<Place> {
+        self.links.prev(place)
+    }
+
+    #[inline]
+    fn set_next(&mut self, place: Place, next: Option<Place>) {
+        self.links.set_next(place, next);
+    }
+
+    #[inline]
+    fn set_prev(&mut self, place: Place, prev: Option<Place>) {
+        self.links.set_prev(place, prev);
+    }
+
+    ghost linked_alike = { L.linked_alike };
+}
+
+/// Puts an unlinked object at the back of a list by a view of the table, and the table has then what the view showed.
+///
+/// It asks that the table covers the object's place and shows a sequence for the list. A linked object comes back, and
+/// no entry has changed. O(1).
+pub fn push_back<T, L: LinkedListOps>(
+    list: &mut LinkedList<T>,
+    links: &mut L,
+    object: UnsafeRef<T>,
+) -> Result<(), AlreadyLinked<T>>
+    requires covered { IsCovered (L.table links.old) object }
+    requires shown { ShowsSome L.neighbors (L.table links.old) list.old }
+    ensures inserted { (s : List Place) → Shows L.neighbors (L.table links.old) list.old s
+        → OnOk result (Shows L.neighbors (L.table links.new) list.new (insert (at_back s) object)) }
+    ensures acquired { OnOk result (L.Does links.old links.new (acquires object ∷ [])) }
+    ensures refused { OnErr result (L.Refused links.old links.new object) }
+    ensures frame { (s : List Place) → Shows L.neighbors (L.table links.old) list.old s
+        → KeepsBeside (L.table links.old) (L.table links.new) (object ∷ s) }
+{
+    let mut view = LentTable::new(links);
+    list.push_back(&mut view, object)
+}

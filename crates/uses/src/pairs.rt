@@ -1,0 +1,73 @@
+//! Lists of two, read and taken from both ends, and two places in order.
+//!
+//! ```text
+//! let (left, right) = pairs::both(&list, &links, &objects)?;
+//! let (low, high) = pairs::in_order(first, second);
+//! ```
+
+ghost use Rattle.std.specs.Prelude.{◌≡◌, ◌≤◌, ◌⊎◌, List, [], ◌∷◌, IfSome};
+ghost use Rattle.ic_unsafe_ref.specs.declared.place.Place.{Place};
+ghost use Rattle.ic_unsafe_ref.specs.Places.{index_of};
+ghost use Rattle.ic_link_ops.specs.LinkedList.{Shows, ShowsSome};
+ghost use Rattle.ic_linked_list.specs.Iter.{ArePlaced, values_at};
+
+use ic_link_ops::linked_list::LinkedListOps;
+use ic_linked_list::LinkedList;
+use ic_unsafe_ref::{Objects, Place, UnsafeRef};
+use std::alloc::Allocator;
+
+/// The two places, the one with the smaller index first. O(1).
+pub fn in_order(first: Place, second: Place) -> (Place, Place)
+    ensures sorted { index_of result.0 ≤ index_of result.1 }
+    ensures same { ((result.0 ≡ first) × (result.1 ≡ second)) ⊎ ((result.0 ≡ second) × (result.1 ≡ first)) }
+{
+    Place::order_is_total();
+    if second < first {
+        (second, first)
+    } else {
+        (first, second)
+    }
+}
+
+/// The two objects of a list that has two, `None` where it has another number of them. O(1).
+///
+/// It asks that the table shows a sequence for the list, whose members are placed.
+pub fn both<'a, T, L: LinkedListOps, A: Allocator>(
+    list: &LinkedList<T>,
+    links: &'a L,
+    objects: &'a Objects<T, A>,
+) -> Option<(&'a T, &'a T)>
+    requires shown { ShowsSome L.neighbors (L.table links.now) list.now }
+    requires placed { (s : List Place) → Shows L.neighbors (L.table links.now) list.now s → ArePlaced objects.now s }
+    ensures { (s : List Place) → Shows L.neighbors (L.table links.now) list.now s
+        → IfSome result (λ pair. values_at objects.now s ≡ pair.0.now ∷ pair.1.now ∷ []) }
+{
+    let mut walk = list.iter(links, objects);
+    let first = walk.next()?;
+    let second = walk.next_back()?;
+    if walk.next().is_some() {
+        return None;
+    }
+    Some((first, second))
+}
+
+/// Takes the two members of a list that has two off it, `None` where it has another number of them. O(1).
+///
+/// It asks that the table shows a sequence for the list. Of a list with another number of members those that came off,
+/// three at most, are unlinked, and the others stay linked.
+pub fn take_both<T, L: LinkedListOps>(
+    list: LinkedList<T>,
+    links: &mut L,
+) -> Option<(UnsafeRef<T>, UnsafeRef<T>)>
+    requires shown { ShowsSome L.neighbors (L.table links.old) list }
+    ensures { (s : List Place) → Shows L.neighbors (L.table links.old) list s
+        → IfSome result (λ pair. s ≡ pair.0 ∷ pair.1 ∷ []) }
+{
+    let mut rest = list.into_iter(links);
+    let first = rest.next()?;
+    let second = rest.next_back()?;
+    if rest.next().is_some() {
+        return None;
+    }
+    Some((first, second))
+}
