@@ -1,16 +1,20 @@
 -- The map of the objects has at each place what the slab has under the place's index.
-use Rattle.std.proofs.Common.{◌≡◌, ◌≢◌, ℕ, zero, suc, ◌+◌, ◌<◌, true, false, cond, List, [], ◌∷◌, Option, Some, None, is_some, count_by, refl, sym, ap, ◌∙◌, arith, eq-eqb, ne_eqb, add_comm}
+use Rattle.std.proofs.Common.{◌≡◌, ◌≢◌, ℕ, zero, suc, ◌+◌, ◌<◌, true, false, cond, List, [], ◌∷◌, Option, Some, None, is_some, IsSome, count_by, refl, sym, ap, subst, ◌∙◌, arith, eq-eqb, ne_eqb, add_comm}
 use Rattle.std.specs.Ordering.{nat_cmp, eq_by_cmp}
 use Rattle.std.specs.Cmp.{nat_cmp_total, unsigned_tied}
+use Rattle.std.specs.Borrow.{MutBor}
+use Rattle.std.specs.Option.{ghost_name_of, option_copied_mut}
 use Rattle.std.specs.FinMap as map
-use Rattle.std.specs.FinMap.{find, get-from_entries, get-insert, len-insert, len-empty, same_map, nat_cmp-IsAntisymmetric}
+use Rattle.std.specs.FinMap.{find, get-from_entries, get-insert, get-remove, len-insert, len-empty, same_map, nat_cmp-IsAntisymmetric}
 use Rattle.std.proofs.lemmas.Bool.{cases_eq}
 use Rattle.std.proofs.lemmas.List.Sums.{sum_by-cons}
 use Rattle.std.proofs.Common.{inl, inr}
 use Rattle.ic_unsafe_ref.specs.declared.place.Place.{Place}
 use Rattle.ic_unsafe_ref.specs.Places.{index_of}
-use Rattle.ic_unsafe_ref.specs.Objects.{Objects, Places}
-use Rattle.slab.specs.Slab.{Slab, Updates, entries, entries_from, get, slab_len}
+use Rattle.ic_unsafe_ref.specs.Objects.{Objects, Places, Frees, with_object}
+use Rattle.slab.specs.Slab.{Slab, Updates, ContainsKey, entries, entries_from, get, slab_len, with_value}
+use Rattle.slab.proofs.SlabLemmas.{Updates-with_value}
+use borrow.Follows.Closed.{read_of}
 
 tied : (q k : ℕ) → q ≡ k → eq_by_cmp nat_cmp q k ≡ true
 tied q k e = unsigned_tied q k ∙ eq-eqb q k e
@@ -81,3 +85,39 @@ module _ {T : Type 0} where
     vacant = get_entries old (index_of p) ∙ ap (get old) at_key ∙ vacant;
     values = insert_entries old new key v updates ∙ ap (λ k. map.insert (map.from_entries {R = nat_cmp} (entries old)) k v) (sym at_key);
   }
+
+  -- a value less under a key is an entry less in the map
+  pub remove_entries : (old new : Slab T) (key : ℕ) → Updates old new key None
+      → map.from_entries {R = nat_cmp} (entries new) ≡ map.remove (map.from_entries (entries old)) key
+  remove_entries old new key updates =
+      same_map nat_cmp_total nat_cmp-IsAntisymmetric _ _ (λ q.
+      get_entries new q
+      ∙ elim (cases_eq q key) [
+        | inl e ↦ ap (get new) e ∙ updates.changed
+            ∙ sym (get-remove nat_cmp_total (map.from_entries (entries old)) key q
+            ∙ ap (λ b. cond b None (map.get (map.from_entries {R = nat_cmp} (entries old)) q)) (tied q key e))
+        | inr n ↦ updates.others q n ∙ sym (get_entries old q)
+            ∙ sym (get-remove nat_cmp_total (map.from_entries (entries old)) key q
+            ∙ ap (λ b. cond b None (map.get (map.from_entries {R = nat_cmp} (entries old)) q)) (apart q key n))
+      ])
+
+  pub frees_value : (old new : Slab T) (p : Place) (key : ℕ) → key ≡ index_of p → new.vacant_key ≡ key → Updates old new key None
+      → Frees (seen old) (seen new) p
+  frees_value old new p key at_key is_next updates = record {
+    next = is_next ∙ at_key;
+    values = remove_entries old new key updates ∙ ap (map.remove (map.from_entries {R = nat_cmp} (entries old))) at_key;
+  }
+
+  -- what stands at a place after a write there
+  written : (s : Slab T) (key : ℕ) (p : Place) → key ≡ index_of p → ContainsKey s key → (w : T) → seen (with_value s key w) ≡ with_object (seen s) p w
+  written s key p at_key present w =
+      ap (λ m. let o : Objects T = record { values = m; next = s.vacant_key } in o)
+      (insert_entries s (with_value s key w) key w (Updates-with_value s key w present)
+      ∙ ap (λ k. map.insert (map.from_entries {R = nat_cmp} (entries s)) k w) at_key)
+
+  -- so the objects are lent at the place as the slab is at its key
+  pub lent_alike : (s : Slab T) (key : ℕ) (p : Place) (r : Option (MutBor T)) → key ≡ index_of p → option_copied_mut r ≡ get s key
+      → read_of (ghost_name_of r) (λ w. seen (with_value s key w)) (seen s) ≡ read_of (ghost_name_of r) (with_object (seen s) p) (seen s)
+  lent_alike s key p None at_key is = refl
+  lent_alike s key p (Some x) at_key is =
+      λ t. read_of (ghost_name_of (Some x)) (λ (w : T). written s key p at_key (subst IsSome is refl) w t) (seen s)

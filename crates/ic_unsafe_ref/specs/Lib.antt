@@ -2,3 +2,4 @@ pub mod Numbers
 pub mod Places
 pub mod Order
 pub mod Objects
+pub mod Lends

@@ -31,3 +31,12 @@ module _ {T : Type 0} where
     pub next : index_of p ≡ old.next
     pub vacant : object_at old p ≡ None
     pub values : new.values ≡ map.insert old.values (index_of p) value
+
+  -- the new objects are the old ones but that at p, which is vacant now and given next
+  pub record Frees (old new : Objects T) (p : Place) : Type 0 where
+    pub next : new.next ≡ index_of p
+    pub values : new.values ≡ map.remove old.values (index_of p)
+
+  -- the objects with this value at p
+  abbrev pub with_object : Objects T → Place → T → Objects T
+  with_object objects p value = record { values = map.insert objects.values (index_of p) value; next = objects.next }

@@ -7,6 +7,7 @@
 //! let mut objects = Objects::new(rt.alloc());
 //! let task = UnsafeRef::from_box(&mut objects, Task::new())?;
 //! objects.get(task.place()) // Some(&Task)
+//! let done = task.into_box(&mut objects); // the place is vacant again
 //! ```
 #![tactic(auto)]
 

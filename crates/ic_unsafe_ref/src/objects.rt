@@ -39,6 +39,10 @@ impl<T, A: Allocator> Model for Objects<T, A> {
 }
 
 impl<T, A: Allocator> Objects<T, A> {
+    ghost use Rattle.std.specs.Borrow.{sem};
+    ghost use Rattle.std.specs.Option.{option_copied_mut};
+    ghost use Rattle.ic_unsafe_ref.specs.Lends.{LendsObject};
+
     /// No objects. It takes no memory until the first one is placed.
     pub fn new(alloc: A) -> Self
         ensures empty { result.values ≡ map.empty }
@@ -63,6 +67,17 @@ impl<T, A: Allocator> Objects<T, A> {
         ensures { option_copied result ≡ object_at self.now place }
     {
         self.slab.get(place.index())
+    }
+
+    /// The object at `place` to be changed, if one stands there. One look-up, O(1).
+    ///
+    /// What is left behind the reference when it ends stands at the place then, and nothing else has changed.
+    #[inline]
+    pub fn get_mut(&mut self, place: Place) -> Option<&mut T>
+        ensures* writes_back { sem 𝓛 (LendsObject T.row A.row A.Allocator self.entry place result) }
+        ensures value { option_copied_mut result ≡ object_at self.old place }
+    {
+        self.slab.get_mut(place.index())
     }
 
     /// Whether an object stands at `place`. One look-up, O(1).

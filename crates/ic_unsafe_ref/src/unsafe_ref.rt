@@ -5,8 +5,8 @@
 //! list.push_back(&mut links, object)?;
 //! ```
 
-ghost use Rattle.std.specs.Prelude.{◌≡◌, ◌<◌, ◌^◌, IfOk, IfErr, ⊤};
-ghost use Rattle.ic_unsafe_ref.specs.Objects.{Places};
+ghost use Rattle.std.specs.Prelude.{◌≡◌, ◌<◌, ◌^◌, true, Some, IfOk, IfErr, ⊤};
+ghost use Rattle.ic_unsafe_ref.specs.Objects.{Places, Frees, object_at, is_placed};
 
 use crate::{Objects, Place};
 use std::alloc::{AllocError, Allocator};
@@ -71,6 +71,19 @@ impl<T> UnsafeRef<T> {
             Ok(index) => Ok(UnsafeRef::new(Place::of_index(index))),
             Err(failed) => Err((AllocError, failed.value)),
         }
+    }
+
+    /// Takes the object out of its place and answers it. The place is vacant then, and may be given again: another
+    /// reference to it names what stands there next.
+    ///
+    /// It asks that an object stands there. Links are kept apart from objects: one that is linked stays so. O(1), and it
+    /// takes no memory.
+    pub fn into_box<A: Allocator>(self, objects: &mut Objects<T, A>) -> T
+        requires placed { is_placed objects.old self ≡ true }
+        ensures value { object_at objects.old self ≡ Some result }
+        ensures freed { Frees objects.old objects.new self }
+    {
+        objects.slab.remove(self.place.index())
     }
 }
 

@@ -5,6 +5,7 @@ use ic_unsafe_ref::{Objects, Place, UnsafeRef};
 use rationed::Rationed;
 use rows::{Answer, Played, Run, play};
 use std::fmt::{self, Write};
+use std::mem;
 use std::test::Fail;
 
 // Objects over an allocator that refuses the requests which a row names, and the value that came back last.
@@ -30,6 +31,22 @@ impl Stand<'_> {
                 Answer::Refused("memory")
             }
         }
+    }
+
+    // Another value in place of the one that stands there, which is the answer.
+    fn set(&mut self, place: Place, value: u64) -> Answer {
+        match self.objects.get_mut(place) {
+            Some(object) => Answer::Number(mem::replace(object, value)),
+            None => Answer::Nothing,
+        }
+    }
+
+    // Takes out the object, if one stands there.
+    fn take(&mut self, place: Place) -> Answer {
+        if !self.objects.is_placed(place) {
+            return Answer::Refused("vacant");
+        }
+        Answer::Number(UnsafeRef::new(place).into_box(&mut self.objects))
     }
 
     // A call with a place.
@@ -71,6 +88,14 @@ impl Played for Stand<'_> {
                 Ok(number) => self.of_number(words[0], number),
                 Err(_) => Answer::Refused("number"),
             },
+            ["take", place] => match read_place(place) {
+                Some(place) => self.take(place),
+                None => Answer::Refused("place"),
+            },
+            ["set", place, value] => match (read_place(place), value.parse()) {
+                (Some(place), Ok(value)) => self.set(place, value),
+                _ => Answer::Refused("place"),
+            },
             [call, place] => match read_place(place) {
                 Some(place) => self.of_place(call, place),
                 None => Answer::Refused("place"),
@@ -95,7 +120,7 @@ impl Played for Stand<'_> {
     }
 }
 
-const RUNS: [Run; 2] = [
+const RUNS: [Run; 3] = [
     Run {
         name: "objects by place",
         rows: "
@@ -113,6 +138,27 @@ const RUNS: [Run; 2] = [
         at 1        | 1
         at 2        | none
         next_place  | 2
+        ",
+    },
+    Run {
+        name: "objects change and leave",
+        rows: "
+        place 10    | 0      | 0:10
+        place 20    | 1      | 0:10 1:20
+        place 30    | 2      | 0:10 1:20 2:30
+        set 1 25    | 20     | 0:10 1:25 2:30
+        set 3 40    | none
+        take 1      | 25     | 0:10 2:30
+        take 1      | vacant
+        set 1 20    | none
+        is_placed 1 | no
+        at 1        | none
+        len         | 2
+        place 50    | 1      | 0:10 1:50 2:30
+        take 0      | 10     | 1:50 2:30
+        take 2      | 30     | 1:50
+        take 1      | 50     |
+        len         | 0
         ",
     },
     Run {
