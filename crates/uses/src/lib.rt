@@ -4,3 +4,4 @@
 pub mod first_steps;
 pub mod lru;
 pub mod queue;
+pub mod race;
