@@ -1,4 +1,4 @@
-//! Uses of the collections, as a caller writes them: each with a contract, and run by a test.
+//! Uses of the collections and of claims, as a caller writes them: each with a contract, and run by a test.
 #![tactic(auto)]
 
 pub mod first_steps;
