@@ -51,9 +51,10 @@ one_steps hs held k new last in_hs in_held was now j = dite (ℕ_discrete j k)
 no_place : (p : Place) → None ≡ Some p → ⊥
 no_place p e = absurd (cc)
 
--- all but the first left
-pub first_stays : (hs : List Holder) (held : List (Option Place)) → length held ≡ length hs → HoldEach hs held → HoldEach (take 1 hs) (take 1 held)
-first_stays hs [] long was k p is = absurd (no_place p is)
-first_stays [] (o ∷ os) long was k p is = absurd (omega (arith, long))
-first_stays (h ∷ hs) (o ∷ os) long was zero p is = was 0 p is
-first_stays (h ∷ hs) (o ∷ os) long was (suc k) p is = absurd (no_place p is)
+-- the holders behind the first n left
+pub first_stay : (n : ℕ) (hs : List Holder) (held : List (Option Place)) → length held ≡ length hs → HoldEach hs held → HoldEach (take n hs) (take n held)
+first_stay zero hs held long was k p is = absurd (no_place p is)
+first_stay (suc n) hs [] long was k p is = absurd (no_place p is)
+first_stay (suc n) [] (o ∷ os) long was k p is = absurd (omega (arith, long))
+first_stay (suc n) (h ∷ hs) (o ∷ os) long was zero p is = was 0 p is
+first_stay (suc n) (h ∷ hs) (o ∷ os) long was (suc k) p is = first_stay n hs os (omega (arith, long)) (λ j. was (suc j)) k p is

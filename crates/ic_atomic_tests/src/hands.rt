@@ -1,4 +1,4 @@
-//! Claims with two holders.
+//! Claims with three holders.
 
 ghost use Rattle.std.specs.Prelude.{◌≡◌, ◌<◌, vec_len, All};
 ghost use Rattle.ic_unsafe_ref.specs.Places.{index_of};
@@ -48,16 +48,16 @@ fn step(
     }
 }
 
-/// The parties A and B. A row is one of these:
+/// The parties A, B and C. A row is one of these:
 ///
-/// - `A claim 3`, or B, and a release or a look: one step. A release is answered as by a core, and made only where the
+/// - `A claim 3`, or B or C, and a release or a look: one step. A release is answered as by a core, and made only where the
 ///   place is the one that the party claimed last.
 /// - `A leaves`: its holder is dropped.
 /// - `audit`: the holders that are there are audited together. The answer is how many these are.
 #[derive(Drop)]
 struct Hands<'c> {
     claims: &'c Claims,
-    // That of B, and behind it that of A while it is there.
+    // Those of B and C, and behind them that of A while it is there.
     holders: Vec<Holder>,
     // The place that each claimed last, as long as it holds that.
     held: Vec<Option<Place>>,
@@ -69,8 +69,9 @@ struct Hands<'c> {
 // Where the holder of the party stands.
 fn party(letter: &str) -> Option<usize> {
     match letter {
-        "A" => Some(1),
+        "A" => Some(2),
         "B" => Some(0),
+        "C" => Some(1),
         _ => None,
     }
 }
@@ -121,8 +122,8 @@ impl<'c> Hands<'c> {
             holders,
             held,
         } = self;
-        holders.truncate(1);
-        held.truncate(1);
+        holders.truncate(2);
+        held.truncate(2);
         Answer::Done
     }
 }
@@ -152,18 +153,19 @@ const AUDITED_RUNS: [Run; 2] = [
     Run {
         name: "audits between the steps",
         rows: "
-        audit       | 2
+        audit       | 3
         A claim 3   | yes
-        audit       | 2
+        audit       | 3
         B claim 3   | no
-        B claim 1   | yes
+        C claim 1   | yes
         A look 1    | yes
-        audit       | 2
+        audit       | 3
         A release 3 | yes
-        audit       | 2
+        audit       | 3
         B claim 3   | yes
         A claim 3   | no
-        audit       | 2
+        C release 1 | yes
+        audit       | 3
         ",
     },
     Run {
@@ -171,20 +173,22 @@ const AUDITED_RUNS: [Run; 2] = [
         rows: "
         A claim 0   | yes
         A leaves    | ok
-        audit       | 1
+        audit       | 2
         B claim 0   | no
         B claim 1   | yes
-        audit       | 1
+        C claim 1   | no
+        audit       | 2
         B release 1 | yes
-        B look 1    | no
+        C look 1    | no
+        C look 0    | yes
         ",
     },
 ];
 
-// Plays the runs, each on four places that are free, with two holders.
+// Plays the runs, each on four places that are free, with three holders.
 fn play_each(alloc: Global, runs: &[Run]) -> Result<(), Fail> {
     for run in runs {
-        let (claims, holders) = Claims::new(alloc, 4, 2)?;
+        let (claims, holders) = Claims::new(alloc, 4, 3)?;
         play(alloc, &mut Hands::new(alloc, &claims, holders)?, run)?;
     }
     Ok(())
