@@ -2,4 +2,9 @@ pub mod Lists
 pub mod LastChangeLemmas
 pub mod RecordLemmas
 pub mod OneListLemmas
+pub mod OrderLemmas
+pub mod HandLemmas
 pub mod RuleLemmas
+pub mod HolderLemmas
+pub mod LastStepLemmas
+pub mod NoMoreLemmas

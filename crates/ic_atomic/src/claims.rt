@@ -1,11 +1,11 @@
 //! The claim words, which threads share.
 
-ghost use Rattle.std.specs.Prelude.{◌≡◌, true, ◌<◌, ◌≤◌, ◌+◌, ◌↔◌, [], ◌∷◌, ◌++◌, vec_len, if◌then◌else◌, All, IfOk};
+ghost use Rattle.std.specs.Prelude.{◌≡◌, true, ◌<◌, ◌≤◌, ◌+◌, ◌↔◌, [], ◌∷◌, ◌++◌, map, replicate, vec_len, if◌then◌else◌, All, IfOk};
 ghost use Rattle.std.specs.Bool.{OnTrue, OnFalse};
 ghost use Rattle.ic_unsafe_ref.specs.Places.{index_of};
 
-use crate::rule::{Claimed, Looked, OneList, Released, Seated};
-use crate::step::Record;
+use crate::hand::{Hand, Size};
+use crate::rule::{Behind, Claimed, Compared, FirstOff, Looked, OneList, Released, Seated};
 use atomic_table::{Seat, Table};
 use ic_unsafe_ref::Place;
 use std::alloc::{AllocError, Allocator, Global};
@@ -14,12 +14,13 @@ use thiserror::Error;
 /// Claims on places: a word for each, 1 where some holder holds the place and 0 where none does.
 ///
 /// Threads share it by reference. A word changes in single atomic steps, each of them a call of a holder. Between any
-/// two steps the records of all holders are one list of steps, in which each answer is that of one thread alone.
+/// two steps the records of all holders are one list of steps, in which each answer is that of one thread alone. There
+/// are as many records as holders were made with the claims, and no call adds one.
 #[derive(Drop)]
 pub struct Claims<A: Allocator = Global> {
-    table: Table<(), Record, usize, OneList, A>,
+    table: Table<(), Hand, Size, OneList, A>,
     places: usize,
-    ghost counted: { table.shared.key ≡ table.shared.table_id.words },
+    ghost counted: { table.shared.key.words ≡ table.shared.table_id.words },
     ghost room: { places < table.shared.table_id.words },
 }
 
@@ -28,7 +29,7 @@ pub struct Claims<A: Allocator = Global> {
 /// A holder that is dropped keeps what it held.
 #[derive(Drop)]
 pub struct Holder {
-    seat: Seat<(), Record>,
+    seat: Seat<(), Hand>,
 }
 
 /// Why no claims were made.
@@ -43,10 +44,12 @@ pub enum ClaimsError {
 }
 
 impl<A: Allocator + Copy> Claims<A> {
-    ghost use Rattle.ic_atomic.specs.Holders.{places_of, record_of, IsOf};
+    ghost use Rattle.ic_atomic.specs.Holders.{places_of, holders_of, IsSeatOf, hand_of, hand_with, record_of, IsOf};
 
-    /// Claims on the places with an index below `places`, all of them free, and as many holders, whose records are
+    /// Claims on the places with an index below `places`, all of them free, and `holders` holders, whose records are
     /// empty.
+    ///
+    /// No other holder of these claims is ever made: who claims later has to be handed one of these.
     ///
     /// It is refused above 4,294,967,296 places, and where no memory is found; then nothing is made. At most four
     /// requests for memory, for a word a place and the holders; no other call makes any. O(places + holders).
@@ -57,13 +60,14 @@ impl<A: Allocator + Copy> Claims<A> {
     ) -> Result<(Claims<A>, Vec<Holder, A>), ClaimsError>
         ensures too_many { (result ≡ Err ClaimsError.TooManyPlaces) ↔ (4294967296 < places) }
         ensures places { IfOk result (λ made. places_of made.0 ≡ places) }
+        ensures all { IfOk result (λ made. holders_of made.0 ≡ holders) }
         ensures holders { IfOk result (λ made. vec_len made.1 ≡ holders) }
         ensures fresh { IfOk result (λ made. All (λ h. IsOf made.0 h × (record_of h ≡ [])) made.1.items) }
     {
         if places > Place::COUNT {
             return Err(ClaimsError::TooManyPlaces);
         }
-        let Ok(claims) = Claims::free(alloc, places) else {
+        let Ok((claims, mut dealer)) = Claims::free(alloc, places, holders) else {
             return Err(ClaimsError::OutOfMemory);
         };
         let mut made = Vec::new(alloc);
@@ -71,19 +75,33 @@ impl<A: Allocator + Copy> Claims<A> {
             return Err(ClaimsError::OutOfMemory);
         }
         for _ in 0..holders {
-            made.push_reserved(claims.holder());
+            made.push_reserved(Holder {
+                seat: claims.first_of(&mut dealer),
+            });
         }
         Ok((claims, made))
     }
 
-    // Claims with no holder. There is one word more than there are places, so that there is one to load.
-    fn free(alloc: A, places: usize) -> Result<Claims<A>, AllocError>
+    // Claims, and a seat that has every record in hand. There is one word more than there are places, so that there is
+    // one to load.
+    fn free(
+        alloc: A,
+        places: usize,
+        holders: usize,
+    ) -> Result<(Claims<A>, Seat<(), Hand>), AllocError>
         requires { places ≤ 4294967296 }
-        ensures { IfOk result (λ claims. places_of claims ≡ places) }
+        ensures places { IfOk result (λ made. places_of made.0 ≡ places) }
+        ensures all { IfOk result (λ made. holders_of made.0 ≡ holders) }
+        ensures seat { IfOk result (λ made. IsSeatOf made.0 made.1) }
+        ensures hand { IfOk result (λ made. hand_of made.1 ≡ hand_with made.0 (replicate holders [])) }
     {
         let words = vec![in alloc; 0; places + 1]?;
-        let (table, _) = Table::of_words(alloc, words.as_slice(), &(places + 1))?;
-        Ok(Claims { table, places })
+        let size = Size {
+            words: places + 1,
+            holders,
+        };
+        let (table, dealer) = Table::of_words(alloc, words.as_slice(), &size)?;
+        Ok((Claims { table, places }, dealer))
     }
 }
 
@@ -91,16 +109,28 @@ impl<A: Allocator> Claims<A> {
     ghost use Rattle.ic_atomic.specs.declared.step.Step.TheVariants.{Claim, Release, Look};
     ghost use Rattle.ic_atomic.specs.Records.{event, holds, HoldsAlso, GivesUp, HoldsTheSame};
     ghost use Rattle.ic_atomic.specs.OneList.{AtOneMoment};
-    ghost use Rattle.ic_atomic.specs.Holders.{places_of, record_of, IsOf};
+    ghost use Rattle.ic_atomic.specs.Hands.{without_first, only_first, both_hands};
+    ghost use Rattle.ic_atomic.specs.Holders.{places_of, holders_of, IsSeatOf, hand_of, HasNoSlot, record_of, IsOf, AreOneList, AreWholeList, NoneTwice};
 
-    // One holder more.
-    fn holder(&self) -> Holder
-        ensures made { IsOf self.now result }
-        ensures fresh { record_of result ≡ [] }
+    // The first record that a seat has in hand, in a new seat.
+    fn first_of(&self, seat: &mut Seat<(), Hand>) -> Seat<(), Hand>
+        requires seat { IsSeatOf self.now seat.old }
+        ensures seat { IsSeatOf self.now seat.new }
+        ensures rest { hand_of seat.new ≡ without_first (hand_of seat.old) }
+        ensures made { IsSeatOf self.now result × HasNoSlot result }
+        ensures first { hand_of result ≡ only_first (hand_of seat.old) }
     {
-        Holder {
-            seat: self.table.shared.load_new_seat::<Seated>(0).1,
-        }
+        self.table.shared.split_seat::<FirstOff>(seat)
+    }
+
+    // Puts the records of another seat behind those of this one, and that seat is gone.
+    fn put_behind(&self, seat: &mut Seat<(), Hand>, other: Seat<(), Hand>)
+        requires seat { IsSeatOf self.now seat.old }
+        requires other { IsSeatOf self.now other × HasNoSlot other }
+        ensures seat { IsSeatOf self.now seat.new }
+        ensures both { hand_of seat.new ≡ both_hands (hand_of seat.old) (hand_of other) }
+    {
+        self.table.shared.join_seat::<Behind>(seat, other);
     }
 
     /// How many places there are claims on: those with a smaller index. O(1).
@@ -123,7 +153,7 @@ impl<A: Allocator> Claims<A> {
         ensures made { IsOf self.now holder.new }
         ensures step { record_of holder.new
             ≡ record_of holder.old ++ event (Claim place) (if result then 0 else 1) ∷ [] }
-        ensures moment { AtOneMoment (Claim place) (if result then 0 else 1)
+        ensures moment { AtOneMoment (holders_of self.now) (Claim place) (if result then 0 else 1)
             (record_of holder.old) (record_of holder.new) }
         ensures claimed { OnTrue result (HoldsAlso (record_of holder.old) (record_of holder.new) place) }
         ensures refused { OnFalse result (HoldsTheSame (record_of holder.old) (record_of holder.new)) }
@@ -145,7 +175,7 @@ impl<A: Allocator> Claims<A> {
         ensures made { IsOf self.now holder.new }
         ensures step { record_of holder.new
             ≡ record_of holder.old ++ event (Release place) 1 ∷ [] }
-        ensures moment { AtOneMoment (Release place) 1
+        ensures moment { AtOneMoment (holders_of self.now) (Release place) 1
             (record_of holder.old) (record_of holder.new) }
         ensures released { GivesUp (record_of holder.old) (record_of holder.new) place }
     {
@@ -164,12 +194,41 @@ impl<A: Allocator> Claims<A> {
         ensures made { IsOf self.now holder.new }
         ensures step { record_of holder.new
             ≡ record_of holder.old ++ event (Look place) (if result then 1 else 0) ∷ [] }
-        ensures moment { AtOneMoment (Look place) (if result then 1 else 0)
+        ensures moment { AtOneMoment (holders_of self.now) (Look place) (if result then 1 else 0)
             (record_of holder.old) (record_of holder.new) }
         ensures kept { HoldsTheSame (record_of holder.old) (record_of holder.new) }
     {
         let words = &self.table.shared;
         let found = words.load::<Looked>(&mut holder.seat, place.index());
         found == 1
+    }
+
+    /// Proves to its caller what the records of these holders say together: with those of all other holders of the
+    /// claims they are one list of steps, alone where these are all, and no place is held by two of them.
+    ///
+    /// It is for whoever has holders of several threads together, as after a join. It asks that each holder was made
+    /// with these claims; which of them are there, and in which order, is free. Neither a word nor a record is changed,
+    /// and it is never refused. Four loads a holder and two more, O(holders), which wait for nobody; no memory.
+    pub fn audit<B: Allocator>(&self, holders: &mut Vec<Holder, B>)
+        requires made { All (λ h. IsOf self.now h) holders.old.items }
+        ensures made { All (λ h. IsOf self.now h) holders.new.items }
+        ensures same { map record_of holders.new.items ≡ map record_of holders.old.items }
+        ensures one_list { AreOneList self.now (map record_of holders.new.items) }
+        ensures whole { vec_len holders.new ≡ holders_of self.now
+            → AreWholeList self.now (map record_of holders.new.items) }
+        ensures apart { NoneTwice (map record_of holders.new.items) }
+    {
+        let words = &self.table.shared;
+        // One load speaks of one seat, so all records go to one first.
+        let mut all = words.load_new_seat::<Seated>(0).1;
+        for i in 0..holders.len() {
+            let record = self.first_of(&mut holders[i].seat);
+            self.put_behind(&mut all, record);
+        }
+        words.load::<Compared>(&mut all, 0);
+        for i in 0..holders.len() {
+            let record = self.first_of(&mut all);
+            self.put_behind(&mut holders[i].seat, record);
+        }
     }
 }

@@ -10,12 +10,15 @@
 //!     // nobody held the place, and now this holder does
 //!     claims.release(&mut holder, place);
 //! }
+//! // where holders of several threads are together again: what their records say together
+//! claims.audit(&mut holders);
 //! ```
 //!
 //! [`Core`] is the same as a plain value of one thread: what it answers is what the claims answer to the same steps.
 #![tactic(auto)]
 
 mod claims;
+mod hand;
 mod machine;
 mod rule;
 mod step;

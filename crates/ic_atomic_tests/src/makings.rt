@@ -13,10 +13,11 @@ use std::test::Fail;
 // The request to refuse where none is.
 const NONE: u64 = u64::MAX;
 
-// Whether the last holder claims place 0, where there are both.
+// Audits the holders, and tells whether the last of them claims place 0, where there are both.
 fn claim_first(claims: &Claims<&Rationed>, mut holders: Vec<Holder, &Rationed>) -> Answer
     requires { All (λ h. IsOf claims.now h) holders.items }
 {
+    claims.audit(&mut holders);
     let Some(mut holder) = holders.pop() else {
         return Answer::Nothing;
     };
@@ -46,7 +47,8 @@ fn making(
 // The request for memory to refuse, how many places and holders to make, and what is made then.
 //
 // There are four requests: the words as a list, the table's own words and its empty row of slots, and the holders. Each
-// is refused once, the same call then finds memory, and a fifth request is not asked for.
+// is refused once, the same call then finds memory, and a fifth request is not asked for, by the audit and the claim
+// neither.
 const MAKINGS: [(u64, usize, usize, &str); 12] = [
     (NONE, 0, 2, "0 places, 2 holders, none"),
     (NONE, 4_294_967_297, 1, "TooManyPlaces"),

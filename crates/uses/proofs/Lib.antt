@@ -1,2 +1,3 @@
 pub mod Outcomes
 pub mod PutBack
+pub mod RaceLemmas

@@ -2,3 +2,4 @@ pub mod EitherTables
 pub mod LentTables
 pub mod Notes
 pub mod RecordedTables
+pub mod Race

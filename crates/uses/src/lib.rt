@@ -1,4 +1,4 @@
-//! Uses of the collections, as a caller writes them: each with a contract, and run by a test.
+//! Uses of the collections and of claims, as a caller writes them: each with a contract, and run by a test.
 #![tactic(auto)]
 
 pub mod either_table;
@@ -7,4 +7,5 @@ pub mod lent_table;
 pub mod lru;
 pub mod pairs;
 pub mod queue;
+pub mod race;
 pub mod recorded_table;

@@ -1,10 +1,11 @@
-//! A cache, a queue and the first steps, over a table of three places.
+//! A cache, a queue and the first steps, over a table of three places, and a race for a place.
 
 ghost use Rattle.std.specs.Prelude.{[]};
 ghost use Rattle.ic_link_ops.specs.Tables.{IsCovered};
 ghost use Rattle.ic_link_ops.specs.LinkedList.{Shows};
 ghost use Rattle.ic_link_ops.specs.DoublyEntries.{entries, neighbors_of, table_of};
 
+use ic_atomic::Claims;
 use ic_link_ops::AlreadyLinked;
 use ic_link_ops::linked_list::LinkOps;
 use ic_linked_list::LinkedList;
@@ -13,6 +14,7 @@ use std::process::Abort;
 use std::test::Fail;
 use uses::either_table::EitherTable;
 use uses::first_steps::first_steps;
+use uses::race::race;
 use uses::{lent_table, lru, pairs, queue};
 
 // Asserts that these places were found. The one assert of the tests.
@@ -163,5 +165,16 @@ fn a_table_stays_the_second_of_two(rt: HostRuntime) -> Result<(), Fail> {
     let object = covered(&rt, &links, 2);
     let found = over_the_second(links, object)?;
     same(&rt, &[found], &[2]);
+    Ok(())
+}
+
+#[test]
+fn just_one_of_two_threads_claims_a_place(rt: HostRuntime) -> Result<(), Fail> {
+    let (claims, mut holders) = Claims::new(rt.alloc(), 1, 2)?;
+    let Some(place) = Place::new(0) else {
+        return Err(Fail::from("no such place"));
+    };
+    let (first, second) = race(&rt, &claims, &mut holders, place);
+    assert!(rt; first != second);
     Ok(())
 }

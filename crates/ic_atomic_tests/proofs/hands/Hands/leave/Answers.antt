@@ -1,0 +1,11 @@
+use Rattle.std.proofs.Common.{◌≡◌, take, length, subst, sym, arith}
+use Rattle.ic_atomic_tests.specs.Held.{HoldEach}
+use Rattle.ic_atomic_tests.proofs.HeldLemmas.{first_stay}
+use Rattle.ic_atomic_tests.proofs.hands.Hands.leave.Goals as goal
+
+pub invariant_of-self-clause-holding : goal.invariant_of-self-clause-holding
+invariant_of-self-clause-holding c =
+    let self = c.args.self.now in
+    let long : length self.held.items ≡ length self.holders.items = omega (arith, self.long) in
+    let one : HoldEach (take 2 self.holders.items) (take 2 self.held.items) = first_stay 2 self.holders.items self.held.items long self.holding in
+    subst (HoldEach c.truncate.new.self.items) (sym c.truncate-2.ensures.items) (subst (λ hs. HoldEach hs (take 2 self.held.items)) (sym c.truncate.ensures.items) one)

@@ -1,0 +1,19 @@
+-- What a thread needs that claims a place, and what it brings back.
+use Rattle.std.specs.Prelude.{◌≡◌, ◌<◌, Bool, if◌then◌else◌, [], ◌∷◌, ◌++◌}
+use Rattle.ic_unsafe_ref.specs.declared.place.Place.{Place}
+use Rattle.ic_unsafe_ref.specs.Places.{index_of}
+use Rattle.ic_atomic.specs.declared.step.Step.TheVariants.{Claim}
+use Rattle.ic_atomic.specs.declared.claims.Claims.{Claims}
+use Rattle.ic_atomic.specs.declared.claims.Holder.{Holder}
+use Rattle.ic_atomic.specs.Records.{event}
+use Rattle.ic_atomic.specs.Holders.{places_of, record_of, IsOf}
+
+-- the place is one of the claims' places, and the holder was made with them
+pub record CanClaim {A : Type 0} (claims : Claims A) (place : Place) (holder : Holder) : Type 0 where
+  pub inside : index_of place < places_of claims
+  pub made : IsOf claims holder
+
+-- the holder has its old record, and behind that a claim of the place that was answered so
+pub record HasClaimed {A : Type 0} (claims : Claims A) (place : Place) (old new : Holder) (answer : Bool) : Type 0 where
+  pub made : IsOf claims new
+  pub step : record_of new ≡ record_of old ++ event (Claim place) (if answer then 0 else 1) ∷ []

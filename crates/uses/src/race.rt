@@ -1,0 +1,70 @@
+//! Two threads claim one place, and just one of them is told that it holds the place.
+//!
+//! ```text
+//! let (claims, mut holders) = Claims::new(rt.alloc(), 1000, 2)?;
+//! let (first, second) = race(&rt, &claims, &mut holders, place); // (true, false) or (false, true)
+//! ```
+
+ghost use Rattle.std.specs.Prelude.{◌≡◌, ◌<◌, ◌∷◌, [], false, not, map, vec_len, All};
+ghost use Rattle.ic_unsafe_ref.specs.Places.{index_of};
+ghost use Rattle.ic_atomic.specs.Records.{holds};
+ghost use Rattle.ic_atomic.specs.Holders.{places_of, holders_of, record_of, IsOf};
+ghost use Rattle.uses.specs.Race.{CanClaim, HasClaimed};
+
+use ic_atomic::{Claims, Holder};
+use ic_unsafe_ref::Place;
+use std::thread;
+use std::thread::Threads;
+
+// A claim by a holder that a thread takes along and brings back.
+fn claim_by(claims: &Claims, mut holder: Holder, place: Place) -> (Holder, bool)
+    requires { CanClaim claims.now place holder }
+    ensures { HasClaimed claims.now place holder result.0 result.1 }
+{
+    let is_claimed = claims.claim(&mut holder, place);
+    (holder, is_claimed)
+}
+
+/// Lets two threads claim one place, each by a holder of its own, and answers what the first and the second holder were
+/// told: just one of them, that it holds the place now.
+///
+/// That is so in whatever order the threads come to the place, and which of the two it is is left open. No contract of
+/// `claim` alone says it, since each call speaks of its own caller: it is `audit` that puts both records together. Were
+/// both told true, both would hold the place, and no place is held by two. Were both told false, somebody would hold
+/// it, and nobody does.
+///
+/// It asks that the two are all holders of the claims, and that neither holds the place. The holders come back, each
+/// with what it was told: it holds the place exactly if the answer is true. O(1), and it takes no memory but that of
+/// one more thread; where none can be started, this thread makes both claims.
+pub fn race<R: Threads + Sync>(
+    rt: &R,
+    claims: &Claims,
+    holders: &mut Vec<Holder>,
+    place: Place,
+) -> (bool, bool)
+    requires place { index_of place < places_of claims.now }
+    requires two { (vec_len holders.old ≡ 2) × (holders_of claims.now ≡ 2) }
+    requires made { All (λ h. IsOf claims.now h) holders.old.items }
+    requires free { All (λ h. holds place (record_of h) ≡ false) holders.old.items }
+    ensures just_one { result.1 ≡ not result.0 }
+    ensures made { All (λ h. IsOf claims.now h) holders.new.items }
+    ensures held { map (λ h. holds place (record_of h)) holders.new.items ≡ result.0 ∷ result.1 ∷ [] }
+{
+    let second = holders.take_last();
+    let first = holders.take_last();
+    let ((first, first_answer), (second, second_answer)) = thread::join(
+        rt,
+        move || -> (Holder, bool)
+            requires { CanClaim claims.now place first }
+            ensures { HasClaimed claims.entry.now place first result.0 result.1 }
+        { claim_by(claims, first, place) },
+        move || -> (Holder, bool)
+            requires { CanClaim claims.now place second }
+            ensures { HasClaimed claims.entry.now place second result.0 result.1 }
+        { claim_by(claims, second, place) },
+    );
+    holders.push_reserved(first);
+    holders.push_reserved(second);
+    claims.audit(holders);
+    (first_answer, second_answer)
+}
