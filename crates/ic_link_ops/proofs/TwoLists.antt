@@ -188,6 +188,13 @@ module _ {E H : Type 0} {Shows : Table E → H → List Place → Type 0} {linke
           edited (join a.gap) frame a.apart (at_front (but_last (join a.gap))) shown
           (absent_swap a.rest (join a.gap) a.apart (but_last (join a.gap)) (λ q h. absent_but_last (join a.gap) q h)) refl
 
+      -- a member fewer, wherever it stood
+      pub taken_off : (front back : List Place) (p : Place) → join a.gap ≡ front ++ p ∷ back → Shows t' list' (front ++ back) → KeepsBeside t t' (join a.gap)
+          → AreApart Shows t' list' other None
+      taken_off front back p e shown frame =
+          edited (join a.gap) frame a.apart (at_front (front ++ back)) shown
+          (absent_swap a.rest (join a.gap) a.apart (front ++ back) (λ q h. absent_without front back p q (rw (← e) h))) refl
+
       -- no member left
       pub cleared : list' ≡ empty → KeepsBeside t t' (join a.gap) → AreApart Shows t' list' other None
       cleared e frame =

@@ -269,7 +269,7 @@ impl<'a, T, L: LinkedListOps> CursorMut<'a, T, L> {
             × (links_of self.new ≡ links_of self.old) × (position self.new ≡ None)) }
         ensures borrows { SameBorrows self.old self.new }
     {
-        self.list.remove(self.links, &mut self.current)
+        self.list.remove_at(self.links, &mut self.current)
     }
 
     /// Puts the object in the place of the member that the cursor is on, and answers that member. O(1).

@@ -239,7 +239,7 @@ impl<T> CursorOwning<T> {
         ensures null { IfNone result ((list_of self.new ≡ list_of self.old) × (links.new ≡ links.old)
             × (position self.new ≡ None)) }
     {
-        self.list.remove(links, &mut self.current)
+        self.list.remove_at(links, &mut self.current)
     }
 
     /// Puts the object in the place of the member that the cursor is on, and answers that member. O(1).

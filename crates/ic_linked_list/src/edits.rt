@@ -94,7 +94,7 @@ impl<T> LinkedList<T> {
 
     // Removes the member at the position, which goes on to the one behind it.
     #[inline]
-    pub(crate) fn remove<L: LinkedListOps>(
+    pub(crate) fn remove_at<L: LinkedListOps>(
         &mut self,
         links: &mut L,
         current: &mut Option<Place>,

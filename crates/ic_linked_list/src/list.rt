@@ -13,6 +13,7 @@ ghost use Rattle.ic_link_ops.specs.LinkSteps.{acquires, releases};
 ghost use Rattle.ic_link_ops.specs.Chains.{no_members, end_of};
 ghost use Rattle.ic_link_ops.specs.Edits.{Inserts, Splices, Splits};
 ghost use Rattle.ic_link_ops.specs.LinkedList.{Shows, ShowsSome};
+ghost use Rattle.ic_linked_list.specs.Stands.{Stands};
 
 use crate::surgery::{follow, lead, stand};
 use ic_link_ops::linked_list::LinkedListOps;
@@ -171,6 +172,22 @@ impl<T> LinkedList<T> {
         self.take_out(links, place);
         links.release_link(place);
         Some(UnsafeRef::new(place))
+    }
+
+    /// Takes the object off the list, of which it asks that it is a member. O(1).
+    ///
+    /// The other members stay in their order, and so does every other list of the table.
+    #[inline]
+    pub fn remove<L: LinkedListOps>(&mut self, links: &mut L, object: &UnsafeRef<T>)
+        requires member { Stands L.neighbors (L.table links.old) self.old (Some object.now) }
+        ensures removed { (front back : List Place) → Shows L.neighbors (L.table links.old) self.old (front ++ object.now ∷ back)
+            → Shows L.neighbors (L.table links.new) self.new (front ++ back) }
+        ensures released { L.Does links.old links.new (releases object.now ∷ []) }
+        ensures frame { (s : List Place) → Shows L.neighbors (L.table links.old) self.old s
+            → KeepsBeside (L.table links.old) (L.table links.new) s }
+    {
+        self.take_out(links, object.place());
+        links.release_link(object.place());
     }
 
     // Puts the object into the gap between two neighbours, unless its link is refused.

@@ -97,6 +97,16 @@ impl Lists {
         Answer::Done
     }
 
+    /// Takes off the member that the cursor is on, by its reference.
+    pub(crate) fn remove_object(&mut self) -> Answer {
+        let Some(place) = self.at else {
+            return Answer::Refused("null");
+        };
+        self.list.remove(&mut self.links, &UnsafeRef::new(place));
+        self.at = None;
+        Answer::Done
+    }
+
     /// Moves the cursor to null.
     pub(crate) fn null(&mut self) -> Answer {
         let mut cursor = owning(&mut self.list, &self.links, self.at);

@@ -226,6 +226,7 @@ impl Lists {
             "swap" => self.swap(),
             "remove" => self.remove(),
             "remove_first" => self.remove_first(),
+            "remove_object" => self.remove_object(),
             "split_then_splice" => self.split_then_splice(),
             "splice_after" => self.splice_after(),
             "splice_before" => self.splice_before(),

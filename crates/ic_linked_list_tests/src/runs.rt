@@ -62,6 +62,25 @@ pub(crate) const OWN: &[Run] = &[
         ",
     },
     Run {
+        name: "a member removed by its reference",
+        rows: "
+        remove_object      | null
+        push_back 0 1 2 3  | ok  | 0 1 2 3
+        on 2               | ok  | 0 1 (2) 3
+        remove_object      | ok  | 0 1 3
+        is_linked 2        | no
+        back               | ok  | 0 1 (3)
+        remove_object      | ok  | 0 1
+        front              | ok  | (0) 1
+        split_after        | ok  | (0) + 1
+        remove_object      | ok  | + 1
+        swap               | ok  | 1
+        front              | ok  | (1)
+        remove_object      | ok  |
+        linked             |
+        ",
+    },
+    Run {
         name: "null there and back",
         rows: "
         there_and_back  | none none

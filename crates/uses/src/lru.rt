@@ -6,20 +6,18 @@
 //! let forgotten = lru::forget_oldest(&mut order, &mut links);
 //! ```
 
-ghost use Rattle.std.specs.Prelude.{◌≡◌, ◌++◌, ◌∷◌, List, [], Some, OnOk, OnErr, IfErr, IfSome, IfNone};
+ghost use Rattle.std.specs.Prelude.{◌≡◌, ◌++◌, ◌∷◌, List, Some, OnOk, OnErr, IfErr, IfSome, IfNone};
 ghost use Rattle.ic_unsafe_ref.specs.declared.place.Place.{Place};
-ghost use Rattle.ic_link_ops.specs.Sequences.{Cut, join, last, but_last, IsBefore};
+ghost use Rattle.ic_link_ops.specs.Sequences.{last, but_last};
 ghost use Rattle.ic_link_ops.specs.Tables.{IsCovered, IsLinked, KeepsBeside, KeepsLinked, LinksAlso, Unlinks};
-ghost use Rattle.ic_link_ops.specs.LinkSteps.{releases};
-ghost use Rattle.ic_link_ops.specs.Edits.{Removes};
 ghost use Rattle.ic_link_ops.specs.LinkedList.{Shows, ShowsSome};
 ghost use Rattle.ic_link_ops.specs.DoublyEntries.{entries, is_linked, neighbors_of, table_of};
 ghost use Rattle.ic_linked_list.specs.Stands.{Stands};
 
 use ic_link_ops::AlreadyLinked;
-use ic_link_ops::linked_list::{LinkOps, LinkedListOps};
+use ic_link_ops::linked_list::LinkOps;
 use ic_linked_list::LinkedList;
-use ic_unsafe_ref::{Place, UnsafeRef};
+use ic_unsafe_ref::UnsafeRef;
 use std::alloc::Allocator;
 
 /// Puts an object into the cache, as the one touched last. O(1), and it takes no memory.
@@ -44,19 +42,6 @@ pub fn insert<T, A: Allocator>(
     order.push_front(links, object)
 }
 
-// Takes the member at a place off the list.
-#[inline]
-fn take_off<T, L: LinkedListOps>(list: &mut LinkedList<T>, links: &mut L, place: Place)
-    requires member { Stands L.neighbors (L.table links.old) list.old (Some place) }
-    ensures removed { (gap : Cut) → Shows L.neighbors (L.table links.old) list.old (join gap)
-        → IsBefore gap (Some place) → Removes (Shows L.neighbors)
-        (L.table links.old) (L.table links.new) list.new gap }
-    ensures released { L.Does links.old links.new (releases place ∷ []) }
-{
-    let mut cursor = list.cursor_mut_from_ptr(links, UnsafeRef::new(place));
-    let _ = cursor.remove();
-}
-
 /// Makes a member the one touched last: all others keep their order. O(1), and it takes no memory.
 ///
 /// It asks that the object is a member, and is never refused. The same objects are linked before and after.
@@ -74,7 +59,7 @@ pub fn touch<T, A: Allocator>(
         → Shows neighbors_of (table_of (entries links.old)) order.old (front ++ object ∷ back)
         → KeepsBeside (table_of (entries links.old)) (table_of (entries links.new)) (front ++ object ∷ back) }
 {
-    take_off(order, links, object.place());
+    order.remove(links, &object);
     let _ = order.push_front(links, object);
 }
 
