@@ -8,7 +8,7 @@
 //! ```
 #![tactic(auto)]
 
-ghost use Rattle.ic_link_ops.specs.DoublyEntries.{entries, table_of};
+ghost use Rattle.ic_link_ops.specs.DoublyEntries.{plain_table};
 ghost use Rattle.ic_link_ops.specs.Tables.{IsCovered};
 ghost use Rattle.std.specs.Prelude.{◌≡◌, IfSome};
 ghost use Rattle.ic_link_ops.specs.PlainTables.{table};
@@ -34,7 +34,7 @@ const STRIDE: usize = 7919;
 // Puts the object at the back of the list, unless it is linked already.
 #[inline]
 fn put(list: &mut LinkedList<u64>, links: &mut LinkOps, object: UnsafeRef<u64>)
-    requires covered { IsCovered (table_of (entries links.old)) object }
+    requires covered { IsCovered (plain_table links.old) object }
     requires shown { ShowsList links.old list.old }
     ensures { ShowsList links.new list.new }
 {

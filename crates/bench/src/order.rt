@@ -7,8 +7,7 @@
 
 ghost use Rattle.std.specs.Prelude.{List, Some, IfSome};
 ghost use Rattle.ic_unsafe_ref.specs.declared.place.Place.{Place};
-ghost use Rattle.ic_link_ops.specs.LinkedList.{Shows};
-ghost use Rattle.ic_link_ops.specs.DoublyEntries.{entries, neighbors_of, table_of};
+ghost use Rattle.ic_link_ops.specs.DoublyEntries.{neighbors_of, plain_table, PlainShows};
 ghost use Rattle.ic_linked_list.specs.Stands.{Stands};
 ghost use Rattle.bench.specs.Plain.{ShowsList};
 
@@ -22,7 +21,7 @@ use uses::lru;
 fn last_but_one(order: &LinkedList<u64>, links: &LinkOps) -> Option<UnsafeRef<u64>>
     requires { ShowsList links.now order.now }
     ensures { IfSome result
-        (λ object. Stands neighbors_of (table_of (entries links.now)) order.now (Some object)) }
+        (λ object. Stands neighbors_of (plain_table links.now) order.now (Some object)) }
 {
     let mut cursor = order.back(links);
     cursor.move_prev();
@@ -32,7 +31,7 @@ fn last_but_one(order: &LinkedList<u64>, links: &LinkOps) -> Option<UnsafeRef<u6
 // One touch, which is counted here.
 #[inline(never)]
 fn touch(order: &mut LinkedList<u64>, links: &mut LinkOps, object: UnsafeRef<u64>)
-    requires { Stands neighbors_of (table_of (entries links.old)) order.old (Some object) }
+    requires { Stands neighbors_of (plain_table links.old) order.old (Some object) }
     ensures { ShowsList links.new order.new }
 {
     lru::touch(order, links, object);
@@ -54,8 +53,8 @@ pub fn touch_often(order: &mut LinkedList<u64>, links: &mut LinkOps, times: u64)
 #[inline(never)]
 fn split_and_splice(list: &mut LinkedList<u64>, links: &mut LinkOps)
     requires shown { ShowsList links.old list.old }
-    ensures same { (s : List Place) → Shows neighbors_of (table_of (entries links.old)) list.old s
-        → Shows neighbors_of (table_of (entries links.new)) list.new s }
+    ensures same { (s : List Place) → PlainShows links.old list.old s
+        → PlainShows links.new list.new s }
 {
     let mut cursor = list.front_mut(links);
     let rest = cursor.split_after();
@@ -65,8 +64,8 @@ fn split_and_splice(list: &mut LinkedList<u64>, links: &mut LinkOps)
 /// Splits the list behind its first member and splices the rest back, so many times: its members stay.
 pub fn split_and_splice_often(list: &mut LinkedList<u64>, links: &mut LinkOps, times: u64)
     requires shown { ShowsList links.old list.old }
-    ensures same { (s : List Place) → Shows neighbors_of (table_of (entries links.old)) list.old s
-        → Shows neighbors_of (table_of (entries links.new)) list.new s }
+    ensures same { (s : List Place) → PlainShows links.old list.old s
+        → PlainShows links.new list.new s }
 {
     for _time in 0..times {
         split_and_splice(list, links);

@@ -5,7 +5,8 @@ use Rattle.ic_link_ops.specs.declared.link.Link.{Link}
 use Rattle.ic_link_ops.specs.declared.linked_list.TwoWords.{TwoWords}
 use Rattle.ic_link_ops.specs.declared.table.PlainTable.{PlainTable}
 use Rattle.ic_link_ops.specs.Tables.{Table}
-use Rattle.ic_link_ops.specs.LinkedList.{Neighbors}
+use Rattle.ic_link_ops.specs.Chains.{Ends}
+use Rattle.ic_link_ops.specs.LinkedList.{Neighbors, Shows, ShowsSome}
 use Rattle.ic_link_ops.specs.Links.{link_of}
 use Rattle.ic_link_ops.specs.TwoWords.{no_words, has_words, next_word_of, prev_of}
 use Rattle.ic_link_ops.specs.Readings as readings
@@ -43,6 +44,17 @@ entry_at = plain.entry_at unlinked
 -- links as a table
 abbrev pub table_of : List DoublyLink → Table DoublyLink
 table_of = plain.table_of unlinked
+
+-- THE PLAIN TABLE of these links, as clauses of its callers see it
+abbrev pub plain_table : {A : Type 0} → DoublyLinkOps A → Table DoublyLink
+plain_table links = table_of (entries links)
+
+-- the plain table shows s for the list with these ends; and it shows some sequence
+abbrev pub PlainShows : {A : Type 0} → DoublyLinkOps A → Ends → List Place → Type 0
+PlainShows links list s = Shows neighbors_of (plain_table links) list s
+
+abbrev pub PlainShowsSome : {A : Type 0} → DoublyLinkOps A → Ends → Type 0
+PlainShowsSome links list = ShowsSome neighbors_of (plain_table links) list
 
 -- an index that is linked is within the table
 pub linked_in_range : (es : List DoublyLink) (i : ℕ) → is_linked (slice_index_or es i unlinked) ≡ true → i < length es

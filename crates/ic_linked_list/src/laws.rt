@@ -12,7 +12,7 @@ ghost use Rattle.ic_unsafe_ref.specs.declared.place.Place.{Place};
 ghost use Rattle.ic_link_ops.specs.Sequences.{insert, at_back, first, last};
 ghost use Rattle.ic_link_ops.specs.Tables.{IsCovered, IsUnlinked, KeepsBeside, KeepsLinked, LinksAlso};
 ghost use Rattle.ic_link_ops.specs.LinkedList.{Shows, ShowsSome};
-ghost use Rattle.ic_link_ops.specs.DoublyEntries.{entries, is_linked, neighbors_of, table_of};
+ghost use Rattle.ic_link_ops.specs.DoublyEntries.{is_linked, plain_table, PlainShows, PlainShowsSome};
 ghost use Rattle.ic_linked_list.specs.Stands.{Stands};
 ghost use Rattle.ic_linked_list.specs.Cursor as reads;
 ghost use Rattle.ic_linked_list.specs.CursorMut as edits;
@@ -76,19 +76,19 @@ pub fn fields_are_apart<T, A: Allocator, B: Allocator>(
     second_links: &mut LinkOps<B>,
     object: Place,
 ) -> bool
-    requires first_covered { IsCovered (table_of (entries first_links.old)) object }
-    requires first_unlinked { IsUnlinked is_linked (table_of (entries first_links.old)) object }
-    requires first_shown { ShowsSome neighbors_of (table_of (entries first_links.old)) first.old }
-    requires second_covered { IsCovered (table_of (entries second_links.old)) object }
-    requires second_unlinked { IsUnlinked is_linked (table_of (entries second_links.old)) object }
-    requires second_shown { ShowsSome neighbors_of (table_of (entries second_links.old)) second.old }
+    requires first_covered { IsCovered (plain_table first_links.old) object }
+    requires first_unlinked { IsUnlinked is_linked (plain_table first_links.old) object }
+    requires first_shown { PlainShowsSome first_links.old first.old }
+    requires second_covered { IsCovered (plain_table second_links.old) object }
+    requires second_unlinked { IsUnlinked is_linked (plain_table second_links.old) object }
+    requires second_shown { PlainShowsSome second_links.old second.old }
     ensures answer { IsTrue result }
-    ensures first { (s : List Place) → Shows neighbors_of (table_of (entries first_links.old)) first.old s
-        → Shows neighbors_of (table_of (entries first_links.new)) first.new (insert (at_back s) object) }
-    ensures first_linked { LinksAlso is_linked (table_of (entries first_links.old)) (table_of (entries first_links.new)) object }
-    ensures second { (s : List Place) → Shows neighbors_of (table_of (entries second_links.old)) second.old s
-        → Shows neighbors_of (table_of (entries second_links.new)) second.new (insert (at_back s) object) }
-    ensures second_linked { LinksAlso is_linked (table_of (entries second_links.old)) (table_of (entries second_links.new)) object }
+    ensures first { (s : List Place) → PlainShows first_links.old first.old s
+        → PlainShows first_links.new first.new (insert (at_back s) object) }
+    ensures first_linked { LinksAlso is_linked (plain_table first_links.old) (plain_table first_links.new) object }
+    ensures second { (s : List Place) → PlainShows second_links.old second.old s
+        → PlainShows second_links.new second.new (insert (at_back s) object) }
+    ensures second_linked { LinksAlso is_linked (plain_table second_links.old) (plain_table second_links.new) object }
 {
     let in_first = first.push_back(first_links, UnsafeRef::new(object)).is_ok();
     let in_second = second
@@ -106,15 +106,15 @@ pub fn push_then_pop<T, A: Allocator>(
     links: &mut LinkOps<A>,
     object: UnsafeRef<T>,
 ) -> Option<UnsafeRef<T>>
-    requires covered { IsCovered (table_of (entries links.old)) object }
-    requires unlinked { IsUnlinked is_linked (table_of (entries links.old)) object }
-    requires shown { ShowsSome neighbors_of (table_of (entries links.old)) list.old }
+    requires covered { IsCovered (plain_table links.old) object }
+    requires unlinked { IsUnlinked is_linked (plain_table links.old) object }
+    requires shown { PlainShowsSome links.old list.old }
     ensures answer { result ≡ Some object }
-    ensures sequence { (s : List Place) → Shows neighbors_of (table_of (entries links.old)) list.old s
-        → Shows neighbors_of (table_of (entries links.new)) list.new s }
-    ensures linked { KeepsLinked is_linked (table_of (entries links.old)) (table_of (entries links.new)) }
-    ensures frame { (s : List Place) → Shows neighbors_of (table_of (entries links.old)) list.old s
-        → KeepsBeside (table_of (entries links.old)) (table_of (entries links.new)) (object ∷ s) }
+    ensures sequence { (s : List Place) → PlainShows links.old list.old s
+        → PlainShows links.new list.new s }
+    ensures linked { KeepsLinked is_linked (plain_table links.old) (plain_table links.new) }
+    ensures frame { (s : List Place) → PlainShows links.old list.old s
+        → KeepsBeside (plain_table links.old) (plain_table links.new) (object ∷ s) }
 {
     let Ok(()) = list.push_back(links, object) else {
         return None;

@@ -34,14 +34,14 @@ pub(crate) struct Lists {
 
 impl Model for Lists {
     ghost use Rattle.std.specs.Prelude.{ℕ};
-    ghost use Rattle.ic_link_ops.specs.DoublyEntries.{entries, table_of};
+    ghost use Rattle.ic_link_ops.specs.DoublyEntries.{plain_table};
     ghost use Rattle.ic_linked_list_tests.specs.Lists.{AreApart};
 
     ghost Value = { ℕ };
 
     ghost view = { λ _. 0 };
 
-    ghost invariant = { λ l. AreApart (table_of (entries l.links)) l.list l.other l.at };
+    ghost invariant = { λ l. AreApart (plain_table l.links) l.list l.other l.at };
 }
 
 impl Lists {

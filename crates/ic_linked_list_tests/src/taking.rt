@@ -1,7 +1,6 @@
 //! Walks that take the members off.
 
-ghost use Rattle.ic_link_ops.specs.LinkedList.{ShowsSome};
-ghost use Rattle.ic_link_ops.specs.DoublyEntries.{neighbors_of, entries, table_of};
+ghost use Rattle.ic_link_ops.specs.DoublyEntries.{neighbors_of, plain_table, PlainShowsSome};
 ghost use Rattle.ic_linked_list.specs.IntoIter.{CanTake};
 
 use crate::answers::{answered, object};
@@ -15,8 +14,8 @@ use std::fmt::{self, Write};
 
 // Takes off the member at the front, or at the back.
 fn take_at(rest: &mut IntoIter<'_, u64, LinkOps>, at_the_front: bool) -> Option<UnsafeRef<u64>>
-    requires can { CanTake neighbors_of (λ links. table_of (entries links)) rest.old }
-    ensures can { CanTake neighbors_of (λ links. table_of (entries links)) rest.new }
+    requires can { CanTake neighbors_of (λ links. plain_table links) rest.old }
+    ensures can { CanTake neighbors_of (λ links. plain_table links) rest.new }
 {
     if at_the_front {
         return rest.next();
@@ -45,7 +44,7 @@ fn write_taken(
     ends: &[&str],
     finishes: bool,
 ) -> fmt::Result
-    requires shown { ShowsSome neighbors_of (table_of (entries links.old)) list }
+    requires shown { PlainShowsSome links.old list }
 {
     let mut rest = list.into_iter(links);
     for end in ends {

@@ -4,8 +4,7 @@ ghost use Rattle.std.specs.Prelude.{◌≡◌, ◌<◌, IfSome, IsTrue, length, 
 ghost use Rattle.ic_unsafe_ref.specs.declared.place.Place.{Place};
 ghost use Rattle.ic_unsafe_ref.specs.Places.{index_of};
 ghost use Rattle.ic_unsafe_ref.specs.Objects.{is_placed};
-ghost use Rattle.ic_link_ops.specs.LinkedList.{ShowsSome};
-ghost use Rattle.ic_link_ops.specs.DoublyEntries.{neighbors_of, entries, table_of};
+ghost use Rattle.ic_link_ops.specs.DoublyEntries.{neighbors_of, entries, plain_table, PlainShowsSome};
 ghost use Rattle.ic_linked_list.specs.Stands.{Stands};
 ghost use Rattle.ic_linked_list.specs.Cursor as reads;
 ghost use Rattle.ic_linked_list.specs.Iter.{CanWalk};
@@ -22,8 +21,8 @@ use std::fmt::{self, Write};
 
 // Moves the cursor, and answers where it is then, and whether a move back would lead where it was.
 fn step(cursor: &mut Cursor<'_, u64, LinkOps>) -> (Option<Place>, bool)
-    requires stands { Stands neighbors_of (table_of (entries (reads.links_of cursor.old))) (reads.list_of cursor.old) (reads.position cursor.old) }
-    ensures stands { Stands neighbors_of (table_of (entries (reads.links_of cursor.new))) (reads.list_of cursor.new) (reads.position cursor.new) }
+    requires stands { Stands neighbors_of (plain_table (reads.links_of cursor.old)) (reads.list_of cursor.old) (reads.position cursor.old) }
+    ensures stands { Stands neighbors_of (plain_table (reads.links_of cursor.new)) (reads.list_of cursor.new) (reads.position cursor.new) }
 {
     let before = cursor.get_ptr();
     cursor.move_next();
@@ -57,7 +56,7 @@ pub(crate) fn write_walk(
     links: &LinkOps,
     at: Option<Place>,
 ) -> fmt::Result
-    requires shown { ShowsSome neighbors_of (table_of (entries links.now)) list.now }
+    requires shown { PlainShowsSome links.now list.now }
 {
     let mut cursor = reading(list, links, None);
     let mut is_empty = true;
@@ -94,8 +93,8 @@ fn walk_over<'a>(
     links: &'a LinkOps,
     objects: &'a Objects<u64>,
 ) -> Option<Iter<'a, u64, LinkOps>>
-    requires shown { ShowsSome neighbors_of (table_of (entries links.now)) list.now }
-    ensures can { IfSome result (λ walk. CanWalk neighbors_of (λ links. table_of (entries links)) walk) }
+    requires shown { PlainShowsSome links.now list.now }
+    ensures can { IfSome result (λ walk. CanWalk neighbors_of (λ links. plain_table links) walk) }
 {
     if are_placed(links, objects) {
         return Some(list.iter(links, objects));
@@ -105,8 +104,8 @@ fn walk_over<'a>(
 
 // The next object at the front, or at the back.
 fn next_at<'a>(walk: &mut Iter<'a, u64, LinkOps>, at_the_front: bool) -> Option<&'a u64>
-    requires can { CanWalk neighbors_of (λ links. table_of (entries links)) walk.old }
-    ensures can { CanWalk neighbors_of (λ links. table_of (entries links)) walk.new }
+    requires can { CanWalk neighbors_of (λ links. plain_table links) walk.old }
+    ensures can { CanWalk neighbors_of (λ links. plain_table links) walk.new }
 {
     if at_the_front {
         return walk.next();
@@ -125,7 +124,7 @@ fn write_given(text: &mut String, given: Option<&u64>) -> fmt::Result {
 
 // The objects that calls at these ends give, then what the walk gives at the front, and a copy of it at the back.
 fn write_ends(text: &mut String, mut walk: Iter<'_, u64, LinkOps>, ends: &[&str]) -> fmt::Result
-    requires can { CanWalk neighbors_of (λ links. table_of (entries links)) walk }
+    requires can { CanWalk neighbors_of (λ links. plain_table links) walk }
 {
     for end in ends {
         write_given(text, next_at(&mut walk, *end == "front"))?;
@@ -138,7 +137,7 @@ fn write_ends(text: &mut String, mut walk: Iter<'_, u64, LinkOps>, ends: &[&str]
 
 // The objects of a walk as the text of a slice.
 fn collected(alloc: Global, walk: Iter<'_, u64, LinkOps>) -> Result<String, AllocError>
-    requires can { CanWalk neighbors_of (λ links. table_of (entries links)) walk }
+    requires can { CanWalk neighbors_of (λ links. plain_table links) walk }
 {
     let mut found = Vec::new(alloc);
     for given in walk {

@@ -6,7 +6,7 @@
 
 ghost use Rattle.std.specs.Prelude.{◌≡◌, ◌≢◌, ◌↔◌, Some, IsOk, IfOk, IfErr, if◌then◌else◌};
 ghost use Rattle.ic_link_ops.specs.Tables.{IsCovered, IsUnlinked};
-ghost use Rattle.ic_link_ops.specs.DoublyEntries.{entries, is_linked, table_of};
+ghost use Rattle.ic_link_ops.specs.DoublyEntries.{is_linked, plain_table};
 
 use ic_link_ops::AlreadyLinked;
 use ic_link_ops::linked_list::{LinkOps, LinkedListOps};
@@ -23,13 +23,13 @@ pub fn first_steps<T, A: Allocator>(
     first: UnsafeRef<T>,
     second: UnsafeRef<T>,
 ) -> Result<Option<Place>, AlreadyLinked<T>>
-    requires first { IsCovered (table_of (entries links)) first }
-    requires second { IsCovered (table_of (entries links)) second }
-    ensures accepted { IsOk result ↔ (IsUnlinked is_linked (table_of (entries links)) first
-        × IsUnlinked is_linked (table_of (entries links)) second × (second ≢ first)) }
+    requires first { IsCovered (plain_table links) first }
+    requires second { IsCovered (plain_table links) second }
+    ensures accepted { IsOk result ↔ (IsUnlinked is_linked (plain_table links) first
+        × IsUnlinked is_linked (plain_table links) second × (second ≢ first)) }
     ensures position { IfOk result (λ position. position ≡ Some first) }
     ensures refused { IfErr result (λ refused. refused.0
-        ≡ (if is_linked ((table_of (entries links)).entry first) then first else second)) }
+        ≡ (if is_linked ((plain_table links).entry first) then first else second)) }
 {
     let mut list = LinkedList::new();
     list.push_back(&mut links, first)?; // Err(AlreadyLinked(first)) if it is linked in this field

@@ -10,8 +10,7 @@ ghost use Rattle.std.specs.Prelude.{◌≡◌, ◌++◌, ◌∷◌, List, Some, 
 ghost use Rattle.ic_unsafe_ref.specs.declared.place.Place.{Place};
 ghost use Rattle.ic_link_ops.specs.Sequences.{last, but_last};
 ghost use Rattle.ic_link_ops.specs.Tables.{IsCovered, IsLinked, KeepsBeside, KeepsLinked, LinksAlso, Unlinks};
-ghost use Rattle.ic_link_ops.specs.LinkedList.{Shows, ShowsSome};
-ghost use Rattle.ic_link_ops.specs.DoublyEntries.{entries, is_linked, neighbors_of, table_of};
+ghost use Rattle.ic_link_ops.specs.DoublyEntries.{is_linked, neighbors_of, plain_table, PlainShows, PlainShowsSome};
 ghost use Rattle.ic_linked_list.specs.Stands.{Stands};
 
 use ic_link_ops::AlreadyLinked;
@@ -28,16 +27,16 @@ pub fn insert<T, A: Allocator>(
     links: &mut LinkOps<A>,
     object: UnsafeRef<T>,
 ) -> Result<(), AlreadyLinked<T>>
-    requires covered { IsCovered (table_of (entries links.old)) object }
-    requires shown { ShowsSome neighbors_of (table_of (entries links.old)) order.old }
-    ensures inserted { (s : List Place) → Shows neighbors_of (table_of (entries links.old)) order.old s
-        → OnOk result (Shows neighbors_of (table_of (entries links.new)) order.new (object ∷ s)) }
+    requires covered { IsCovered (plain_table links.old) object }
+    requires shown { PlainShowsSome links.old order.old }
+    ensures inserted { (s : List Place) → PlainShows links.old order.old s
+        → OnOk result (PlainShows links.new order.new (object ∷ s)) }
     ensures linked { OnOk result
-        (LinksAlso is_linked (table_of (entries links.old)) (table_of (entries links.new)) object) }
-    ensures refused { OnErr result (IsLinked is_linked (table_of (entries links.old)) object) }
+        (LinksAlso is_linked (plain_table links.old) (plain_table links.new) object) }
+    ensures refused { OnErr result (IsLinked is_linked (plain_table links.old) object) }
     ensures unchanged { IfErr result (λ refused. (refused.0 ≡ object) × (order.new ≡ order.old) × (links.new ≡ links.old)) }
-    ensures frame { (s : List Place) → Shows neighbors_of (table_of (entries links.old)) order.old s
-        → KeepsBeside (table_of (entries links.old)) (table_of (entries links.new)) (object ∷ s) }
+    ensures frame { (s : List Place) → PlainShows links.old order.old s
+        → KeepsBeside (plain_table links.old) (plain_table links.new) (object ∷ s) }
 {
     order.push_front(links, object)
 }
@@ -50,14 +49,14 @@ pub fn touch<T, A: Allocator>(
     links: &mut LinkOps<A>,
     object: UnsafeRef<T>,
 )
-    requires member { Stands neighbors_of (table_of (entries links.old)) order.old (Some object) }
+    requires member { Stands neighbors_of (plain_table links.old) order.old (Some object) }
     ensures touched { (front back : List Place)
-        → Shows neighbors_of (table_of (entries links.old)) order.old (front ++ object ∷ back)
-        → Shows neighbors_of (table_of (entries links.new)) order.new (object ∷ (front ++ back)) }
-    ensures linked { KeepsLinked is_linked (table_of (entries links.old)) (table_of (entries links.new)) }
+        → PlainShows links.old order.old (front ++ object ∷ back)
+        → PlainShows links.new order.new (object ∷ (front ++ back)) }
+    ensures linked { KeepsLinked is_linked (plain_table links.old) (plain_table links.new) }
     ensures frame { (front back : List Place)
-        → Shows neighbors_of (table_of (entries links.old)) order.old (front ++ object ∷ back)
-        → KeepsBeside (table_of (entries links.old)) (table_of (entries links.new)) (front ++ object ∷ back) }
+        → PlainShows links.old order.old (front ++ object ∷ back)
+        → KeepsBeside (plain_table links.old) (plain_table links.new) (front ++ object ∷ back) }
 {
     order.remove(links, &object);
     let _ = order.push_front(links, object);
@@ -70,14 +69,14 @@ pub fn forget_oldest<T, A: Allocator>(
     order: &mut LinkedList<T>,
     links: &mut LinkOps<A>,
 ) -> Option<UnsafeRef<T>>
-    requires shown { ShowsSome neighbors_of (table_of (entries links.old)) order.old }
-    ensures oldest { (s : List Place) → Shows neighbors_of (table_of (entries links.old)) order.old s → result ≡ last s }
-    ensures rest { (s : List Place) → Shows neighbors_of (table_of (entries links.old)) order.old s
-        → Shows neighbors_of (table_of (entries links.new)) order.new (but_last s) }
-    ensures unlinked { IfSome result (Unlinks is_linked (table_of (entries links.old)) (table_of (entries links.new))) }
+    requires shown { PlainShowsSome links.old order.old }
+    ensures oldest { (s : List Place) → PlainShows links.old order.old s → result ≡ last s }
+    ensures rest { (s : List Place) → PlainShows links.old order.old s
+        → PlainShows links.new order.new (but_last s) }
+    ensures unlinked { IfSome result (Unlinks is_linked (plain_table links.old) (plain_table links.new)) }
     ensures empty { IfNone result ((order.new ≡ order.old) × (links.new ≡ links.old)) }
-    ensures frame { (s : List Place) → Shows neighbors_of (table_of (entries links.old)) order.old s
-        → KeepsBeside (table_of (entries links.old)) (table_of (entries links.new)) s }
+    ensures frame { (s : List Place) → PlainShows links.old order.old s
+        → KeepsBeside (plain_table links.old) (plain_table links.new) s }
 {
     order.pop_back(links)
 }

@@ -9,8 +9,7 @@ ghost use Rattle.std.specs.Prelude.{◌≡◌, ◌++◌, ◌∷◌, [], List, If
 ghost use Rattle.ic_unsafe_ref.specs.declared.place.Place.{Place};
 ghost use Rattle.ic_link_ops.specs.Sequences.{first};
 ghost use Rattle.ic_link_ops.specs.Tables.{KeepsBeside, KeepsLinked};
-ghost use Rattle.ic_link_ops.specs.LinkedList.{Shows, ShowsSome};
-ghost use Rattle.ic_link_ops.specs.DoublyEntries.{entries, is_linked, neighbors_of, table_of};
+ghost use Rattle.ic_link_ops.specs.DoublyEntries.{is_linked, plain_table, PlainShows, PlainShowsSome};
 
 use ic_link_ops::linked_list::LinkOps;
 use ic_linked_list::LinkedList;
@@ -22,14 +21,14 @@ use std::alloc::Allocator;
 /// It asks that the table shows a sequence for the queue. An empty queue answers `None`, and nothing has changed. The
 /// same objects are linked before and after.
 pub fn turn<T, A: Allocator>(queue: &mut LinkedList<T>, links: &mut LinkOps<A>) -> Option<Place>
-    requires shown { ShowsSome neighbors_of (table_of (entries links.old)) queue.old }
-    ensures answer { (s : List Place) → Shows neighbors_of (table_of (entries links.old)) queue.old s → result ≡ first s }
-    ensures turned { (x : Place) (s : List Place) → Shows neighbors_of (table_of (entries links.old)) queue.old (x ∷ s)
-        → Shows neighbors_of (table_of (entries links.new)) queue.new (s ++ x ∷ []) }
+    requires shown { PlainShowsSome links.old queue.old }
+    ensures answer { (s : List Place) → PlainShows links.old queue.old s → result ≡ first s }
+    ensures turned { (x : Place) (s : List Place) → PlainShows links.old queue.old (x ∷ s)
+        → PlainShows links.new queue.new (s ++ x ∷ []) }
     ensures empty { IfNone result ((queue.new ≡ queue.old) × (links.new ≡ links.old)) }
-    ensures linked { KeepsLinked is_linked (table_of (entries links.old)) (table_of (entries links.new)) }
-    ensures frame { (s : List Place) → Shows neighbors_of (table_of (entries links.old)) queue.old s
-        → KeepsBeside (table_of (entries links.old)) (table_of (entries links.new)) s }
+    ensures linked { KeepsLinked is_linked (plain_table links.old) (plain_table links.new) }
+    ensures frame { (s : List Place) → PlainShows links.old queue.old s
+        → KeepsBeside (plain_table links.old) (plain_table links.new) s }
 {
     let object = queue.pop_front(links)?;
     let place = object.place();

@@ -2,8 +2,7 @@
 
 ghost use Rattle.std.specs.Prelude.{[]};
 ghost use Rattle.ic_link_ops.specs.Tables.{IsCovered};
-ghost use Rattle.ic_link_ops.specs.LinkedList.{Shows};
-ghost use Rattle.ic_link_ops.specs.DoublyEntries.{entries, neighbors_of, table_of};
+ghost use Rattle.ic_link_ops.specs.DoublyEntries.{plain_table, PlainShows};
 
 use ic_atomic::Claims;
 use ic_link_ops::AlreadyLinked;
@@ -25,7 +24,7 @@ fn same(rt: &impl Abort, found: &[Option<Place>], wanted: &[usize]) {
 
 // The place with that index, which the table covers.
 fn covered(rt: &impl Abort, links: &LinkOps, index: usize) -> Place
-    ensures { IsCovered (table_of (entries links.now)) result }
+    ensures { IsCovered (plain_table links.now) result }
 {
     let place = Place::new(index).expect(rt, "the index of a place");
     assert!(rt; place.index() < links.covers());
@@ -39,9 +38,9 @@ fn touch_the_older(
     older: Place,
     newer: Place,
 ) -> Result<[Option<Place>; 2], AlreadyLinked<u64>>
-    requires empty { Shows neighbors_of (table_of (entries links.old)) order.old [] }
-    requires older { IsCovered (table_of (entries links.old)) older }
-    requires newer { IsCovered (table_of (entries links.old)) newer }
+    requires empty { PlainShows links.old order.old [] }
+    requires older { IsCovered (plain_table links.old) older }
+    requires newer { IsCovered (plain_table links.old) newer }
 {
     lru::insert(order, links, UnsafeRef::new(older))?;
     lru::insert(order, links, UnsafeRef::new(newer))?;
@@ -68,9 +67,9 @@ fn give_turns(
     first: Place,
     second: Place,
 ) -> Result<[Option<Place>; 5], AlreadyLinked<u64>>
-    requires empty { Shows neighbors_of (table_of (entries links.old)) waiting.old [] }
-    requires first { IsCovered (table_of (entries links.old)) first }
-    requires second { IsCovered (table_of (entries links.old)) second }
+    requires empty { PlainShows links.old waiting.old [] }
+    requires first { IsCovered (plain_table links.old) first }
+    requires second { IsCovered (plain_table links.old) second }
 {
     waiting.push_back(links, UnsafeRef::new(first))?;
     waiting.push_back(links, UnsafeRef::new(second))?;
@@ -121,8 +120,8 @@ fn pair_by_views(
     first: Place,
     second: Place,
 ) -> Result<[Option<Place>; 2], AlreadyLinked<u64>>
-    requires first { IsCovered (table_of (entries links.old)) first }
-    requires second { IsCovered (table_of (entries links.old)) second }
+    requires first { IsCovered (plain_table links.old) first }
+    requires second { IsCovered (plain_table links.old) second }
 {
     let mut list: LinkedList<u64> = LinkedList::new();
     lent_table::push_back(&mut list, links, UnsafeRef::new(first))?;
@@ -147,7 +146,7 @@ fn two_members_come_off_from_both_ends(rt: HostRuntime) -> Result<(), Fail> {
 
 // An object that goes into a list over the second of two tables, and the first member then, if it is the second still.
 fn over_the_second(links: LinkOps, object: Place) -> Result<Option<Place>, AlreadyLinked<u64>>
-    requires covered { IsCovered (table_of (entries links)) object }
+    requires covered { IsCovered (plain_table links) object }
 {
     let mut list: LinkedList<u64> = LinkedList::new();
     let mut links = EitherTable::Second(links);
