@@ -1,8 +1,8 @@
 //! A cache, a queue and the first steps, over a table of three places.
 
-ghost use Rattle.std.specs.Prelude.{[]};
+ghost use Rattle.std.specs.Prelude.{[], OnOk};
 ghost use Rattle.ic_link_ops.specs.Tables.{IsCovered};
-ghost use Rattle.ic_link_ops.specs.LinkedList.{Shows};
+ghost use Rattle.ic_link_ops.specs.LinkedList.{Shows, ShowsSome};
 ghost use Rattle.ic_link_ops.specs.DoublyEntries.{entries, neighbors_of, table_of};
 
 use ic_link_ops::AlreadyLinked;
@@ -13,7 +13,7 @@ use std::process::Abort;
 use std::test::Fail;
 use uses::either_table::EitherTable;
 use uses::first_steps::first_steps;
-use uses::{lent_table, lru, pairs, queue};
+use uses::{deal, lent_table, lru, pairs, queue};
 
 // Asserts that these places were found. The one assert of the tests.
 fn same(rt: &impl Abort, found: &[Option<Place>], wanted: &[usize]) {
@@ -163,5 +163,37 @@ fn a_table_stays_the_second_of_two(rt: HostRuntime) -> Result<(), Fail> {
     let object = covered(&rt, &links, 2);
     let found = over_the_second(links, object)?;
     same(&rt, &[found], &[2]);
+    Ok(())
+}
+
+// Pushes the objects at the first places to the back of a list, in order.
+fn push_each(
+    rt: &impl Abort,
+    list: &mut LinkedList<u64>,
+    links: &mut LinkOps,
+    count: usize,
+) -> Result<(), AlreadyLinked<u64>>
+    requires shown { ShowsSome neighbors_of (table_of (entries links.old)) list.old }
+    ensures shown { OnOk result (ShowsSome neighbors_of (table_of (entries links.new)) list.new) }
+{
+    for index in 0..count {
+        let place = covered(rt, links, index);
+        list.push_back(links, UnsafeRef::new(place))?;
+    }
+    Ok(())
+}
+
+#[test]
+fn members_are_dealt_from_both_ends(rt: HostRuntime) -> Result<(), Fail> {
+    let mut links = LinkOps::new(rt.alloc());
+    links.cover(4)?;
+    let mut list: LinkedList<u64> = LinkedList::new();
+    push_each(&rt, &mut list, &mut links, 4)?;
+    let mut fronts = Vec::new(rt.alloc());
+    let mut backs = Vec::new(rt.alloc());
+    deal::deal(list, &mut links, &mut fronts, &mut backs)?;
+    let at = |hand: &[UnsafeRef<u64>], index: usize| hand.get(index).map(|object| object.place());
+    let found = [at(&fronts, 0), at(&fronts, 1), at(&backs, 0), at(&backs, 1)];
+    same(&rt, &found, &[0, 1, 3, 2]);
     Ok(())
 }
