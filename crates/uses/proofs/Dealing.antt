@@ -7,8 +7,8 @@ use Rattle.uses.specs.Hands.{gained, HasDealt}
 
 module _ {A : Type 0} where
   -- a hand that gained, and gained again
-  on : (old mid new before more both : List A) → mid ≡ old ++ before → new ≡ mid ++ more → both ≡ before ++ more → new ≡ old ++ both
-  on old mid new before more both h k e = k ∙ ap (λ (l : List A). l ++ more) h ∙ append_assoc old before more ∙ ap (λ (l : List A). old ++ l) (sym e)
+  gained_on : (old mid new before more both : List A) → mid ≡ old ++ before → new ≡ mid ++ more → both ≡ before ++ more → new ≡ old ++ both
+  gained_on old mid new before more both h k e = k ∙ ap (λ (l : List A). l ++ more) h ∙ append_assoc old before more ∙ ap (λ (l : List A). old ++ l) (sym e)
 
   -- what a hand gained is what it has more
   gained_is : (old new more : List A) → new ≡ old ++ more → gained old new ≡ more
@@ -25,8 +25,8 @@ module _ {S A : Type 0} (next_gives next_back_gives : S → Option A → S → T
       let more : List (Item A) = at_the_front x ∷ [] in record {
         items = dealt.items ++ more;
         leads = leads_on next_gives next_back_gives s t u dealt.items more dealt.leads (u, gives, refl);
-        at_fronts = on fronts mid new _ (x ∷ []) _ dealt.at_fronts is (from_front_on (λ x. x) dealt.items more);
-        at_backs = on backs other other _ [] _ dealt.at_backs (sym (append-nil other)) (from_back_on (λ x. x) dealt.items more);
+        at_fronts = gained_on fronts mid new _ (x ∷ []) _ dealt.at_fronts is (from_front_on (λ x. x) dealt.items more);
+        at_backs = gained_on backs other other _ [] _ dealt.at_backs (sym (append-nil other)) (from_back_on (λ x. x) dealt.items more);
       }
 
   -- one more from the back
@@ -36,8 +36,8 @@ module _ {S A : Type 0} (next_gives next_back_gives : S → Option A → S → T
       let more : List (Item A) = at_the_back x ∷ [] in record {
         items = dealt.items ++ more;
         leads = leads_on next_gives next_back_gives s t u dealt.items more dealt.leads (u, gives, refl);
-        at_fronts = on fronts other other _ [] _ dealt.at_fronts (sym (append-nil other)) (from_front_on (λ x. x) dealt.items more);
-        at_backs = on backs mid new _ (x ∷ []) _ dealt.at_backs is (from_back_on (λ x. x) dealt.items more);
+        at_fronts = gained_on fronts other other _ [] _ dealt.at_fronts (sym (append-nil other)) (from_front_on (λ x. x) dealt.items more);
+        at_backs = gained_on backs mid new _ (x ∷ []) _ dealt.at_backs is (from_back_on (λ x. x) dealt.items more);
       }
 
   -- where what the calls gave is w, so is what the hands gained

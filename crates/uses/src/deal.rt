@@ -17,7 +17,7 @@ use ic_linked_list::LinkedList;
 use ic_unsafe_ref::{Objects, UnsafeRef};
 use std::alloc::{AllocError, Allocator};
 
-// Deals what a walk gives, the front's first, until an end gives nothing. The walk is over then, or a hand is full.
+// Deals what a walk gives, the front's first, until an end gives nothing. Only a hand with no room left stops it before.
 fn in_turns<I: DoubleEndedIterator + Drop, A: Allocator>(
     mut walk: I,
     fronts: &mut Vec<I::Item, A>,
@@ -46,9 +46,9 @@ where
 
 /// Deals the members of a list to two hands, one from its front and one from its back in turns, until none is left.
 ///
-/// It asks that the table shows a sequence for the list. Each member is unlinked as it is dealt. Where there is no memory
-/// for a hand to grow, those dealt so far are unlinked, and so is the one that the hand had no room for; the others stay
-/// linked. One step for each member, and memory for the hands alone.
+/// It asks that the table shows a sequence for the list. Each member is unlinked as it is dealt. Where a hand has no room
+/// left and no memory to grow, those dealt so far are unlinked, and so is the one that the hand had no room for; the others
+/// stay linked. One step for each member, and memory for the hands alone.
 pub fn deal<T, L: LinkedListOps, A: Allocator>(
     list: LinkedList<T>,
     links: &mut L,
@@ -68,8 +68,8 @@ pub fn deal<T, L: LinkedListOps, A: Allocator>(
 
 /// Shows the objects of a list to two hands, one from its front and one from its back in turns, until all are shown.
 ///
-/// It asks that the table shows a sequence for the list, whose members are placed. Where there is no memory for a hand to
-/// grow, the hands have those shown so far. One step for each member, and memory for the hands alone.
+/// It asks that the table shows a sequence for the list, whose members are placed. Where a hand has no room left and no
+/// memory to grow, the hands have those shown so far. One step for each member, and memory for the hands alone.
 pub fn show<'a, T, L: LinkedListOps, A: Allocator, B: Allocator>(
     list: &LinkedList<T>,
     links: &'a L,
