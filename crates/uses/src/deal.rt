@@ -5,7 +5,7 @@
 //! deal::deal(list, &mut links, &mut fronts, &mut backs)?;
 //! ```
 
-ghost use Rattle.std.specs.Prelude.{◌≡◌, ◌≤◌, ◌⊎◌, ◌↔◌, List, ◌++◌, map, reverse, OnOk, OnErr, vec_len, vec_capacity};
+ghost use Rattle.std.specs.Prelude.{◌≡◌, ◌+◌, ◌≤◌, ◌⊎◌, ◌↔◌, List, ◌++◌, map, reverse, OnOk, OnErr, vec_len, vec_capacity};
 ghost use Rattle.std.specs.Iterator.{IsFinite};
 ghost use Rattle.ic_unsafe_ref.specs.declared.place.Place.{Place};
 ghost use Rattle.ic_link_ops.specs.LinkedList.{Shows, ShowsSome};
@@ -31,6 +31,8 @@ where
     ensures dealt { (end : I)
         × HasDealt I.next_gives I.next_back_gives walk end fronts.old.items fronts.new.items backs.old.items backs.new.items
         × OnOk result (IsOver I.next_gives I.next_back_gives I.can_next end) }
+    ensures turns { (vec_len backs.new + vec_len fronts.old ≤ vec_len fronts.new + vec_len backs.old)
+        × (vec_len fronts.new + vec_len backs.old ≤ vec_len backs.new + vec_len fronts.old + 1) }
     ensures refused { OnErr result
         ((vec_capacity fronts.old ≤ vec_len fronts.new) ⊎ (vec_capacity backs.old ≤ vec_len backs.new)) }
 {
@@ -60,6 +62,8 @@ pub fn deal<T, L: LinkedListOps, A: Allocator>(
         → OnOk result (gained fronts.old.items fronts.new.items ++ reverse (gained backs.old.items backs.new.items) ≡ s) }
     ensures fronts_keep { Keeps fronts.old.items fronts.new.items }
     ensures backs_keep { Keeps backs.old.items backs.new.items }
+    ensures turns { (vec_len backs.new + vec_len fronts.old ≤ vec_len fronts.new + vec_len backs.old)
+        × (vec_len fronts.new + vec_len backs.old ≤ vec_len backs.new + vec_len fronts.old + 1) }
     ensures refused { OnErr result
         ((vec_capacity fronts.old ≤ vec_len fronts.new) ⊎ (vec_capacity backs.old ≤ vec_len backs.new)) }
 {
@@ -84,6 +88,8 @@ pub fn show<'a, T, L: LinkedListOps, A: Allocator, B: Allocator>(
         ++ reverse (map (λ x. x.now) (gained backs.old.items backs.new.items)) ≡ values_at objects.now s) }
     ensures fronts_keep { Keeps fronts.old.items fronts.new.items }
     ensures backs_keep { Keeps backs.old.items backs.new.items }
+    ensures turns { (vec_len backs.new + vec_len fronts.old ≤ vec_len fronts.new + vec_len backs.old)
+        × (vec_len fronts.new + vec_len backs.old ≤ vec_len backs.new + vec_len fronts.old + 1) }
     ensures refused { OnErr result
         ((vec_capacity fronts.old ≤ vec_len fronts.new) ⊎ (vec_capacity backs.old ≤ vec_len backs.new)) }
 {

@@ -19,6 +19,7 @@ loop-first-preserved g c =
       back_dealt _ _ c.in-Some-next_back.last first c.in-Some-next_back.ensures.steps c.in_ok-push-2.ensures.items,
       omega (arith, invariant.3, c.push.ensures.capacity),
       omega (arith, invariant.4, c.push-in-Some.ensures.capacity),
+      omega (arith, invariant.5, c.in_ok-push.ensures.len, c.in_ok-push-2.ensures.len),
     )
 
 pub returns-in_err-push-2-clause-dealt : goal.returns-in_err-push-2-clause-dealt
