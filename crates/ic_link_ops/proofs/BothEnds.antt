@@ -1,5 +1,5 @@
 -- What a walk from both ends gives out is its sequence.
-use Rattle.std.proofs.Common.{◌≡◌, Option, Some, List, [], ◌∷◌, ◌++◌, reverse, sym, ◌∙◌, ap, subst, append_assoc}
+use Rattle.std.proofs.Common.{◌≡◌, Option, Some, List, [], ◌∷◌, ◌++◌, map, reverse, refl, sym, ◌∙◌, ap, subst, append_assoc}
 use Rattle.std.proofs.lemmas.List.{reverse-append}
 use Rattle.ic_link_ops.specs.BothEnds.{Item, at_the_front, at_the_back, Leads, from_front, from_back}
 
@@ -21,3 +21,35 @@ module _ {S A B : Type 0} (view : A → B) (next_gives next_back_gives : S → O
       ∙ sym (append_assoc fronts (reverse backs) (view x ∷ []))
       ∙ ap (λ (l : List B). l ++ view x ∷ []) (both_ends leads.0 t items k.0 leads.2 k.2 over)
       ∙ sym k.1
+
+module _ {S A : Type 0} (next_gives next_back_gives : S → Option A → S → Type 0) where
+  -- calls, and then more calls
+  pub leads_on : (s t u : S) (items more : List (Item A)) → Leads next_gives next_back_gives s items t → Leads next_gives next_back_gives t more u
+      → Leads next_gives next_back_gives s (items ++ more) u
+  leads_on s t u [] more before after = subst (λ (v : S). Leads next_gives next_back_gives v more u) (sym before) after
+  leads_on s t u (at_the_front x ∷ items) more before after = (before.0, before.1, leads_on before.0 t u items more before.2 after)
+  leads_on s t u (at_the_back x ∷ items) more before after = (before.0, before.1, leads_on before.0 t u items more before.2 after)
+
+module _ {A B : Type 0} (view : A → B) where
+  -- what they gave at the front is what the first gave there, and then what the others did
+  pub from_front_on : (items more : List (Item A)) → from_front view (items ++ more) ≡ from_front view items ++ from_front view more
+  from_front_on [] more = refl
+  from_front_on (at_the_front x ∷ items) more = ap (λ (l : List B). view x ∷ l) (from_front_on items more)
+  from_front_on (at_the_back x ∷ items) more = from_front_on items more
+
+  -- the same at the back
+  pub from_back_on : (items more : List (Item A)) → from_back view (items ++ more) ≡ from_back view items ++ from_back view more
+  from_back_on [] more = refl
+  from_back_on (at_the_front x ∷ items) more = from_back_on items more
+  from_back_on (at_the_back x ∷ items) more = ap (λ (l : List B). view x ∷ l) (from_back_on items more)
+
+  -- a view of what was given is what was given, each item viewed
+  pub from_front_map : (items : List (Item A)) → map view (from_front (λ x. x) items) ≡ from_front view items
+  from_front_map [] = refl
+  from_front_map (at_the_front x ∷ items) = ap (λ (l : List B). view x ∷ l) (from_front_map items)
+  from_front_map (at_the_back x ∷ items) = from_front_map items
+
+  pub from_back_map : (items : List (Item A)) → map view (from_back (λ x. x) items) ≡ from_back view items
+  from_back_map [] = refl
+  from_back_map (at_the_front x ∷ items) = from_back_map items
+  from_back_map (at_the_back x ∷ items) = ap (λ (l : List B). view x ∷ l) (from_back_map items)

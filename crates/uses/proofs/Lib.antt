@@ -1,3 +1,4 @@
+pub mod Dealing
 pub mod Outcomes
 pub mod PutBack
 pub mod RaceLemmas

@@ -1,4 +1,5 @@
 pub mod EitherTables
+pub mod Hands
 pub mod LentTables
 pub mod Notes
 pub mod RecordedTables

@@ -1,6 +1,7 @@
 //! Uses of the collections and of claims, as a caller writes them: each with a contract, and run by a test.
 #![tactic(auto)]
 
+pub mod deal;
 pub mod either_table;
 pub mod first_steps;
 pub mod lent_table;

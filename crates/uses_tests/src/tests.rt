@@ -1,20 +1,24 @@
 //! A cache, a queue and the first steps, over a table of three places, and a race for a place.
 
-ghost use Rattle.std.specs.Prelude.{[]};
+ghost use Rattle.std.specs.Prelude.{◌≡◌, List, [], OnOk};
+ghost use Rattle.ic_unsafe_ref.specs.declared.place.Place.{Place};
+ghost use Rattle.ic_unsafe_ref.specs.Places.{index_of};
 ghost use Rattle.ic_link_ops.specs.Tables.{IsCovered};
 ghost use Rattle.ic_link_ops.specs.DoublyEntries.{plain_table, PlainShows};
+ghost use Rattle.ic_linked_list.specs.Iter.{ArePlaced};
 
 use ic_atomic::Claims;
 use ic_link_ops::AlreadyLinked;
 use ic_link_ops::linked_list::LinkOps;
 use ic_linked_list::LinkedList;
-use ic_unsafe_ref::{Place, UnsafeRef};
+use ic_unsafe_ref::{Objects, Place, UnsafeRef};
+use std::alloc::{AllocError, Global};
 use std::process::Abort;
 use std::test::Fail;
 use uses::either_table::EitherTable;
 use uses::first_steps::first_steps;
 use uses::race::race;
-use uses::{lent_table, lru, pairs, queue};
+use uses::{deal, lent_table, lru, pairs, queue};
 
 // Asserts that these places were found. The one assert of the tests.
 fn same(rt: &impl Abort, found: &[Option<Place>], wanted: &[usize]) {
@@ -24,7 +28,8 @@ fn same(rt: &impl Abort, found: &[Option<Place>], wanted: &[usize]) {
 
 // The place with that index, which the table covers.
 fn covered(rt: &impl Abort, links: &LinkOps, index: usize) -> Place
-    ensures { IsCovered (plain_table links.now) result }
+    ensures covered { IsCovered (plain_table links.now) result }
+    ensures at { index_of result ≡ index }
 {
     let place = Place::new(index).expect(rt, "the index of a place");
     assert!(rt; place.index() < links.covers());
@@ -175,5 +180,61 @@ fn just_one_of_two_threads_claims_a_place(rt: HostRuntime) -> Result<(), Fail> {
     };
     let (first, second) = race(&rt, &claims, &mut holders, place);
     assert!(rt; first != second);
+    Ok(())
+}
+
+// Places objects, each the number of those before it, and pushes them to the back of a list, in order.
+fn place_each(
+    rt: &impl Abort,
+    list: &mut LinkedList<usize>,
+    links: &mut LinkOps,
+    objects: &mut Objects<usize>,
+    count: usize,
+) -> Result<(), AlreadyLinked<usize>>
+    requires members { (s : List Place) × PlainShows links.old list.old s × ArePlaced objects.old s }
+    ensures members { OnOk result
+        ((s : List Place) × PlainShows links.new list.new s × ArePlaced objects.new s) }
+{
+    for index in 0..count {
+        let next = objects.next_place().expect(rt, "a vacant place");
+        let place = covered(rt, links, next.index());
+        let _object = UnsafeRef::from_box(objects, index).expect(rt, "memory for an object");
+        list.push_back(links, UnsafeRef::new(place))?;
+    }
+    Ok(())
+}
+
+// The places that the first two objects in each of two hands name, the fronts' first.
+fn show_two_each<'a>(
+    alloc: Global,
+    list: &LinkedList<usize>,
+    links: &'a LinkOps,
+    objects: &'a Objects<usize>,
+) -> Result<[Option<Place>; 4], AllocError>
+    requires members { (s : List Place) × PlainShows links.now list.now s × ArePlaced objects.now s }
+{
+    let mut fronts = Vec::new(alloc);
+    let mut backs = Vec::new(alloc);
+    deal::show(list, links, objects, &mut fronts, &mut backs)?;
+    let at = |hand: &[&usize], index: usize| hand
+        .get(index)
+        .and_then(|object| Place::new(**object));
+    Ok([at(&fronts, 0), at(&fronts, 1), at(&backs, 0), at(&backs, 1)])
+}
+
+#[test]
+fn members_are_dealt_from_both_ends(rt: HostRuntime) -> Result<(), Fail> {
+    let mut links = LinkOps::new(rt.alloc());
+    links.cover(4)?;
+    let mut objects = Objects::new(rt.alloc());
+    let mut list = LinkedList::new();
+    place_each(&rt, &mut list, &mut links, &mut objects, 4)?;
+    let [a, b, c, d] = show_two_each(rt.alloc(), &list, &links, &objects)?;
+    let mut fronts = Vec::new(rt.alloc());
+    let mut backs = Vec::new(rt.alloc());
+    deal::deal(list, &mut links, &mut fronts, &mut backs)?;
+    let at = |hand: &[UnsafeRef<usize>], index: usize| hand.get(index).map(|object| object.place());
+    let [e, f, g, h] = [at(&fronts, 0), at(&fronts, 1), at(&backs, 0), at(&backs, 1)];
+    same(&rt, &[a, b, c, d, e, f, g, h], &[0, 1, 3, 2, 0, 1, 3, 2]);
     Ok(())
 }

@@ -1,0 +1,35 @@
+use Rattle.std.proofs.Common.{◌≡◌, inl, inr, None, List, [], ◌∷◌, refl, sym}
+use Rattle.std.proofs.lemmas.Result.{on_ok_weaker}
+use Rattle.ic_unsafe_ref.specs.declared.place.Place.{Place}
+use Rattle.ic_link_ops.specs.Sequences.{first, last}
+use Rattle.ic_link_ops.proofs.SequenceLemmas.{none_not, last_some}
+use Rattle.ic_linked_list.specs.IntoIter.{TakesFirst, TakesLast}
+use Rattle.ic_linked_list.proofs.WalkLaws.{two_ended_taking}
+use Rattle.uses.proofs.Dealing.{all_dealt}
+use Rattle.uses.proofs.deal.deal.Goals as goal
+
+-- what has no first has nothing, and what has no last neither
+nothing_first : (w : List Place) → None ≡ first w → w ≡ []
+nothing_first [] h = refl
+nothing_first (x ∷ w) h = absurd (none_not x h)
+
+nothing_last : (w : List Place) → None ≡ last w → w ≡ []
+nothing_last [] h = refl
+nothing_last (x ∷ w) h = absurd (last_some x w (sym h))
+
+pub returns-clause-dealt : goal.returns-clause-dealt
+returns-clause-dealt g c s shown =
+    let neighbors = g.L.LinkedListOps.neighbors in
+    let table = g.L.LinkOps.table in
+    let Does = g.L.LinkOps.Does in
+    let e = c.in_turns.ensures.dealt in
+    on_ok_weaker c.in_turns.result (λ over.
+    let rest = over.0 in
+    let none : rest.0 ≡ [] =
+    elim over.2 [
+      | inl takes ↦ nothing_first rest.0 (takes.answer rest.0 rest.1)
+      | inr takes ↦ nothing_last rest.0 (takes.answer rest.0 rest.1)
+    ] in
+    all_dealt (TakesFirst neighbors table Does) (TakesLast neighbors table Does) e.1
+    (two_ended_taking neighbors table Does c.into_iter.result e.0 s e.1.items
+    (rw (c.into_iter.ensures.links, c.into_iter.ensures.list) shown) e.1.leads (rw none at rest.1))) e.2

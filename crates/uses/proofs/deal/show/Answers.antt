@@ -1,0 +1,18 @@
+use Rattle.std.proofs.Common.{◌≡◌, inl, inr, [], ◌∙◌}
+use Rattle.std.proofs.lemmas.Result.{on_ok_weaker}
+use Rattle.ic_link_ops.specs.Walk.{GivesFirst, GivesLast}
+use Rattle.ic_linked_list.specs.Iter.{objects_left}
+use Rattle.ic_linked_list.proofs.WalkLaws.{two_ended_walk}
+use Rattle.uses.proofs.Dealing.{all_viewed}
+use Rattle.uses.proofs.deal.show.Goals as goal
+
+pub returns-clause-shows : goal.returns-clause-shows
+returns-clause-shows g c s shown =
+    let neighbors = g.L.LinkedListOps.neighbors in
+    let table = g.L.LinkOps.table in
+    let left = objects_left neighbors table in
+    let e = c.in_turns.ensures.dealt in
+    on_ok_weaker c.in_turns.result (λ over.
+    let none : left e.0 ≡ [] = elim over.2 [ inl gives ↦ gives.0.0 | inr gives ↦ gives.0.0 ] in
+    all_viewed (GivesFirst left) (GivesLast left) (λ x. x.now) e.1
+    (two_ended_walk neighbors table c.iter.result e.0 e.1.items e.1.leads none ∙ c.iter.ensures.walks s shown)) e.2

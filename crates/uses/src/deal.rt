@@ -1,0 +1,97 @@
+//! A list dealt to two hands from its two ends, in turns.
+//!
+//! ```text
+//! deal::show(&list, &links, &objects, &mut seen_first, &mut seen_last)?;
+//! deal::deal(list, &mut links, &mut fronts, &mut backs)?;
+//! ```
+
+ghost use Rattle.std.specs.Prelude.{◌≡◌, ◌+◌, ◌≤◌, ◌⊎◌, ◌↔◌, List, ◌++◌, map, reverse, OnOk, OnErr, vec_len, vec_capacity};
+ghost use Rattle.std.specs.Iterator.{IsFinite};
+ghost use Rattle.ic_unsafe_ref.specs.declared.place.Place.{Place};
+ghost use Rattle.ic_link_ops.specs.LinkedList.{Shows, ShowsSome};
+ghost use Rattle.ic_linked_list.specs.Iter.{ArePlaced, values_at};
+ghost use Rattle.uses.specs.Hands.{Keeps, gained, HasDealt, IsOver};
+
+use ic_link_ops::linked_list::LinkedListOps;
+use ic_linked_list::LinkedList;
+use ic_unsafe_ref::{Objects, UnsafeRef};
+use std::alloc::{AllocError, Allocator};
+
+// Deals what a walk gives, the front's first, until an end gives nothing. Only a hand with no room left stops it before.
+fn in_turns<I: DoubleEndedIterator + Drop, A: Allocator>(
+    mut walk: I,
+    fronts: &mut Vec<I::Item, A>,
+    backs: &mut Vec<I::Item, A>,
+) -> Result<(), AllocError>
+where
+    I::Item: Drop,
+    requires can { I.can_next walk }
+    requires either_end { (s : I) → I.can_next s ↔ I.can_next_back s }
+    requires ends { IsFinite (I.remaining walk) }
+    ensures dealt { (end : I)
+        × HasDealt I.next_gives I.next_back_gives walk end fronts.old.items fronts.new.items backs.old.items backs.new.items
+        × OnOk result (IsOver I.next_gives I.next_back_gives I.can_next end) }
+    ensures turns { (vec_len backs.new + vec_len fronts.old ≤ vec_len fronts.new + vec_len backs.old)
+        × (vec_len fronts.new + vec_len backs.old ≤ vec_len backs.new + vec_len fronts.old + 1) }
+    ensures refused { OnErr result
+        ((vec_capacity fronts.old ≤ vec_len fronts.new) ⊎ (vec_capacity backs.old ≤ vec_len backs.new)) }
+{
+    while let Some(first) = walk.next() {
+        fronts.push(first)?;
+        let Some(last) = walk.next_back() else {
+            return Ok(());
+        };
+        backs.push(last)?;
+    }
+    Ok(())
+}
+
+/// Deals the members of a list to two hands, one from its front and one from its back in turns, until none is left.
+///
+/// It asks that the table shows a sequence for the list. Each member is unlinked as it is dealt. Where a hand has no room
+/// left and no memory to grow, those dealt so far are unlinked, and so is the one that the hand had no room for; the others
+/// stay linked. One step for each member, and memory for the hands alone.
+pub fn deal<T, L: LinkedListOps, A: Allocator>(
+    list: LinkedList<T>,
+    links: &mut L,
+    fronts: &mut Vec<UnsafeRef<T>, A>,
+    backs: &mut Vec<UnsafeRef<T>, A>,
+) -> Result<(), AllocError>
+    requires shown { ShowsSome L.neighbors (L.table links.old) list }
+    ensures dealt { (s : List Place) → Shows L.neighbors (L.table links.old) list s
+        → OnOk result (gained fronts.old.items fronts.new.items ++ reverse (gained backs.old.items backs.new.items) ≡ s) }
+    ensures fronts_keep { Keeps fronts.old.items fronts.new.items }
+    ensures backs_keep { Keeps backs.old.items backs.new.items }
+    ensures turns { (vec_len backs.new + vec_len fronts.old ≤ vec_len fronts.new + vec_len backs.old)
+        × (vec_len fronts.new + vec_len backs.old ≤ vec_len backs.new + vec_len fronts.old + 1) }
+    ensures refused { OnErr result
+        ((vec_capacity fronts.old ≤ vec_len fronts.new) ⊎ (vec_capacity backs.old ≤ vec_len backs.new)) }
+{
+    in_turns(list.into_iter(links), fronts, backs)
+}
+
+/// Shows the objects of a list to two hands, one from its front and one from its back in turns, until all are shown.
+///
+/// It asks that the table shows a sequence for the list, whose members are placed. Where a hand has no room left and no
+/// memory to grow, the hands have those shown so far. One step for each member, and memory for the hands alone.
+pub fn show<'a, T, L: LinkedListOps, A: Allocator, B: Allocator>(
+    list: &LinkedList<T>,
+    links: &'a L,
+    objects: &'a Objects<T, A>,
+    fronts: &mut Vec<&'a T, B>,
+    backs: &mut Vec<&'a T, B>,
+) -> Result<(), AllocError>
+    requires shown { ShowsSome L.neighbors (L.table links.now) list.now }
+    requires placed { (s : List Place) → Shows L.neighbors (L.table links.now) list.now s → ArePlaced objects.now s }
+    ensures shows { (s : List Place) → Shows L.neighbors (L.table links.now) list.now s
+        → OnOk result (map (λ x. x.now) (gained fronts.old.items fronts.new.items)
+        ++ reverse (map (λ x. x.now) (gained backs.old.items backs.new.items)) ≡ values_at objects.now s) }
+    ensures fronts_keep { Keeps fronts.old.items fronts.new.items }
+    ensures backs_keep { Keeps backs.old.items backs.new.items }
+    ensures turns { (vec_len backs.new + vec_len fronts.old ≤ vec_len fronts.new + vec_len backs.old)
+        × (vec_len fronts.new + vec_len backs.old ≤ vec_len backs.new + vec_len fronts.old + 1) }
+    ensures refused { OnErr result
+        ((vec_capacity fronts.old ≤ vec_len fronts.new) ⊎ (vec_capacity backs.old ≤ vec_len backs.new)) }
+{
+    in_turns(list.iter(links, objects), fronts, backs)
+}
