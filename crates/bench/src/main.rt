@@ -118,7 +118,7 @@ fn report(
 
 // A table that covers one place, if there is memory for it.
 fn one_place<W: Words>(alloc: Global) -> Option<PlainTable<W>>
-    ensures { IfSome result (λ links. (table W.unlinked links).covers ≡ 1) }
+    ensures { IfSome result (λ links. (table W.unlinked links).extent.places ≡ 1) }
 {
     let mut links = PlainTable::new(alloc);
     match links.cover(1) {
