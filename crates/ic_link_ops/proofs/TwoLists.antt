@@ -9,7 +9,7 @@ use Rattle.ic_link_ops.specs.Errors.{ByCause, object_of}
 use Rattle.ic_link_ops.specs.declared.errors.ReplaceError.{ReplaceError}
 use Rattle.ic_link_ops.specs.declared.errors.ReplaceError.TheVariants.{Null, AlreadyLinked}
 use Rattle.ic_link_ops.specs.TwoLists.{AreApart}
-use Rattle.ic_link_ops.proofs.CollectionLaws.{IsKind}
+use Rattle.ic_link_ops.proofs.CollectionLaws.{IsKind, others_stay}
 use Rattle.ic_link_ops.proofs.SequenceLemmas.{absent_with, absent_without, absent_swap, disjoint_cons, disjoint_sym, distinct_disjoint, gap_after, gap_before}
 
 -- a member fewer is still none of theirs
@@ -68,7 +68,7 @@ module _ {E H : Type 0} {Shows : Table E → H → List Place → Type 0} {linke
       -- an edit that touches no member of the other list
       edited : (gap : Cut) → Shows t' list' (join gap) → IsDisjoint a.rest (join gap) → {new : Option Place} → IsAfter gap new → AreApart Shows t' list' other new
       edited gap shown apart' after =
-          record { gap = gap; rest = a.rest; shown = shown; after = after; other_shown = kind.frame t t' other a.rest touched a.other_shown apart keeps.others; apart = apart' }
+          record { gap = gap; rest = a.rest; shown = shown; after = after; other_shown = others_stay kind touched a.other_shown apart keeps; apart = apart' }
 
       edited_before : (gap : Cut) → Shows t' list' (join gap) → IsDisjoint a.rest (join gap) → {new : Option Place} → IsBefore gap new → AreApart Shows t' list' other new
       edited_before gap shown apart' {new} before =

@@ -83,11 +83,14 @@ pub(crate) const OWN: &[Run] = &[
     Run {
         name: "null there and back",
         rows: "
-        there_and_back  | none none
-        push_back 1     | ok  | 1
-        there_and_back  | 1 1
-        push_back 0 2   | ok  | 1 0 2
-        there_and_back  | 1 2
+        seek_front     | ok |
+        seek_back      | ok |
+        push_back 1    | ok | 1
+        seek_front     | ok | (1)
+        seek_back      | ok
+        push_back 0 2  | ok | 1 0 2
+        seek_front     | ok | (1) 0 2
+        seek_back      | ok | 1 0 (2)
         ",
     },
     Run {

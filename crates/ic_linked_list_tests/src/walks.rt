@@ -146,14 +146,6 @@ fn collected(alloc: Global, walk: Iter<'_, u64, LinkOps>) -> Result<String, Allo
     format!(in alloc; "{:?}", found.as_slice())
 }
 
-// Writes the two ends of a list.
-fn write_both_ends(text: &mut String, ends: (Option<Place>, Option<Place>)) -> fmt::Result {
-    let front = standing(ends.0);
-    let back = standing(ends.1);
-    write!(text, "{front} {back}")?;
-    Ok(())
-}
-
 /// The places that are linked.
 pub(crate) fn write_linked(text: &mut String, links: &LinkOps) -> fmt::Result {
     for index in 0..links.covers() {
@@ -294,13 +286,12 @@ impl Lists {
         Answer::Truth(same)
     }
 
-    /// Where a cursor at null is when it is moved on, and when it is moved back.
-    pub(crate) fn there_and_back(&self) -> Answer {
+    /// Moves the cursor to the front, where one at null is when it is moved on, or to the back.
+    pub(crate) fn seek(&mut self, to_the_front: bool) -> Answer {
         let mut cursor = reading(&self.list, &self.links, None);
-        let ends = laws::null_there_and_back(&mut cursor);
-        let mut text = String::new(self.alloc);
-        let written = write_both_ends(&mut text, ends);
-        answered(written, text)
+        let (front, back) = laws::null_there_and_back(&mut cursor);
+        self.at = if to_the_front { front } else { back };
+        Answer::Done
     }
 
     /// A reference to the object that the cursor is on.

@@ -12,7 +12,7 @@ pub invariant_of-self : goal.invariant_of-self
 invariant_of-self c =
     let a = c.self.invariant in
     let on : Stands neighbors_of (table_of (entries c.self.inside.links)) c.self.inside.list (Some c.new.result) =
-        (a.gap, a.shown, ap (λ p. Some p) c.new.ensures ∙ sym c.in-Some.is ∙ a.after) in
+    (a.gap, a.shown, ap (λ p. Some p) c.new.ensures ∙ sym c.in-Some.is ∙ a.after) in
     let m = member_at c.new.result on in
     let e = c.remove.ensures in
     taken_off doubly a m.0 m.1 c.new.result (one_sequence_is_shown doubly a.shown m.2) (e.removed m.0 m.1 m.2) (e.frame (join a.gap) a.shown)
