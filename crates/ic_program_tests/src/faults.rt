@@ -1,6 +1,6 @@
 //! Arguments, and what is printed before a fault of reading, of writing or of memory.
 
-use crate::runs::{run, same};
+use crate::program_runs::{run, same};
 use ic_program::run_program;
 use rationed::Rationed;
 use std::alloc::Global;

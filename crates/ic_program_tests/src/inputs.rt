@@ -1,6 +1,6 @@
 //! Inputs, with what is printed for each and the status.
 
-use crate::runs::{run, same};
+use crate::program_runs::{run, same};
 use std::alloc::Global;
 use std::process::Abort;
 use std::test::Fail;

@@ -1,4 +1,5 @@
-//! What the program prints and answers, over readers and writers of memory.
+//! What the program prints and answers, over readers and writers of memory; worked rows of a world, in the text of its
+//! commands; and a key adapter.
 #![tactic(auto)]
 
 #[cfg(test)]
@@ -6,4 +7,12 @@ mod faults;
 #[cfg(test)]
 mod inputs;
 #[cfg(test)]
-mod runs;
+mod keys;
+#[cfg(test)]
+mod program_runs;
+#[cfg(test)]
+mod texts;
+#[cfg(test)]
+mod world_runs;
+#[cfg(test)]
+mod worlds;
