@@ -5,7 +5,7 @@
 //! list.push_back(&mut links, object)?; // it is the second one still
 //! ```
 
-ghost use Rattle.std.specs.Prelude.{◌≡◌, ◌∷◌, List, [], OnOk, OnErr};
+ghost use Rattle.std.specs.Prelude.{◌≡◌, ◌∷◌, List, [], OnOk, OnErr, IfErr};
 ghost use Rattle.ic_unsafe_ref.specs.declared.place.Place.{Place};
 ghost use Rattle.ic_link_ops.specs.Sequences.{insert, at_back};
 ghost use Rattle.ic_link_ops.specs.Tables.{IsCovered, KeepsBeside};
@@ -105,7 +105,7 @@ impl<L: LinkedListOps> LinkedListOps for EitherTable<L> {
 }
 
 impl<L: LinkedListOps> EitherTable<L> {
-    ghost use Rattle.uses.specs.EitherTables.{one_of, variant};
+    ghost use Rattle.uses.specs.EitherTables.{one_of, variant, Alike};
 
     /// Puts an unlinked object at the back of a list whose links this table has; it is the same one of the two then.
     ///
@@ -121,7 +121,9 @@ impl<L: LinkedListOps> EitherTable<L> {
         ensures same { variant self.new ≡ variant self.old }
         ensures inserted { (s : List Place) → Shows L.neighbors (one_of L.table self.old) list.old s
             → OnOk result (Shows L.neighbors (one_of L.table self.new) list.new (insert (at_back s) object)) }
-        ensures refused { OnErr result (one_of L.table self.new ≡ one_of L.table self.old) }
+        ensures acquired { OnOk result (Alike L.Does self.old self.new (acquires object ∷ [])) }
+        ensures refused { OnErr result (Alike L.Refused self.old self.new object) }
+        ensures unchanged { IfErr result (λ refused. (refused.0 ≡ object) × (list.new ≡ list.old)) }
         ensures frame { (s : List Place) → Shows L.neighbors (one_of L.table self.old) list.old s
             → KeepsBeside (one_of L.table self.old) (one_of L.table self.new) (object ∷ s) }
     {

@@ -5,7 +5,7 @@
 //! list.push_back(&mut view, object)?; // when the view ends, `links` has what it showed
 //! ```
 
-ghost use Rattle.std.specs.Prelude.{◌≡◌, ◌∷◌, List, [], OnOk, OnErr};
+ghost use Rattle.std.specs.Prelude.{◌≡◌, ◌∷◌, List, [], OnOk, OnErr, IfErr};
 ghost use Rattle.ic_unsafe_ref.specs.declared.place.Place.{Place};
 ghost use Rattle.ic_link_ops.specs.Sequences.{insert, at_back};
 ghost use Rattle.ic_link_ops.specs.Tables.{IsCovered, KeepsBeside};
@@ -119,6 +119,7 @@ pub fn push_back<T, L: LinkedListOps>(
         → OnOk result (Shows L.neighbors (L.table links.new) list.new (insert (at_back s) object)) }
     ensures acquired { OnOk result (L.Does links.old links.new (acquires object ∷ [])) }
     ensures refused { OnErr result (L.Refused links.old links.new object) }
+    ensures unchanged { IfErr result (λ refused. (refused.0 ≡ object) × (list.new ≡ list.old)) }
     ensures frame { (s : List Place) → Shows L.neighbors (L.table links.old) list.old s
         → KeepsBeside (L.table links.old) (L.table links.new) (object ∷ s) }
 {

@@ -5,9 +5,10 @@
 //! let (low, high) = pairs::in_order(first, second);
 //! ```
 
-ghost use Rattle.std.specs.Prelude.{◌≡◌, ◌≤◌, ◌⊎◌, List, [], ◌∷◌, IfSome};
+ghost use Rattle.std.specs.Prelude.{◌≡◌, ◌≢◌, ◌≤◌, ◌⊎◌, List, [], ◌∷◌, length, IfSome, IfNone};
 ghost use Rattle.ic_unsafe_ref.specs.declared.place.Place.{Place};
 ghost use Rattle.ic_unsafe_ref.specs.Places.{index_of};
+ghost use Rattle.ic_link_ops.specs.LinkSteps.{releases};
 ghost use Rattle.ic_link_ops.specs.LinkedList.{Shows, ShowsSome};
 ghost use Rattle.ic_linked_list.specs.Iter.{ArePlaced, values_at};
 
@@ -39,8 +40,10 @@ pub fn both<'a, T, L: LinkedListOps, A: Allocator>(
 ) -> Option<(&'a T, &'a T)>
     requires shown { ShowsSome L.neighbors (L.table links.now) list.now }
     requires placed { (s : List Place) → Shows L.neighbors (L.table links.now) list.now s → ArePlaced objects.now s }
-    ensures { (s : List Place) → Shows L.neighbors (L.table links.now) list.now s
+    ensures both { (s : List Place) → Shows L.neighbors (L.table links.now) list.now s
         → IfSome result (λ pair. values_at objects.now s ≡ pair.0.now ∷ pair.1.now ∷ []) }
+    ensures none { (s : List Place) → Shows L.neighbors (L.table links.now) list.now s
+        → IfNone result (length (values_at objects.now s) ≢ 2) }
 {
     let mut walk = list.iter(links, objects);
     let first = walk.next()?;
@@ -60,8 +63,10 @@ pub fn take_both<T, L: LinkedListOps>(
     links: &mut L,
 ) -> Option<(UnsafeRef<T>, UnsafeRef<T>)>
     requires shown { ShowsSome L.neighbors (L.table links.old) list }
-    ensures { (s : List Place) → Shows L.neighbors (L.table links.old) list s
+    ensures both { (s : List Place) → Shows L.neighbors (L.table links.old) list s
         → IfSome result (λ pair. s ≡ pair.0 ∷ pair.1 ∷ []) }
+    ensures none { (s : List Place) → Shows L.neighbors (L.table links.old) list s → IfNone result (length s ≢ 2) }
+    ensures released { IfSome result (λ pair. L.Does links.old links.new (releases pair.0 ∷ releases pair.1 ∷ [])) }
 {
     let mut rest = list.into_iter(links);
     let first = rest.next()?;

@@ -5,8 +5,10 @@
 //! let popped = links.pop_front(&mut list); // one note: the object was released
 //! ```
 
-ghost use Rattle.std.specs.Prelude.{◌≡◌, List, [], ◌∷◌, ◌++◌, IfSome, IfNone, OnOk, OnErr};
+ghost use Rattle.std.specs.Prelude.{◌≡◌, List, [], ◌∷◌, ◌++◌, IfSome, IfNone, OnOk, OnErr, IfErr};
 ghost use Rattle.ic_unsafe_ref.specs.declared.place.Place.{Place};
+ghost use Rattle.ic_link_ops.specs.Sequences.{first, insert, remove, at_front, at_back};
+ghost use Rattle.ic_link_ops.specs.Chains.{no_members};
 ghost use Rattle.ic_link_ops.specs.Tables.{IsCovered};
 ghost use Rattle.ic_link_ops.specs.LinkedList.{Shows, ShowsSome};
 ghost use Rattle.ic_link_ops.specs.LinkSteps.{releases_each};
@@ -134,9 +136,12 @@ impl<L: LinkedListOps, R: Recorder> RecordedTable<L, R> {
     /// It asks that the table shows a sequence for the list.
     pub fn pop_front<T>(&mut self, list: &mut LinkedList<T>) -> Option<UnsafeRef<T>>
         requires shown { ShowsSome L.neighbors (L.table (links_of self.old)) list.old }
+        ensures answer { (s : List Place) → Shows L.neighbors (L.table (links_of self.old)) list.old s → result ≡ first s }
+        ensures removed { (s : List Place) → Shows L.neighbors (L.table (links_of self.old)) list.old s
+            → Shows L.neighbors (L.table (links_of self.new)) list.new (remove (at_front s)) }
         ensures noted { IfSome result (λ object.
             notes_of R.notes self.new ≡ notes_of R.notes self.old ++ Released object ∷ []) }
-        ensures empty { IfNone result (notes_of R.notes self.new ≡ notes_of R.notes self.old) }
+        ensures empty { IfNone result ((list.new ≡ list.old) × (self.new ≡ self.old)) }
     {
         list.pop_front(self)
     }
@@ -151,8 +156,12 @@ impl<L: LinkedListOps, R: Recorder> RecordedTable<L, R> {
     ) -> Result<(), AlreadyLinked<T>>
         requires covered { IsCovered (L.table (links_of self.old)) object }
         requires shown { ShowsSome L.neighbors (L.table (links_of self.old)) list.old }
+        ensures inserted { (s : List Place) → Shows L.neighbors (L.table (links_of self.old)) list.old s
+            → OnOk result (Shows L.neighbors (L.table (links_of self.new)) list.new (insert (at_back s) object)) }
         ensures noted { OnOk result (notes_of R.notes self.new ≡ notes_of R.notes self.old ++ Acquired object ∷ []) }
-        ensures refused { OnErr result (notes_of R.notes self.new ≡ notes_of R.notes self.old ++ Refused object ∷ []) }
+        ensures refused { OnErr result (L.Refused (links_of self.old) (links_of self.new) object
+            × (notes_of R.notes self.new ≡ notes_of R.notes self.old ++ Refused object ∷ [])) }
+        ensures unchanged { IfErr result (λ refused. (refused.0 ≡ object) × (list.new ≡ list.old)) }
     {
         list.push_back(self, object)
     }
@@ -162,6 +171,9 @@ impl<L: LinkedListOps, R: Recorder> RecordedTable<L, R> {
     /// It asks that the table shows a sequence for the list.
     pub fn clear<T>(&mut self, list: &mut LinkedList<T>)
         requires shown { ShowsSome L.neighbors (L.table (links_of self.old)) list.old }
+        ensures empty { list.new ≡ no_members }
+        ensures released { (s : List Place) → Shows L.neighbors (L.table (links_of self.old)) list.old s
+            → L.Does (links_of self.old) (links_of self.new) (releases_each s) }
         ensures noted { (s : List Place) → Shows L.neighbors (L.table (links_of self.old)) list.old s
             → notes_of R.notes self.new ≡ notes_of R.notes self.old ++ noted (releases_each s) }
     {

@@ -1,0 +1,15 @@
+use Rattle.std.proofs.Common.{◌≡◌, Option, Some, None, IfNone, true, false, is_some, sym, ◌∙◌, rules}
+use Rattle.uses.proofs.pairs.take_both.Goals as goal
+
+-- what an answer that is none says
+none_says : {A P : Type 0} (r : Option A) → is_some r ≡ false → IfNone r P → P
+none_says None e h = h
+none_says (Some x) e h = let never : true ≡ false = e in absurd (cc)
+
+pub returns-clause-released : goal.returns-clause-released
+returns-clause-released g c =
+    let both = g.met.L.LinkOps.does_on _ _ _ _ _ c.in_ok-first.ensures.steps.released c.in_ok-second.ensures.steps.released in
+    let same = (none_says c.next-2.result (sym c.is_some.ensures ∙ c.if-is_some.false) c.next-2.ensures.steps.empty).1 in
+    let taken = rw (← same, c.into_iter-rest.ensures.links) at both in
+    let left = c.drop-rest-2.ensures.links in
+    search rules
