@@ -86,9 +86,13 @@ pub fn fields_are_apart<T, A: Allocator, B: Allocator>(
     ensures first { (s : List Place) → PlainShows first_links.old first.old s
         → PlainShows first_links.new first.new (insert (at_back s) object) }
     ensures first_linked { LinksAlso is_linked (plain_table first_links.old) (plain_table first_links.new) object }
+    ensures first_frame { (s : List Place) → PlainShows first_links.old first.old s
+        → KeepsBeside (plain_table first_links.old) (plain_table first_links.new) (object ∷ s) }
     ensures second { (s : List Place) → PlainShows second_links.old second.old s
         → PlainShows second_links.new second.new (insert (at_back s) object) }
     ensures second_linked { LinksAlso is_linked (plain_table second_links.old) (plain_table second_links.new) object }
+    ensures second_frame { (s : List Place) → PlainShows second_links.old second.old s
+        → KeepsBeside (plain_table second_links.old) (plain_table second_links.new) (object ∷ s) }
 {
     let in_first = first.push_back(first_links, UnsafeRef::new(object)).is_ok();
     let in_second = second
