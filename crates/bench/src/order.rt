@@ -7,8 +7,8 @@
 
 ghost use Rattle.std.specs.Prelude.{List, Some, IfSome};
 ghost use Rattle.ic_unsafe_ref.specs.declared.place.Place.{Place};
-ghost use Rattle.ic_link_ops.specs.DoublyEntries.{neighbors_of, plain_table, PlainShows};
-ghost use Rattle.ic_linked_list.specs.Stands.{Stands};
+ghost use Rattle.ic_link_ops.specs.DoublyEntries.{PlainShows};
+ghost use Rattle.ic_link_ops.specs.Positions.{HasMember};
 ghost use Rattle.bench.specs.Plain.{ShowsList};
 
 use ic_link_ops::linked_list::LinkOps;
@@ -21,7 +21,7 @@ use uses::lru;
 fn last_but_one(order: &LinkedList<u64>, links: &LinkOps) -> Option<UnsafeRef<u64>>
     requires { ShowsList links.now order.now }
     ensures { IfSome result
-        (λ object. Stands neighbors_of (plain_table links.now) order.now (Some object)) }
+        (λ object. HasMember (PlainShows links.now order.now) object) }
 {
     let mut cursor = order.back(links);
     cursor.move_prev();
@@ -31,7 +31,7 @@ fn last_but_one(order: &LinkedList<u64>, links: &LinkOps) -> Option<UnsafeRef<u6
 // One touch, which is counted here.
 #[inline(never)]
 fn touch(order: &mut LinkedList<u64>, links: &mut LinkOps, object: UnsafeRef<u64>)
-    requires { Stands neighbors_of (plain_table links.old) order.old (Some object) }
+    requires { HasMember (PlainShows links.old order.old) object }
     ensures { ShowsList links.new order.new }
 {
     lru::touch(order, links, object);

@@ -4,6 +4,7 @@ pub mod Chains
 pub mod ShownLists
 pub mod Covering
 pub mod CollectionLaws
+pub mod Positions
 pub mod TwoLists
 pub mod Turning
 pub mod Walks

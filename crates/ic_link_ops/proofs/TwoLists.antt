@@ -1,16 +1,18 @@
 -- What an edit leaves of two lists that share no member, for any kind of list.
-use Rattle.std.proofs.Common.{◌≡◌, ◌∙◌, Bool, Result, Ok, Err, OnOk, OnErr, IfOk, IfErr, OnSome, IfNone, Option, Some, None, List, [], ◌∷◌, ◌++◌, refl, drop, append-nil, append_assoc}
+use Rattle.std.proofs.Common.{◌≡◌, ◌∙◌, ap, sym, Bool, Result, Ok, Err, OnOk, OnErr, IfErr, Option, Some, None, List, [], ◌∷◌, ◌++◌, refl, drop, append-nil, append_assoc}
 use Rattle.ic_unsafe_ref.specs.declared.place.Place.{Place}
 use Rattle.ic_link_ops.specs.Sequences.{Cut, join, at_front, at_back, insert, remove, replace, first, last, but_last, IsAbsent, IsAfter, IsBefore, IsDisjoint}
-use Rattle.ic_link_ops.specs.Tables.{Table, KeepsBeside, LinksAlso, IsUnlinked}
-use Rattle.ic_link_ops.specs.LinkSteps.{acquires, releases, Replays}
+use Rattle.ic_link_ops.specs.Tables.{Table, KeepsBeside, IsUnlinked}
+use Rattle.ic_link_ops.specs.LinkSteps.{LinkStep, acquires, Replays}
 use Rattle.ic_link_ops.specs.Edits.{Inserts, Removes, Replaces, Splices, Splits}
-use Rattle.ic_link_ops.specs.Errors.{ByCause, object_of}
+use Rattle.ic_link_ops.specs.Positions.{Site, HasMember}
+use Rattle.ic_link_ops.specs.EditsAt.{InsertsBeside, RemovesThere, ReplacesThere}
+use Rattle.ic_link_ops.specs.declared.errors.AlreadyLinked.{AlreadyLinked as Refusal}
 use Rattle.ic_link_ops.specs.declared.errors.ReplaceError.{ReplaceError}
 use Rattle.ic_link_ops.specs.declared.errors.ReplaceError.TheVariants.{Null, AlreadyLinked}
 use Rattle.ic_link_ops.specs.TwoLists.{AreApart}
 use Rattle.ic_link_ops.proofs.CollectionLaws.{IsKind, others_stay}
-use Rattle.ic_link_ops.proofs.SequenceLemmas.{absent_with, absent_without, absent_swap, disjoint_cons, disjoint_sym, distinct_disjoint, gap_after, gap_before}
+use Rattle.ic_link_ops.proofs.SequenceLemmas.{absent_with, absent_without, absent_swap, disjoint_cons, disjoint_sym, distinct_disjoint, gap_after, gap_before, first_is}
 
 -- a member fewer is still none of theirs
 absent_dropped : (f b : List Place) (q : Place) → IsAbsent q (f ++ b) → IsAbsent q (f ++ drop 1 b)
@@ -34,6 +36,12 @@ module _ {E H : Type 0} {Shows : Table E → H → List Place → Type 0} {linke
     -- the list and its other places
     pub at_null : AreApart Shows t list other None
     at_null = record { gap = at_front (join a.gap); rest = a.rest; shown = a.shown; after = refl; other_shown = a.other_shown; apart = a.apart }
+
+    -- the member that the position is on
+    pub member_apart : {p : Place} → position ≡ Some p → HasMember (Shows t list) p
+    member_apart is =
+        let k = gap_before a.gap position a.after in
+        record { front = k.0.front; back = drop 1 k.0.back; shown = rw (first_is k.0.back (sym is ∙ k.2)) at (rw (← k.1) at a.shown) }
 
     pub moved : (new : Option Place) → ((gap : Cut) → Shows t list (join gap) → IsAfter gap position → IsBefore gap new) → AreApart Shows t list other new
     moved new on =
@@ -200,48 +208,40 @@ module _ {E H : Type 0} {Shows : Table E → H → List Place → Type 0} {linke
       cleared e frame =
           edited (join a.gap) frame a.apart (at_front []) (rw e (kind.nothing t')) (disjoint_sym [] a.rest tt) refl
 
-  -- THE SAME BY WHAT A CALL ANSWERS: edited where it was accepted, as it was where not. `table`: what a clause sees of a table
-  module _ {L : Type 0} (table : L → Table E) (old new : L) {list list' other : H} {position : Option Place} (a : AreApart Shows (table old) list other position) where
-    as_it_was : {position' : Option Place} → new ≡ old → list' ≡ list → position' ≡ position → AreApart Shows (table new) list' other position'
-    as_it_was e f g = rw (e, f, g) a
+  -- THE SAME BY WHAT A CALL ANSWERS: edited where it was accepted, as it was where not. `replays`, `keeps`: laws of the table
+  module _ {L : Type 0} (table : L → Table E) {Does : L → L → List LinkStep → Type 0} {Refused : L → L → Place → Type 0}
+      (replays : (x y : L) (s : List LinkStep) → Does x y s → Replays linked (table x) (table y) s) (keeps : (x y : L) (q : Place) → Refused x y q → table y ≡ table x) where
+    as_it_was : {t t' : Table E} {list list' other : H} {position position' : Option Place} → AreApart Shows t list other position
+        → t' ≡ t → list' ≡ list → position' ≡ position → AreApart Shows t' list' other position'
+    as_it_was a e f g = rw (e, f, g) a
 
-    module _ {X F : Type 0} (p : Place) (P : Type 0) (Q : F → Type 0) where
-      pub after_insert_after : (r : Result X F)
-          → ((gap : Cut) → Shows (table old) list (join gap) → IsAfter gap position → OnOk r (Inserts Shows (table old) (table new) list' gap p))
-          → OnOk r (LinksAlso linked (table old) (table new) p)
-          → OnErr r (P × (new ≡ old)) → IfErr r (λ e. Q e × (list' ≡ list)) → AreApart Shows (table new) list' other position
-      after_insert_after (Ok x) inserts links refused unchanged = inserted_after a links.was inserts
-      after_insert_after (Err e) inserts links refused unchanged = as_it_was refused.1 unchanged.1 refl
+    module _ {old new : Site L H} {other : H} (a : AreApart Shows (table old.links) old.head other old.position) where
+      pub after_insert_after : {T : Type 0} {p : Place} (r : Result Unit (Refusal T)) → InsertsBeside Shows table Does Refused IsAfter old p r new
+          → AreApart Shows (table new.links) new.head other new.position
+      after_insert_after (Ok x) e = rw e.position (inserted_after a (replays _ _ _ e.acquired).was e.inserted)
+      after_insert_after (Err x) e = as_it_was a (keeps _ _ _ e.refused) e.unchanged.1 e.position
 
-      pub after_insert_before : (r : Result X F)
-          → ((gap : Cut) → Shows (table old) list (join gap) → IsBefore gap position → OnOk r (Inserts Shows (table old) (table new) list' gap p))
-          → OnOk r (LinksAlso linked (table old) (table new) p)
-          → OnErr r (P × (new ≡ old)) → IfErr r (λ e. Q e × (list' ≡ list)) → AreApart Shows (table new) list' other position
-      after_insert_before (Ok x) inserts links refused unchanged = inserted_before a links.was inserts
-      after_insert_before (Err e) inserts links refused unchanged = as_it_was refused.1 unchanged.1 refl
+      pub after_insert_before : {T : Type 0} {p : Place} (r : Result Unit (Refusal T)) → InsertsBeside Shows table Does Refused IsBefore old p r new
+          → AreApart Shows (table new.links) new.head other new.position
+      after_insert_before (Ok x) e = rw e.position (inserted_before a (replays _ _ _ e.acquired).was e.inserted)
+      after_insert_before (Err x) e = as_it_was a (keeps _ _ _ e.refused) e.unchanged.1 e.position
 
-      pub after_push : (r : Result X F) (at : List Place → Cut) → ((s : List Place) → join (at s) ≡ s)
-          → ((s : List Place) → Shows (table old) list s → OnOk r (Shows (table new) list' (insert (at s) p)))
-          → OnOk r (LinksAlso linked (table old) (table new) p)
-          → ((s : List Place) → Shows (table old) list s → KeepsBeside (table old) (table new) (p ∷ s))
-          → OnErr r (P × (new ≡ old)) → IfErr r (λ e. Q e × (list' ≡ list)) → AreApart Shows (table new) list' other None
-      after_push (Ok x) at same shows links frame refused unchanged =
-          pushed a links.was (at (join a.gap)) (same (join a.gap)) (shows (join a.gap) a.shown) (frame (join a.gap) a.shown)
-      after_push (Err e) at same shows links frame refused unchanged = at_null (as_it_was refused.1 unchanged.1 refl)
+      pub after_remove : (r : Option Place) → RemovesThere Shows table Does old r new → AreApart Shows (table new.links) new.head other new.position
+      after_remove (Some p) e = removed a e.removed new.position e.moved
+      after_remove None e = rw e.null a
 
-    pub after_remove : {position' : Option Place} (r : Option Place) → r ≡ position
-        → ((gap : Cut) → Shows (table old) list (join gap) → IsBefore gap position
-        → OnSome r (Removes Shows (table old) (table new) list' gap))
-        → ((gap : Cut) → Shows (table old) list (join gap) → IsBefore gap position → position' ≡ first (drop 1 gap.back))
-        → IfNone r ((list' ≡ list) × (new ≡ old) × (position' ≡ None)) → AreApart Shows (table new) list' other position'
-    after_remove {position'} (Some p) is removes behind null = removed a removes position' behind
-    after_remove None is removes behind null = as_it_was null.1 null.0 (null.2 ∙ is)
+      pub after_replace : {T : Type 0} {p : Place} (r : Result Place (ReplaceError T)) → ReplacesThere Shows table Does Refused old p r new
+          → AreApart Shows (table new.links) new.head other new.position
+      after_replace (Ok out) e = replaced a (replays _ _ _ e.exchanged).1.was e.replaced new.position e.moved
+      after_replace (Err (Null x)) e = as_it_was a (ap table e.refused.1) e.unchanged.1 e.unchanged.2
+      after_replace (Err (AlreadyLinked x)) e = as_it_was a (keeps _ _ _ e.refused.1) e.unchanged.1 e.unchanged.2
 
-    pub after_replace : {position' : Option Place} {T : Type 0} (p : Place) (P Q R : Type 0) (r : Result Place (ReplaceError T))
-        → ((gap : Cut) → Shows (table old) list (join gap) → IsBefore gap position
-        → OnOk r (Replaces Shows (table old) (table new) list' gap p))
-        → OnOk r (position' ≡ Some p) → IfOk r (λ out. Replays linked (table old) (table new) (acquires p ∷ releases out ∷ [])) → IfErr r (ByCause (P × (new ≡ old)) (Q × (R × (new ≡ old))))
-        → IfErr r (λ e. (object_of e ≡ p) × (list' ≡ list) × (position' ≡ position)) → AreApart Shows (table new) list' other position'
-    after_replace {position'} p P Q R (Ok out) replaces moves exchanged refused unchanged = replaced a exchanged.1.was replaces position' moves
-    after_replace p P Q R (Err (Null e)) replaces moves exchanged refused unchanged = as_it_was refused.1 unchanged.1 unchanged.2
-    after_replace p P Q R (Err (AlreadyLinked e)) replaces moves exchanged refused unchanged = as_it_was refused.1.1 unchanged.1 unchanged.2
+    pub after_push : (old new : L) {list list' other : H} {position : Option Place} (a : AreApart Shows (table old) list other position)
+        {X F : Type 0} (p : Place) (Q : F → Type 0) (r : Result X F) (at : List Place → Cut) → ((s : List Place) → join (at s) ≡ s)
+        → ((s : List Place) → Shows (table old) list s → OnOk r (Shows (table new) list' (insert (at s) p)))
+        → OnOk r (Does old new (acquires p ∷ []))
+        → ((s : List Place) → Shows (table old) list s → KeepsBeside (table old) (table new) (p ∷ s))
+        → OnErr r (Refused old new p) → IfErr r (λ e. Q e × (list' ≡ list)) → AreApart Shows (table new) list' other None
+    after_push old new a p Q (Ok x) at same shows acquired frame refused unchanged =
+        pushed a (replays _ _ _ acquired).was (at (join a.gap)) (same (join a.gap)) (shows (join a.gap) a.shown) (frame (join a.gap) a.shown)
+    after_push old new a p Q (Err e) at same shows acquired frame refused unchanged = as_it_was (at_null a) (keeps _ _ _ refused) unchanged.1 refl

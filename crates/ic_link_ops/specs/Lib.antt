@@ -6,6 +6,8 @@ pub mod LinkSteps
 pub mod Edits
 pub mod TwoLists
 pub mod Errors
+pub mod Positions
+pub mod EditsAt
 pub mod Walk
 pub mod BothEnds
 pub mod LinkedList

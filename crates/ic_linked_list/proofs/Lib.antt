@@ -1,5 +1,4 @@
 pub mod Walking
-pub mod Standing
 pub mod Clearing
 pub mod Taking
 pub mod WalkLaws

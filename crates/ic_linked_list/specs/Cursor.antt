@@ -2,6 +2,7 @@
 use Rattle.std.specs.Prelude.{Option}
 use Rattle.ic_unsafe_ref.specs.declared.place.Place.{Place}
 use Rattle.ic_link_ops.specs.Chains.{Ends}
+use Rattle.ic_link_ops.specs.Positions.{Site, site}
 use Rattle.ic_linked_list.specs.declared.cursor.Cursor.{Cursor}
 
 module _ {T L : Type 0} where
@@ -16,3 +17,7 @@ module _ {T L : Type 0} where
   -- the member that it is on, none at null
   abbrev pub position : Cursor T L → Option Place
   position c = c.current
+
+  -- all three
+  abbrev pub site_of : Cursor T L → Site L Ends
+  site_of c = site (links_of c) (list_of c) (position c)

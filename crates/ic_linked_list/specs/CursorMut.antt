@@ -3,6 +3,7 @@ use Rattle.std.specs.Prelude.{◌≡◌, Option}
 use Rattle.std.specs.Borrow.{MutBor}
 use Rattle.ic_unsafe_ref.specs.declared.place.Place.{Place}
 use Rattle.ic_link_ops.specs.Chains.{Ends}
+use Rattle.ic_link_ops.specs.Positions.{Site, site}
 use Rattle.ic_linked_list.specs.declared.cursor_mut.CursorMut.{CursorMut}
 
 module _ {T L : Type 0} where
@@ -17,6 +18,10 @@ module _ {T L : Type 0} where
   -- the member that it is on, none at null
   abbrev pub position : CursorMut T L → Option Place
   position c = c.current
+
+  -- all three
+  abbrev pub site_of : CursorMut T L → Site L Ends
+  site_of c = site (links_of c) (list_of c) (position c)
 
   -- it edits this list and this table, which are as they were
   abbrev pub IsBorrowed : MutBor Ends → MutBor L → CursorMut T L → Type 0

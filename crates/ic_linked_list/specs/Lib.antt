@@ -1,4 +1,3 @@
-pub mod Stands
 pub mod Cursor
 pub mod CursorMut
 pub mod CursorOwning

@@ -13,7 +13,7 @@ ghost use Rattle.std.specs.Option.{option_copied};
 ghost use Rattle.ic_unsafe_ref.specs.declared.place.Place.{Place};
 ghost use Rattle.ic_link_ops.specs.Sequences.{Cut, join, first, last, IsAfter, IsBefore};
 ghost use Rattle.ic_link_ops.specs.LinkedList.{Shows};
-ghost use Rattle.ic_linked_list.specs.Stands.{Stands, MovesOn, MovesBack, object_there};
+ghost use Rattle.ic_link_ops.specs.Positions.{Stands, MovesOn, MovesBack, HasMember, object_there};
 
 use crate::LinkedList;
 use ic_link_ops::LinkOps;
@@ -39,7 +39,7 @@ impl<T, L> Drop for Cursor<'_, T, L> {
 }
 
 impl<T> LinkedList<T> {
-    ghost use Rattle.ic_linked_list.specs.Cursor.{list_of, links_of, position};
+    ghost use Rattle.ic_linked_list.specs.Cursor.{list_of, links_of, position, site_of};
 
     /// A cursor at null.
     #[inline]
@@ -62,10 +62,11 @@ impl<T> LinkedList<T> {
         links: &'a L,
         object: UnsafeRef<T>,
     ) -> Cursor<'a, T, L>
-        requires member { Stands L.neighbors (L.table links.now) self.now (Some object) }
+        requires member { HasMember (Shows L.neighbors (L.table links.now) self.now) object }
         ensures list { list_of result ≡ self.now }
         ensures links { links_of result ≡ links.now }
         ensures position { position result ≡ Some object }
+        ensures stands { Stands (Shows L.neighbors) L.table (site_of result) }
     {
         Cursor {
             list: self,
@@ -106,7 +107,7 @@ impl<T> LinkedList<T> {
 }
 
 impl<'a, T, L: LinkedListOps> Cursor<'a, T, L> {
-    ghost use Rattle.ic_linked_list.specs.Cursor.{list_of, links_of, position};
+    ghost use Rattle.ic_linked_list.specs.Cursor.{list_of, links_of, position, site_of};
 
     /// Whether the cursor is on no member.
     #[inline]
@@ -146,9 +147,8 @@ impl<'a, T, L: LinkedListOps> Cursor<'a, T, L> {
     /// The gap that was after the cursor is then before it.
     #[inline]
     pub fn move_next(&mut self)
-        requires stands { Stands L.neighbors (L.table (links_of self.old)) (list_of self.old) (position self.old) }
-        ensures moved { MovesOn L.neighbors (L.table (links_of self.old))
-            (list_of self.old) (position self.old) (position self.new) }
+        requires stands { Stands (Shows L.neighbors) L.table (site_of self.old) }
+        ensures moved { MovesOn (Shows L.neighbors) L.table (site_of self.old) (position self.new) }
         ensures list { list_of self.new ≡ list_of self.old }
         ensures links { links_of self.new ≡ links_of self.old }
     {
@@ -160,9 +160,8 @@ impl<'a, T, L: LinkedListOps> Cursor<'a, T, L> {
     /// The gap that was before the cursor is then after it.
     #[inline]
     pub fn move_prev(&mut self)
-        requires stands { Stands L.neighbors (L.table (links_of self.old)) (list_of self.old) (position self.old) }
-        ensures moved { MovesBack L.neighbors (L.table (links_of self.old))
-            (list_of self.old) (position self.old) (position self.new) }
+        requires stands { Stands (Shows L.neighbors) L.table (site_of self.old) }
+        ensures moved { MovesBack (Shows L.neighbors) L.table (site_of self.old) (position self.new) }
         ensures list { list_of self.new ≡ list_of self.old }
         ensures links { links_of self.new ≡ links_of self.old }
     {
@@ -172,9 +171,8 @@ impl<'a, T, L: LinkedListOps> Cursor<'a, T, L> {
     /// A cursor where [`Cursor::move_next`] would stand.
     #[inline]
     pub fn peek_next(&self) -> Cursor<'a, T, L>
-        requires stands { Stands L.neighbors (L.table (links_of self.now)) (list_of self.now) (position self.now) }
-        ensures moved { MovesOn L.neighbors (L.table (links_of self.now))
-            (list_of self.now) (position self.now) (position result) }
+        requires stands { Stands (Shows L.neighbors) L.table (site_of self.now) }
+        ensures moved { MovesOn (Shows L.neighbors) L.table (site_of self.now) (position result) }
         ensures list { list_of result ≡ list_of self.now }
         ensures links { links_of result ≡ links_of self.now }
     {
@@ -188,9 +186,8 @@ impl<'a, T, L: LinkedListOps> Cursor<'a, T, L> {
     /// A cursor where [`Cursor::move_prev`] would stand.
     #[inline]
     pub fn peek_prev(&self) -> Cursor<'a, T, L>
-        requires stands { Stands L.neighbors (L.table (links_of self.now)) (list_of self.now) (position self.now) }
-        ensures moved { MovesBack L.neighbors (L.table (links_of self.now))
-            (list_of self.now) (position self.now) (position result) }
+        requires stands { Stands (Shows L.neighbors) L.table (site_of self.now) }
+        ensures moved { MovesBack (Shows L.neighbors) L.table (site_of self.now) (position result) }
         ensures list { list_of result ≡ list_of self.now }
         ensures links { links_of result ≡ links_of self.now }
     {

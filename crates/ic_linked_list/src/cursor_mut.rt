@@ -7,16 +7,14 @@
 //! cursor.insert_before(object)?;
 //! ```
 
-ghost use Rattle.std.specs.Prelude.{◌≡◌, ◌≢◌, ◌↔◌, ◌∷◌, List, [], Option, Some, None, IsTrue, OnOk, OnErr, OnSome, IfOk, IfErr, IfSome, IfNone};
+ghost use Rattle.std.specs.Prelude.{◌≡◌, ◌↔◌, List, Option, Some, None, IsTrue};
 ghost use Rattle.std.specs.Option.{option_copied};
 ghost use Rattle.ic_unsafe_ref.specs.declared.place.Place.{Place};
-ghost use Rattle.ic_link_ops.specs.Sequences.{Cut, join, first, last, IsAfter, IsBefore, IsDisjoint};
+ghost use Rattle.ic_link_ops.specs.Sequences.{first, last, IsAfter, IsBefore};
 ghost use Rattle.ic_link_ops.specs.Tables.{IsCovered};
-ghost use Rattle.ic_link_ops.specs.LinkSteps.{acquires, releases};
-ghost use Rattle.ic_link_ops.specs.Edits.{Inserts, Removes, Replaces, Splices, Splits};
-ghost use Rattle.ic_link_ops.specs.Errors.{object_of, ByCause};
 ghost use Rattle.ic_link_ops.specs.LinkedList.{Shows, ShowsSome};
-ghost use Rattle.ic_linked_list.specs.Stands.{Stands, MovesOn, MovesBack, IsBehind, object_there};
+ghost use Rattle.ic_link_ops.specs.Positions.{Stands, MovesOn, MovesBack, HasMember, object_there};
+ghost use Rattle.ic_link_ops.specs.EditsAt.{InsertsBeside, RemovesThere, ReplacesThere, SplicesBeside, SplitsAfter, SplitsBefore};
 
 use crate::{Cursor, LinkedList};
 use ic_link_ops::linked_list::LinkedListOps;
@@ -45,7 +43,7 @@ impl<T, L> Drop for CursorMut<'_, T, L> {
 }
 
 impl<T> LinkedList<T> {
-    ghost use Rattle.ic_linked_list.specs.CursorMut.{list_of, links_of, position, IsBorrowed};
+    ghost use Rattle.ic_linked_list.specs.CursorMut.{list_of, links_of, position, site_of, IsBorrowed};
 
     /// A cursor at null that edits.
     #[inline]
@@ -67,9 +65,10 @@ impl<T> LinkedList<T> {
         links: &'a mut L,
         object: UnsafeRef<T>,
     ) -> CursorMut<'a, T, L>
-        requires member { Stands L.neighbors (L.table links.old) self.old (Some object) }
+        requires member { HasMember (Shows L.neighbors (L.table links.old) self.old) object }
         ensures borrows { IsBorrowed self.entry links.entry result }
         ensures position { position result ≡ Some object }
+        ensures stands { Stands (Shows L.neighbors) L.table (site_of result) }
     {
         let current = Some(object.place());
         CursorMut {
@@ -111,7 +110,7 @@ impl<T> LinkedList<T> {
 }
 
 impl<'a, T, L: LinkedListOps> CursorMut<'a, T, L> {
-    ghost use Rattle.ic_linked_list.specs.CursorMut.{list_of, links_of, position, SameBorrows, Stays};
+    ghost use Rattle.ic_linked_list.specs.CursorMut.{list_of, links_of, position, site_of, SameBorrows, Stays};
     ghost use Rattle.ic_linked_list.specs.Cursor as reading;
 
     /// Whether the cursor is on no member.
@@ -167,9 +166,8 @@ impl<'a, T, L: LinkedListOps> CursorMut<'a, T, L> {
     /// The gap that was after the cursor is then before it.
     #[inline]
     pub fn move_next(&mut self)
-        requires stands { Stands L.neighbors (L.table (links_of self.old)) (list_of self.old) (position self.old) }
-        ensures moved { MovesOn L.neighbors (L.table (links_of self.old))
-            (list_of self.old) (position self.old) (position self.new) }
+        requires stands { Stands (Shows L.neighbors) L.table (site_of self.old) }
+        ensures moved { MovesOn (Shows L.neighbors) L.table (site_of self.old) (position self.new) }
         ensures stays { Stays self.old self.new }
     {
         self.current = self.list.next_of(&*self.links, self.current);
@@ -180,9 +178,8 @@ impl<'a, T, L: LinkedListOps> CursorMut<'a, T, L> {
     /// The gap that was before the cursor is then after it.
     #[inline]
     pub fn move_prev(&mut self)
-        requires stands { Stands L.neighbors (L.table (links_of self.old)) (list_of self.old) (position self.old) }
-        ensures moved { MovesBack L.neighbors (L.table (links_of self.old))
-            (list_of self.old) (position self.old) (position self.new) }
+        requires stands { Stands (Shows L.neighbors) L.table (site_of self.old) }
+        ensures moved { MovesBack (Shows L.neighbors) L.table (site_of self.old) (position self.new) }
         ensures stays { Stays self.old self.new }
     {
         self.current = self.list.prev_of(&*self.links, self.current);
@@ -191,9 +188,8 @@ impl<'a, T, L: LinkedListOps> CursorMut<'a, T, L> {
     /// A cursor that reads, where [`CursorMut::move_next`] would stand.
     #[inline]
     pub fn peek_next(&self) -> Cursor<'_, T, L>
-        requires stands { Stands L.neighbors (L.table (links_of self.now)) (list_of self.now) (position self.now) }
-        ensures moved { MovesOn L.neighbors (L.table (links_of self.now))
-            (list_of self.now) (position self.now) (reading.position result) }
+        requires stands { Stands (Shows L.neighbors) L.table (site_of self.now) }
+        ensures moved { MovesOn (Shows L.neighbors) L.table (site_of self.now) (reading.position result) }
         ensures list { reading.list_of result ≡ list_of self.now }
         ensures links { reading.links_of result ≡ links_of self.now }
     {
@@ -204,9 +200,8 @@ impl<'a, T, L: LinkedListOps> CursorMut<'a, T, L> {
     /// A cursor that reads, where [`CursorMut::move_prev`] would stand.
     #[inline]
     pub fn peek_prev(&self) -> Cursor<'_, T, L>
-        requires stands { Stands L.neighbors (L.table (links_of self.now)) (list_of self.now) (position self.now) }
-        ensures moved { MovesBack L.neighbors (L.table (links_of self.now))
-            (list_of self.now) (position self.now) (reading.position result) }
+        requires stands { Stands (Shows L.neighbors) L.table (site_of self.now) }
+        ensures moved { MovesBack (Shows L.neighbors) L.table (site_of self.now) (reading.position result) }
         ensures list { reading.list_of result ≡ list_of self.now }
         ensures links { reading.links_of result ≡ links_of self.now }
     {
@@ -220,14 +215,9 @@ impl<'a, T, L: LinkedListOps> CursorMut<'a, T, L> {
     #[inline]
     pub fn insert_after(&mut self, object: UnsafeRef<T>) -> Result<(), AlreadyLinked<T>>
         requires covered { IsCovered (L.table (links_of self.old)) object }
-        requires stands { Stands L.neighbors (L.table (links_of self.old)) (list_of self.old) (position self.old) }
-        ensures inserted { (gap : Cut) → Shows L.neighbors (L.table (links_of self.old)) (list_of self.old) (join gap)
-            → IsAfter gap (position self.old) → OnOk result (Inserts (Shows L.neighbors)
-            (L.table (links_of self.old)) (L.table (links_of self.new)) (list_of self.new) gap object) }
-        ensures acquired { OnOk result (L.Does (links_of self.old) (links_of self.new) (acquires object ∷ [])) }
-        ensures refused { OnErr result (L.Refused (links_of self.old) (links_of self.new) object) }
-        ensures unchanged { IfErr result (λ refused. (refused.0 ≡ object) × (list_of self.new ≡ list_of self.old)) }
-        ensures position { position self.new ≡ position self.old }
+        requires stands { Stands (Shows L.neighbors) L.table (site_of self.old) }
+        ensures inserted { InsertsBeside (Shows L.neighbors) L.table L.Does L.Refused IsAfter
+            (site_of self.old) object result (site_of self.new) }
         ensures borrows { SameBorrows self.old self.new }
     {
         self.list.insert_after(self.links, self.current, object)
@@ -239,14 +229,9 @@ impl<'a, T, L: LinkedListOps> CursorMut<'a, T, L> {
     #[inline]
     pub fn insert_before(&mut self, object: UnsafeRef<T>) -> Result<(), AlreadyLinked<T>>
         requires covered { IsCovered (L.table (links_of self.old)) object }
-        requires stands { Stands L.neighbors (L.table (links_of self.old)) (list_of self.old) (position self.old) }
-        ensures inserted { (gap : Cut) → Shows L.neighbors (L.table (links_of self.old)) (list_of self.old) (join gap)
-            → IsBefore gap (position self.old) → OnOk result (Inserts (Shows L.neighbors)
-            (L.table (links_of self.old)) (L.table (links_of self.new)) (list_of self.new) gap object) }
-        ensures acquired { OnOk result (L.Does (links_of self.old) (links_of self.new) (acquires object ∷ [])) }
-        ensures refused { OnErr result (L.Refused (links_of self.old) (links_of self.new) object) }
-        ensures unchanged { IfErr result (λ refused. (refused.0 ≡ object) × (list_of self.new ≡ list_of self.old)) }
-        ensures position { position self.new ≡ position self.old }
+        requires stands { Stands (Shows L.neighbors) L.table (site_of self.old) }
+        ensures inserted { InsertsBeside (Shows L.neighbors) L.table L.Does L.Refused IsBefore
+            (site_of self.old) object result (site_of self.new) }
         ensures borrows { SameBorrows self.old self.new }
     {
         self.list.insert_before(self.links, self.current, object)
@@ -257,16 +242,8 @@ impl<'a, T, L: LinkedListOps> CursorMut<'a, T, L> {
     /// The cursor goes on to the following member, or to null.
     #[inline]
     pub fn remove(&mut self) -> Option<UnsafeRef<T>>
-        requires stands { Stands L.neighbors (L.table (links_of self.old)) (list_of self.old) (position self.old) }
-        ensures answer { result ≡ position self.old }
-        ensures removed { (gap : Cut) → Shows L.neighbors (L.table (links_of self.old)) (list_of self.old) (join gap)
-            → IsBefore gap (position self.old) → OnSome result (Removes (Shows L.neighbors)
-            (L.table (links_of self.old)) (L.table (links_of self.new)) (list_of self.new) gap) }
-        ensures released { IfSome result (λ object. L.Does (links_of self.old) (links_of self.new) (releases object ∷ [])) }
-        ensures moved { (gap : Cut) → Shows L.neighbors (L.table (links_of self.old)) (list_of self.old) (join gap)
-            → IsBefore gap (position self.old) → IsBehind gap (position self.new) }
-        ensures null { IfNone result ((list_of self.new ≡ list_of self.old)
-            × (links_of self.new ≡ links_of self.old) × (position self.new ≡ None)) }
+        requires stands { Stands (Shows L.neighbors) L.table (site_of self.old) }
+        ensures removed { RemovesThere (Shows L.neighbors) L.table L.Does (site_of self.old) result (site_of self.new) }
         ensures borrows { SameBorrows self.old self.new }
     {
         self.list.remove_at(self.links, &mut self.current)
@@ -279,19 +256,9 @@ impl<'a, T, L: LinkedListOps> CursorMut<'a, T, L> {
     #[inline]
     pub fn replace_with(&mut self, object: UnsafeRef<T>) -> Result<UnsafeRef<T>, ReplaceError<T>>
         requires covered { IsCovered (L.table (links_of self.old)) object }
-        requires stands { Stands L.neighbors (L.table (links_of self.old)) (list_of self.old) (position self.old) }
-        ensures answer { IfOk result (λ out. position self.old ≡ Some out) }
-        ensures replaced { (gap : Cut) → Shows L.neighbors (L.table (links_of self.old)) (list_of self.old) (join gap)
-            → IsBefore gap (position self.old) → OnOk result (Replaces (Shows L.neighbors)
-            (L.table (links_of self.old)) (L.table (links_of self.new)) (list_of self.new) gap object) }
-        ensures moved { OnOk result (position self.new ≡ Some object) }
-        ensures exchanged { IfOk result (λ out. L.Does (links_of self.old) (links_of self.new)
-            (acquires object ∷ releases out ∷ [])) }
-        ensures refused { IfErr result (ByCause
-            ((position self.old ≡ None) × (links_of self.new ≡ links_of self.old))
-            ((position self.old ≢ None) × L.Refused (links_of self.old) (links_of self.new) object)) }
-        ensures unchanged { IfErr result (λ refused. (object_of refused ≡ object)
-            × (list_of self.new ≡ list_of self.old) × (position self.new ≡ position self.old)) }
+        requires stands { Stands (Shows L.neighbors) L.table (site_of self.old) }
+        ensures replaced { ReplacesThere (Shows L.neighbors) L.table L.Does L.Refused
+            (site_of self.old) object result (site_of self.new) }
         ensures borrows { SameBorrows self.old self.new }
     {
         self.list
@@ -303,15 +270,9 @@ impl<'a, T, L: LinkedListOps> CursorMut<'a, T, L> {
     /// It asks that the table shows the given list too; the two share no member. The cursor stays where it is.
     #[inline]
     pub fn splice_after(&mut self, given: LinkedList<T>)
-        requires stands { Stands L.neighbors (L.table (links_of self.old)) (list_of self.old) (position self.old) }
+        requires stands { Stands (Shows L.neighbors) L.table (site_of self.old) }
         requires given { ShowsSome L.neighbors (L.table (links_of self.old)) given }
-        ensures spliced { (gap : Cut) (t : List Place)
-            → Shows L.neighbors (L.table (links_of self.old)) (list_of self.old) (join gap)
-            → IsAfter gap (position self.old) → Shows L.neighbors (L.table (links_of self.old)) given t
-            → IsDisjoint t (join gap) → Splices (Shows L.neighbors)
-            (L.table (links_of self.old)) (L.table (links_of self.new)) (list_of self.new) gap t }
-        ensures no_step { L.Does (links_of self.old) (links_of self.new) [] }
-        ensures position { position self.new ≡ position self.old }
+        ensures spliced { SplicesBeside (Shows L.neighbors) L.table L.Does IsAfter (site_of self.old) given (site_of self.new) }
         ensures borrows { SameBorrows self.old self.new }
     {
         self.list.splice_after(self.links, self.current, given);
@@ -322,15 +283,9 @@ impl<'a, T, L: LinkedListOps> CursorMut<'a, T, L> {
     /// It asks that the table shows the given list too; the two share no member. The cursor stays where it is.
     #[inline]
     pub fn splice_before(&mut self, given: LinkedList<T>)
-        requires stands { Stands L.neighbors (L.table (links_of self.old)) (list_of self.old) (position self.old) }
+        requires stands { Stands (Shows L.neighbors) L.table (site_of self.old) }
         requires given { ShowsSome L.neighbors (L.table (links_of self.old)) given }
-        ensures spliced { (gap : Cut) (t : List Place)
-            → Shows L.neighbors (L.table (links_of self.old)) (list_of self.old) (join gap)
-            → IsBefore gap (position self.old) → Shows L.neighbors (L.table (links_of self.old)) given t
-            → IsDisjoint t (join gap) → Splices (Shows L.neighbors)
-            (L.table (links_of self.old)) (L.table (links_of self.new)) (list_of self.new) gap t }
-        ensures no_step { L.Does (links_of self.old) (links_of self.new) [] }
-        ensures position { position self.new ≡ position self.old }
+        ensures spliced { SplicesBeside (Shows L.neighbors) L.table L.Does IsBefore (site_of self.old) given (site_of self.new) }
         ensures borrows { SameBorrows self.old self.new }
     {
         self.list.splice_before(self.links, self.current, given);
@@ -341,12 +296,8 @@ impl<'a, T, L: LinkedListOps> CursorMut<'a, T, L> {
     /// The cursor stays where it is.
     #[inline]
     pub fn split_after(&mut self) -> LinkedList<T>
-        requires stands { Stands L.neighbors (L.table (links_of self.old)) (list_of self.old) (position self.old) }
-        ensures split { (gap : Cut) → Shows L.neighbors (L.table (links_of self.old)) (list_of self.old) (join gap)
-            → IsAfter gap (position self.old) → Splits (Shows L.neighbors)
-            (L.table (links_of self.old)) (L.table (links_of self.new)) (list_of self.new) result gap.front gap.back }
-        ensures no_step { L.Does (links_of self.old) (links_of self.new) [] }
-        ensures position { position self.new ≡ position self.old }
+        requires stands { Stands (Shows L.neighbors) L.table (site_of self.old) }
+        ensures split { SplitsAfter (Shows L.neighbors) L.table L.Does (site_of self.old) result (site_of self.new) }
         ensures borrows { SameBorrows self.old self.new }
     {
         self.list.split_after(self.links, self.current)
@@ -357,12 +308,8 @@ impl<'a, T, L: LinkedListOps> CursorMut<'a, T, L> {
     /// The cursor stays where it is.
     #[inline]
     pub fn split_before(&mut self) -> LinkedList<T>
-        requires stands { Stands L.neighbors (L.table (links_of self.old)) (list_of self.old) (position self.old) }
-        ensures split { (gap : Cut) → Shows L.neighbors (L.table (links_of self.old)) (list_of self.old) (join gap)
-            → IsBefore gap (position self.old) → Splits (Shows L.neighbors)
-            (L.table (links_of self.old)) (L.table (links_of self.new)) (list_of self.new) result gap.back gap.front }
-        ensures no_step { L.Does (links_of self.old) (links_of self.new) [] }
-        ensures position { position self.new ≡ position self.old }
+        requires stands { Stands (Shows L.neighbors) L.table (site_of self.old) }
+        ensures split { SplitsBefore (Shows L.neighbors) L.table L.Does (site_of self.old) result (site_of self.new) }
         ensures borrows { SameBorrows self.old self.new }
     {
         self.list.split_before(self.links, self.current)

@@ -7,15 +7,13 @@
 //! let list = cursor.into_inner();
 //! ```
 
-ghost use Rattle.std.specs.Prelude.{◌≡◌, ◌≢◌, ◌∷◌, List, [], Option, Some, None, OnOk, OnErr, OnSome, IfOk, IfErr, IfSome, IfNone};
+ghost use Rattle.std.specs.Prelude.{◌≡◌, List, Option, Some, None};
 ghost use Rattle.ic_unsafe_ref.specs.declared.place.Place.{Place};
-ghost use Rattle.ic_link_ops.specs.Sequences.{Cut, join, first, last, IsAfter, IsBefore, IsDisjoint};
+ghost use Rattle.ic_link_ops.specs.Sequences.{first, last, IsAfter, IsBefore};
 ghost use Rattle.ic_link_ops.specs.Tables.{IsCovered};
-ghost use Rattle.ic_link_ops.specs.LinkSteps.{acquires, releases};
-ghost use Rattle.ic_link_ops.specs.Edits.{Inserts, Removes, Replaces, Splices, Splits};
-ghost use Rattle.ic_link_ops.specs.Errors.{object_of, ByCause};
 ghost use Rattle.ic_link_ops.specs.LinkedList.{Shows, ShowsSome};
-ghost use Rattle.ic_linked_list.specs.Stands.{Stands, MovesOn, MovesBack, IsBehind};
+ghost use Rattle.ic_link_ops.specs.Positions.{Stands, MovesOn, MovesBack, HasMember};
+ghost use Rattle.ic_link_ops.specs.EditsAt.{InsertsBeside, RemovesThere, ReplacesThere, SplicesBeside, SplitsAfter, SplitsBefore};
 
 use crate::{Cursor, LinkedList};
 use ic_link_ops::linked_list::LinkedListOps;
@@ -38,7 +36,7 @@ impl<T> Drop for CursorOwning<T> {
 }
 
 impl<T> LinkedList<T> {
-    ghost use Rattle.ic_linked_list.specs.CursorOwning.{list_of, position};
+    ghost use Rattle.ic_linked_list.specs.CursorOwning.{list_of, position, site_of};
 
     /// A cursor at null that keeps the list.
     #[inline]
@@ -59,9 +57,10 @@ impl<T> LinkedList<T> {
         links: &L,
         object: UnsafeRef<T>,
     ) -> CursorOwning<T>
-        requires member { Stands L.neighbors (L.table links.now) self (Some object) }
+        requires member { HasMember (Shows L.neighbors (L.table links.now) self) object }
         ensures list { list_of result ≡ self }
         ensures position { position result ≡ Some object }
+        ensures stands { Stands (Shows L.neighbors) L.table (site_of links.now result) }
     {
         let _ = links;
         CursorOwning {
@@ -102,7 +101,7 @@ impl<T> LinkedList<T> {
 }
 
 impl<T> CursorOwning<T> {
-    ghost use Rattle.ic_linked_list.specs.CursorOwning.{list_of, position};
+    ghost use Rattle.ic_linked_list.specs.CursorOwning.{list_of, position, site_of};
     ghost use Rattle.ic_linked_list.specs.Cursor as reading;
 
     /// The list, as it is.
@@ -158,9 +157,8 @@ impl<T> CursorOwning<T> {
     /// The gap that was after the cursor is then before it.
     #[inline]
     pub fn move_next<L: LinkedListOps>(&mut self, links: &L)
-        requires stands { Stands L.neighbors (L.table links.now) (list_of self.old) (position self.old) }
-        ensures moved { MovesOn L.neighbors (L.table links.now)
-            (list_of self.old) (position self.old) (position self.new) }
+        requires stands { Stands (Shows L.neighbors) L.table (site_of links.now self.old) }
+        ensures moved { MovesOn (Shows L.neighbors) L.table (site_of links.now self.old) (position self.new) }
         ensures list { list_of self.new ≡ list_of self.old }
     {
         self.current = self.list.next_of(links, self.current);
@@ -171,9 +169,8 @@ impl<T> CursorOwning<T> {
     /// The gap that was before the cursor is then after it.
     #[inline]
     pub fn move_prev<L: LinkedListOps>(&mut self, links: &L)
-        requires stands { Stands L.neighbors (L.table links.now) (list_of self.old) (position self.old) }
-        ensures moved { MovesBack L.neighbors (L.table links.now)
-            (list_of self.old) (position self.old) (position self.new) }
+        requires stands { Stands (Shows L.neighbors) L.table (site_of links.now self.old) }
+        ensures moved { MovesBack (Shows L.neighbors) L.table (site_of links.now self.old) (position self.new) }
         ensures list { list_of self.new ≡ list_of self.old }
     {
         self.current = self.list.prev_of(links, self.current);
@@ -189,14 +186,9 @@ impl<T> CursorOwning<T> {
         object: UnsafeRef<T>,
     ) -> Result<(), AlreadyLinked<T>>
         requires covered { IsCovered (L.table links.old) object }
-        requires stands { Stands L.neighbors (L.table links.old) (list_of self.old) (position self.old) }
-        ensures inserted { (gap : Cut) → Shows L.neighbors (L.table links.old) (list_of self.old) (join gap)
-            → IsAfter gap (position self.old) → OnOk result (Inserts (Shows L.neighbors)
-            (L.table links.old) (L.table links.new) (list_of self.new) gap object) }
-        ensures acquired { OnOk result (L.Does links.old links.new (acquires object ∷ [])) }
-        ensures refused { OnErr result (L.Refused links.old links.new object) }
-        ensures unchanged { IfErr result (λ refused. (refused.0 ≡ object) × (list_of self.new ≡ list_of self.old)) }
-        ensures position { position self.new ≡ position self.old }
+        requires stands { Stands (Shows L.neighbors) L.table (site_of links.old self.old) }
+        ensures { InsertsBeside (Shows L.neighbors) L.table L.Does L.Refused IsAfter
+            (site_of links.old self.old) object result (site_of links.new self.new) }
     {
         self.list.insert_after(links, self.current, object)
     }
@@ -211,14 +203,9 @@ impl<T> CursorOwning<T> {
         object: UnsafeRef<T>,
     ) -> Result<(), AlreadyLinked<T>>
         requires covered { IsCovered (L.table links.old) object }
-        requires stands { Stands L.neighbors (L.table links.old) (list_of self.old) (position self.old) }
-        ensures inserted { (gap : Cut) → Shows L.neighbors (L.table links.old) (list_of self.old) (join gap)
-            → IsBefore gap (position self.old) → OnOk result (Inserts (Shows L.neighbors)
-            (L.table links.old) (L.table links.new) (list_of self.new) gap object) }
-        ensures acquired { OnOk result (L.Does links.old links.new (acquires object ∷ [])) }
-        ensures refused { OnErr result (L.Refused links.old links.new object) }
-        ensures unchanged { IfErr result (λ refused. (refused.0 ≡ object) × (list_of self.new ≡ list_of self.old)) }
-        ensures position { position self.new ≡ position self.old }
+        requires stands { Stands (Shows L.neighbors) L.table (site_of links.old self.old) }
+        ensures { InsertsBeside (Shows L.neighbors) L.table L.Does L.Refused IsBefore
+            (site_of links.old self.old) object result (site_of links.new self.new) }
     {
         self.list.insert_before(links, self.current, object)
     }
@@ -228,16 +215,8 @@ impl<T> CursorOwning<T> {
     /// The cursor goes on to the following member, or to null.
     #[inline]
     pub fn remove<L: LinkedListOps>(&mut self, links: &mut L) -> Option<UnsafeRef<T>>
-        requires stands { Stands L.neighbors (L.table links.old) (list_of self.old) (position self.old) }
-        ensures answer { result ≡ position self.old }
-        ensures removed { (gap : Cut) → Shows L.neighbors (L.table links.old) (list_of self.old) (join gap)
-            → IsBefore gap (position self.old) → OnSome result (Removes (Shows L.neighbors)
-            (L.table links.old) (L.table links.new) (list_of self.new) gap) }
-        ensures released { IfSome result (λ object. L.Does links.old links.new (releases object ∷ [])) }
-        ensures moved { (gap : Cut) → Shows L.neighbors (L.table links.old) (list_of self.old) (join gap)
-            → IsBefore gap (position self.old) → IsBehind gap (position self.new) }
-        ensures null { IfNone result ((list_of self.new ≡ list_of self.old) × (links.new ≡ links.old)
-            × (position self.new ≡ None)) }
+        requires stands { Stands (Shows L.neighbors) L.table (site_of links.old self.old) }
+        ensures { RemovesThere (Shows L.neighbors) L.table L.Does (site_of links.old self.old) result (site_of links.new self.new) }
     {
         self.list.remove_at(links, &mut self.current)
     }
@@ -253,19 +232,9 @@ impl<T> CursorOwning<T> {
         object: UnsafeRef<T>,
     ) -> Result<UnsafeRef<T>, ReplaceError<T>>
         requires covered { IsCovered (L.table links.old) object }
-        requires stands { Stands L.neighbors (L.table links.old) (list_of self.old) (position self.old) }
-        ensures answer { IfOk result (λ out. position self.old ≡ Some out) }
-        ensures replaced { (gap : Cut) → Shows L.neighbors (L.table links.old) (list_of self.old) (join gap)
-            → IsBefore gap (position self.old) → OnOk result (Replaces (Shows L.neighbors)
-            (L.table links.old) (L.table links.new) (list_of self.new) gap object) }
-        ensures moved { OnOk result (position self.new ≡ Some object) }
-        ensures exchanged { IfOk result (λ out. L.Does links.old links.new
-            (acquires object ∷ releases out ∷ [])) }
-        ensures refused { IfErr result (ByCause
-            ((position self.old ≡ None) × (links.new ≡ links.old))
-            ((position self.old ≢ None) × L.Refused links.old links.new object)) }
-        ensures unchanged { IfErr result (λ refused. (object_of refused ≡ object)
-            × (list_of self.new ≡ list_of self.old) × (position self.new ≡ position self.old)) }
+        requires stands { Stands (Shows L.neighbors) L.table (site_of links.old self.old) }
+        ensures { ReplacesThere (Shows L.neighbors) L.table L.Does L.Refused
+            (site_of links.old self.old) object result (site_of links.new self.new) }
     {
         self.list.replace_with(links, &mut self.current, object)
     }
@@ -275,15 +244,10 @@ impl<T> CursorOwning<T> {
     /// It asks that the table shows the given list too; the two share no member. The cursor stays where it is.
     #[inline]
     pub fn splice_after<L: LinkedListOps>(&mut self, links: &mut L, given: LinkedList<T>)
-        requires stands { Stands L.neighbors (L.table links.old) (list_of self.old) (position self.old) }
+        requires stands { Stands (Shows L.neighbors) L.table (site_of links.old self.old) }
         requires given { ShowsSome L.neighbors (L.table links.old) given }
-        ensures spliced { (gap : Cut) (t : List Place)
-            → Shows L.neighbors (L.table links.old) (list_of self.old) (join gap)
-            → IsAfter gap (position self.old) → Shows L.neighbors (L.table links.old) given t
-            → IsDisjoint t (join gap) → Splices (Shows L.neighbors)
-            (L.table links.old) (L.table links.new) (list_of self.new) gap t }
-        ensures no_step { L.Does links.old links.new [] }
-        ensures position { position self.new ≡ position self.old }
+        ensures { SplicesBeside (Shows L.neighbors) L.table L.Does IsAfter
+            (site_of links.old self.old) given (site_of links.new self.new) }
     {
         self.list.splice_after(links, self.current, given);
     }
@@ -293,15 +257,10 @@ impl<T> CursorOwning<T> {
     /// It asks that the table shows the given list too; the two share no member. The cursor stays where it is.
     #[inline]
     pub fn splice_before<L: LinkedListOps>(&mut self, links: &mut L, given: LinkedList<T>)
-        requires stands { Stands L.neighbors (L.table links.old) (list_of self.old) (position self.old) }
+        requires stands { Stands (Shows L.neighbors) L.table (site_of links.old self.old) }
         requires given { ShowsSome L.neighbors (L.table links.old) given }
-        ensures spliced { (gap : Cut) (t : List Place)
-            → Shows L.neighbors (L.table links.old) (list_of self.old) (join gap)
-            → IsBefore gap (position self.old) → Shows L.neighbors (L.table links.old) given t
-            → IsDisjoint t (join gap) → Splices (Shows L.neighbors)
-            (L.table links.old) (L.table links.new) (list_of self.new) gap t }
-        ensures no_step { L.Does links.old links.new [] }
-        ensures position { position self.new ≡ position self.old }
+        ensures { SplicesBeside (Shows L.neighbors) L.table L.Does IsBefore
+            (site_of links.old self.old) given (site_of links.new self.new) }
     {
         self.list.splice_before(links, self.current, given);
     }
@@ -311,12 +270,8 @@ impl<T> CursorOwning<T> {
     /// The cursor stays where it is.
     #[inline]
     pub fn split_after<L: LinkedListOps>(&mut self, links: &mut L) -> LinkedList<T>
-        requires stands { Stands L.neighbors (L.table links.old) (list_of self.old) (position self.old) }
-        ensures split { (gap : Cut) → Shows L.neighbors (L.table links.old) (list_of self.old) (join gap)
-            → IsAfter gap (position self.old) → Splits (Shows L.neighbors)
-            (L.table links.old) (L.table links.new) (list_of self.new) result gap.front gap.back }
-        ensures no_step { L.Does links.old links.new [] }
-        ensures position { position self.new ≡ position self.old }
+        requires stands { Stands (Shows L.neighbors) L.table (site_of links.old self.old) }
+        ensures { SplitsAfter (Shows L.neighbors) L.table L.Does (site_of links.old self.old) result (site_of links.new self.new) }
     {
         self.list.split_after(links, self.current)
     }
@@ -326,12 +281,8 @@ impl<T> CursorOwning<T> {
     /// The cursor stays where it is.
     #[inline]
     pub fn split_before<L: LinkedListOps>(&mut self, links: &mut L) -> LinkedList<T>
-        requires stands { Stands L.neighbors (L.table links.old) (list_of self.old) (position self.old) }
-        ensures split { (gap : Cut) → Shows L.neighbors (L.table links.old) (list_of self.old) (join gap)
-            → IsBefore gap (position self.old) → Splits (Shows L.neighbors)
-            (L.table links.old) (L.table links.new) (list_of self.new) result gap.back gap.front }
-        ensures no_step { L.Does links.old links.new [] }
-        ensures position { position self.new ≡ position self.old }
+        requires stands { Stands (Shows L.neighbors) L.table (site_of links.old self.old) }
+        ensures { SplitsBefore (Shows L.neighbors) L.table L.Does (site_of links.old self.old) result (site_of links.new self.new) }
     {
         self.list.split_before(links, self.current)
     }

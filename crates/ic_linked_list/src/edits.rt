@@ -3,15 +3,12 @@
 //! "After" is the gap behind the position's member, or the first gap at null; "before" is the gap in front of it, or
 //! the last gap at null.
 
-ghost use Rattle.std.specs.Prelude.{◌≡◌, ◌≢◌, ◌∷◌, List, [], Option, Some, None, OnOk, OnErr, OnSome, IfOk, IfErr, IfSome, IfNone};
-ghost use Rattle.ic_unsafe_ref.specs.declared.place.Place.{Place};
-ghost use Rattle.ic_link_ops.specs.Sequences.{Cut, join, IsAfter, IsBefore, IsDisjoint};
+ghost use Rattle.std.specs.Prelude.{Option};
+ghost use Rattle.ic_link_ops.specs.Sequences.{IsAfter, IsBefore};
 ghost use Rattle.ic_link_ops.specs.Tables.{IsCovered};
-ghost use Rattle.ic_link_ops.specs.LinkSteps.{acquires, releases};
-ghost use Rattle.ic_link_ops.specs.Edits.{Inserts, Removes, Replaces, Splices, Splits};
-ghost use Rattle.ic_link_ops.specs.Errors.{object_of, ByCause};
 ghost use Rattle.ic_link_ops.specs.LinkedList.{Shows, ShowsSome};
-ghost use Rattle.ic_linked_list.specs.Stands.{Stands, MovesOn, MovesBack, IsBehind};
+ghost use Rattle.ic_link_ops.specs.Positions.{site, Stands, MovesOn, MovesBack};
+ghost use Rattle.ic_link_ops.specs.EditsAt.{InsertsBeside, RemovesThere, ReplacesThere, SplicesBeside, SplitsAfter, SplitsBefore};
 
 use crate::LinkedList;
 use ic_link_ops::linked_list::LinkedListOps;
@@ -27,8 +24,8 @@ impl<T> LinkedList<T> {
         links: &L,
         current: Option<Place>,
     ) -> Option<Place>
-        requires stands { Stands L.neighbors (L.table links.now) self.now current }
-        ensures { MovesOn L.neighbors (L.table links.now) self.now current result }
+        requires stands { Stands (Shows L.neighbors) L.table (site links.now self.now current) }
+        ensures { MovesOn (Shows L.neighbors) L.table (site links.now self.now current) result }
     {
         match current {
             None => self.head(),
@@ -43,8 +40,8 @@ impl<T> LinkedList<T> {
         links: &L,
         current: Option<Place>,
     ) -> Option<Place>
-        requires stands { Stands L.neighbors (L.table links.now) self.now current }
-        ensures { MovesBack L.neighbors (L.table links.now) self.now current result }
+        requires stands { Stands (Shows L.neighbors) L.table (site links.now self.now current) }
+        ensures { MovesBack (Shows L.neighbors) L.table (site links.now self.now current) result }
     {
         match current {
             None => self.tail(),
@@ -60,13 +57,9 @@ impl<T> LinkedList<T> {
         object: UnsafeRef<T>,
     ) -> Result<(), AlreadyLinked<T>>
         requires covered { IsCovered (L.table links.old) object }
-        requires stands { Stands L.neighbors (L.table links.old) self.old current }
-        ensures inserted { (gap : Cut) → Shows L.neighbors (L.table links.old) self.old (join gap)
-            → IsAfter gap current → OnOk result (Inserts (Shows L.neighbors)
-            (L.table links.old) (L.table links.new) self.new gap object) }
-        ensures acquired { OnOk result (L.Does links.old links.new (acquires object ∷ [])) }
-        ensures refused { OnErr result (L.Refused links.old links.new object) }
-        ensures unchanged { IfErr result (λ refused. (refused.0 ≡ object) × (self.new ≡ self.old)) }
+        requires stands { Stands (Shows L.neighbors) L.table (site links.old self.old current) }
+        ensures { InsertsBeside (Shows L.neighbors) L.table L.Does L.Refused IsAfter
+            (site links.old self.old current) object result (site links.new self.new current) }
     {
         let behind = self.next_of(&*links, current);
         self.insert_between(links, current, object, behind)
@@ -80,13 +73,9 @@ impl<T> LinkedList<T> {
         object: UnsafeRef<T>,
     ) -> Result<(), AlreadyLinked<T>>
         requires covered { IsCovered (L.table links.old) object }
-        requires stands { Stands L.neighbors (L.table links.old) self.old current }
-        ensures inserted { (gap : Cut) → Shows L.neighbors (L.table links.old) self.old (join gap)
-            → IsBefore gap current → OnOk result (Inserts (Shows L.neighbors)
-            (L.table links.old) (L.table links.new) self.new gap object) }
-        ensures acquired { OnOk result (L.Does links.old links.new (acquires object ∷ [])) }
-        ensures refused { OnErr result (L.Refused links.old links.new object) }
-        ensures unchanged { IfErr result (λ refused. (refused.0 ≡ object) × (self.new ≡ self.old)) }
+        requires stands { Stands (Shows L.neighbors) L.table (site links.old self.old current) }
+        ensures { InsertsBeside (Shows L.neighbors) L.table L.Does L.Refused IsBefore
+            (site links.old self.old current) object result (site links.new self.new current) }
     {
         let before = self.prev_of(&*links, current);
         self.insert_between(links, before, object, current)
@@ -99,15 +88,9 @@ impl<T> LinkedList<T> {
         links: &mut L,
         current: &mut Option<Place>,
     ) -> Option<UnsafeRef<T>>
-        requires stands { Stands L.neighbors (L.table links.old) self.old current.old }
-        ensures answer { result ≡ current.old }
-        ensures removed { (gap : Cut) → Shows L.neighbors (L.table links.old) self.old (join gap)
-            → IsBefore gap current.old → OnSome result (Removes (Shows L.neighbors)
-            (L.table links.old) (L.table links.new) self.new gap) }
-        ensures released { IfSome result (λ object. L.Does links.old links.new (releases object ∷ [])) }
-        ensures moved { (gap : Cut) → Shows L.neighbors (L.table links.old) self.old (join gap)
-            → IsBefore gap current.old → IsBehind gap current.new }
-        ensures null { IfNone result ((self.new ≡ self.old) × (links.new ≡ links.old) × (current.new ≡ None)) }
+        requires stands { Stands (Shows L.neighbors) L.table (site links.old self.old current.old) }
+        ensures { RemovesThere (Shows L.neighbors) L.table L.Does
+            (site links.old self.old current.old) result (site links.new self.new current.new) }
     {
         let place = (*current)?;
         *current = self.take_out(links, place);
@@ -124,17 +107,9 @@ impl<T> LinkedList<T> {
         object: UnsafeRef<T>,
     ) -> Result<UnsafeRef<T>, ReplaceError<T>>
         requires covered { IsCovered (L.table links.old) object }
-        requires stands { Stands L.neighbors (L.table links.old) self.old current.old }
-        ensures answer { IfOk result (λ out. current.old ≡ Some out) }
-        ensures replaced { (gap : Cut) → Shows L.neighbors (L.table links.old) self.old (join gap)
-            → IsBefore gap current.old → OnOk result (Replaces (Shows L.neighbors)
-            (L.table links.old) (L.table links.new) self.new gap object) }
-        ensures moved { OnOk result (current.new ≡ Some object) }
-        ensures exchanged { IfOk result (λ out. L.Does links.old links.new (acquires object ∷ releases out ∷ [])) }
-        ensures refused { IfErr result (ByCause ((current.old ≡ None) × (links.new ≡ links.old))
-            ((current.old ≢ None) × L.Refused links.old links.new object)) }
-        ensures unchanged { IfErr result (λ refused. (object_of refused ≡ object) × (self.new ≡ self.old)
-            × (current.new ≡ current.old)) }
+        requires stands { Stands (Shows L.neighbors) L.table (site links.old self.old current.old) }
+        ensures { ReplacesThere (Shows L.neighbors) L.table L.Does L.Refused
+            (site links.old self.old current.old) object result (site links.new self.new current.new) }
     {
         let Some(out) = *current else {
             return Err(ReplaceError::Null(object));
@@ -156,12 +131,10 @@ impl<T> LinkedList<T> {
         current: Option<Place>,
         given: LinkedList<T>,
     )
-        requires stands { Stands L.neighbors (L.table links.old) self.old current }
+        requires stands { Stands (Shows L.neighbors) L.table (site links.old self.old current) }
         requires given { ShowsSome L.neighbors (L.table links.old) given }
-        ensures spliced { (gap : Cut) (t : List Place) → Shows L.neighbors (L.table links.old) self.old (join gap)
-            → IsAfter gap current → Shows L.neighbors (L.table links.old) given t → IsDisjoint t (join gap)
-            → Splices (Shows L.neighbors) (L.table links.old) (L.table links.new) self.new gap t }
-        ensures no_step { L.Does links.old links.new [] }
+        ensures { SplicesBeside (Shows L.neighbors) L.table L.Does IsAfter
+            (site links.old self.old current) given (site links.new self.new current) }
     {
         let behind = self.next_of(&*links, current);
         self.splice_between(links, current, given, behind);
@@ -174,12 +147,10 @@ impl<T> LinkedList<T> {
         current: Option<Place>,
         given: LinkedList<T>,
     )
-        requires stands { Stands L.neighbors (L.table links.old) self.old current }
+        requires stands { Stands (Shows L.neighbors) L.table (site links.old self.old current) }
         requires given { ShowsSome L.neighbors (L.table links.old) given }
-        ensures spliced { (gap : Cut) (t : List Place) → Shows L.neighbors (L.table links.old) self.old (join gap)
-            → IsBefore gap current → Shows L.neighbors (L.table links.old) given t → IsDisjoint t (join gap)
-            → Splices (Shows L.neighbors) (L.table links.old) (L.table links.new) self.new gap t }
-        ensures no_step { L.Does links.old links.new [] }
+        ensures { SplicesBeside (Shows L.neighbors) L.table L.Does IsBefore
+            (site links.old self.old current) given (site links.new self.new current) }
     {
         let before = self.prev_of(&*links, current);
         self.splice_between(links, before, given, current);
@@ -191,11 +162,9 @@ impl<T> LinkedList<T> {
         links: &mut L,
         current: Option<Place>,
     ) -> LinkedList<T>
-        requires stands { Stands L.neighbors (L.table links.old) self.old current }
-        ensures split { (gap : Cut) → Shows L.neighbors (L.table links.old) self.old (join gap)
-            → IsAfter gap current → Splits (Shows L.neighbors)
-            (L.table links.old) (L.table links.new) self.new result gap.front gap.back }
-        ensures no_step { L.Does links.old links.new [] }
+        requires stands { Stands (Shows L.neighbors) L.table (site links.old self.old current) }
+        ensures { SplitsAfter (Shows L.neighbors) L.table L.Does
+            (site links.old self.old current) result (site links.new self.new current) }
     {
         let behind = self.next_of(&*links, current);
         self.split_between(links, current, behind)
@@ -207,11 +176,9 @@ impl<T> LinkedList<T> {
         links: &mut L,
         current: Option<Place>,
     ) -> LinkedList<T>
-        requires stands { Stands L.neighbors (L.table links.old) self.old current }
-        ensures split { (gap : Cut) → Shows L.neighbors (L.table links.old) self.old (join gap)
-            → IsBefore gap current → Splits (Shows L.neighbors)
-            (L.table links.old) (L.table links.new) self.new result gap.back gap.front }
-        ensures no_step { L.Does links.old links.new [] }
+        requires stands { Stands (Shows L.neighbors) L.table (site links.old self.old current) }
+        ensures { SplitsBefore (Shows L.neighbors) L.table L.Does
+            (site links.old self.old current) result (site links.new self.new current) }
     {
         let before = self.prev_of(&*links, current);
         let rest = self.split_between(links, before, current);

@@ -13,7 +13,7 @@ ghost use Rattle.ic_link_ops.specs.Sequences.{insert, at_back, first, last};
 ghost use Rattle.ic_link_ops.specs.Tables.{IsCovered, IsUnlinked, KeepsBeside, KeepsLinked, LinksAlso};
 ghost use Rattle.ic_link_ops.specs.LinkedList.{Shows, ShowsSome};
 ghost use Rattle.ic_link_ops.specs.DoublyEntries.{is_linked, plain_table, PlainShows, PlainShowsSome};
-ghost use Rattle.ic_linked_list.specs.Stands.{Stands};
+ghost use Rattle.ic_link_ops.specs.Positions.{Stands};
 ghost use Rattle.ic_linked_list.specs.Cursor as reads;
 ghost use Rattle.ic_linked_list.specs.CursorMut as edits;
 
@@ -52,7 +52,7 @@ pub fn null_there_and_back<T, L: LinkedListOps>(
 ///
 /// It asks that the cursor stands in its list. No link is acquired or released.
 pub fn split_then_splice<T, L: LinkedListOps>(cursor: &mut CursorMut<'_, T, L>)
-    requires stands { Stands L.neighbors (L.table (edits.links_of cursor.old)) (edits.list_of cursor.old) (edits.position cursor.old) }
+    requires stands { Stands (Shows L.neighbors) L.table (edits.site_of cursor.old) }
     ensures sequence { (s : List Place) → Shows L.neighbors (L.table (edits.links_of cursor.old)) (edits.list_of cursor.old) s
         → Shows L.neighbors (L.table (edits.links_of cursor.new)) (edits.list_of cursor.new) s }
     ensures frame { (s : List Place) → Shows L.neighbors (L.table (edits.links_of cursor.old)) (edits.list_of cursor.old) s

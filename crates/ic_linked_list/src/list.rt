@@ -13,7 +13,7 @@ ghost use Rattle.ic_link_ops.specs.LinkSteps.{acquires, releases};
 ghost use Rattle.ic_link_ops.specs.Chains.{no_members, end_of};
 ghost use Rattle.ic_link_ops.specs.Edits.{Inserts, Splices, Splits};
 ghost use Rattle.ic_link_ops.specs.LinkedList.{Shows, ShowsSome};
-ghost use Rattle.ic_linked_list.specs.Stands.{Stands};
+ghost use Rattle.ic_link_ops.specs.Positions.{HasMember};
 
 use crate::surgery::{follow, lead, stand};
 use ic_link_ops::linked_list::LinkedListOps;
@@ -179,7 +179,7 @@ impl<T> LinkedList<T> {
     /// The other members stay in their order, and so does every other list of the table.
     #[inline]
     pub fn remove<L: LinkedListOps>(&mut self, links: &mut L, object: &UnsafeRef<T>)
-        requires member { Stands L.neighbors (L.table links.old) self.old (Some object.now) }
+        requires member { HasMember (Shows L.neighbors (L.table links.old) self.old) object.now }
         ensures removed { (front back : List Place) → Shows L.neighbors (L.table links.old) self.old (front ++ object.now ∷ back)
             → Shows L.neighbors (L.table links.new) self.new (front ++ back) }
         ensures released { L.Does links.old links.new (releases object.now ∷ []) }

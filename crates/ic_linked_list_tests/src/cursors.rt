@@ -5,7 +5,7 @@ ghost use Rattle.ic_unsafe_ref.specs.declared.place.Place.{Place};
 ghost use Rattle.ic_link_ops.specs.Sequences.{at_front, first, remove};
 ghost use Rattle.ic_link_ops.specs.LinkedList.{Shows, ShowsSome};
 ghost use Rattle.ic_link_ops.specs.DoublyEntries.{neighbors_of, plain_table};
-ghost use Rattle.ic_linked_list.specs.Stands.{Stands};
+ghost use Rattle.ic_link_ops.specs.Positions.{site, Stands};
 ghost use Rattle.ic_linked_list.specs.CursorOwning as owned;
 ghost use Rattle.ic_linked_list.specs.CursorMut as lent;
 ghost use Rattle.ic_linked_list.specs.Cursor as reads;
@@ -23,7 +23,7 @@ pub(crate) fn owning(
     links: &LinkOps,
     at: Option<Place>,
 ) -> CursorOwning<u64>
-    requires stands { Stands neighbors_of (plain_table links.now) list.old at }
+    requires stands { Stands (Shows neighbors_of) plain_table (site links.now list.old at) }
     ensures list { owned.list_of result ≡ list.old }
     ensures position { owned.position result ≡ at }
 {
@@ -40,7 +40,7 @@ pub(crate) fn borrowing<'a>(
     links: &'a mut LinkOps,
     at: Option<Place>,
 ) -> CursorMut<'a, u64, LinkOps>
-    requires stands { Stands neighbors_of (plain_table links.old) list.old at }
+    requires stands { Stands (Shows neighbors_of) plain_table (site links.old list.old at) }
     ensures borrows { lent.IsBorrowed list.entry links.entry result }
     ensures position { lent.position result ≡ at }
 {
@@ -56,7 +56,7 @@ pub(crate) fn reading<'a>(
     links: &'a LinkOps,
     at: Option<Place>,
 ) -> Cursor<'a, u64, LinkOps>
-    requires stands { Stands neighbors_of (plain_table links.now) list.now at }
+    requires stands { Stands (Shows neighbors_of) plain_table (site links.now list.now at) }
     ensures list { reads.list_of result ≡ list.now }
     ensures links { reads.links_of result ≡ links.now }
     ensures position { reads.position result ≡ at }

@@ -4,8 +4,9 @@ ghost use Rattle.std.specs.Prelude.{◌≡◌, ◌<◌, IfSome, IsTrue, length, 
 ghost use Rattle.ic_unsafe_ref.specs.declared.place.Place.{Place};
 ghost use Rattle.ic_unsafe_ref.specs.Places.{index_of};
 ghost use Rattle.ic_unsafe_ref.specs.Objects.{is_placed};
+ghost use Rattle.ic_link_ops.specs.LinkedList.{Shows};
 ghost use Rattle.ic_link_ops.specs.DoublyEntries.{neighbors_of, entries, plain_table, PlainShowsSome};
-ghost use Rattle.ic_linked_list.specs.Stands.{Stands};
+ghost use Rattle.ic_link_ops.specs.Positions.{Stands};
 ghost use Rattle.ic_linked_list.specs.Cursor as reads;
 ghost use Rattle.ic_linked_list.specs.Iter.{CanWalk};
 
@@ -21,8 +22,8 @@ use std::fmt::{self, Write};
 
 // Moves the cursor, and answers where it is then, and whether a move back would lead where it was.
 fn step(cursor: &mut Cursor<'_, u64, LinkOps>) -> (Option<Place>, bool)
-    requires stands { Stands neighbors_of (plain_table (reads.links_of cursor.old)) (reads.list_of cursor.old) (reads.position cursor.old) }
-    ensures stands { Stands neighbors_of (plain_table (reads.links_of cursor.new)) (reads.list_of cursor.new) (reads.position cursor.new) }
+    requires stands { Stands (Shows neighbors_of) plain_table (reads.site_of cursor.old) }
+    ensures stands { Stands (Shows neighbors_of) plain_table (reads.site_of cursor.new) }
 {
     let before = cursor.get_ptr();
     cursor.move_next();

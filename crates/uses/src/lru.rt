@@ -10,8 +10,8 @@ ghost use Rattle.std.specs.Prelude.{◌≡◌, ◌++◌, ◌∷◌, List, Some, 
 ghost use Rattle.ic_unsafe_ref.specs.declared.place.Place.{Place};
 ghost use Rattle.ic_link_ops.specs.Sequences.{last, but_last};
 ghost use Rattle.ic_link_ops.specs.Tables.{IsCovered, IsLinked, KeepsBeside, KeepsLinked, LinksAlso, Unlinks};
-ghost use Rattle.ic_link_ops.specs.DoublyEntries.{is_linked, neighbors_of, plain_table, PlainShows, PlainShowsSome};
-ghost use Rattle.ic_linked_list.specs.Stands.{Stands};
+ghost use Rattle.ic_link_ops.specs.DoublyEntries.{is_linked, plain_table, PlainShows, PlainShowsSome};
+ghost use Rattle.ic_link_ops.specs.Positions.{HasMember};
 
 use ic_link_ops::AlreadyLinked;
 use ic_link_ops::linked_list::LinkOps;
@@ -49,7 +49,7 @@ pub fn touch<T, A: Allocator>(
     links: &mut LinkOps<A>,
     object: UnsafeRef<T>,
 )
-    requires member { Stands neighbors_of (plain_table links.old) order.old (Some object) }
+    requires member { HasMember (PlainShows links.old order.old) object }
     ensures touched { (front back : List Place)
         → PlainShows links.old order.old (front ++ object ∷ back)
         → PlainShows links.new order.new (object ∷ (front ++ back)) }

@@ -1,27 +1,23 @@
-use Rattle.std.proofs.Common.{append-nil, rules}
+use Rattle.std.proofs.Common.{append-nil, ◌∙◌, rules}
 use Rattle.ic_link_ops.specs.Sequences.{at_front, at_back}
 use Rattle.ic_link_ops.proofs.SequenceLemmas.{gap_after, distinct_disjoint, disjoint_sym}
-use Rattle.ic_linked_list.proofs.Standing.{stands_first}
+use Rattle.ic_link_ops.proofs.Positions.{stands_first}
 use Rattle.bench.proofs.order.split_and_splice.Goals as goal
 
 pub split_after-rest-requires : goal.split_after-rest-requires
 split_after-rest-requires c =
     let s = c.requires.shown in
     let f = c.front_mut-cursor.ensures in
-    record { stands = stands_first s.0 (rw (f.borrows.2, f.borrows.3) s.1) _ (f.position s.0 s.1) }
+    record { stands = stands_first s.0 (rw (f.borrows.2, f.borrows.3) s.1) (f.position s.0 s.1) }
 
 pub splice_after-requires : goal.splice_after-requires
 splice_after-requires c =
     let s = c.requires.shown in
     let f = c.front_mut-cursor.ensures in
-    let now = rw (← f.borrows.2, ← f.borrows.3) at s.1 in
-    let k = stands_first s.0 now _ (f.position s.0 s.1) in
-    let e = c.split_after-rest.ensures in
-    let split = e.split k.0 k.1 k.2 in
-    record {
-      stands = (at_back k.0.front, rw append-nil split.keeps, rw e.position k.2);
-      given = (k.0.back, split.hands_out);
-    }
+    let k = gap_after (at_front s.0) _ (f.position s.0 s.1) in
+    let whole = rw (← k.1) at s.1 in
+    let e = c.split_after-rest.ensures.split in
+    record { stands = e.stands; given = (k.0.back, (e.split k.0 (rw (f.borrows.2, f.borrows.3) whole) k.2).hands_out) }
 
 pub returns : goal.returns
 returns c = record {
@@ -30,11 +26,11 @@ returns c = record {
       let k = gap_after (at_front s) _ (f.position s shown) in
       let whole = rw (← k.1) at shown in
       let now = rw (← f.borrows.2, ← f.borrows.3) at whole in
-      let e = c.split_after-rest.ensures in
+      let e = c.split_after-rest.ensures.split in
       let split = e.split k.0 now k.2 in
       let kept = rw (← append-nil k.0.front) at split.keeps in
       let apart = disjoint_sym k.0.front k.0.back (distinct_disjoint k.0.front k.0.back now.distinct) in
-      let spliced = c.splice_after.ensures.spliced (at_back k.0.front) k.0.back kept (rw e.position k.2) split.hands_out (rw append-nil apart) in
+      let spliced = c.splice_after.ensures.spliced.spliced (at_back k.0.front) k.0.back kept (e.position ∙ k.2) split.hands_out (rw append-nil apart) in
       let done = rw (k.1) at (rw append-nil at spliced.shows) in
       search rules;
 }

@@ -1,44 +1,20 @@
-use Rattle.std.proofs.Common.{◌∙◌}
+use Rattle.std.proofs.Common.{◌∙◌, append-nil}
 use Rattle.ic_link_ops.specs.Sequences.{at_front, at_back}
-use Rattle.ic_linked_list.proofs.Standing.{stands_null, stands_first, stands_last, at_its_end}
+use Rattle.ic_link_ops.proofs.Positions.{stands_null}
 use Rattle.ic_linked_list.proofs.laws.null_there_and_back.Goals as goal
 
 pub move_next-requires : goal.move_next-requires
-move_next-requires g c = record { stands = stands_null c.requires.shown.0 c.requires.shown.1 _ c.requires.null }
-
-pub move_prev-requires : goal.move_prev-requires
-move_prev-requires g c =
-    let s = c.requires.shown in
-    let on = c.move_next.ensures in
-    record { stands = stands_first s.0 (rw (on.list, on.links) s.1) _ (on.moved (at_front s.0) s.1 c.requires.null) }
-
-pub move_prev-requires-2 : goal.move_prev-requires-2
-move_prev-requires-2 g c =
-    let s = c.requires.shown in
-    let on = c.move_next.ensures in
-    let back = c.move_prev.ensures in
-    let null = back.moved (at_front s.0) (rw (on.list, on.links) s.1) (on.moved (at_front s.0) s.1 c.requires.null) in
-    record { stands = stands_null s.0 (rw (back.list, back.links, on.list, on.links) s.1) _ null }
-
-pub move_next-requires-2 : goal.move_next-requires-2
-move_next-requires-2 g c =
-    let s = c.requires.shown in
-    let on = c.move_next.ensures in
-    let back = c.move_prev.ensures in
-    let again = c.move_prev-2.ensures in
-    let null = back.moved (at_front s.0) (rw (on.list, on.links) s.1) (on.moved (at_front s.0) s.1 c.requires.null) in
-    let last = again.moved (at_back s.0) (rw (back.list, back.links, on.list, on.links) (at_its_end s.0 s.1)) null in
-    record { stands = stands_last s.0 (rw (again.list, again.links, back.list, back.links, on.list, on.links) s.1) _ last }
+move_next-requires g c = record { stands = stands_null c.requires.shown.0 c.requires.shown.1 c.requires.null }
 
 pub returns-clause-there : goal.returns-clause-there
-returns-clause-there g c s shown = c.get_ptr-front.ensures ∙ c.move_next.ensures.moved (at_front s) shown c.requires.null
+returns-clause-there g c s shown = c.get_ptr-front.ensures ∙ c.move_next.ensures.moved.leads (at_front s) shown c.requires.null
 
 pub returns-clause-back : goal.returns-clause-back
 returns-clause-back g c s shown =
     let on = c.move_next.ensures in
     let back = c.move_prev.ensures in
-    let null = back.moved (at_front s) (rw (on.list, on.links) shown) (on.moved (at_front s) shown c.requires.null) in
-    c.get_ptr-back.ensures ∙ c.move_prev-2.ensures.moved (at_back s) (rw (back.list, back.links, on.list, on.links) (at_its_end s shown)) null
+    let null = back.moved.leads (at_front s) (rw (on.list, on.links) shown) (on.moved.leads (at_front s) shown c.requires.null) in
+    c.get_ptr-back.ensures ∙ c.move_prev-2.ensures.moved.leads (at_back s) (rw (append-nil s, back.list, back.links, on.list, on.links) shown) null
 
 pub returns-clause-again : goal.returns-clause-again
 returns-clause-again g c =
@@ -46,6 +22,6 @@ returns-clause-again g c =
     let on = c.move_next.ensures in
     let back = c.move_prev.ensures in
     let again = c.move_prev-2.ensures in
-    let null = back.moved (at_front s.0) (rw (on.list, on.links) s.1) (on.moved (at_front s.0) s.1 c.requires.null) in
-    let last = again.moved (at_back s.0) (rw (back.list, back.links, on.list, on.links) (at_its_end s.0 s.1)) null in
-    c.move_next-2.ensures.moved (at_back s.0) (rw (again.list, again.links, back.list, back.links, on.list, on.links) (at_its_end s.0 s.1)) last
+    let null = back.moved.leads (at_front s.0) (rw (on.list, on.links) s.1) (on.moved.leads (at_front s.0) s.1 c.requires.null) in
+    let last = again.moved.leads (at_back s.0) (rw (append-nil s.0, back.list, back.links, on.list, on.links) s.1) null in
+    c.move_next-2.ensures.moved.leads (at_back s.0) (rw (append-nil s.0, again.list, again.links, back.list, back.links, on.list, on.links) s.1) last

@@ -1,20 +1,12 @@
 use Rattle.std.proofs.Common.{List, ◌∙◌}
 use Rattle.ic_unsafe_ref.specs.declared.place.Place.{Place}
-use Rattle.ic_link_ops.specs.Sequences.{at_back}
 use Rattle.ic_link_ops.specs.Tables.{KeepsBeside}
 use Rattle.ic_link_ops.specs.LinkedList.{Shows}
 use Rattle.ic_link_ops.proofs.CollectionLaws as laws
 use Rattle.ic_link_ops.proofs.DoublyLists.{doubly_lists}
 use Rattle.ic_linked_list.specs.CursorMut as edits
-use Rattle.ic_linked_list.proofs.Standing.{at_its_end}
 use Rattle.ic_linked_list.proofs.laws.split_then_splice.Goals as goal
 use Rattle.ic_linked_list.proofs.laws.split_then_splice.Given.{Over}
-
-pub splice_after-requires-clause-stands : goal.splice_after-requires-clause-stands
-splice_after-requires-clause-stands g c =
-    let at = c.requires.stands in
-    let split = c.split_after-rest.ensures in
-    (at_back at.0.front, at_its_end at.0.front (split.split at.0 at.1 at.2).keeps, split.position ∙ at.2)
 
 -- what is shown then, and the frame, of any sequence that was shown: it is that at whose gap the cursor stands
 together : (g : Over) (c : goal.After-splice_after g) (s : List Place)
@@ -24,9 +16,9 @@ together : (g : Over) (c : goal.After-splice_after g) (s : List Place)
 together g c s shown =
     let kind = doubly_lists {n = g.L.LinkedListOps.neighbors} {linked = g.L.LinkOps.linked} g.met.L.LinkedListOps.linked_alike in
     let at = c.requires.stands in
-    rw (← laws.one_sequence_is_shown kind at.1 shown)
-    (laws.split_then_splice kind at.0 at.1 at.2 c.split_after-rest.ensures.split
-    (λ gap t kept after handed apart. c.splice_after.ensures.spliced gap t kept (c.split_after-rest.ensures.position ∙ after) handed apart))
+    rw (← laws.one_sequence_is_shown kind at.shown shown)
+    (laws.split_then_splice kind at.gap at.shown at.after c.split_after-rest.ensures.split.split
+    (λ gap t kept after handed apart. c.splice_after.ensures.spliced.spliced gap t kept (c.split_after-rest.ensures.split.position ∙ after) handed apart))
 
 pub returns-clause-sequence : goal.returns-clause-sequence
 returns-clause-sequence g c s shown = (together g c s shown).0
@@ -35,4 +27,4 @@ pub returns-clause-frame : goal.returns-clause-frame
 returns-clause-frame g c s shown = (together g c s shown).1
 
 pub returns-clause-no_step : goal.returns-clause-no_step
-returns-clause-no_step g c = g.met.L.LinkOps.does_on _ _ _ _ _ c.split_after-rest.ensures.no_step c.splice_after.ensures.no_step
+returns-clause-no_step g c = g.met.L.LinkOps.does_on _ _ _ _ _ c.split_after-rest.ensures.split.no_step c.splice_after.ensures.spliced.no_step

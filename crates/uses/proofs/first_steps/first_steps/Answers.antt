@@ -3,7 +3,7 @@ use Rattle.ic_link_ops.specs.Sequences.{at_front}
 use Rattle.ic_link_ops.specs.LinkedList.{Shows}
 use Rattle.ic_link_ops.specs.DoublyEntries.{entries, neighbors_of, table_of}
 use Rattle.ic_link_ops.proofs.Covering.{still_covered}
-use Rattle.ic_linked_list.proofs.Standing.{stands_null}
+use Rattle.ic_link_ops.proofs.Positions.{stands_null}
 use Rattle.uses.proofs.first_steps.first_steps.Goals as goal
 
 pub push_back-requires-2-clause-covered : goal.push_back-requires-2-clause-covered
@@ -22,7 +22,7 @@ move_next-requires g c =
     let one = c.in_ok-push_back.ensures.inserted [] none in
     let two = c.in_ok-push_back-2.ensures.inserted (c.args.first ∷ []) one in
     let e = c.cursor-cursor.ensures in
-    record { stands = stands_null (c.args.first ∷ c.args.second ∷ []) (rw (e.links, e.list) two) _ e.null }
+    record { stands = stands_null (c.args.first ∷ c.args.second ∷ []) (rw (e.links, e.list) two) e.null }
 
 pub returns-clause-position : goal.returns-clause-position
 returns-clause-position g c =
@@ -30,4 +30,4 @@ returns-clause-position g c =
     let one = c.in_ok-push_back.ensures.inserted [] none in
     let two = c.in_ok-push_back-2.ensures.inserted (c.args.first ∷ []) one in
     let e = c.cursor-cursor.ensures in
-    c.get_ptr.ensures ∙ c.move_next.ensures.moved (at_front (c.args.first ∷ c.args.second ∷ [])) (rw (e.links, e.list) two) e.null
+    c.get_ptr.ensures ∙ c.move_next.ensures.moved.leads (at_front (c.args.first ∷ c.args.second ∷ [])) (rw (e.links, e.list) two) e.null

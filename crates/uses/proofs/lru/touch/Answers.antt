@@ -3,20 +3,19 @@ use Rattle.ic_unsafe_ref.specs.Places.{index_of}
 use Rattle.ic_link_ops.specs.DoublyEntries.{entries, linked_in_range}
 use Rattle.ic_link_ops.proofs.Covering.{still_covered}
 use Rattle.ic_link_ops.proofs.LinkedSets.{linked_again}
-use Rattle.ic_linked_list.proofs.Standing.{member_at}
 use Rattle.uses.proofs.Outcomes.{either}
 use Rattle.uses.proofs.PutBack.{kept_beside}
 use Rattle.uses.proofs.lru.touch.Goals as goal
 
 pub push_front-requires-clause-covered : goal.push_front-requires-clause-covered
 push_front-requires-clause-covered g c =
-    let m = member_at c.args.object c.requires.member in
+    let m = c.requires.member in
     let e = c.remove.ensures in
-    still_covered c.args.object (e.frame (m.0 ++ c.args.object ∷ m.1) m.2) (linked_in_range (entries c.args.links.now) (index_of c.args.object) e.released.was)
+    still_covered c.args.object (e.frame (m.front ++ c.args.object ∷ m.back) m.shown) (linked_in_range (entries c.args.links.now) (index_of c.args.object) e.released.was)
 
 pub push_front-requires-clause-shown : goal.push_front-requires-clause-shown
 push_front-requires-clause-shown g c =
-    let m = member_at c.args.object c.requires.member in (m.0 ++ m.1, c.remove.ensures.removed m.0 m.1 m.2)
+    let m = c.requires.member in (m.front ++ m.back, c.remove.ensures.removed m.front m.back m.shown)
 
 pub returns-clause-touched : goal.returns-clause-touched
 returns-clause-touched g c front back shown =

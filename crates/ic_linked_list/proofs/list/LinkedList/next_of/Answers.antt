@@ -2,18 +2,19 @@ use Rattle.std.proofs.Common.{◌∙◌, sym}
 use Rattle.ic_link_ops.proofs.SequenceLemmas.{first_of_back}
 use Rattle.ic_link_ops.proofs.ShownLists.{gap_linked, stands_before}
 use Rattle.ic_link_ops.proofs.DoublyLists.{between_linked}
+use Rattle.ic_link_ops.proofs.Positions.{moves_on}
 use Rattle.ic_linked_list.proofs.list.LinkedList.next_of.Goals as goal
 
 pub next-requires : goal.next-requires
 next-requires g c =
-    let r = c.requires.stands in record {
-      linked = gap_linked (between_linked g.met.L.LinkedListOps.linked_alike) r.0.front r.0.back r.1 (sym c.in-Some.is ∙ r.2);
+    let at = c.requires.stands in record {
+      linked = gap_linked (between_linked g.met.L.LinkedListOps.linked_alike) at.gap.front at.gap.back at.shown (sym c.in-Some.is ∙ at.after);
     }
 
 pub returns-in-None : goal.returns-in-None
-returns-in-None g c gap shown is_after =
-    c.head.ensures ∙ shown.head ∙ first_of_back gap.front gap.back (sym c.in-None.is ∙ is_after)
+returns-in-None g c = moves_on c.requires.stands (λ gap shown after.
+    c.head.ensures ∙ shown.head ∙ first_of_back gap.front gap.back (sym c.in-None.is ∙ after))
 
 pub returns-in-Some : goal.returns-in-Some
-returns-in-Some g c gap shown is_after =
-    c.next.ensures ∙ (stands_before gap.front gap.back shown (sym c.in-Some.is ∙ is_after)).next
+returns-in-Some g c = moves_on c.requires.stands (λ gap shown after.
+    c.next.ensures ∙ (stands_before gap.front gap.back shown (sym c.in-Some.is ∙ after)).next)

@@ -1,22 +1,20 @@
-use Rattle.std.proofs.Common.{List, [], ◌∷◌, ◌++◌, drop, ◌∙◌}
-use Rattle.ic_unsafe_ref.specs.declared.place.Place.{Place}
+use Rattle.std.proofs.Common.{[], ◌∷◌, ◌++◌, ◌∙◌}
 use Rattle.ic_link_ops.specs.LinkedList.{Shows}
-use Rattle.ic_link_ops.proofs.SequenceLemmas.{absent_right, distinct_middle, gap_before, first_is}
+use Rattle.ic_link_ops.proofs.SequenceLemmas.{absent_right, distinct_middle}
 use Rattle.ic_link_ops.proofs.CollectionLaws.{one_sequence_is_shown}
 use Rattle.ic_link_ops.proofs.ShownLists.{shows_middle, shows_beside}
 use Rattle.ic_link_ops.proofs.DoublyLists.{between_linked, doubly_lists}
-use Rattle.ic_linked_list.proofs.Standing.{member_at}
 use Rattle.ic_linked_list.proofs.list.LinkedList.remove.Goals as goal
 
 pub take_out-requires : goal.take_out-requires
 take_out-requires g c =
-    let m = member_at c.args.object.now c.requires.member in (m.0, m.1, rw c.place.ensures m.2)
+    let m = c.requires.member in (m.front, m.back, rw c.place.ensures m.shown)
 
 pub release_link-requires : goal.release_link-requires
 release_link-requires g c =
-    let m = member_at c.args.object.now c.requires.member in record {
+    let m = c.requires.member in record {
       linked = rw c.place-2.ensures (g.met.L.LinkOps.does_replay _ _ [] c.take_out.ensures.no_step c.args.object.now
-          ∙ between_linked g.met.L.LinkedListOps.linked_alike _ _ _ (shows_middle m.0 m.1 m.2));
+          ∙ between_linked g.met.L.LinkedListOps.linked_alike _ _ _ (shows_middle m.front m.back m.shown));
     }
 
 pub returns-clause-removed : goal.returns-clause-removed
@@ -31,11 +29,11 @@ returns-clause-released g c =
 
 pub returns-clause-frame : goal.returns-clause-frame
 returns-clause-frame g c s shown =
-    let m = member_at c.args.object.now c.requires.member in
+    let m = c.requires.member in
     let kind = doubly_lists {n = g.L.LinkedListOps.neighbors} {linked = g.L.LinkOps.linked} g.met.L.LinkedListOps.linked_alike in
-    let kept = c.take_out.ensures.frame m.0 m.1 (rw c.place.ensures m.2) in
+    let kept = c.take_out.ensures.frame m.front m.back (rw c.place.ensures m.shown) in
     let released = c.release_link.ensures.frame in
-    rw (← one_sequence_is_shown kind m.2 shown) (record {
+    rw (← one_sequence_is_shown kind m.shown shown) (record {
       extent = released.extent ∙ kept.extent;
-      others = λ q out. released.others q (rw c.place-2.ensures (absent_right q m.0 (c.args.object.now ∷ m.1) out).0) ∙ kept.others q (rw c.place.ensures out);
+      others = λ q out. released.others q (rw c.place-2.ensures (absent_right q m.front (c.args.object.now ∷ m.back) out).0) ∙ kept.others q (rw c.place.ensures out);
     })

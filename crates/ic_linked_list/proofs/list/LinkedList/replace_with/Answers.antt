@@ -1,33 +1,35 @@
-use Rattle.std.proofs.Common.{[], ◌∷◌, drop, ◌∙◌, sym}
-use Rattle.ic_link_ops.proofs.SequenceLemmas.{absent_right, absent_with, distinct_middle, gap_before, first_is}
+use Rattle.std.proofs.Common.{Some, [], ◌∷◌, drop, ap, ◌∙◌, sym}
+use Rattle.ic_link_ops.specs.Sequences.{Cut, join, IsBefore}
+use Rattle.ic_link_ops.specs.Edits.{Replaces}
+use Rattle.ic_link_ops.specs.LinkedList.{Shows}
+use Rattle.ic_link_ops.proofs.SequenceLemmas.{absent_right, absent_with, distinct_middle, first_is}
 use Rattle.ic_link_ops.proofs.ShownLists.{shows_middle, shows_beside, free_absent}
 use Rattle.ic_link_ops.proofs.DoublyLists.{between_linked}
+use Rattle.ic_link_ops.proofs.Positions.{member_there, replaced_stands}
 use Rattle.ic_linked_list.proofs.list.LinkedList.replace_with.Goals as goal
+use Rattle.ic_linked_list.proofs.list.LinkedList.replace_with.Given.{Over}
 
 pub put_in_place-requires-clause-shown : goal.put_in_place-requires-clause-shown
 put_in_place-requires-clause-shown g c =
-    let r = c.requires.stands in
-    let k = gap_before r.0 _ r.2 in
+    let m = member_there c.requires.stands c.in-Some.is in
     let a = c.if-not-acquire_link.ensures in
-    let shown = rw (← k.1) at r.1 in
-    let whole = rw (first_is k.0.back (sym c.in-Some.is ∙ k.2)) at shown in
-    let absent = free_absent (between_linked g.met.L.LinkedListOps.linked_alike) whole (g.met.L.LinkOps.does_replay _ _ _ a.acquired).was in
-    (k.0.front, drop 1 k.0.back, shows_beside {new = g.L.LinkOps.table c.acquire_link.new.self} whole absent a.frame.others)
+    let absent = free_absent (between_linked g.met.L.LinkedListOps.linked_alike) m.shown (g.met.L.LinkOps.does_replay _ _ _ a.acquired).was in
+    (m.front, m.back, shows_beside {new = g.L.LinkOps.table c.acquire_link.new.self} m.shown absent a.frame.others)
 
 pub release_link-requires : goal.release_link-requires
 release_link-requires g c =
-    let r = c.requires.stands in
-    let k = gap_before r.0 _ r.2 in
+    let m = member_there c.requires.stands c.in-Some.is in
     let a = c.if-not-acquire_link.ensures in
-    let shown = rw (← k.1) at r.1 in
-    let whole = rw (first_is k.0.back (sym c.in-Some.is ∙ k.2)) at shown in
     let law = between_linked g.met.L.LinkedListOps.linked_alike in
-    let absent = free_absent law whole (g.met.L.LinkOps.does_replay _ _ _ a.acquired).was in
-    let now = shows_beside {new = g.L.LinkOps.table c.acquire_link.new.self} whole absent a.frame.others in
-    record { linked = g.met.L.LinkOps.does_replay _ _ [] c.put_in_place.ensures.no_step _ ∙ law _ _ _ (shows_middle k.0.front (drop 1 k.0.back) now) }
+    let absent = free_absent law m.shown (g.met.L.LinkOps.does_replay _ _ _ a.acquired).was in
+    let now = shows_beside {new = g.L.LinkOps.table c.acquire_link.new.self} m.shown absent a.frame.others in
+    record { linked = g.met.L.LinkOps.does_replay _ _ [] c.put_in_place.ensures.no_step _ ∙ law _ _ _ (shows_middle m.front m.back now) }
 
-pub returns-clause-replaced : goal.returns-clause-replaced
-returns-clause-replaced g c gap shown before =
+-- the object stands in the member's place, in whatever sequence was shown
+replaces : (g : Over) (c : goal.After-drop-object g) (gap : Cut) → Shows g.L.LinkedListOps.neighbors (g.L.LinkOps.table c.args.links.now) c.args.self.now (join gap)
+    → IsBefore gap c.args.current.now
+    → Replaces (Shows g.L.LinkedListOps.neighbors) (g.L.LinkOps.table c.args.links.now) (g.L.LinkOps.table c.release_link.new.self) c.put_in_place.new.self gap c.args.object
+replaces g c gap shown before =
     let rest = drop 1 gap.back in
     let is = first_is gap.back (sym c.in-Some.is ∙ before) in
     let whole = rw is at shown in
@@ -51,8 +53,15 @@ returns-clause-replaced g c gap shown before =
       };
     })
 
-pub returns-clause-exchanged : goal.returns-clause-exchanged
-returns-clause-exchanged g c =
-    let L = g.met.L.LinkOps in
-    rw (← c.place-place.ensures, c.new.ensures)
-    (L.does_on _ _ _ _ _ (L.does_on _ _ _ _ _ c.if-not-acquire_link.ensures.acquired c.put_in_place.ensures.no_step) c.release_link.ensures.released)
+pub returns : goal.returns
+returns g c =
+    let L = g.met.L.LinkOps in record {
+      answer = rw c.new.ensures c.in-Some.is;
+      replaced = replaces g c;
+      moved = ap (λ p. Some p) c.place-place.ensures;
+      exchanged = rw (← c.place-place.ensures, c.new.ensures)
+          (L.does_on _ _ _ _ _ (L.does_on _ _ _ _ _ c.if-not-acquire_link.ensures.acquired c.put_in_place.ensures.no_step) c.release_link.ensures.released);
+      refused = tt;
+      unchanged = tt;
+      stands = replaced_stands c.requires.stands (ap (λ p. Some p) c.place-place.ensures) (replaces g c);
+    }

@@ -1,15 +1,16 @@
-use Rattle.ic_link_ops.proofs.SequenceLemmas.{gap_before}
+use Rattle.std.proofs.Common.{refl}
+use Rattle.ic_link_ops.proofs.Positions.{gap_there, put_in_front}
 use Rattle.ic_linked_list.proofs.list.LinkedList.splice_before.Goals as goal
 
 pub splice_between-requires-clause-shown : goal.splice_between-requires-clause-shown
 splice_between-requires-clause-shown g c =
-    let r = c.requires.stands in
-    let k = gap_before r.0 _ r.2 in
-    let shown = rw (← k.1) at r.1 in
-    (k.0, shown, c.prev_of-before.ensures k.0 shown k.2, k.2)
+    let k = gap_there c.requires.stands in (k.0, k.1, c.prev_of-before.ensures.leads k.0 k.1 k.2, k.2)
 
 pub returns : goal.returns
-returns g c = record {
-  spliced = λ gap t shown is_before given apart. c.splice_between.ensures.spliced gap t shown (c.prev_of-before.ensures gap shown is_before) is_before given apart;
-  no_step = c.splice_between.ensures.no_step;
-}
+returns g c =
+    let e = c.splice_between.ensures in record {
+      spliced = λ gap t shown before given apart. e.spliced gap t shown (c.prev_of-before.ensures.leads gap shown before) before given apart;
+      no_step = e.no_step;
+      position = refl;
+      stands = λ gap t shown before given apart. put_in_front gap t (e.spliced gap t shown (c.prev_of-before.ensures.leads gap shown before) before given apart).shows before;
+    }

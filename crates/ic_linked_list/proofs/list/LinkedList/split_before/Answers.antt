@@ -1,20 +1,31 @@
-use Rattle.ic_link_ops.proofs.SequenceLemmas.{gap_before, absent_turned}
+use Rattle.std.proofs.Common.{refl}
+use Rattle.ic_link_ops.specs.Sequences.{Cut, join, IsBefore}
+use Rattle.ic_link_ops.specs.Edits.{Splits}
+use Rattle.ic_link_ops.specs.LinkedList.{Shows}
+use Rattle.ic_link_ops.proofs.SequenceLemmas.{absent_turned}
+use Rattle.ic_link_ops.proofs.Positions.{gap_there, split_in_front}
 use Rattle.ic_linked_list.proofs.list.LinkedList.split_before.Goals as goal
+use Rattle.ic_linked_list.proofs.list.LinkedList.split_before.Given.{Over}
 
 pub split_between-rest-requires : goal.split_between-rest-requires
 split_between-rest-requires g c =
-    let r = c.requires.stands in
-    let k = gap_before r.0 _ r.2 in
-    let shown = rw (← k.1) at r.1 in
-    record { shown = (k.0, shown, c.prev_of-before.ensures k.0 shown k.2, k.2) }
+    let k = gap_there c.requires.stands in record { shown = (k.0, k.1, c.prev_of-before.ensures.leads k.0 k.1 k.2, k.2) }
+
+-- what is kept and what is handed out, by the gap in front of the position
+splits : (g : Over) (c : goal.After-replace g) (gap : Cut) → Shows g.L.LinkedListOps.neighbors (g.L.LinkOps.table c.args.links.now) c.args.self.now (join gap)
+    → IsBefore gap c.args.current
+    → Splits (Shows g.L.LinkedListOps.neighbors) (g.L.LinkOps.table c.args.links.now) (g.L.LinkOps.table c.split_between-rest.new.links) c.replace.new.dest c.replace.result gap.back gap.front
+splits g c gap shown before =
+    let split = c.split_between-rest.ensures.split gap shown (c.prev_of-before.ensures.leads gap shown before) before in record {
+      keeps = rw c.replace.ensures.after split.hands_out;
+      hands_out = rw c.replace.ensures.value split.keeps;
+      frame = record { extent = split.frame.extent; others = λ q out. split.frame.others q (absent_turned q gap.front gap.back out) };
+    }
 
 pub returns : goal.returns
 returns g c = record {
-  split = λ gap shown is_before.
-      let split = c.split_between-rest.ensures.split gap shown (c.prev_of-before.ensures gap shown is_before) is_before in record {
-        keeps = rw c.replace.ensures.after split.hands_out;
-        hands_out = rw c.replace.ensures.value split.keeps;
-        frame = record { extent = split.frame.extent; others = λ q out. split.frame.others q (absent_turned q gap.front gap.back out) };
-      };
+  split = splits g c;
   no_step = c.split_between-rest.ensures.no_step;
+  position = refl;
+  stands = split_in_front c.requires.stands (splits g c) refl;
 }

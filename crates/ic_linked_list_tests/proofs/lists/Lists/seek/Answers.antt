@@ -3,7 +3,7 @@ use Rattle.ic_link_ops.specs.Sequences.{join}
 use Rattle.ic_link_ops.specs.DoublyEntries.{PlainShows}
 use Rattle.ic_link_ops.proofs.TwoLists.{at_first, at_last}
 use Rattle.ic_linked_list.specs.Cursor as reads
-use Rattle.ic_linked_list.proofs.Standing.{stands_null}
+use Rattle.ic_link_ops.proofs.Positions.{stands_null}
 use Rattle.ic_linked_list_tests.proofs.Doubly.{doubly}
 use Rattle.ic_linked_list_tests.proofs.lists.Lists.seek.Goals as goal
 use Rattle.ic_linked_list_tests.proofs.lists.Lists.seek.Goals.{then-to_the_front, else-to_the_front}
@@ -11,7 +11,7 @@ use Rattle.ic_linked_list_tests.proofs.lists.Lists.seek.Goals.{then-to_the_front
 pub reading-cursor-requires : goal.reading-cursor-requires
 reading-cursor-requires c =
     let a = c.self.invariant in
-    record { stands = stands_null (join a.gap) a.shown _ refl }
+    record { stands = stands_null (join a.gap) a.shown refl }
 
 pub invariant_of-self : goal.invariant_of-self
 invariant_of-self c =

@@ -1,0 +1,74 @@
+-- What a call says that edits a collection at a position, in the same words for every kind and for every cursor.
+use Rattle.std.specs.Prelude.{◌≡◌, ◌≢◌, Option, Some, None, Result, OnOk, OnErr, OnSome, IfOk, IfErr, IfSome, IfNone, List, [], ◌∷◌}
+use Rattle.ic_unsafe_ref.specs.declared.place.Place.{Place}
+use Rattle.ic_link_ops.specs.declared.errors.AlreadyLinked.{AlreadyLinked}
+use Rattle.ic_link_ops.specs.declared.errors.ReplaceError.{ReplaceError}
+use Rattle.ic_link_ops.specs.Sequences.{Cut, join, IsAfter, IsBefore, IsDisjoint}
+use Rattle.ic_link_ops.specs.Tables.{Table}
+use Rattle.ic_link_ops.specs.LinkSteps.{LinkStep, acquires, releases}
+use Rattle.ic_link_ops.specs.Edits.{Inserts, Removes, Replaces, Splices, Splits}
+use Rattle.ic_link_ops.specs.Errors.{object_of, ByCause}
+use Rattle.ic_link_ops.specs.Positions.{Site, ShowsAt, Stands, IsBehind}
+
+-- `Shows`: the kind's shows-relation. `table`, `Does`: what clauses see of the table, and its steps. `old`, `new`: before the call and after it
+module _ {L E H : Type 0} (Shows : Table E → H → List Place → Type 0) (table : L → Table E) (Does : L → L → List LinkStep → Type 0) where
+  -- the object is put into the gap beside the position, or its link is refused and nothing else has changed. The position stays
+  pub record InsertsBeside {T : Type 0} (Refused : L → L → Place → Type 0) (IsBeside : Cut → Option Place → Type 0)
+      (old : Site L H) (object : Place) (result : Result Unit (AlreadyLinked T)) (new : Site L H) : Type 0 where
+    pub inserted : (gap : Cut) → ShowsAt Shows table old (join gap) → IsBeside gap old.position
+        → OnOk result (Inserts Shows (table old.links) (table new.links) new.head gap object)
+    pub acquired : OnOk result (Does old.links new.links (acquires object ∷ []))
+    pub refused : OnErr result (Refused old.links new.links object)
+    pub unchanged : IfErr result (λ refused. (refused.0 ≡ object) × (new.head ≡ old.head))
+    pub position : new.position ≡ old.position
+    pub stands : Stands Shows table new
+
+  -- the member that the position is on is taken off and answered, and the position goes on to the one behind it. At null the
+  -- answer is none, and nothing has changed
+  pub record RemovesThere (old : Site L H) (result : Option Place) (new : Site L H) : Type 0 where
+    pub answer : result ≡ old.position
+    pub removed : (gap : Cut) → ShowsAt Shows table old (join gap) → IsBefore gap old.position
+        → OnSome result (Removes Shows (table old.links) (table new.links) new.head gap)
+    pub released : IfSome result (λ object. Does old.links new.links (releases object ∷ []))
+    pub moved : (gap : Cut) → ShowsAt Shows table old (join gap) → IsBefore gap old.position → IsBehind gap new.position
+    pub null : IfNone result (new ≡ old)
+    pub stands : Stands Shows table new
+
+  -- the object stands where the member stood that the position is on, which is answered, and the position is on the object. At
+  -- null, and where its link is refused, it comes back and nothing else has changed
+  pub record ReplacesThere {T : Type 0} (Refused : L → L → Place → Type 0)
+      (old : Site L H) (object : Place) (result : Result Place (ReplaceError T)) (new : Site L H) : Type 0 where
+    pub answer : IfOk result (λ out. old.position ≡ Some out)
+    pub replaced : (gap : Cut) → ShowsAt Shows table old (join gap) → IsBefore gap old.position
+        → OnOk result (Replaces Shows (table old.links) (table new.links) new.head gap object)
+    pub moved : OnOk result (new.position ≡ Some object)
+    pub exchanged : IfOk result (λ out. Does old.links new.links (acquires object ∷ releases out ∷ []))
+    pub refused : IfErr result (ByCause ((old.position ≡ None) × (new.links ≡ old.links))
+        ((old.position ≢ None) × Refused old.links new.links object))
+    pub unchanged : IfErr result (λ refused. (object_of refused ≡ object) × (new.head ≡ old.head) × (new.position ≡ old.position))
+    pub stands : Stands Shows table new
+
+  -- all of the given collection, which shares no member with this one, is put into the gap beside the position, which stays
+  pub record SplicesBeside (IsBeside : Cut → Option Place → Type 0) (old : Site L H) (given : H) (new : Site L H) : Type 0 where
+    pub spliced : (gap : Cut) (t : List Place) → ShowsAt Shows table old (join gap) → IsBeside gap old.position
+        → Shows (table old.links) given t → IsDisjoint t (join gap) → Splices Shows (table old.links) (table new.links) new.head gap t
+    pub no_step : Does old.links new.links []
+    pub position : new.position ≡ old.position
+    pub stands : (gap : Cut) (t : List Place) → ShowsAt Shows table old (join gap) → IsBeside gap old.position
+        → Shows (table old.links) given t → IsDisjoint t (join gap) → Stands Shows table new
+
+  -- the members of one part stay and those of the other are handed out, where the gap beside the position cuts them. The position stays
+  pub record SplitsBeside (IsBeside : Cut → Option Place → Type 0) (kept handed : Cut → List Place)
+      (old : Site L H) (result : H) (new : Site L H) : Type 0 where
+    pub split : (gap : Cut) → ShowsAt Shows table old (join gap) → IsBeside gap old.position
+        → Splits Shows (table old.links) (table new.links) new.head result (kept gap) (handed gap)
+    pub no_step : Does old.links new.links []
+    pub position : new.position ≡ old.position
+    pub stands : Stands Shows table new
+
+  -- behind the position, and in front of it
+  abbrev pub SplitsAfter : Site L H → H → Site L H → Type 0
+  SplitsAfter = SplitsBeside IsAfter (λ gap. gap.front) (λ gap. gap.back)
+
+  abbrev pub SplitsBefore : Site L H → H → Site L H → Type 0
+  SplitsBefore = SplitsBeside IsBefore (λ gap. gap.back) (λ gap. gap.front)
