@@ -12,6 +12,12 @@ module _ {T : Type 0} where
   abbrev pub ArePlaced : Objects T → List Place → Type 0
   ArePlaced objects s = AllByRecursion (λ p. IsSome (object_at objects p)) s
 
+  -- a sequence is shown, and an object stands at each of its members
+  pub record ShowsPlaced (shows : List Place → Type 0) (objects : Objects T) : Type 0 where
+    pub members : List Place
+    pub shown : shows members
+    pub placed : ArePlaced objects members
+
   -- the objects at the members of s, in order
   abbrev pub values_at : Objects T → List Place → List T
   values_at objects s = filter_map (object_at objects) s

@@ -10,7 +10,7 @@
 ghost use Rattle.std.specs.Prelude.{◌≡◌, List, Option, Some, ⊤};
 ghost use Rattle.std.specs.Iterator.{item_count};
 ghost use Rattle.ic_unsafe_ref.specs.declared.place.Place.{Place};
-ghost use Rattle.ic_link_ops.specs.LinkedList.{Shows, ShowsSome};
+ghost use Rattle.ic_link_ops.specs.LinkedList.{Shows};
 ghost use Rattle.ic_link_ops.specs.Walk.{is_end, GivesFirst, GivesLast};
 
 use crate::LinkedList;
@@ -115,7 +115,7 @@ impl<T, L, A: Allocator> Clone for Iter<'_, T, L, A> {
 }
 
 impl<T> LinkedList<T> {
-    ghost use Rattle.ic_linked_list.specs.Iter.{ArePlaced, values_at, objects_left, CanWalk};
+    ghost use Rattle.ic_linked_list.specs.Iter.{ShowsPlaced, values_at, objects_left, CanWalk};
 
     /// A walk over the objects of the list, from either end. It asks that all members are placed.
     pub fn iter<'a, L: LinkedListOps, A: Allocator>(
@@ -123,9 +123,7 @@ impl<T> LinkedList<T> {
         links: &'a L,
         objects: &'a Objects<T, A>,
     ) -> Iter<'a, T, L, A>
-        requires shown { ShowsSome L.neighbors (L.table links.now) self.now }
-        requires placed { (s : List Place) → Shows L.neighbors (L.table links.now) self.now s
-            → ArePlaced objects.now s }
+        requires placed { ShowsPlaced (Shows L.neighbors (L.table links.now) self.now) objects.now }
         ensures walks { (s : List Place) → Shows L.neighbors (L.table links.now) self.now s
             → objects_left L.neighbors L.table result ≡ values_at objects.now s }
         ensures can_walk { CanWalk L.neighbors L.table result }

@@ -9,7 +9,7 @@ ghost use Rattle.std.specs.Prelude.{◌≡◌, ◌+◌, ◌≤◌, ◌⊎◌, �
 ghost use Rattle.std.specs.Iterator.{IsFinite};
 ghost use Rattle.ic_unsafe_ref.specs.declared.place.Place.{Place};
 ghost use Rattle.ic_link_ops.specs.LinkedList.{Shows, ShowsSome};
-ghost use Rattle.ic_linked_list.specs.Iter.{ArePlaced, values_at};
+ghost use Rattle.ic_linked_list.specs.Iter.{ShowsPlaced, values_at};
 ghost use Rattle.uses.specs.Hands.{Keeps, gained, HasDealt, IsOver};
 
 use ic_link_ops::linked_list::LinkedListOps;
@@ -81,8 +81,7 @@ pub fn show<'a, T, L: LinkedListOps, A: Allocator, B: Allocator>(
     fronts: &mut Vec<&'a T, B>,
     backs: &mut Vec<&'a T, B>,
 ) -> Result<(), AllocError>
-    requires shown { ShowsSome L.neighbors (L.table links.now) list.now }
-    requires placed { (s : List Place) → Shows L.neighbors (L.table links.now) list.now s → ArePlaced objects.now s }
+    requires placed { ShowsPlaced (Shows L.neighbors (L.table links.now) list.now) objects.now }
     ensures shows { (s : List Place) → Shows L.neighbors (L.table links.now) list.now s
         → OnOk result (map (λ x. x.now) (gained fronts.old.items fronts.new.items)
         ++ reverse (map (λ x. x.now) (gained backs.old.items backs.new.items)) ≡ values_at objects.now s) }

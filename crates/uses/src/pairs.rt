@@ -10,7 +10,7 @@ ghost use Rattle.ic_unsafe_ref.specs.declared.place.Place.{Place};
 ghost use Rattle.ic_unsafe_ref.specs.Places.{index_of};
 ghost use Rattle.ic_link_ops.specs.LinkSteps.{releases};
 ghost use Rattle.ic_link_ops.specs.LinkedList.{Shows, ShowsSome};
-ghost use Rattle.ic_linked_list.specs.Iter.{ArePlaced, values_at};
+ghost use Rattle.ic_linked_list.specs.Iter.{ShowsPlaced, values_at};
 
 use ic_link_ops::linked_list::LinkedListOps;
 use ic_linked_list::LinkedList;
@@ -38,8 +38,7 @@ pub fn both<'a, T, L: LinkedListOps, A: Allocator>(
     links: &'a L,
     objects: &'a Objects<T, A>,
 ) -> Option<(&'a T, &'a T)>
-    requires shown { ShowsSome L.neighbors (L.table links.now) list.now }
-    requires placed { (s : List Place) → Shows L.neighbors (L.table links.now) list.now s → ArePlaced objects.now s }
+    requires placed { ShowsPlaced (Shows L.neighbors (L.table links.now) list.now) objects.now }
     ensures both { (s : List Place) → Shows L.neighbors (L.table links.now) list.now s
         → IfSome result (λ pair. values_at objects.now s ≡ pair.0.now ∷ pair.1.now ∷ []) }
     ensures none { (s : List Place) → Shows L.neighbors (L.table links.now) list.now s

@@ -5,7 +5,7 @@ ghost use Rattle.ic_unsafe_ref.specs.declared.place.Place.{Place};
 ghost use Rattle.ic_unsafe_ref.specs.Places.{index_of};
 ghost use Rattle.ic_link_ops.specs.Tables.{IsCovered};
 ghost use Rattle.ic_link_ops.specs.DoublyEntries.{plain_table, PlainShows};
-ghost use Rattle.ic_linked_list.specs.Iter.{ArePlaced};
+ghost use Rattle.ic_linked_list.specs.Iter.{ShowsPlaced};
 
 use ic_atomic::Claims;
 use ic_link_ops::AlreadyLinked;
@@ -191,9 +191,8 @@ fn place_each(
     objects: &mut Objects<usize>,
     count: usize,
 ) -> Result<(), AlreadyLinked<usize>>
-    requires members { (s : List Place) × PlainShows links.old list.old s × ArePlaced objects.old s }
-    ensures members { OnOk result
-        ((s : List Place) × PlainShows links.new list.new s × ArePlaced objects.new s) }
+    requires members { ShowsPlaced (PlainShows links.old list.old) objects.old }
+    ensures members { OnOk result (ShowsPlaced (PlainShows links.new list.new) objects.new) }
 {
     for index in 0..count {
         let next = objects.next_place().expect(rt, "a vacant place");
@@ -211,7 +210,7 @@ fn show_two_each<'a>(
     links: &'a LinkOps,
     objects: &'a Objects<usize>,
 ) -> Result<[Option<Place>; 4], AllocError>
-    requires members { (s : List Place) × PlainShows links.now list.now s × ArePlaced objects.now s }
+    requires members { ShowsPlaced (PlainShows links.now list.now) objects.now }
 {
     let mut fronts = Vec::new(alloc);
     let mut backs = Vec::new(alloc);

@@ -29,8 +29,8 @@ loop-index-preserved g c =
     let places : Places c.loop-index.objects c.from_box.new.objects c.expect-object.result c.loop-index.index =
     rw c.expect-object.ensures at c.from_box.ensures.placed in
     let next : index_of c.expect-next.result ≡ c.loop-index.objects.next = (rw c.expect-next.ensures at c.next_place.ensures).0 in
-    let same = ap index_of c.new.ensures ∙ c.covered-place.ensures.at ∙ c.index.ensures.value ∙ next ∙ sym places.next in (
-      m.0 ++ c.new.result ∷ [],
-      c.in_ok-push_back.ensures.inserted m.0 m.1,
-      placed_on _ _ c.expect-object.result c.loop-index.index places c.new.result same m.0 m.2,
-    )
+    let same = ap index_of c.new.ensures ∙ c.covered-place.ensures.at ∙ c.index.ensures.value ∙ next ∙ sym places.next in record {
+      members = m.members ++ c.new.result ∷ [];
+      shown = c.in_ok-push_back.ensures.inserted m.members m.shown;
+      placed = placed_on _ _ c.expect-object.result c.loop-index.index places c.new.result same m.members m.placed;
+    }

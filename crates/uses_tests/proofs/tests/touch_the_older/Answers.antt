@@ -12,8 +12,7 @@ insert-requires-2-clause-shown c = (c.new.result ∷ [], c.in_ok-insert.ensures.
 pub touch-requires : goal.touch-requires
 touch-requires c =
     let both = c.in_ok-insert-2.ensures.inserted (c.new.result ∷ []) (c.in_ok-insert.ensures.inserted [] c.requires.empty) in
-    let last : Some c.new-3.result ≡ Some c.new.result = ap (λ p. Some p) (c.new-3.ensures ∙ sym c.new.ensures) in
-    record { member = (record { front = c.new-2.result ∷ c.new.result ∷ []; back = [] }, both, last) }
+    record { member = record { front = c.new-2.result ∷ []; back = []; shown = rw (c.new-3.ensures ∙ sym c.new.ensures) both } }
 
 pub forget_oldest-oldest-requires : goal.forget_oldest-oldest-requires
 forget_oldest-oldest-requires c =
