@@ -101,15 +101,15 @@ module _ {E : Type 0} (between : E → Option Place → Option Place → Type 0)
       chain_glue t4 None s (m ++ r) None s4 (chain_glue t4 (last s) m r None m4 r4)
 
   -- how the last of a chain stands, and the first
-  pub last_stands : (t : Place → E) (b : Option Place) (s : List Place) (a : Option Place) {q : Place}
+  pub last_between : (t : Place → E) (b : Option Place) (s : List Place) (a : Option Place) {q : Place}
       → IsChain between t b s a → Some q ≡ last s → between (t q) (last_or b (but_last s)) a
-  last_stands t b [] a {q} c e = absurd (none_not q (sym e))
-  last_stands t b (x ∷ []) a c e = rw (some_same e) c.0
-  last_stands t b (x ∷ y ∷ s) a c e = last_stands t (Some x) (y ∷ s) a c.1 e
+  last_between t b [] a {q} c e = absurd (none_not q (sym e))
+  last_between t b (x ∷ []) a c e = rw (some_same e) c.0
+  last_between t b (x ∷ y ∷ s) a c e = last_between t (Some x) (y ∷ s) a c.1 e
 
-  pub first_stands : (t : Place → E) (b : Option Place) (x : Place) (s : List Place) (a : Option Place) {q : Place}
+  pub first_between : (t : Place → E) (b : Option Place) (x : Place) (s : List Place) (a : Option Place) {q : Place}
       → IsChain between t b (x ∷ s) a → q ≡ x → between (t q) b (first_or s a)
-  first_stands t b x s a c e = rw e c.0
+  first_between t b x s a c e = rw e c.0
 
   -- a chain for a relation is one for a weaker relation
   pub chain_weakened : (weaker : E → Option Place → Option Place → Type 0) → ((e : E) (b a : Option Place) → between e b a → weaker e b a)

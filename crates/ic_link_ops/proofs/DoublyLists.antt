@@ -5,7 +5,7 @@ use Rattle.ic_link_ops.specs.Tables.{Table, IsCovered, ChangesOnly}
 use Rattle.ic_link_ops.specs.Chains.{Ends, no_members}
 use Rattle.ic_link_ops.specs.Turns.{TurnsBehind, TurnsBefore}
 use Rattle.ic_link_ops.specs.Walk.{walked}
-use Rattle.ic_link_ops.specs.LinkedList.{Neighbors, neighbors_at, IsBetween, Shows, next_of, between, members, IsWalk}
+use Rattle.ic_link_ops.specs.LinkedList.{Neighbors, neighbors_at, IsBetween, Shows, next_of, members_between, members, IsWalk}
 use Rattle.ic_link_ops.proofs.Turning.{turns_behind, turns_before}
 use Rattle.ic_link_ops.proofs.ShownLists.{shows_frame, shows_one, free_absent}
 use Rattle.ic_link_ops.proofs.CollectionLaws.{IsKind}
@@ -38,7 +38,7 @@ module _ {E : Type 0} {n : E → Neighbors} where
 
   -- the walk gives what stands between its ends
   pub walk_shown : (t : Table E) → ((q : Place) → (n (t.entry q)).linked ≡ true → IsCovered t q)
-      → (from to : Option Place) (w : List Place) → IsWalk n t.entry from to w → between n t from to ≡ w
+      → (from to : Option Place) (w : List Place) → IsWalk n t.entry from to w → members_between n t from to ≡ w
   walk_shown t covered from to w k =
       walk_blind (λ e. (n e).next) t.entry t.extent.places None k.before from to
       ∙ stretch_walked (next_of n) (λ e a b h. h.next) t (λ q b a h. covered q h.linked) k.part

@@ -7,7 +7,7 @@ use Rattle.ic_link_ops.specs.Tables.{Table}
 use Rattle.ic_link_ops.specs.Chains.{Ends, end_of, ShowsBetween}
 use Rattle.ic_link_ops.specs.Turns.{TurnsBehind, TurnsBefore}
 use Rattle.ic_link_ops.proofs.SequenceLemmas.{distinct_left, distinct_right, distinct_insert, distinct_remove, distinct_replace, distinct_splice, distinct_reverse, last_not, first_not, none_not, some_same, split_last, new_head, new_tail, first_of_reverse, last_of_reverse}
-use Rattle.ic_link_ops.proofs.Chains.{chain_kept, chain_frame, chain_cut, chain_glue, chain_parts, chain_filled, chain_spliced, last_stands, first_stands, chain_one, chain_linked, chain_absent, chain_reversed}
+use Rattle.ic_link_ops.proofs.Chains.{chain_kept, chain_frame, chain_cut, chain_glue, chain_parts, chain_filled, chain_spliced, last_between, first_between, chain_one, chain_linked, chain_absent, chain_reversed}
 
 module _ {E : Type 0} {between : E → Option Place → Option Place → Type 0} where
   -- a shown sequence stays where the table keeps the entries of its members
@@ -41,16 +41,16 @@ module _ {E : Type 0} {between : E → Option Place → Option Place → Type 0}
   shows_middle {t} front back {p} shown = (chain_cut between t.entry None front (p ∷ back) None shown.chain).1.0
 
   -- how the member before a gap stands, and the one behind it
-  pub stands_before : {t : Table E} {ends : Ends} (front back : List Place) {q : Place}
+  pub before_gap : {t : Table E} {ends : Ends} (front back : List Place) {q : Place}
       → ShowsBetween between t ends (front ++ back) → Some q ≡ last front → between (t.entry q) (last (but_last front)) (first back)
-  stands_before {t} front back shown e =
-      last_stands between t.entry None front (first back) (chain_cut between t.entry None front back None shown.chain).0 e
+  before_gap {t} front back shown e =
+      last_between between t.entry None front (first back) (chain_cut between t.entry None front back None shown.chain).0 e
 
-  pub stands_behind : {t : Table E} {ends : Ends} (front back : List Place) {q : Place}
+  pub behind_gap : {t : Table E} {ends : Ends} (front back : List Place) {q : Place}
       → ShowsBetween between t ends (front ++ back) → Some q ≡ first back → between (t.entry q) (last front) (first (drop 1 back))
-  stands_behind {t} front [] {q} shown e = absurd (none_not q (sym e))
-  stands_behind {t} front (x ∷ back) shown e =
-      first_stands between t.entry (last front) x back None (chain_cut between t.entry None front (x ∷ back) None shown.chain).1 (some_same e)
+  behind_gap {t} front [] {q} shown e = absurd (none_not q (sym e))
+  behind_gap {t} front (x ∷ back) shown e =
+      first_between between t.entry (last front) x back None (chain_cut between t.entry None front (x ∷ back) None shown.chain).1 (some_same e)
 
   -- the head is the first member, and the tail the last
   pub shows_first : {t : Table E} {ends : Ends} (s : List Place) {p : Place} → ShowsBetween between t ends s → ends.head ≡ Some p → s ≡ p ∷ drop 1 s
@@ -190,11 +190,11 @@ module _ {E : Type 0} {between : E → Option Place → Option Place → Type 0}
     -- the member before a gap is linked, and the one behind it
     pub gap_linked : {t : Table E} {ends : Ends} (front back : List Place) {q : Place}
         → ShowsBetween between t ends (front ++ back) → Some q ≡ last front → linked (t.entry q) ≡ true
-    gap_linked front back shown e = law _ _ _ (stands_before front back shown e)
+    gap_linked front back shown e = law _ _ _ (before_gap front back shown e)
 
     pub gap_behind_linked : {t : Table E} {ends : Ends} (front back : List Place) {q : Place}
         → ShowsBetween between t ends (front ++ back) → Some q ≡ first back → linked (t.entry q) ≡ true
-    gap_behind_linked front back shown e = law _ _ _ (stands_behind front back shown e)
+    gap_behind_linked front back shown e = law _ _ _ (behind_gap front back shown e)
 
     -- so is the member behind p
     pub next_linked : {t : Table E} {ends : Ends} (front : List Place) (p : Place) (back : List Place) {q : Place}

@@ -5,17 +5,17 @@ use Rattle.ic_unsafe_ref.specs.Places.{place_at, word_of}
 use Rattle.ic_unsafe_ref.proofs.PlaceLemmas.{place_at_word, word_at, word_fits}
 use Rattle.ic_link_ops.specs.declared.color.Color.{Color}
 use Rattle.ic_link_ops.specs.declared.color.Color.TheVariants.{Red, Black}
-use Rattle.ic_link_ops.specs.TreeWords.{unlinked, linked, one_if, one_if_black, number_of, standing_at}
+use Rattle.ic_link_ops.specs.TreeWords.{unlinked, linked, one_if, one_if_black, number_of, parts_at}
 
 -- the words 0 and 3
-pub standing_at_0 : standing_at 0 ≡ unlinked
-standing_at_0 = λ k. record { linked = false; parent = place_at_word None k; color = Red }
+pub parts_at_0 : parts_at 0 ≡ unlinked
+parts_at_0 = λ k. record { linked = false; parent = place_at_word None k; color = Red }
 
-pub standing_at_3 : standing_at 3 ≡ linked
-standing_at_3 = λ k. record { linked = true; parent = place_at_word None k; color = Black }
+pub parts_at_3 : parts_at 3 ≡ linked
+parts_at_3 = λ k. record { linked = true; parent = place_at_word None k; color = Black }
 
 -- with another parent
-pub parent_set : (n : ℕ) (parent : Option Place) → standing_at (word_of parent * 2 + n % 4) ≡ record (standing_at n) { parent = parent }
+pub parent_set : (n : ℕ) (parent : Option Place) → parts_at (word_of parent * 2 + n % 4) ≡ record (parts_at n) { parent = parent }
 parent_set n parent =
     let even = (word_fits parent).1 in
     let links : (word_of parent * 2 + n % 4) / 2 % 2 ≡ n / 2 % 2 = omega (arith, even) in
@@ -25,7 +25,7 @@ parent_set n parent =
     λ k. record { linked = nat_eq (links k) 1; parent = at k; color = cond (nat_eq (colors k) 0) Red Black }
 
 -- with another color
-pub color_set : (n : ℕ) (color : Color) → standing_at (n / 2 * 2 + one_if_black color) ≡ record (standing_at n) { color = color }
+pub color_set : (n : ℕ) (color : Color) → parts_at (n / 2 * 2 + one_if_black color) ≡ record (parts_at n) { color = color }
 color_set n Red =
     let links : (n / 2 * 2 + 0) / 2 % 2 ≡ n / 2 % 2 = omega arith in
     let names : (n / 2 * 2 + 0) / 4 * 2 ≡ n / 4 * 2 = omega arith in
@@ -49,8 +49,8 @@ one_if_not_red (suc zero) h = refl
 one_if_not_red (suc (suc x)) h = absurd (omega (arith, h))
 
 -- the word is the number of what it says
-pub number_of_standing : (n : ℕ) → n ≤ 17179869187 → number_of (standing_at n) ≡ n
-number_of_standing n h =
+pub number_of_parts : (n : ℕ) → n ≤ 17179869187 → number_of (parts_at n) ≡ n
+number_of_parts n h =
     let names : word_of (place_at (n / 4 * 2)) ≡ n / 4 * 2 = word_at (n / 4 * 2) (omega (arith, h), omega arith) in
     let links : one_if (nat_eq (n / 2 % 2) 1) ≡ n / 2 % 2 = one_if_one (n / 2 % 2) (omega arith) in
     let colors : one_if_black (cond (nat_eq (n % 2) 0) Red Black) ≡ n % 2 = one_if_not_red (n % 2) (omega arith) in

@@ -14,7 +14,7 @@ use Rattle.ic_link_ops.specs.Chains.{Ends, IsChain, IsStretch, ShowsBetween}
 use Rattle.ic_link_ops.specs.Walk.{walk, walked, is_end, GivesFirst, GivesLast}
 use Rattle.ic_link_ops.proofs.Counting.{count, count_falls, count_at_most}
 use Rattle.ic_link_ops.proofs.SequenceLemmas.{distinct_left, distinct_reverse, first_of_reverse, last_of_reverse, last_not, none_not, some_same, last_some, split_last}
-use Rattle.ic_link_ops.proofs.Chains.{mirrored, chain_mirrored, chain_cut, last_stands, first_stands}
+use Rattle.ic_link_ops.proofs.Chains.{mirrored, chain_mirrored, chain_cut, last_between, first_between}
 
 nat_eq_refl : (i : ℕ) → nat_eq i i ≡ true
 nat_eq_refl i = eq-eqb i i refl
@@ -105,11 +105,11 @@ module _ {E : Type 0} {between : E → Option Place → Option Place → Type 0}
   pub stretch_first : {t : Place → E} {b to a : Option Place} {p : Place} {w : List Place} → IsStretch between t b (Some p) to a w
       → between (t p) b (first_or (drop 1 w) a)
   stretch_first {p = p} {w = []} k = absurd (none_not p (sym k.starts))
-  stretch_first {t} {b} {to} {a} {p} {w = x ∷ w} k = first_stands between t b x w a k.chain (some_same k.starts)
+  stretch_first {t} {b} {to} {a} {p} {w = x ∷ w} k = first_between between t b x w a k.chain (some_same k.starts)
 
   pub stretch_last : {t : Place → E} {b from a : Option Place} {p : Place} {w : List Place} → IsStretch between t b from (Some p) a w
       → between (t p) (last_or b (but_last w)) a
-  stretch_last {t} {b} {from} {a} {p} {w} k = last_stands between t b w a k.chain k.ends
+  stretch_last {t} {b} {from} {a} {p} {w} k = last_between between t b w a k.chain k.ends
 
   -- no part of a chain is longer than what the table covers, if only covered places stand in chains
   pub stretch_length : (t : Table E) → ((q : Place) (b a : Option Place) → between (t.entry q) b a → IsCovered t q)

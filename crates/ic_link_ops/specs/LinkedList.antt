@@ -40,12 +40,12 @@ module _ {E : Type 0} (neighbors : E → Neighbors) where
   next_of e before = (neighbors e).next
 
   -- the members between two ends
-  abbrev pub between : Table E → Option Place → Option Place → List Place
-  between t front back = walked next_of t None front back
+  abbrev pub members_between : Table E → Option Place → Option Place → List Place
+  members_between t front back = walked next_of t None front back
 
   -- the members of a list
   abbrev pub members : Table E → Ends → List Place
-  members t list = between t list.head list.tail
+  members t list = members_between t list.head list.tail
 
   -- w is a part of a chain, from front to back
   pub record IsWalk (entry : Place → E) (front back : Option Place) (w : List Place) : Type 0 where

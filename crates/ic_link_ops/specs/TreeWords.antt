@@ -5,17 +5,17 @@ use Rattle.ic_unsafe_ref.specs.Places.{place_at, word_of}
 use Rattle.ic_link_ops.specs.declared.color.Color.{Color}
 use Rattle.ic_link_ops.specs.declared.color.Color.TheVariants.{Red, Black}
 
--- what the word says
-pub record Standing : Type 0 where
+-- what the word says: its parts
+pub record Parts : Type 0 where
   pub linked : Bool
   pub parent : Option Place
   pub color : Color
 
 -- an unlinked place, and a linked one that is black and has no parent
-abbrev pub unlinked : Standing
+abbrev pub unlinked : Parts
 unlinked = record { linked = false; parent = None; color = Red }
 
-abbrev pub linked : Standing
+abbrev pub linked : Parts
 linked = record { linked = true; parent = None; color = Black }
 
 -- 1 for true, and for black
@@ -28,12 +28,12 @@ one_if_black Red = 0
 one_if_black Black = 1
 
 -- the word: 4 * (parent + 1) + 2 * linked + black, where a place's word is 2 * (index + 1)
-abbrev pub number_of : Standing → ℕ
-number_of s = 2 * word_of s.parent + 2 * one_if s.linked + one_if_black s.color
+abbrev pub number_of : Parts → ℕ
+number_of parts = 2 * word_of parts.parent + 2 * one_if parts.linked + one_if_black parts.color
 
 -- what a word says
-abbrev pub standing_at : ℕ → Standing
-standing_at n = record {
+abbrev pub parts_at : ℕ → Parts
+parts_at n = record {
   linked = nat_eq (n / 2 % 2) 1;
   parent = place_at (n / 4 * 2);
   color = cond (nat_eq (n % 2) 0) Red Black;

@@ -31,7 +31,7 @@ impl Model for End {
 }
 
 impl End {
-    /// The end at a place, or the one of an empty collection.
+    /// The end of a collection at which `place` stands, `None` for an empty one.
     #[inline]
     #[tactic(auto, using(ic_unsafe_ref::proofs::PlaceLemmas::place_at_word))]
     pub fn of(place: Option<Place>) -> End
@@ -42,7 +42,7 @@ impl End {
         }
     }
 
-    /// Where it is.
+    /// The place that stands at this end, `None` in an empty collection. One test against 0 and a shift.
     #[inline]
     pub fn get(&self) -> Option<Place>
         ensures { result ≡ self.now }

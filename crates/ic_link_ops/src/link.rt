@@ -21,19 +21,19 @@ pub trait Words: Drop {
     // Whether the words are those of a linked place.
     ghost is_linked: { Self → Bool };
 
-    /// The words of a place that no call has linked.
+    /// The words with which a table covers a place: those of an unlinked one.
     fn unlinked() -> Self
         ensures { result ≡ unlinked };
 
-    /// Whether they are those of a linked place.
+    /// Whether the words say that their place is linked. One comparison.
     fn is_linked(&self) -> bool
         ensures { result ≡ is_linked self.now };
 
-    /// Makes them those of a linked place.
+    /// Says in the words that the place is linked. What they say of neighbours then is left open.
     fn link(&mut self)
         ensures { is_linked self.new ≡ true };
 
-    /// Makes them those of an unlinked place.
+    /// Says in the words that the place is not linked. What they say of neighbours then is left open.
     fn unlink(&mut self)
         ensures { is_linked self.new ≡ false };
 
@@ -51,12 +51,12 @@ pub trait NextWord: Words {
 
     ghost use Rattle.ic_link_ops.specs.Words.{bits_of};
 
-    /// That word. It asks that the place is linked.
+    /// The word for what follows. It asks that the place is linked.
     fn next_word(&self) -> Word
         requires linked { Self.is_linked self.now ≡ true }
         ensures { bits_of result ≡ next_word self.now };
 
-    /// Sets that word. It asks that the place is linked.
+    /// Replaces the word for what follows. It asks that the place is linked, and leaves it so.
     fn set_next_word(&mut self, word: Word)
         requires linked { Self.is_linked self.old ≡ true }
         ensures set { next_word self.new ≡ bits_of word }
@@ -69,11 +69,11 @@ pub trait PrevPlace: NextWord {
     // That place, or none.
     ghost prev: { Self → Option Place };
 
-    /// That place, or none.
+    /// The place before, `None` at the front. Of an unlinked place it is what was left there.
     fn prev(&self) -> Option<Place>
         ensures { result ≡ prev self.now };
 
-    /// Sets that place.
+    /// Replaces the place before, and leaves the word for what follows.
     fn set_prev(&mut self, place: Option<Place>)
         ensures set { prev self.new ≡ place }
         ensures linked { Self.is_linked self.new ≡ Self.is_linked self.old }
@@ -94,7 +94,7 @@ pub struct Link<W> {
 impl<W: Words> Link<W> {
     ghost use Rattle.ic_link_ops.specs.Links.{link_of, words_of};
 
-    /// The link of a place that no call has linked.
+    /// An unlinked link, with which a table covers a place.
     #[inline]
     pub fn new() -> Link<W>
         ensures { result ≡ link_of W.unlinked }
@@ -104,7 +104,7 @@ impl<W: Words> Link<W> {
         }
     }
 
-    /// Whether its place is linked.
+    /// Whether the place at which the link is kept is linked. O(1).
     #[inline]
     pub fn is_linked(&self) -> bool
         ensures { result ≡ W.is_linked (words_of self.now) }
@@ -118,7 +118,7 @@ impl<W: Words> Default for Link<W> {
 
     ghost is_default = { λ l. l ≡ link_of W.unlinked };
 
-    /// The link of a place that no call has linked.
+    /// An unlinked link, as [`Link::new`].
     fn default() -> Link<W> {
         Link::new()
     }

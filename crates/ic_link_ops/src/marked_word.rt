@@ -21,7 +21,7 @@ impl MarkedWord {
 
     const MARK: u64 = 1;
 
-    /// The mark.
+    /// The mark of an unlinked place: 1, which no word is, since words are even.
     #[inline]
     pub fn mark() -> MarkedWord
         ensures { result ≡ mark }
@@ -31,7 +31,7 @@ impl MarkedWord {
         }
     }
 
-    /// That word.
+    /// The word of a linked place, kept as it is.
     #[inline]
     pub fn of(word: Word) -> MarkedWord
         ensures { marked_bits_of result ≡ bits_of word }
@@ -39,7 +39,7 @@ impl MarkedWord {
         MarkedWord { bits: word.bits }
     }
 
-    /// Whether it is a word, and not the mark.
+    /// Whether it is the word of a linked place, and not the mark. One comparison.
     #[inline]
     pub fn is_word(self) -> bool
         ensures { result ≡ is_word self }
@@ -47,7 +47,7 @@ impl MarkedWord {
         self.bits != MarkedWord::MARK
     }
 
-    /// The word. It asks that it is not the mark.
+    /// The word that was kept. It asks that there is one, and not the mark.
     #[inline]
     pub fn word(self) -> Word
         requires word { is_word self ≡ true }
@@ -56,7 +56,7 @@ impl MarkedWord {
         Word { bits: self.bits }
     }
 
-    /// The word or the mark as a number.
+    /// What is kept as a number, for a text of an entry: a word as [`Word`] has it, or 1.
     #[inline]
     pub fn bits(self) -> u64
         ensures { result ≡ marked_bits_of self }

@@ -24,11 +24,11 @@ pub struct TreeWord {
 
 impl Model for TreeWord {
     ghost use Rattle.std.specs.Prelude.{◌≤◌};
-    ghost use Rattle.ic_link_ops.specs.TreeWords.{Standing, standing_at};
+    ghost use Rattle.ic_link_ops.specs.TreeWords.{Parts, parts_at};
 
-    ghost Value = { Standing };
+    ghost Value = { Parts };
 
-    ghost view = { λ w. standing_at w.bits };
+    ghost view = { λ w. parts_at w.bits };
 
     ghost invariant = { λ w. w.bits ≤ 17179869187 };
 }
@@ -36,7 +36,7 @@ impl Model for TreeWord {
 impl TreeWord {
     /// The word of an unlinked place: 0.
     #[inline]
-    #[tactic(auto, using(crate::proofs::TreeWordLemmas::standing_at_0))]
+    #[tactic(auto, using(crate::proofs::TreeWordLemmas::parts_at_0))]
     pub fn unlinked() -> TreeWord
         ensures { result ≡ unlinked }
     {
@@ -45,14 +45,14 @@ impl TreeWord {
 
     /// The word of a linked place that is black and has no parent: 3.
     #[inline]
-    #[tactic(auto, using(crate::proofs::TreeWordLemmas::standing_at_3))]
+    #[tactic(auto, using(crate::proofs::TreeWordLemmas::parts_at_3))]
     pub fn linked() -> TreeWord
         ensures { result ≡ linked }
     {
         TreeWord { bits: 3 }
     }
 
-    /// Whether its place is linked.
+    /// Whether the place is linked: the second bit.
     #[inline]
     pub fn is_linked(&self) -> bool
         ensures { result ≡ self.now.linked }
@@ -60,7 +60,7 @@ impl TreeWord {
         self.bits / 2 % 2 == 1
     }
 
-    /// The parent.
+    /// The parent, `None` at the root: all but the two lowest bits.
     #[inline]
     pub fn parent(&self) -> Option<Place>
         ensures { result ≡ self.now.parent }
@@ -68,7 +68,7 @@ impl TreeWord {
         Place::from_word(self.bits / 4 * 2)
     }
 
-    /// The color.
+    /// The color: the lowest bit, 1 for black.
     #[inline]
     pub fn color(&self) -> Color
         ensures { result ≡ self.now.color }
@@ -80,7 +80,7 @@ impl TreeWord {
         }
     }
 
-    /// Sets the parent.
+    /// Replaces the parent, and leaves the color and whether the place is linked.
     #[inline]
     #[tactic(auto, using(crate::proofs::TreeWordLemmas::parent_set))]
     pub fn set_parent(&mut self, parent: Option<Place>)
@@ -89,7 +89,7 @@ impl TreeWord {
         self.bits = Place::to_word(parent) * 2 + self.bits % 4;
     }
 
-    /// Sets the color.
+    /// Replaces the color, and leaves the parent and whether the place is linked.
     #[inline]
     #[tactic(auto, using(crate::proofs::TreeWordLemmas::color_set))]
     pub fn set_color(&mut self, color: Color)
@@ -102,9 +102,9 @@ impl TreeWord {
         self.bits = self.bits / 2 * 2 + black;
     }
 
-    /// The word as a number.
+    /// The number that is kept, for a text of an entry.
     #[inline]
-    #[tactic(auto, using(crate::proofs::TreeWordLemmas::number_of_standing))]
+    #[tactic(auto, using(crate::proofs::TreeWordLemmas::number_of_parts))]
     pub fn bits(&self) -> u64
         ensures { result ≡ number_of self.now }
     {

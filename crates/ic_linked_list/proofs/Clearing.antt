@@ -4,7 +4,7 @@ use Rattle.ic_unsafe_ref.specs.declared.place.Place.{Place}
 use Rattle.ic_link_ops.specs.Sequences.{IsAbsent, IsDistinct, first, last}
 use Rattle.ic_link_ops.specs.Tables.{Table, IsCovered}
 use Rattle.ic_link_ops.specs.Chains.{Ends}
-use Rattle.ic_link_ops.specs.LinkedList.{Neighbors, IsBetween, IsChain, Shows, next_of, between, neighbors_at}
+use Rattle.ic_link_ops.specs.LinkedList.{Neighbors, IsBetween, IsChain, Shows, next_of, members_between, neighbors_at}
 use Rattle.ic_link_ops.proofs.SequenceLemmas.{absent_right, distinct_middle, distinct_right, last_or-append, none_not, first_is}
 use Rattle.ic_link_ops.proofs.Chains.{chain_beside}
 use Rattle.ic_link_ops.proofs.Walks.{walk_blind, stretch_through}
@@ -35,10 +35,10 @@ module _ {E : Type 0} {n : E → Neighbors} where
   rest_is : {old new : Table E} {s : List Place} {p : Place} (k : Releases n old new s (Some p)) → k.rest ≡ p ∷ drop 1 k.rest
   rest_is k = first_is k.rest k.at
 
-  -- the next of them stands where the entry says, and it is linked
-  pub stands : {old new : Table E} {s : List Place} {p : Place} (k : Releases n old new s (Some p))
+  -- the next of them next_between where the entry says, and it is linked
+  pub next_between : {old new : Table E} {s : List Place} {p : Place} (k : Releases n old new s (Some p))
       → IsBetween n (new.entry p) (last k.done) (first (drop 1 k.rest))
-  stands {new = new} {p = p} k = let P : List Place → Type 0 = λ l. IsChain n new.entry (last k.done) l None in (subst P (rest_is k) k.chain).0
+  next_between {new = new} {p = p} k = let P : List Place → Type 0 = λ l. IsChain n new.entry (last k.done) l None in (subst P (rest_is k) k.chain).0
 
   -- ONE STEP: it is unlinked, and the one behind it is next
   pub releases_more : {old new new' : Table E} {s : List Place} {p : Place} {current : Option Place} → IsDistinct s
@@ -72,7 +72,7 @@ module _ {E : Type 0} {n : E → Neighbors} where
 
   -- what is left is what a walk from there comes by
   pub releases_left : {old new : Table E} {s : List Place} {current : Option Place} → ((q : Place) → (n (new.entry q)).linked ≡ true → IsCovered new q)
-      → IsDistinct s → (k : Releases n old new s current) → between n new current None ≡ k.rest
+      → IsDistinct s → (k : Releases n old new s current) → members_between n new current None ≡ k.rest
   releases_left {old} {new} {s} {current} covered d k =
       walk_blind (λ e. (n e).next) new.entry new.extent.places None (last k.done) current None
       ∙ stretch_through {between = IsBetween n} (next_of n) (λ e a b h. h.next) new (λ q b a h. covered q h.linked) {b = last k.done} {from = current} {to = last k.rest}
@@ -82,6 +82,6 @@ module _ {E : Type 0} {n : E → Neighbors} where
   pub releases_fewer : {old new new' : Table E} {s : List Place} {p : Place} {current : Option Place}
       → ((q : Place) → (n (new.entry q)).linked ≡ true → IsCovered new q) → ((q : Place) → (n (new'.entry q)).linked ≡ true → IsCovered new' q)
       → IsDistinct s → (k : Releases n old new s (Some p)) → (more : (k' : Releases n old new' s current) × (k.rest ≡ p ∷ k'.rest) × (k'.done ≡ k.done ++ p ∷ []))
-      → length (between n new' current None) < length (between n new (Some p) None)
+      → length (members_between n new' current None) < length (members_between n new (Some p) None)
   releases_fewer covered covered' d k more =
       omega (arith, ap length (releases_left covered d k), ap length (releases_left covered' d more.0), ap length more.1)

@@ -4,7 +4,7 @@ use Rattle.std.specs.List.{AllByRecursion, filter_map}
 use Rattle.ic_unsafe_ref.specs.declared.place.Place.{Place}
 use Rattle.ic_unsafe_ref.specs.Objects.{Objects, object_at}
 use Rattle.ic_link_ops.specs.Tables.{Table}
-use Rattle.ic_link_ops.specs.LinkedList.{Neighbors, between, IsWalk}
+use Rattle.ic_link_ops.specs.LinkedList.{Neighbors, members_between, IsWalk}
 use Rattle.ic_linked_list.specs.declared.iter.Iter.{Iter}
 
 module _ {T : Type 0} where
@@ -25,7 +25,7 @@ module _ {T : Type 0} where
 module _ {T L A E : Type 0} (neighbors : E → Neighbors) (table : L → Table E) where
   -- the members that the walk has not given out yet
   abbrev pub rest_of : Iter T L A → List Place
-  rest_of t = between neighbors (table t.links.now) t.head t.tail
+  rest_of t = members_between neighbors (table t.links.now) t.head t.tail
 
   -- the objects that it has not given out yet
   abbrev pub objects_left : Iter T L A → List T

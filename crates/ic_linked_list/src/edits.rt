@@ -93,8 +93,7 @@ impl<T> LinkedList<T> {
             (site links.old self.old current.old) result (site links.new self.new current.new) }
     {
         let place = (*current)?;
-        *current = self.take_out(links, place);
-        links.release_link(place);
+        *current = self.take_off(links, place);
         Some(UnsafeRef::new(place))
     }
 

@@ -7,7 +7,7 @@
 
 ghost use Rattle.std.specs.Prelude.{◌≡◌, ◌≢◌, ◌↔◌, ◌++◌, ◌∷◌, List, [], Option, Some, None, IsTrue, OnOk, OnErr, IfErr, IfSome, IfNone};
 ghost use Rattle.ic_unsafe_ref.specs.declared.place.Place.{Place};
-ghost use Rattle.ic_link_ops.specs.Sequences.{Cut, join, first, last, IsAbsent, IsDisjoint, IsAfter, IsBefore, at_front, at_back, insert, remove};
+ghost use Rattle.ic_link_ops.specs.Sequences.{Cut, join, first, last, IsAbsent, IsDisjoint, IsAfter, IsBefore, at_front, at_back, insert, remove, but_last};
 ghost use Rattle.ic_link_ops.specs.Tables.{IsCovered, IsLinked, KeepsBeside};
 ghost use Rattle.ic_link_ops.specs.LinkSteps.{acquires, releases};
 ghost use Rattle.ic_link_ops.specs.Chains.{no_members, end_of};
@@ -15,7 +15,7 @@ ghost use Rattle.ic_link_ops.specs.Edits.{Inserts, Splices, Splits};
 ghost use Rattle.ic_link_ops.specs.LinkedList.{Shows, ShowsSome};
 ghost use Rattle.ic_link_ops.specs.Positions.{HasMember};
 
-use crate::surgery::{follow, lead, stand};
+use crate::surgery::{follow, lead, set_neighbors};
 use ic_link_ops::linked_list::LinkedListOps;
 use ic_link_ops::{AlreadyLinked, End, LinkOps};
 use ic_unsafe_ref::{Place, UnsafeRef};
@@ -168,10 +168,27 @@ impl<T> LinkedList<T> {
         ensures frame { (s : List Place) → Shows L.neighbors (L.table links.old) self.old s
             → KeepsBeside (L.table links.old) (L.table links.new) s }
     {
-        let place = self.head()?;
-        self.take_out(links, place);
-        links.release_link(place);
-        Some(UnsafeRef::new(place))
+        let front = self.head()?;
+        self.take_off(links, front);
+        Some(UnsafeRef::new(front))
+    }
+
+    /// Takes the object at the back off the list and answers it, or `None` if the list is empty. O(1).
+    #[inline]
+    pub fn pop_back<L: LinkedListOps>(&mut self, links: &mut L) -> Option<UnsafeRef<T>>
+        requires shown { ShowsSome L.neighbors (L.table links.old) self.old }
+
+        ensures answer { (s : List Place) → Shows L.neighbors (L.table links.old) self.old s → result ≡ last s }
+        ensures removed { (s : List Place) → Shows L.neighbors (L.table links.old) self.old s
+            → Shows L.neighbors (L.table links.new) self.new (but_last s) }
+        ensures released { IfSome result (λ object. L.Does links.old links.new (releases object ∷ [])) }
+        ensures empty { IfNone result ((self.new ≡ self.old) × (links.new ≡ links.old)) }
+        ensures frame { (s : List Place) → Shows L.neighbors (L.table links.old) self.old s
+            → KeepsBeside (L.table links.old) (L.table links.new) s }
+    {
+        let back = self.tail()?;
+        self.take_off(links, back);
+        Some(UnsafeRef::new(back))
     }
 
     /// Takes the object off the list, of which it asks that it is a member. O(1).
@@ -186,8 +203,28 @@ impl<T> LinkedList<T> {
         ensures frame { (s : List Place) → Shows L.neighbors (L.table links.old) self.old s
             → KeepsBeside (L.table links.old) (L.table links.new) s }
     {
-        self.take_out(links, object.place());
-        links.release_link(object.place());
+        self.take_off(links, object.place());
+    }
+
+    // Takes the member out and unlinks it, and answers the one behind it.
+    #[inline]
+    pub(crate) fn take_off<L: LinkedListOps>(
+        &mut self,
+        links: &mut L,
+        place: Place,
+    ) -> Option<Place>
+        requires member { HasMember (Shows L.neighbors (L.table links.old) self.old) place }
+        ensures removed { (front back : List Place) → Shows L.neighbors (L.table links.old) self.old (front ++ place ∷ back)
+            → Shows L.neighbors (L.table links.new) self.new (front ++ back) }
+        ensures behind { (front back : List Place) → Shows L.neighbors (L.table links.old) self.old (front ++ place ∷ back)
+            → result ≡ first back }
+        ensures released { L.Does links.old links.new (releases place ∷ []) }
+        ensures frame { (front back : List Place) → Shows L.neighbors (L.table links.old) self.old (front ++ place ∷ back)
+            → KeepsBeside (L.table links.old) (L.table links.new) (front ++ place ∷ back) }
+    {
+        let behind = self.take_out(links, place);
+        links.release_link(place);
+        behind
     }
 
     // Puts the object into the gap between two neighbours, unless its link is refused.
@@ -249,7 +286,7 @@ impl<T> LinkedList<T> {
     {
         lead(links, before, Some(place));
         follow(links, behind, Some(place));
-        stand(links, place, before, behind);
+        set_neighbors(links, place, before, behind);
         settle(&mut self.head, before, Some(place));
         settle(&mut self.tail, behind, Some(place));
     }

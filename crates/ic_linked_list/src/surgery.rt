@@ -40,7 +40,7 @@ pub(crate) fn follow<L: LinkedListOps>(links: &mut L, place: Option<Place>, prev
 
 /// Puts the linked place between two others. Either may be beyond an end.
 #[inline]
-pub(crate) fn stand<L: LinkedListOps>(
+pub(crate) fn set_neighbors<L: LinkedListOps>(
     links: &mut L,
     place: Place,
     before: Option<Place>,

@@ -1,44 +1,23 @@
-//! Calls on a list as a whole, and the one that takes its last member off.
+//! Calls on a list as a whole.
 //!
 //! ```text
 //! let rest = list.take();      // `list` is empty now
 //! rest.dispose(&mut links);    // and its members are unlinked
 //! ```
 
-ghost use Rattle.std.specs.Prelude.{◌≡◌, ◌∷◌, List, [], IfSome, IfNone};
+ghost use Rattle.std.specs.Prelude.{◌≡◌, List};
 ghost use Rattle.ic_unsafe_ref.specs.declared.place.Place.{Place};
-ghost use Rattle.ic_link_ops.specs.Sequences.{last, but_last};
 ghost use Rattle.ic_link_ops.specs.Tables.{KeepsBeside};
-ghost use Rattle.ic_link_ops.specs.LinkSteps.{releases, releases_each};
+ghost use Rattle.ic_link_ops.specs.LinkSteps.{releases_each};
 ghost use Rattle.ic_link_ops.specs.Chains.{no_members};
 ghost use Rattle.ic_link_ops.specs.LinkedList.{Shows, ShowsSome};
 
 use crate::LinkedList;
 use ic_link_ops::LinkOps;
 use ic_link_ops::linked_list::LinkedListOps;
-use ic_unsafe_ref::UnsafeRef;
 use std::mem;
 
 impl<T> LinkedList<T> {
-    /// Takes the object at the back off the list and answers it, or `None` if the list is empty. O(1).
-    #[inline]
-    pub fn pop_back<L: LinkedListOps>(&mut self, links: &mut L) -> Option<UnsafeRef<T>>
-        requires shown { ShowsSome L.neighbors (L.table links.old) self.old }
-
-        ensures answer { (s : List Place) → Shows L.neighbors (L.table links.old) self.old s → result ≡ last s }
-        ensures removed { (s : List Place) → Shows L.neighbors (L.table links.old) self.old s
-            → Shows L.neighbors (L.table links.new) self.new (but_last s) }
-        ensures released { IfSome result (λ object. L.Does links.old links.new (releases object ∷ [])) }
-        ensures empty { IfNone result ((self.new ≡ self.old) × (links.new ≡ links.old)) }
-        ensures frame { (s : List Place) → Shows L.neighbors (L.table links.old) self.old s
-            → KeepsBeside (L.table links.old) (L.table links.new) s }
-    {
-        let place = self.tail()?;
-        self.take_out(links, place);
-        links.release_link(place);
-        Some(UnsafeRef::new(place))
-    }
-
     /// Takes all objects off the list: each member is unlinked, and the list is empty.
     ///
     /// One step for each member, and no memory. Lists that share no member with this one stay.

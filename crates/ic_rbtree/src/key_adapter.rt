@@ -17,10 +17,10 @@ ghost use Rattle.std.specs.Prelude.{◌≡◌};
 /// }
 /// ```
 pub trait KeyAdapter: Copy {
-    /// The objects.
+    /// What is placed in the tree: the objects whose keys the adapter finds.
     type Value;
 
-    /// Their keys.
+    /// What the tree compares by its `Ord`.
     type Key: Ord;
 
     // The key of a value.

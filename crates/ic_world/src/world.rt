@@ -98,7 +98,7 @@ impl<A: KeyAdapter, M: Allocator + Copy> World<A, M> {
         }
     }
 
-    /// The objects.
+    /// The objects by place, to be read. What is in a collection is told by [`World::show`].
     #[inline]
     pub fn objects(&self) -> &Objects<A::Value, M>
         ensures { result.now.values ≡ self.now.objects }

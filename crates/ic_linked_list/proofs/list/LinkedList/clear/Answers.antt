@@ -3,7 +3,7 @@ use Rattle.ic_unsafe_ref.specs.declared.place.Place.{Place}
 use Rattle.ic_link_ops.specs.Tables.{IsCovered}
 use Rattle.ic_link_ops.proofs.DoublyLists.{between_linked}
 use Rattle.ic_link_ops.proofs.StepLemmas.{releases_append}
-use Rattle.ic_linked_list.proofs.Clearing.{releases_none, releases_more, releases_all, releases_fewer, stands}
+use Rattle.ic_linked_list.proofs.Clearing.{releases_none, releases_more, releases_all, releases_fewer, next_between}
 use Rattle.ic_linked_list.proofs.list.LinkedList.clear.Goals as goal
 use Rattle.ic_linked_list.proofs.list.LinkedList.clear.Given.{Over}
 
@@ -22,7 +22,7 @@ loop-current-init g c = record {
 pub next-current-requires : goal.next-current-requires
 next-current-requires g c =
     let k = (c.loop-current.invariant.released c.requires.shown.0 c.requires.shown.1).0 in record {
-      linked = between_linked g.met.L.LinkedListOps.linked_alike _ _ _ (stands (rw c.in-Some.is at k));
+      linked = between_linked g.met.L.LinkedListOps.linked_alike _ _ _ (next_between (rw c.in-Some.is at k));
     }
 
 pub loop-current-smaller : goal.loop-current-smaller

@@ -1,7 +1,7 @@
 use Rattle.std.proofs.Common.{◌≡◌, None, List, length}
 use Rattle.ic_unsafe_ref.specs.declared.place.Place.{Place}
 use Rattle.ic_link_ops.specs.LinkSteps.{releases_each}
-use Rattle.ic_link_ops.specs.LinkedList.{Shows, between}
+use Rattle.ic_link_ops.specs.LinkedList.{Shows, members_between}
 use Rattle.ic_linked_list.proofs.Clearing.{Releases}
 use Rattle.ic_linked_list.proofs.list.LinkedList.clear.Given as goal
 
@@ -14,4 +14,4 @@ invariant-loop-current g l = record {
 }
 
 abbrev pub decreases-loop-current : goal.decreases-loop-current
-decreases-loop-current g l = length (between g.L.LinkedListOps.neighbors (g.L.LinkOps.table l.links) l.current None)
+decreases-loop-current g l = length (members_between g.L.LinkedListOps.neighbors (g.L.LinkOps.table l.links) l.current None)

@@ -1,6 +1,6 @@
 use Rattle.std.proofs.Common.{◌∙◌, sym}
 use Rattle.ic_link_ops.proofs.SequenceLemmas.{first_of_back}
-use Rattle.ic_link_ops.proofs.ShownLists.{gap_linked, stands_before}
+use Rattle.ic_link_ops.proofs.ShownLists.{gap_linked, before_gap}
 use Rattle.ic_link_ops.proofs.DoublyLists.{between_linked}
 use Rattle.ic_link_ops.proofs.Positions.{moves_on}
 use Rattle.ic_linked_list.proofs.list.LinkedList.next_of.Goals as goal
@@ -17,4 +17,4 @@ returns-in-None g c = moves_on c.requires.stands (λ gap shown after.
 
 pub returns-in-Some : goal.returns-in-Some
 returns-in-Some g c = moves_on c.requires.stands (λ gap shown after.
-    c.next.ensures ∙ (stands_before gap.front gap.back shown (sym c.in-Some.is ∙ after)).next)
+    c.next.ensures ∙ (before_gap gap.front gap.back shown (sym c.in-Some.is ∙ after)).next)

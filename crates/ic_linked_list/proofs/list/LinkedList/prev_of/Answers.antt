@@ -1,6 +1,6 @@
 use Rattle.std.proofs.Common.{◌∙◌, sym}
 use Rattle.ic_link_ops.proofs.SequenceLemmas.{last_of_front}
-use Rattle.ic_link_ops.proofs.ShownLists.{gap_linked, stands_behind}
+use Rattle.ic_link_ops.proofs.ShownLists.{gap_linked, behind_gap}
 use Rattle.ic_link_ops.proofs.DoublyLists.{between_linked}
 use Rattle.ic_link_ops.proofs.Positions.{moves_back}
 use Rattle.ic_linked_list.proofs.list.LinkedList.prev_of.Goals as goal
@@ -17,4 +17,4 @@ returns-in-None g c = moves_back c.requires.stands (λ gap shown before.
 
 pub returns-in-Some : goal.returns-in-Some
 returns-in-Some g c = moves_back c.requires.stands (λ gap shown before.
-    c.prev.ensures ∙ (stands_behind gap.front gap.back shown (sym c.in-Some.is ∙ before)).prev)
+    c.prev.ensures ∙ (behind_gap gap.front gap.back shown (sym c.in-Some.is ∙ before)).prev)
