@@ -2,3 +2,4 @@ pub mod Walking
 pub mod Clearing
 pub mod Taking
 pub mod WalkLaws
+pub mod EditingWalks

@@ -4,3 +4,4 @@ pub mod LentTables
 pub mod Notes
 pub mod RecordedTables
 pub mod Race
+pub mod Retain

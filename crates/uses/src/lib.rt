@@ -10,3 +10,4 @@ pub mod pairs;
 pub mod queue;
 pub mod race;
 pub mod recorded_table;
+pub mod retain;

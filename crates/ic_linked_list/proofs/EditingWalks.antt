@@ -1,0 +1,76 @@
+-- A walk that edits on its way to null: what it has left behind, what it has taken off, and what is ahead of it.
+use Rattle.std.proofs.Common.{◌≡◌, ◌∙◌, sym, refl, true, Option, Some, None, List, [], ◌∷◌, ◌++◌, append_assoc}
+use Rattle.ic_unsafe_ref.specs.declared.place.Place.{Place}
+use Rattle.ic_link_ops.specs.Sequences.{Cut, first, last, IsAbsent}
+use Rattle.ic_link_ops.specs.Tables.{Table, IsCovered, KeepsBeside}
+use Rattle.ic_link_ops.specs.LinkSteps.{LinkStep, releases_each}
+use Rattle.ic_link_ops.specs.Chains.{Ends}
+use Rattle.ic_link_ops.specs.LinkedList.{Neighbors, IsBetween, Shows, next_of, members_between}
+use Rattle.ic_link_ops.specs.Positions.{Site, site, MovesOn}
+use Rattle.ic_link_ops.specs.EditsAt.{RemovesThere}
+use Rattle.ic_link_ops.proofs.SequenceLemmas.{absent_without, distinct_right, last_of_push}
+use Rattle.ic_link_ops.proofs.Chains.{chain_cut}
+use Rattle.ic_link_ops.proofs.StepLemmas.{releases_append}
+use Rattle.ic_link_ops.proofs.Walks.{walk_blind, stretch_through}
+
+module _ {L E : Type 0} (n : E → Neighbors) (table : L → Table E) (Does : L → L → List LinkStep → Type 0) where
+  -- from a table that showed s for the list, the walk has come here
+  pub record Walked (start : L) (s : List Place) (now : Site L Ends) (behind gone ahead : List Place) : Type 0 where
+    pub shown : Shows n (table now.links) now.head (behind ++ ahead)
+    pub here : now.position ≡ first ahead
+    pub steps : Does start now.links (releases_each gone)
+    pub frame : KeepsBeside (table start) (table now.links) s
+    pub within : (q : Place) → IsAbsent q s → IsAbsent q (behind ++ ahead)
+
+module _ {L E : Type 0} {n : E → Neighbors} {table : L → Table E} {Does : L → L → List LinkStep → Type 0} where
+  -- at first all is ahead
+  pub walk_begins : {now : Site L Ends} {s : List Place} → Does now.links now.links [] → Shows n (table now.links) now.head s → now.position ≡ first s
+      → Walked n table Does now.links s now [] [] s
+  walk_begins nothing shown here = record {
+    shown = shown;
+    here = here;
+    steps = nothing;
+    frame = record { extent = refl; others = λ q out. refl };
+    within = λ q out. out;
+  }
+
+  module _ {start : L} {s : List Place} {now : Site L Ends} {behind gone ahead : List Place} {p : Place} (w : Walked n table Does start s now behind gone (p ∷ ahead)) where
+    -- ONE STEP: the walk moves on, and the member is behind it
+    pub walk_leaves : {position : Option Place} → MovesOn (Shows n) table now position
+        → Walked n table Does start s (site now.links now.head position) (behind ++ p ∷ []) gone ahead
+    walk_leaves moves =
+        let gap : Cut = record { front = behind ++ p ∷ []; back = ahead } in
+        let same = append_assoc behind (p ∷ []) ahead in record {
+          shown = rw same w.shown;
+          here = moves.leads gap (rw same w.shown) (w.here ∙ sym (last_of_push behind p));
+          steps = w.steps;
+          frame = w.frame;
+          within = λ q out. rw same (w.within q out);
+        }
+
+    -- or it takes the member off
+    pub walk_takes : ((a b c : L) (u v : List LinkStep) → Does a b u → Does b c v → Does a c (u ++ v)) → {new : Site L Ends} {r : Option Place}
+        → RemovesThere (Shows n) table Does now r new → Walked n table Does start s new behind (gone ++ p ∷ []) ahead
+    walk_takes does_on {new} {r} e =
+        let is : r ≡ Some p = e.answer ∙ w.here in
+        let gap : Cut = record { front = behind; back = p ∷ ahead } in
+        let off = rw is at (e.removed gap w.shown w.here) in record {
+          shown = off.shows;
+          here = e.moved gap w.shown w.here;
+          steps = rw (releases_append gone (p ∷ [])) (does_on _ _ _ _ _ w.steps (rw is at e.released));
+          frame = record {
+            extent = off.frame.extent ∙ w.frame.extent;
+            others = λ q out. off.frame.others q (w.within q out) ∙ w.frame.others q out;
+          };
+          within = λ q out. absent_without behind ahead p q (w.within q out);
+        }
+
+  -- WHAT IS AHEAD is what the entries lead through, so each step leaves one less
+  pub ahead_is : {start : L} {s : List Place} {now : Site L Ends} {behind gone ahead : List Place}
+      → ((q : Place) → (n ((table now.links).entry q)).linked ≡ true → IsCovered (table now.links) q)
+      → Walked n table Does start s now behind gone ahead → members_between n (table now.links) now.position None ≡ ahead
+  ahead_is {now = now} {behind = behind} {ahead = ahead} covered w =
+      let t = table now.links in
+      walk_blind (λ e. (n e).next) t.entry t.extent.places None (last behind) now.position None
+      ∙ stretch_through {between = IsBetween n} (next_of n) (λ e a b h. h.next) t (λ q b a h. covered q h.linked) {b = last behind} {from = now.position} {to = last ahead}
+      (record { distinct = distinct_right behind ahead w.shown.distinct; chain = (chain_cut (IsBetween n) t.entry None behind ahead None w.shown.chain).1; starts = w.here; ends = refl })
