@@ -1,4 +1,6 @@
 pub mod Dealing
+pub mod Draining
+pub mod NothingLeft
 pub mod Outcomes
 pub mod PutBack
 pub mod RaceLemmas
