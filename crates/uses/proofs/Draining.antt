@@ -1,5 +1,5 @@
 -- Two lists: the members of the first are taken off it in order, and off the second, wherever they stand there.
-use Rattle.std.proofs.Common.{◌≡◌, Bool, Option, Some, None, List, [], ◌∷◌, ◌++◌, drop, refl, sym, ◌∙◌, append_assoc, append-nil}
+use Rattle.std.proofs.Common.{◌≡◌, Bool, Some, None, List, [], ◌∷◌, ◌++◌, drop, refl, sym, ◌∙◌, append_assoc, append-nil}
 use Rattle.ic_unsafe_ref.specs.declared.place.Place.{Place}
 use Rattle.ic_link_ops.specs.Sequences.{IsAbsent, first}
 use Rattle.ic_link_ops.specs.Tables.{Table, KeepsBeside, Unlinks}

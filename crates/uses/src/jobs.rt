@@ -73,9 +73,8 @@ pub fn take_next<T, A: Allocator, B: Allocator>(
     ready: &mut LinkedList<T>,
     ready_links: &mut LinkOps<B>,
 ) -> Option<UnsafeRef<T>>
-    requires shown { PlainShowsSome ready_links.old ready.old }
-    requires owner { (x : Place) (s : List Place) → PlainShows ready_links.old ready.old (x ∷ s)
-        → Stands neighbors_of (plain_table owned_links.old) owned.old (Some x) }
+    requires shown { (s : List Place) × PlainShows ready_links.old ready.old s
+        × IfSome (first s) (λ job. Stands neighbors_of (plain_table owned_links.old) owned.old (Some job)) }
     ensures answer { (s : List Place) → PlainShows ready_links.old ready.old s → result ≡ first s }
     ensures ready { (s : List Place) → PlainShows ready_links.old ready.old s
         → PlainShows ready_links.new ready.new (remove (at_front s)) }

@@ -1,6 +1,6 @@
-//! A cache, a queue and the first steps, over a table of three places, and a race for a place.
+//! A cache, two queues and the first steps, over tables of a few places, and a race for a place.
 
-ghost use Rattle.std.specs.Prelude.{◌≡◌, List, [], OnOk};
+ghost use Rattle.std.specs.Prelude.{◌≡◌, ◌∷◌, List, [], IfOk, IfSome, OnOk};
 ghost use Rattle.ic_unsafe_ref.specs.declared.place.Place.{Place};
 ghost use Rattle.ic_unsafe_ref.specs.Places.{index_of};
 ghost use Rattle.ic_link_ops.specs.Tables.{IsCovered};
@@ -18,7 +18,7 @@ use std::test::Fail;
 use uses::either_table::EitherTable;
 use uses::first_steps::first_steps;
 use uses::race::race;
-use uses::{deal, lent_table, lru, pairs, queue};
+use uses::{deal, jobs, lent_table, lru, pairs, queue};
 
 // Asserts that these places were found. The one assert of the tests.
 fn same(rt: &impl Abort, found: &[Option<Place>], wanted: &[usize]) {
@@ -33,6 +33,15 @@ fn covered(rt: &impl Abort, links: &LinkOps, index: usize) -> Place
 {
     let place = Place::new(index).expect(rt, "the index of a place");
     assert!(rt; place.index() < links.covers());
+    place
+}
+
+// The same of two tables.
+fn covered_by_both(rt: &impl Abort, first: &LinkOps, second: &LinkOps, index: usize) -> Place
+    ensures { IsCovered (plain_table first.now) result × IsCovered (plain_table second.now) result }
+{
+    let place = covered(rt, first, index);
+    assert!(rt; place.index() < second.covers());
     place
 }
 
@@ -236,5 +245,124 @@ fn members_are_dealt_from_both_ends(rt: HostRuntime) -> Result<(), Fail> {
     let at = |hand: &[UnsafeRef<usize>], index: usize| hand.get(index).map(|object| object.place());
     let [e, f, g, h] = [at(&fronts, 0), at(&fronts, 1), at(&backs, 0), at(&backs, 1)];
     same(&rt, &[a, b, c, d, e, f, g, h], &[0, 1, 3, 2, 0, 1, 3, 2]);
+    Ok(())
+}
+
+// Three jobs of one owner are submitted, and the second once more: it is refused, and the answer is its place.
+fn submit_three(
+    owned: &mut LinkedList<u64>,
+    owned_links: &mut LinkOps,
+    ready: &mut LinkedList<u64>,
+    ready_links: &mut LinkOps,
+    first: Place,
+    second: Place,
+    third: Place,
+) -> Result<Option<Place>, AlreadyLinked<u64>>
+    requires owned { PlainShows owned_links.old owned.old [] }
+    requires ready { PlainShows ready_links.old ready.old [] }
+    requires first { IsCovered (plain_table owned_links.old) first × IsCovered (plain_table ready_links.old) first }
+    requires second { IsCovered (plain_table owned_links.old) second × IsCovered (plain_table ready_links.old) second }
+    requires third { IsCovered (plain_table owned_links.old) third × IsCovered (plain_table ready_links.old) third }
+    ensures owned { IfOk result (λ again. IfSome again (λ place.
+        PlainShows owned_links.new owned.new (first ∷ second ∷ third ∷ []))) }
+    ensures ready { IfOk result (λ again. IfSome again (λ place.
+        PlainShows ready_links.new ready.new (first ∷ second ∷ third ∷ []))) }
+{
+    jobs::submit(
+        owned,
+        owned_links,
+        ready,
+        ready_links,
+        UnsafeRef::new(first),
+    )?;
+    jobs::submit(
+        owned,
+        owned_links,
+        ready,
+        ready_links,
+        UnsafeRef::new(second),
+    )?;
+    jobs::submit(
+        owned,
+        owned_links,
+        ready,
+        ready_links,
+        UnsafeRef::new(third),
+    )?;
+    match jobs::submit(
+        owned,
+        owned_links,
+        ready,
+        ready_links,
+        UnsafeRef::new(second),
+    ) {
+        Ok(()) => Ok(None),
+        Err(refused) => Ok(Some(refused.0.place())),
+    }
+}
+
+// Of three jobs the first waits until last, the next one is taken, and the first is cancelled: the one that was taken, and
+// the one that both lists have left, which the drain takes off.
+fn work_off(
+    owned: &mut LinkedList<u64>,
+    owned_links: &mut LinkOps,
+    ready: &mut LinkedList<u64>,
+    ready_links: &mut LinkOps,
+    first: Place,
+    second: Place,
+    third: Place,
+) -> [Option<Place>; 3]
+    requires owned { PlainShows owned_links.old owned.old (first ∷ second ∷ third ∷ []) }
+    requires ready { PlainShows ready_links.old ready.old (first ∷ second ∷ third ∷ []) }
+{
+    jobs::move_to_back(ready, ready_links, UnsafeRef::new(first));
+    let next = jobs::take_next(owned, owned_links, ready, ready_links);
+    jobs::cancel(
+        owned,
+        owned_links,
+        ready,
+        ready_links,
+        &UnsafeRef::new(first),
+    );
+    let left = owned.front(owned_links).get_ptr();
+    let waits = ready.front(ready_links).get_ptr();
+    jobs::drain(owned, owned_links, ready, ready_links);
+    let None = jobs::take_next(owned, owned_links, ready, ready_links) else {
+        return [None; 3];
+    };
+    [next.map(|job| job.place()), left, waits]
+}
+
+#[test]
+fn jobs_leave_both_lists(rt: HostRuntime) -> Result<(), Fail> {
+    let (mut owned_links, mut ready_links) = (LinkOps::new(rt.alloc()), LinkOps::new(rt.alloc()));
+    owned_links.cover(3)?;
+    ready_links.cover(3)?;
+    let (mut owned, mut ready) = (LinkedList::new(), LinkedList::new());
+    let first = covered_by_both(&rt, &owned_links, &ready_links, 2);
+    let second = covered_by_both(&rt, &owned_links, &ready_links, 0);
+    let third = covered_by_both(&rt, &owned_links, &ready_links, 1);
+    let again = submit_three(
+        &mut owned,
+        &mut owned_links,
+        &mut ready,
+        &mut ready_links,
+        first,
+        second,
+        third,
+    )?;
+    same(&rt, &[again], &[0]);
+    if again.is_some() {
+        let found = work_off(
+            &mut owned,
+            &mut owned_links,
+            &mut ready,
+            &mut ready_links,
+            first,
+            second,
+            third,
+        );
+        same(&rt, &found, &[0, 1, 1]);
+    }
     Ok(())
 }
