@@ -268,34 +268,12 @@ fn submit_three(
     ensures ready { IfOk result (λ again. IfSome again (λ place.
         PlainShows ready_links.new ready.new (first ∷ second ∷ third ∷ []))) }
 {
-    jobs::submit(
-        owned,
-        owned_links,
-        ready,
-        ready_links,
-        UnsafeRef::new(first),
-    )?;
-    jobs::submit(
-        owned,
-        owned_links,
-        ready,
-        ready_links,
-        UnsafeRef::new(second),
-    )?;
-    jobs::submit(
-        owned,
-        owned_links,
-        ready,
-        ready_links,
-        UnsafeRef::new(third),
-    )?;
-    match jobs::submit(
-        owned,
-        owned_links,
-        ready,
-        ready_links,
-        UnsafeRef::new(second),
-    ) {
+    let (one, two) = (UnsafeRef::new(first), UnsafeRef::new(second));
+    let (three, again) = (UnsafeRef::new(third), UnsafeRef::new(second));
+    jobs::submit(owned, owned_links, ready, ready_links, one)?;
+    jobs::submit(owned, owned_links, ready, ready_links, two)?;
+    jobs::submit(owned, owned_links, ready, ready_links, three)?;
+    match jobs::submit(owned, owned_links, ready, ready_links, again) {
         Ok(()) => Ok(None),
         Err(refused) => Ok(Some(refused.0.place())),
     }
@@ -317,13 +295,8 @@ fn work_off(
 {
     jobs::move_to_back(ready, ready_links, UnsafeRef::new(first));
     let next = jobs::take_next(owned, owned_links, ready, ready_links);
-    jobs::cancel(
-        owned,
-        owned_links,
-        ready,
-        ready_links,
-        &UnsafeRef::new(first),
-    );
+    let job = UnsafeRef::new(first);
+    jobs::cancel(owned, owned_links, ready, ready_links, &job);
     let left = owned.front(owned_links).get_ptr();
     let waits = ready.front(ready_links).get_ptr();
     jobs::drain(owned, owned_links, ready, ready_links);

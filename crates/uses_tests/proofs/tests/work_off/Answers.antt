@@ -21,8 +21,8 @@ cancel-requires c =
     let moved = (rw c.new.ensures at c.move_to_back.ensures.moved) [] (y ∷ z ∷ []) c.requires.ready in
     let took = c.take_next-next.ensures in
     let owned = (rw (took.answer (y ∷ z ∷ x ∷ []) moved) at took.owned) (x ∷ []) (z ∷ []) c.requires.owned in record {
-      owned_member = (record { front = x ∷ []; back = z ∷ [] }, owned, ap (λ p. Some p) c.new-2.ensures);
-      ready_member = (record { front = z ∷ x ∷ []; back = [] }, took.ready (y ∷ z ∷ x ∷ []) moved, ap (λ p. Some p) c.new-2.ensures);
+      owned_member = (record { front = x ∷ []; back = z ∷ [] }, owned, ap (λ p. Some p) c.new-job.ensures);
+      ready_member = (record { front = z ∷ x ∷ []; back = [] }, took.ready (y ∷ z ∷ x ∷ []) moved, ap (λ p. Some p) c.new-job.ensures);
     }
 
 pub drain-requires : goal.drain-requires
@@ -34,8 +34,8 @@ drain-requires c =
     let took = c.take_next-next.ensures in
     let owned = (rw (took.answer (y ∷ z ∷ x ∷ []) moved) at took.owned) (x ∷ []) (z ∷ []) c.requires.owned in
     let off = c.cancel.ensures in
-    let left = (rw c.new-2.ensures at off.owned) [] (z ∷ []) owned in
-    let waits = (rw c.new-2.ensures at off.ready) (z ∷ []) [] (took.ready (y ∷ z ∷ x ∷ []) moved) in
+    let left = (rw c.new-job.ensures at off.owned) [] (z ∷ []) owned in
+    let waits = (rw c.new-job.ensures at off.ready) (z ∷ []) [] (took.ready (y ∷ z ∷ x ∷ []) moved) in
     record { all_ready = (z ∷ [], z ∷ [], [], left, waits, ([], [], refl, refl)) }
 
 pub take_next-requires : goal.take_next-requires
@@ -47,6 +47,6 @@ take_next-requires c =
     let took = c.take_next-next.ensures in
     let owned = (rw (took.answer (y ∷ z ∷ x ∷ []) moved) at took.owned) (x ∷ []) (z ∷ []) c.requires.owned in
     let off = c.cancel.ensures in
-    let left = (rw c.new-2.ensures at off.owned) [] (z ∷ []) owned in
-    let waits = (rw c.new-2.ensures at off.ready) (z ∷ []) [] (took.ready (y ∷ z ∷ x ∷ []) moved) in
+    let left = (rw c.new-job.ensures at off.owned) [] (z ∷ []) owned in
+    let waits = (rw c.new-job.ensures at off.ready) (z ∷ []) [] (took.ready (y ∷ z ∷ x ∷ []) moved) in
     record { shown = ([], c.drain.ensures.ready (z ∷ []) (z ∷ []) [] left waits ([], [], refl, refl), tt) }
