@@ -55,6 +55,7 @@ pub fn submit<T, A: Allocator, B: Allocator>(
     ensures ready_frame { (s : List Place) → PlainShows ready_links.old ready.old s
         → KeepsBeside (plain_table ready_links.old) (plain_table ready_links.new) (job ∷ s) }
 {
+    // The second push is asked about first, so that nothing has to be undone.
     if ready_links.is_linked(job.place()) {
         return Err(AlreadyLinked(job));
     }
@@ -65,8 +66,8 @@ pub fn submit<T, A: Allocator, B: Allocator>(
 
 /// Takes the first ready job off both lists and answers it, or `None` if no job is ready. O(1).
 ///
-/// It asks that the table shows a sequence for the ready list, whose first job is in the list of this owner. Where no job
-/// is ready nothing has changed.
+/// It asks that the table shows a sequence for the ready list, whose first job, if there is one, is in the list of this
+/// owner. Where no job is ready nothing has changed.
 pub fn take_next<T, A: Allocator, B: Allocator>(
     owned: &mut LinkedList<T>,
     owned_links: &mut LinkOps<A>,
@@ -94,9 +95,9 @@ pub fn take_next<T, A: Allocator, B: Allocator>(
     Some(job)
 }
 
-/// Takes a job off both lists, wherever it stands in them. O(1).
+/// Takes a job off both lists, wherever it stands in them: all others keep their order in both. O(1).
 ///
-/// It asks that the job is a member of both.
+/// It asks that the job is a member of both, and is never refused.
 pub fn cancel<T, A: Allocator, B: Allocator>(
     owned: &mut LinkedList<T>,
     owned_links: &mut LinkOps<A>,
@@ -133,8 +134,8 @@ pub fn move_to_back<T, A: Allocator>(
     ensures moved { (front back : List Place) → PlainShows ready_links.old ready.old (front ++ job ∷ back)
         → PlainShows ready_links.new ready.new ((front ++ back) ++ job ∷ []) }
     ensures linked { KeepsLinked is_linked (plain_table ready_links.old) (plain_table ready_links.new) }
-    ensures frame { (front back : List Place) → PlainShows ready_links.old ready.old (front ++ job ∷ back)
-        → KeepsBeside (plain_table ready_links.old) (plain_table ready_links.new) (front ++ job ∷ back) }
+    ensures frame { (s : List Place) → PlainShows ready_links.old ready.old s
+        → KeepsBeside (plain_table ready_links.old) (plain_table ready_links.new) s }
 {
     ready.remove(ready_links, &job);
     let _ = ready.push_back(ready_links, job);
@@ -154,9 +155,10 @@ pub fn drain<T, A: Allocator, B: Allocator>(
     ensures owned { owned.new ≡ no_members }
     ensures ready { (jobs all rest : List Place) → PlainShows owned_links.old owned.old jobs
         → PlainShows ready_links.old ready.old all → IsWithout rest all jobs → PlainShows ready_links.new ready.new rest }
-    ensures unlinked { (jobs : List Place) → PlainShows owned_links.old owned.old jobs
-        → Replays is_linked (plain_table owned_links.old) (plain_table owned_links.new) (releases_each jobs)
-        × Replays is_linked (plain_table ready_links.old) (plain_table ready_links.new) (releases_each jobs) }
+    ensures owned_unlinked { (jobs : List Place) → PlainShows owned_links.old owned.old jobs
+        → Replays is_linked (plain_table owned_links.old) (plain_table owned_links.new) (releases_each jobs) }
+    ensures ready_unlinked { (jobs : List Place) → PlainShows owned_links.old owned.old jobs
+        → Replays is_linked (plain_table ready_links.old) (plain_table ready_links.new) (releases_each jobs) }
     ensures owned_frame { (s : List Place) → PlainShows owned_links.old owned.old s
         → KeepsBeside (plain_table owned_links.old) (plain_table owned_links.new) s }
     ensures ready_frame { (s : List Place) → PlainShows ready_links.old ready.old s

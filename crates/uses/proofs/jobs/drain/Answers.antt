@@ -51,11 +51,15 @@ ended g c jobs all rest shown besides without =
 pub returns-clause-ready : goal.returns-clause-ready
 returns-clause-ready g c jobs all rest shown besides without = (ended g c jobs all rest shown besides without).1.shown
 
-pub returns-clause-unlinked : goal.returns-clause-unlinked
-returns-clause-unlinked g c jobs shown =
+pub returns-clause-owned_unlinked : goal.returns-clause-owned_unlinked
+returns-clause-owned_unlinked g c jobs shown =
     let r = c.requires.all_ready in
-    let k = ended g c r.0 r.1 r.2 r.3 r.4 r.5 in
-    rw (one_sequence_is_shown (doubly_lists (λ e. refl)) shown r.3) (k.0.steps, k.1.steps)
+    rw (one_sequence_is_shown (doubly_lists (λ e. refl)) shown r.3) (ended g c r.0 r.1 r.2 r.3 r.4 r.5).0.steps
+
+pub returns-clause-ready_unlinked : goal.returns-clause-ready_unlinked
+returns-clause-ready_unlinked g c jobs shown =
+    let r = c.requires.all_ready in
+    rw (one_sequence_is_shown (doubly_lists (λ e. refl)) shown r.3) (ended g c r.0 r.1 r.2 r.3 r.4 r.5).1.steps
 
 pub returns-clause-owned_frame : goal.returns-clause-owned_frame
 returns-clause-owned_frame g c jobs shown =
