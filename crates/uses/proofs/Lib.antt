@@ -1,3 +1,4 @@
+pub mod CutShown
 pub mod Dealing
 pub mod Draining
 pub mod NothingLeft
