@@ -1,4 +1,7 @@
+pub mod CutShown
 pub mod Dealing
+pub mod Draining
+pub mod NothingLeft
 pub mod Outcomes
 pub mod PutBack
 pub mod RaceLemmas

@@ -1,5 +1,6 @@
 pub mod EitherTables
 pub mod Hands
+pub mod Jobs
 pub mod LentTables
 pub mod Notes
 pub mod RecordedTables

@@ -4,6 +4,7 @@
 pub mod deal;
 pub mod either_table;
 pub mod first_steps;
+pub mod jobs;
 pub mod lent_table;
 pub mod lru;
 pub mod pairs;

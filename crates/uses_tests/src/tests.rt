@@ -1,10 +1,10 @@
-//! A cache, a queue and the first steps, over a table of three places, and a race for a place.
+//! A cache, two queues and the first steps, over tables of a few places, and a race for a place.
 
-ghost use Rattle.std.specs.Prelude.{◌≡◌, List, [], OnOk};
+ghost use Rattle.std.specs.Prelude.{◌≡◌, ◌∷◌, List, [], IfOk, IfSome, OnOk};
 ghost use Rattle.ic_unsafe_ref.specs.declared.place.Place.{Place};
 ghost use Rattle.ic_unsafe_ref.specs.Places.{index_of};
 ghost use Rattle.ic_link_ops.specs.Tables.{IsCovered};
-ghost use Rattle.ic_link_ops.specs.DoublyEntries.{plain_table, PlainShows};
+ghost use Rattle.ic_link_ops.specs.DoublyEntries.{plain_table, PlainShows, PlainShowsSome};
 ghost use Rattle.ic_linked_list.specs.Iter.{ShowsPlaced};
 
 use ic_atomic::Claims;
@@ -18,7 +18,8 @@ use std::test::Fail;
 use uses::either_table::EitherTable;
 use uses::first_steps::first_steps;
 use uses::race::race;
-use uses::{deal, lent_table, lru, pairs, queue};
+use uses::retain::retain;
+use uses::{deal, jobs, lent_table, lru, pairs, queue};
 
 // Asserts that these places were found. The one assert of the tests.
 fn same(rt: &impl Abort, found: &[Option<Place>], wanted: &[usize]) {
@@ -33,6 +34,15 @@ fn covered(rt: &impl Abort, links: &LinkOps, index: usize) -> Place
 {
     let place = Place::new(index).expect(rt, "the index of a place");
     assert!(rt; place.index() < links.covers());
+    place
+}
+
+// The same of two tables.
+fn covered_by_both(rt: &impl Abort, first: &LinkOps, second: &LinkOps, index: usize) -> Place
+    ensures { IsCovered (plain_table first.now) result × IsCovered (plain_table second.now) result }
+{
+    let place = covered(rt, first, index);
+    assert!(rt; place.index() < second.covers());
     place
 }
 
@@ -221,6 +231,21 @@ fn show_two_each<'a>(
     Ok([at(&fronts, 0), at(&fronts, 1), at(&backs, 0), at(&backs, 1)])
 }
 
+// The first two members that are dealt to each of two hands, the fronts' first.
+fn deal_two_each(
+    alloc: Global,
+    list: LinkedList<usize>,
+    links: &mut LinkOps,
+) -> Result<[Option<Place>; 4], AllocError>
+    requires shown { PlainShowsSome links.old list }
+{
+    let mut fronts = Vec::new(alloc);
+    let mut backs = Vec::new(alloc);
+    deal::deal(list, links, &mut fronts, &mut backs)?;
+    let at = |hand: &[UnsafeRef<usize>], index: usize| hand.get(index).map(|object| object.place());
+    Ok([at(&fronts, 0), at(&fronts, 1), at(&backs, 0), at(&backs, 1)])
+}
+
 #[test]
 fn members_are_dealt_from_both_ends(rt: HostRuntime) -> Result<(), Fail> {
     let mut links = LinkOps::new(rt.alloc());
@@ -229,11 +254,112 @@ fn members_are_dealt_from_both_ends(rt: HostRuntime) -> Result<(), Fail> {
     let mut list = LinkedList::new();
     place_each(&rt, &mut list, &mut links, &mut objects, 4)?;
     let [a, b, c, d] = show_two_each(rt.alloc(), &list, &links, &objects)?;
-    let mut fronts = Vec::new(rt.alloc());
-    let mut backs = Vec::new(rt.alloc());
-    deal::deal(list, &mut links, &mut fronts, &mut backs)?;
-    let at = |hand: &[UnsafeRef<usize>], index: usize| hand.get(index).map(|object| object.place());
-    let [e, f, g, h] = [at(&fronts, 0), at(&fronts, 1), at(&backs, 0), at(&backs, 1)];
+    let [e, f, g, h] = deal_two_each(rt.alloc(), list, &mut links)?;
     same(&rt, &[a, b, c, d, e, f, g, h], &[0, 1, 3, 2, 0, 1, 3, 2]);
+    Ok(())
+}
+
+#[test]
+fn what_fails_the_test_leaves(rt: HostRuntime) -> Result<(), Fail> {
+    let mut links = LinkOps::new(rt.alloc());
+    links.cover(5)?;
+    let mut objects = Objects::new(rt.alloc());
+    let mut list = LinkedList::new();
+    place_each(&rt, &mut list, &mut links, &mut objects, 5)?;
+    retain(&mut list, &mut links, &objects, |object| object % 2 == 1);
+    let left = deal_two_each(rt.alloc(), list, &mut links)?;
+    same(&rt, &left, &[1, Place::COUNT, 3, Place::COUNT]); // there is no place with that index
+    Ok(())
+}
+
+// Three jobs of one owner are submitted, and the second once more: it is refused, and the answer is its place.
+fn submit_three(
+    owned: &mut LinkedList<u64>,
+    owned_links: &mut LinkOps,
+    ready: &mut LinkedList<u64>,
+    ready_links: &mut LinkOps,
+    first: Place,
+    second: Place,
+    third: Place,
+) -> Result<Option<Place>, AlreadyLinked<u64>>
+    requires owned { PlainShows owned_links.old owned.old [] }
+    requires ready { PlainShows ready_links.old ready.old [] }
+    requires first { IsCovered (plain_table owned_links.old) first × IsCovered (plain_table ready_links.old) first }
+    requires second { IsCovered (plain_table owned_links.old) second × IsCovered (plain_table ready_links.old) second }
+    requires third { IsCovered (plain_table owned_links.old) third × IsCovered (plain_table ready_links.old) third }
+    ensures owned { IfOk result (λ again. IfSome again (λ place.
+        PlainShows owned_links.new owned.new (first ∷ second ∷ third ∷ []))) }
+    ensures ready { IfOk result (λ again. IfSome again (λ place.
+        PlainShows ready_links.new ready.new (first ∷ second ∷ third ∷ []))) }
+{
+    let (one, two) = (UnsafeRef::new(first), UnsafeRef::new(second));
+    let (three, again) = (UnsafeRef::new(third), UnsafeRef::new(second));
+    jobs::submit(owned, owned_links, ready, ready_links, one)?;
+    jobs::submit(owned, owned_links, ready, ready_links, two)?;
+    jobs::submit(owned, owned_links, ready, ready_links, three)?;
+    match jobs::submit(owned, owned_links, ready, ready_links, again) {
+        Ok(()) => Ok(None),
+        Err(refused) => Ok(Some(refused.0.place())),
+    }
+}
+
+// Of three jobs the first waits until last, the next one is taken, and the first is cancelled: the one that was taken, and
+// the one that both lists have left, which the drain takes off.
+fn work_off(
+    owned: &mut LinkedList<u64>,
+    owned_links: &mut LinkOps,
+    ready: &mut LinkedList<u64>,
+    ready_links: &mut LinkOps,
+    first: Place,
+    second: Place,
+    third: Place,
+) -> [Option<Place>; 3]
+    requires owned { PlainShows owned_links.old owned.old (first ∷ second ∷ third ∷ []) }
+    requires ready { PlainShows ready_links.old ready.old (first ∷ second ∷ third ∷ []) }
+{
+    jobs::move_to_back(ready, ready_links, UnsafeRef::new(first));
+    let next = jobs::take_next(owned, owned_links, ready, ready_links);
+    let job = UnsafeRef::new(first);
+    jobs::cancel(owned, owned_links, ready, ready_links, &job);
+    let left = owned.front(owned_links).get_ptr();
+    let waits = ready.front(ready_links).get_ptr();
+    jobs::drain(owned, owned_links, ready, ready_links);
+    let None = jobs::take_next(owned, owned_links, ready, ready_links) else {
+        return [None; 3];
+    };
+    [next.map(|job| job.place()), left, waits]
+}
+
+#[test]
+fn jobs_leave_both_lists(rt: HostRuntime) -> Result<(), Fail> {
+    let (mut owned_links, mut ready_links) = (LinkOps::new(rt.alloc()), LinkOps::new(rt.alloc()));
+    owned_links.cover(3)?;
+    ready_links.cover(3)?;
+    let (mut owned, mut ready) = (LinkedList::new(), LinkedList::new());
+    let first = covered_by_both(&rt, &owned_links, &ready_links, 2);
+    let second = covered_by_both(&rt, &owned_links, &ready_links, 0);
+    let third = covered_by_both(&rt, &owned_links, &ready_links, 1);
+    let again = submit_three(
+        &mut owned,
+        &mut owned_links,
+        &mut ready,
+        &mut ready_links,
+        first,
+        second,
+        third,
+    )?;
+    same(&rt, &[again], &[0]);
+    if again.is_some() {
+        let found = work_off(
+            &mut owned,
+            &mut owned_links,
+            &mut ready,
+            &mut ready_links,
+            first,
+            second,
+            third,
+        );
+        same(&rt, &found, &[0, 1, 1]);
+    }
     Ok(())
 }

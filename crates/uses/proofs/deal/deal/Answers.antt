@@ -1,21 +1,10 @@
-use Rattle.std.proofs.Common.{◌≡◌, inl, inr, None, List, [], ◌∷◌, refl, sym}
+use Rattle.std.proofs.Common.{◌≡◌, inl, inr, []}
 use Rattle.std.proofs.lemmas.Result.{on_ok_weaker}
-use Rattle.ic_unsafe_ref.specs.declared.place.Place.{Place}
-use Rattle.ic_link_ops.specs.Sequences.{first, last}
-use Rattle.ic_link_ops.proofs.SequenceLemmas.{none_not, last_some}
 use Rattle.ic_linked_list.specs.IntoIter.{TakesFirst, TakesLast}
 use Rattle.ic_linked_list.proofs.WalkLaws.{two_ended_taking}
 use Rattle.uses.proofs.Dealing.{all_dealt}
+use Rattle.uses.proofs.NothingLeft.{nothing_first, nothing_last}
 use Rattle.uses.proofs.deal.deal.Goals as goal
-
--- what has no first has nothing, and what has no last neither
-nothing_first : (w : List Place) → None ≡ first w → w ≡ []
-nothing_first [] h = refl
-nothing_first (x ∷ w) h = absurd (none_not x h)
-
-nothing_last : (w : List Place) → None ≡ last w → w ≡ []
-nothing_last [] h = refl
-nothing_last (x ∷ w) h = absurd (last_some x w (sym h))
 
 pub returns-clause-dealt : goal.returns-clause-dealt
 returns-clause-dealt g c s shown =
