@@ -42,6 +42,14 @@ all_placed : {T : Type 0} (objects : Objects T) (s : List Place) (p : Place) →
 all_placed objects [] p h here = (here, tt)
 all_placed objects (x ∷ s) p h here = (h.0, all_placed objects s p h.1 here)
 
+-- AFTER `from_box`: those that were placed are, and so is the new object
+pub placed_with : {T : Type 0} {old new : Objects T} {p : Place} {v : T} → Places old new p v → (s : List Place) → ArePlaced old s
+    → ArePlaced new (s ++ p ∷ []) × (values_at new (s ++ p ∷ []) ≡ values_at old s ++ v ∷ [])
+placed_with {old = old} {new} {p} places s placed =
+    let there = placed_there places in
+    let same = same_values old new s (λ q member stood. others_placed places q (stood_elsewhere places q stood)) placed in
+    (all_placed new s p same.0 (rw there refl), filter_map-append (object_at new) s (p ∷ []) ∙ rw (there, same.1) refl)
+
 -- the first of them
 first_is_some : {T : Type 0} (o : Option T) (l : List T) {v : T} {values : List T} → IsSome o → cons_option o l ≡ v ∷ values → (o ≡ Some v) × (l ≡ values)
 first_is_some (Some x) l h e = ((cc), (cc))
@@ -88,14 +96,13 @@ module _ {E T : Type 0} {n : E → Neighbors} {linked : E → Bool} where
   has_pushed {t0} {t1} {list0} {list1} {old} {new} {values} {all} {p} {v} Same r has places inserted acquired refused more =
       let off = has.vacant p places.vacant in
       let links : LinksAlso linked t0 t1 p = accepted Same r off refused acquired in
-      let there = placed_there places in
-      let same = same_values old new has.members (λ q member stood. others_placed places q (stood_elsewhere places q stood)) has.placed in record {
+      let with = placed_with places has.members has.placed in record {
         members = has.members ++ p ∷ [];
         shown = accepted Same r off refused (inserted has.members has.shown);
-        placed = all_placed new has.members p same.0 (rw there refl);
-        are = filter_map-append (object_at new) has.members (p ∷ []) ∙ rw (there, same.1, has.are, more) refl;
+        placed = with.0;
+        are = with.1 ∙ rw (has.are, more) refl;
         vacant = λ q none.
-            let other : q ≢ p = λ e. let never = sym none ∙ ap (object_at new) e ∙ there in absurd (cc) in
+            let other : q ≢ p = λ e. let never = sym none ∙ ap (object_at new) e ∙ placed_there places in absurd (cc) in
             links.others q other ∙ has.vacant q (sym (others_placed places q other) ∙ none);
       }
 
