@@ -1,3 +1,4 @@
 pub mod PlaceLemmas
 pub mod OrderLemmas
 pub mod ObjectLemmas
+pub mod Placing

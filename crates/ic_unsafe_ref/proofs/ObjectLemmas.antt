@@ -16,10 +16,10 @@ use Rattle.slab.specs.Slab.{Slab, Updates, ContainsKey, entries, entries_from, g
 use Rattle.slab.proofs.SlabLemmas.{Updates-with_value}
 use borrow.Follows.Closed.{read_of}
 
-tied : (q k : ℕ) → q ≡ k → eq_by_cmp nat_cmp q k ≡ true
+pub tied : (q k : ℕ) → q ≡ k → eq_by_cmp nat_cmp q k ≡ true
 tied q k e = unsigned_tied q k ∙ eq-eqb q k e
 
-apart : (q k : ℕ) → q ≢ k → eq_by_cmp nat_cmp q k ≡ false
+pub apart : (q k : ℕ) → q ≢ k → eq_by_cmp nat_cmp q k ≡ false
 apart q k n = unsigned_tied q k ∙ ne_eqb q k n
 
 module _ {T : Type 0} where

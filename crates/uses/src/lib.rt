@@ -3,6 +3,7 @@
 
 pub mod deal;
 pub mod either_table;
+pub mod first_objects;
 pub mod first_steps;
 pub mod jobs;
 pub mod lent_table;

@@ -12,10 +12,12 @@ use ic_link_ops::AlreadyLinked;
 use ic_link_ops::linked_list::LinkOps;
 use ic_linked_list::LinkedList;
 use ic_unsafe_ref::{Objects, Place, UnsafeRef};
+use rationed::Rationed;
 use std::alloc::{AllocError, Global};
 use std::process::Abort;
 use std::test::Fail;
 use uses::either_table::EitherTable;
+use uses::first_objects::{ObjectsError, first_objects};
 use uses::first_steps::first_steps;
 use uses::race::race;
 use uses::retain::retain;
@@ -106,6 +108,29 @@ fn each_object_has_its_turn(rt: HostRuntime) -> Result<(), Fail> {
     let (first, second) = (covered(&rt, &links, 2), covered(&rt, &links, 0));
     let found = give_turns(&mut LinkedList::new(), &mut links, first, second)?;
     same(&rt, &found, &[2, 2, 0, 2, 0]);
+    Ok(())
+}
+
+// What two first objects come to where one request for memory is refused.
+fn refused(rt: &HostRuntime, request: u64) -> Option<ObjectsError> {
+    let short = Rationed::new(rt.alloc(), request);
+    first_objects(&short, 10, 20).err()
+}
+
+#[test]
+fn the_first_objects_are_seen_and_taken(rt: HostRuntime) -> Result<(), Fail> {
+    let (seen, taken, left) = first_objects(rt.alloc(), 10, 20).expect(&rt, "memory");
+    let found = [
+        seen.first().copied(),
+        seen.last().copied(),
+        Some(taken),
+        left,
+    ];
+    // The objects and the links can't do with less. The values seen ask once more, for no more than they need.
+    let refusals = [refused(&rt, 0), refused(&rt, 1), refused(&rt, 2)];
+    let wanting = Some(ObjectsError::OutOfMemory);
+    let as_said = found == [Some(10), Some(20), Some(10), Some(20)] && seen.len() == 2;
+    assert!(rt; as_said && refusals == [wanting, wanting, None]);
     Ok(())
 }
 

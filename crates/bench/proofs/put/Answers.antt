@@ -1,5 +1,5 @@
 use Rattle.ic_link_ops.specs.Sequences.{insert, at_back}
-use Rattle.uses.proofs.Outcomes.{either}
+use Rattle.ic_linked_list.proofs.Calling.{either}
 use Rattle.bench.proofs.put.Goals as goal
 
 pub returns : goal.returns

@@ -1,9 +1,9 @@
-use Rattle.std.proofs.Common.{◌≡◌, ◌++◌, ◌∷◌, sym, ◌∙◌, true, false}
+use Rattle.std.proofs.Common.{◌++◌, ◌∷◌}
 use Rattle.ic_unsafe_ref.specs.Places.{index_of}
 use Rattle.ic_link_ops.specs.DoublyEntries.{entries, linked_in_range}
 use Rattle.ic_link_ops.proofs.Covering.{still_covered}
 use Rattle.ic_link_ops.proofs.LinkedSets.{linked_again}
-use Rattle.uses.proofs.Outcomes.{either}
+use Rattle.ic_linked_list.proofs.Calling.{accepted}
 use Rattle.uses.proofs.PutBack.{kept_beside}
 use Rattle.uses.proofs.lru.touch.Goals as goal
 
@@ -21,15 +21,13 @@ pub returns-clause-touched : goal.returns-clause-touched
 returns-clause-touched g c front back shown =
     let put = c.push_front.ensures in
     let off = c.remove.ensures in
-    either _ c.push_front.result (put.inserted (front ++ back) (off.removed front back shown)) put.refused put.unchanged
-    (λ shown. shown) (λ refused same. let never : false ≡ true = sym off.released.is ∙ refused.0 in absurd (cc))
+    accepted _ c.push_front.result off.released.is put.refused (put.inserted (front ++ back) (off.removed front back shown))
 
 pub returns-clause-linked : goal.returns-clause-linked
 returns-clause-linked g c =
     let put = c.push_front.ensures in
     let off = c.remove.ensures in
-    either _ c.push_front.result put.acquired put.refused put.unchanged
-    (λ on. linked_again _ _ _ c.args.object off.released on) (λ refused same. let never : false ≡ true = sym off.released.is ∙ refused.0 in absurd (cc))
+    linked_again _ _ _ c.args.object off.released (accepted _ c.push_front.result off.released.is put.refused put.acquired)
 
 pub returns-clause-frame : goal.returns-clause-frame
 returns-clause-frame g c front back shown =
