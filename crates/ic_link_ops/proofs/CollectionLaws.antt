@@ -1,9 +1,10 @@
 -- What follows for collections of every kind from five facts, which each kind brings.
-use Rattle.std.proofs.Common.{◌≡◌, ◌∙◌, Bool, Option, List, [], append-nil}
+use Rattle.std.proofs.Common.{◌≡◌, Bool, Option, List, [], append-nil}
 use Rattle.ic_unsafe_ref.specs.declared.place.Place.{Place}
 use Rattle.ic_link_ops.specs.Sequences.{Cut, join, at_back, IsAbsent, IsDistinct, IsAfter, IsDisjoint}
 use Rattle.ic_link_ops.specs.Tables.{Table, KeepsBeside, IsUnlinked}
 use Rattle.ic_link_ops.specs.Edits.{Splices, Splits}
+use Rattle.ic_link_ops.proofs.Covering.{frames_join}
 use Rattle.ic_link_ops.proofs.SequenceLemmas.{disjoint_sym, distinct_disjoint}
 
 -- what a kind brings: a collection keeps its sequence where only other entries change, what is unlinked is no member, no place
@@ -41,8 +42,5 @@ module _ {E H : Type 0} {Shows : Table E → H → List Place → Type 0} {linke
       let apart = disjoint_sym gap.front gap.back (distinct_disjoint gap.front gap.back (kind.distinct t list (join gap) shown)) in
       let whole = splices (at_back gap.front) gap.back (rw (append-nil gap.front) parts.keeps) after parts.hands_out (rw (append-nil gap.front) apart) in (
         rw (append-nil gap.back) at whole.shows,
-        record {
-          extent = whole.frame.extent ∙ parts.frame.extent;
-          others = λ q out. whole.frame.others q (rw (append-nil gap.back) out) ∙ parts.frame.others q out;
-        },
+        frames_join parts.frame whole.frame (λ q out. rw (append-nil gap.back) out),
       )

@@ -8,6 +8,7 @@ use Rattle.ic_link_ops.specs.Chains.{Ends}
 use Rattle.ic_link_ops.specs.LinkedList.{Neighbors, IsBetween, Shows, next_of, members_between}
 use Rattle.ic_link_ops.specs.Positions.{Site, site, MovesOn}
 use Rattle.ic_link_ops.specs.EditsAt.{RemovesThere}
+use Rattle.ic_link_ops.proofs.Covering.{frames_join}
 use Rattle.ic_link_ops.proofs.SequenceLemmas.{absent_without, distinct_right, last_of_push}
 use Rattle.ic_link_ops.proofs.Chains.{chain_cut}
 use Rattle.ic_link_ops.proofs.StepLemmas.{releases_append}
@@ -58,10 +59,7 @@ module _ {L E : Type 0} {n : E → Neighbors} {table : L → Table E} {Does : L 
           shown = off.shows;
           here = e.moved gap w.shown w.here;
           steps = rw (releases_append gone (p ∷ [])) (does_on _ _ _ _ _ w.steps (rw is at e.released));
-          frame = record {
-            extent = off.frame.extent ∙ w.frame.extent;
-            others = λ q out. off.frame.others q (w.within q out) ∙ w.frame.others q out;
-          };
+          frame = frames_join w.frame off.frame w.within;
           within = λ q out. absent_without behind ahead p q (w.within q out);
         }
 

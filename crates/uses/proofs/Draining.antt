@@ -7,6 +7,7 @@ use Rattle.ic_link_ops.specs.LinkSteps.{releases, releases_each, Replays}
 use Rattle.ic_link_ops.specs.StepLaws.{replays_on}
 use Rattle.ic_link_ops.specs.Chains.{Ends}
 use Rattle.ic_link_ops.specs.LinkedList.{Neighbors, Shows}
+use Rattle.ic_link_ops.proofs.Covering.{frames_join}
 use Rattle.ic_link_ops.proofs.SequenceLemmas.{absent_without, first_is}
 use Rattle.ic_link_ops.proofs.StepLemmas.{releases_append}
 use Rattle.uses.specs.Jobs.{IsWithout}
@@ -40,7 +41,7 @@ module _ {E : Type 0} {n : E → Neighbors} {linked : E → Bool} where
   one_off {t} {t'} {t''} {off = off} front back p was cut shown unlinks keeps = record {
     shown = shown;
     steps = rw (releases_append off (p ∷ [])) (replays_on linked (releases_each off) (releases p ∷ []) t t' t'' was.steps unlinks);
-    frame = record { extent = keeps.extent ∙ was.frame.extent; others = λ q out. keeps.others q (was.within q out) ∙ was.frame.others q out };
+    frame = frames_join was.frame keeps was.within;
     within = λ q out. absent_without front back p q (rw (← cut) (was.within q out));
   }
 

@@ -11,13 +11,16 @@ use ic_link_ops::linked_list::LinkOps;
 use ic_linked_list::LinkedList;
 use ic_unsafe_ref::{Objects, UnsafeRef};
 use std::alloc::{AllocError, Allocator};
+use thiserror::Error;
 
 /// Why an object was not placed.
-#[derive(Clone, Copy, PartialEq, Eq, Debug)]
+#[derive(Clone, Copy, PartialEq, Eq, Debug, Error)]
 pub enum ObjectsError {
     /// There was no memory, for the object, for its link or for what was asked of it.
+    #[error("OutOfMemory")]
     OutOfMemory,
     /// There is no place left.
+    #[error("NoPlaceLeft")]
     NoPlaceLeft,
 }
 
@@ -47,6 +50,7 @@ impl From<CoverError> for ObjectsError {
 ///
 /// It makes the objects, the table and the list, and they are gone when it returns. Where no memory is found, or no place
 /// is left, that is the answer, and nothing remains either. No link is refused. O(1).
+#[tactic(auto, using(ic_linked_list::proofs::ListedValues::has_placed))]
 pub fn first_objects<A: Allocator + Copy>(
     alloc: A,
     first: u64,

@@ -1,4 +1,5 @@
 use Rattle.std.proofs.Common.{[], ◌∷◌, ◌∙◌}
+use Rattle.ic_link_ops.proofs.Covering.{frames_join}
 use Rattle.ic_link_ops.specs.Sequences.{insert, at_back}
 use Rattle.ic_link_ops.specs.DoublyEntries.{entries, is_linked, table_of}
 use Rattle.ic_link_ops.proofs.SequenceLemmas.{last_of_push, but_last_of_push, absent_both}
@@ -23,7 +24,5 @@ returns-clause-linked g c q =
 pub returns-clause-frame : goal.returns-clause-frame
 returns-clause-frame g c s shown =
     let put = c.in-Ok.ensures.frame s shown in
-    let taken = c.pop_back.ensures.frame (insert (at_back s) c.args.object) (c.in-Ok.ensures.inserted s shown) in record {
-      extent = taken.extent ∙ put.extent;
-      others = λ q out. taken.others q (absent_both q s (c.args.object ∷ []) out.1 (out.0, tt)) ∙ put.others q out;
-    }
+    let taken = c.pop_back.ensures.frame (insert (at_back s) c.args.object) (c.in-Ok.ensures.inserted s shown) in
+    frames_join put taken (λ q out. absent_both q s (c.args.object ∷ []) out.1 (out.0, tt))

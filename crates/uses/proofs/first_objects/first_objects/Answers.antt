@@ -3,7 +3,7 @@ use Rattle.std.proofs.lemmas.List.{take_more}
 use Rattle.std.proofs.lemmas.Iterator.{items_from_collect}
 use Rattle.ic_link_ops.specs.DoublyEntries.{neighbors_of, plain_table}
 use Rattle.ic_linked_list.proofs.Calling.{walk_copied}
-use Rattle.ic_linked_list.proofs.ListedValues.{has_covered, has_pushed, has_placed, has_all, has_first, has_taken}
+use Rattle.ic_linked_list.proofs.ListedValues.{has_covered, has_pushed, has_all, has_first, has_taken}
 use Rattle.uses.proofs.first_objects.first_objects.Goals as goal
 
 pub loop-value-preserved : goal.loop-value-preserved
@@ -11,9 +11,6 @@ loop-value-preserved g c =
     let put = c.push_back.ensures in
     has_pushed _ _ (has_covered c.in_ok-cover.ensures.stays c.loop-value.invariant) c.in_ok-object.ensures.placed put.inserted put.acquired put.refused
     (take_more _ c.loop-value.value-index 0 c.loop-value-test.true)
-
-pub iter-requires : goal.iter-requires
-iter-requires g c = record { placed = has_placed c.loop-value.invariant }
 
 pub unwrap-oldest-requires : goal.unwrap-oldest-requires
 unwrap-oldest-requires g c = (has_first (has_all c.loop-value.invariant c.loop-value-test.false) c.pop_front.ensures.answer).0
