@@ -1,4 +1,4 @@
-//! Worked rows of the plain tables, of their words and of the errors.
+//! Worked rows of places, of objects and of references, and of the plain tables, of their words and of the errors.
 #![tactic(auto)]
 
 #[cfg(test)]
@@ -9,6 +9,10 @@ mod any_table;
 mod errors;
 #[cfg(test)]
 mod kinds;
+#[cfg(test)]
+mod objects;
+#[cfg(test)]
+mod places;
 #[cfg(test)]
 mod table;
 #[cfg(test)]
