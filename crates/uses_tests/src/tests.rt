@@ -218,6 +218,25 @@ fn just_one_of_two_threads_claims_a_place(rt: HostRuntime) -> Result<(), Fail> {
     Ok(())
 }
 
+// An object that waits in one queue goes to the back of another: its place.
+fn hand_one_over(links: &mut LinkOps, object: Place) -> Result<Option<Place>, AlreadyLinked<u64>>
+    requires covered { IsCovered (plain_table links.old) object }
+{
+    let mut from = LinkedList::new();
+    let mut to = LinkedList::new();
+    from.push_back(links, UnsafeRef::new(object))?;
+    Ok(queue::hand_over(&mut from, &mut to, links))
+}
+
+#[test]
+fn an_object_waits_in_another_queue(rt: HostRuntime) -> Result<(), Fail> {
+    let mut links = LinkOps::new(rt.alloc());
+    links.cover(2)?;
+    let place = covered(&rt, &links, 1);
+    same(&rt, &[hand_one_over(&mut links, place)?], &[1]);
+    Ok(())
+}
+
 // Places objects, each the number of those before it, and pushes them to the back of a list, in order.
 fn place_each(
     rt: &impl Abort,
