@@ -1,15 +1,21 @@
 -- Doubly linked lists: their setters turn, what their entries tell, and their walks.
 use Rattle.std.proofs.Common.{◌≡◌, ◌≢◌, ◌≤◌, Option, Some, None, List, [], ◌∷◌, ◌++◌, reverse, length, Bool, true, refl, sym, ◌∙◌, ap}
 use Rattle.ic_unsafe_ref.specs.declared.place.Place.{Place}
-use Rattle.ic_link_ops.specs.Tables.{Table, IsCovered, ChangesOnly}
+use Rattle.ic_link_ops.specs.Tables.{Table, IsCovered, IsLinked, ChangesOnly}
 use Rattle.ic_link_ops.specs.Chains.{Ends, no_members}
 use Rattle.ic_link_ops.specs.Turns.{TurnsBehind, TurnsBefore}
 use Rattle.ic_link_ops.specs.Walk.{walked}
 use Rattle.ic_link_ops.specs.LinkedList.{Neighbors, neighbors_at, IsBetween, Shows, next_of, members_between, members, IsWalk}
+use Rattle.ic_link_ops.specs.DoublyEntries.{neighbors_of, is_linked}
 use Rattle.ic_link_ops.proofs.Turning.{turns_behind, turns_before}
 use Rattle.ic_link_ops.proofs.ShownLists.{shows_frame, shows_one, free_absent}
 use Rattle.ic_link_ops.proofs.CollectionLaws.{IsKind}
 use Rattle.ic_link_ops.proofs.Walks.{walk_blind, stretch_walked, stretch_length, stretch_one, stretch_more, stretch_less, stretch_none, stretch_empty, stretch_empty_back, stretch_of, stretch_mirrored, stretch_first, stretch_last}
+
+-- ONLY COVERED PLACES ARE LINKED, as neighbors say it too
+pub neighbors_covered : {L E : Type 0} {linked : E → Bool} (n : E → Neighbors) (table : L → Table E) → ((t : L) (q : Place) → IsLinked linked (table t) q → IsCovered (table t) q)
+    → ((e : E) → (n e).linked ≡ linked e) → (t : L) (q : Place) → (n ((table t).entry q)).linked ≡ true → IsCovered (table t) q
+neighbors_covered n table covered alike t q h = covered t q (sym (alike _) ∙ h)
 
 module _ {E : Type 0} {n : E → Neighbors} where
   -- EACH SETTER gives a turn, whatever stood there
@@ -107,3 +113,7 @@ doubly_lists {n = n} alike = record {
   nothing = λ t. record { distinct = tt; chain = tt; head = refl; tail = refl };
   one = λ t list s u shown other. shows_one (between_one {n = n}) shown other;
 }
+
+-- THE PLAIN TABLE brings them too
+pub plain_lists : IsKind (Shows neighbors_of) is_linked no_members
+plain_lists = doubly_lists (λ e. refl)

@@ -100,7 +100,7 @@ pub first_not : (s : List Place) (a : Option Place) (q : Place) → a ≢ Some q
 first_not [] a q n h e = n e
 first_not (x ∷ s) a q n h e = h.0 (cc)
 
-pub none_not : (q : Place) → None ≢ Some q
+pub none_not : {A : Type 0} (q : A) → None ≢ Some q
 none_not q e = cc
 
 -- what is no member is at neither side of a gap, and no neighbour of a member

@@ -13,12 +13,7 @@ use Rattle.ic_link_ops.specs.LinkedList.{IsChain}
 use Rattle.ic_link_ops.specs.LinkedList as list
 use Rattle.ic_link_ops.specs.DoublyEntries.{DoublyLink, DoublyLinkOps, neighbors_of, is_linked, entry_at, plain_table, linked_in_range}
 use Rattle.ic_link_ops.proofs.SequenceLemmas.{none_not}
-use Rattle.ic_link_ops.proofs.CollectionLaws.{IsKind}
-use Rattle.ic_link_ops.proofs.DoublyLists.{doubly_lists}
 use Rattle.ic_linked_list.specs.Iter.{ArePlaced}
-
-pub doubly : IsKind (list.Shows neighbors_of) is_linked no_members
-doubly = doubly_lists (λ e. refl)
 
 -- what a plain table's steps make of the linked places, and that its refusals change nothing
 pub replays : {A : Type 0} (x y : DoublyLinkOps A) (steps : List LinkStep) → Replays is_linked (plain_table x) (plain_table y) steps

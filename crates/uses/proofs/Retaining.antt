@@ -8,13 +8,10 @@ use Rattle.ic_link_ops.specs.Chains.{Ends}
 use Rattle.ic_link_ops.specs.LinkedList.{Neighbors, Shows, members_between}
 use Rattle.ic_link_ops.specs.Positions.{Site, site, MovesOn, object_there}
 use Rattle.ic_link_ops.specs.EditsAt.{RemovesThere}
+use Rattle.ic_link_ops.proofs.SequenceLemmas.{none_not}
 use Rattle.ic_linked_list.specs.Iter.{ArePlaced}
 use Rattle.ic_linked_list.proofs.EditingWalks.{Walked, walk_leaves, walk_takes, ahead_is}
 use Rattle.uses.specs.Retain.{Parts, TellsOf}
-
--- none is no object
-none_is_not : {T : Type 0} (x : T) → None ≡ Some x → ⊥
-none_is_not x e = cc
 
 module _ {L E T : Type 0} (n : E → Neighbors) (table : L → Table E) (Does : L → L → List LinkStep → Type 0) (objects : Objects T) (tells : T → Bool → Type 0) where
   -- the walk from a table that showed s is here, with these members ahead, and has kept and let go as the test told
@@ -34,7 +31,7 @@ module _ {L E T : Type 0} {n : E → Neighbors} {table : L → Table E} {Does : 
     pub retains_kept : (ahead : List Place) → Retains n table Does objects tells start s now ahead → object_there objects now.position ≡ Some x → tells x true
         → {position : Option Place} → MovesOn (Shows n) table now position
         → (p : Place) × (rest : List Place) × (ahead ≡ p ∷ rest) × Retains n table Does objects tells start s (site now.links now.head position) rest
-    retains_kept [] h there told moves = absurd (none_is_not x (sym (ap (object_there objects) h.walked.here) ∙ there))
+    retains_kept [] h there told moves = absurd (none_not x (sym (ap (object_there objects) h.walked.here) ∙ there))
     retains_kept (p ∷ rest) h there told moves =
         let is : object_at objects p ≡ Some x = sym (ap (object_there objects) h.walked.here) ∙ there in (
           p,
@@ -54,7 +51,7 @@ module _ {L E T : Type 0} {n : E → Neighbors} {table : L → Table E} {Does : 
         → (ahead : List Place) → Retains n table Does objects tells start s now ahead → object_there objects now.position ≡ Some x → tells x false
         → {new : Site L Ends} {r : Option Place} → RemovesThere (Shows n) table Does now r new
         → (p : Place) × (rest : List Place) × (ahead ≡ p ∷ rest) × Retains n table Does objects tells start s new rest
-    retains_gone does_on [] h there told removes = absurd (none_is_not x (sym (ap (object_there objects) h.walked.here) ∙ there))
+    retains_gone does_on [] h there told removes = absurd (none_not x (sym (ap (object_there objects) h.walked.here) ∙ there))
     retains_gone does_on (p ∷ rest) h there told removes =
         let is : object_at objects p ≡ Some x = sym (ap (object_there objects) h.walked.here) ∙ there in (
           p,
@@ -85,7 +82,7 @@ module _ {L E T : Type 0} {n : E → Neighbors} {table : L → Table E} {Does : 
       absurd (not_placed (object_at objects p) none h.placed.0) where
         not_placed : (o : Option T) → o ≡ None → IsSome o → ⊥
         not_placed None e h = cc
-        not_placed (Some y) e h = none_is_not y (sym e)
+        not_placed (Some y) e h = none_not y (sym e)
 
   -- a turn leaves less ahead
   pub ahead_less : {start start' : L} {s s' : List Place} {now new : Site L Ends} {ahead : List Place}

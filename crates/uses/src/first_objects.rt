@@ -4,7 +4,9 @@
 //! let (seen, taken, left) = first_objects(rt.alloc(), 10, 20)?; // [10, 20], 10, Some(20)
 //! ```
 
-ghost use Rattle.std.specs.Prelude.{◌≡◌, ◌∷◌, [], Some, IfOk};
+ghost use Rattle.std.specs.Prelude.{◌≡◌, ◌↔◌, ◌∷◌, [], Some, IfOk};
+ghost use Rattle.ic_link_ops.specs.declared.errors.CoverError.TheVariants.{TooManyPlaces};
+ghost use Rattle.uses.specs.declared.first_objects.ObjectsError.TheVariants.{OutOfMemory, NoPlaceLeft};
 
 use ic_link_ops::CoverError;
 use ic_link_ops::linked_list::LinkOps;
@@ -25,18 +27,24 @@ pub enum ObjectsError {
 }
 
 impl From<AllocError> for ObjectsError {
+    ghost from_gives = { λ _ e. e ≡ OutOfMemory };
+
     fn from(_: AllocError) -> ObjectsError {
         ObjectsError::OutOfMemory
     }
 }
 
 impl<T: Drop> From<(AllocError, T)> for ObjectsError {
+    ghost from_gives = { λ _ e. e ≡ OutOfMemory };
+
     fn from(_: (AllocError, T)) -> ObjectsError {
         ObjectsError::OutOfMemory
     }
 }
 
 impl From<CoverError> for ObjectsError {
+    ghost from_gives = { λ refused e. (refused ≡ TooManyPlaces) ↔ (e ≡ NoPlaceLeft) };
+
     fn from(refused: CoverError) -> ObjectsError {
         match refused {
             CoverError::TooManyPlaces => ObjectsError::NoPlaceLeft,

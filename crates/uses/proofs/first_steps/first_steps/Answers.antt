@@ -3,28 +3,25 @@ use Rattle.ic_link_ops.specs.Sequences.{at_front}
 use Rattle.ic_link_ops.specs.LinkedList.{Shows}
 use Rattle.ic_link_ops.specs.DoublyEntries.{entries, is_linked, neighbors_of, table_of}
 use Rattle.ic_link_ops.specs.Chains.{no_members}
-use Rattle.ic_link_ops.proofs.CollectionLaws.{IsKind, new_shows_nothing}
-use Rattle.ic_link_ops.proofs.DoublyLists.{doubly_lists}
+use Rattle.ic_link_ops.proofs.CollectionLaws.{new_shows_nothing}
+use Rattle.ic_link_ops.proofs.DoublyLists.{plain_lists}
 use Rattle.ic_link_ops.proofs.Covering.{still_covered}
 use Rattle.ic_link_ops.proofs.Positions.{stands_null}
 use Rattle.uses.proofs.first_steps.first_steps.Goals as goal
 
-doubly : IsKind (Shows neighbors_of) is_linked no_members
-doubly = doubly_lists (λ e. refl)
-
 pub push_back-requires-2-clause-covered : goal.push_back-requires-2-clause-covered
 push_back-requires-2-clause-covered g c =
-    let none : Shows neighbors_of (table_of (entries c.args.links)) c.new-list.result [] = rw c.new-list.ensures (new_shows_nothing doubly (table_of (entries c.args.links))) in
+    let none : Shows neighbors_of (table_of (entries c.args.links)) c.new-list.result [] = rw c.new-list.ensures (new_shows_nothing plain_lists (table_of (entries c.args.links))) in
     still_covered c.args.second (c.in_ok-push_back.ensures.frame [] none) c.requires.second
 
 pub push_back-requires-2-clause-shown : goal.push_back-requires-2-clause-shown
 push_back-requires-2-clause-shown g c =
-    let none : Shows neighbors_of (table_of (entries c.args.links)) c.new-list.result [] = rw c.new-list.ensures (new_shows_nothing doubly (table_of (entries c.args.links))) in
+    let none : Shows neighbors_of (table_of (entries c.args.links)) c.new-list.result [] = rw c.new-list.ensures (new_shows_nothing plain_lists (table_of (entries c.args.links))) in
     (c.args.first ∷ [], c.in_ok-push_back.ensures.inserted [] none)
 
 pub move_next-requires : goal.move_next-requires
 move_next-requires g c =
-    let none : Shows neighbors_of (table_of (entries c.args.links)) c.new-list.result [] = rw c.new-list.ensures (new_shows_nothing doubly (table_of (entries c.args.links))) in
+    let none : Shows neighbors_of (table_of (entries c.args.links)) c.new-list.result [] = rw c.new-list.ensures (new_shows_nothing plain_lists (table_of (entries c.args.links))) in
     let one = c.in_ok-push_back.ensures.inserted [] none in
     let two = c.in_ok-push_back-2.ensures.inserted (c.args.first ∷ []) one in
     let e = c.cursor-cursor.ensures in
@@ -32,7 +29,7 @@ move_next-requires g c =
 
 pub returns-clause-position : goal.returns-clause-position
 returns-clause-position g c =
-    let none : Shows neighbors_of (table_of (entries c.args.links)) c.new-list.result [] = rw c.new-list.ensures (new_shows_nothing doubly (table_of (entries c.args.links))) in
+    let none : Shows neighbors_of (table_of (entries c.args.links)) c.new-list.result [] = rw c.new-list.ensures (new_shows_nothing plain_lists (table_of (entries c.args.links))) in
     let one = c.in_ok-push_back.ensures.inserted [] none in
     let two = c.in_ok-push_back-2.ensures.inserted (c.args.first ∷ []) one in
     let e = c.cursor-cursor.ensures in

@@ -3,7 +3,7 @@ use Rattle.ic_unsafe_ref.specs.declared.place.Place.{Place}
 use Rattle.ic_unsafe_ref.specs.Places.{index_of}
 use Rattle.ic_link_ops.specs.DoublyEntries.{entries, is_linked, neighbors_of, linked_in_range, plain_table, PlainShows}
 use Rattle.ic_link_ops.proofs.CollectionLaws.{one_sequence_is_shown}
-use Rattle.ic_link_ops.proofs.DoublyLists.{doubly_lists, members_shown}
+use Rattle.ic_link_ops.proofs.DoublyLists.{plain_lists, members_shown}
 use Rattle.ic_link_ops.proofs.SequenceLemmas.{fewer}
 use Rattle.uses.specs.Jobs.{IsWithout}
 use Rattle.uses.proofs.Draining.{TakesOff, starts, next_off, goes_on, ends}
@@ -53,19 +53,19 @@ returns-clause-ready g c jobs all rest shown besides without = (ended g c jobs a
 pub returns-clause-owned_unlinked : goal.returns-clause-owned_unlinked
 returns-clause-owned_unlinked g c jobs shown =
     let r = c.requires.all_ready in
-    rw (one_sequence_is_shown (doubly_lists (λ e. refl)) shown r.3) (ended g c r.0 r.1 r.2 r.3 r.4 r.5).0.steps
+    rw (one_sequence_is_shown plain_lists shown r.3) (ended g c r.0 r.1 r.2 r.3 r.4 r.5).0.steps
 
 pub returns-clause-ready_unlinked : goal.returns-clause-ready_unlinked
 returns-clause-ready_unlinked g c jobs shown =
     let r = c.requires.all_ready in
-    rw (one_sequence_is_shown (doubly_lists (λ e. refl)) shown r.3) (ended g c r.0 r.1 r.2 r.3 r.4 r.5).1.steps
+    rw (one_sequence_is_shown plain_lists shown r.3) (ended g c r.0 r.1 r.2 r.3 r.4 r.5).1.steps
 
 pub returns-clause-owned_frame : goal.returns-clause-owned_frame
 returns-clause-owned_frame g c jobs shown =
     let r = c.requires.all_ready in
-    rw (one_sequence_is_shown (doubly_lists (λ e. refl)) shown r.3) (ended g c r.0 r.1 r.2 r.3 r.4 r.5).0.frame
+    rw (one_sequence_is_shown plain_lists shown r.3) (ended g c r.0 r.1 r.2 r.3 r.4 r.5).0.frame
 
 pub returns-clause-ready_frame : goal.returns-clause-ready_frame
 returns-clause-ready_frame g c all shown =
     let r = c.requires.all_ready in
-    rw (one_sequence_is_shown (doubly_lists (λ e. refl)) shown r.4) (ended g c r.0 r.1 r.2 r.3 r.4 r.5).1.frame
+    rw (one_sequence_is_shown plain_lists shown r.4) (ended g c r.0 r.1 r.2 r.3 r.4 r.5).1.frame

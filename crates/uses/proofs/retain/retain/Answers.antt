@@ -5,17 +5,12 @@ use Rattle.ic_linked_list.specs.CursorMut.{site_of}
 use Rattle.ic_unsafe_ref.specs.declared.place.Place.{Place}
 use Rattle.ic_link_ops.specs.Tables.{IsCovered}
 use Rattle.ic_link_ops.proofs.CollectionLaws.{one_sequence_is_shown}
-use Rattle.ic_link_ops.proofs.DoublyLists.{doubly_lists}
+use Rattle.ic_link_ops.proofs.DoublyLists.{neighbors_covered, doubly_lists}
 use Rattle.ic_link_ops.proofs.Positions.{stands_by_gap}
 use Rattle.ic_linked_list.proofs.EditingWalks.{walk_begins}
 use Rattle.uses.proofs.Retaining.{Retains, retains_none, retains_kept, retains_gone, retains_all, ahead_less}
 use Rattle.uses.proofs.retain.retain.Goals as goal
 use Rattle.uses.proofs.retain.retain.Given.{Over}
-
--- only covered places are linked, by the neighbours that entries name too
-covered : (g : Over) (l : _) (q : Place) → (g.L.LinkedListOps.neighbors ((g.L.LinkOps.table l).entry q)).linked ≡ true
-    → IsCovered (g.L.LinkOps.table l) q
-covered g l q h = g.met.L.LinkOps.linked_is_covered l q (sym (g.met.L.LinkedListOps.linked_alike _) ∙ h)
 
 pub loop-object-init : goal.loop-object-init
 loop-object-init g c =
@@ -61,10 +56,10 @@ gone g c =
     retains_gone g.met.L.LinkOps.does_on c.loop-object.invariant.retains.0 h (sym c.get.ensures ∙ ap option_copied c.in-Some.is) (rw c.if-keeps.false at told) c.remove.ensures.removed
 
 pub loop-object-smaller-then-keeps : goal.loop-object-smaller-then-keeps
-loop-object-smaller-then-keeps g c = ahead_less (covered g) c.loop-object.invariant.retains.1 (kept g c)
+loop-object-smaller-then-keeps g c = ahead_less (neighbors_covered g.L.LinkedListOps.neighbors g.L.LinkOps.table g.met.L.LinkOps.linked_is_covered g.met.L.LinkedListOps.linked_alike) c.loop-object.invariant.retains.1 (kept g c)
 
 pub loop-object-smaller-else-keeps : goal.loop-object-smaller-else-keeps
-loop-object-smaller-else-keeps g c = ahead_less (covered g) c.loop-object.invariant.retains.1 (gone g c)
+loop-object-smaller-else-keeps g c = ahead_less (neighbors_covered g.L.LinkedListOps.neighbors g.L.LinkOps.table g.met.L.LinkOps.linked_is_covered g.met.L.LinkedListOps.linked_alike) c.loop-object.invariant.retains.1 (gone g c)
 
 pub loop-object-preserved-then-keeps : goal.loop-object-preserved-then-keeps
 loop-object-preserved-then-keeps g c =

@@ -1,15 +1,11 @@
 use Rattle.std.proofs.Common.{◌≡◌, true, refl, sym, ◌∙◌}
 use Rattle.ic_unsafe_ref.specs.declared.place.Place.{Place}
 use Rattle.ic_link_ops.specs.Tables.{IsCovered}
+use Rattle.ic_link_ops.proofs.DoublyLists.{neighbors_covered}
 use Rattle.ic_linked_list.proofs.Walking.{Steps, steps_last, steps_more, none_left, gives, goes}
 use Rattle.ic_linked_list.proofs.iter.IterIterator.next.Goals as goal
 use Rattle.ic_linked_list.proofs.iter.IterIterator.next.Goals.{then-is_at, else-is_at}
 use Rattle.ic_linked_list.proofs.iter.IterIterator.next.Given.{Over}
-
--- only covered places are linked, by the neighbours that entries name too
-law : (g : Over) (t : _) (q : Place) → (g.L.LinkedListOps.neighbors ((g.L.LinkOps.table t).entry q)).linked ≡ true
-    → IsCovered (g.L.LinkOps.table t) q
-law g t q h = g.met.L.LinkOps.linked_is_covered t q (sym (g.met.L.LinkedListOps.linked_alike _) ∙ h)
 
 -- this call is a step of the walk
 step : (g : Over) (c : goal.After-get g) → Steps g.L.LinkedListOps.neighbors g.L.LinkOps.table c.args.self.now c.if-is_at.self c.in_ok-place.place
@@ -23,11 +19,11 @@ step g c =
 
 pub returns-in_err-place-clause-steps : goal.returns-in_err-place-clause-steps
 returns-in_err-place-clause-steps g c =
-    let none = none_left g.L.LinkedListOps.neighbors g.L.LinkOps.table (law g) c.args.self.now c.requires c.in_err-place.was in
+    let none = none_left g.L.LinkedListOps.neighbors g.L.LinkOps.table (neighbors_covered g.L.LinkedListOps.neighbors g.L.LinkOps.table g.met.L.LinkOps.linked_is_covered g.met.L.LinkedListOps.linked_alike) c.args.self.now c.requires c.in_err-place.was in
     rw c.from_residual.ensures ((none, none), refl)
 
 pub returns-clause-steps : goal.returns-clause-steps
-returns-clause-steps g c = gives _ _ (law g) c.get.result (step g c) c.get.ensures
+returns-clause-steps g c = gives _ _ (neighbors_covered g.L.LinkedListOps.neighbors g.L.LinkOps.table g.met.L.LinkOps.linked_is_covered g.met.L.LinkedListOps.linked_alike) c.get.result (step g c) c.get.ensures
 
 pub returns-clause-goes : goal.returns-clause-goes
-returns-clause-goes g c = goes _ _ (law g) c.get.result (step g c) c.get.ensures
+returns-clause-goes g c = goes _ _ (neighbors_covered g.L.LinkedListOps.neighbors g.L.LinkOps.table g.met.L.LinkOps.linked_is_covered g.met.L.LinkedListOps.linked_alike) c.get.result (step g c) c.get.ensures

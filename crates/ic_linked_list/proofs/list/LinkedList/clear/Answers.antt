@@ -1,16 +1,11 @@
 use Rattle.std.proofs.Common.{◌≡◌, true, [], ◌∷◌, refl, sym, ◌∙◌}
 use Rattle.ic_unsafe_ref.specs.declared.place.Place.{Place}
 use Rattle.ic_link_ops.specs.Tables.{IsCovered}
-use Rattle.ic_link_ops.proofs.DoublyLists.{between_linked}
+use Rattle.ic_link_ops.proofs.DoublyLists.{neighbors_covered, between_linked}
 use Rattle.ic_link_ops.proofs.StepLemmas.{releases_append}
 use Rattle.ic_linked_list.proofs.Clearing.{releases_none, releases_more, releases_all, releases_fewer, next_between}
 use Rattle.ic_linked_list.proofs.list.LinkedList.clear.Goals as goal
 use Rattle.ic_linked_list.proofs.list.LinkedList.clear.Given.{Over}
-
--- only covered places are linked, by the neighbours that entries name too
-law : (g : Over) (t : _) (q : Place) → (g.L.LinkedListOps.neighbors ((g.L.LinkOps.table t).entry q)).linked ≡ true
-    → IsCovered (g.L.LinkOps.table t) q
-law g t q h = g.met.L.LinkOps.linked_is_covered t q (sym (g.met.L.LinkedListOps.linked_alike _) ∙ h)
 
 pub loop-current-init : goal.loop-current-init
 unfolding releases_none
@@ -30,7 +25,7 @@ loop-current-smaller g c =
     let shown = c.requires.shown.1 in
     let k = rw c.in-Some.is at (c.loop-current.invariant.released c.requires.shown.0 shown).0 in
     rw c.in-Some.is
-    (releases_fewer {new' = g.L.LinkOps.table c.release_link.new.self} (law g c.loop-current.links) (law g c.release_link.new.self) shown.distinct k
+    (releases_fewer {new' = g.L.LinkOps.table c.release_link.new.self} (neighbors_covered g.L.LinkedListOps.neighbors g.L.LinkOps.table g.met.L.LinkOps.linked_is_covered g.met.L.LinkedListOps.linked_alike c.loop-current.links) (neighbors_covered g.L.LinkedListOps.neighbors g.L.LinkOps.table g.met.L.LinkOps.linked_is_covered g.met.L.LinkedListOps.linked_alike c.release_link.new.self) shown.distinct k
     (releases_more shown.distinct k c.release_link.ensures.frame.others c.next-current.ensures))
 
 pub loop-current-preserved : goal.loop-current-preserved

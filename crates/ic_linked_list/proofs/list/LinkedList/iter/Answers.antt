@@ -1,11 +1,10 @@
 use Rattle.std.proofs.Common.{sym, ◌∙◌, ap}
-use Rattle.ic_link_ops.proofs.DoublyLists.{members_shown}
+use Rattle.ic_link_ops.proofs.DoublyLists.{neighbors_covered, members_shown}
 use Rattle.ic_linked_list.specs.Iter.{values_at}
 use Rattle.ic_linked_list.proofs.list.LinkedList.iter.Goals as goal
 
 pub returns-clause-walks : goal.returns-clause-walks
 returns-clause-walks g c s shown =
-    let alike = g.met.L.LinkedListOps.linked_alike in
     rw (c.head.ensures, c.tail.ensures)
     (ap (values_at c.args.objects.now)
-    (members_shown _ (λ q h. g.met.L.LinkOps.linked_is_covered _ q (sym (alike _) ∙ h)) _ s shown))
+    (members_shown _ (neighbors_covered g.L.LinkedListOps.neighbors g.L.LinkOps.table g.met.L.LinkOps.linked_is_covered g.met.L.LinkedListOps.linked_alike _) _ s shown))
