@@ -1,5 +1,5 @@
 -- The third word of a tree link: what it says, as its parts are set.
-use Rattle.std.proofs.Common.{◌≡◌, ℕ, zero, suc, ◌+◌, ◌*◌, ◌/◌, ◌%◌, ◌<◌, ◌≤◌, Option, None, cond, nat_eq, true, false, arith, refl, ap, ◌∙◌}
+use Rattle.std.proofs.Common.{◌≡◌, ℕ, zero, suc, ◌+◌, ◌*◌, ◌/◌, ◌%◌, ◌<◌, Option, None, cond, nat_eq, true, false, arith, refl, ap, ◌∙◌}
 use Rattle.ic_unsafe_ref.specs.declared.place.Place.{Place}
 use Rattle.ic_unsafe_ref.specs.Places.{place_at, word_of}
 use Rattle.ic_unsafe_ref.proofs.PlaceLemmas.{place_at_word, word_at, word_fits}
@@ -49,7 +49,7 @@ one_if_not_red (suc zero) h = refl
 one_if_not_red (suc (suc x)) h = absurd (omega (arith, h))
 
 -- the word is the number of what it says
-pub number_of_parts : (n : ℕ) → n ≤ 17179869187 → number_of (parts_at n) ≡ n
+pub number_of_parts : (n : ℕ) → n < 34359738368 → number_of (parts_at n) ≡ n
 number_of_parts n h =
     let names : word_of (place_at (n / 4 * 2)) ≡ n / 4 * 2 = word_at (n / 4 * 2) (omega (arith, h), omega arith) in
     let links : one_if (nat_eq (n / 2 % 2) 1) ≡ n / 2 % 2 = one_if_one (n / 2 % 2) (omega arith) in

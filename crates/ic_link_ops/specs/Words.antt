@@ -1,5 +1,6 @@
 -- The words of links.
 use Rattle.std.specs.Prelude.{ℕ, Bool, nat_eq, not, refl}
+use Rattle.std.proofs.Common.{arith}
 use Rattle.ic_link_ops.specs.declared.word.Word.{Word}
 use Rattle.ic_link_ops.specs.declared.marked_word.MarkedWord.{MarkedWord}
 
@@ -17,8 +18,8 @@ is_word w = not (nat_eq w.bits 1)
 
 -- the mark
 abbrev pub mark : MarkedWord
-mark = record { bits = 1; mark_or_even = λ n. absurd (n refl) }
+mark = record { bits = 1; mark_or_word = λ n. absurd (n refl) }
 
 -- the word for no place
 abbrev pub none : Word
-none = record { bits = 0; even = refl }
+none = record { bits = 0; is_word = (omega arith, refl) }

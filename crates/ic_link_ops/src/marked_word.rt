@@ -5,7 +5,8 @@
 //! MarkedWord::mark().is_word() // false
 //! ```
 
-ghost use Rattle.std.specs.Prelude.{◌≡◌, ◌≢◌, ◌%◌, true};
+ghost use Rattle.std.specs.Prelude.{◌≡◌, ◌≢◌, true};
+ghost use Rattle.ic_unsafe_ref.specs.Numbers.{IsWord};
 
 use crate::word::Word;
 
@@ -13,7 +14,7 @@ use crate::word::Word;
 #[derive(Clone, Copy)]
 pub struct MarkedWord {
     bits: u64,
-    pub ghost mark_or_even: { bits ≢ 1 → bits % 2 ≡ 0 },
+    pub ghost mark_or_word: { bits ≢ 1 → IsWord bits },
 }
 
 impl MarkedWord {

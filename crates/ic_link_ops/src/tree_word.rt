@@ -23,14 +23,14 @@ pub struct TreeWord {
 }
 
 impl Model for TreeWord {
-    ghost use Rattle.std.specs.Prelude.{◌≤◌};
+    ghost use Rattle.std.specs.Prelude.{◌<◌, ◌^◌};
     ghost use Rattle.ic_link_ops.specs.TreeWords.{Parts, parts_at};
 
     ghost Value = { Parts };
 
     ghost view = { λ w. parts_at w.bits };
 
-    ghost invariant = { λ w. w.bits ≤ 17179869187 };
+    ghost invariant = { λ w. w.bits < 2 ^ 35 };
 }
 
 impl TreeWord {

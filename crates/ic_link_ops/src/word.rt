@@ -1,13 +1,15 @@
 //! The word of which links are made.
 //!
-//! A place is kept as its number, `2 * (index + 1)`, and no place as 0, so that each word of a linked place is even.
+//! A place is kept as its number, `2 * (index + 1)`, and no place as 0, so that each word of a linked place is even and
+//! below `2^34`. The exclusive or of two words is such a word again, so a place is read from it with no test of its range.
 //!
 //! ```text
 //! let word = Word::between(Some(first), Some(third));
 //! word.other(Some(first)) // Some(third)
 //! ```
 
-ghost use Rattle.std.specs.Prelude.{◌≡◌, ◌%◌, bit_xor};
+ghost use Rattle.std.specs.Prelude.{◌≡◌, bit_xor};
+ghost use Rattle.ic_unsafe_ref.specs.Numbers.{IsWord};
 ghost use Rattle.ic_unsafe_ref.specs.Places.{word_of, place_at};
 
 use ic_unsafe_ref::Place;
@@ -16,7 +18,7 @@ use ic_unsafe_ref::Place;
 #[derive(Clone, Copy)]
 pub struct Word {
     pub(crate) bits: u64,
-    pub ghost even: { bits % 2 ≡ 0 },
+    pub ghost is_word: { IsWord bits },
 }
 
 impl Word {
@@ -40,16 +42,17 @@ impl Word {
         }
     }
 
-    /// The place whose number the word is, and none where it is no place's number.
+    /// The place whose number the word is, and none where it is 0. One test and a shift.
     #[inline]
     pub fn place(self) -> Option<Place>
         ensures { result ≡ place_at (bits_of self) }
     {
-        Place::with_number(self.bits)
+        Place::from_word(self.bits)
     }
 
     /// The word of the places on both sides: the exclusive or of their words.
     #[inline]
+    #[tactic(auto, using(ic_unsafe_ref::proofs::PlaceLemmas::xor_fits))]
     pub fn between(prev: Option<Place>, next: Option<Place>) -> Word
         ensures { bits_of result ≡ bit_xor (word_of prev) (word_of next) }
     {
@@ -60,14 +63,16 @@ impl Word {
 
     /// The place on the other side of the one that is told.
     #[inline]
+    #[tactic(auto, using(ic_unsafe_ref::proofs::PlaceLemmas::xor_fits))]
     pub fn other(self, known: Option<Place>) -> Option<Place>
         ensures { result ≡ place_at (bit_xor (bits_of self) (word_of known)) }
     {
-        Place::with_number(self.bits ^ Place::to_word(known))
+        Place::from_word(self.bits ^ Place::to_word(known))
     }
 
     /// The word with the place `new` in place of `old` on one side.
     #[inline]
+    #[tactic(auto, using(ic_unsafe_ref::proofs::PlaceLemmas::xor_fits))]
     pub fn replaced(self, old: Option<Place>, new: Option<Place>) -> Word
         ensures { bits_of result ≡ bit_xor (bit_xor (bits_of self) (word_of old)) (word_of new) }
     {

@@ -21,20 +21,12 @@ fn text(alloc: Global, value: &impl fmt::Debug) -> Answer {
     }
 }
 
-// The place that a word names, where the word is that of a place or none.
+// The place that a word names, where the word is even and small enough.
 fn from_word(word: u64) -> Answer {
-    if word <= 8_589_934_592 && word % 2 == 0 {
+    if word < 17_179_869_184 && word % 2 == 0 {
         return place_or_none(Place::from_word(word));
     }
     Answer::Refused("word")
-}
-
-// The place with a number, where the number is even.
-fn with_number(number: u64) -> Answer {
-    if number % 2 != 0 {
-        return Answer::Refused("odd");
-    }
-    place_or_none(Place::with_number(number))
 }
 
 // A call with a number.
@@ -42,7 +34,6 @@ fn of_number(call: &str, number: u64) -> Answer {
     match call {
         "new" => place_or_none(Place::new(number as usize)),
         "from_word" => from_word(number),
-        "with_number" => with_number(number),
         _ => Answer::Refused("call"),
     }
 }
@@ -83,7 +74,7 @@ impl Played for Places {
         match *words {
             ["COUNT"] => Answer::Number(Place::COUNT as u64),
             ["to_word", "none"] => Answer::Number(Place::to_word(None)),
-            ["new" | "from_word" | "with_number", number] => match number.parse() {
+            ["new" | "from_word", number] => match number.parse() {
                 Ok(number) => of_number(words[0], number),
                 Err(_) => Answer::Refused("number"),
             },
@@ -123,12 +114,12 @@ const RUNS: [Run; 6] = [
         ",
     },
     Run {
-        name: "places with a number",
+        name: "a word names a place up to twice as far as tables reach",
         rows: "
-        with_number 0          | none
-        with_number 16         | 7
-        with_number 8589934592 | 4294967295
-        with_number 8589934594 | none
+        from_word 8589934592  | 4294967295
+        from_word 8589934594  | 4294967296
+        from_word 17179869182 | 8589934590
+        from_word 17179869184 | word
         ",
     },
     Run {

@@ -197,6 +197,9 @@ const TWO_WORDS: [Run; 2] = [
         1 doubly next          | 1
         1 singly next          | 1
         1 xor set 0 4294967295 | ok
+        1 doubly next          | 4294967296
+        1 singly next          | 4294967296
+        1 xor set 2 2          | ok
         1 doubly next          | none
         1 singly next          | none
         ",

@@ -1,6 +1,8 @@
 -- Places, their numbers and their indexes.
 use Rattle.std.proofs.Common.{◌≡◌, ◌≢◌, ℕ, ◌+◌, ◌*◌, ◌<◌, ◌⊎◌, Option, Some, None, nat_eq, false, refl, inl, inr, sym, ap, ◌∙◌, arith, ne_eqb, eq-eqb, eqb-true}
+use Rattle.std.specs.Prelude.{◌%◌, bit_xor}
 use Rattle.std.specs.Cmp.{both_ways}
+use Rattle.std.proofs.lemmas.Nat.{xor_lt, xor_mod}
 use Rattle.std.proofs.lemmas.Bool.Decides.{eqb_tells}
 use Rattle.std.proofs.lemmas.Option.{same_Some}
 use Rattle.ic_unsafe_ref.specs.declared.place.Place.{Place}
@@ -30,7 +32,7 @@ same_or_not p q =
       | inr h ↦ inr (λ e. h.1 (ap (λ r. r.number) e))
     ]
 
-pub index_small : (p : Place) → index_of p < 4294967296
+pub index_small : (p : Place) → index_of p < 8589934591
 unfolding index_of
 index_small p = omega (arith, p.is_number.0, p.is_number.1)
 
@@ -80,16 +82,19 @@ word_at n h =
           ap word_of (place_at_is n is) ∙ sym (number_of (place_of n is))
     ]
 
--- the word of a place or none is even and at most 2 ^ 33
+-- the word of a place or none is even and below 2 ^ 34, and so is the exclusive or of two such words
 pub word_fits : (to : Option Place) → IsWord (word_of to)
 word_fits None = (omega arith, refl)
 word_fits (Some p) = let e = number_of p in (omega (arith, e, p.is_number.1), omega (arith, e, p.is_number.2))
+
+pub xor_fits : {a b : ℕ} → IsWord a → IsWord b → IsWord (bit_xor a b)
+xor_fits {a} {b} h k = (xor_lt 34 a b h.0 k.0, xor_mod a b 1 ∙ ap (λ m. bit_xor m (b % 2)) h.1 ∙ ap (bit_xor 0) k.1)
 
 -- so it is never the mark of an unlinked entry
 pub word_not_mark : (to : Option Place) → nat_eq (word_of to) 1 ≡ false
 word_not_mark to = ne_eqb (word_of to) 1 (λ e. absurd (omega (arith, e, (word_fits to).1)))
 
--- every index below 2 ^ 32 is that of a place
-pub place_with : (i : ℕ) → i < 4294967296 → (p : Place) × (index_of p ≡ i)
+-- every index below 2 ^ 33 - 1 is that of a place, more than a table covers
+pub place_with : (i : ℕ) → i < 8589934591 → (p : Place) × (index_of p ≡ i)
 place_with i h =
     let is : IsNumber (2 * (i + 1)) = (omega arith, omega (arith, h), omega arith) in (place_of (2 * (i + 1)) is, index_of_place i is)

@@ -5,7 +5,7 @@
 //! objects.is_placed(first.place()) // true
 //! ```
 
-ghost use Rattle.std.specs.Prelude.{◌≡◌, ◌≤◌, ◌^◌, Some, None, MatchOption, option_copied, if◌then◌else◌};
+ghost use Rattle.std.specs.Prelude.{◌≡◌, ◌<◌, ◌≤◌, ◌^◌, Some, None, MatchOption, option_copied, if◌then◌else◌};
 ghost use Rattle.std.specs.FinMap as map;
 ghost use Rattle.ic_unsafe_ref.specs.Places.{index_of};
 ghost use Rattle.ic_unsafe_ref.specs.Objects.{object_at, is_placed};
@@ -24,7 +24,7 @@ pub struct Objects<T, A: Allocator = Global> {
 }
 
 impl<T, A: Allocator> Model for Objects<T, A> {
-    ghost use Rattle.std.specs.Prelude.{ℕ, ◌<◌, ◌^◌};
+    ghost use Rattle.std.specs.Prelude.{ℕ, ◌+◌, ◌<◌, ◌^◌};
     ghost use Rattle.std.specs.FinMap as map;
     ghost use Rattle.slab.specs.Slab.{ContainsKey, entries};
     ghost use Rattle.ic_unsafe_ref.specs.Objects.{Objects as Placed, objects_code};
@@ -35,7 +35,7 @@ impl<T, A: Allocator> Model for Objects<T, A> {
 
     ghost view = { λ o. record { values = map.from_entries (entries o.slab); next = o.slab.vacant_key } };
 
-    ghost invariant = { λ o. (key : ℕ) → ContainsKey o.slab key → key < 2 ^ 32 };
+    ghost invariant = { λ o. (key : ℕ) → ContainsKey o.slab key → key + 1 < 2 ^ 33 };
 }
 
 impl<T, A: Allocator> Objects<T, A> {
@@ -104,7 +104,7 @@ impl<T, A: Allocator> Objects<T, A> {
     #[inline]
     pub fn next_place(&self) -> Option<Place>
         ensures { MatchOption result (2 ^ 32 ≤ self.now.next)
-            (λ place. (index_of place ≡ self.now.next) × (object_at self.now place ≡ None)) }
+            (λ place. (index_of place ≡ self.now.next) × self.now.next < 2 ^ 32 × (object_at self.now place ≡ None)) }
     {
         Place::new(self.slab.vacant_key())
     }

@@ -10,9 +10,11 @@ ghost use Rattle.ic_unsafe_ref.specs.Numbers.{IsNumber, IsWord};
 
 use std::fmt;
 
-/// Where an object stands: an index below 4,294,967,296.
+/// Where an object stands: an index, below 4,294,967,296 of each place that [`Place::new`] makes and that a table covers.
 ///
-/// It is kept as its number, `2 * (index + 1)`, which is what links keep for a neighbour: even, and never 0.
+/// It is kept as its number, `2 * (index + 1)`, which is what links keep for a neighbour: even, and never 0. A number may
+/// be any below `2^34`, twice as many as the first 4,294,967,296 places have, so that the exclusive or of two numbers is a
+/// number or 0 and is read with no test of its range.
 #[derive(Clone, Copy, PartialEq, Eq, PartialOrd, Ord)]
 pub struct Place {
     number: u64,
@@ -22,16 +24,13 @@ pub struct Place {
 impl Place {
     ghost use Rattle.ic_unsafe_ref.specs.Places.{index_of, place_at, word_of};
 
-    /// How many places there are.
+    /// How many places a table covers at most: the first ones.
     pub const COUNT: usize = 4_294_967_296;
-
-    // The number of the last place.
-    const LAST_NUMBER: u64 = 8_589_934_592;
 
     /// The place with that index, or `None` from 4,294,967,296 on.
     #[inline]
     pub fn new(index: usize) -> Option<Place>
-        ensures { MatchOption result (2 ^ 32 ≤ index) (λ place. index_of place ≡ index) }
+        ensures { MatchOption result (2 ^ 32 ≤ index) (λ place. (index_of place ≡ index) × index < 2 ^ 32) }
     {
         if index < Place::COUNT {
             Some(Place::of_index(index))
@@ -57,14 +56,15 @@ impl Place {
     #[tactic(auto, unfolding(crate::specs::Places::index_of))]
     pub fn index(self) -> usize
         ensures value { result ≡ index_of self }
-        ensures small { result < 2 ^ 32 }
+        ensures small { result + 1 < 2 ^ 33 }
     {
         (self.number / 2 - 1) as usize
     }
 
-    /// The place that a word names: none at 0, and at a word that is no place's number.
+    /// The place that a word names: none at 0. One test.
     ///
-    /// Tables and collections keep neighbours and ends as such words, which take no decoding to copy.
+    /// Tables and collections keep neighbours and ends as such words, which take no decoding to copy. It asks for an even
+    /// word below `2^34`, as [`Place::to_word`] answers and as the exclusive or of two such words is.
     #[inline]
     #[tactic(auto, using(crate::proofs::PlaceLemmas::place_at_other))]
     pub fn from_word(word: u64) -> Option<Place>
@@ -72,22 +72,6 @@ impl Place {
         ensures { result ≡ place_at word }
     {
         if word != 0 {
-            Some(Place { number: word })
-        } else {
-            None
-        }
-    }
-
-    /// The place with that number, or `None` where the even word is no place's number.
-    ///
-    /// Of words that may be more than a place or none, such as the exclusive or of two numbers.
-    #[inline]
-    #[tactic(auto, using(crate::proofs::PlaceLemmas::place_at_other))]
-    pub fn with_number(word: u64) -> Option<Place>
-        requires even { word % 2 ≡ 0 }
-        ensures { result ≡ place_at word }
-    {
-        if word != 0 && word <= Place::LAST_NUMBER {
             Some(Place { number: word })
         } else {
             None

@@ -55,7 +55,7 @@ below t (suc n) i h =
 pub in_linked : (t : Entries) (p : Place) → set.contains (linked_in t) (index_of p) ≡ is_linked (entry_at t p)
 unfolding linked_in
 in_linked t p =
-    let n = min (length t) 4294967296 in
+    let n = min (length t) 8589934591 in
     contains-from_list_nat (linked_below t n) (index_of p)
     ∙ elim (side n (index_of p)) [
       | inl h ↦
@@ -65,18 +65,18 @@ in_linked t p =
     ]
 
 -- and no other index is in it
-beyond : (t : Entries) (i : ℕ) → 4294967296 ≤ i → set.contains (linked_in t) i ≡ false
+beyond : (t : Entries) (i : ℕ) → 8589934591 ≤ i → set.contains (linked_in t) i ≡ false
 unfolding linked_in
 beyond t i h =
-    let n = min (length t) 4294967296 in
+    let n = min (length t) 8589934591 in
     contains-from_list_nat (linked_below t n) i ∙ above t n i (omega (arith, h))
 
 -- a set is the linked set of t, if it has the linked places and no other index
 is_linked_set : (t : Entries) (s : set.FinSet nat_cmp) → ((p : Place) → set.contains s (index_of p) ≡ is_linked (entry_at t p))
-    → ((i : ℕ) → 4294967296 ≤ i → set.contains s i ≡ false) → linked_in t ≡ s
+    → ((i : ℕ) → 8589934591 ≤ i → set.contains s i ≡ false) → linked_in t ≡ s
 is_linked_set t s within past =
     same_set nat_cmp_total nat_cmp-IsAntisymmetric _ _ (λ i.
-    elim (side 4294967296 i) [
+    elim (side 8589934591 i) [
       | inl h ↦ beyond t i h ∙ sym (past i h)
       | inr h ↦
           let p = place_with i h in

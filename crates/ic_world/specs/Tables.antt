@@ -36,7 +36,7 @@ linked_below es zero = []
 linked_below es (suc n) = cond (is_linked (slice_index_or es n unlinked)) (n ∷ linked_below es n) (linked_below es n)
 
 unfoldable pub linked_in : Entries → set.FinSet nat_cmp
-linked_in es = set.from_list (linked_below es (min (length es) 4294967296))
+linked_in es = set.from_list (linked_below es (min (length es) 8589934591))
 
 -- each table has the entries that it had, and maybe unlinked ones more
 pub record Grown (old new : List Entries) : Type 0 where

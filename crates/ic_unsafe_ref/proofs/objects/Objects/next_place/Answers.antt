@@ -1,4 +1,4 @@
-use Rattle.std.proofs.Common.{◌≡◌, ◌≤◌, ℕ, Option, Some, None, ap, ◌∙◌}
+use Rattle.std.proofs.Common.{◌≡◌, ◌<◌, ◌≤◌, ℕ, Option, Some, None, ap, ◌∙◌}
 use Rattle.std.specs.Prelude.{MatchOption}
 use Rattle.std.specs.FinMap as map
 use Rattle.ic_unsafe_ref.specs.declared.place.Place.{Place}
@@ -9,10 +9,10 @@ use Rattle.ic_unsafe_ref.proofs.objects.Objects.next_place.Goals as goal
 
 -- what is known of the next key is known of its place
 next_is : {T : Type 0} (o : Option Place) (key : ℕ) (objects : Objects T) → key ≡ objects.next → map.get objects.values key ≡ None
-    → MatchOption o (4294967296 ≤ key) (λ p. index_of p ≡ key)
-    → MatchOption o (4294967296 ≤ objects.next) (λ p. (index_of p ≡ objects.next) × (object_at objects p ≡ None))
+    → MatchOption o (4294967296 ≤ key) (λ p. (index_of p ≡ key) × key < 4294967296)
+    → MatchOption o (4294967296 ≤ objects.next) (λ p. (index_of p ≡ objects.next) × objects.next < 4294967296 × (object_at objects p ≡ None))
 next_is None key objects e vacant h = rw (← e) h
-next_is (Some p) key objects e vacant h = (h ∙ e, ap (map.get objects.values) h ∙ vacant)
+next_is (Some p) key objects e vacant h = (h.0 ∙ e, rw (← e) h.1, ap (map.get objects.values) h.0 ∙ vacant)
 
 pub returns : goal.returns
 returns g c =
