@@ -1,12 +1,12 @@
 -- The entries of a table as they are written and grow.
-use Rattle.std.proofs.Common.{◌≡◌, ℕ, List, Option, Bool, true, false, slice_set, slice_index_or, sym, ap, ◌∙◌}
+use Rattle.std.proofs.Common.{◌≡◌, ℕ, ◌<◌, List, length, Option, Bool, true, false, slice_set, slice_index_or, sym, ap, ◌∙◌}
 use Rattle.std.proofs.lemmas.List.{get_or-set_other, get_or_default, length-set}
 use Rattle.std.proofs.lemmas.Grind.{get_or-set_at}
 use Rattle.ic_unsafe_ref.specs.declared.place.Place.{Place}
 use Rattle.ic_unsafe_ref.specs.Places.{index_of, place_at, word_of}
 use Rattle.ic_unsafe_ref.proofs.PlaceLemmas.{same_index, place_at_word}
-use Rattle.ic_link_ops.specs.Tables.{ChangesOnly, IsCovered, owned}
-use Rattle.ic_link_ops.specs.PlainTables.{entry_at, table_of, linked_by}
+use Rattle.ic_link_ops.specs.Tables.{ChangesOnly}
+use Rattle.ic_link_ops.specs.PlainTables.{entry_at, table_with, linked_by}
 use Rattle.ic_link_ops.specs.Links.{link_of}
 use Rattle.ic_link_ops.specs.Readings.{successor_of, neighbors_of}
 use Rattle.ic_link_ops.specs.EntryLaws.{linked_in_range}
@@ -14,28 +14,29 @@ use Rattle.ic_link_ops.specs.declared.link.Link.{Link}
 
 module _ {E : Type 0} (d : E) where
   -- a write at p changes only the entry of p
-  pub changes_only : (es : List E) (p : Place) (e : E) (i : ℕ) → i ≡ index_of p → ChangesOnly (table_of d es) (table_of d (slice_set es i e)) p
-  changes_only es p e i at_p = record {
-    extent = ap owned (length-set es i e);
+  pub changes_only : {identity : List ℕ} (es : List E) (p : Place) (e : E) (i : ℕ) → i ≡ index_of p
+      → ChangesOnly (table_with d identity es) (table_with d identity (slice_set es i e)) p
+  changes_only {identity} es p e i at_p = record {
+    extent = ap (λ n. record { places = n; identity = identity }) (length-set es i e);
     others = λ q apart. get_or-set_other es i (index_of q) e d (λ k. apart (same_index q p (k ∙ at_p)));
   }
 
   -- and there it is
-  pub entry_same : (es : List E) (p : Place) (e : E) (i : ℕ) → i ≡ index_of p → IsCovered (table_of d es) p → entry_at d (slice_set es i e) p ≡ e
+  pub entry_same : (es : List E) (p : Place) (e : E) (i : ℕ) → i ≡ index_of p → index_of p < length es → entry_at d (slice_set es i e) p ≡ e
   entry_same es p e i at_p covered = get_or-set_at es i (index_of p) e d (sym at_p) (rw at_p covered)
 
   -- what was read at p is its entry
-  pub entry_read : (es : List E) (p : Place) (e : E) (i : ℕ) → i ≡ index_of p → IsCovered (table_of d es) p → e ≡ slice_index_or es i e → entry_at d es p ≡ e
-  entry_read es p e i at_p covered read = rw (← at_p) (get_or_default es i d e (rw at_p covered) ∙ sym read)
+  pub entry_read : (es : List E) (p : Place) (e beyond : E) (i : ℕ) → i ≡ index_of p → index_of p < length es → e ≡ slice_index_or es i beyond → entry_at d es p ≡ e
+  entry_read es p e beyond i at_p covered read = rw (← at_p) (get_or_default es i d beyond (rw at_p covered) ∙ sym read)
 
 module _ {W : Type 0} (is_linked : W → Bool) (d : W) (starts : is_linked d ≡ false) where
   -- A WRITE AT A LINKED PLACE CHANGES WHAT THE ENTRY SAYS as it changes what was read there
-  pub says_written : {R : Type 0} (says : Link W → R) (change : R → R) (es : List (Link W)) (p : Place) (old new : Link W) (i : ℕ) → i ≡ index_of p
-      → linked_by is_linked (entry_at (link_of d) es p) ≡ true → old ≡ slice_index_or es i old → says new ≡ change (says old)
+  pub says_written : {R : Type 0} (says : Link W → R) (change : R → R) (es : List (Link W)) (p : Place) (old new beyond : Link W) (i : ℕ) → i ≡ index_of p
+      → linked_by is_linked (entry_at (link_of d) es p) ≡ true → old ≡ slice_index_or es i beyond → says new ≡ change (says old)
       → says (entry_at (link_of d) (slice_set es i new) p) ≡ change (says (entry_at (link_of d) es p))
-  says_written says change es p old new i at_p linked read written =
+  says_written says change es p old new beyond i at_p linked read written =
       let covered = linked_in_range (linked_by is_linked) (link_of d) starts es (index_of p) linked in
-      ap says (entry_same (link_of d) es p new i at_p covered) ∙ written ∙ ap (λ e. change (says e)) (sym (entry_read (link_of d) es p old i at_p covered read))
+      ap says (entry_same (link_of d) es p new i at_p covered) ∙ written ∙ ap (λ e. change (says e)) (sym (entry_read (link_of d) es p old beyond i at_p covered read))
 
 module _ {W : Type 0} (next_word : W → ℕ) (is_linked : W → Bool) where
   -- a link whose next word is that for a place names it as the next

@@ -20,4 +20,5 @@ pub mod Times
 pub mod Frames
 pub mod TreeEdits
 pub mod EntryLemmas
+pub mod LentTables
 pub mod TreeWordLemmas

@@ -28,4 +28,5 @@ pub mod Readings
 pub mod EntryLaws
 pub mod StepLaws
 pub mod PlainTables
+pub mod LentTables
 pub mod DoublyEntries

@@ -12,6 +12,7 @@
 mod color;
 mod end;
 mod errors;
+mod lent_table;
 mod link;
 mod link_ops;
 pub mod linked_list;
@@ -28,6 +29,7 @@ pub mod xor_linked_list;
 pub use color::Color;
 pub use end::End;
 pub use errors::{AlreadyLinked, CoverError, ReplaceError};
+pub use lent_table::LentTable;
 pub use link::{Link, NextWord, PrevPlace, Words};
 pub use link_ops::LinkOps;
 pub use marked_word::MarkedWord;

@@ -12,6 +12,7 @@ ghost use Rattle.ic_link_ops.specs.Tables.{IsLinked, ChangesOnly};
 ghost use Rattle.ic_link_ops.specs.LinkedList.{Neighbors, neighbors_at};
 
 use crate::end::End;
+use crate::lent_table::LentTable;
 use crate::link::{self, NextWord, PrevPlace, Words};
 use crate::link_ops;
 use crate::marked_word::MarkedWord;
@@ -166,6 +167,37 @@ impl<W: PrevPlace, A: Allocator> LinkedListOps for PlainTable<W, A> {
     fn set_prev(&mut self, place: Place, prev: Option<Place>) {
         let entry = &mut self.entries[place.index()];
         entry.words.set_prev(prev);
+    }
+
+    ghost linked_alike = { λ e. refl };
+}
+
+impl<W: PrevPlace> LinkedListOps for LentTable<'_, W> {
+    ghost use Rattle.std.specs.Prelude.{refl};
+    ghost use Rattle.ic_link_ops.specs.Readings.{neighbors_of};
+
+    ghost neighbors = { neighbors_of W.next_word W.is_linked W.prev };
+
+    #[inline]
+    fn next(&self, place: Place) -> Option<Place> {
+        self.link(place).words.next_word().place()
+    }
+
+    #[inline]
+    fn prev(&self, place: Place) -> Option<Place> {
+        self.link(place).words.prev()
+    }
+
+    #[inline]
+    fn set_next(&mut self, place: Place, next: Option<Place>) {
+        let link = &mut self.entries[place.index()];
+        link.words.set_next_word(Word::of(next));
+    }
+
+    #[inline]
+    fn set_prev(&mut self, place: Place, prev: Option<Place>) {
+        let link = &mut self.entries[place.index()];
+        link.words.set_prev(prev);
     }
 
     ghost linked_alike = { λ e. refl };

@@ -13,6 +13,7 @@ ghost use Rattle.ic_link_ops.specs.declared.color.Color.{Color};
 
 use crate::color::Color;
 use crate::end::End;
+use crate::lent_table::LentTable;
 use crate::link::{self, NextWord, PrevPlace, Words};
 use crate::link_ops;
 use crate::table::PlainTable;
@@ -240,6 +241,59 @@ impl<A: Allocator> RBTreeOps for PlainTable<ThreeWords, A> {
     fn set_color(&mut self, place: Place, color: Color) {
         let entry = &mut self.entries[place.index()];
         entry.words.third.set_color(color);
+    }
+
+    ghost linked_alike = { λ e. refl };
+}
+
+impl RBTreeOps for LentTable<'_, ThreeWords> {
+    ghost use Rattle.std.specs.Prelude.{refl};
+    ghost use Rattle.ic_link_ops.specs.ThreeWords.{node_of};
+
+    ghost node = { node_of };
+
+    #[inline]
+    fn left(&self, place: Place) -> Option<Place> {
+        self.link(place).words.left.get()
+    }
+
+    #[inline]
+    fn right(&self, place: Place) -> Option<Place> {
+        self.link(place).words.right.place()
+    }
+
+    #[inline]
+    fn parent(&self, place: Place) -> Option<Place> {
+        self.link(place).words.third.parent()
+    }
+
+    #[inline]
+    fn color(&self, place: Place) -> Color {
+        self.link(place).words.third.color()
+    }
+
+    #[inline]
+    fn set_left(&mut self, place: Place, left: Option<Place>) {
+        let link = &mut self.entries[place.index()];
+        link.words.left = End::of(left);
+    }
+
+    #[inline]
+    fn set_right(&mut self, place: Place, right: Option<Place>) {
+        let link = &mut self.entries[place.index()];
+        link.words.right = Word::of(right);
+    }
+
+    #[inline]
+    fn set_parent(&mut self, place: Place, parent: Option<Place>) {
+        let link = &mut self.entries[place.index()];
+        link.words.third.set_parent(parent);
+    }
+
+    #[inline]
+    fn set_color(&mut self, place: Place, color: Color) {
+        let link = &mut self.entries[place.index()];
+        link.words.third.set_color(color);
     }
 
     ghost linked_alike = { λ e. refl };

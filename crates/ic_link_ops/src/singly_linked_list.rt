@@ -10,6 +10,7 @@ ghost use Rattle.ic_unsafe_ref.specs.declared.place.Place.{Place};
 ghost use Rattle.ic_link_ops.specs.Tables.{IsLinked, ChangesOnly};
 ghost use Rattle.ic_link_ops.specs.SinglyLinkedList.{Successor, successor_at};
 
+use crate::lent_table::LentTable;
 use crate::link::{self, NextWord};
 use crate::link_ops;
 use crate::one_word::OneWord;
@@ -64,6 +65,26 @@ impl<W: NextWord, A: Allocator> SinglyLinkedListOps for PlainTable<W, A> {
     fn set_next(&mut self, place: Place, next: Option<Place>) {
         let entry = &mut self.entries[place.index()];
         entry.words.set_next_word(Word::of(next));
+    }
+
+    ghost linked_alike = { λ e. refl };
+}
+
+impl<W: NextWord> SinglyLinkedListOps for LentTable<'_, W> {
+    ghost use Rattle.std.specs.Prelude.{refl};
+    ghost use Rattle.ic_link_ops.specs.Readings.{successor_of};
+
+    ghost successor = { successor_of W.next_word W.is_linked };
+
+    #[inline]
+    fn next(&self, place: Place) -> Option<Place> {
+        self.link(place).words.next_word().place()
+    }
+
+    #[inline]
+    fn set_next(&mut self, place: Place, next: Option<Place>) {
+        let link = &mut self.entries[place.index()];
+        link.words.set_next_word(Word::of(next));
     }
 
     ghost linked_alike = { λ e. refl };

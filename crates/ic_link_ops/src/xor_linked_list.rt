@@ -9,6 +9,7 @@ ghost use Rattle.std.specs.Prelude.{◌≡◌, Option, []};
 ghost use Rattle.ic_unsafe_ref.specs.declared.place.Place.{Place};
 ghost use Rattle.ic_link_ops.specs.Tables.{IsLinked, ChangesOnly};
 
+use crate::lent_table::LentTable;
 use crate::link::{self, NextWord};
 use crate::link_ops;
 use crate::one_word::OneWord;
@@ -115,6 +116,45 @@ impl<W: NextWord, A: Allocator> XorLinkedListOps for PlainTable<W, A> {
         let entry = &mut self.entries[place.index()];
         let word = entry.words.next_word();
         entry.words.set_next_word(word.replaced(old, new));
+    }
+
+    ghost symmetric = { λ e a b j. joins_symmetric (W.next_word (words_of e)) a b j };
+
+    ghost one_other = { λ e a b c j k. joins_one_other (W.next_word (words_of e)) a b c j k };
+
+    ghost finds_other = { λ e a b j. joins_finds_other (W.next_word (words_of e)) a b j };
+}
+
+impl<W: NextWord> XorLinkedListOps for LentTable<'_, W> {
+    ghost use Rattle.ic_link_ops.specs.Readings.{XorJoins, xor_other};
+    ghost use Rattle.ic_link_ops.specs.Links.{words_of};
+    ghost use Rattle.ic_link_ops.specs.XorLaws.{joins_symmetric, joins_one_other, joins_finds_other};
+
+    ghost Joins = { XorJoins W.next_word };
+
+    ghost other = { xor_other W.next_word };
+
+    #[inline]
+    fn next(&self, place: Place, prev: Option<Place>) -> Option<Place> {
+        self.link(place).words.next_word().other(prev)
+    }
+
+    #[inline]
+    fn prev(&self, place: Place, next: Option<Place>) -> Option<Place> {
+        self.link(place).words.next_word().other(next)
+    }
+
+    #[inline]
+    fn set(&mut self, place: Place, prev: Option<Place>, next: Option<Place>) {
+        let link = &mut self.entries[place.index()];
+        link.words.set_next_word(Word::between(prev, next));
+    }
+
+    #[inline]
+    fn replace_next_or_prev(&mut self, place: Place, old: Option<Place>, new: Option<Place>) {
+        let link = &mut self.entries[place.index()];
+        let word = link.words.next_word();
+        link.words.set_next_word(word.replaced(old, new));
     }
 
     ghost symmetric = { λ e a b j. joins_symmetric (W.next_word (words_of e)) a b j };

@@ -4,7 +4,7 @@ use Rattle.ic_link_ops.proofs.linked_list.PlainTableLinkedListOps.set_prev.Goals
 
 pub returns-clause-set : goal.returns-clause-set
 returns-clause-set g c =
-    says_written g.W.Words.is_linked _ g.met.W.Words.starts_unlinked (neighbors_of g.W.NextWord.next_word g.W.Words.is_linked g.W.PrevPlace.prev) (λ r. record r { prev = c.args.prev }) _ _ c.index_mut-entry.result.now _ _
+    says_written g.W.Words.is_linked _ g.met.W.Words.starts_unlinked (neighbors_of g.W.NextWord.next_word g.W.Words.is_linked g.W.PrevPlace.prev) (λ r. record r { prev = c.args.prev }) _ _ c.index_mut-entry.result.now _ _ _
     c.index.ensures.value c.requires.linked c.index_mut-entry.ensures.value
     (prev_set g.W.NextWord.next_word g.W.Words.is_linked g.W.PrevPlace.prev c.index_mut-entry.result.now.words c.set_prev.new.self _
     c.set_prev.ensures.linked c.set_prev.ensures.next_word c.set_prev.ensures.set)

@@ -9,7 +9,7 @@ use Rattle.ic_link_ops.proofs.rbtree.PlainTableThreeWordsRBTreeOps.set_right.Goa
 pub returns-clause-set : goal.returns-clause-set
 returns-clause-set g c =
     let names : place_at (bits_of c.of-entry.result) ≡ c.args.right = ap place_at c.of-entry.ensures ∙ place_at_word c.args.right in
-    says_written has_link no_words refl node_of (λ r. record r { right = c.args.right }) _ _ c.index_mut-entry.result.now _ _
+    says_written has_link no_words refl node_of (λ r. record r { right = c.args.right }) _ _ c.index_mut-entry.result.now _ _ _
     c.index.ensures.value c.requires.linked c.index_mut-entry.ensures.value (λ k. record (node_of c.index_mut-entry.result.now) { right = names k })
 
 pub returns-clause-frame : goal.returns-clause-frame

@@ -13,7 +13,7 @@ returns-clause-acquired g c =
     let at = c.index-index.ensures.value in
     let linked = linked_by g.W.Words.is_linked in
     let unlinked = link_of g.W.Words.unlinked in
-    let was = entry_read unlinked (entries c.args.self.now) c.args.place c.index.result.now c.index-index.result at c.requires.covered c.index.ensures in
+    let was = entry_read unlinked (entries c.args.self.now) c.args.place c.index.result.now _ c.index-index.result at c.requires.covered c.index.ensures in
     let is = entry_same unlinked (entries c.args.self.now) c.args.place (link_of c.link.new.self) c.index-index.result at c.requires.covered in
     links_only (ap linked was ∙ sym c.is_linked.ensures ∙ c.if-is_linked.false) (ap linked is ∙ c.link.ensures)
     (changes_only unlinked (entries c.args.self.now) c.args.place (link_of c.link.new.self) c.index-index.result at)

@@ -8,7 +8,7 @@ use Rattle.ic_link_ops.proofs.xor_linked_list.PlainTableXorLinkedListOps.replace
 pub returns-clause-replaced : goal.returns-clause-replaced
 returns-clause-replaced g c x joins =
     says_written g.W.Words.is_linked _ g.met.W.Words.starts_unlinked (λ l. g.W.NextWord.next_word (words_of l))
-    (λ w. bit_xor (bit_xor w (word_of c.args.old)) (word_of c.args.new)) _ _ c.index_mut-entry.result.now _ _
+    (λ w. bit_xor (bit_xor w (word_of c.args.old)) (word_of c.args.new)) _ _ c.index_mut-entry.result.now _ _ _
     c.index.ensures.value c.requires.linked c.index_mut-entry.ensures.value
     (c.set_next_word.ensures.set ∙ c.replaced.ensures ∙ ap (λ w. bit_xor (bit_xor w (word_of c.args.old)) (word_of c.args.new)) c.next_word-word.ensures)
     ∙ joins_replaced _ c.args.old c.args.new x joins

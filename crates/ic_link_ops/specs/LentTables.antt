@@ -1,0 +1,25 @@
+-- A plain table that is lent: a view of its links.
+use Rattle.std.specs.Prelude.{◌∷◌, [], List}
+use Rattle.std.specs.Borrow.{Lends, Fml, RattleType, MutBor, Array}
+use Rattle.std.specs.declared.alloc.Allocator.{Ghosts}
+use Rattle.ic_link_ops.specs.Tables.{Table}
+use Rattle.ic_link_ops.specs.Links.{link_of}
+use Rattle.ic_link_ops.specs.PlainTables.{table_with, with_entries}
+use Rattle.ic_link_ops.specs.declared.link.Link.{Link}
+use Rattle.ic_link_ops.specs.declared.table.PlainTable.{PlainTable}
+use Rattle.ic_link_ops.specs.contracts.table.PlainTable.{the_row}
+use Rattle.ic_link_ops.specs.contracts.link.Link.{the_row as link_row}
+use Rattle.ic_link_ops.specs.declared.lent_table.LentTable.{LentTable}
+
+module _ {W : Type 0} where
+  -- the links that are lent, in the order of their places
+  abbrev pub lent_entries : LentTable W → List (Link W)
+  lent_entries t = t.entries.now
+
+  -- as a table: the name of the borrow tells it from other tables that are lent
+  abbrev pub lent_table : W → LentTable W → Table (Link W)
+  lent_table unlinked t = table_with (link_of unlinked) (t.entries.ghost_name ∷ []) (lent_entries t)
+
+-- once the view ends, the table has the links that the view showed last
+abbrev pub LendsLinks : (W A : RattleType) → Ghosts A.Denot → MutBor (PlainTable W.Denot A.Denot) → LentTable W.Denot → Fml
+LendsLinks W A alloc table view = Lends (the_row W A alloc) (Array (link_row W) 0) table view.entries (with_entries table.now)

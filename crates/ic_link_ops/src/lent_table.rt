@@ -1,0 +1,120 @@
+//! A plain table that is lent: a view of its links, for a loop that makes many calls.
+//!
+//! ```text
+//! let mut links = table.lend();
+//! while let Some(object) = list.pop_front(&mut links) { .. }
+//! ```
+
+ghost use Rattle.std.specs.Prelude.{◌≡◌};
+ghost use Rattle.ic_unsafe_ref.specs.declared.place.Place.{Place};
+ghost use Rattle.ic_link_ops.specs.Tables.{IsCovered, IsLinked, IsUnlinked, ChangesOnly};
+
+use crate::link::{Link, Words};
+use crate::link_ops::LinkOps;
+use ic_unsafe_ref::Place;
+
+/// The links of a plain table, lent for as long as it is borrowed. [`PlainTable::lend`](crate::PlainTable::lend) makes it.
+///
+/// It has the link traits that the table has. In a loop over it no call reads again where the links are kept, as each call
+/// over the table itself does. When the view ends, the table has what it showed.
+pub struct LentTable<'a, W> {
+    pub(crate) entries: &'a mut [Link<W>],
+}
+
+impl<W> Drop for LentTable<'_, W> {
+    fn drop(self)
+        ensures links { self.exit.0.now ≡ self.entry.entries.now }
+    {
+        let LentTable { entries: _ } = self;
+    }
+}
+
+impl<W: Words> LentTable<'_, W> {
+    ghost use Rattle.ic_link_ops.specs.PlainTables.{linked_by};
+    ghost use Rattle.ic_link_ops.specs.LentTables.{lent_table};
+
+    /// How many places are covered: those with a smaller index.
+    #[inline]
+    pub fn covers(&self) -> usize
+        ensures { result ≡ (lent_table W.unlinked self.now).extent.places }
+    {
+        self.entries.len()
+    }
+
+    /// The link of `place`. It asks that the place is covered. O(1).
+    #[inline]
+    pub fn link(&self, place: Place) -> &Link<W>
+        requires covered { IsCovered (lent_table W.unlinked self.now) place }
+        ensures { result.now ≡ (lent_table W.unlinked self.now).entry place }
+    {
+        let entries = &*self.entries;
+        &entries[place.index()]
+    }
+
+    /// Whether `place` is linked. It asks that the place is covered. O(1).
+    #[inline]
+    pub fn is_linked(&self, place: Place) -> bool
+        requires covered { IsCovered (lent_table W.unlinked self.now) place }
+        ensures { result ≡ linked_by W.is_linked ((lent_table W.unlinked self.now).entry place) }
+    {
+        self.link(place).is_linked()
+    }
+
+    /// Unlinks `place`, whoever linked it, as [`PlainTable::force_unlink`](crate::PlainTable::force_unlink) does. O(1).
+    #[inline]
+    pub fn force_unlink(&mut self, place: Place)
+        requires covered { IsCovered (lent_table W.unlinked self.old) place }
+        ensures unlinked { IsUnlinked (linked_by W.is_linked) (lent_table W.unlinked self.new) place }
+        ensures frame { ChangesOnly (lent_table W.unlinked self.old) (lent_table W.unlinked self.new) place }
+    {
+        let link = &mut self.entries[place.index()];
+        link.words.unlink();
+    }
+}
+
+impl<W: Words> LinkOps for LentTable<'_, W> {
+    ghost use Rattle.ic_unsafe_ref.specs.Places.{index_of};
+    ghost use Rattle.ic_link_ops.specs.Links.{link_of};
+    ghost use Rattle.ic_link_ops.specs.PlainTables.{linked_by};
+    ghost use Rattle.ic_link_ops.specs.LentTables.{lent_entries, lent_table};
+    ghost use Rattle.ic_link_ops.specs.EntryLaws.{linked_in_range};
+    ghost use Rattle.ic_link_ops.specs.LinkSteps.{Replays};
+    ghost use Rattle.ic_link_ops.specs.StepLaws.{replays_on};
+    ghost use Rattle.std.proofs.Common.{ap, refl};
+
+    type Entry = Link<W>;
+
+    ghost table = { lent_table W.unlinked };
+
+    ghost linked = { linked_by W.is_linked };
+
+    ghost Does = { λ old new s. Replays (linked_by W.is_linked) (lent_table W.unlinked old) (lent_table W.unlinked new) s };
+
+    ghost Refused = { λ old new p. IsLinked (linked_by W.is_linked) (lent_table W.unlinked old) p × (new ≡ old) };
+
+    #[inline]
+    fn acquire_link(&mut self, place: Place) -> bool {
+        let index = place.index();
+        if self.entries[index].is_linked() {
+            return false;
+        }
+        let link = &mut self.entries[index];
+        link.words.link();
+        true
+    }
+
+    #[inline]
+    fn release_link(&mut self, place: Place) {
+        self.force_unlink(place);
+    }
+
+    ghost linked_is_covered = { λ t p h. linked_in_range (linked_by W.is_linked) (link_of W.unlinked) W.starts_unlinked (lent_entries t) (index_of p) h };
+
+    ghost does_nothing = { λ t q. refl };
+
+    ghost does_on = { λ a b c s t h k. replays_on (linked_by W.is_linked) s t (lent_table W.unlinked a) (lent_table W.unlinked b) (lent_table W.unlinked c) h k };
+
+    ghost does_replay = { λ old new s h. h };
+
+    ghost refused_keeps = { λ old new p h. ap (lent_table W.unlinked) h.1 };
+}
