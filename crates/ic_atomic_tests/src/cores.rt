@@ -7,11 +7,11 @@ ghost use Rattle.ic_atomic.specs.ClaimMap.{target};
 use crate::runs::{RUNS, place_below};
 use ic_atomic::{ClaimsError, Core, Step};
 use ic_unsafe_ref::Place;
-use rationed::Rationed;
-use rows::{Answer, Played, Run, play};
 use std::alloc::Global;
 use std::fmt::{self, Write};
 use std::test::Fail;
+use test_support::rationed::Rationed;
+use test_support::rows::{Answer, Played, Run, play};
 
 /// A core, and the answers to the steps that it replayed, which are what is shown. A row is one of these:
 ///

@@ -8,10 +8,10 @@ ghost use Rattle.ic_atomic_tests.specs.Held.{Holds, HoldEach};
 use crate::runs::{RUNS, place_below};
 use ic_atomic::{Claims, Holder};
 use ic_unsafe_ref::Place;
-use rows::{Answer, Played, Run, play};
 use std::alloc::{AllocError, Global};
 use std::fmt;
 use std::test::Fail;
+use test_support::rows::{Answer, Played, Run, play};
 
 // The step of that name, by a holder that still holds `held`, if that is a place: its answer, as a core gives it, and the
 // place that it holds then. A release is made where it is of that place.

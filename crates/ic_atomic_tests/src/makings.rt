@@ -5,10 +5,10 @@ ghost use Rattle.std.specs.Prelude.{All};
 
 use crate::runs::{place_below, same};
 use ic_atomic::{Claims, ClaimsError, Holder};
-use rationed::Rationed;
-use rows::Answer;
 use std::alloc::{AllocError, Global};
 use std::test::Fail;
+use test_support::rationed::Rationed;
+use test_support::rows::Answer;
 
 // The request to refuse where none is.
 const NONE: u64 = u64::MAX;

@@ -4,9 +4,9 @@ ghost use Rattle.std.specs.Prelude.{◌<◌, IfSome};
 ghost use Rattle.ic_unsafe_ref.specs.Places.{index_of};
 
 use ic_unsafe_ref::Place;
-use rows::Run;
 use std::fmt::Debug;
 use std::process::Abort;
+use test_support::rows::Run;
 
 pub(crate) const RUNS: [Run; 3] = [
     Run {

@@ -2,8 +2,8 @@
 
 use ic_link_ops::Color;
 use ic_unsafe_ref::Place;
-use rows::Answer;
 use std::alloc::AllocError;
+use test_support::rows::Answer;
 
 /// What is answered for a place or none.
 pub(crate) fn place_or_none(place: Option<Place>) -> Answer {

@@ -6,10 +6,10 @@ use ic_link_ops::linked_list::TwoWords;
 use ic_link_ops::rbtree::ThreeWords;
 use ic_link_ops::singly_linked_list::Singly;
 use ic_link_ops::xor_linked_list::Xor;
-use rationed::Rationed;
-use rows::{Answer, Played};
 use std::alloc::Global;
 use std::fmt;
+use test_support::rationed::Rationed;
+use test_support::rows::{Answer, Played};
 
 /// Of which form a table's words are.
 #[derive(Clone, Copy)]

@@ -3,10 +3,10 @@
 use crate::answers::{place_or_none, read_place, text};
 use ic_link_ops::{AlreadyLinked, CoverError, ReplaceError};
 use ic_unsafe_ref::{Place, UnsafeRef};
-use rows::{Answer, Played, Run, play};
 use std::alloc::Global;
 use std::fmt;
 use std::test::Fail;
+use test_support::rows::{Answer, Played, Run, play};
 
 // Makes errors and reads them. Nothing is kept, so nothing is shown.
 #[derive(Drop)]

@@ -10,9 +10,9 @@ use ic_link_ops::singly_linked_list::{Singly, SinglyLinkedListOps};
 use ic_link_ops::xor_linked_list::{Xor, XorLinkedListOps};
 use ic_link_ops::{Color, Link, NextWord, OneWord, PlainTable, PrevPlace, Words};
 use ic_unsafe_ref::Place;
-use rationed::Rationed;
-use rows::Answer;
 use std::alloc::Global;
+use test_support::rationed::Rationed;
+use test_support::rows::Answer;
 
 /// Words of a table, with the calls of the traits that the table carries.
 pub(crate) trait Kind: Words {

@@ -2,11 +2,11 @@
 
 use crate::answers::{place_or_none, read_place};
 use ic_unsafe_ref::{Objects, Place, UnsafeRef};
-use rationed::Rationed;
-use rows::{Answer, Played, Run, play};
 use std::fmt::{self, Write};
 use std::mem;
 use std::test::Fail;
+use test_support::rationed::Rationed;
+use test_support::rows::{Answer, Played, Run, play};
 
 // Objects over an allocator that refuses the requests which a row names, and the value that came back last.
 #[derive(Drop)]

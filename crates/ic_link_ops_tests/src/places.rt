@@ -2,10 +2,10 @@
 
 use crate::answers::{place_or_none, read_place};
 use ic_unsafe_ref::{Place, UnsafeRef};
-use rows::{Answer, Played, Run, play};
 use std::alloc::Global;
 use std::fmt;
 use std::test::Fail;
+use test_support::rows::{Answer, Played, Run, play};
 
 // Calls of places. They change nothing, so nothing is shown.
 #[derive(Drop)]

@@ -7,10 +7,10 @@ use crate::answers::{read_place, text};
 use crate::kinds::Kind;
 use ic_link_ops::{CoverError, Link, LinkOps, PlainTable, Words};
 use ic_unsafe_ref::Place;
-use rationed::Rationed;
-use rows::Answer;
 use std::alloc::Global;
 use std::fmt::{self, Write};
+use test_support::rationed::Rationed;
+use test_support::rows::Answer;
 
 /// A table over an allocator that refuses the requests which a row names.
 #[derive(Drop)]

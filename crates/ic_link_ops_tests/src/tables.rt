@@ -1,10 +1,10 @@
 //! The worked rows of the plain tables, and which table carries what.
 
 use crate::any_table::{AnyTable, Form};
-use rationed::Rationed;
-use rows::{Run, Wrong, play};
 use std::alloc::Global;
 use std::test::Fail;
+use test_support::rationed::Rationed;
+use test_support::rows::{Run, Wrong, play};
 
 // What each table does.
 const COMMON: [Run; 5] = [

@@ -2,9 +2,9 @@
 
 use crate::answers::{color, place_or_none, read_place};
 use ic_link_ops::{Color, End, MarkedWord, TreeWord, Word};
-use rows::{Answer, Played, Run, play};
 use std::fmt::{self, Write};
 use std::test::Fail;
+use test_support::rows::{Answer, Played, Run, play};
 
 // A word of each form.
 #[derive(Drop)]

@@ -2,8 +2,8 @@
 
 use ic_link_ops::{AlreadyLinked, ReplaceError};
 use ic_unsafe_ref::{Place, UnsafeRef};
-use rows::Answer;
 use std::fmt;
+use test_support::rows::Answer;
 
 /// What a place is answered as.
 pub(crate) fn number(place: Place) -> Answer {

@@ -15,7 +15,7 @@ use crate::lists::{By, Lists};
 use ic_link_ops::linked_list::{LinkOps, LinkedListOps};
 use ic_linked_list::{Cursor, CursorMut, CursorOwning, LinkedList, laws};
 use ic_unsafe_ref::{Place, UnsafeRef};
-use rows::Answer;
+use test_support::rows::Answer;
 
 /// A cursor that keeps the list, at that position.
 pub(crate) fn owning(

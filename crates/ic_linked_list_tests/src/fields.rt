@@ -3,10 +3,10 @@
 use crate::answers::number;
 use crate::lists::{self, By, Lists};
 use ic_unsafe_ref::{Objects, UnsafeRef};
-use rows::{Answer, Played};
 use std::alloc::Global;
 use std::fmt::{self, Write};
 use std::test::Fail;
+use test_support::rows::{Answer, Played};
 
 /// Objects, with two lists and a cursor in each of two fields.
 #[derive(Drop)]

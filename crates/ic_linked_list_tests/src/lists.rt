@@ -4,11 +4,11 @@ use crate::answers::{inserted, object};
 use ic_link_ops::linked_list::LinkOps;
 use ic_linked_list::{LinkedList, laws};
 use ic_unsafe_ref::{Objects, Place, UnsafeRef};
-use rows::Answer;
 use std::alloc::Global;
 use std::marker::Model;
 use std::mem;
 use std::test::Fail;
+use test_support::rows::Answer;
 
 /// By which cursor the calls at a position are made.
 #[derive(Clone, Copy)]

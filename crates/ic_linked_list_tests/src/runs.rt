@@ -1,7 +1,7 @@
 //! Worked rows of the doubly linked list alone: the call, its answer, and what is shown then, where that has changed.
 //! `(2)` is the member that the cursor is on, what stands behind `+` is the other list, and behind `/` the second field.
 
-use rows::Run;
+use test_support::rows::Run;
 
 /// Two fields, and calls that only this list has.
 pub(crate) const OWN: &[Run] = &[

@@ -9,8 +9,8 @@ use crate::walks::write_linked;
 use ic_link_ops::linked_list::LinkOps;
 use ic_linked_list::{IntoIter, LinkedList};
 use ic_unsafe_ref::UnsafeRef;
-use rows::Answer;
 use std::fmt::{self, Write};
+use test_support::rows::Answer;
 
 // Takes off the member at the front, or at the back.
 fn take_at(rest: &mut IntoIter<'_, u64, LinkOps>, at_the_front: bool) -> Option<UnsafeRef<u64>>

@@ -3,9 +3,9 @@
 use crate::fields::Fields;
 use crate::lists::By;
 use crate::runs::OWN;
-use rows::{EDITS, MOVES, Run, SPLICES_AND_SPLITS, WALKS, WHOLE_LISTS, play};
 use std::alloc::Global;
 use std::test::Fail;
+use test_support::rows::{EDITS, MOVES, Run, SPLICES_AND_SPLITS, WALKS, WHOLE_LISTS, play};
 
 // Plays each run by each cursor, on empty lists of tables that cover the places 0 to 4.
 fn play_all(alloc: Global, runs: &[Run]) -> Result<(), Fail> {

@@ -16,9 +16,9 @@ use crate::lists::{By, Lists};
 use ic_link_ops::linked_list::LinkOps;
 use ic_linked_list::{Cursor, Iter, LinkedList, laws};
 use ic_unsafe_ref::{Objects, Place};
-use rows::Answer;
 use std::alloc::{AllocError, Global};
 use std::fmt::{self, Write};
+use test_support::rows::Answer;
 
 // Moves the cursor, and answers where it is then, and whether a move back would lead where it was.
 fn step(cursor: &mut Cursor<'_, u64, LinkOps>) -> (Option<Place>, bool)

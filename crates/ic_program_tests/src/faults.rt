@@ -2,10 +2,10 @@
 
 use crate::program_runs::{run, same};
 use ic_program::run_program;
-use rationed::Rationed;
 use std::alloc::Global;
 use std::io::{self, BufReader, BufWriter, ErrorKind, Read, Write};
 use std::test::Fail;
+use test_support::rationed::Rationed;
 
 // Gives its text, and fails then.
 #[derive(Drop)]

@@ -1,9 +1,9 @@
 //! Whole runs, refusals in order, and each growth refused in turn.
 
 use crate::worlds::Worlds;
-use rationed::Rationed;
-use rows::{Run, play};
 use std::test::Fail;
+use test_support::rationed::Rationed;
+use test_support::rows::{Run, play};
 
 // What grows has room for four at first, and then for twice as many. The requests of a call are as many as can be
 // refused, one after the other: the one behind them is not asked for.

@@ -3,10 +3,10 @@
 use ic_program::{OwnKey, answer, from_words};
 use ic_unsafe_ref::Place;
 use ic_world::{Answer as Made, Command, World};
-use rationed::Rationed;
-use rows::{Answer, Played};
 use std::alloc::{AllocError, Global};
 use std::fmt::{self, Write};
+use test_support::rationed::Rationed;
+use test_support::rows::{Answer, Played};
 
 // How many numbers of objects and of collections are asked for. No run makes as many.
 const ASKED: usize = 8;

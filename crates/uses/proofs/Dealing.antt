@@ -1,9 +1,9 @@
 -- Dealing a walk to two hands: before the first call, after one more, and what the hands gained.
-use Rattle.std.proofs.Common.{◌≡◌, Option, Some, List, [], ◌∷◌, ◌++◌, map, reverse, length, drop, refl, sym, ◌∙◌, ap, append_assoc, append-nil}
-use Rattle.std.proofs.Math.Seq.{drop-append_seam}
+use Rattle.std.proofs.Common.{◌≡◌, Option, Some, List, [], ◌∷◌, ◌++◌, map, reverse, length, drop, take, refl, sym, ◌∙◌, ap, append_assoc, append-nil}
+use Rattle.std.proofs.Math.Seq.{drop-append_seam, take-append_seam}
 use Rattle.ic_link_ops.specs.BothEnds.{Item, at_the_front, at_the_back, from_front, from_back}
 use Rattle.ic_link_ops.proofs.BothEnds.{leads_on, from_front_on, from_back_on, from_front_map, from_back_map}
-use Rattle.uses.specs.Hands.{gained, HasDealt}
+use Rattle.uses.specs.Hands.{Keeps, gained, HasDealt}
 
 module _ {A : Type 0} where
   -- a hand that gained, and gained again
@@ -39,6 +39,13 @@ module _ {S A : Type 0} (next_gives next_back_gives : S → Option A → S → T
         at_fronts = gained_on fronts other other _ [] _ dealt.at_fronts (sym (append-nil other)) (from_front_on (λ x. x) dealt.items more);
         at_backs = gained_on backs mid new _ (x ∷ []) _ dealt.at_backs is (from_back_on (λ x. x) dealt.items more);
       }
+
+  -- a hand keeps what it had
+  pub fronts_kept : {s t : S} {fronts new_fronts backs new_backs : List A} → HasDealt next_gives next_back_gives s t fronts new_fronts backs new_backs → Keeps fronts new_fronts
+  fronts_kept {fronts = fronts} dealt = ap (take (length fronts)) dealt.at_fronts ∙ take-append_seam fronts _
+
+  pub backs_kept : {s t : S} {fronts new_fronts backs new_backs : List A} → HasDealt next_gives next_back_gives s t fronts new_fronts backs new_backs → Keeps backs new_backs
+  backs_kept {backs = backs} dealt = ap (take (length backs)) dealt.at_backs ∙ take-append_seam backs _
 
   -- where what the calls gave is w, so is what the hands gained
   pub all_dealt : {s t : S} {fronts new_fronts backs new_backs w : List A} → (dealt : HasDealt next_gives next_back_gives s t fronts new_fronts backs new_backs)

@@ -2,7 +2,7 @@ use Rattle.std.proofs.Common.{◌≡◌, inl, inr, []}
 use Rattle.std.proofs.lemmas.Result.{on_ok_weaker}
 use Rattle.ic_linked_list.specs.IntoIter.{TakesFirst, TakesLast}
 use Rattle.ic_linked_list.proofs.WalkLaws.{two_ended_taking}
-use Rattle.uses.proofs.Dealing.{all_dealt}
+use Rattle.uses.proofs.Dealing.{all_dealt, fronts_kept, backs_kept}
 use Rattle.uses.proofs.NothingLeft.{nothing_first, nothing_last}
 use Rattle.uses.proofs.deal.deal.Goals as goal
 
@@ -22,3 +22,17 @@ returns-clause-dealt g c s shown =
     all_dealt (TakesFirst neighbors table Does) (TakesLast neighbors table Does) e.1
     (two_ended_taking neighbors table Does c.into_iter.result e.0 s e.1.items
     (rw (c.into_iter.ensures.links, c.into_iter.ensures.list) shown) e.1.leads (rw none at rest.1))) e.2
+
+pub returns-clause-fronts_keep : goal.returns-clause-fronts_keep
+returns-clause-fronts_keep g c =
+    let neighbors = g.L.LinkedListOps.neighbors in
+    let table = g.L.LinkOps.table in
+    let Does = g.L.LinkOps.Does in
+    fronts_kept (TakesFirst neighbors table Does) (TakesLast neighbors table Does) c.in_turns.ensures.dealt.1
+
+pub returns-clause-backs_keep : goal.returns-clause-backs_keep
+returns-clause-backs_keep g c =
+    let neighbors = g.L.LinkedListOps.neighbors in
+    let table = g.L.LinkOps.table in
+    let Does = g.L.LinkOps.Does in
+    backs_kept (TakesFirst neighbors table Does) (TakesLast neighbors table Does) c.in_turns.ensures.dealt.1

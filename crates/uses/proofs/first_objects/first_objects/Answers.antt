@@ -6,6 +6,10 @@ use Rattle.ic_linked_list.proofs.Calling.{walk_copied}
 use Rattle.ic_linked_list.proofs.ListedValues.{has_covered, has_pushed, has_all, has_first, has_taken}
 use Rattle.uses.proofs.first_objects.first_objects.Goals as goal
 
+pub push_back-requires-clause-shown : goal.push_back-requires-clause-shown
+push_back-requires-clause-shown g c =
+    let has = has_covered c.in_ok-cover.ensures.stays c.loop-value.invariant in (has.members, has.shown)
+
 pub loop-value-preserved : goal.loop-value-preserved
 loop-value-preserved g c =
     let put = c.push_back.ensures in

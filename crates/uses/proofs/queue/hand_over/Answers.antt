@@ -7,6 +7,7 @@ use Rattle.ic_link_ops.proofs.CollectionLaws.{others_stay}
 use Rattle.ic_link_ops.proofs.Covering.{still_covered}
 use Rattle.ic_link_ops.proofs.DoublyLists.{plain_lists}
 use Rattle.ic_link_ops.proofs.SequenceLemmas.{absent_left, absent_right, disjoint_cons, disjoint_sym, first_is, some_same}
+use Rattle.ic_link_ops.proofs.LinkedSets.{linked_again}
 use Rattle.ic_linked_list.proofs.Calling.{accepted}
 use Rattle.uses.proofs.queue.hand_over.Goals as goal
 
@@ -44,3 +45,9 @@ returns-clause-frame g c s t shown other apart =
           let beside = absent_left q s t out in
           put.others q ((rw (first_is s (c.in_ok-object.ensures.answer s shown)) at beside).0, absent_right q s t out) ∙ taken.others q beside;
     }
+
+pub returns-clause-linked : goal.returns-clause-linked
+returns-clause-linked g c =
+    let off = c.in_ok-object.ensures in
+    let put = c.push_back.ensures in
+    linked_again _ _ _ c.in_ok-object.object off.released (accepted _ c.push_back.result off.released.is put.refused put.acquired)

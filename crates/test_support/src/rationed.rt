@@ -1,0 +1,102 @@
+//! An allocator for tests that refuses one chosen request for memory.
+//!
+//! It is for tests in which each growth is refused in turn: the test makes the container over a
+//! `&Rationed`, names the request that is to fail, and looks at what the call answers and at what
+//! the container then holds. The block that a container had stays its own when a growth is refused.
+
+ghost use Rattle.std.specs.Prelude.{◌≡◌, ◌+◌, ◌<◌, ◌↔◌, min, IsTrue};
+
+use std::alloc::{AllocError, Allocator, Global};
+use std::cell::Cell;
+
+// How many requests there have been, and the number of the one to refuse.
+#[derive(Clone, Copy)]
+struct Count {
+    asked: u64,
+    refused: u64,
+}
+
+impl Count {
+    // A refused number of `u64::MAX` stands for none, also where the count has come to its end.
+    fn is_refused(self) -> bool
+        ensures { IsTrue result ↔ ((self.asked ≡ self.refused) × (self.refused < u64.MAX)) }
+    {
+        self.asked == self.refused && self.refused < u64::MAX
+    }
+
+    fn one_more(self) -> Count
+        ensures asked { result.asked ≡ min (self.asked + 1) u64.MAX }
+        ensures refused { result.refused ≡ self.refused }
+    {
+        Count {
+            asked: self.asked.saturating_add(1),
+            refused: self.refused,
+        }
+    }
+
+    fn refusing(self, n: u64) -> Count
+        ensures asked { result.asked ≡ self.asked }
+        ensures refused { result.refused ≡ min (self.asked + n) u64.MAX }
+    {
+        Count {
+            asked: self.asked,
+            refused: self.asked.saturating_add(n),
+        }
+    }
+}
+
+// Counts one more request, and says whether it is the one to refuse.
+fn refuses_next(count: &Cell<Count>) -> bool {
+    let before = count.get();
+    count.set(before.one_more());
+    before.is_refused()
+}
+
+/// An allocator over another that refuses one chosen request for memory, and passes every other
+/// request on. A container is made over a `&Rationed`, which is an allocator too and is `Copy`.
+///
+/// A request is an allocation, also the one by which a container moves its items to a larger or a
+/// smaller block. Giving a block back is none: it goes to the allocator below, and never fails.
+#[derive(Drop)]
+pub struct Rationed<A: Allocator = Global> {
+    alloc: A,
+    count: Cell<Count>,
+}
+
+impl<A: Allocator> Rationed<A> {
+    /// An allocator over `alloc` that refuses the request number `refused`, counted from 0.
+    /// With `u64::MAX` it refuses none.
+    pub fn new(alloc: A, refused: u64) -> Rationed<A> {
+        Rationed {
+            alloc,
+            count: Cell::new(Count { asked: 0, refused }),
+        }
+    }
+
+    /// How many requests for memory it has been asked since it was made, a refused one included.
+    /// The count stays at `u64::MAX` once it is there.
+    pub fn requests(&self) -> u64 {
+        self.count.get().asked
+    }
+
+    /// Names another request to refuse, and only that one: the number `n`, counted from 0 again
+    /// from this call. With `u64::MAX` it refuses none. `requests` counts on.
+    pub fn refuse(&self, n: u64) {
+        self.count.set(self.count.get().refusing(n));
+    }
+}
+
+unsafe impl<A: Allocator> Allocator for Rationed<A> {
+    ghost dealloc_token = { λ rationed ty block. A.dealloc_token rationed.alloc ty block };
+
+    fn allocate(&self, size: usize, align: usize) -> Result<*mut u8, AllocError> {
+        if refuses_next(&self.count) {
+            return Err(AllocError);
+        }
+        self.alloc.allocate(size, align)
+    }
+
+    unsafe fn deallocate(&self, ptr: *mut u8, size: usize, align: usize) {
+        self.alloc.deallocate(ptr, size, align);
+    }
+}
