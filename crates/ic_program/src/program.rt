@@ -85,6 +85,12 @@ fn refuse_arguments<W: Write>(writer: &mut W) -> io::Result<Ending>
     Ok(Ending::NotUnderstood)
 }
 
+// The line of that number is no command.
+fn refuse_line<W: Write>(writer: &mut W, number: u64) -> io::Result<Ending> {
+    writeln!(writer, "line {number}: no command")?;
+    Ok(Ending::NotUnderstood)
+}
+
 // Answers each line in turn, until the input ends or a line is no command. After a fault the lines before it are answered.
 fn answer_lines<M: Allocator + Copy, R: BufRead, W: Write>(
     alloc: M,
@@ -98,20 +104,31 @@ fn answer_lines<M: Allocator + Copy, R: BufRead, W: Write>(
         if reader.read_line(&mut line)? == 0 {
             return Ok(Ending::Finished);
         }
-        let words = command::words_of(without_end(&line));
-        if words.is_empty() {
-            continue;
-        }
-        match command::from_words(&words) {
-            Some(command) => writeln!(writer, "{}", answer(&mut world, command))?,
-            None => {
-                writeln!(writer, "line {}: no command", lines_before + 1)?;
-                return Ok(Ending::NotUnderstood);
-            }
+        if !answer_line(&mut world, &line, writer)? {
+            return refuse_line(writer, lines_before + 1);
         }
     }
     // There are more lines than a number counts.
     Err(io::Error::from(ErrorKind::TimedOut))
+}
+
+// Answers a line, of which an empty one has no answer. `false`: it is no command.
+fn answer_line<M: Allocator + Copy, W: Write>(
+    world: &mut World<OwnKey, M>,
+    line: &str,
+    writer: &mut W,
+) -> io::Result<bool> {
+    let words = command::words_of(without_end(line));
+    if words.is_empty() {
+        return Ok(true);
+    }
+    match command::from_words(&words) {
+        Some(command) => {
+            writeln!(writer, "{}", answer(world, command))?;
+            Ok(true)
+        }
+        None => Ok(false),
+    }
 }
 
 // A line as `lines` gives it: without the `\n` or `\r\n` that ends it.

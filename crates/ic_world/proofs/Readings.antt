@@ -31,9 +31,9 @@ module _ {V : Type 0} where
     pub table_back : set tables k.field now ≡ tables
     pub list_back : set cs c (Some k) ≡ cs
 
-  pub found_at : (cs : List (Option (Collection V))) (c : ℕ) {n len : ℕ} {o : Option (Collection V)} {k : Collection V}
-      → c < n → n ≡ len → len ≡ length cs → o ≡ get_or cs c o → o ≡ Some k → at cs c ≡ Some k
-  found_at cs c {n} {len} {o} {k} h e l read is = get_or_default cs c None o (omega (arith, h, e, l)) ∙ sym read ∙ is
+  pub found_at : (cs : List (Option (Collection V))) (c : ℕ) {n len : ℕ} {o p : Option (Collection V)}
+      → c < n → n ≡ len → len ≡ length cs → o ≡ get_or cs c o → o ≡ p → at cs c ≡ p
+  found_at cs c {n} {len} {o} {p} h e l read is = get_or_default cs c None o (omega (arith, h, e, l)) ∙ sym read ∙ is
 
   pub found : {M : Type 0} {objects : Objects V} {room : ℕ} (tables : List (DoublyLinkOps M)) {cs : List (Option (Collection V))} {c n len : ℕ} {o : Option (Collection V)} {k : Collection V} {now : DoublyLinkOps M}
       → IsWhole objects room (map entries tables) cs → c < n → n ≡ len → len ≡ length cs → o ≡ get_or cs c o → o ≡ Some k → now ≡ get_or tables k.field now

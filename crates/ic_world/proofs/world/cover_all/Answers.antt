@@ -1,10 +1,16 @@
-use Rattle.std.proofs.Common.{◌<◌, arith, map, length, [], inl, inr}
+use Rattle.std.proofs.Common.{◌<◌, arith, map, length, [], inl, inr, refl}
 use Rattle.std.proofs.lemmas.Bool.{cases_eq}
 use Rattle.std.proofs.lemmas.List.{length-map, map-set, get_or-map, get_or-set_same, get_or-set_other}
 use Rattle.ic_link_ops.specs.DoublyEntries.{entries}
 use Rattle.ic_world.proofs.Growth.{grown_more, covers_more}
 use Rattle.ic_world.proofs.Steps.{from_ok}
 use Rattle.ic_world.proofs.world.cover_all.Goals as goal
+
+pub loop-f-init : goal.loop-f-init
+loop-f-init g c = record {
+  grown = record { count = omega arith; longer = λ f. omega arith; entries = λ f q. refl };
+  done = λ f h. absurd (omega (arith, h));
+}
 
 pub loop-f-preserved : goal.loop-f-preserved
 loop-f-preserved g c =
@@ -37,3 +43,6 @@ returns-then-is_err-clause-grown g c =
     let e = c.cover.ensures in
     let more = covers_more c.cover.result _ _ _ e.covers e.refused in
     rw map-set (grown_more (map entries c.args.tables.now) us f new c.loop-f.invariant.grown in_us (rw read more) (λ q. rw read (e.stays q)))
+
+pub returns-clause-ok : goal.returns-clause-ok
+returns-clause-ok g c = λ f h. c.loop-f.invariant.done f (omega (arith, h, c.loop-f-test.false, c.loop-f.auto.tables))

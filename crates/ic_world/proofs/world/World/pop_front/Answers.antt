@@ -1,10 +1,27 @@
-use Rattle.std.proofs.Common.{arith, map}
-use Rattle.std.proofs.lemmas.List.{length-map, map-set}
+use Rattle.std.proofs.Common.{◌≤◌, arith, length, map, None}
+use Rattle.std.proofs.lemmas.List.{get_or_past, length-map, map-set}
 use Rattle.ic_link_ops.specs.DoublyEntries.{entries}
 use Rattle.ic_world.specs.Tables.{sequence}
-use Rattle.ic_world.proofs.Readings.{found, found_at}
-use Rattle.ic_world.proofs.Calls.{pop_done, pop_empty, pop_whole}
+use Rattle.ic_world.proofs.Readings.{found, found_at, set_back}
+use Rattle.ic_world.proofs.Calls.{pop_done, pop_empty, pop_missing, pop_whole}
 use Rattle.ic_world.proofs.world.World.pop_front.Goals as goal
+
+pub returns-then-collection-len : goal.returns-then-collection-len
+returns-then-collection-len g c =
+    let cs = c.self.inside.collections in
+    let past : length cs.items ≤ c.args.collection = omega (arith, c.if-collection-len.true, c.len.ensures, cs.ok.0) in
+    rw (← c.self.view_is) (pop_missing c.self.inside.objects (map entries c.self.inside.fields.items) cs.items c.args.collection (get_or_past cs.items c.args.collection None past))
+
+pub invariant_of-self : goal.invariant_of-self
+invariant_of-self g c =
+    rw (set_back c.self.inside.collections.items c.args.collection c.index_mut.result.now c.index_mut.ensures.value) c.self.invariant
+
+pub returns-in-None : goal.returns-in-None
+returns-in-None g c =
+    let cs = c.self.inside.collections in
+    let none = found_at cs.items c.args.collection c.if-collection-len.false c.len.ensures cs.ok.0 c.index_mut.ensures.value c.in-None.is in
+    rw (← c.self.view_is, set_back cs.items c.args.collection c.index_mut.result.now c.index_mut.ensures.value)
+    (pop_missing c.self.inside.objects (map entries c.self.inside.fields.items) cs.items c.args.collection none)
 
 pub index_mut-links-requires : goal.index_mut-links-requires
 index_mut-links-requires g c =

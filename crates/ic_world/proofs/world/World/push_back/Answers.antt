@@ -1,12 +1,33 @@
-use Rattle.std.proofs.Common.{◌∙◌, sym, arith, map, Some}
-use Rattle.std.proofs.lemmas.List.{length-map, map-set}
+use Rattle.std.proofs.Common.{◌≤◌, ◌∙◌, sym, arith, length, map, None, Some}
+use Rattle.std.proofs.lemmas.List.{get_or_past, length-map, map-set}
 use Rattle.ic_unsafe_ref.specs.Places.{index_of}
 use Rattle.ic_link_ops.specs.DoublyEntries.{entries}
 use Rattle.ic_world.specs.Tables.{sequence, HasObject}
 use Rattle.ic_world.proofs.Readings.{found, found_at, set_back}
 use Rattle.ic_world.proofs.Steps.{from_ok, from_err, from_if_err}
-use Rattle.ic_world.proofs.Calls.{push_done, push_linked, push_unplaced, push_whole}
+use Rattle.ic_world.proofs.Calls.{push_done, push_linked, push_missing, push_unplaced, push_whole}
 use Rattle.ic_world.proofs.world.World.push_back.Goals as goal
+
+pub returns-then-collection-len : goal.returns-then-collection-len
+returns-then-collection-len g c =
+    let cs = c.self.inside.collections in
+    let past : length cs.items ≤ c.args.collection = omega (arith, c.if-collection-len.true, c.len.ensures, cs.ok.0) in
+    rw (← c.self.view_is) (push_missing c.self.inside.objects (map entries c.self.inside.fields.items) cs.items c.args.collection c.args.object (get_or_past cs.items c.args.collection None past))
+
+pub invariant_of-self : goal.invariant_of-self
+invariant_of-self g c =
+    rw (set_back c.self.inside.collections.items c.args.collection c.index_mut.result.now c.index_mut.ensures.value) c.self.invariant
+
+pub returns-in-None : goal.returns-in-None
+returns-in-None g c =
+    let cs = c.self.inside.collections in
+    let none = found_at cs.items c.args.collection c.if-collection-len.false c.len.ensures cs.ok.0 c.index_mut.ensures.value c.in-None.is in
+    rw (← c.self.view_is, set_back cs.items c.args.collection c.index_mut.result.now c.index_mut.ensures.value)
+    (push_missing c.self.inside.objects (map entries c.self.inside.fields.items) cs.items c.args.collection c.args.object none)
+
+pub invariant_of-self-then-not-placed : goal.invariant_of-self-then-not-placed
+invariant_of-self-then-not-placed g c =
+    rw (set_back c.self.inside.collections.items c.args.collection (Some c.in-Some.found) (rw c.in-Some.is at c.index_mut.ensures.value)) c.self.invariant
 
 pub returns-then-not-placed : goal.returns-then-not-placed
 returns-then-not-placed g c =
