@@ -1,7 +1,6 @@
 -- What a table has once its view ends.
 use Rattle.std.proofs.Common.{◌≡◌, List, length, sym, ◌∙◌}
 use Rattle.std.proofs.lemmas.List.{with_items_is}
-use Rattle.ic_unsafe_ref.specs.declared.place.Place.{Place}
 use Rattle.ic_link_ops.specs.declared.link.Link.{Link}
 use Rattle.ic_link_ops.specs.declared.table.PlainTable.{PlainTable}
 use Rattle.ic_link_ops.specs.PlainTables.{entries, with_entries}

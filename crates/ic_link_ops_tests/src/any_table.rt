@@ -30,13 +30,18 @@ pub(crate) enum AnyTable<'a> {
 }
 
 impl<'a> AnyTable<'a> {
-    /// A table of that form, which covers no place.
-    pub(crate) fn new(alloc: Global, rationed: &'a Rationed, form: Form) -> AnyTable<'a> {
+    /// A table of that form, which covers no place. `is_lent` says that calls with a place are made over a view of it.
+    pub(crate) fn new(
+        alloc: Global,
+        rationed: &'a Rationed,
+        form: Form,
+        is_lent: bool,
+    ) -> AnyTable<'a> {
         match form {
-            Form::Singly => AnyTable::Singly(Table::new(alloc, rationed)),
-            Form::Xor => AnyTable::Xor(Table::new(alloc, rationed)),
-            Form::Doubly => AnyTable::Doubly(Table::new(alloc, rationed)),
-            Form::Tree => AnyTable::Tree(Table::new(alloc, rationed)),
+            Form::Singly => AnyTable::Singly(Table::new(alloc, rationed, is_lent)),
+            Form::Xor => AnyTable::Xor(Table::new(alloc, rationed, is_lent)),
+            Form::Doubly => AnyTable::Doubly(Table::new(alloc, rationed, is_lent)),
+            Form::Tree => AnyTable::Tree(Table::new(alloc, rationed, is_lent)),
         }
     }
 }

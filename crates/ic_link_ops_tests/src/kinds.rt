@@ -2,13 +2,14 @@
 
 ghost use Rattle.ic_link_ops.specs.Tables.{IsLinked};
 ghost use Rattle.ic_link_ops.specs.PlainTables.{table, linked_by};
+ghost use Rattle.ic_link_ops.specs.LentTables.{lent_table};
 
 use crate::answers::{color, place_or_none, read_place, text};
 use ic_link_ops::linked_list::{LinkedListOps, TwoWords};
 use ic_link_ops::rbtree::{RBTreeOps, ThreeWords};
 use ic_link_ops::singly_linked_list::{Singly, SinglyLinkedListOps};
 use ic_link_ops::xor_linked_list::{Xor, XorLinkedListOps};
-use ic_link_ops::{Color, Link, NextWord, OneWord, PlainTable, PrevPlace, Words};
+use ic_link_ops::{Color, LentTable, Link, OneWord, PlainTable, Words};
 use ic_unsafe_ref::Place;
 use std::alloc::Global;
 use test_support::rationed::Rationed;
@@ -29,16 +30,25 @@ pub(crate) trait Kind: Words {
         words: &[&str],
     ) -> Answer
         requires linked { IsLinked (linked_by Self.is_linked) (table Self.unlinked links.old) place };
+
+    /// The same over a view of the table.
+    fn call_lent(
+        links: &mut LentTable<'_, Self>,
+        place: Place,
+        kind: &str,
+        words: &[&str],
+    ) -> Answer
+        requires linked { IsLinked (linked_by Self.is_linked) (lent_table Self.unlinked links.old) place };
 }
 
 // A call of the singly linked list's trait.
-fn singly<W: NextWord>(links: &mut PlainTable<W, &Rationed>, place: Place, words: &[&str]) -> Answer
-    requires linked { IsLinked (linked_by W.is_linked) (table W.unlinked links.old) place }
+fn singly<L: SinglyLinkedListOps>(links: &mut L, place: Place, words: &[&str]) -> Answer
+    requires linked { IsLinked L.linked (L.table links.old) place }
 {
     match *words {
-        ["next"] => place_or_none(SinglyLinkedListOps::next(links, place)),
+        ["next"] => place_or_none(links.next(place)),
         ["set_next", next] => {
-            SinglyLinkedListOps::set_next(links, place, read_place(next));
+            links.set_next(place, read_place(next));
             Answer::Done
         }
         _ => Answer::Refused("call"),
@@ -46,19 +56,18 @@ fn singly<W: NextWord>(links: &mut PlainTable<W, &Rationed>, place: Place, words
 }
 
 // A call of the XOR list's trait.
-fn xor<W: NextWord>(links: &mut PlainTable<W, &Rationed>, place: Place, words: &[&str]) -> Answer
-    requires linked { IsLinked (linked_by W.is_linked) (table W.unlinked links.old) place }
+fn xor<L: XorLinkedListOps>(links: &mut L, place: Place, words: &[&str]) -> Answer
+    requires linked { IsLinked L.linked (L.table links.old) place }
 {
     match *words {
-        ["next", prev] => place_or_none(XorLinkedListOps::next(links, place, read_place(prev))),
-        ["prev", next] => place_or_none(XorLinkedListOps::prev(links, place, read_place(next))),
+        ["next", prev] => place_or_none(links.next(place, read_place(prev))),
+        ["prev", next] => place_or_none(links.prev(place, read_place(next))),
         ["set", prev, next] => {
-            XorLinkedListOps::set(links, place, read_place(prev), read_place(next));
+            links.set(place, read_place(prev), read_place(next));
             Answer::Done
         }
         ["replace_next_or_prev", old, new] => {
-            let (old, new) = (read_place(old), read_place(new));
-            XorLinkedListOps::replace_next_or_prev(links, place, old, new);
+            links.replace_next_or_prev(place, read_place(old), read_place(new));
             Answer::Done
         }
         _ => Answer::Refused("call"),
@@ -66,22 +75,18 @@ fn xor<W: NextWord>(links: &mut PlainTable<W, &Rationed>, place: Place, words: &
 }
 
 // A call of the doubly linked list's trait.
-fn doubly<W: PrevPlace>(
-    links: &mut PlainTable<W, &Rationed>,
-    place: Place,
-    words: &[&str],
-) -> Answer
-    requires linked { IsLinked (linked_by W.is_linked) (table W.unlinked links.old) place }
+fn doubly<L: LinkedListOps>(links: &mut L, place: Place, words: &[&str]) -> Answer
+    requires linked { IsLinked L.linked (L.table links.old) place }
 {
     match *words {
-        ["next"] => place_or_none(LinkedListOps::next(links, place)),
-        ["prev"] => place_or_none(LinkedListOps::prev(links, place)),
+        ["next"] => place_or_none(links.next(place)),
+        ["prev"] => place_or_none(links.prev(place)),
         ["set_next", next] => {
-            LinkedListOps::set_next(links, place, read_place(next));
+            links.set_next(place, read_place(next));
             Answer::Done
         }
         ["set_prev", prev] => {
-            LinkedListOps::set_prev(links, place, read_place(prev));
+            links.set_prev(place, read_place(prev));
             Answer::Done
         }
         _ => Answer::Refused("call"),
@@ -108,13 +113,13 @@ fn tree<L: RBTreeOps>(links: &mut L, place: Place, words: &[&str]) -> Answer
 }
 
 // A call of a trait whose links have a next word.
-fn next_word<W: NextWord>(
-    links: &mut PlainTable<W, &Rationed>,
+fn next_word<L: SinglyLinkedListOps + XorLinkedListOps>(
+    links: &mut L,
     place: Place,
     kind: &str,
     words: &[&str],
 ) -> Answer
-    requires linked { IsLinked (linked_by W.is_linked) (table W.unlinked links.old) place }
+    requires linked { IsLinked L.linked (L.table links.old) place }
 {
     match kind {
         "singly" => singly(links, place, words),
@@ -124,13 +129,13 @@ fn next_word<W: NextWord>(
 }
 
 // A call of a trait whose links have a previous place or a next word.
-fn prev_place<W: PrevPlace>(
-    links: &mut PlainTable<W, &Rationed>,
+fn prev_place<L: LinkedListOps + SinglyLinkedListOps + XorLinkedListOps>(
+    links: &mut L,
     place: Place,
     kind: &str,
     words: &[&str],
 ) -> Answer
-    requires linked { IsLinked (linked_by W.is_linked) (table W.unlinked links.old) place }
+    requires linked { IsLinked L.linked (L.table links.old) place }
 {
     match kind {
         "doubly" => doubly(links, place, words),
@@ -138,9 +143,33 @@ fn prev_place<W: PrevPlace>(
     }
 }
 
+// A call of a trait whose links have children, or of another.
+fn three_words<L: RBTreeOps + LinkedListOps + SinglyLinkedListOps + XorLinkedListOps>(
+    links: &mut L,
+    place: Place,
+    kind: &str,
+    words: &[&str],
+) -> Answer
+    requires linked { IsLinked L.linked (L.table links.old) place }
+{
+    match kind {
+        "tree" => tree(links, place, words),
+        _ => prev_place(links, place, kind, words),
+    }
+}
+
 impl Kind for OneWord<Singly> {
     fn call(
         links: &mut PlainTable<Self, &Rationed>,
+        place: Place,
+        kind: &str,
+        words: &[&str],
+    ) -> Answer {
+        next_word(links, place, kind, words)
+    }
+
+    fn call_lent(
+        links: &mut LentTable<'_, Self>,
         place: Place,
         kind: &str,
         words: &[&str],
@@ -162,11 +191,29 @@ impl Kind for OneWord<Xor> {
     ) -> Answer {
         next_word(links, place, kind, words)
     }
+
+    fn call_lent(
+        links: &mut LentTable<'_, Self>,
+        place: Place,
+        kind: &str,
+        words: &[&str],
+    ) -> Answer {
+        next_word(links, place, kind, words)
+    }
 }
 
 impl Kind for TwoWords {
     fn call(
         links: &mut PlainTable<Self, &Rationed>,
+        place: Place,
+        kind: &str,
+        words: &[&str],
+    ) -> Answer {
+        prev_place(links, place, kind, words)
+    }
+
+    fn call_lent(
+        links: &mut LentTable<'_, Self>,
         place: Place,
         kind: &str,
         words: &[&str],
@@ -187,9 +234,15 @@ impl Kind for ThreeWords {
         kind: &str,
         words: &[&str],
     ) -> Answer {
-        match kind {
-            "tree" => tree(links, place, words),
-            _ => prev_place(links, place, kind, words),
-        }
+        three_words(links, place, kind, words)
+    }
+
+    fn call_lent(
+        links: &mut LentTable<'_, Self>,
+        place: Place,
+        kind: &str,
+        words: &[&str],
+    ) -> Answer {
+        three_words(links, place, kind, words)
     }
 }

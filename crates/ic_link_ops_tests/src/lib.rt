@@ -11,6 +11,8 @@ mod errors;
 #[cfg(test)]
 mod kinds;
 #[cfg(test)]
+mod lent;
+#[cfg(test)]
 mod objects;
 #[cfg(test)]
 mod places;

@@ -1,10 +1,11 @@
-//! A plain table whose calls ask nothing.
+//! A plain table whose calls ask nothing, each made over the table or over a view of it.
 
 ghost use Rattle.ic_link_ops.specs.Tables.{IsCovered, IsLinked};
 ghost use Rattle.ic_link_ops.specs.PlainTables.{table, linked_by};
 
 use crate::answers::{read_place, text};
 use crate::kinds::Kind;
+use crate::lent;
 use ic_link_ops::{CoverError, Link, LinkOps, PlainTable, Words};
 use ic_unsafe_ref::Place;
 use std::alloc::Global;
@@ -18,15 +19,17 @@ pub(crate) struct Table<'a, W> {
     alloc: Global,
     rationed: &'a Rationed,
     links: PlainTable<W, &'a Rationed>,
+    is_lent: bool,
 }
 
 impl<'a, W: Words> Table<'a, W> {
-    /// A table that covers no place.
-    pub(crate) fn new(alloc: Global, rationed: &'a Rationed) -> Table<'a, W> {
+    /// A table that covers no place. `is_lent` says that calls with a place are made over a view of it.
+    pub(crate) fn new(alloc: Global, rationed: &'a Rationed, is_lent: bool) -> Table<'a, W> {
         Table {
             alloc,
             rationed,
             links: PlainTable::new(rationed),
+            is_lent,
         }
     }
 
@@ -69,7 +72,7 @@ fn change<W: Words>(links: &mut PlainTable<W, &Rationed>, call: &str, place: Pla
 }
 
 // A call of a link.
-fn read<W: Kind>(alloc: Global, link: &Link<W>, call: &str) -> Answer {
+pub(crate) fn read<W: Kind>(alloc: Global, link: &Link<W>, call: &str) -> Answer {
     match call {
         "link" => text(format!(in alloc; "{link:?}")),
         "link_is_linked" => Answer::Truth(link.is_linked()),
@@ -98,6 +101,9 @@ impl<W: Kind> Table<'_, W> {
         if place.index() >= self.links.covers() {
             return Answer::Refused("beyond");
         }
+        if self.is_lent {
+            return lent::of_place(self.alloc, &mut self.links.lend(), call, place);
+        }
         match call {
             "is_linked" => Answer::Truth(self.links.is_linked(place)),
             "link" | "link_is_linked" | "clone_is_linked" | "numbers" => {
@@ -111,6 +117,9 @@ impl<W: Kind> Table<'_, W> {
     fn of_kind(&mut self, place: Place, kind: &str, words: &[&str]) -> Answer {
         if place.index() >= self.links.covers() {
             return Answer::Refused("beyond");
+        }
+        if self.is_lent {
+            return lent::of_kind(&mut self.links.lend(), place, kind, words);
         }
         if self.links.is_linked(place) {
             return W::call(&mut self.links, place, kind, words);

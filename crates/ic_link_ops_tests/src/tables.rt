@@ -272,31 +272,38 @@ fn play_on(alloc: Global, table: &mut AnyTable<'_>, runs: &[Run]) -> Result<(), 
 }
 
 // Plays the runs one after another on a new table.
-fn play_in_turn(alloc: Global, form: Form, runs: &[Run]) -> Result<(), Wrong> {
+fn play_in_turn(alloc: Global, form: Form, is_lent: bool, runs: &[Run]) -> Result<(), Wrong> {
     let rationed = Rationed::new(alloc, u64::MAX);
-    let mut table = AnyTable::new(alloc, &rationed, form);
+    let mut table = AnyTable::new(alloc, &rationed, form, is_lent);
     play_on(alloc, &mut table, runs)
 }
 
 // Plays the runs, each on a new table.
-fn play_each(alloc: Global, form: Form, runs: &[Run]) -> Result<(), Wrong> {
+fn play_each(alloc: Global, form: Form, is_lent: bool, runs: &[Run]) -> Result<(), Wrong> {
     for run in runs {
-        play_in_turn(alloc, form, &[*run])?;
+        play_in_turn(alloc, form, is_lent, &[*run])?;
     }
     Ok(())
 }
 
 // Plays what each table does and what this form alone does, and then the kinds of links that it carries.
-fn play_form(alloc: Global, form: Form, own: &[Run], carried: &[Run]) -> Result<(), Wrong> {
-    play_each(alloc, form, &COMMON)?;
-    play_each(alloc, form, own)?;
-    play_in_turn(alloc, form, carried)
+fn play_form(
+    alloc: Global,
+    form: Form,
+    is_lent: bool,
+    own: &[Run],
+    carried: &[Run],
+) -> Result<(), Wrong> {
+    play_each(alloc, form, is_lent, &COMMON)?;
+    play_each(alloc, form, is_lent, own)?;
+    play_in_turn(alloc, form, is_lent, carried)
 }
 
 #[test]
 fn worked_rows(rt: HostRuntime) -> Result<(), Fail> {
     for (form, own, carried) in FORMS {
-        play_form(rt.alloc(), form, own, carried)?;
+        play_form(rt.alloc(), form, false, own, carried)?;
+        play_form(rt.alloc(), form, true, own, carried)?;
     }
     Ok(())
 }
