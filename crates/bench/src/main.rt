@@ -1,20 +1,21 @@
 //! Figures for the doubly linked list, for the order of a cache and for the tables of links.
 //!
-//! Where each kind of work ended goes to standard output, the time of one operation to standard error. The list has the
-//! given number of members, and all work but `pop_front` is done the given number of times.
+//! Where each kind of work ended goes to standard output, the nanoseconds of one operation to standard error, as a table: a
+//! row for each number of members, and for each kind of work a column over the table that is handed in and one over a lent
+//! table. All work but `pop_front` is done the given number of times.
 //!
 //! ```text
-//! rt run -- 1000 100001
+//! rt run -- 100001
 //! ```
 #![tactic(auto)]
 
-ghost use Rattle.ic_link_ops.specs.DoublyEntries.{plain_table};
-ghost use Rattle.ic_link_ops.specs.Tables.{IsCovered};
+ghost use Rattle.ic_link_ops.specs.DoublyEntries.{PlainShowsSome};
 ghost use Rattle.std.specs.Prelude.{◌≡◌, IfSome};
 ghost use Rattle.ic_link_ops.specs.PlainTables.{table};
-ghost use Rattle.bench.specs.Plain.{ShowsList};
 
 mod churn;
+mod loops;
+mod measured;
 mod order;
 
 use churn::{churn_doubly, churn_singly, churn_tree, churn_xor};
@@ -22,7 +23,8 @@ use ic_link_ops::linked_list::LinkOps;
 use ic_link_ops::{PlainTable, Words, rbtree, singly_linked_list, xor_linked_list};
 use ic_linked_list::LinkedList;
 use ic_unsafe_ref::{Place, UnsafeRef};
-use order::{split_and_splice_often, touch_often};
+use loops::put;
+use measured::{split, split_lent, touch, touch_lent, turn, turn_lent, walk, walk_lent};
 use std::alloc::Global;
 use std::rt::Clock;
 use std::time::Instant;
@@ -31,20 +33,10 @@ use std::{env, io};
 // How far apart in the table the neighbours in a cache's order stand, so that no two share a line of memory.
 const STRIDE: usize = 7919;
 
-// Puts the object at the back of the list, unless it is linked already.
-#[inline]
-fn put(list: &mut LinkedList<u64>, links: &mut LinkOps, object: UnsafeRef<u64>)
-    requires covered { IsCovered (plain_table links.old) object }
-    requires shown { ShowsList links.old list.old }
-    ensures { ShowsList links.new list.new }
-{
-    let _ = list.push_back(links, object);
-}
-
 // Puts the first `members` places into the list, as far as the table covers them, neighbours so far apart in it.
 fn fill(list: &mut LinkedList<u64>, links: &mut LinkOps, members: usize, stride: usize)
-    requires { ShowsList links.old list.old }
-    ensures { ShowsList links.new list.new }
+    requires { PlainShowsSome links.old list.old }
+    ensures { PlainShowsSome links.new list.new }
 {
     for count in 0..members {
         let index = count.wrapping_mul(stride) % members;
@@ -56,36 +48,11 @@ fn fill(list: &mut LinkedList<u64>, links: &mut LinkOps, members: usize, stride:
     }
 }
 
-// Takes the first member off and puts it back at the end, so many times.
-#[inline(never)]
-fn turn(list: &mut LinkedList<u64>, links: &mut LinkOps, times: u64)
-    requires { ShowsList links.old list.old }
-    ensures { ShowsList links.new list.new }
-{
-    for _time in 0..times {
-        if let Some(object) = list.pop_front(links) {
-            put(list, links, object);
-        }
-    }
-}
-
-// Where a cursor stands after so many steps round the list.
-#[inline(never)]
-fn walk(list: &LinkedList<u64>, links: &LinkOps, steps: u64) -> Option<Place>
-    requires { ShowsList links.now list.now }
-{
-    let mut cursor = list.cursor(links);
-    for _step in 0..steps {
-        cursor.move_next();
-    }
-    cursor.get_ptr()
-}
-
 // Takes so many members off the front, and answers the last of them.
 #[inline(never)]
 fn drain(list: &mut LinkedList<u64>, links: &mut LinkOps, count: u64) -> Option<Place>
-    requires { ShowsList links.old list.old }
-    ensures { ShowsList links.new list.new }
+    requires { PlainShowsSome links.old list.old }
+    ensures { PlainShowsSome links.new list.new }
 {
     let mut last = None;
     for _pop in 0..count {
@@ -113,7 +80,7 @@ fn report(
         Some(place) => println!(rt; "{work}: at {place:?}")?,
     }
     let each = nanos / u128::from(count.max(1));
-    eprintln!(rt; "{work}: {each} ns each")
+    eprint!(rt; "| {each} ")
 }
 
 // A table that covers one place, if there is memory for it.
@@ -171,7 +138,8 @@ fn one_list(
         return eprintln!(rt; "no memory for {members} members");
     }
     let mut list = LinkedList::new();
-    fill(&mut list, &mut links, members as usize, 1);
+    fill(&mut list, &mut links, members as usize, STRIDE);
+    eprint!(rt; "| {members} ")?;
 
     let start = Instant::now(rt)?;
     turn(&mut list, &mut links, times);
@@ -179,47 +147,55 @@ fn one_list(
     report(rt, "push_back and pop_front", end, start, times)?;
 
     let start = Instant::now(rt)?;
+    turn_lent(&mut list, &mut links, times);
+    let end = walk(&list, &links, 1);
+    report(rt, "the same, lent", end, start, times)?;
+
+    let start = Instant::now(rt)?;
     let end = walk(&list, &links, times);
     report(rt, "move_next", end, start, times)?;
 
     let start = Instant::now(rt)?;
-    split_and_splice_often(&mut list, &mut links, times);
+    let end = walk_lent(&list, &mut links, times);
+    report(rt, "the same, lent", end, start, times)?;
+
+    let start = Instant::now(rt)?;
+    touch(&mut list, &mut links, times);
+    let end = walk(&list, &links, 1);
+    report(rt, "touch", end, start, times)?;
+
+    let start = Instant::now(rt)?;
+    touch_lent(&mut list, &mut links, times);
+    let end = walk(&list, &links, 1);
+    report(rt, "the same, lent", end, start, times)?;
+
+    let start = Instant::now(rt)?;
+    split(&mut list, &mut links, times);
     let end = walk(&list, &links, 2);
     report(rt, "split and splice", end, start, times)?;
 
     let start = Instant::now(rt)?;
-    let end = drain(&mut list, &mut links, members);
-    report(rt, "pop_front", end, start, members)
-}
-
-// The order of a cache with so many members, touched so many times.
-fn touches(
-    rt: &(impl Print + Eprint + Clock),
-    alloc: Global,
-    work: &str,
-    members: usize,
-    times: u64,
-) -> io::Result<()> {
-    let mut links = LinkOps::new(alloc);
-    if links.cover(members).is_err() {
-        return eprintln!(rt; "{work}: no memory");
-    }
-    let mut order = LinkedList::new();
-    fill(&mut order, &mut links, members, STRIDE);
+    split_lent(&mut list, &mut links, times);
+    let end = walk(&list, &links, 2);
+    report(rt, "the same, lent", end, start, times)?;
 
     let start = Instant::now(rt)?;
-    touch_often(&mut order, &mut links, times);
-    let end = walk(&order, &links, 1);
-    report(rt, work, end, start, times)
+    let end = drain(&mut list, &mut links, members);
+    report(rt, "pop_front", end, start, members)?;
+    eprintln!(rt; "|")
 }
 
 fn main(rt: HostRuntime) -> io::Result<()> {
     let words: Vec<String> = env::args(&rt)?.collect(rt.alloc())?;
-    let members = number(words.get(1), 1000);
-    let times = number(words.get(2), 100_001);
-    one_list(&rt, rt.alloc(), members, times)?;
+    let times = number(words.get(1), 100_001);
+    eprintln!(rt;
+        "| members | pair | lent | step | lent | touch | lent | split and splice | lent | pop_front |"
+    )?;
+    eprintln!(rt; "|---|---|---|---|---|---|---|---|---|---|")?;
+    for members in [1_000, 100_000, 1_000_000] {
+        one_list(&rt, rt.alloc(), members, times)?;
+    }
+    eprint!(rt; "single links: singly, doubly, XOR, tree ")?;
     tables(&rt, rt.alloc(), times)?;
-    touches(&rt, rt.alloc(), "lru touch of 1000", 1000, times)?;
-    touches(&rt, rt.alloc(), "lru touch of 100000", 100_000, times)?;
-    touches(&rt, rt.alloc(), "lru touch of 1000000", 1_000_000, times)
+    eprintln!(rt; "|")
 }

@@ -1,5 +1,5 @@
 -- A plain table that is lent: a view of its links.
-use Rattle.std.specs.Prelude.{◌∷◌, [], List}
+use Rattle.std.specs.Prelude.{◌≡◌, ◌∷◌, [], List}
 use Rattle.std.specs.Borrow.{Lends, Fml, RattleType, MutBor, Array}
 use Rattle.std.specs.declared.alloc.Allocator.{Ghosts}
 use Rattle.ic_link_ops.specs.Tables.{Table}
@@ -12,6 +12,10 @@ use Rattle.ic_link_ops.specs.contracts.link.Link.{the_row as link_row}
 use Rattle.ic_link_ops.specs.declared.lent_table.LentTable.{LentTable}
 
 module _ {W : Type 0} where
+  -- it is a view of these links, as they are
+  abbrev pub IsView : MutBor (List (Link W)) → LentTable W → Type 0
+  IsView links t = (t.entries.ghost_name ≡ links.ghost_name) × (t.entries.now ≡ links.now)
+
   -- the links that are lent, in the order of their places
   abbrev pub lent_entries : LentTable W → List (Link W)
   lent_entries t = t.entries.now
@@ -20,6 +24,6 @@ module _ {W : Type 0} where
   abbrev pub lent_table : W → LentTable W → Table (Link W)
   lent_table unlinked t = table_with (link_of unlinked) (t.entries.ghost_name ∷ []) (lent_entries t)
 
--- once the view ends, the table has the links that the view showed last
-abbrev pub LendsLinks : (W A : RattleType) → Ghosts A.Denot → MutBor (PlainTable W.Denot A.Denot) → LentTable W.Denot → Fml
-LendsLinks W A alloc table view = Lends (the_row W A alloc) (Array (link_row W) 0) table view.entries (with_entries table.now)
+-- once the borrow of its links ends, the table has those that stand there last
+abbrev pub LendsLinks : (W A : RattleType) → Ghosts A.Denot → MutBor (PlainTable W.Denot A.Denot) → MutBor (List (Link W.Denot)) → Fml
+LendsLinks W A alloc table links = Lends (the_row W A alloc) (Array (link_row W) 0) table links (with_entries table.now)

@@ -1,8 +1,11 @@
 //! A plain table that is lent: a view of its links, for a loop that makes many calls.
 //!
 //! ```text
-//! let mut links = table.lend();
-//! while let Some(object) = list.pop_front(&mut links) { .. }
+//! fn pop_all(list: &mut LinkedList<Job>, links: &mut [Link]) {
+//!     let mut links = LentTable::new(links);
+//!     while let Some(job) = list.pop_front(&mut links) { .. }
+//! }
+//! pop_all(&mut list, table.lend());
 //! ```
 
 ghost use Rattle.std.specs.Prelude.{◌≡◌};
@@ -13,10 +16,11 @@ use crate::link::{Link, Words};
 use crate::link_ops::LinkOps;
 use ic_unsafe_ref::Place;
 
-/// The links of a plain table, lent for as long as it is borrowed. [`PlainTable::lend`](crate::PlainTable::lend) makes it.
+/// The links that a plain table lends, viewed as a table for as long as they are borrowed.
 ///
 /// It has the link traits that the table has. In a loop over it no call reads again where the links are kept, as each call
-/// over the table itself does. When the view ends, the table has what it showed.
+/// over the table itself does. When the view ends, the links are what it showed, and so the table's: hand them to a function
+/// of the loop, as above, since a proof follows what a call leaves behind them.
 pub struct LentTable<'a, W> {
     pub(crate) entries: &'a mut [Link<W>],
 }
@@ -26,6 +30,18 @@ impl<W> Drop for LentTable<'_, W> {
         ensures links { self.exit.0.now ≡ self.entry.entries.now }
     {
         let LentTable { entries: _ } = self;
+    }
+}
+
+impl<'a, W> LentTable<'a, W> {
+    ghost use Rattle.ic_link_ops.specs.LentTables.{IsView};
+
+    /// A view of the links that [`PlainTable::lend`](crate::PlainTable::lend) lends. O(1).
+    #[inline]
+    pub fn new(links: &'a mut [Link<W>]) -> LentTable<'a, W>
+        ensures { IsView links.entry result }
+    {
+        LentTable { entries: links }
     }
 }
 

@@ -11,7 +11,6 @@ ghost use Rattle.ic_unsafe_ref.specs.declared.place.Place.{Place};
 ghost use Rattle.ic_link_ops.specs.Tables.{IsCovered, IsLinked, IsUnlinked, ChangesOnly};
 
 use crate::errors::CoverError;
-use crate::lent_table::LentTable;
 use crate::link::{Link, Words};
 use crate::link_ops::LinkOps;
 use ic_unsafe_ref::Place;
@@ -27,7 +26,7 @@ pub struct PlainTable<W, A: Allocator = Global> {
 
 impl<W: Words, A: Allocator> PlainTable<W, A> {
     ghost use Rattle.ic_link_ops.specs.PlainTables.{entries, table, linked_by};
-    ghost use Rattle.ic_link_ops.specs.LentTables.{lent_entries, LendsLinks};
+    ghost use Rattle.ic_link_ops.specs.LentTables.{LendsLinks};
     ghost use Rattle.std.specs.Borrow.{sem};
 
     /// A table that covers no place. It takes no memory.
@@ -79,16 +78,15 @@ impl<W: Words, A: Allocator> PlainTable<W, A> {
         entry.words.unlink();
     }
 
-    /// A view of the links for a loop that makes many calls: it has the table's link traits, and no call over it reads again
-    /// where the links are kept. When it ends, the table has what it showed. O(1).
+    /// Lends the links, in the order of their places, to be viewed as a table by [`LentTable::new`](crate::LentTable::new).
+    ///
+    /// When the borrow ends, the table has the links that stand there last. O(1).
     #[inline]
-    pub fn lend(&mut self) -> LentTable<'_, W>
+    pub fn lend(&mut self) -> &mut [Link<W>]
         ensures* writes_back { sem 𝓛 (LendsLinks W.row A.row A.Allocator self.entry result) }
-        ensures shows { lent_entries result ≡ entries self.old }
+        ensures links { result.now ≡ entries self.old }
     {
-        LentTable {
-            entries: self.entries.as_mut_slice(),
-        }
+        self.entries.as_mut_slice()
     }
 
     /// Covers the first `count` places, with an unlinked entry for each that is new.

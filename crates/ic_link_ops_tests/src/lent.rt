@@ -6,7 +6,7 @@ ghost use Rattle.ic_link_ops.specs.LentTables.{lent_table};
 
 use crate::kinds::Kind;
 use crate::table::read;
-use ic_link_ops::{LentTable, LinkOps, Words};
+use ic_link_ops::{LentTable, Link, LinkOps, Words};
 use ic_unsafe_ref::Place;
 use std::alloc::Global;
 use test_support::rows::Answer;
@@ -42,10 +42,11 @@ fn change<W: Words>(links: &mut LentTable<'_, W>, call: &str, place: Place) -> A
 /// A call with a place.
 pub(crate) fn of_place<W: Kind>(
     alloc: Global,
-    links: &mut LentTable<'_, W>,
+    links: &mut [Link<W>],
     call: &str,
     place: Place,
 ) -> Answer {
+    let mut links = LentTable::new(links);
     if place.index() >= links.covers() {
         return Answer::Refused("beyond");
     }
@@ -54,19 +55,20 @@ pub(crate) fn of_place<W: Kind>(
         "link" | "link_is_linked" | "clone_is_linked" | "numbers" => {
             read(alloc, links.link(place), call)
         }
-        _ => change(links, call, place),
+        _ => change(&mut links, call, place),
     }
 }
 
 /// A call of a trait that asks for a linked place.
 pub(crate) fn of_kind<W: Kind>(
-    links: &mut LentTable<'_, W>,
+    links: &mut [Link<W>],
     place: Place,
     kind: &str,
     words: &[&str],
 ) -> Answer {
+    let mut links = LentTable::new(links);
     if place.index() < links.covers() && links.is_linked(place) {
-        return W::call_lent(links, place, kind, words);
+        return W::call_lent(&mut links, place, kind, words);
     }
     Answer::Refused("unlinked")
 }

@@ -102,7 +102,7 @@ impl<W: Kind> Table<'_, W> {
             return Answer::Refused("beyond");
         }
         if self.is_lent {
-            return lent::of_place(self.alloc, &mut self.links.lend(), call, place);
+            return lent::of_place(self.alloc, self.links.lend(), call, place);
         }
         match call {
             "is_linked" => Answer::Truth(self.links.is_linked(place)),
@@ -119,7 +119,7 @@ impl<W: Kind> Table<'_, W> {
             return Answer::Refused("beyond");
         }
         if self.is_lent {
-            return lent::of_kind(&mut self.links.lend(), place, kind, words);
+            return lent::of_kind(self.links.lend(), place, kind, words);
         }
         if self.links.is_linked(place) {
             return W::call(&mut self.links, place, kind, words);

@@ -1,5 +1,5 @@
-use Rattle.bench.specs.Plain.{ShowsList}
+use Rattle.ic_link_ops.specs.DoublyEntries.{PlainShowsSome}
 use Rattle.bench.proofs.drain.Given as goal
 
 abbrev pub invariant-loop-pop : goal.invariant-loop-pop
-invariant-loop-pop l = ShowsList l.links l.list
+invariant-loop-pop l = PlainShowsSome l.links l.list

@@ -4,7 +4,7 @@ use Rattle.bench.proofs.fill.Goals.{in-Some+then-index-covers, in-Some+else-inde
 pub loop-count-preserved : goal.loop-count-preserved
 loop-count-preserved c =
     elim c.match-new.branch [
-      | in-Some+then-index-covers w ↦ rw (w.links-is, w.list-is) w.put.ensures
+      | in-Some+then-index-covers w ↦ rw (w.links-is, w.list-is) w.put.ensures.shown
       | in-Some+else-index-covers w ↦ rw (w.links-is, w.list-is) c.loop-count.invariant
       | in_default w ↦ rw (w.links-is, w.list-is) c.loop-count.invariant
     ]

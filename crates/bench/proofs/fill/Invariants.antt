@@ -1,5 +1,5 @@
-use Rattle.bench.specs.Plain.{ShowsList}
+use Rattle.ic_link_ops.specs.DoublyEntries.{PlainShowsSome}
 use Rattle.bench.proofs.fill.Given as goal
 
 abbrev pub invariant-loop-count : goal.invariant-loop-count
-invariant-loop-count l = ShowsList l.links l.list
+invariant-loop-count l = PlainShowsSome l.links l.list

@@ -1,5 +1,0 @@
-use Rattle.bench.specs.Plain.{ShowsList}
-use Rattle.bench.proofs.turn.Given as goal
-
-abbrev pub invariant-loop-time : goal.invariant-loop-time
-invariant-loop-time l = ShowsList l.links l.list
