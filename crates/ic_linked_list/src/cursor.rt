@@ -16,8 +16,8 @@ ghost use Rattle.ic_link_ops.specs.LinkedList.{Shows};
 ghost use Rattle.ic_link_ops.specs.Positions.{Stands, MovesOn, MovesBack, HasMember, object_there};
 
 use crate::LinkedList;
-use ic_link_ops::LinkOps;
 use ic_link_ops::linked_list::LinkedListOps;
+use ic_link_ops::{End, LinkOps};
 use ic_unsafe_ref::{Objects, Place, UnsafeRef};
 use std::alloc::{AllocError, Allocator};
 
@@ -25,7 +25,7 @@ use std::alloc::{AllocError, Allocator};
 pub struct Cursor<'a, T, L> {
     pub(crate) list: &'a LinkedList<T>,
     pub(crate) links: &'a L,
-    pub(crate) current: Option<Place>,
+    pub(crate) current: End,
 }
 
 impl<T, L> Drop for Cursor<'_, T, L> {
@@ -51,7 +51,7 @@ impl<T> LinkedList<T> {
         Cursor {
             list: self,
             links,
-            current: None,
+            current: End::of(None),
         }
     }
 
@@ -71,7 +71,7 @@ impl<T> LinkedList<T> {
         Cursor {
             list: self,
             links,
-            current: Some(object.place()),
+            current: End::of(Some(object.place())),
         }
     }
 
@@ -86,7 +86,7 @@ impl<T> LinkedList<T> {
         Cursor {
             list: self,
             links,
-            current: self.head(),
+            current: End::of(self.head()),
         }
     }
 
@@ -101,7 +101,7 @@ impl<T> LinkedList<T> {
         Cursor {
             list: self,
             links,
-            current: self.tail(),
+            current: End::of(self.tail()),
         }
     }
 }
@@ -114,7 +114,7 @@ impl<'a, T, L: LinkedListOps> Cursor<'a, T, L> {
     pub fn is_null(&self) -> bool
         ensures { IsTrue result ↔ (position self.now ≡ None) }
     {
-        self.current.is_none()
+        self.current.get().is_none()
     }
 
     /// The place of the member that the cursor is on, `None` at null.
@@ -122,7 +122,7 @@ impl<'a, T, L: LinkedListOps> Cursor<'a, T, L> {
     pub fn get_ptr(&self) -> Option<Place>
         ensures { result ≡ position self.now }
     {
-        self.current
+        self.current.get()
     }
 
     /// The object that the cursor is on, `None` at null. One look-up, O(1).
@@ -130,7 +130,7 @@ impl<'a, T, L: LinkedListOps> Cursor<'a, T, L> {
     pub fn get<'b, A: Allocator>(&self, objects: &'b Objects<T, A>) -> Option<&'b T>
         ensures { option_copied result ≡ object_there objects.now (position self.now) }
     {
-        objects.get(self.current?)
+        objects.get(self.current.get()?)
     }
 
     /// A reference to the object that the cursor is on, `None` at null.
@@ -138,7 +138,7 @@ impl<'a, T, L: LinkedListOps> Cursor<'a, T, L> {
     pub fn clone_pointer(&self) -> Option<UnsafeRef<T>>
         ensures { result ≡ position self.now }
     {
-        let place = self.current?;
+        let place = self.current.get()?;
         Some(UnsafeRef::new(place))
     }
 
@@ -152,7 +152,7 @@ impl<'a, T, L: LinkedListOps> Cursor<'a, T, L> {
         ensures list { list_of self.new ≡ list_of self.old }
         ensures links { links_of self.new ≡ links_of self.old }
     {
-        self.current = self.list.next_of(self.links, self.current);
+        self.current = End::of(self.list.next_of(self.links, self.current.get()));
     }
 
     /// Moves to the previous member, from null to the last one, and from the first one to null. O(1).
@@ -165,7 +165,7 @@ impl<'a, T, L: LinkedListOps> Cursor<'a, T, L> {
         ensures list { list_of self.new ≡ list_of self.old }
         ensures links { links_of self.new ≡ links_of self.old }
     {
-        self.current = self.list.prev_of(self.links, self.current);
+        self.current = End::of(self.list.prev_of(self.links, self.current.get()));
     }
 
     /// A cursor where [`Cursor::move_next`] would stand.
@@ -179,7 +179,7 @@ impl<'a, T, L: LinkedListOps> Cursor<'a, T, L> {
         Cursor {
             list: self.list,
             links: self.links,
-            current: self.list.next_of(self.links, self.current),
+            current: End::of(self.list.next_of(self.links, self.current.get())),
         }
     }
 
@@ -194,7 +194,7 @@ impl<'a, T, L: LinkedListOps> Cursor<'a, T, L> {
         Cursor {
             list: self.list,
             links: self.links,
-            current: self.list.prev_of(self.links, self.current),
+            current: End::of(self.list.prev_of(self.links, self.current.get())),
         }
     }
 }
@@ -209,7 +209,7 @@ impl<T, L> Clone for Cursor<'_, T, L> {
         Ok(Cursor {
             list: self.list,
             links: self.links,
-            current: self.current,
+            current: End::of(self.current.get()),
         })
     }
 }

@@ -18,7 +18,7 @@ ghost use Rattle.ic_link_ops.specs.EditsAt.{InsertsBeside, RemovesThere, Replace
 
 use crate::{Cursor, LinkedList};
 use ic_link_ops::linked_list::LinkedListOps;
-use ic_link_ops::{AlreadyLinked, LinkOps, ReplaceError};
+use ic_link_ops::{AlreadyLinked, End, LinkOps, ReplaceError};
 use ic_unsafe_ref::{Objects, Place, UnsafeRef};
 use std::alloc::Allocator;
 
@@ -26,7 +26,7 @@ use std::alloc::Allocator;
 pub struct CursorMut<'a, T, L> {
     list: &'a mut LinkedList<T>,
     links: &'a mut L,
-    current: Option<Place>,
+    current: End,
 }
 
 impl<T, L> Drop for CursorMut<'_, T, L> {
@@ -54,7 +54,7 @@ impl<T> LinkedList<T> {
         CursorMut {
             list: self,
             links,
-            current: None,
+            current: End::of(None),
         }
     }
 
@@ -70,7 +70,7 @@ impl<T> LinkedList<T> {
         ensures position { position result ≡ Some object }
         ensures stands { Stands (Shows L.neighbors) L.table (site_of result) }
     {
-        let current = Some(object.place());
+        let current = End::of(Some(object.place()));
         CursorMut {
             list: self,
             links,
@@ -85,7 +85,7 @@ impl<T> LinkedList<T> {
         ensures position { (s : List Place) → Shows L.neighbors (L.table links.old) self.old s
             → position result ≡ first s }
     {
-        let current = self.head();
+        let current = End::of(self.head());
         CursorMut {
             list: self,
             links,
@@ -100,7 +100,7 @@ impl<T> LinkedList<T> {
         ensures position { (s : List Place) → Shows L.neighbors (L.table links.old) self.old s
             → position result ≡ last s }
     {
-        let current = self.tail();
+        let current = End::of(self.tail());
         CursorMut {
             list: self,
             links,
@@ -118,7 +118,7 @@ impl<'a, T, L: LinkedListOps> CursorMut<'a, T, L> {
     pub fn is_null(&self) -> bool
         ensures { IsTrue result ↔ (position self.now ≡ None) }
     {
-        self.current.is_none()
+        self.current.get().is_none()
     }
 
     /// The place of the member that the cursor is on, `None` at null.
@@ -126,7 +126,7 @@ impl<'a, T, L: LinkedListOps> CursorMut<'a, T, L> {
     pub fn get_ptr(&self) -> Option<Place>
         ensures { result ≡ position self.now }
     {
-        self.current
+        self.current.get()
     }
 
     /// The object that the cursor is on, `None` at null. One look-up, O(1).
@@ -134,7 +134,7 @@ impl<'a, T, L: LinkedListOps> CursorMut<'a, T, L> {
     pub fn get<'b, A: Allocator>(&self, objects: &'b Objects<T, A>) -> Option<&'b T>
         ensures { option_copied result ≡ object_there objects.now (position self.now) }
     {
-        objects.get(self.current?)
+        objects.get(self.current.get()?)
     }
 
     /// Ends the edits and answers as [`CursorMut::get`]. List and table stay as they are.
@@ -157,7 +157,7 @@ impl<'a, T, L: LinkedListOps> CursorMut<'a, T, L> {
         Cursor {
             list: &*self.list,
             links: &*self.links,
-            current: self.current,
+            current: End::of(self.current.get()),
         }
     }
 
@@ -170,7 +170,7 @@ impl<'a, T, L: LinkedListOps> CursorMut<'a, T, L> {
         ensures moved { MovesOn (Shows L.neighbors) L.table (site_of self.old) (position self.new) }
         ensures stays { Stays self.old self.new }
     {
-        self.current = self.list.next_of(&*self.links, self.current);
+        self.current = End::of(self.list.next_of(&*self.links, self.current.get()));
     }
 
     /// Moves to the previous member, from null to the last one, and from the first one to null. O(1).
@@ -182,7 +182,7 @@ impl<'a, T, L: LinkedListOps> CursorMut<'a, T, L> {
         ensures moved { MovesBack (Shows L.neighbors) L.table (site_of self.old) (position self.new) }
         ensures stays { Stays self.old self.new }
     {
-        self.current = self.list.prev_of(&*self.links, self.current);
+        self.current = End::of(self.list.prev_of(&*self.links, self.current.get()));
     }
 
     /// A cursor that reads, where [`CursorMut::move_next`] would stand.
@@ -220,7 +220,8 @@ impl<'a, T, L: LinkedListOps> CursorMut<'a, T, L> {
             (site_of self.old) object result (site_of self.new) }
         ensures borrows { SameBorrows self.old self.new }
     {
-        self.list.insert_after(self.links, self.current, object)
+        self.list
+            .insert_after(self.links, self.current.get(), object)
     }
 
     /// Puts the object in front of the cursor, and behind the last member at null, unless its link is refused. O(1).
@@ -234,7 +235,8 @@ impl<'a, T, L: LinkedListOps> CursorMut<'a, T, L> {
             (site_of self.old) object result (site_of self.new) }
         ensures borrows { SameBorrows self.old self.new }
     {
-        self.list.insert_before(self.links, self.current, object)
+        self.list
+            .insert_before(self.links, self.current.get(), object)
     }
 
     /// Removes the member that the cursor is on and answers it, `None` at null. O(1).
@@ -275,7 +277,8 @@ impl<'a, T, L: LinkedListOps> CursorMut<'a, T, L> {
         ensures spliced { SplicesBeside (Shows L.neighbors) L.table L.Does IsAfter (site_of self.old) given (site_of self.new) }
         ensures borrows { SameBorrows self.old self.new }
     {
-        self.list.splice_after(self.links, self.current, given);
+        self.list
+            .splice_after(self.links, self.current.get(), given);
     }
 
     /// Puts all of the given list in front of the cursor, and behind the last member at null. O(1).
@@ -288,7 +291,8 @@ impl<'a, T, L: LinkedListOps> CursorMut<'a, T, L> {
         ensures spliced { SplicesBeside (Shows L.neighbors) L.table L.Does IsBefore (site_of self.old) given (site_of self.new) }
         ensures borrows { SameBorrows self.old self.new }
     {
-        self.list.splice_before(self.links, self.current, given);
+        self.list
+            .splice_before(self.links, self.current.get(), given);
     }
 
     /// Hands out the members behind the cursor, and at null the whole list. O(1).
@@ -300,7 +304,7 @@ impl<'a, T, L: LinkedListOps> CursorMut<'a, T, L> {
         ensures split { SplitsAfter (Shows L.neighbors) L.table L.Does (site_of self.old) result (site_of self.new) }
         ensures borrows { SameBorrows self.old self.new }
     {
-        self.list.split_after(self.links, self.current)
+        self.list.split_after(self.links, self.current.get())
     }
 
     /// Hands out the members in front of the cursor, and at null the whole list. O(1).
@@ -312,6 +316,6 @@ impl<'a, T, L: LinkedListOps> CursorMut<'a, T, L> {
         ensures split { SplitsBefore (Shows L.neighbors) L.table L.Does (site_of self.old) result (site_of self.new) }
         ensures borrows { SameBorrows self.old self.new }
     {
-        self.list.split_before(self.links, self.current)
+        self.list.split_before(self.links, self.current.get())
     }
 }

@@ -17,13 +17,13 @@ ghost use Rattle.ic_link_ops.specs.EditsAt.{InsertsBeside, RemovesThere, Replace
 
 use crate::{Cursor, LinkedList};
 use ic_link_ops::linked_list::LinkedListOps;
-use ic_link_ops::{AlreadyLinked, LinkOps, ReplaceError};
+use ic_link_ops::{AlreadyLinked, End, LinkOps, ReplaceError};
 use ic_unsafe_ref::{Place, UnsafeRef};
 
 /// A position in a list that it keeps. Its calls take the table of the list's links each time.
 pub struct CursorOwning<T> {
     list: LinkedList<T>,
-    current: Option<Place>,
+    current: End,
 }
 
 impl<T> Drop for CursorOwning<T> {
@@ -46,7 +46,7 @@ impl<T> LinkedList<T> {
     {
         CursorOwning {
             list: self,
-            current: None,
+            current: End::of(None),
         }
     }
 
@@ -65,7 +65,7 @@ impl<T> LinkedList<T> {
         let _ = links;
         CursorOwning {
             list: self,
-            current: Some(object.place()),
+            current: End::of(Some(object.place())),
         }
     }
 
@@ -77,7 +77,7 @@ impl<T> LinkedList<T> {
             → position result ≡ first s }
     {
         let _ = links;
-        let current = self.head();
+        let current = End::of(self.head());
         CursorOwning {
             list: self,
             current,
@@ -92,7 +92,7 @@ impl<T> LinkedList<T> {
             → position result ≡ last s }
     {
         let _ = links;
-        let current = self.tail();
+        let current = End::of(self.tail());
         CursorOwning {
             list: self,
             current,
@@ -123,7 +123,7 @@ impl<T> CursorOwning<T> {
         Cursor {
             list: &self.list,
             links,
-            current: self.current,
+            current: End::of(self.current.get()),
         }
     }
 
@@ -140,7 +140,7 @@ impl<T> CursorOwning<T> {
     pub fn get_ptr(&self) -> Option<Place>
         ensures { result ≡ position self.now }
     {
-        self.current
+        self.current.get()
     }
 
     /// Moves to null, from wherever the cursor is. It reads no entry, and asks nothing. O(1).
@@ -149,7 +149,7 @@ impl<T> CursorOwning<T> {
         ensures list { list_of self.new ≡ list_of self.old }
         ensures null { position self.new ≡ None }
     {
-        self.current = None;
+        self.current = End::of(None);
     }
 
     /// Moves to the next member, from null to the first one, and from the last one to null. O(1).
@@ -161,7 +161,7 @@ impl<T> CursorOwning<T> {
         ensures moved { MovesOn (Shows L.neighbors) L.table (site_of links.now self.old) (position self.new) }
         ensures list { list_of self.new ≡ list_of self.old }
     {
-        self.current = self.list.next_of(links, self.current);
+        self.current = End::of(self.list.next_of(links, self.current.get()));
     }
 
     /// Moves to the previous member, from null to the last one, and from the first one to null. O(1).
@@ -173,7 +173,7 @@ impl<T> CursorOwning<T> {
         ensures moved { MovesBack (Shows L.neighbors) L.table (site_of links.now self.old) (position self.new) }
         ensures list { list_of self.new ≡ list_of self.old }
     {
-        self.current = self.list.prev_of(links, self.current);
+        self.current = End::of(self.list.prev_of(links, self.current.get()));
     }
 
     /// Puts the object behind the cursor, and in front of the first member at null, unless its link is refused. O(1).
@@ -190,7 +190,7 @@ impl<T> CursorOwning<T> {
         ensures { InsertsBeside (Shows L.neighbors) L.table L.Does L.Refused IsAfter
             (site_of links.old self.old) object result (site_of links.new self.new) }
     {
-        self.list.insert_after(links, self.current, object)
+        self.list.insert_after(links, self.current.get(), object)
     }
 
     /// Puts the object in front of the cursor, and behind the last member at null, unless its link is refused. O(1).
@@ -207,7 +207,7 @@ impl<T> CursorOwning<T> {
         ensures { InsertsBeside (Shows L.neighbors) L.table L.Does L.Refused IsBefore
             (site_of links.old self.old) object result (site_of links.new self.new) }
     {
-        self.list.insert_before(links, self.current, object)
+        self.list.insert_before(links, self.current.get(), object)
     }
 
     /// Removes the member that the cursor is on and answers it, `None` at null. O(1).
@@ -249,7 +249,7 @@ impl<T> CursorOwning<T> {
         ensures { SplicesBeside (Shows L.neighbors) L.table L.Does IsAfter
             (site_of links.old self.old) given (site_of links.new self.new) }
     {
-        self.list.splice_after(links, self.current, given);
+        self.list.splice_after(links, self.current.get(), given);
     }
 
     /// Puts all of the given list in front of the cursor, and behind the last member at null. O(1).
@@ -262,7 +262,7 @@ impl<T> CursorOwning<T> {
         ensures { SplicesBeside (Shows L.neighbors) L.table L.Does IsBefore
             (site_of links.old self.old) given (site_of links.new self.new) }
     {
-        self.list.splice_before(links, self.current, given);
+        self.list.splice_before(links, self.current.get(), given);
     }
 
     /// Hands out the members behind the cursor, and at null the whole list. O(1).
@@ -273,7 +273,7 @@ impl<T> CursorOwning<T> {
         requires stands { Stands (Shows L.neighbors) L.table (site_of links.old self.old) }
         ensures { SplitsAfter (Shows L.neighbors) L.table L.Does (site_of links.old self.old) result (site_of links.new self.new) }
     {
-        self.list.split_after(links, self.current)
+        self.list.split_after(links, self.current.get())
     }
 
     /// Hands out the members in front of the cursor, and at null the whole list. O(1).
@@ -284,6 +284,6 @@ impl<T> CursorOwning<T> {
         requires stands { Stands (Shows L.neighbors) L.table (site_of links.old self.old) }
         ensures { SplitsBefore (Shows L.neighbors) L.table L.Does (site_of links.old self.old) result (site_of links.new self.new) }
     {
-        self.list.split_before(links, self.current)
+        self.list.split_before(links, self.current.get())
     }
 }

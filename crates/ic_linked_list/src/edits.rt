@@ -12,7 +12,7 @@ ghost use Rattle.ic_link_ops.specs.EditsAt.{InsertsBeside, RemovesThere, Replace
 
 use crate::LinkedList;
 use ic_link_ops::linked_list::LinkedListOps;
-use ic_link_ops::{AlreadyLinked, LinkOps, ReplaceError};
+use ic_link_ops::{AlreadyLinked, End, LinkOps, ReplaceError};
 use ic_unsafe_ref::{Place, UnsafeRef};
 use std::mem;
 
@@ -86,14 +86,14 @@ impl<T> LinkedList<T> {
     pub(crate) fn remove_at<L: LinkedListOps>(
         &mut self,
         links: &mut L,
-        current: &mut Option<Place>,
+        current: &mut End,
     ) -> Option<UnsafeRef<T>>
         requires stands { Stands (Shows L.neighbors) L.table (site links.old self.old current.old) }
         ensures { RemovesThere (Shows L.neighbors) L.table L.Does
             (site links.old self.old current.old) result (site links.new self.new current.new) }
     {
-        let place = (*current)?;
-        *current = self.take_off(links, place);
+        let place = current.get()?;
+        *current = End::of(self.take_off(links, place));
         Some(UnsafeRef::new(place))
     }
 
@@ -102,7 +102,7 @@ impl<T> LinkedList<T> {
     pub(crate) fn replace_with<L: LinkedListOps>(
         &mut self,
         links: &mut L,
-        current: &mut Option<Place>,
+        current: &mut End,
         object: UnsafeRef<T>,
     ) -> Result<UnsafeRef<T>, ReplaceError<T>>
         requires covered { IsCovered (L.table links.old) object }
@@ -110,7 +110,7 @@ impl<T> LinkedList<T> {
         ensures { ReplacesThere (Shows L.neighbors) L.table L.Does L.Refused
             (site links.old self.old current.old) object result (site links.new self.new current.new) }
     {
-        let Some(out) = *current else {
+        let Some(out) = current.get() else {
             return Err(ReplaceError::Null(object));
         };
         let place = object.place();
@@ -119,7 +119,7 @@ impl<T> LinkedList<T> {
         }
         self.put_in_place(links, out, place);
         links.release_link(out);
-        *current = Some(place);
+        *current = End::of(Some(place));
         Ok(UnsafeRef::new(out))
     }
 

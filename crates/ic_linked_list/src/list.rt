@@ -10,7 +10,7 @@ ghost use Rattle.ic_unsafe_ref.specs.declared.place.Place.{Place};
 ghost use Rattle.ic_link_ops.specs.Sequences.{Cut, join, first, last, IsAbsent, IsDisjoint, IsAfter, IsBefore, at_front, at_back, insert, remove, but_last};
 ghost use Rattle.ic_link_ops.specs.Tables.{IsCovered, IsLinked, KeepsBeside};
 ghost use Rattle.ic_link_ops.specs.LinkSteps.{acquires, releases};
-ghost use Rattle.ic_link_ops.specs.Chains.{no_members, end_of};
+ghost use Rattle.ic_link_ops.specs.Chains.{no_members};
 ghost use Rattle.ic_link_ops.specs.Edits.{Inserts, Splices, Splits};
 ghost use Rattle.ic_link_ops.specs.LinkedList.{Shows, ShowsSome};
 ghost use Rattle.ic_link_ops.specs.Positions.{HasMember};
@@ -20,6 +20,7 @@ use ic_link_ops::linked_list::LinkedListOps;
 use ic_link_ops::{AlreadyLinked, End, LinkOps};
 use ic_unsafe_ref::{Place, UnsafeRef};
 use std::marker::{Model, PhantomData};
+use std::mem;
 
 /// A doubly linked list of objects, of which it keeps the two ends.
 ///
@@ -92,16 +93,6 @@ impl<T> LinkedList<T> {
         ensures { result ≡ self.now.tail }
     {
         self.tail.get()
-    }
-}
-
-// The end of a list, where what stood there has this neighbour beyond it now: a fresh end if it has none.
-#[inline]
-fn settle(end: &mut End, neighbor: Option<Place>, fresh: Option<Place>)
-    ensures { end.new ≡ end_of neighbor fresh end.old }
-{
-    if neighbor.is_none() {
-        *end = End::of(fresh);
     }
 }
 
@@ -284,11 +275,9 @@ impl<T> LinkedList<T> {
         ensures others { (q : Place) → before ≢ Some q → q ≢ place → behind ≢ Some q
             → (L.table links.new).entry q ≡ (L.table links.old).entry q }
     {
-        lead(links, before, Some(place));
-        follow(links, behind, Some(place));
         set_neighbors(links, place, before, behind);
-        settle(&mut self.head, before, Some(place));
-        settle(&mut self.tail, behind, Some(place));
+        lead(links, &mut self.head, before, Some(place));
+        follow(links, &mut self.tail, behind, Some(place));
     }
 
     // Puts the linked place, which is no member, where the member `out` is.
@@ -326,10 +315,8 @@ impl<T> LinkedList<T> {
     {
         let before = links.prev(place);
         let behind = links.next(place);
-        lead(links, before, behind);
-        follow(links, behind, before);
-        settle(&mut self.head, before, behind);
-        settle(&mut self.tail, behind, before);
+        lead(links, &mut self.head, before, behind);
+        follow(links, &mut self.tail, behind, before);
         behind
     }
 
@@ -352,19 +339,16 @@ impl<T> LinkedList<T> {
         ensures no_step { L.Does links.old links.new [] }
     {
         let LinkedList { head, tail, of: _ } = given;
-        let head = head.get();
-        let tail = tail.get();
-        match head {
-            None => {}
-            Some(_) => {
-                lead(links, before, head);
-                follow(links, behind, tail);
-                follow(links, head, before);
-                lead(links, tail, behind);
-                settle(&mut self.head, before, head);
-                settle(&mut self.tail, behind, tail);
-            }
-        }
+        let Some(front) = head.get() else {
+            return;
+        };
+        let Some(back) = tail.get() else {
+            return;
+        };
+        lead(links, &mut self.head, before, Some(front));
+        follow(links, &mut self.tail, behind, Some(back));
+        links.set_prev(front, before);
+        links.set_next(back, behind);
     }
 
     // Cuts the list between two neighbours. It keeps what is in front of the cut, and the rest is handed out.
@@ -382,16 +366,12 @@ impl<T> LinkedList<T> {
             (L.table links.old) (L.table links.new) self.new result gap.front gap.back }
         ensures no_step { L.Does links.old links.new [] }
     {
-        lead(links, before, None);
-        follow(links, behind, None);
-        settle(&mut self.tail, behind, None);
-        let rest = LinkedList {
+        lead(links, &mut self.head, before, None);
+        follow(links, &mut self.tail, behind, None);
+        LinkedList {
             head: End::of(behind),
-            tail: End::of(self.tail.get()),
+            tail: mem::replace(&mut self.tail, End::of(before)),
             of: PhantomData,
-        };
-        settle(&mut self.head, before, None);
-        self.tail = End::of(before);
-        rest
+        }
     }
 }

@@ -9,14 +9,14 @@ use Rattle.ic_linked_list.proofs.list.LinkedList.remove_at.Goals as goal
 use Rattle.ic_linked_list.proofs.list.LinkedList.remove_at.Given.{Over}
 
 pub take_off-requires : goal.take_off-requires
-take_off-requires g c = record { member = member_there c.requires.stands c.in_ok-place.was }
+take_off-requires g c = record { member = member_there c.requires.stands (sym c.get.ensures ∙ c.in_ok-place.was) }
 
 -- the member is gone, of whatever sequence was shown
 removes : (g : Over) (c : goal.After-new g) (gap : Cut) → Shows g.L.LinkedListOps.neighbors (g.L.LinkOps.table c.args.links.now) c.args.self.now (join gap)
     → IsBefore gap c.args.current.now
     → Removes (Shows g.L.LinkedListOps.neighbors) (g.L.LinkOps.table c.args.links.now) (g.L.LinkOps.table c.take_off.new.links) c.take_off.new.self gap
 removes g c gap shown before =
-    let is = first_is gap.back (sym c.in_ok-place.was ∙ before) in
+    let is = first_is gap.back (sym c.in_ok-place.was ∙ c.get.ensures ∙ before) in
     let whole = rw is at shown in record {
       shows = c.take_off.ensures.removed gap.front (drop 1 gap.back) whole;
       frame = rw is (c.take_off.ensures.frame gap.front (drop 1 gap.back) whole);
@@ -24,13 +24,13 @@ removes g c gap shown before =
 
 -- and the position is on the one behind it
 moves : (g : Over) (c : goal.After-new g) (gap : Cut) → Shows g.L.LinkedListOps.neighbors (g.L.LinkOps.table c.args.links.now) c.args.self.now (join gap)
-    → IsBefore gap c.args.current.now → IsBehind gap c.take_off.result
+    → IsBefore gap c.args.current.now → IsBehind gap c.of.result
 moves g c gap shown before =
-    c.take_off.ensures.behind gap.front (drop 1 gap.back) (rw (first_is gap.back (sym c.in_ok-place.was ∙ before)) at shown)
+    c.of.ensures ∙ c.take_off.ensures.behind gap.front (drop 1 gap.back) (rw (first_is gap.back (sym c.in_ok-place.was ∙ c.get.ensures ∙ before)) at shown)
 
 pub returns : goal.returns
 returns g c = record {
-  answer = rw c.new.ensures (sym c.in_ok-place.was);
+  answer = rw c.new.ensures (sym c.in_ok-place.was ∙ c.get.ensures);
   removed = removes g c;
   released = rw c.new.ensures c.take_off.ensures.released;
   moved = moves g c;

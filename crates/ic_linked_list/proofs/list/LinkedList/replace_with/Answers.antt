@@ -11,14 +11,14 @@ use Rattle.ic_linked_list.proofs.list.LinkedList.replace_with.Given.{Over}
 
 pub put_in_place-requires-clause-shown : goal.put_in_place-requires-clause-shown
 put_in_place-requires-clause-shown g c =
-    let m = member_there c.requires.stands c.in-Some.is in
+    let m = member_there c.requires.stands (sym c.get.ensures ∙ c.in-Some.is) in
     let a = c.if-not-acquire_link.ensures in
     let absent = free_absent (between_linked g.met.L.LinkedListOps.linked_alike) m.shown (g.met.L.LinkOps.does_replay _ _ _ a.acquired).was in
     (m.front, m.back, shows_beside {new = g.L.LinkOps.table c.acquire_link.new.self} m.shown absent a.frame.others)
 
 pub release_link-requires : goal.release_link-requires
 release_link-requires g c =
-    let m = member_there c.requires.stands c.in-Some.is in
+    let m = member_there c.requires.stands (sym c.get.ensures ∙ c.in-Some.is) in
     let a = c.if-not-acquire_link.ensures in
     let law = between_linked g.met.L.LinkedListOps.linked_alike in
     let absent = free_absent law m.shown (g.met.L.LinkOps.does_replay _ _ _ a.acquired).was in
@@ -31,7 +31,7 @@ replaces : (g : Over) (c : goal.After-drop-object g) (gap : Cut) → Shows g.L.L
     → Replaces (Shows g.L.LinkedListOps.neighbors) (g.L.LinkOps.table c.args.links.now) (g.L.LinkOps.table c.release_link.new.self) c.put_in_place.new.self gap c.args.object
 replaces g c gap shown before =
     let rest = drop 1 gap.back in
-    let is = first_is gap.back (sym c.in-Some.is ∙ before) in
+    let is = first_is gap.back (sym c.in-Some.is ∙ c.get.ensures ∙ before) in
     let whole = rw is at shown in
     let law = between_linked g.met.L.LinkedListOps.linked_alike in
     let a = c.if-not-acquire_link.ensures in
@@ -56,12 +56,12 @@ replaces g c gap shown before =
 pub returns : goal.returns
 returns g c =
     let L = g.met.L.LinkOps in record {
-      answer = rw c.new.ensures c.in-Some.is;
+      answer = rw c.new.ensures (sym c.get.ensures ∙ c.in-Some.is);
       replaced = replaces g c;
-      moved = ap (λ p. Some p) c.place-place.ensures;
+      moved = c.of.ensures ∙ ap (λ p. Some p) c.place-place.ensures;
       exchanged = rw (← c.place-place.ensures, c.new.ensures)
           (L.does_on _ _ _ _ _ (L.does_on _ _ _ _ _ c.if-not-acquire_link.ensures.acquired c.put_in_place.ensures.no_step) c.release_link.ensures.released);
       refused = tt;
       unchanged = tt;
-      stands = replaced_stands c.requires.stands (ap (λ p. Some p) c.place-place.ensures) (replaces g c);
+      stands = replaced_stands c.requires.stands (c.of.ensures ∙ ap (λ p. Some p) c.place-place.ensures) (replaces g c);
     }

@@ -1,10 +1,19 @@
-use Rattle.std.proofs.Common.{[], None, ◌++◌, ◌∙◌, sym}
+use Rattle.std.proofs.Common.{[], Some, None, ◌++◌, ◌∙◌, sym, ap, refl, drop, ◌≡◌}
+use Rattle.ic_link_ops.specs.Sequences.{last}
 use Rattle.ic_link_ops.specs.Chains.{Ends}
 use Rattle.ic_link_ops.specs.LinkedList.{Shows}
-use Rattle.ic_link_ops.proofs.SequenceLemmas.{gap_not, absent_left, absent_right, absent_both}
-use Rattle.ic_link_ops.proofs.ShownLists.{shows_splice, gap_linked, gap_behind_linked, tail_linked, ends_not}
-use Rattle.ic_link_ops.proofs.DoublyLists.{between_linked}
+use Rattle.ic_link_ops.proofs.SequenceLemmas.{gap_not, absent_left, absent_right, absent_both, last_some}
+use Rattle.ic_link_ops.proofs.ShownLists.{shows_splice, shows_first, gap_linked, gap_behind_linked, tail_linked, ends_not}
+use Rattle.ic_link_ops.proofs.DoublyLists.{between_linked, next_turns, prev_turns}
 use Rattle.ic_linked_list.proofs.list.LinkedList.splice_between.Goals as goal
+
+-- a list with a first member has a last one
+pub returns-in_default-get-clause-spliced : goal.returns-in_default-get-clause-spliced
+returns-in_default-get-clause-spliced g c gap t shown before behind given apart =
+    let shown : Shows g.L.LinkedListOps.neighbors (g.L.LinkOps.table c.args.links.now) (record { head = c.get.result; tail = c.get-2.result }) t =
+    rw (c.get.ensures, c.get-2.ensures) (rw (← c.given.view_is) at given) in
+    let none : last t ≡ None = sym shown.tail ∙ c.in_default-get.is in
+    absurd (last_some c.in-Some.front (drop 1 t) (rw (shows_first t shown c.in-Some.is) at none))
 
 pub lead-requires : goal.lead-requires
 lead-requires g c q e =
@@ -17,33 +26,36 @@ follow-requires g c q e =
     rw (g.met.L.LinkOps.does_replay _ _ [] c.lead.ensures.no_step q)
     (gap_behind_linked (between_linked g.met.L.LinkedListOps.linked_alike) r.0.front r.0.back r.1 (sym e ∙ r.3))
 
-pub lead-requires-in-Some : goal.lead-requires-in-Some
-lead-requires-in-Some g c q e =
-    rw (g.met.L.LinkOps.does_replay _ _ [] c.follow-in-Some.ensures.no_step q, g.met.L.LinkOps.does_replay _ _ [] c.follow.ensures.no_step q, g.met.L.LinkOps.does_replay _ _ [] c.lead.ensures.no_step q)
-    (tail_linked (between_linked g.met.L.LinkedListOps.linked_alike) (rw (← c.given.view_is) at c.requires.given.1) (sym c.get-tail.ensures ∙ e))
+pub set_next-requires : goal.set_next-requires
+set_next-requires g c =
+    let L = g.met.L.LinkOps in record {
+      linked = rw (L.does_replay _ _ [] c.set_prev.ensures.no_step _, L.does_replay _ _ [] c.follow.ensures.no_step _, L.does_replay _ _ [] c.lead.ensures.no_step _)
+          (tail_linked (between_linked g.met.L.LinkedListOps.linked_alike) (rw (← c.given.view_is) at c.requires.given.1) (sym c.get-2.ensures ∙ c.in-Some-get.is));
+    }
 
-pub returns-in-Some : goal.returns-in-Some
-returns-in-Some g c = record {
-  spliced = λ gap t shown before behind given' apart.
-      let ends : Ends = record { head = c.get-head.result; tail = c.get-tail.result } in
-      let given : Shows g.L.LinkedListOps.neighbors (g.L.LinkOps.table c.args.links.now) ends t =
-      rw (c.get-head.ensures, c.get-tail.ensures) (rw (← c.given.view_is) at given') in
-      record {
-        shows = shows_splice gap.front t gap.back c.in-Some.field-0 c.in-Some.is before behind (rw (← c.self.view_is) at shown) given apart
-            (c.lead.ensures.turns _) (c.follow.ensures.turns _) (c.follow-in-Some.ensures.turns _) (c.lead-in-Some.ensures.turns _)
-            c.settle.ensures c.settle-in-Some.ensures;
-        frame = record {
-          extent = c.lead-in-Some.ensures.extent ∙ c.follow-in-Some.ensures.extent ∙ c.follow.ensures.extent ∙ c.lead.ensures.extent;
-          others = λ q out.
-              let rest = absent_right q gap.front (t ++ gap.back) out in
-              let beside = gap_not gap.front gap.back before behind
-              (absent_both q gap.front gap.back (absent_left q gap.front (t ++ gap.back) out) (absent_right q t gap.back rest)) in
-              let apart_ends = ends_not given (absent_left q t gap.back rest) in
-              (c.lead-in-Some.ensures.turns None).others q apart_ends.1 ∙ (c.follow-in-Some.ensures.turns None).others q apart_ends.0
-              ∙ (c.follow.ensures.turns None).others q beside.1 ∙ (c.lead.ensures.turns None).others q beside.0;
-        };
+pub returns-clause-spliced : goal.returns-clause-spliced
+returns-clause-spliced g c gap t shown before behind given' apart =
+    let ends : Ends = record { head = Some c.in-Some.front; tail = Some c.in-Some-get.back } in
+    let given : Shows g.L.LinkedListOps.neighbors (g.L.LinkOps.table c.args.links.now) ends t =
+    rw (← c.in-Some.is, ← c.in-Some-get.is, c.get.ensures, c.get-2.ensures) (rw (← c.given.view_is) at given') in
+    let turn3 = c.set_prev.ensures in
+    let turn4 = c.set_next.ensures in record {
+      shows = shows_splice gap.front t gap.back c.in-Some.front refl before behind (rw (← c.self.view_is) at shown) given apart
+          (c.lead.ensures.turns _) (c.follow.ensures.turns _) (prev_turns None turn3.frame turn3.set) (next_turns None turn4.frame turn4.set)
+          c.lead.ensures.head c.follow.ensures.tail;
+      frame = record {
+        extent = turn4.frame.extent ∙ turn3.frame.extent ∙ c.follow.ensures.extent ∙ c.lead.ensures.extent;
+        others = λ q out.
+            let rest = absent_right q gap.front (t ++ gap.back) out in
+            let beside = gap_not gap.front gap.back before behind
+            (absent_both q gap.front gap.back (absent_left q gap.front (t ++ gap.back) out) (absent_right q t gap.back rest)) in
+            let apart_ends = ends_not given (absent_left q t gap.back rest) in
+            turn4.frame.others q (λ e. apart_ends.1 (ap Some (sym e))) ∙ turn3.frame.others q (λ e. apart_ends.0 (ap Some (sym e)))
+            ∙ (c.follow.ensures.turns None).others q beside.1 ∙ (c.lead.ensures.turns None).others q beside.0;
       };
-  no_step =
-      let L = g.met.L.LinkOps in
-      L.does_on _ _ _ _ _ (L.does_on _ _ _ _ _ (L.does_on _ _ _ _ _ c.lead.ensures.no_step c.follow.ensures.no_step) c.follow-in-Some.ensures.no_step) c.lead-in-Some.ensures.no_step;
-}
+    }
+
+pub returns-clause-no_step : goal.returns-clause-no_step
+returns-clause-no_step g c =
+    let L = g.met.L.LinkOps in
+    L.does_on _ _ _ _ _ (L.does_on _ _ _ _ _ (L.does_on _ _ _ _ _ c.lead.ensures.no_step c.follow.ensures.no_step) c.set_prev.ensures.no_step) c.set_next.ensures.no_step

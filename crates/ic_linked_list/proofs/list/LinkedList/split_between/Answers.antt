@@ -19,12 +19,11 @@ follow-requires g c q e =
 pub returns : goal.returns
 returns g c = record {
   split = λ gap shown before behind.
-      let fronts : Ends = record { head = c.settle-2.new.end; tail = c.of-self-inside.result } in
-      let backs : Ends = record { head = c.of.result; tail = c.of-2.result } in
+      let fronts : Ends = record { head = c.lead.new.head; tail = c.replace.new.dest } in
+      let backs : Ends = record { head = c.of.result; tail = c.replace.result } in
       let parts = shows_split {t2 = g.L.LinkOps.table c.follow.new.links} {fronts = fronts} {backs = backs} gap.front gap.back before behind
       (rw (← c.self.view_is) at shown) (c.lead.ensures.turns _) (c.follow.ensures.turns _)
-      c.settle-2.ensures c.of-self-inside.ensures
-      c.of.ensures (c.of-2.ensures ∙ c.get.ensures ∙ c.settle.ensures) in
+      c.lead.ensures.head (c.replace.ensures.after ∙ c.of-2.ensures) c.of.ensures (c.replace.ensures.value ∙ c.follow.ensures.tail) in
       record {
         keeps = parts.0;
         hands_out = parts.1;

@@ -30,7 +30,7 @@ returns-clause-shows g c front back shown =
     let stands = shows_middle front back shown in
     shows_remove front back c.args.place (c.prev-before.ensures ∙ stands.prev) (c.next-behind.ensures ∙ stands.next) (rw (← c.self.view_is) at shown)
     (c.lead.ensures.turns _) (c.follow.ensures.turns _)
-    c.settle.ensures c.settle-2.ensures
+    c.lead.ensures.head c.follow.ensures.tail
 
 pub returns-clause-frame : goal.returns-clause-frame
 returns-clause-frame g c front back shown =
