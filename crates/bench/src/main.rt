@@ -16,15 +16,19 @@ ghost use Rattle.ic_link_ops.specs.PlainTables.{table};
 mod churn;
 mod loops;
 mod measured;
+mod objects;
 mod order;
 
 use churn::{churn_doubly, churn_singly, churn_tree, churn_xor};
 use ic_link_ops::linked_list::LinkOps;
 use ic_link_ops::{PlainTable, Words, rbtree, singly_linked_list, xor_linked_list};
 use ic_linked_list::LinkedList;
-use ic_unsafe_ref::{Place, UnsafeRef};
+use ic_unsafe_ref::{Objects, Place, UnsafeRef};
 use loops::put;
-use measured::{split, split_lent, touch, touch_lent, turn, turn_lent, walk, walk_lent};
+use measured::{
+    add, add_lent, split, split_lent, touch, touch_lent, turn, turn_lent, walk, walk_lent,
+};
+use objects::fill_placed;
 use std::alloc::Global;
 use std::rt::Clock;
 use std::time::Instant;
@@ -79,6 +83,11 @@ fn report(
         None => println!(rt; "{work}: nowhere")?,
         Some(place) => println!(rt; "{work}: at {place:?}")?,
     }
+    cell(rt, nanos, count)
+}
+
+// Prints the time of one of so many operations.
+fn cell(rt: &impl Eprint, nanos: u128, count: u64) -> io::Result<()> {
     let each = nanos / u128::from(count.max(1));
     eprint!(rt; "| {each} ")
 }
@@ -139,6 +148,7 @@ fn one_list(
     }
     let mut list = LinkedList::new();
     fill(&mut list, &mut links, members as usize, STRIDE);
+    println!(rt; "{members} members")?;
     eprint!(rt; "| {members} ")?;
 
     let start = Instant::now(rt)?;
@@ -181,21 +191,45 @@ fn one_list(
 
     let start = Instant::now(rt)?;
     let end = drain(&mut list, &mut links, members);
-    report(rt, "pop_front", end, start, members)?;
-    eprintln!(rt; "|")
+    report(rt, "pop_front", end, start, members)
+}
+
+// One list of so many objects, which are added up by a walk over them.
+fn one_sum(rt: &(impl Print + Eprint + Clock), alloc: Global, members: u64) -> io::Result<()> {
+    let mut objects = Objects::new(alloc);
+    let mut links = LinkOps::new(alloc);
+    if links.cover(members as usize).is_err() {
+        return eprintln!(rt; "no memory for {members} members");
+    }
+    let mut list = LinkedList::new();
+    fill_placed(&mut list, &mut links, &mut objects, members);
+
+    let start = Instant::now(rt)?;
+    let total = add(&list, &links, &objects);
+    let nanos = start.elapsed(rt)?.as_nanos();
+    println!(rt; "iter: the sum is {total}")?;
+    cell(rt, nanos, members)?;
+
+    let start = Instant::now(rt)?;
+    let total = add_lent(&list, &mut links, &objects);
+    let nanos = start.elapsed(rt)?.as_nanos();
+    println!(rt; "the same, lent: the sum is {total}")?;
+    cell(rt, nanos, members)
 }
 
 fn main(rt: HostRuntime) -> io::Result<()> {
     let words: Vec<String> = env::args(&rt)?.collect(rt.alloc())?;
     let times = number(words.get(1), 100_001);
     eprintln!(rt;
-        "| members | pair | lent | step | lent | touch | lent | split and splice | lent | pop_front |"
+        "| members | pair | lent | step | lent | touch | lent | split and splice | lent | pop_front | iter | lent |"
     )?;
-    eprintln!(rt; "|---|---|---|---|---|---|---|---|---|---|")?;
+    eprintln!(rt; "|---|---|---|---|---|---|---|---|---|---|---|---|")?;
     for members in [1_000, 100_000, 1_000_000] {
         one_list(&rt, rt.alloc(), members, times)?;
+        one_sum(&rt, rt.alloc(), members)?;
+        eprintln!(rt; "|")?;
     }
-    eprint!(rt; "single links: singly, doubly, XOR, tree ")?;
+    eprintln!(rt; "| singly link | doubly link | XOR link | tree link |")?;
     tables(&rt, rt.alloc(), times)?;
     eprintln!(rt; "|")
 }

@@ -6,15 +6,17 @@
 //! ```
 
 ghost use Rattle.std.specs.Prelude.{◌≡◌, length};
-ghost use Rattle.ic_link_ops.specs.LinkedList.{ShowsSome};
-ghost use Rattle.ic_link_ops.specs.DoublyEntries.{neighbors_of, table_of, PlainShowsSome};
+ghost use Rattle.ic_link_ops.specs.LinkedList.{Shows, ShowsSome};
+ghost use Rattle.ic_link_ops.specs.DoublyEntries.{neighbors_of, table_of, PlainShows, PlainShowsSome};
+ghost use Rattle.ic_linked_list.specs.Iter.{ShowsPlaced};
 
 use crate::loops::{steps, turns};
+use crate::objects::sum;
 use crate::order::{splits, touches};
 use ic_link_ops::LentTable;
 use ic_link_ops::linked_list::{Link, LinkOps};
 use ic_linked_list::LinkedList;
-use ic_unsafe_ref::Place;
+use ic_unsafe_ref::{Objects, Place};
 
 /// Takes the first member off and puts it back at the end, so many times.
 #[inline(never)]
@@ -128,4 +130,29 @@ pub fn split_lent(list: &mut LinkedList<u64>, table: &mut LinkOps, times: u64)
     ensures { PlainShowsSome table.new list.new }
 {
     split_over(list, table.lend(), times);
+}
+
+/// The sum of the list's objects, by a walk over them.
+#[inline(never)]
+pub fn add(list: &LinkedList<u64>, table: &LinkOps, objects: &Objects<u64>) -> u64
+    requires { ShowsPlaced (PlainShows table.now list.now) objects.now }
+{
+    sum(list, table, objects)
+}
+
+// The same over links that are lent.
+#[inline]
+fn add_over(list: &LinkedList<u64>, links: &mut [Link], objects: &Objects<u64>) -> u64
+    requires { ShowsPlaced (Shows neighbors_of (table_of links.old) list.now) objects.now }
+{
+    let links = LentTable::new(links);
+    sum(list, &links, objects)
+}
+
+/// The same over a lent table.
+#[inline(never)]
+pub fn add_lent(list: &LinkedList<u64>, table: &mut LinkOps, objects: &Objects<u64>) -> u64
+    requires { ShowsPlaced (PlainShows table.old list.now) objects.now }
+{
+    add_over(list, table.lend(), objects)
 }
