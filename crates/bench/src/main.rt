@@ -135,6 +135,66 @@ fn tables(rt: &(impl Print + Eprint + Clock), alloc: Global, times: u64) -> io::
     Ok(())
 }
 
+// Pairs of a push and a pop, and steps of a cursor, so many of each.
+fn pairs_and_steps(
+    rt: &(impl Print + Eprint + Clock),
+    list: &mut LinkedList<u64>,
+    links: &mut LinkOps,
+    times: u64,
+) -> io::Result<()>
+    requires { PlainShowsSome links.old list.old }
+    ensures { PlainShowsSome links.new list.new }
+{
+    let start = Instant::now(rt)?;
+    turn(list, links, times);
+    let end = walk(list, links, 1);
+    report(rt, "push_back and pop_front", end, start, times)?;
+
+    let start = Instant::now(rt)?;
+    turn_lent(list, links, times);
+    let end = walk(list, links, 1);
+    report(rt, "the same, lent", end, start, times)?;
+
+    let start = Instant::now(rt)?;
+    let end = walk(list, links, times);
+    report(rt, "move_next", end, start, times)?;
+
+    let start = Instant::now(rt)?;
+    let end = walk_lent(list, links, times);
+    report(rt, "the same, lent", end, start, times)
+}
+
+// Touches, and splits with splices, so many of each.
+fn touches_and_splits(
+    rt: &(impl Print + Eprint + Clock),
+    list: &mut LinkedList<u64>,
+    links: &mut LinkOps,
+    times: u64,
+) -> io::Result<()>
+    requires { PlainShowsSome links.old list.old }
+    ensures { PlainShowsSome links.new list.new }
+{
+    let start = Instant::now(rt)?;
+    touch(list, links, times);
+    let end = walk(list, links, 1);
+    report(rt, "touch", end, start, times)?;
+
+    let start = Instant::now(rt)?;
+    touch_lent(list, links, times);
+    let end = walk(list, links, 1);
+    report(rt, "the same, lent", end, start, times)?;
+
+    let start = Instant::now(rt)?;
+    split(list, links, times);
+    let end = walk(list, links, 2);
+    report(rt, "split and splice", end, start, times)?;
+
+    let start = Instant::now(rt)?;
+    split_lent(list, links, times);
+    let end = walk(list, links, 2);
+    report(rt, "the same, lent", end, start, times)
+}
+
 // One list of so many members, worked on so many times.
 fn one_list(
     rt: &(impl Print + Eprint + Clock),
@@ -150,44 +210,8 @@ fn one_list(
     fill(&mut list, &mut links, members as usize, STRIDE);
     println!(rt; "{members} members")?;
     eprint!(rt; "| {members} ")?;
-
-    let start = Instant::now(rt)?;
-    turn(&mut list, &mut links, times);
-    let end = walk(&list, &links, 1);
-    report(rt, "push_back and pop_front", end, start, times)?;
-
-    let start = Instant::now(rt)?;
-    turn_lent(&mut list, &mut links, times);
-    let end = walk(&list, &links, 1);
-    report(rt, "the same, lent", end, start, times)?;
-
-    let start = Instant::now(rt)?;
-    let end = walk(&list, &links, times);
-    report(rt, "move_next", end, start, times)?;
-
-    let start = Instant::now(rt)?;
-    let end = walk_lent(&list, &mut links, times);
-    report(rt, "the same, lent", end, start, times)?;
-
-    let start = Instant::now(rt)?;
-    touch(&mut list, &mut links, times);
-    let end = walk(&list, &links, 1);
-    report(rt, "touch", end, start, times)?;
-
-    let start = Instant::now(rt)?;
-    touch_lent(&mut list, &mut links, times);
-    let end = walk(&list, &links, 1);
-    report(rt, "the same, lent", end, start, times)?;
-
-    let start = Instant::now(rt)?;
-    split(&mut list, &mut links, times);
-    let end = walk(&list, &links, 2);
-    report(rt, "split and splice", end, start, times)?;
-
-    let start = Instant::now(rt)?;
-    split_lent(&mut list, &mut links, times);
-    let end = walk(&list, &links, 2);
-    report(rt, "the same, lent", end, start, times)?;
+    pairs_and_steps(rt, &mut list, &mut links, times)?;
+    touches_and_splits(rt, &mut list, &mut links, times)?;
 
     let start = Instant::now(rt)?;
     let end = drain(&mut list, &mut links, members);
