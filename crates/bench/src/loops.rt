@@ -1,7 +1,7 @@
 //! Work on a list, so many times, over any table.
 //!
 //! ```text
-//! let mut links = table.lend();
+//! let mut links = LentTable::new(links); // of links that a table lends
 //! turns(&mut list, &mut links, 1000);
 //! ```
 

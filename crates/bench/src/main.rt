@@ -2,7 +2,7 @@
 //!
 //! Where each kind of work ended goes to standard output, the nanoseconds of one operation to standard error, as a table: a
 //! row for each number of members, and for each kind of work a column over the table that is handed in and one over a lent
-//! table. All work but `pop_front` is done the given number of times.
+//! table. All work but `pop_front` and `iter`, which take each member once, is done the given number of times.
 //!
 //! ```text
 //! rt run -- 100001
