@@ -1,12 +1,13 @@
 -- What a table has once its view ends.
-use Rattle.std.proofs.Common.{◌≡◌, ℕ, List, Option, length, sym, ◌∙◌}
+use Rattle.std.proofs.Common.{◌≡◌, ℕ, List, Option, length, sym, ap, ◌∙◌}
 use Rattle.std.proofs.lemmas.List.{with_items_is}
 use Rattle.ic_unsafe_ref.specs.declared.place.Place.{Place}
 use Rattle.ic_link_ops.specs.declared.link.Link.{Link}
 use Rattle.ic_link_ops.specs.declared.table.PlainTable.{PlainTable}
 use Rattle.ic_link_ops.specs.Chains.{Ends, ShowsBetween}
 use Rattle.ic_link_ops.specs.Links.{link_of}
-use Rattle.ic_link_ops.specs.PlainTables.{entries, table_of, table_with, with_entries}
+use Rattle.ic_link_ops.specs.PlainTables.{entries, entry_at, table_of, table_with, with_entries}
+use Rattle.ic_link_ops.proofs.ShownLists.{shows_kept}
 
 -- THE TABLE HAS WHAT THE VIEW SHOWED LAST, if the view covers as many places as at first
 pub given_back : {W A : Type 0} (t : PlainTable W A) (es : List (Link W)) → length es ≡ length (entries t) → entries (with_entries t es) ≡ es
@@ -16,7 +17,7 @@ module _ {W : Type 0} {between : Link W → Option Place → Option Place → Ty
   -- the same links show the same, whose they are
   pub shown_alike : {old new : List ℕ} {es es' : List (Link W)} → es' ≡ es → ShowsBetween between (table_with (link_of unlinked) old es) list s
       → ShowsBetween between (table_with (link_of unlinked) new es') list s
-  shown_alike e shown = record { distinct = shown.distinct; chain = rw e shown.chain; head = shown.head; tail = shown.tail }
+  shown_alike e shown = shows_kept shown (λ q member. ap (λ es. entry_at (link_of unlinked) es q) e)
 
   -- SO THE TABLE SHOWS FOR EACH LIST what the view showed last
   pub shown_back : {A : Type 0} {identity : List ℕ} (t : PlainTable W A) (es : List (Link W)) → length es ≡ length (entries t)

@@ -1,5 +1,5 @@
 -- What clauses see of a table of links at one moment, and how it may change.
-use Rattle.std.specs.Prelude.{◌≡◌, ◌≢◌, ℕ, ◌<◌, Bool, true, false, List, []}
+use Rattle.std.specs.Prelude.{◌≡◌, ◌≢◌, ℕ, ◌<◌, Bool, true, false, List}
 use Rattle.ic_unsafe_ref.specs.declared.place.Place.{Place}
 use Rattle.ic_unsafe_ref.specs.Places.{index_of}
 use Rattle.ic_link_ops.specs.Sequences.{IsAbsent}
@@ -9,10 +9,6 @@ use Rattle.ic_link_ops.specs.Sequences.{IsAbsent}
 pub record Extent : Type 0 where
   pub places : ℕ
   pub identity : List ℕ
-
--- the extent of a table that owns its entries
-abbrev pub owned : ℕ → Extent
-owned n = record { places = n; identity = [] }
 
 -- its extent, and all that it keeps at each place
 pub record Table (E : Type 0) : Type 0 where

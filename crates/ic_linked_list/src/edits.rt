@@ -28,7 +28,8 @@ impl<T> LinkedList<T> {
         ensures { MovesOn (Shows L.neighbors) L.table (site links.now self.now current) result }
     {
         match current {
-            None => self.head(),
+            // as a word, which both ways lead to
+            None => End::of(self.head_from_null()).get(),
             Some(place) => links.next(place),
         }
     }
@@ -44,7 +45,8 @@ impl<T> LinkedList<T> {
         ensures { MovesBack (Shows L.neighbors) L.table (site links.now self.now current) result }
     {
         match current {
-            None => self.tail(),
+            // as a word, which both ways lead to
+            None => End::of(self.tail_from_null()).get(),
             Some(place) => links.prev(place),
         }
     }

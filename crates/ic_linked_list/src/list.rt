@@ -94,6 +94,25 @@ impl<T> LinkedList<T> {
     {
         self.tail.get()
     }
+
+    // The first member, as a cursor comes to it from null, once a round. Called and not inlined, so that a step from a member
+    // is a load by itself.
+    #[cold]
+    #[inline(never)]
+    pub(crate) fn head_from_null(&self) -> Option<Place>
+        ensures { result ≡ self.now.head }
+    {
+        self.head()
+    }
+
+    // The last member, as a cursor comes to it from null.
+    #[cold]
+    #[inline(never)]
+    pub(crate) fn tail_from_null(&self) -> Option<Place>
+        ensures { result ≡ self.now.tail }
+    {
+        self.tail()
+    }
 }
 
 impl<T> LinkedList<T> {

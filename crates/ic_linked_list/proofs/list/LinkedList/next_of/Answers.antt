@@ -13,7 +13,7 @@ next-requires g c =
 
 pub returns-in-None : goal.returns-in-None
 returns-in-None g c = moves_on c.requires.stands (λ gap shown after.
-    c.head.ensures ∙ shown.head ∙ first_of_back gap.front gap.back (sym c.in-None.is ∙ after))
+    c.get.ensures ∙ c.of.ensures ∙ c.head_from_null.ensures ∙ shown.head ∙ first_of_back gap.front gap.back (sym c.in-None.is ∙ after))
 
 pub returns-in-Some : goal.returns-in-Some
 returns-in-Some g c = moves_on c.requires.stands (λ gap shown after.

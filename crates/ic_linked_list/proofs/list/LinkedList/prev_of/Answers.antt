@@ -13,7 +13,7 @@ prev-requires g c =
 
 pub returns-in-None : goal.returns-in-None
 returns-in-None g c = moves_back c.requires.stands (λ gap shown before.
-    c.tail.ensures ∙ shown.tail ∙ last_of_front gap.front gap.back (sym c.in-None.is ∙ before))
+    c.get.ensures ∙ c.of.ensures ∙ c.tail_from_null.ensures ∙ shown.tail ∙ last_of_front gap.front gap.back (sym c.in-None.is ∙ before))
 
 pub returns-in-Some : goal.returns-in-Some
 returns-in-Some g c = moves_back c.requires.stands (λ gap shown before.
