@@ -1,6 +1,7 @@
 -- Doubly linked lists: their setters turn, what their entries tell, and their walks.
 use Rattle.std.proofs.Common.{◌≡◌, ◌≢◌, ◌≤◌, Option, Some, None, List, [], ◌∷◌, ◌++◌, reverse, length, Bool, true, refl, sym, ◌∙◌, ap}
 use Rattle.ic_unsafe_ref.specs.declared.place.Place.{Place}
+use Rattle.ic_link_ops.specs.Sequences.{first}
 use Rattle.ic_link_ops.specs.Tables.{Table, IsCovered, IsLinked, ChangesOnly}
 use Rattle.ic_link_ops.specs.Chains.{Ends, no_members}
 use Rattle.ic_link_ops.specs.Turns.{TurnsBehind, TurnsBefore}
@@ -10,7 +11,7 @@ use Rattle.ic_link_ops.specs.DoublyEntries.{neighbors_of, is_linked}
 use Rattle.ic_link_ops.proofs.Turning.{turns_behind, turns_before}
 use Rattle.ic_link_ops.proofs.ShownLists.{shows_frame, shows_one, free_absent}
 use Rattle.ic_link_ops.proofs.CollectionLaws.{IsKind}
-use Rattle.ic_link_ops.proofs.Walks.{walk_blind, stretch_walked, stretch_length, stretch_one, stretch_more, stretch_less, stretch_none, stretch_empty, stretch_empty_back, stretch_of, stretch_mirrored, stretch_first, stretch_last}
+use Rattle.ic_link_ops.proofs.Walks.{walk_blind, walked_from_gap, stretch_walked, stretch_length, stretch_one, stretch_more, stretch_less, stretch_none, stretch_empty, stretch_empty_back, stretch_of, stretch_mirrored, stretch_first, stretch_last}
 
 -- ONLY COVERED PLACES ARE LINKED, as neighbors say it too
 pub neighbors_covered : {L E : Type 0} {linked : E → Bool} (n : E → Neighbors) (table : L → Table E) → ((t : L) (q : Place) → IsLinked linked (table t) q → IsCovered (table t) q)
@@ -97,6 +98,13 @@ module _ {E : Type 0} {n : E → Neighbors} where
   pub shown_length : (t : Table E) → ((q : Place) → (n (t.entry q)).linked ≡ true → IsCovered t q)
       → (list : Ends) (s : List Place) → Shows n t list s → length s ≤ t.extent.places
   shown_length t covered list s shown = walk_length t covered list.head list.tail s (walk_of t shown)
+
+  -- the members behind a gap
+  pub members_behind : (t : Table E) → ((q : Place) → (n (t.entry q)).linked ≡ true → IsCovered t q)
+      → {list : Ends} (front back : List Place) {position : Option Place} → Shows n t list (front ++ back) → position ≡ first back
+      → members_between n t position None ≡ back
+  members_behind t covered front back shown here =
+      walked_from_gap {between = IsBetween n} (λ e. (n e).next) (λ e b a h. h.next) t (λ q b a h. covered q h.linked) front back shown.distinct shown.chain here
 
   -- from the back they are read turned round
   pub members_back : (t : Table E) → ((q : Place) → (n (t.entry q)).linked ≡ true → IsCovered t q)

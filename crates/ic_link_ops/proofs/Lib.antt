@@ -9,6 +9,11 @@ pub mod TwoLists
 pub mod Turning
 pub mod Walks
 pub mod BothEnds
+pub mod WalkLaws
+pub mod EditingWalks
+pub mod Clearing
+pub mod Taking
+pub mod Calling
 pub mod LinkedSets
 pub mod StepLemmas
 pub mod DoublyLists

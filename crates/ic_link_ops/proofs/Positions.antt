@@ -80,6 +80,25 @@ module _ {L E H : Type 0} {Shows : Table E → H → List Place → Type 0} {tab
     replaced_stands position replaces =
         let k = gap_there stands in stands_on (record { front = k.0.front; back = drop 1 k.0.back; shown = (replaces k.0 k.1 k.2).shows }) position
 
+    -- in front of what was taken off behind it, or put in that one's place,
+    pub next_removed_stands : new.position ≡ old.position
+        → ((gap : Cut) → ShowsAt Shows table old (join gap) → IsAfter gap old.position → Removes Shows (table old.links) (table new.links) new.head gap)
+        → Stands Shows table new
+    next_removed_stands position removes = record {
+      gap = record { front = stands.gap.front; back = drop 1 stands.gap.back };
+      shown = (removes stands.gap stands.shown stands.after).shows;
+      after = position ∙ stands.after;
+    }
+
+    pub next_replaced_stands : {p : Place} → new.position ≡ old.position
+        → ((gap : Cut) → ShowsAt Shows table old (join gap) → IsAfter gap old.position → Replaces Shows (table old.links) (table new.links) new.head gap p)
+        → Stands Shows table new
+    next_replaced_stands {p} position replaces = record {
+      gap = record { front = stands.gap.front; back = p ∷ drop 1 stands.gap.back };
+      shown = (replaces stands.gap stands.shown stands.after).shows;
+      after = position ∙ stands.after;
+    }
+
     -- and beside the cut, where a part was handed out
     pub split_behind : {handed : H} → ((gap : Cut) → ShowsAt Shows table old (join gap) → IsAfter gap old.position
         → Splits Shows (table old.links) (table new.links) new.head handed gap.front gap.back) → new.position ≡ old.position → Stands Shows table new

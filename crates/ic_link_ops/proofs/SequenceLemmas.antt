@@ -1,5 +1,5 @@
 -- Sequences of distinct places: their ends, cut and joined.
-use Rattle.std.proofs.Common.{◌≡◌, ◌≢◌, ◌<◌, Option, Some, None, List, [], ◌∷◌, ◌++◌, drop, length, reverse, refl, sym, ◌∙◌, ap, arith, append_assoc, append-nil}
+use Rattle.std.proofs.Common.{◌≡◌, ◌≢◌, ◌<◌, Option, Some, None, List, [], ◌∷◌, ◌++◌, drop, length, reverse, refl, sym, ◌∙◌, ap, subst, arith, append_assoc, append-nil}
 use Rattle.std.proofs.lemmas.List.{reverse-append}
 use Rattle.ic_unsafe_ref.specs.declared.place.Place.{Place}
 use Rattle.ic_link_ops.specs.Sequences.{Cut, join, at_front, at_back, first, last, but_last, IsAfter, IsBefore, IsAbsent, IsDistinct, IsDisjoint, first_or, last_or}
@@ -290,3 +290,23 @@ fewer_back (x ∷ y ∷ s) p e = omega (arith, fewer_back (y ∷ s) p e)
 -- what is absent from two parts is absent from them in the other order
 pub absent_turned : (q : Place) (s t : List Place) → IsAbsent q (t ++ s) → IsAbsent q (s ++ t)
 absent_turned q s t h = absent_both q s t (absent_right q t s h) (absent_left q t s h)
+
+-- OF DISTINCT MEMBERS only one gap is behind each
+last_inside : (b : Option Place) (y : Place) (s t : List Place) → IsOutside b (y ∷ s ++ t) → b ≢ last_or (Some y) s
+last_inside None y s t out e = last_some y s (sym e)
+last_inside (Some q) y s t out e = last_not (Some y) s q (λ h. out.0 (sym (some_same h))) (absent_left q s t out.1) (sym e)
+
+same_front : (b : Option Place) (s t u v : List Place) → IsOutside b (s ++ t) → IsDistinct (s ++ t) → s ++ t ≡ u ++ v → last_or b s ≡ last_or b u
+    → (s ≡ u) × (t ≡ v)
+same_front b [] t [] v out d e k = (refl, e)
+same_front b [] t (y ∷ u) v out d e k = absurd (last_inside b y u v (subst (IsOutside b) e out) k)
+same_front b (x ∷ s) t [] v out d e k = absurd (last_inside b x s t out (sym k))
+same_front b (x ∷ s) t (y ∷ u) v out d e k =
+    let h : x ≡ y = cc in
+    let r : s ++ t ≡ u ++ v = cc in
+    let rest = same_front (Some x) s t u v d.0 d.1 r (rw (← h) at k) in
+    (rw h (ap (λ (l : List Place). y ∷ l) rest.0), rest.1)
+
+pub same_gap : (gap other : Cut) → IsDistinct (join gap) → join gap ≡ join other → last gap.front ≡ last other.front
+    → (gap.front ≡ other.front) × (gap.back ≡ other.back)
+same_gap gap other d e k = same_front None gap.front gap.back other.front other.back tt d e k

@@ -9,7 +9,8 @@ use Rattle.ic_link_ops.specs.SinglyLinkedList.{Successor, successor_at, IsFollow
 use Rattle.ic_link_ops.proofs.Turning.{turns_behind}
 use Rattle.ic_link_ops.proofs.SequenceLemmas.{some_same, none_not}
 use Rattle.ic_link_ops.proofs.Chains.{chain_one}
-use Rattle.ic_link_ops.proofs.ShownLists.{shows_kept, shows_beside, shows_frame, shows_insert, shows_remove, shows_replace, shows_splice, shows_split}
+use Rattle.ic_link_ops.proofs.CollectionLaws.{IsKind}
+use Rattle.ic_link_ops.proofs.ShownLists.{free_absent, shows_kept, shows_beside, shows_frame, shows_insert, shows_remove, shows_replace, shows_splice, shows_split}
 use Rattle.ic_link_ops.proofs.Walks.{walk_blind, stretch_through, stretch_length, stretch_empty, stretch_of, stretch_first}
 
 module _ {E : Type 0} {s : E → Successor} where
@@ -141,3 +142,13 @@ module _ {E : Type 0} {s : E → Successor} where
   pub shown_length : (t : Table E) → ((q : Place) → (s (t.entry q)).linked ≡ true → IsCovered t q)
       → (head : Option Place) (m : List Place) → Shows s t head m → length m ≤ t.extent.places
   shown_length t covered head m shown = stretch_length t (λ q b a h. covered q h.linked) (stretch_of (two_ended shown))
+
+-- the five facts of singly linked lists, where both traits say alike whether a place is linked
+pub singly_lists : {E : Type 0} {s : E → Successor} {linked : E → Bool} → ((e : E) → (s e).linked ≡ linked e) → IsKind (Shows s) linked None
+singly_lists {s = s} alike = record {
+  frame = λ old new head m touched shown apart same. front_frame touched shown apart same;
+  free = λ t head m p shown off. free_absent (followed_linked alike) (two_ended shown) off;
+  distinct = λ t head m shown. shown.distinct;
+  nothing = λ t. record { distinct = tt; chain = tt; head = refl };
+  one = λ t head m r shown other. front_one shown other;
+}

@@ -13,7 +13,7 @@ use Rattle.ic_link_ops.specs.Tables.{Table, IsCovered}
 use Rattle.ic_link_ops.specs.Chains.{Ends, IsChain, IsStretch, ShowsBetween}
 use Rattle.ic_link_ops.specs.Walk.{walk, walked, is_end, GivesFirst, GivesLast}
 use Rattle.ic_link_ops.proofs.Counting.{count, count_falls, count_at_most}
-use Rattle.ic_link_ops.proofs.SequenceLemmas.{distinct_left, distinct_reverse, first_of_reverse, last_of_reverse, last_not, none_not, some_same, last_some, split_last}
+use Rattle.ic_link_ops.proofs.SequenceLemmas.{distinct_left, distinct_right, distinct_reverse, first_of_reverse, last_of_reverse, last_not, none_not, some_same, last_some, split_last}
 use Rattle.ic_link_ops.proofs.Chains.{mirrored, chain_mirrored, chain_cut, last_between, first_between}
 
 nat_eq_refl : (i : ℕ) → nat_eq i i ≡ true
@@ -187,6 +187,16 @@ module _ {E : Type 0} {between : E → Option Place → Option Place → Type 0}
           ends = law (t p) (last_or b r) a cut.1.0;
         },
       )
+
+  -- WHAT STANDS BEHIND A GAP is what the entries lead through from there, where an entry alone tells what stands behind
+  pub walked_from_gap : (next : E → Option Place) → ((e : E) (b a : Option Place) → between e b a → next e ≡ a)
+      → (t : Table E) → ((q : Place) (b a : Option Place) → between (t.entry q) b a → IsCovered t q)
+      → (front back : List Place) {position : Option Place} → IsDistinct (front ++ back) → IsChain between t.entry None (front ++ back) None → position ≡ first back
+      → walked (λ e before. next e) t None position None ≡ back
+  walked_from_gap next law t covered front back {position} d c here =
+      walk_blind next t.entry t.extent.places None (last front) position None
+      ∙ stretch_through (λ e before. next e) law t covered {b = last front} {from = position} {to = last back}
+      (record { distinct = distinct_right front back d; chain = (chain_cut between t.entry None front back None c).1; starts = here; ends = refl })
 
 module _ {S T : Type 0} (rest : S → List T) where
   -- a step over a placed object gives that object

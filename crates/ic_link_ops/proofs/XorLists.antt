@@ -1,12 +1,14 @@
 -- XOR linked lists: their setter turns, what their entries tell, and their walks.
-use Rattle.std.proofs.Common.{◌≡◌, ◌≤◌, Option, Some, List, reverse, length, Bool, true, ◌∙◌}
+use Rattle.std.proofs.Common.{◌≡◌, ◌≤◌, Option, Some, List, reverse, length, Bool, true, refl, ◌∙◌}
 use Rattle.ic_unsafe_ref.specs.declared.place.Place.{Place}
 use Rattle.ic_link_ops.specs.Tables.{Table, IsCovered, ChangesOnly}
-use Rattle.ic_link_ops.specs.Chains.{Ends, IsStretch}
+use Rattle.ic_link_ops.specs.Chains.{Ends, no_members, IsStretch}
 use Rattle.ic_link_ops.specs.Walk.{walked}
 use Rattle.ic_link_ops.specs.Turns.{TurnsBehind, TurnsBefore}
 use Rattle.ic_link_ops.specs.XorLinkedList.{IsJoined, Shows, members}
 use Rattle.ic_link_ops.proofs.Turning.{turns_behind, turns_before}
+use Rattle.ic_link_ops.proofs.CollectionLaws.{IsKind}
+use Rattle.ic_link_ops.proofs.ShownLists.{shows_frame, shows_one, free_absent}
 use Rattle.ic_link_ops.proofs.Walks.{stretch_of, stretch_mirrored, stretch_length, stretch_walked}
 
 module _ {E : Type 0} {linked : E → Bool} {joins : E → Option Place → Option Place → Type 0} where
@@ -67,3 +69,14 @@ module _ {E : Type 0} {linked : E → Bool} {joins : E → Option Place → Opti
         → walked other t behind back front ≡ reverse w
     part_walked_back symmetric t covered k =
         stretch_walked other (joined_step_back symmetric) t (λ q b a h. covered q h.linked) (stretch_mirrored k)
+
+-- the five facts of XOR lists: `one` is the law that one neighbour tells the other
+pub xor_lists : {E : Type 0} {linked : E → Bool} {joins : E → Option Place → Option Place → Type 0}
+    → ((e : E) (a b c : Option Place) → joins e a b → joins e a c → b ≡ c) → IsKind (Shows linked joins) linked no_members
+xor_lists one = record {
+  frame = λ old new list s touched shown apart same. shows_frame touched shown apart same;
+  free = λ t list s p shown off. free_absent joined_linked shown off;
+  distinct = λ t list s shown. shown.distinct;
+  nothing = λ t. record { distinct = tt; chain = tt; head = refl; tail = refl };
+  one = λ t list s u shown other. shows_one (joined_one one) shown other;
+}

@@ -3,7 +3,7 @@ use Rattle.std.specs.Prelude.{◌≡◌, ◌≢◌, Option, Some, None, Result, 
 use Rattle.ic_unsafe_ref.specs.declared.place.Place.{Place}
 use Rattle.ic_link_ops.specs.declared.errors.AlreadyLinked.{AlreadyLinked}
 use Rattle.ic_link_ops.specs.declared.errors.ReplaceError.{ReplaceError}
-use Rattle.ic_link_ops.specs.Sequences.{Cut, join, IsAfter, IsBefore, IsDisjoint}
+use Rattle.ic_link_ops.specs.Sequences.{Cut, join, first, IsAfter, IsBefore, IsDisjoint}
 use Rattle.ic_link_ops.specs.Tables.{Table}
 use Rattle.ic_link_ops.specs.LinkSteps.{LinkStep, acquires, releases}
 use Rattle.ic_link_ops.specs.Edits.{Inserts, Removes, Replaces, Splices, Splits}
@@ -46,6 +46,31 @@ module _ {L E H : Type 0} (Shows : Table E → H → List Place → Type 0) (tab
     pub refused : IfErr result (ByCause ((old.position ≡ None) × (new.links ≡ old.links))
         ((old.position ≢ None) × Refused old.links new.links object))
     pub unchanged : IfErr result (λ refused. (object_of refused ≡ object) × (new.head ≡ old.head) × (new.position ≡ old.position))
+    pub stands : Stands Shows table new
+
+  -- the member behind the position, at null the first one, is taken off and answered. Where there is none, the answer is none and
+  -- nothing has changed. The position stays
+  pub record RemovesNext (old : Site L H) (result : Option Place) (new : Site L H) : Type 0 where
+    pub answer : (gap : Cut) → ShowsAt Shows table old (join gap) → IsAfter gap old.position → result ≡ first gap.back
+    pub removed : (gap : Cut) → ShowsAt Shows table old (join gap) → IsAfter gap old.position
+        → OnSome result (Removes Shows (table old.links) (table new.links) new.head gap)
+    pub released : IfSome result (λ object. Does old.links new.links (releases object ∷ []))
+    pub position : new.position ≡ old.position
+    pub nothing : IfNone result (new ≡ old)
+    pub stands : Stands Shows table new
+
+  -- the object stands where the member behind the position stood, at null the first one, which is answered. Where there is none, and
+  -- where the object's link is refused, it comes back and nothing else has changed. The position stays
+  pub record ReplacesNext {T : Type 0} (Refused : L → L → Place → Type 0)
+      (old : Site L H) (object : Place) (result : Result Place (ReplaceError T)) (new : Site L H) : Type 0 where
+    pub answer : (gap : Cut) → ShowsAt Shows table old (join gap) → IsAfter gap old.position → IfOk result (λ out. first gap.back ≡ Some out)
+    pub replaced : (gap : Cut) → ShowsAt Shows table old (join gap) → IsAfter gap old.position
+        → OnOk result (Replaces Shows (table old.links) (table new.links) new.head gap object)
+    pub exchanged : IfOk result (λ out. Does old.links new.links (acquires object ∷ releases out ∷ []))
+    pub refused : (gap : Cut) → ShowsAt Shows table old (join gap) → IsAfter gap old.position
+        → IfErr result (ByCause ((first gap.back ≡ None) × (new.links ≡ old.links)) ((first gap.back ≢ None) × Refused old.links new.links object))
+    pub unchanged : IfErr result (λ refused. (object_of refused ≡ object) × (new.head ≡ old.head))
+    pub position : new.position ≡ old.position
     pub stands : Stands Shows table new
 
   -- all of the given collection, which shares no member with this one, is put into the gap beside the position, which stays

@@ -8,6 +8,8 @@ pub mod TwoLists
 pub mod Errors
 pub mod Positions
 pub mod EditsAt
+pub mod Taking
+pub mod PlacedObjects
 pub mod Walk
 pub mod BothEnds
 pub mod LinkedList

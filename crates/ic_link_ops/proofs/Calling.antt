@@ -1,0 +1,40 @@
+-- For callers: what holds after a call, of whatever kind of list.
+use Rattle.std.proofs.Common.{◌≡◌, true, false, Bool, Option, List, length, subst, Result, Ok, Err, OnOk, OnErr, IfErr, sym, ap, ◌∙◌}
+use Rattle.std.proofs.lemmas.Iterator.{YieldsList}
+use Rattle.std.proofs.lemmas.Iterator.Consumers.{YieldsList-from_shown, YieldsList-from_copied}
+use Rattle.std.specs.declared.iter.Copied.{Copied}
+use Rattle.std.specs.Iterator.Adapters.{copied_source}
+use Rattle.std.proofs.iter.Yields.{copies}
+use Rattle.ic_unsafe_ref.specs.declared.place.Place.{Place}
+use Rattle.ic_link_ops.specs.Tables.{Table}
+use Rattle.ic_link_ops.specs.Chains.{Ends, ShowsBetween}
+use Rattle.ic_link_ops.specs.Walk.{GivesFirst}
+use Rattle.ic_link_ops.proofs.ShownLists.{shows_kept}
+
+-- AN UNLINKED OBJECT IS ACCEPTED where a refusal says that it was linked, as over a plain table: what holds of `Ok` holds
+pub accepted : {A X P : Type 0} {was : Bool} (Same : Type 0) (r : Result A X) → was ≡ false → OnErr r ((was ≡ true) × Same) → OnOk r P → P
+accepted Same (Ok a) off refused holds = holds
+accepted Same (Err x) off refused holds = let never : false ≡ true = sym off ∙ refused.0 in absurd (cc)
+
+-- WHATEVER A PUSH ANSWERED: what follows where it was accepted, and where it was refused and changed nothing
+pub either : {A X P Q S Goal : Type 0} (R : X → Type 0) (r : Result A X) → OnOk r P → OnErr r Q → IfErr r (λ e. R e × S) → (P → Goal) → (Q → S → Goal) → Goal
+either R (Ok a) holds refused unchanged accepts refuses = accepts holds
+either R (Err e) holds refused unchanged accepts refuses = refuses refused unchanged.1
+
+-- LISTS SURVIVE `cover`, whatever it answered: `stays` is its clause
+pub still_shown : {E : Type 0} {between : E → Option Place → Option Place → Type 0} {old new : Table E} {list : Ends} {s : List Place}
+    → ((q : Place) → new.entry q ≡ old.entry q) → ShowsBetween between old list s → ShowsBetween between new list s
+still_shown stays shown = shows_kept shown (λ q member. stays q)
+
+-- WHAT A WALK LENDS, as a `for`, a `collect` and the like take it: `left s` are the objects left at s, and `is` the clause `walks` of `iter`
+module _ {S T : Type 0} (left : S → List T) where
+  pub walk_yields : {walk : S} {xs : List T} → left walk ≡ xs → YieldsList (GivesFirst left) (λ x. x.now) walk xs
+  walk_yields {walk} is =
+      subst (YieldsList (GivesFirst left) (λ x. x.now) walk) is
+      (YieldsList-from_shown (GivesFirst left) (λ x. x.now) left (λ s t gives. ap length gives.0.0) (λ s x t gives. gives.0) walk)
+
+  -- and as copies of them
+  pub walk_copied : {walk : S} {copied : Copied S} {xs : List T} → copied_source copied ≡ walk → left walk ≡ xs
+      → YieldsList (copies (GivesFirst left)) (λ x. x) copied xs
+  walk_copied {walk} {copied} source is =
+      let lent = walk_yields {walk = walk} is in YieldsList-from_copied {s = copied} (rw (← source) at lent)

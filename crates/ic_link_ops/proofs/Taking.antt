@@ -1,0 +1,40 @@
+-- The walk that takes the members off: each call leaves fewer, and what all give out is the sequence.
+use Rattle.std.proofs.Common.{◌≡◌, ◌<◌, Bool, Option, Some, None, List, [], ◌++◌, reverse, drop, length, sym, ap, arith}
+use Rattle.std.specs.Iterator.{MakesProgress, item_count}
+use Rattle.ic_unsafe_ref.specs.declared.place.Place.{Place}
+use Rattle.ic_link_ops.specs.Sequences.{but_last}
+use Rattle.ic_link_ops.specs.Tables.{Table}
+use Rattle.ic_link_ops.specs.LinkSteps.{LinkStep}
+use Rattle.ic_link_ops.specs.Taking.{Taking, Leaves, TakesFirst, TakesLast}
+use Rattle.ic_link_ops.specs.BothEnds.{Item, Leads, from_front, from_back}
+use Rattle.ic_link_ops.proofs.BothEnds.{both_ends}
+use Rattle.ic_link_ops.proofs.SequenceLemmas.{split_last, first_is}
+use Rattle.ic_link_ops.proofs.CollectionLaws.{IsKind, one_sequence_is_shown}
+
+-- `Left s w`: w are the members left at s, as `left` reads them
+module _ {S : Type 0} (Left : S → List Place → Type 0) (left : S → List Place) (law : (s : S) (w : List Place) → Left s w → left s ≡ w) where
+  -- a call that gave out a member leaves fewer
+  pub goes : (end : List Place → Option Place) (others : List Place → List Place) → ((w : List Place) (p : Place) → Some p ≡ end w → length (others w) < length w)
+      → (s t : S) (r : Option Place) → (can : (w : List Place) × Left s w) → r ≡ end can.0 → Left t (others can.0)
+      → MakesProgress (λ s. (w : List Place) × Left s w) (item_count left) s r t
+  goes end others less s t None can answer rest = record { on = λ _. tt; keeps = tt; rests = λ _. tt }
+  goes end others less s t (Some x) can answer rest = record {
+    on = λ _. ((others can.0, rest), tt, omega (arith, less can.0 x answer, ap length (law s can.0 can.1), ap length (law t (others can.0) rest)));
+    keeps = (others can.0, rest);
+    rests = λ _. tt;
+  }
+
+-- `rest s`: what the walk s has left, and its table
+module _ {S L E H : Type 0} {Shows : Table E → H → List Place → Type 0} {linked : E → Bool} {empty : H} (kind : IsKind Shows linked empty)
+    (table : L → Table E) (Does : L → L → List LinkStep → Type 0) (rest : S → Taking L H) where
+  -- WHAT A WALK FROM BOTH ENDS TAKES OFF until nothing is left is its sequence, each member once: the items from the front, and then
+  -- those from the back, turned round
+  pub two_ended_taking : (start end : S) (w : List Place) (items : List (Item Place)) → Leaves Shows table (rest start) w
+      → Leads (λ s r t. TakesFirst Shows table Does (rest s) r (rest t)) (λ s r t. TakesLast Shows table Does (rest s) r (rest t)) start items end
+      → Leaves Shows table (rest end) [] → from_front (λ p. p) items ++ reverse (from_back (λ p. p) items) ≡ w
+  two_ended_taking start end w items left leads over =
+      both_ends (λ p. p) (λ s r t. TakesFirst Shows table Does (rest s) r (rest t)) (λ s r t. TakesLast Shows table Does (rest s) r (rest t))
+      (λ s u. Leaves Shows table (rest s) u)
+      (λ s t x u takes is. (drop 1 u, first_is u (takes.answer u is), takes.removed u is))
+      (λ s t x u takes is. (but_last u, split_last u (sym (takes.answer u is)), takes.removed u is))
+      start end items w leads left (λ r is. one_sequence_is_shown kind is over)

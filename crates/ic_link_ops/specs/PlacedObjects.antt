@@ -1,0 +1,20 @@
+-- The objects that stand at the members of a sequence.
+use Rattle.std.specs.Prelude.{IsSome, List}
+use Rattle.std.specs.List.{AllByRecursion, filter_map}
+use Rattle.ic_unsafe_ref.specs.declared.place.Place.{Place}
+use Rattle.ic_unsafe_ref.specs.Objects.{Objects, object_at}
+
+module _ {T : Type 0} where
+  -- an object stands at each member of s
+  abbrev pub ArePlaced : Objects T → List Place → Type 0
+  ArePlaced objects s = AllByRecursion (λ p. IsSome (object_at objects p)) s
+
+  -- a sequence is shown, and an object stands at each of its members
+  pub record ShowsPlaced (shows : List Place → Type 0) (objects : Objects T) : Type 0 where
+    pub members : List Place
+    pub shown : shows members
+    pub placed : ArePlaced objects members
+
+  -- the objects at the members of s, in order
+  abbrev pub values_at : Objects T → List Place → List T
+  values_at objects s = filter_map (object_at objects) s
