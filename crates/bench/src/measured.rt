@@ -8,7 +8,7 @@
 ghost use Rattle.std.specs.Prelude.{◌≡◌, length};
 ghost use Rattle.ic_link_ops.specs.LinkedList.{Shows, ShowsSome};
 ghost use Rattle.ic_link_ops.specs.DoublyEntries.{neighbors_of, table_of, PlainShows, PlainShowsSome};
-ghost use Rattle.ic_linked_list.specs.Iter.{ShowsPlaced};
+ghost use Rattle.ic_link_ops.specs.PlacedObjects.{ShowsPlaced};
 
 use crate::loops::{steps, turns};
 use crate::objects::sum;

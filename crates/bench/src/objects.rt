@@ -7,7 +7,7 @@
 
 ghost use Rattle.ic_link_ops.specs.LinkedList.{Shows};
 ghost use Rattle.ic_link_ops.specs.DoublyEntries.{PlainShows};
-ghost use Rattle.ic_linked_list.specs.Iter.{ShowsPlaced};
+ghost use Rattle.ic_link_ops.specs.PlacedObjects.{ShowsPlaced};
 
 use ic_link_ops::linked_list::{LinkOps, LinkedListOps};
 use ic_linked_list::LinkedList;

@@ -1,7 +1,7 @@
 -- Doubly linked lists: their setters turn, what their entries tell, and their walks.
 use Rattle.std.proofs.Common.{◌≡◌, ◌≢◌, ◌≤◌, Option, Some, None, List, [], ◌∷◌, ◌++◌, reverse, length, Bool, true, refl, sym, ◌∙◌, ap}
 use Rattle.ic_unsafe_ref.specs.declared.place.Place.{Place}
-use Rattle.ic_link_ops.specs.Sequences.{first}
+use Rattle.ic_link_ops.specs.Sequences.{first, IsDistinct}
 use Rattle.ic_link_ops.specs.Tables.{Table, IsCovered, IsLinked, ChangesOnly}
 use Rattle.ic_link_ops.specs.Chains.{Ends, no_members}
 use Rattle.ic_link_ops.specs.Turns.{TurnsBehind, TurnsBefore}
@@ -11,6 +11,7 @@ use Rattle.ic_link_ops.specs.DoublyEntries.{neighbors_of, is_linked}
 use Rattle.ic_link_ops.proofs.Turning.{turns_behind, turns_before}
 use Rattle.ic_link_ops.proofs.ShownLists.{shows_frame, shows_one, free_absent}
 use Rattle.ic_link_ops.proofs.CollectionLaws.{IsKind}
+use Rattle.ic_link_ops.proofs.Clearing.{Releases, releases_left_blind}
 use Rattle.ic_link_ops.proofs.Walks.{walk_blind, walked_from_gap, stretch_walked, stretch_length, stretch_one, stretch_more, stretch_less, stretch_none, stretch_empty, stretch_empty_back, stretch_of, stretch_mirrored, stretch_first, stretch_last}
 
 -- ONLY COVERED PLACES ARE LINKED, as neighbors say it too
@@ -105,6 +106,11 @@ module _ {E : Type 0} {n : E → Neighbors} where
       → members_between n t position None ≡ back
   members_behind t covered front back shown here =
       walked_from_gap {between = IsBetween n} (λ e. (n e).next) (λ e b a h. h.next) t (λ q b a h. covered q h.linked) front back shown.distinct shown.chain here
+
+  -- and those that are left while a list is cleared
+  pub members_uncleared : {old new : Table E} {s : List Place} {current : Option Place} → ((q : Place) → (n (new.entry q)).linked ≡ true → IsCovered new q)
+      → IsDistinct s → (k : Releases (IsBetween n) old new s current) → members_between n new current None ≡ k.rest
+  members_uncleared covered d k = releases_left_blind (λ e. (n e).next) (λ e b a h. h.next) (λ q b a h. covered q h.linked) d k
 
   -- from the back they are read turned round
   pub members_back : (t : Table E) → ((q : Place) → (n (t.entry q)).linked ≡ true → IsCovered t q)

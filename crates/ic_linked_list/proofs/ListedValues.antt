@@ -15,8 +15,8 @@ use Rattle.ic_link_ops.specs.LinkedList.{Neighbors, Shows}
 use Rattle.ic_link_ops.proofs.SequenceLemmas.{some_same}
 use Rattle.ic_link_ops.proofs.DoublyLists.{doubly_lists}
 use Rattle.ic_link_ops.specs.Positions.{object_there}
-use Rattle.ic_linked_list.specs.Iter.{ArePlaced, ShowsPlaced, values_at}
-use Rattle.ic_linked_list.proofs.Calling.{accepted, still_shown}
+use Rattle.ic_link_ops.specs.PlacedObjects.{ArePlaced, ShowsPlaced, values_at}
+use Rattle.ic_link_ops.proofs.Calling.{accepted, still_shown}
 
 -- A LIST OF VALUES: the table shows members for the list, these values stand there, and no vacant place is linked
 module _ {E T : Type 0} (n : E → Neighbors) (linked : E → Bool) where

@@ -12,7 +12,8 @@ use Rattle.ic_link_ops.specs.Walk.{is_end, GivesFirst, GivesLast}
 use Rattle.ic_link_ops.proofs.Walks.{is_end_yes, is_end_no, yields_placed, makes_progress, yields_placed_back, makes_progress_back}
 use Rattle.ic_link_ops.proofs.DoublyLists.{walk_shown, walk_last, walk_more, walk_less, walk_none, walk_empty, walk_empty_back}
 use Rattle.ic_linked_list.specs.declared.iter.Iter.{Iter}
-use Rattle.ic_linked_list.specs.Iter.{ArePlaced, values_at, objects_left, CanWalk}
+use Rattle.ic_link_ops.specs.PlacedObjects.{ArePlaced, values_at}
+use Rattle.ic_linked_list.specs.Iter.{objects_left, CanWalk}
 
 -- what holds of all members holds of all but the last, and of the last
 all_but_last : (P : Place → Type 0) (w : List Place) (p : Place) → AllByRecursion P (w ++ p ∷ []) → AllByRecursion P w × P p

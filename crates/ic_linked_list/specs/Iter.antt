@@ -1,26 +1,10 @@
 -- What clauses see of a walk over a list's objects.
-use Rattle.std.specs.Prelude.{IsSome, List}
-use Rattle.std.specs.List.{AllByRecursion, filter_map}
+use Rattle.std.specs.Prelude.{List}
 use Rattle.ic_unsafe_ref.specs.declared.place.Place.{Place}
-use Rattle.ic_unsafe_ref.specs.Objects.{Objects, object_at}
 use Rattle.ic_link_ops.specs.Tables.{Table}
 use Rattle.ic_link_ops.specs.LinkedList.{Neighbors, members_between, IsWalk}
+use Rattle.ic_link_ops.specs.PlacedObjects.{ArePlaced, values_at}
 use Rattle.ic_linked_list.specs.declared.iter.Iter.{Iter}
-
-module _ {T : Type 0} where
-  -- an object stands at each member of s
-  abbrev pub ArePlaced : Objects T → List Place → Type 0
-  ArePlaced objects s = AllByRecursion (λ p. IsSome (object_at objects p)) s
-
-  -- a sequence is shown, and an object stands at each of its members
-  pub record ShowsPlaced (shows : List Place → Type 0) (objects : Objects T) : Type 0 where
-    pub members : List Place
-    pub shown : shows members
-    pub placed : ArePlaced objects members
-
-  -- the objects at the members of s, in order
-  abbrev pub values_at : Objects T → List Place → List T
-  values_at objects s = filter_map (object_at objects) s
 
 module _ {T L A E : Type 0} (neighbors : E → Neighbors) (table : L → Table E) where
   -- the members that the walk has not given out yet

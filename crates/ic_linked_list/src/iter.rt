@@ -115,7 +115,8 @@ impl<T, L, A: Allocator> Clone for Iter<'_, T, L, A> {
 }
 
 impl<T> LinkedList<T> {
-    ghost use Rattle.ic_linked_list.specs.Iter.{ShowsPlaced, values_at, objects_left, CanWalk};
+    ghost use Rattle.ic_link_ops.specs.PlacedObjects.{ShowsPlaced, values_at};
+    ghost use Rattle.ic_linked_list.specs.Iter.{objects_left, CanWalk};
 
     /// A walk over the objects of the list, from either end. It asks that all members are placed.
     pub fn iter<'a, L: LinkedListOps, A: Allocator>(

@@ -13,7 +13,7 @@ use Rattle.ic_link_ops.specs.LinkedList.{IsChain}
 use Rattle.ic_link_ops.specs.LinkedList as list
 use Rattle.ic_link_ops.specs.DoublyEntries.{DoublyLink, DoublyLinkOps, neighbors_of, is_linked, entry_at, plain_table, linked_in_range}
 use Rattle.ic_link_ops.proofs.SequenceLemmas.{none_not}
-use Rattle.ic_linked_list.specs.Iter.{ArePlaced}
+use Rattle.ic_link_ops.specs.PlacedObjects.{ArePlaced}
 
 -- what a plain table's steps make of the linked places, and that its refusals change nothing
 pub replays : {A : Type 0} (x y : DoublyLinkOps A) (steps : List LinkStep) → Replays is_linked (plain_table x) (plain_table y) steps

@@ -9,8 +9,9 @@ use Rattle.ic_link_ops.specs.LinkedList.{Neighbors, Shows, members_between}
 use Rattle.ic_link_ops.specs.Positions.{Site, site, MovesOn, object_there}
 use Rattle.ic_link_ops.specs.EditsAt.{RemovesThere}
 use Rattle.ic_link_ops.proofs.SequenceLemmas.{none_not}
-use Rattle.ic_linked_list.specs.Iter.{ArePlaced}
-use Rattle.ic_linked_list.proofs.EditingWalks.{Walked, walk_leaves, walk_takes, ahead_is}
+use Rattle.ic_link_ops.proofs.DoublyLists.{members_behind}
+use Rattle.ic_link_ops.specs.PlacedObjects.{ArePlaced}
+use Rattle.ic_link_ops.proofs.EditingWalks.{Walked, walk_leaves, walk_takes}
 use Rattle.uses.specs.Retain.{Parts, TellsOf}
 
 module _ {L E T : Type 0} (n : E → Neighbors) (table : L → Table E) (Does : L → L → List LinkStep → Type 0) (objects : Objects T) (tells : T → Bool → Type 0) where
@@ -18,12 +19,12 @@ module _ {L E T : Type 0} (n : E → Neighbors) (table : L → Table E) (Does : 
   pub record Retains (start : L) (s : List Place) (now : Site L Ends) (ahead : List Place) : Type 0 where
     pub behind : List Place
     pub gone : List Place
-    pub walked : Walked n table Does start s now behind gone ahead
+    pub walked : Walked (Shows n) table Does start s now behind gone ahead
     pub parted : (k g : List Place) → Parts (TellsOf objects tells) ahead k g → Parts (TellsOf objects tells) s (behind ++ k) (gone ++ g)
     pub placed : ArePlaced objects ahead
 
 module _ {L E T : Type 0} {n : E → Neighbors} {table : L → Table E} {Does : L → L → List LinkStep → Type 0} {objects : Objects T} {tells : T → Bool → Type 0} where
-  pub retains_none : {now : Site L Ends} {s : List Place} → Walked n table Does now.links s now [] [] s → ArePlaced objects s → Retains n table Does objects tells now.links s now s
+  pub retains_none : {now : Site L Ends} {s : List Place} → Walked (Shows n) table Does now.links s now [] [] s → ArePlaced objects s → Retains n table Does objects tells now.links s now s
   retains_none walked placed = record { behind = []; gone = []; walked = walked; parted = λ k g parts. parts; placed = placed }
 
   module _ {start : L} {s : List Place} {now : Site L Ends} {x : T} where
@@ -90,5 +91,6 @@ module _ {L E T : Type 0} {n : E → Neighbors} {table : L → Table E} {Does : 
       → (h : Retains n table Does objects tells start s now ahead)
       → (turn : (p : Place) × (rest : List Place) × (ahead ≡ p ∷ rest) × Retains n table Does objects tells start' s' new rest)
       → length (members_between n (table new.links) new.position None) < length (members_between n (table now.links) now.position None)
-  ahead_less {now = now} {new = new} covered h turn =
-      omega (arith, ap length (ahead_is (covered now.links) h.walked), ap length (ahead_is (covered new.links) turn.3.walked), ap length turn.2)
+  ahead_less {now = now} {new = new} {ahead = ahead} covered h turn =
+      omega (arith, ap length (members_behind (table now.links) (covered now.links) h.behind ahead h.walked.shown h.walked.here),
+      ap length (members_behind (table new.links) (covered new.links) turn.3.behind turn.1 turn.3.walked.shown turn.3.walked.here), ap length turn.2)

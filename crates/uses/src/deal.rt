@@ -9,7 +9,7 @@ ghost use Rattle.std.specs.Prelude.{◌≡◌, ◌+◌, ◌≤◌, ◌⊎◌, �
 ghost use Rattle.std.specs.Iterator.{IsFinite};
 ghost use Rattle.ic_unsafe_ref.specs.declared.place.Place.{Place};
 ghost use Rattle.ic_link_ops.specs.LinkedList.{Shows, ShowsSome};
-ghost use Rattle.ic_linked_list.specs.Iter.{ShowsPlaced, values_at};
+ghost use Rattle.ic_link_ops.specs.PlacedObjects.{ShowsPlaced, values_at};
 ghost use Rattle.uses.specs.Hands.{Keeps, gained, HasDealt, IsOver};
 
 use ic_link_ops::linked_list::LinkedListOps;

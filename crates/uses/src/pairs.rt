@@ -10,7 +10,7 @@ ghost use Rattle.ic_unsafe_ref.specs.declared.place.Place.{Place};
 ghost use Rattle.ic_unsafe_ref.specs.Places.{index_of};
 ghost use Rattle.ic_link_ops.specs.LinkSteps.{releases};
 ghost use Rattle.ic_link_ops.specs.LinkedList.{Shows, ShowsSome};
-ghost use Rattle.ic_linked_list.specs.Iter.{ShowsPlaced, values_at};
+ghost use Rattle.ic_link_ops.specs.PlacedObjects.{ShowsPlaced, values_at};
 
 use ic_link_ops::linked_list::LinkedListOps;
 use ic_linked_list::LinkedList;

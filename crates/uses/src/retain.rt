@@ -10,7 +10,7 @@ ghost use Rattle.ic_unsafe_ref.specs.declared.place.Place.{Place};
 ghost use Rattle.ic_link_ops.specs.Tables.{KeepsBeside};
 ghost use Rattle.ic_link_ops.specs.LinkSteps.{releases_each};
 ghost use Rattle.ic_link_ops.specs.LinkedList.{Shows};
-ghost use Rattle.ic_linked_list.specs.Iter.{ShowsPlaced};
+ghost use Rattle.ic_link_ops.specs.PlacedObjects.{ShowsPlaced};
 ghost use Rattle.uses.specs.Retain.{Parts, TellsOf};
 
 use ic_link_ops::linked_list::LinkedListOps;

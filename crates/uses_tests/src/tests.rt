@@ -5,7 +5,7 @@ ghost use Rattle.ic_unsafe_ref.specs.declared.place.Place.{Place};
 ghost use Rattle.ic_unsafe_ref.specs.Places.{index_of};
 ghost use Rattle.ic_link_ops.specs.Tables.{IsCovered};
 ghost use Rattle.ic_link_ops.specs.DoublyEntries.{plain_table, PlainShows, PlainShowsSome};
-ghost use Rattle.ic_linked_list.specs.Iter.{ShowsPlaced};
+ghost use Rattle.ic_link_ops.specs.PlacedObjects.{ShowsPlaced};
 
 use ic_atomic::Claims;
 use ic_link_ops::AlreadyLinked;

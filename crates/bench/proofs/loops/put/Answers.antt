@@ -1,5 +1,5 @@
 use Rattle.ic_link_ops.specs.Sequences.{insert, at_back}
-use Rattle.ic_linked_list.proofs.Calling.{either}
+use Rattle.ic_link_ops.proofs.Calling.{either}
 use Rattle.bench.proofs.loops.put.Goals as goal
 
 pub returns-clause-shown : goal.returns-clause-shown

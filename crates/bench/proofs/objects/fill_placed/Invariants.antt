@@ -1,5 +1,5 @@
 use Rattle.ic_link_ops.specs.DoublyEntries.{PlainShows}
-use Rattle.ic_linked_list.specs.Iter.{ShowsPlaced}
+use Rattle.ic_link_ops.specs.PlacedObjects.{ShowsPlaced}
 use Rattle.bench.proofs.objects.fill_placed.Given as goal
 
 abbrev pub invariant-loop-value : goal.invariant-loop-value

@@ -1,6 +1,6 @@
 use Rattle.std.proofs.Common.{[], ◌∷◌, ◌++◌, sym, ◌∙◌}
 use Rattle.ic_unsafe_ref.proofs.PlaceLemmas.{same_index}
-use Rattle.ic_linked_list.proofs.Calling.{accepted}
+use Rattle.ic_link_ops.proofs.Calling.{accepted}
 use Rattle.ic_linked_list.proofs.ListedValues.{placed_with}
 use Rattle.bench.proofs.objects.put_new.Goals as goal
 

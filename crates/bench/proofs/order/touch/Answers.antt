@@ -1,6 +1,6 @@
 use Rattle.std.proofs.Common.{◌++◌, ◌∷◌, ◌∙◌}
 use Rattle.ic_link_ops.specs.Sequences.{insert, at_front}
-use Rattle.ic_linked_list.proofs.Calling.{either}
+use Rattle.ic_link_ops.proofs.Calling.{either}
 use Rattle.bench.proofs.order.touch.Goals as goal
 
 pub push_front-requires-clause-shown : goal.push_front-requires-clause-shown

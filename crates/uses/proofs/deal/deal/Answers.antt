@@ -1,7 +1,8 @@
 use Rattle.std.proofs.Common.{◌≡◌, inl, inr, []}
 use Rattle.std.proofs.lemmas.Result.{on_ok_weaker}
-use Rattle.ic_linked_list.specs.IntoIter.{TakesFirst, TakesLast}
-use Rattle.ic_linked_list.proofs.WalkLaws.{two_ended_taking}
+use Rattle.ic_link_ops.proofs.DoublyLists.{doubly_lists}
+use Rattle.ic_linked_list.specs.IntoIter.{rest_of, TakesFirst, TakesLast}
+use Rattle.ic_link_ops.proofs.Taking.{two_ended_taking}
 use Rattle.uses.proofs.Dealing.{all_dealt, fronts_kept, backs_kept}
 use Rattle.uses.proofs.NothingLeft.{nothing_first, nothing_last}
 use Rattle.uses.proofs.deal.deal.Goals as goal
@@ -20,7 +21,7 @@ returns-clause-dealt g c s shown =
       | inr takes ↦ nothing_last rest.0 (takes.answer rest.0 rest.1)
     ] in
     all_dealt (TakesFirst neighbors table Does) (TakesLast neighbors table Does) e.1
-    (two_ended_taking neighbors table Does c.into_iter.result e.0 s e.1.items
+    (two_ended_taking (doubly_lists {n = neighbors} {linked = g.L.LinkOps.linked} g.met.L.LinkedListOps.linked_alike) table Does rest_of c.into_iter.result e.0 s e.1.items
     (rw (c.into_iter.ensures.links, c.into_iter.ensures.list) shown) e.1.leads (rw none at rest.1))) e.2
 
 pub returns-clause-fronts_keep : goal.returns-clause-fronts_keep

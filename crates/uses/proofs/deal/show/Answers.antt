@@ -2,7 +2,7 @@ use Rattle.std.proofs.Common.{◌≡◌, inl, inr, [], ◌∙◌}
 use Rattle.std.proofs.lemmas.Result.{on_ok_weaker}
 use Rattle.ic_link_ops.specs.Walk.{GivesFirst, GivesLast}
 use Rattle.ic_linked_list.specs.Iter.{objects_left}
-use Rattle.ic_linked_list.proofs.WalkLaws.{two_ended_walk}
+use Rattle.ic_link_ops.proofs.WalkLaws.{two_ended_walk}
 use Rattle.uses.proofs.Dealing.{all_viewed, fronts_kept, backs_kept}
 use Rattle.uses.proofs.deal.show.Goals as goal
 
@@ -15,7 +15,7 @@ returns-clause-shows g c s shown =
     on_ok_weaker c.in_turns.result (λ over.
     let none : left e.0 ≡ [] = elim over.2 [ inl gives ↦ gives.0.0 | inr gives ↦ gives.0.0 ] in
     all_viewed (GivesFirst left) (GivesLast left) (λ x. x.now) e.1
-    (two_ended_walk neighbors table c.iter.result e.0 e.1.items e.1.leads none ∙ c.iter.ensures.walks s shown)) e.2
+    (two_ended_walk left c.iter.result e.0 e.1.items e.1.leads none ∙ c.iter.ensures.walks s shown)) e.2
 
 pub returns-clause-fronts_keep : goal.returns-clause-fronts_keep
 returns-clause-fronts_keep g c =

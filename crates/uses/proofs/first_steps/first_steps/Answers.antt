@@ -1,8 +1,7 @@
-use Rattle.std.proofs.Common.{[], ◌∷◌, ◌∙◌, refl}
+use Rattle.std.proofs.Common.{[], ◌∷◌, ◌∙◌}
 use Rattle.ic_link_ops.specs.Sequences.{at_front}
 use Rattle.ic_link_ops.specs.LinkedList.{Shows}
-use Rattle.ic_link_ops.specs.DoublyEntries.{entries, is_linked, neighbors_of, table_of}
-use Rattle.ic_link_ops.specs.Chains.{no_members}
+use Rattle.ic_link_ops.specs.DoublyEntries.{entries, neighbors_of, table_of}
 use Rattle.ic_link_ops.proofs.CollectionLaws.{new_shows_nothing}
 use Rattle.ic_link_ops.proofs.DoublyLists.{plain_lists}
 use Rattle.ic_link_ops.proofs.Covering.{still_covered}

@@ -1,4 +1,4 @@
-use Rattle.std.proofs.Common.{List, [], drop, length, ap, refl, arith}
+use Rattle.std.proofs.Common.{List, [], drop, length, ap, arith}
 use Rattle.ic_unsafe_ref.specs.declared.place.Place.{Place}
 use Rattle.ic_unsafe_ref.specs.Places.{index_of}
 use Rattle.ic_link_ops.specs.DoublyEntries.{entries, is_linked, neighbors_of, linked_in_range, plain_table, PlainShows}

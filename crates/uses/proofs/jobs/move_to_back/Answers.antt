@@ -3,7 +3,7 @@ use Rattle.ic_unsafe_ref.specs.Places.{index_of}
 use Rattle.ic_link_ops.specs.DoublyEntries.{entries, linked_in_range}
 use Rattle.ic_link_ops.proofs.Covering.{still_covered}
 use Rattle.ic_link_ops.proofs.LinkedSets.{linked_again}
-use Rattle.ic_linked_list.proofs.Calling.{accepted}
+use Rattle.ic_link_ops.proofs.Calling.{accepted}
 use Rattle.uses.proofs.CutShown.{cut_shown}
 use Rattle.uses.proofs.PutBack.{kept_beside}
 use Rattle.uses.proofs.jobs.move_to_back.Goals as goal

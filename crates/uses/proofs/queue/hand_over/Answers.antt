@@ -1,14 +1,12 @@
-use Rattle.std.proofs.Common.{◌∷◌, refl, ◌∙◌}
+use Rattle.std.proofs.Common.{◌∷◌, ◌∙◌}
 use Rattle.ic_unsafe_ref.specs.Places.{index_of}
-use Rattle.ic_link_ops.specs.Chains.{no_members}
-use Rattle.ic_link_ops.specs.LinkedList.{Shows}
-use Rattle.ic_link_ops.specs.DoublyEntries.{entries, is_linked, neighbors_of, linked_in_range}
+use Rattle.ic_link_ops.specs.DoublyEntries.{entries, linked_in_range}
 use Rattle.ic_link_ops.proofs.CollectionLaws.{others_stay}
 use Rattle.ic_link_ops.proofs.Covering.{still_covered}
 use Rattle.ic_link_ops.proofs.DoublyLists.{plain_lists}
 use Rattle.ic_link_ops.proofs.SequenceLemmas.{absent_left, absent_right, disjoint_cons, disjoint_sym, first_is, some_same}
 use Rattle.ic_link_ops.proofs.LinkedSets.{linked_again}
-use Rattle.ic_linked_list.proofs.Calling.{accepted}
+use Rattle.ic_link_ops.proofs.Calling.{accepted}
 use Rattle.uses.proofs.queue.hand_over.Goals as goal
 
 pub push_back-requires-clause-covered : goal.push_back-requires-clause-covered

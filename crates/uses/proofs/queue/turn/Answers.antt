@@ -4,7 +4,7 @@ use Rattle.ic_link_ops.specs.DoublyEntries.{entries, linked_in_range}
 use Rattle.ic_link_ops.proofs.Covering.{frames_join, still_covered}
 use Rattle.ic_link_ops.proofs.SequenceLemmas.{first_is, some_same}
 use Rattle.ic_link_ops.proofs.LinkedSets.{linked_again}
-use Rattle.ic_linked_list.proofs.Calling.{accepted}
+use Rattle.ic_link_ops.proofs.Calling.{accepted}
 use Rattle.uses.proofs.queue.turn.Goals as goal
 
 pub push_back-requires-clause-covered : goal.push_back-requires-clause-covered

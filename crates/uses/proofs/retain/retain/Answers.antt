@@ -1,13 +1,12 @@
-use Rattle.std.proofs.Common.{rules, ◌≡◌, ◌∙◌, sym, refl, ap, true, List, ◌∷◌}
+use Rattle.std.proofs.Common.{rules, ◌≡◌, ◌∙◌, sym, refl, ap, List, ◌∷◌}
 use Rattle.std.specs.Option.{option_copied}
 use Rattle.std.specs.Fn.{FnReturnsAt}
 use Rattle.ic_linked_list.specs.CursorMut.{site_of}
 use Rattle.ic_unsafe_ref.specs.declared.place.Place.{Place}
-use Rattle.ic_link_ops.specs.Tables.{IsCovered}
 use Rattle.ic_link_ops.proofs.CollectionLaws.{one_sequence_is_shown}
 use Rattle.ic_link_ops.proofs.DoublyLists.{neighbors_covered, doubly_lists}
 use Rattle.ic_link_ops.proofs.Positions.{stands_by_gap}
-use Rattle.ic_linked_list.proofs.EditingWalks.{walk_begins}
+use Rattle.ic_link_ops.proofs.EditingWalks.{walk_begins}
 use Rattle.uses.proofs.Retaining.{Retains, retains_none, retains_kept, retains_gone, retains_all, ahead_less}
 use Rattle.uses.proofs.retain.retain.Goals as goal
 use Rattle.uses.proofs.retain.retain.Given.{Over}

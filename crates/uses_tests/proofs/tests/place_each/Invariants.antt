@@ -1,5 +1,5 @@
 use Rattle.ic_link_ops.specs.DoublyEntries.{PlainShows}
-use Rattle.ic_linked_list.specs.Iter.{ShowsPlaced}
+use Rattle.ic_link_ops.specs.PlacedObjects.{ShowsPlaced}
 use Rattle.uses_tests.proofs.tests.place_each.Given as goal
 
 abbrev pub invariant-loop-index : goal.invariant-loop-index

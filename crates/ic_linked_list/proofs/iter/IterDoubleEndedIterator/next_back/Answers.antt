@@ -1,6 +1,4 @@
-use Rattle.std.proofs.Common.{◌≡◌, true, refl, sym, ◌∙◌}
-use Rattle.ic_unsafe_ref.specs.declared.place.Place.{Place}
-use Rattle.ic_link_ops.specs.Tables.{IsCovered}
+use Rattle.std.proofs.Common.{refl, sym, ◌∙◌}
 use Rattle.ic_link_ops.proofs.DoublyLists.{neighbors_covered, walk_back_linked}
 use Rattle.ic_linked_list.proofs.Walking.{StepsBack, steps_back_last, steps_back_more, none_left_back, gives_back, goes_back}
 use Rattle.ic_linked_list.proofs.iter.IterDoubleEndedIterator.next_back.Goals as goal

@@ -1,6 +1,4 @@
-use Rattle.std.proofs.Common.{◌≡◌, true, refl, sym, ◌∙◌}
-use Rattle.ic_unsafe_ref.specs.declared.place.Place.{Place}
-use Rattle.ic_link_ops.specs.Tables.{IsCovered}
+use Rattle.std.proofs.Common.{refl, sym}
 use Rattle.ic_link_ops.proofs.DoublyLists.{neighbors_covered}
 use Rattle.ic_linked_list.proofs.Walking.{Steps, steps_last, steps_more, none_left, gives, goes}
 use Rattle.ic_linked_list.proofs.iter.IterIterator.next.Goals as goal

@@ -1,17 +1,14 @@
-use Rattle.std.proofs.Common.{◌≡◌, true, [], ◌∷◌, refl, sym, ◌∙◌}
-use Rattle.ic_unsafe_ref.specs.declared.place.Place.{Place}
-use Rattle.ic_link_ops.specs.Tables.{IsCovered}
-use Rattle.ic_link_ops.proofs.DoublyLists.{neighbors_covered, between_linked}
+use Rattle.std.proofs.Common.{[], ◌∷◌, refl, ◌∙◌}
+use Rattle.ic_link_ops.proofs.DoublyLists.{neighbors_covered, members_uncleared, between_linked}
 use Rattle.ic_link_ops.proofs.StepLemmas.{releases_append}
-use Rattle.ic_linked_list.proofs.Clearing.{releases_none, releases_more, releases_all, releases_fewer, next_between}
+use Rattle.ic_link_ops.proofs.Clearing.{releases_none, releases_more, releases_all, releases_fewer, next_between}
 use Rattle.ic_linked_list.proofs.list.LinkedList.clear.Goals as goal
-use Rattle.ic_linked_list.proofs.list.LinkedList.clear.Given.{Over}
 
 pub loop-current-init : goal.loop-current-init
 unfolding releases_none
 loop-current-init g c = record {
   extent = refl;
-  released = λ s shown. (releases_none shown c.head-current.ensures, g.met.L.LinkOps.does_nothing _);
+  released = λ s shown. (releases_none shown.chain (c.head-current.ensures ∙ shown.head), g.met.L.LinkOps.does_nothing _);
 }
 
 pub next-current-requires : goal.next-current-requires
@@ -22,18 +19,21 @@ next-current-requires g c =
 
 pub loop-current-smaller : goal.loop-current-smaller
 loop-current-smaller g c =
+    let L = g.met.L.LinkOps in
+    let covered = neighbors_covered g.L.LinkedListOps.neighbors g.L.LinkOps.table L.linked_is_covered g.met.L.LinkedListOps.linked_alike in
     let shown = c.requires.shown.1 in
     let k = rw c.in-Some.is at (c.loop-current.invariant.released c.requires.shown.0 shown).0 in
+    let more = releases_more {new' = g.L.LinkOps.table c.release_link.new.self} shown.distinct k c.release_link.ensures.frame.others
+    (c.next-current.ensures ∙ (next_between k).next) in
     rw c.in-Some.is
-    (releases_fewer {new' = g.L.LinkOps.table c.release_link.new.self} (neighbors_covered g.L.LinkedListOps.neighbors g.L.LinkOps.table g.met.L.LinkOps.linked_is_covered g.met.L.LinkedListOps.linked_alike c.loop-current.links) (neighbors_covered g.L.LinkedListOps.neighbors g.L.LinkOps.table g.met.L.LinkOps.linked_is_covered g.met.L.LinkedListOps.linked_alike c.release_link.new.self) shown.distinct k
-    (releases_more shown.distinct k c.release_link.ensures.frame.others c.next-current.ensures))
+    (releases_fewer (members_uncleared (covered c.loop-current.links) shown.distinct k) (members_uncleared (covered c.release_link.new.self) shown.distinct more.0) more.1)
 
 pub loop-current-preserved : goal.loop-current-preserved
 loop-current-preserved g c = record {
   extent = c.release_link.ensures.frame.extent ∙ c.loop-current.invariant.extent;
   released = λ s shown.
       let was = rw c.in-Some.is at (c.loop-current.invariant.released s shown) in
-      let more = releases_more shown.distinct was.0 c.release_link.ensures.frame.others c.next-current.ensures in
+      let more = releases_more shown.distinct was.0 c.release_link.ensures.frame.others (c.next-current.ensures ∙ (next_between was.0).next) in
       let steps = g.met.L.LinkOps.does_on _ _ _ _ _ was.1 c.release_link.ensures.released in
       (more.0, rw (more.2, releases_append was.0.done (c.in-Some.place ∷ [])) steps);
 }

@@ -1,6 +1,6 @@
-use Rattle.std.proofs.Common.{sym, ◌∙◌, ap}
+use Rattle.std.proofs.Common.{ap}
 use Rattle.ic_link_ops.proofs.DoublyLists.{neighbors_covered, members_shown}
-use Rattle.ic_linked_list.specs.Iter.{values_at}
+use Rattle.ic_link_ops.specs.PlacedObjects.{values_at}
 use Rattle.ic_linked_list.proofs.list.LinkedList.iter.Goals as goal
 
 pub returns-clause-walks : goal.returns-clause-walks
