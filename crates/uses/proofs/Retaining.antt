@@ -92,5 +92,9 @@ module _ {L E T : Type 0} {n : E → Neighbors} {table : L → Table E} {Does : 
       → (turn : (p : Place) × (rest : List Place) × (ahead ≡ p ∷ rest) × Retains n table Does objects tells start' s' new rest)
       → length (members_between n (table new.links) new.position None) < length (members_between n (table now.links) now.position None)
   ahead_less {now = now} {new = new} {ahead = ahead} covered h turn =
-      omega (arith, ap length (members_behind (table now.links) (covered now.links) h.behind ahead h.walked.shown h.walked.here),
-      ap length (members_behind (table new.links) (covered new.links) turn.3.behind turn.1 turn.3.walked.shown turn.3.walked.here), ap length turn.2)
+      omega (
+        arith,
+        ap length (members_behind (table now.links) (covered now.links) h.behind ahead h.walked.shown h.walked.here),
+        ap length (members_behind (table new.links) (covered new.links) turn.3.behind turn.1 turn.3.walked.shown turn.3.walked.here),
+        ap length turn.2,
+      )

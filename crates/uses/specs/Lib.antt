@@ -1,7 +1,7 @@
+pub mod BorrowedTables
 pub mod EitherTables
 pub mod Hands
 pub mod Jobs
-pub mod LentTables
 pub mod Notes
 pub mod RecordedTables
 pub mod Race

@@ -1,12 +1,12 @@
 //! Uses of the collections and of claims, as a caller writes them: each with a contract, and run by a test.
 #![tactic(auto)]
 
+pub mod borrowed_table;
 pub mod deal;
 pub mod either_table;
 pub mod first_objects;
 pub mod first_steps;
 pub mod jobs;
-pub mod lent_table;
 pub mod lru;
 pub mod pairs;
 pub mod queue;

@@ -21,7 +21,7 @@ use uses::first_objects::{ObjectsError, first_objects};
 use uses::first_steps::first_steps;
 use uses::race::race;
 use uses::retain::retain;
-use uses::{deal, jobs, lent_table, lru, pairs, queue};
+use uses::{deal, jobs, borrowed_table, lru, pairs, queue};
 
 // Asserts that these places were found. The one assert of the tests.
 fn same(rt: &impl Abort, found: &[Option<Place>], wanted: &[usize]) {
@@ -164,8 +164,8 @@ fn pair_by_views(
     requires second { IsCovered (plain_table links.old) second }
 {
     let mut list: LinkedList<u64> = LinkedList::new();
-    lent_table::push_back(&mut list, links, UnsafeRef::new(first))?;
-    lent_table::push_back(&mut list, links, UnsafeRef::new(second))?;
+    borrowed_table::push_back(&mut list, links, UnsafeRef::new(first))?;
+    borrowed_table::push_back(&mut list, links, UnsafeRef::new(second))?;
     let Some((one, two)) = pairs::take_both(list, links) else {
         return Ok([None, None]);
     };

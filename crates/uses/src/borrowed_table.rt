@@ -1,7 +1,7 @@
-//! A table that is lent: a view of it that has the same link traits.
+//! A table that is borrowed: a view of it that has the same link traits.
 //!
 //! ```text
-//! let mut view = LentTable::new(&mut links);
+//! let mut view = BorrowedTable::new(&mut links);
 //! list.push_back(&mut view, object)?; // when the view ends, `links` has what it showed
 //! ```
 
@@ -18,43 +18,43 @@ use ic_linked_list::LinkedList;
 use ic_unsafe_ref::{Place, UnsafeRef};
 
 /// A view of a table, for as long as it is borrowed. No call makes it a view of another one.
-pub struct LentTable<'a, L> {
+pub struct BorrowedTable<'a, L> {
     links: &'a mut L,
 }
 
-impl<L> Drop for LentTable<'_, L> {
+impl<L> Drop for BorrowedTable<'_, L> {
     fn drop(self)
         ensures links { self.exit.0.now ≡ self.entry.links.now }
     {
-        let LentTable { links: _ } = self;
+        let BorrowedTable { links: _ } = self;
     }
 }
 
-impl<'a, L> LentTable<'a, L> {
-    ghost use Rattle.uses.specs.LentTables.{IsLent};
+impl<'a, L> BorrowedTable<'a, L> {
+    ghost use Rattle.uses.specs.BorrowedTables.{IsBorrowed};
 
     /// A view of the table. O(1).
     #[inline]
-    pub fn new(links: &'a mut L) -> LentTable<'a, L>
-        ensures { IsLent links.entry result }
+    pub fn new(links: &'a mut L) -> BorrowedTable<'a, L>
+        ensures { IsBorrowed links.entry result }
     {
-        LentTable { links }
+        BorrowedTable { links }
     }
 }
 
-impl<L: LinkOps> LinkOps for LentTable<'_, L> {
-    ghost use Rattle.uses.specs.LentTables.{lent, named, links_of};
+impl<L: LinkOps> LinkOps for BorrowedTable<'_, L> {
+    ghost use Rattle.uses.specs.BorrowedTables.{borrowed, named, links_of};
     ghost use Rattle.ic_link_ops.specs.StepLaws.{replays_within};
 
     type Entry = L::Entry;
 
-    ghost table = { lent L.table };
+    ghost table = { borrowed L.table };
 
     ghost linked = { L.linked };
 
     ghost Does = { λ old new s. L.Does (links_of old) (links_of new) s };
 
-    ghost Refused = { λ old new p. L.Refused (links_of old) (links_of new) p × (lent L.table new ≡ lent L.table old) };
+    ghost Refused = { λ old new p. L.Refused (links_of old) (links_of new) p × (borrowed L.table new ≡ borrowed L.table old) };
 
     #[inline]
     fn acquire_link(&mut self, place: Place) -> bool {
@@ -78,7 +78,7 @@ impl<L: LinkOps> LinkOps for LentTable<'_, L> {
     ghost refused_keeps = { λ old new p h. h.1 };
 }
 
-impl<L: LinkedListOps> LinkedListOps for LentTable<'_, L> {
+impl<L: LinkedListOps> LinkedListOps for BorrowedTable<'_, L> {
     ghost neighbors = { L.neighbors };
 
     #[inline]
@@ -123,6 +123,6 @@ pub fn push_back<T, L: LinkedListOps>(
     ensures frame { (s : List Place) → Shows L.neighbors (L.table links.old) list.old s
         → KeepsBeside (L.table links.old) (L.table links.new) (object ∷ s) }
 {
-    let mut view = LentTable::new(links);
+    let mut view = BorrowedTable::new(links);
     list.push_back(&mut view, object)
 }

@@ -1,0 +1,23 @@
+-- A table that is borrowed, as a table of links.
+use Rattle.std.specs.Prelude.{◌≡◌, ◌∷◌}
+use Rattle.std.specs.Borrow.{MutBor}
+use Rattle.ic_link_ops.specs.Tables.{Extent, Table, with_extent}
+use Rattle.uses.specs.declared.borrowed_table.BorrowedTable.{BorrowedTable}
+
+module _ {L : Type 0} where
+  -- the table behind it
+  abbrev pub links_of : BorrowedTable L → L
+  links_of t = t.links.now
+
+  -- it is this borrow, of a table that is as it was
+  abbrev pub IsBorrowed : MutBor L → BorrowedTable L → Type 0
+  IsBorrowed links t = (t.links.ghost_name ≡ links.ghost_name) × (t.links.now ≡ links.now)
+
+module _ {L E : Type 0} (table : L → Table E) where
+  -- the name of the borrow tells it from other tables that are borrowed
+  abbrev pub named : BorrowedTable L → Extent
+  named t = record { places = (table t.links.now).extent.places; identity = t.links.ghost_name ∷ (table t.links.now).extent.identity }
+
+  -- its entries are those of the table behind it
+  abbrev pub borrowed : BorrowedTable L → Table E
+  borrowed t = with_extent (named t) (table t.links.now)
