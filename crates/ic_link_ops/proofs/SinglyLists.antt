@@ -1,8 +1,8 @@
 -- Singly linked lists: their setter turns, what their entries tell, the edits of a list with one end, and its walk.
 use Rattle.std.proofs.Common.{◌≡◌, ◌≢◌, ◌≤◌, Option, Some, None, List, [], ◌∷◌, ◌++◌, length, Bool, true, refl, sym, ◌∙◌, ap}
 use Rattle.ic_unsafe_ref.specs.declared.place.Place.{Place}
-use Rattle.ic_link_ops.specs.Sequences.{IsAbsent, IsDisjoint, first, last}
-use Rattle.ic_link_ops.specs.Tables.{Table, IsCovered, ChangesOnly}
+use Rattle.ic_link_ops.specs.Sequences.{IsAbsent, IsDistinct, IsDisjoint, first, last}
+use Rattle.ic_link_ops.specs.Tables.{Table, IsCovered, IsLinked, ChangesOnly}
 use Rattle.ic_link_ops.specs.Chains.{Ends, end_of, ShowsBetween}
 use Rattle.ic_link_ops.specs.Turns.{TurnsBehind, TurnsBefore}
 use Rattle.ic_link_ops.specs.SinglyLinkedList.{Successor, successor_at, IsFollowed, Shows, next_of, members, IsWalk}
@@ -10,8 +10,14 @@ use Rattle.ic_link_ops.proofs.Turning.{turns_behind}
 use Rattle.ic_link_ops.proofs.SequenceLemmas.{some_same, none_not}
 use Rattle.ic_link_ops.proofs.Chains.{chain_one}
 use Rattle.ic_link_ops.proofs.CollectionLaws.{IsKind}
+use Rattle.ic_link_ops.proofs.Clearing.{Releases, releases_left_blind}
 use Rattle.ic_link_ops.proofs.ShownLists.{free_absent, shows_kept, shows_beside, shows_frame, shows_insert, shows_remove, shows_replace, shows_splice, shows_split}
 use Rattle.ic_link_ops.proofs.Walks.{walk_blind, stretch_through, stretch_length, stretch_empty, stretch_of, stretch_first}
+
+-- ONLY COVERED PLACES ARE LINKED, as successors say it too
+pub successors_covered : {L E : Type 0} {linked : E → Bool} (s : E → Successor) (table : L → Table E) → ((t : L) (q : Place) → IsLinked linked (table t) q → IsCovered (table t) q)
+    → ((e : E) → (s e).linked ≡ linked e) → (t : L) (q : Place) → (s ((table t).entry q)).linked ≡ true → IsCovered (table t) q
+successors_covered s table covered alike t q h = covered t q (sym (alike _) ∙ h)
 
 module _ {E : Type 0} {s : E → Successor} where
   -- THE SETTER gives a turn, whatever stood there
@@ -23,6 +29,9 @@ module _ {E : Type 0} {s : E → Successor} where
   -- and no entry says what stands before it, so nothing has to be written for that
   pub unwritten : {t : Place → E} {at from to : Option Place} → TurnsBefore (IsFollowed s) t t at from to
   unwritten = record { turned = λ q b e h. record { linked = h.linked; next = h.next }; others = λ q apart. refl }
+
+  unturned : {t : Place → E} {at from : Option Place} → TurnsBehind (IsFollowed s) t t at from from
+  unturned = record { turned = λ q a e h. h; others = λ q apart. refl }
 
   pub followed_one : (e : E) (a b c : Option Place) → IsFollowed s e a b → IsFollowed s e a c → b ≡ c
   followed_one e a b c h k = sym h.next ∙ k.next
@@ -76,6 +85,14 @@ module _ {E : Type 0} {s : E → Successor} where
   front_splice {head} {head'} {given} front mid back x {before} {behind} is_given is_found is_before is_behind shown other apart turn1 turn2 is_head =
       one_ended (shows_splice {ends' = record { head = head'; tail = end_of behind (last mid) (last (front ++ back)) }} {given = record { head = given; tail = last mid }}
       front mid back x is_given is_before is_behind (two_ended shown) (two_ended other) apart turn1 unwritten unwritten (rw is_found at turn2) is_head refl)
+
+  -- the same where nothing stands behind the gap, so that the given last needs no turn
+  pub front_joined : {t0 t1 : Table E} {head head' given : Option Place} (front mid back : List Place) (x : Place) {before behind : Option Place}
+      → given ≡ Some x → before ≡ last front → behind ≡ first back → behind ≡ None → Shows s t0 head (front ++ back) → Shows s t0 given mid
+      → IsDisjoint mid (front ++ back) → TurnsBehind (IsFollowed s) t0.entry t1.entry before behind given → head' ≡ end_of before given head
+      → Shows s t1 head' (front ++ (mid ++ back))
+  front_joined front mid back x is_given is_before is_behind none shown other apart turn is_head =
+      front_splice {found = last mid} front mid back x is_given refl is_before is_behind shown other apart turn (rw none unturned) is_head
 
   -- SPLIT: what stands before the gap is turned to none, and each part is shown for its own first
   pub front_split : {t0 t1 : Table E} {head fronts backs : Option Place} (front back : List Place) {before behind : Option Place}
@@ -142,6 +159,11 @@ module _ {E : Type 0} {s : E → Successor} where
   pub shown_length : (t : Table E) → ((q : Place) → (s (t.entry q)).linked ≡ true → IsCovered t q)
       → (head : Option Place) (m : List Place) → Shows s t head m → length m ≤ t.extent.places
   shown_length t covered head m shown = stretch_length t (λ q b a h. covered q h.linked) (stretch_of (two_ended shown))
+
+  -- and those that are left while a list is cleared
+  pub members_uncleared : {old new : Table E} {m : List Place} {current : Option Place} → ((q : Place) → (s (new.entry q)).linked ≡ true → IsCovered new q)
+      → IsDistinct m → (k : Releases (IsFollowed s) old new m current) → members s new current ≡ k.rest
+  members_uncleared covered d k = releases_left_blind (λ e. (s e).next) (λ e b a h. h.next) (λ q b a h. covered q h.linked) d k
 
 -- the five facts of singly linked lists, where both traits say alike whether a place is linked
 pub singly_lists : {E : Type 0} {s : E → Successor} {linked : E → Bool} → ((e : E) → (s e).linked ≡ linked e) → IsKind (Shows s) linked None

@@ -1,0 +1,5 @@
+pub mod Cursor
+pub mod CursorMut
+pub mod CursorOwning
+pub mod Iter
+pub mod IntoIter

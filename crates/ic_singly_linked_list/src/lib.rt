@@ -1,0 +1,45 @@
+//! A singly linked list over any table whose entries name what stands behind.
+//!
+//! Each operation takes the table of the link field. Linking takes no memory, and one object can be in lists of
+//! several fields. An entry is one word, and so is the list.
+//!
+//! ```text
+//! let mut links = singly_linked_list::LinkOps::new(rt.alloc());
+//! links.cover(2)?;
+//! let mut list = SinglyLinkedList::new();
+//! list.push_front(&mut links, first)?;
+//! list.push_front(&mut links, second)?;
+//! let taken = list.pop_front(&mut links); // the second
+//! ```
+//!
+//! A cursor is on a member, or at null, which stands in front of the first. [`Cursor`] reads. [`CursorMut`] edits what is
+//! behind it: it inserts, removes, replaces and splits in O(1). [`CursorOwning`] edits too, and keeps its list, so it can stand
+//! in a structure; it is handed the table at each call.
+//!
+//! ```text
+//! let mut cursor = list.front_mut(&mut links);
+//! cursor.insert_after(object)?;         // behind the first
+//! let removed = cursor.remove_next();   // and taken off again
+//! ```
+//!
+//! [`Iter`] lends the objects, and [`IntoIter`] takes the members off. [`laws`] has what follows for every table.
+#![tactic(auto)]
+
+mod cursor;
+mod cursor_mut;
+mod cursor_owning;
+mod edits;
+mod into_iter;
+mod iter;
+pub mod laws;
+mod list;
+mod surgery;
+mod whole;
+
+pub use cursor::Cursor;
+pub use cursor_mut::CursorMut;
+pub use cursor_owning::CursorOwning;
+pub use ic_link_ops::singly_linked_list::{Link, LinkOps, SinglyLinkedListOps};
+pub use into_iter::IntoIter;
+pub use iter::Iter;
+pub use list::SinglyLinkedList;
