@@ -33,6 +33,7 @@ mod cursor_owning;
 mod edits;
 mod into_iter;
 mod iter;
+pub mod laws;
 mod list;
 mod position;
 mod surgery;
