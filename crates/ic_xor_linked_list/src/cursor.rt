@@ -186,9 +186,7 @@ impl<'a, T, L: XorLinkedListOps> Cursor<'a, T, L> {
         ensures list { list_of self.new ≡ list_of self.old }
         ensures links { links_of self.new ≡ links_of self.old }
     {
-        self.at = self
-            .list
-            .position_behind(self.links, self.at.current.get(), self.at.next.get());
+        self.at = self.list.moved_on(self.links, &self.at);
     }
 
     /// Moves to the previous member, from null to the last one, and from the first one to null. O(1): one reading of an entry.
@@ -202,9 +200,7 @@ impl<'a, T, L: XorLinkedListOps> Cursor<'a, T, L> {
         ensures list { list_of self.new ≡ list_of self.old }
         ensures links { links_of self.new ≡ links_of self.old }
     {
-        self.at = self
-            .list
-            .position_before(self.links, self.at.prev.get(), self.at.current.get());
+        self.at = self.list.moved_back(self.links, &self.at);
     }
 
     /// A cursor where [`Cursor::move_next`] would stand.
@@ -216,13 +212,10 @@ impl<'a, T, L: XorLinkedListOps> Cursor<'a, T, L> {
         ensures list { list_of result ≡ list_of self.now }
         ensures links { links_of result ≡ links_of self.now }
     {
-        let at = self
-            .list
-            .position_behind(self.links, self.at.current.get(), self.at.next.get());
         Cursor {
             list: self.list,
             links: self.links,
-            at,
+            at: self.list.moved_on(self.links, &self.at),
         }
     }
 
@@ -235,13 +228,10 @@ impl<'a, T, L: XorLinkedListOps> Cursor<'a, T, L> {
         ensures list { list_of result ≡ list_of self.now }
         ensures links { links_of result ≡ links_of self.now }
     {
-        let at = self
-            .list
-            .position_before(self.links, self.at.prev.get(), self.at.current.get());
         Cursor {
             list: self.list,
             links: self.links,
-            at,
+            at: self.list.moved_back(self.links, &self.at),
         }
     }
 }

@@ -208,9 +208,7 @@ impl<'a, T, L: XorLinkedListOps> CursorMut<'a, T, L> {
         ensures kept { KnowsNeighbors (Shows L.linked L.Joins) L.table self.new }
         ensures stays { Stays self.old self.new }
     {
-        self.at = self
-            .list
-            .position_behind(&*self.links, self.at.current.get(), self.at.next.get());
+        self.at = self.list.moved_on(&*self.links, &self.at);
     }
 
     /// Moves to the previous member, from null to the last one, and from the first one to null. O(1).
@@ -223,9 +221,7 @@ impl<'a, T, L: XorLinkedListOps> CursorMut<'a, T, L> {
         ensures kept { KnowsNeighbors (Shows L.linked L.Joins) L.table self.new }
         ensures stays { Stays self.old self.new }
     {
-        self.at = self
-            .list
-            .position_before(&*self.links, self.at.prev.get(), self.at.current.get());
+        self.at = self.list.moved_back(&*self.links, &self.at);
     }
 
     /// A cursor that reads, where [`CursorMut::move_next`] would stand.

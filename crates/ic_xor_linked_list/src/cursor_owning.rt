@@ -175,9 +175,7 @@ impl<T> CursorOwning<T> {
         ensures kept { KnowsNeighbors (Shows L.linked L.Joins) L.table links.now self.new }
         ensures list { list_of self.new ≡ list_of self.old }
     {
-        self.at = self
-            .list
-            .position_behind(links, self.at.current.get(), self.at.next.get());
+        self.at = self.list.moved_on(links, &self.at);
     }
 
     /// Moves to the previous member, from null to the last one, and from the first one to null. O(1).
@@ -190,9 +188,7 @@ impl<T> CursorOwning<T> {
         ensures kept { KnowsNeighbors (Shows L.linked L.Joins) L.table links.now self.new }
         ensures list { list_of self.new ≡ list_of self.old }
     {
-        self.at = self
-            .list
-            .position_before(links, self.at.prev.get(), self.at.current.get());
+        self.at = self.list.moved_back(links, &self.at);
     }
 
     /// Puts the object behind the cursor, and in front of the first member at null, unless its link is refused. O(1).

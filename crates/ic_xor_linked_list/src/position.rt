@@ -5,6 +5,7 @@
 ghost use Rattle.std.specs.Prelude.{◌≡◌, Option};
 ghost use Rattle.ic_link_ops.specs.Sequences.{Cut, join, IsAfter, IsBefore};
 ghost use Rattle.ic_link_ops.specs.XorLinkedList.{Shows};
+ghost use Rattle.ic_link_ops.specs.Positions.{site, MovesOn, MovesBack};
 ghost use Rattle.ic_xor_linked_list.specs.Position.{Knows, null_of, with_next, with_prev};
 
 use crate::XorLinkedList;
@@ -125,5 +126,25 @@ impl<T> XorLinkedList<T> {
             prev: End::of(prev),
             next: End::of(next),
         }
+    }
+
+    // Where a move on leads.
+    #[inline]
+    pub(crate) fn moved_on<L: XorLinkedListOps>(&self, links: &L, at: &Position) -> Position
+        requires stands { Knows (Shows L.linked L.Joins) L.table links.now self.now at.now }
+        ensures moved { MovesOn (Shows L.linked L.Joins) L.table (site links.now self.now at.now.current) result.current }
+        ensures kept { Knows (Shows L.linked L.Joins) L.table links.now self.now result }
+    {
+        self.position_behind(links, at.current.get(), at.next.get())
+    }
+
+    // Where a move back leads.
+    #[inline]
+    pub(crate) fn moved_back<L: XorLinkedListOps>(&self, links: &L, at: &Position) -> Position
+        requires stands { Knows (Shows L.linked L.Joins) L.table links.now self.now at.now }
+        ensures moved { MovesBack (Shows L.linked L.Joins) L.table (site links.now self.now at.now.current) result.current }
+        ensures kept { Knows (Shows L.linked L.Joins) L.table links.now self.now result }
+    {
+        self.position_before(links, at.prev.get(), at.current.get())
     }
 }
