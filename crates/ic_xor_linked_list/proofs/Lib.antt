@@ -1,0 +1,3 @@
+pub mod Standing
+pub mod Walking
+pub mod Reversing

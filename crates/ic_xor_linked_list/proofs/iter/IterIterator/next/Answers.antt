@@ -1,0 +1,30 @@
+use Rattle.std.proofs.Common.{refl, sym}
+use Rattle.ic_xor_linked_list.proofs.Walking.{Steps, steps_last, steps_more, none_left, gives, goes}
+use Rattle.ic_xor_linked_list.proofs.iter.IterIterator.next.Goals as goal
+use Rattle.ic_xor_linked_list.proofs.iter.IterIterator.next.Goals.{then-is_at, else-is_at}
+use Rattle.ic_xor_linked_list.proofs.iter.IterIterator.next.Given.{Over}
+
+-- this call is a step of the walk
+step : (g : Over) (c : goal.After-get g) → Steps g.L.LinkOps.linked g.L.XorLinkedListOps.Joins g.L.LinkOps.table c.args.self.now c.if-is_at.self c.in_ok-place.place
+step g c =
+    elim c.if-is_at.branch [
+      | then-is_at w ↦
+          rw w.self-is (steps_last _ _ _ c.args.self.now c.in_ok-place.place c.requires c.in_ok-place.was (sym w.if-is_at.ensures))
+      | else-is_at w ↦
+          rw w.self-is
+          (steps_more _ _ _ g.L.XorLinkedListOps.other g.met.L.XorLinkedListOps.finds_other c.args.self.now c.in_ok-place.place w.next-self.result c.requires c.in_ok-place.was
+          (sym w.if-is_at.ensures) w.next-self.ensures)
+    ]
+
+pub returns-in_err-place-clause-steps : goal.returns-in_err-place-clause-steps
+returns-in_err-place-clause-steps g c =
+    let none = none_left _ _ g.L.LinkOps.table g.L.XorLinkedListOps.other g.met.L.XorLinkedListOps.finds_other g.met.L.LinkOps.linked_is_covered c.args.self.now c.requires c.in_err-place.was in
+    rw c.from_residual.ensures ((none, none), refl)
+
+pub returns-clause-steps : goal.returns-clause-steps
+returns-clause-steps g c =
+    gives _ _ _ g.L.XorLinkedListOps.other g.met.L.XorLinkedListOps.finds_other g.met.L.LinkOps.linked_is_covered c.get.result (step g c) c.get.ensures
+
+pub returns-clause-goes : goal.returns-clause-goes
+returns-clause-goes g c =
+    goes _ _ _ g.L.XorLinkedListOps.other g.met.L.XorLinkedListOps.finds_other g.met.L.LinkOps.linked_is_covered c.get.result (step g c) c.get.ensures

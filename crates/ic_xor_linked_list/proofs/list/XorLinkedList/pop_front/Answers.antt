@@ -1,0 +1,18 @@
+use Rattle.std.proofs.Common.{◌∙◌, sym, refl, [], drop}
+use Rattle.ic_link_ops.proofs.ShownLists.{shows_first, shows_middle}
+use Rattle.ic_link_ops.proofs.XorLists.{joined_step}
+use Rattle.ic_xor_linked_list.proofs.list.XorLinkedList.pop_front.Goals as goal
+
+pub returns-clause-removed : goal.returns-clause-removed
+returns-clause-removed g c s shown =
+    let whole = rw (shows_first s shown (sym c.head.ensures ∙ c.in_ok-front.was)) at shown in
+    c.take_off.ensures.removed [] (drop 1 s) whole refl
+    (c.next-behind.ensures ∙ joined_step _ g.met.L.XorLinkedListOps.finds_other _ _ _ (shows_middle [] (drop 1 s) whole))
+
+pub returns-clause-frame : goal.returns-clause-frame
+returns-clause-frame g c s shown =
+    let is = shows_first s shown (sym c.head.ensures ∙ c.in_ok-front.was) in
+    let whole = rw is at shown in
+    rw is
+    (c.take_off.ensures.frame [] (drop 1 s) whole refl
+    (c.next-behind.ensures ∙ joined_step _ g.met.L.XorLinkedListOps.finds_other _ _ _ (shows_middle [] (drop 1 s) whole)))

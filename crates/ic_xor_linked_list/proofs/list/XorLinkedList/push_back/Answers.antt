@@ -1,0 +1,18 @@
+use Rattle.std.proofs.Common.{[], append-nil, refl, ◌∙◌}
+use Rattle.ic_link_ops.specs.Sequences.{at_back}
+use Rattle.ic_link_ops.proofs.SequenceLemmas.{absent_both}
+use Rattle.ic_xor_linked_list.proofs.list.XorLinkedList.push_back.Goals as goal
+
+pub insert_between-requires-clause-shown : goal.insert_between-requires-clause-shown
+insert_between-requires-clause-shown g c =
+    let s = c.requires.shown in
+    (at_back s.0, rw append-nil s.1, c.tail-tail.ensures ∙ s.1.tail, refl)
+
+pub returns-clause-inserted : goal.returns-clause-inserted
+returns-clause-inserted g c s shown =
+    c.insert_between.ensures.shown (at_back s) (rw append-nil shown) (c.tail-tail.ensures ∙ shown.tail) refl
+
+pub returns-clause-frame : goal.returns-clause-frame
+returns-clause-frame g c s shown =
+    let frame = c.insert_between.ensures.frame (at_back s) (rw append-nil shown) (c.tail-tail.ensures ∙ shown.tail) refl in
+    record { extent = frame.extent; others = λ q out. frame.others q (out.0, absent_both q s [] out.1 tt) }

@@ -1,0 +1,60 @@
+use Rattle.std.proofs.Common.{[], Some, None, ◌++◌, ◌∙◌, sym, ap, refl, drop, ◌≡◌}
+use Rattle.ic_link_ops.specs.Sequences.{last}
+use Rattle.ic_link_ops.specs.Chains.{Ends}
+use Rattle.ic_link_ops.specs.XorLinkedList.{Shows}
+use Rattle.ic_link_ops.proofs.SequenceLemmas.{gap_not, absent_left, absent_right, absent_both, last_some}
+use Rattle.ic_link_ops.proofs.ShownLists.{shows_splice, shows_first, gap_linked, gap_behind_linked, tail_linked, ends_not}
+use Rattle.ic_link_ops.proofs.XorLists.{joined_linked, replaced_before, replaced_behind}
+use Rattle.ic_xor_linked_list.proofs.list.XorLinkedList.splice_between.Goals as goal
+
+-- a list with a first member has a last one
+pub returns-in_default-get-clause-spliced : goal.returns-in_default-get-clause-spliced
+returns-in_default-get-clause-spliced g c gap t shown before behind given apart =
+    let shown : Shows g.L.LinkOps.linked g.L.XorLinkedListOps.Joins (g.L.LinkOps.table c.args.links.now) (record { head = c.get.result; tail = c.get-2.result }) t =
+    rw (c.get.ensures, c.get-2.ensures) (rw (← c.given.view_is) at given) in
+    let none : last t ≡ None = sym shown.tail ∙ c.in_default-get.is in
+    absurd (last_some c.in-Some.front (drop 1 t) (rw (shows_first t shown c.in-Some.is) at none))
+
+pub lead-requires : goal.lead-requires
+lead-requires g c q e = let r = c.requires.shown in gap_linked joined_linked r.0.front r.0.back r.1 (sym e ∙ r.2)
+
+pub follow-requires : goal.follow-requires
+follow-requires g c q e =
+    let r = c.requires.shown in
+    rw (g.met.L.LinkOps.does_replay _ _ [] c.lead.ensures.no_step q) (gap_behind_linked joined_linked r.0.front r.0.back r.1 (sym e ∙ r.3))
+
+pub replace_next_or_prev-requires-2 : goal.replace_next_or_prev-requires-2
+replace_next_or_prev-requires-2 g c =
+    let L = g.met.L.LinkOps in record {
+      linked = rw (L.does_replay _ _ [] c.replace_next_or_prev.ensures.no_step _, L.does_replay _ _ [] c.follow.ensures.no_step _, L.does_replay _ _ [] c.lead.ensures.no_step _)
+          (tail_linked joined_linked (rw (← c.given.view_is) at c.requires.given.1) (sym c.get-2.ensures ∙ c.in-Some-get.is));
+    }
+
+pub returns-clause-spliced : goal.returns-clause-spliced
+returns-clause-spliced g c gap t shown before behind given' apart =
+    let ends : Ends = record { head = Some c.in-Some.front; tail = Some c.in-Some-get.back } in
+    let given : Shows g.L.LinkOps.linked g.L.XorLinkedListOps.Joins (g.L.LinkOps.table c.args.links.now) ends t =
+    rw (← c.in-Some.is, ← c.in-Some-get.is, c.get.ensures, c.get-2.ensures) (rw (← c.given.view_is) at given') in
+    let turn3 = c.replace_next_or_prev.ensures in
+    let turn4 = c.replace_next_or_prev-2.ensures in
+    let kept = g.met.L.LinkOps.does_replay in record {
+      shows = shows_splice gap.front t gap.back c.in-Some.front refl before behind (rw (← c.self.view_is) at shown) given apart
+          c.lead.ensures.turns c.follow.ensures.turns (replaced_before turn3.frame (kept _ _ [] turn3.no_step _) turn3.replaced)
+          (replaced_behind g.met.L.XorLinkedListOps.symmetric turn4.frame (kept _ _ [] turn4.no_step _) turn4.replaced)
+          c.lead.ensures.head c.follow.ensures.tail;
+      frame = record {
+        extent = turn4.frame.extent ∙ turn3.frame.extent ∙ c.follow.ensures.extent ∙ c.lead.ensures.extent;
+        others = λ q out.
+            let rest = absent_right q gap.front (t ++ gap.back) out in
+            let beside = gap_not gap.front gap.back before behind
+            (absent_both q gap.front gap.back (absent_left q gap.front (t ++ gap.back) out) (absent_right q t gap.back rest)) in
+            let apart_ends = ends_not given (absent_left q t gap.back rest) in
+            turn4.frame.others q (λ e. apart_ends.1 (ap Some (sym e))) ∙ turn3.frame.others q (λ e. apart_ends.0 (ap Some (sym e)))
+            ∙ c.follow.ensures.turns.others q beside.1 ∙ c.lead.ensures.turns.others q beside.0;
+      };
+    }
+
+pub returns-clause-no_step : goal.returns-clause-no_step
+returns-clause-no_step g c =
+    let L = g.met.L.LinkOps in
+    L.does_on _ _ _ _ _ (L.does_on _ _ _ _ _ (L.does_on _ _ _ _ _ c.lead.ensures.no_step c.follow.ensures.no_step) c.replace_next_or_prev.ensures.no_step) c.replace_next_or_prev-2.ensures.no_step

@@ -1,0 +1,149 @@
+//! A walk over the objects of a list.
+//!
+//! ```text
+//! for task in list.iter(&links, &objects) {
+//!     task.run();
+//! }
+//! let newest = list.iter(&links, &objects).next_back();
+//! ```
+
+ghost use Rattle.std.specs.Prelude.{◌≡◌, List, Option, Some, ⊤};
+ghost use Rattle.std.specs.Iterator.{item_count};
+ghost use Rattle.ic_unsafe_ref.specs.declared.place.Place.{Place};
+ghost use Rattle.ic_link_ops.specs.XorLinkedList.{Shows};
+ghost use Rattle.ic_link_ops.specs.Walk.{is_end, GivesFirst, GivesLast};
+ghost use Rattle.ic_link_ops.specs.PlacedObjects.{ShowsPlaced, values_at};
+
+use crate::XorLinkedList;
+use ic_link_ops::LinkOps;
+use ic_link_ops::xor_linked_list::XorLinkedListOps;
+use ic_unsafe_ref::{Objects, Place};
+use std::alloc::{AllocError, Allocator, Global};
+
+/// The objects of a list that are not given out yet: from the front by `next`, from the back by `next_back`.
+///
+/// It keeps the two ends of what is left and the places beyond them. When the two ends meet, both are exhausted.
+pub struct Iter<'a, T, L, A: Allocator = Global> {
+    links: &'a L,
+    objects: &'a Objects<T, A>,
+    before: Option<Place>,
+    head: Option<Place>,
+    tail: Option<Place>,
+    behind: Option<Place>,
+}
+
+impl<T, L, A: Allocator> Drop for Iter<'_, T, L, A> {
+    fn drop(self) {
+        let Iter {
+            links: _,
+            objects: _,
+            before: _,
+            head: _,
+            tail: _,
+            behind: _,
+        } = self;
+    }
+}
+
+// Whether the end of the walk is `place`.
+#[inline]
+fn is_at(end: Option<Place>, place: Place) -> bool
+    ensures { result ≡ is_end end place }
+{
+    match end {
+        None => false,
+        Some(end) => end == place,
+    }
+}
+
+impl<'a, T, L: XorLinkedListOps, A: Allocator> Iterator for Iter<'a, T, L, A> {
+    type Item = &'a T;
+
+    ghost use Rattle.std.specs.Iterator.{item_count};
+    ghost use Rattle.ic_xor_linked_list.specs.Iter.{objects_left, CanWalk};
+
+    ghost can_next = { CanWalk L.linked L.Joins L.table };
+
+    ghost next_gives = { GivesFirst (objects_left L.other L.table) };
+
+    ghost remaining = { item_count (objects_left L.other L.table) };
+
+    /// The next object. O(1): one reading of an entry, and one look-up of the object.
+    fn next(&mut self) -> Option<&'a T> {
+        let place = self.head?;
+        if is_at(self.tail, place) {
+            self.head = None;
+            self.tail = None;
+        } else {
+            self.head = self.links.next(place, self.before);
+            self.before = Some(place);
+        }
+        let objects: &'a Objects<T, A> = self.objects;
+        objects.get(place)
+    }
+}
+
+impl<'a, T, L: XorLinkedListOps, A: Allocator> DoubleEndedIterator for Iter<'a, T, L, A> {
+    ghost use Rattle.ic_xor_linked_list.specs.Iter.{objects_left, CanWalk};
+
+    ghost can_next_back = { CanWalk L.linked L.Joins L.table };
+
+    ghost next_back_gives = { GivesLast (objects_left L.other L.table) };
+
+    /// The next object from the back. O(1), as `next`.
+    fn next_back(&mut self) -> Option<&'a T> {
+        let place = self.tail?;
+        if is_at(self.head, place) {
+            self.head = None;
+            self.tail = None;
+        } else {
+            self.tail = self.links.prev(place, self.behind);
+            self.behind = Some(place);
+        }
+        let objects: &'a Objects<T, A> = self.objects;
+        objects.get(place)
+    }
+}
+
+impl<T, L, A: Allocator> Clone for Iter<'_, T, L, A> {
+    ghost is_clone = { λ t copy. copy ≡ t };
+
+    ghost is_infallible = { λ _. ⊤ };
+
+    /// A walk over the same objects, from the same two ends. It never fails.
+    fn clone(&self) -> Result<Self, AllocError> {
+        Ok(Iter {
+            links: self.links,
+            objects: self.objects,
+            before: self.before,
+            head: self.head,
+            tail: self.tail,
+            behind: self.behind,
+        })
+    }
+}
+
+impl<T> XorLinkedList<T> {
+    ghost use Rattle.ic_xor_linked_list.specs.Iter.{objects_left, CanWalk};
+
+    /// A walk over the objects of the list, from either end. It asks that all members are placed.
+    pub fn iter<'a, L: XorLinkedListOps, A: Allocator>(
+        &self,
+        links: &'a L,
+        objects: &'a Objects<T, A>,
+    ) -> Iter<'a, T, L, A>
+        requires placed { ShowsPlaced (Shows L.linked L.Joins (L.table links.now) self.now) objects.now }
+        ensures walks { (s : List Place) → Shows L.linked L.Joins (L.table links.now) self.now s
+            → objects_left L.other L.table result ≡ values_at objects.now s }
+        ensures can_walk { CanWalk L.linked L.Joins L.table result }
+    {
+        Iter {
+            links,
+            objects,
+            before: None,
+            head: self.head(),
+            tail: self.tail(),
+            behind: None,
+        }
+    }
+}

@@ -1,0 +1,48 @@
+//! An XOR linked list over any table whose entries join two neighbours in one word.
+//!
+//! Each operation takes the table of the link field. Linking takes no memory, and one object can be in lists of
+//! several fields. An entry tells a neighbour only to who knows the other, so there is no call that takes a member off by
+//! its reference alone, and a list can be turned round by its two ends.
+//!
+//! ```text
+//! let mut links = xor_linked_list::LinkOps::new(rt.alloc());
+//! links.cover(2)?;
+//! let mut list = XorLinkedList::new();
+//! list.push_back(&mut links, first)?;
+//! list.push_back(&mut links, second)?;
+//! let taken = list.pop_front(&mut links); // the first
+//! ```
+//!
+//! A cursor is on a member, or at null, which stands between the last and the first, and keeps the two places beside
+//! it. [`Cursor`] reads. [`CursorMut`] edits: it inserts, removes, replaces, splices and splits, each in O(1).
+//! [`CursorOwning`] edits too, and keeps its list, so it can stand in a structure; it is handed the table at each call.
+//!
+//! ```text
+//! let mut cursor = list.front_mut(&mut links);
+//! cursor.insert_after(object)?;    // behind the first
+//! let rest = cursor.split_after(); // the list ends with the first now
+//! ```
+//!
+//! [`Iter`] lends the objects, and [`IntoIter`] takes the members off, each from both ends. [`laws`] has what follows
+//! for every table.
+#![tactic(auto)]
+
+mod cursor;
+mod cursor_mut;
+mod cursor_owning;
+mod edits;
+mod into_iter;
+mod iter;
+pub mod laws;
+mod list;
+mod position;
+mod surgery;
+mod whole;
+
+pub use cursor::Cursor;
+pub use cursor_mut::CursorMut;
+pub use cursor_owning::CursorOwning;
+pub use ic_link_ops::xor_linked_list::{Link, LinkOps, XorLinkedListOps};
+pub use into_iter::IntoIter;
+pub use iter::Iter;
+pub use list::XorLinkedList;
