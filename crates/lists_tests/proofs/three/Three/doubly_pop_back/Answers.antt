@@ -1,0 +1,9 @@
+use Rattle.ic_link_ops.specs.Sequences.{but_last}
+use Rattle.lists_tests.proofs.Apart.{after_pop, without_last, second_first}
+use Rattle.lists_tests.proofs.ThreeKinds.{singly, doubly, xor}
+use Rattle.lists_tests.proofs.three.Three.doubly_pop_back.Goals as goal
+
+pub invariant_of-self : goal.invariant_of-self
+invariant_of-self c =
+    let e = c.pop_back.ensures in
+    second_first (after_pop doubly singly xor (second_first c.self.invariant) but_last without_last e.removed e.frame)

@@ -1,0 +1,11 @@
+//! Lists of several kinds in one table: the worked rows of their calls in turn.
+#![tactic(auto)]
+
+#[cfg(test)]
+mod runs;
+#[cfg(test)]
+mod tests;
+#[cfg(test)]
+mod three;
+#[cfg(test)]
+mod walks;

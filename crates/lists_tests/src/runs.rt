@@ -1,0 +1,43 @@
+//! Worked rows: the call, its answer, and what is shown then: the singly linked list, the doubly linked one and the XOR list, and the
+//! latter two once more from the back.
+
+use test_support::rows::Run;
+
+/// Three lists of one table, edited in turn.
+pub(crate) const THREE: &[Run] = &[Run {
+    name: "three kinds in one table",
+    rows: "
+        singly push_front 1 | ok     | 1 / / ; /
+        singly push_front 0 | ok     | 0 1 / / ; /
+        doubly push_back 2  | ok     | 0 1 / 2 / ; 2 /
+        doubly push_back 3  | ok     | 0 1 / 2 3 / ; 3 2 /
+        xor push_back 4     | ok     | 0 1 / 2 3 / 4 ; 3 2 / 4
+        xor push_back 5     | ok     | 0 1 / 2 3 / 4 5 ; 3 2 / 5 4
+        singly push_front 9 | ok     | 9 0 1 / 2 3 / 4 5 ; 3 2 / 5 4
+        doubly push_front 9 | linked
+        xor push_front 9    | linked
+        singly pop_front    | 9      | 0 1 / 2 3 / 4 5 ; 3 2 / 5 4
+        doubly push_front 9 | ok     | 0 1 / 9 2 3 / 4 5 ; 3 2 9 / 5 4
+        singly push_front 9 | linked
+        doubly pop_front    | 9      | 0 1 / 2 3 / 4 5 ; 3 2 / 5 4
+        xor push_front 9    | ok     | 0 1 / 2 3 / 9 4 5 ; 3 2 / 5 4 9
+        singly push_front 9 | linked
+        xor pop_front       | 9      | 0 1 / 2 3 / 4 5 ; 3 2 / 5 4
+        doubly pop_back     | 3      | 0 1 / 2 / 4 5 ; 2 / 5 4
+        singly push_front 3 | ok     | 3 0 1 / 2 / 4 5 ; 2 / 5 4
+        xor pop_back        | 5      | 3 0 1 / 2 / 4 ; 2 / 4
+        doubly push_back 5  | ok     | 3 0 1 / 2 5 / 4 ; 5 2 / 4
+        xor push_back 11    | ok     | 3 0 1 / 2 5 / 4 11 ; 5 2 / 11 4
+        singly push_front 12 | beyond
+        doubly pop_back     | 5      | 3 0 1 / 2 / 4 11 ; 2 / 11 4
+        doubly pop_back     | 2      | 3 0 1 / / 4 11 ; / 11 4
+        doubly pop_back     | none
+        xor pop_front       | 4      | 3 0 1 / / 11 ; / 11
+        xor pop_back        | 11     | 3 0 1 / / ; /
+        xor pop_back        | none
+        singly pop_front    | 3      | 0 1 / / ; /
+        singly pop_front    | 0      | 1 / / ; /
+        singly pop_front    | 1      | / / ; /
+        singly pop_front    | none
+        ",
+}];

@@ -1,0 +1,185 @@
+//! A singly linked list, a doubly linked one and an XOR list of one tree table, whose calls ask nothing.
+
+use crate::walks::{write_doubly, write_singly, write_xor};
+use ic_link_ops::AlreadyLinked;
+use ic_link_ops::rbtree::LinkOps;
+use ic_linked_list::LinkedList;
+use ic_singly_linked_list::SinglyLinkedList;
+use ic_unsafe_ref::{Place, UnsafeRef};
+use ic_xor_linked_list::XorLinkedList;
+use std::alloc::Global;
+use std::fmt::{self, Write};
+use std::marker::Model;
+use std::test::Fail;
+use test_support::rows::{Answer, Played};
+
+/// Three lists, no two of which share a member.
+#[derive(Drop)]
+pub(crate) struct Three {
+    links: LinkOps,
+    singly: SinglyLinkedList<u64>,
+    doubly: LinkedList<u64>,
+    xor: XorLinkedList<u64>,
+}
+
+impl Model for Three {
+    ghost use Rattle.std.specs.Prelude.{ℕ};
+    ghost use Rattle.lists_tests.specs.Three.{AreThree, tree_table};
+
+    ghost Value = { ℕ };
+
+    ghost view = { λ _. 0 };
+
+    ghost invariant = { λ l. AreThree (tree_table l.links) l.singly l.doubly l.xor };
+}
+
+// Whether an object was taken in.
+fn inserted(given: Result<(), AlreadyLinked<u64>>) -> Answer {
+    match given {
+        Ok(()) => Answer::Done,
+        Err(_) => Answer::Refused("linked"),
+    }
+}
+
+// What an object that came off is answered as.
+fn taken(object: Option<UnsafeRef<u64>>) -> Answer {
+    match object {
+        Some(object) => Answer::Number(object.place().index() as u64),
+        None => Answer::Nothing,
+    }
+}
+
+impl Three {
+    /// Three empty lists of a table that covers so many places.
+    pub(crate) fn new(alloc: Global, covers: usize) -> Result<Three, Fail> {
+        let mut links = LinkOps::new(alloc);
+        links.cover(covers)?;
+        Ok(Three {
+            links,
+            singly: SinglyLinkedList::new(),
+            doubly: LinkedList::new(),
+            xor: XorLinkedList::new(),
+        })
+    }
+
+    fn singly_push_front(&mut self, place: Place) -> Answer {
+        if place.index() >= self.links.covers() {
+            return Answer::Refused("beyond");
+        }
+        inserted(
+            self.singly
+                .push_front(&mut self.links, UnsafeRef::new(place)),
+        )
+    }
+
+    fn doubly_push_front(&mut self, place: Place) -> Answer {
+        if place.index() >= self.links.covers() {
+            return Answer::Refused("beyond");
+        }
+        inserted(
+            self.doubly
+                .push_front(&mut self.links, UnsafeRef::new(place)),
+        )
+    }
+
+    fn doubly_push_back(&mut self, place: Place) -> Answer {
+        if place.index() >= self.links.covers() {
+            return Answer::Refused("beyond");
+        }
+        inserted(
+            self.doubly
+                .push_back(&mut self.links, UnsafeRef::new(place)),
+        )
+    }
+
+    fn xor_push_front(&mut self, place: Place) -> Answer {
+        if place.index() >= self.links.covers() {
+            return Answer::Refused("beyond");
+        }
+        inserted(self.xor.push_front(&mut self.links, UnsafeRef::new(place)))
+    }
+
+    fn xor_push_back(&mut self, place: Place) -> Answer {
+        if place.index() >= self.links.covers() {
+            return Answer::Refused("beyond");
+        }
+        inserted(self.xor.push_back(&mut self.links, UnsafeRef::new(place)))
+    }
+
+    fn singly_pop_front(&mut self) -> Answer {
+        taken(self.singly.pop_front(&mut self.links))
+    }
+
+    fn doubly_pop_front(&mut self) -> Answer {
+        taken(self.doubly.pop_front(&mut self.links))
+    }
+
+    fn doubly_pop_back(&mut self) -> Answer {
+        taken(self.doubly.pop_back(&mut self.links))
+    }
+
+    fn xor_pop_front(&mut self) -> Answer {
+        taken(self.xor.pop_front(&mut self.links))
+    }
+
+    fn xor_pop_back(&mut self) -> Answer {
+        taken(self.xor.pop_back(&mut self.links))
+    }
+
+    // A call that puts a place in.
+    fn push(&mut self, list: &str, name: &str, place: Place) -> Answer {
+        match (list, name) {
+            ("singly", "push_front") => self.singly_push_front(place),
+            ("doubly", "push_front") => self.doubly_push_front(place),
+            ("doubly", "push_back") => self.doubly_push_back(place),
+            ("xor", "push_front") => self.xor_push_front(place),
+            ("xor", "push_back") => self.xor_push_back(place),
+            _ => Answer::Refused("no such call"),
+        }
+    }
+
+    // A call that takes a place off.
+    fn pop(&mut self, list: &str, name: &str) -> Answer {
+        match (list, name) {
+            ("singly", "pop_front") => self.singly_pop_front(),
+            ("doubly", "pop_front") => self.doubly_pop_front(),
+            ("doubly", "pop_back") => self.doubly_pop_back(),
+            ("xor", "pop_front") => self.xor_pop_front(),
+            ("xor", "pop_back") => self.xor_pop_back(),
+            _ => Answer::Refused("no such call"),
+        }
+    }
+}
+
+// The place that the word is.
+fn place(word: &str) -> Option<Place> {
+    Place::new(word.parse().ok()?)
+}
+
+impl Played for Three {
+    type Answer = Answer;
+
+    /// A call of the list that the first word names.
+    fn call(&mut self, words: &[&str]) -> Answer {
+        match *words {
+            [list, name] => self.pop(list, name),
+            [list, name, word] => match place(word) {
+                Some(place) => self.push(list, name, place),
+                None => Answer::Refused("no such place"),
+            },
+            _ => Answer::Refused("no call"),
+        }
+    }
+
+    fn show(&self, shown: &mut String) -> fmt::Result {
+        write_singly(shown, &self.singly, &self.links)?;
+        write!(shown, "/ ")?;
+        write_doubly(shown, &self.doubly, &self.links, true)?;
+        write!(shown, "/ ")?;
+        write_xor(shown, &self.xor, &self.links, true)?;
+        write!(shown, "; ")?;
+        write_doubly(shown, &self.doubly, &self.links, false)?;
+        write!(shown, "/ ")?;
+        write_xor(shown, &self.xor, &self.links, false)
+    }
+}

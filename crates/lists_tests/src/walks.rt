@@ -1,0 +1,105 @@
+//! What walks from null to null come by.
+
+ghost use Rattle.std.specs.Prelude.{List};
+ghost use Rattle.ic_unsafe_ref.specs.declared.place.Place.{Place};
+ghost use Rattle.ic_link_ops.specs.Positions.{Stands};
+ghost use Rattle.lists_tests.specs.Three.{tree_table, ShowsSingly, ShowsDoubly, ShowsXor};
+ghost use Rattle.ic_linked_list.specs.Cursor as doubly;
+ghost use Rattle.ic_xor_linked_list.specs.Cursor as xor;
+
+use ic_link_ops::rbtree::LinkOps;
+use ic_linked_list::{Cursor, LinkedList};
+use ic_singly_linked_list::SinglyLinkedList;
+use ic_unsafe_ref::Place;
+use ic_xor_linked_list::XorLinkedList;
+use std::fmt::{self, Write};
+
+// Writes a member.
+fn write_member(text: &mut String, place: Place) -> fmt::Result {
+    let index = place.index();
+    write!(text, "{index} ")?;
+    Ok(())
+}
+
+/// The members of a singly linked list.
+pub(crate) fn write_singly(
+    shown: &mut String,
+    list: &SinglyLinkedList<u64>,
+    links: &LinkOps,
+) -> fmt::Result
+    requires shown { (s : List Place) × ShowsSingly (tree_table links.now) list.now s }
+{
+    let mut cursor = list.cursor(links);
+    for _ in 0..=links.covers() {
+        cursor.move_next();
+        let Some(place) = cursor.get_ptr() else {
+            break;
+        };
+        write_member(shown, place)?;
+    }
+    Ok(())
+}
+
+// Moves the cursor on, or back.
+fn step_doubly(cursor: &mut Cursor<'_, u64, LinkOps>, on: bool)
+    requires stands { Stands ShowsDoubly tree_table (doubly.site_of cursor.old) }
+    ensures stands { Stands ShowsDoubly tree_table (doubly.site_of cursor.new) }
+{
+    if on {
+        cursor.move_next();
+    } else {
+        cursor.move_prev();
+    }
+}
+
+/// The members of a doubly linked list, from the front or from the back.
+pub(crate) fn write_doubly(
+    shown: &mut String,
+    list: &LinkedList<u64>,
+    links: &LinkOps,
+    on: bool,
+) -> fmt::Result
+    requires shown { (s : List Place) × ShowsDoubly (tree_table links.now) list.now s }
+{
+    let mut cursor = list.cursor(links);
+    for _ in 0..=links.covers() {
+        step_doubly(&mut cursor, on);
+        let Some(place) = cursor.get_ptr() else {
+            break;
+        };
+        write_member(shown, place)?;
+    }
+    Ok(())
+}
+
+// The same of an XOR list.
+fn step_xor(cursor: &mut ic_xor_linked_list::Cursor<'_, u64, LinkOps>, on: bool)
+    requires stands { xor.KnowsNeighbors ShowsXor tree_table cursor.old }
+    ensures stands { xor.KnowsNeighbors ShowsXor tree_table cursor.new }
+{
+    if on {
+        cursor.move_next();
+    } else {
+        cursor.move_prev();
+    }
+}
+
+/// The members of an XOR list, from the front or from the back.
+pub(crate) fn write_xor(
+    shown: &mut String,
+    list: &XorLinkedList<u64>,
+    links: &LinkOps,
+    on: bool,
+) -> fmt::Result
+    requires shown { (s : List Place) × ShowsXor (tree_table links.now) list.now s }
+{
+    let mut cursor = list.cursor(links);
+    for _ in 0..=links.covers() {
+        step_xor(&mut cursor, on);
+        let Some(place) = cursor.get_ptr() else {
+            break;
+        };
+        write_member(shown, place)?;
+    }
+    Ok(())
+}
