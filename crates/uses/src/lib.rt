@@ -6,6 +6,7 @@ pub mod deal;
 pub mod either_table;
 pub mod first_objects;
 pub mod first_steps;
+pub mod free_list;
 pub mod jobs;
 pub mod lru;
 pub mod pairs;

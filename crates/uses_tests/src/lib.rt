@@ -2,4 +2,6 @@
 #![tactic(auto)]
 
 #[cfg(test)]
+mod free_list;
+#[cfg(test)]
 mod tests;

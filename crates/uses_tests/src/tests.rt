@@ -21,7 +21,7 @@ use uses::first_objects::{ObjectsError, first_objects};
 use uses::first_steps::first_steps;
 use uses::race::race;
 use uses::retain::retain;
-use uses::{deal, jobs, borrowed_table, lru, pairs, queue};
+use uses::{borrowed_table, deal, jobs, lru, pairs, queue};
 
 // Asserts that these places were found. The one assert of the tests.
 fn same(rt: &impl Abort, found: &[Option<Place>], wanted: &[usize]) {

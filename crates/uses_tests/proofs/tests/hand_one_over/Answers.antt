@@ -1,7 +1,5 @@
-use Rattle.std.proofs.Common.{[], ◌∷◌, refl}
-use Rattle.ic_link_ops.specs.Chains.{no_members}
-use Rattle.ic_link_ops.specs.DoublyEntries.{is_linked, neighbors_of, plain_table}
-use Rattle.ic_link_ops.specs.LinkedList.{Shows}
+use Rattle.std.proofs.Common.{[], ◌∷◌}
+use Rattle.ic_link_ops.specs.DoublyEntries.{plain_table}
 use Rattle.ic_link_ops.proofs.CollectionLaws.{new_shows_nothing}
 use Rattle.ic_link_ops.proofs.DoublyLists.{plain_lists}
 use Rattle.uses_tests.proofs.tests.hand_one_over.Goals as goal

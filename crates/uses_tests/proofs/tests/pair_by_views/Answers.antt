@@ -1,7 +1,5 @@
-use Rattle.std.proofs.Common.{[], ◌∷◌, refl}
-use Rattle.ic_link_ops.specs.LinkedList.{Shows}
-use Rattle.ic_link_ops.specs.DoublyEntries.{entries, is_linked, neighbors_of, table_of}
-use Rattle.ic_link_ops.specs.Chains.{no_members}
+use Rattle.std.proofs.Common.{[], ◌∷◌}
+use Rattle.ic_link_ops.specs.DoublyEntries.{entries, table_of}
 use Rattle.ic_link_ops.proofs.CollectionLaws.{new_shows_nothing}
 use Rattle.ic_link_ops.proofs.Covering.{still_covered}
 use Rattle.ic_link_ops.proofs.DoublyLists.{plain_lists}

@@ -1,4 +1,4 @@
-use Rattle.std.proofs.Common.{◌≡◌, [], ◌∷◌, Some, ap, sym, ◌∙◌}
+use Rattle.std.proofs.Common.{[], ◌∷◌, sym, ◌∙◌}
 use Rattle.ic_link_ops.proofs.Covering.{still_covered}
 use Rattle.uses_tests.proofs.tests.touch_the_older.Goals as goal
 

@@ -1,4 +1,4 @@
-use Rattle.std.proofs.Common.{Some, [], ◌∷◌, refl, ap}
+use Rattle.std.proofs.Common.{[], ◌∷◌, refl}
 use Rattle.uses_tests.proofs.tests.work_off.Goals as goal
 
 pub move_to_back-requires : goal.move_to_back-requires

@@ -1,0 +1,86 @@
+//! A free list: objects that are not in use, of which the one that was given back last is taken first.
+//!
+//! ```text
+//! free_list::give_back(&mut free, &mut links, object)?;
+//! let object = free_list::take(&mut free, &mut links); // that object
+//! ```
+
+ghost use Rattle.std.specs.Prelude.{◌≡◌, ◌∷◌, [], List, Option, Some, OnOk, OnErr, IfOk, IfErr, IfSome, IfNone};
+ghost use Rattle.ic_unsafe_ref.specs.declared.place.Place.{Place};
+ghost use Rattle.ic_link_ops.specs.Sequences.{IsDisjoint};
+ghost use Rattle.ic_link_ops.specs.Tables.{IsCovered, KeepsBeside};
+ghost use Rattle.ic_link_ops.specs.LinkSteps.{acquires, releases};
+ghost use Rattle.ic_link_ops.specs.SinglyLinkedList.{Shows, ShowsSome};
+
+use ic_link_ops::singly_linked_list::SinglyLinkedListOps;
+use ic_link_ops::{AlreadyLinked, LinkOps};
+use ic_singly_linked_list::SinglyLinkedList;
+use ic_unsafe_ref::{Place, UnsafeRef};
+
+/// Gives an object back, unless its link is refused: it is the first to be taken again. O(1), and it takes no memory.
+///
+/// It asks that the object's place is covered, and that the table shows a sequence for the list. A refused object comes back, and
+/// the list is as it was. No other list of the table changes.
+#[inline]
+pub fn give_back<T, L: SinglyLinkedListOps>(
+    free: &mut SinglyLinkedList<T>,
+    links: &mut L,
+    object: UnsafeRef<T>,
+) -> Result<(), AlreadyLinked<T>>
+    requires covered { IsCovered (L.table links.old) object }
+    requires shown { ShowsSome L.successor (L.table links.old) free.old }
+    ensures given { (s : List Place) → Shows L.successor (L.table links.old) free.old s
+        → OnOk result (Shows L.successor (L.table links.new) free.new (object ∷ s)) }
+    ensures acquired { OnOk result (L.Does links.old links.new (acquires object ∷ [])) }
+    ensures refused { OnErr result (L.Refused links.old links.new object) }
+    ensures unchanged { IfErr result (λ refused. (refused.0 ≡ object) × (free.new ≡ free.old)) }
+    ensures others { (s t : List Place) (other : Option Place) → Shows L.successor (L.table links.old) free.old s
+        → Shows L.successor (L.table links.old) other t → IsDisjoint t (object ∷ s) → Shows L.successor (L.table links.new) other t }
+    ensures frame { (s : List Place) → Shows L.successor (L.table links.old) free.old s
+        → KeepsBeside (L.table links.old) (L.table links.new) (object ∷ s) }
+{
+    free.push_front(links, object)
+}
+
+/// Takes the object that was given back last, or `None` where there is none. O(1), and it takes no memory.
+///
+/// It asks that the table shows a sequence for the list. Where there is none, nothing has changed. No other list of the table
+/// changes.
+#[inline]
+pub fn take<T, L: SinglyLinkedListOps>(
+    free: &mut SinglyLinkedList<T>,
+    links: &mut L,
+) -> Option<UnsafeRef<T>>
+    requires shown { ShowsSome L.successor (L.table links.old) free.old }
+    ensures latest { (x : Place) (s : List Place) → Shows L.successor (L.table links.old) free.old (x ∷ s)
+        → (result ≡ Some x) × Shows L.successor (L.table links.new) free.new s }
+    ensures released { IfSome result (λ object. L.Does links.old links.new (releases object ∷ [])) }
+    ensures empty { IfNone result ((free.new ≡ free.old) × (links.new ≡ links.old)) }
+    ensures others { (s t : List Place) (other : Option Place) → Shows L.successor (L.table links.old) free.old s
+        → Shows L.successor (L.table links.old) other t → IsDisjoint t s → Shows L.successor (L.table links.new) other t }
+    ensures frame { (s : List Place) → Shows L.successor (L.table links.old) free.old s
+        → KeepsBeside (L.table links.old) (L.table links.new) s }
+{
+    free.pop_front(links)
+}
+
+/// Gives an object back and takes one at once: unless its link is refused, it is that object, and the list is as it was. O(1).
+///
+/// It asks what [`give_back`] asks.
+pub fn give_and_take<T, L: SinglyLinkedListOps>(
+    free: &mut SinglyLinkedList<T>,
+    links: &mut L,
+    object: UnsafeRef<T>,
+) -> Result<Option<UnsafeRef<T>>, AlreadyLinked<T>>
+    requires covered { IsCovered (L.table links.old) object }
+    requires shown { ShowsSome L.successor (L.table links.old) free.old }
+    ensures same { IfOk result (λ taken. taken ≡ Some object) }
+    ensures sequence { (s : List Place) → Shows L.successor (L.table links.old) free.old s
+        → OnOk result (Shows L.successor (L.table links.new) free.new s) }
+    ensures steps { OnOk result (L.Does links.old links.new (acquires object ∷ releases object ∷ [])) }
+    ensures frame { (s : List Place) → Shows L.successor (L.table links.old) free.old s
+        → KeepsBeside (L.table links.old) (L.table links.new) (object ∷ s) }
+{
+    give_back(free, links, object)?;
+    Ok(take(free, links))
+}
