@@ -5,4 +5,4 @@ pub mod CursorOwning
 pub mod Iter
 pub mod IntoIter
 pub mod Turned
-pub mod XorEntries
+pub mod PlainLists

@@ -12,12 +12,14 @@ ghost use Rattle.ic_unsafe_ref.specs.declared.place.Place.{Place};
 ghost use Rattle.ic_link_ops.specs.Sequences.{insert, at_back, first, last};
 ghost use Rattle.ic_link_ops.specs.Tables.{IsCovered, IsUnlinked, KeepsBeside, KeepsLinked, LinksAlso};
 ghost use Rattle.ic_link_ops.specs.XorLinkedList.{Shows, ShowsSome};
-ghost use Rattle.ic_xor_linked_list.specs.XorEntries.{is_linked, plain_table, PlainShows, PlainShowsSome};
+ghost use Rattle.ic_link_ops.specs.PlainTables.{table, linked_by};
+ghost use Rattle.ic_xor_linked_list.specs.PlainLists.{PlainShows, PlainShowsSome};
 ghost use Rattle.ic_xor_linked_list.specs.Cursor as reads;
 ghost use Rattle.ic_xor_linked_list.specs.CursorMut as edits;
 
 use crate::{Cursor, CursorMut, XorLinkedList};
-use ic_link_ops::xor_linked_list::{LinkOps, XorLinkedListOps};
+use ic_link_ops::xor_linked_list::XorLinkedListOps;
+use ic_link_ops::{NextWord, PlainTable};
 use ic_unsafe_ref::{Place, UnsafeRef};
 use std::alloc::Allocator;
 
@@ -88,30 +90,30 @@ pub fn reverse_twice<T>(list: &mut XorLinkedList<T>)
 /// other, so both take it, and the answer is true. O(1).
 ///
 /// It asks that both tables cover the object's place, that it is linked in neither, and that each shows a sequence.
-pub fn fields_are_apart<T, A: Allocator, B: Allocator>(
+pub fn fields_are_apart<T, W: NextWord, V: NextWord, A: Allocator, B: Allocator>(
     first: &mut XorLinkedList<T>,
-    first_links: &mut LinkOps<A>,
+    first_links: &mut PlainTable<W, A>,
     second: &mut XorLinkedList<T>,
-    second_links: &mut LinkOps<B>,
+    second_links: &mut PlainTable<V, B>,
     object: Place,
 ) -> bool
-    requires first_covered { IsCovered (plain_table first_links.old) object }
-    requires first_unlinked { IsUnlinked is_linked (plain_table first_links.old) object }
-    requires first_shown { PlainShowsSome first_links.old first.old }
-    requires second_covered { IsCovered (plain_table second_links.old) object }
-    requires second_unlinked { IsUnlinked is_linked (plain_table second_links.old) object }
-    requires second_shown { PlainShowsSome second_links.old second.old }
+    requires first_covered { IsCovered (table W.unlinked first_links.old) object }
+    requires first_unlinked { IsUnlinked (linked_by W.is_linked) (table W.unlinked first_links.old) object }
+    requires first_shown { PlainShowsSome W.unlinked W.is_linked W.next_word first_links.old first.old }
+    requires second_covered { IsCovered (table V.unlinked second_links.old) object }
+    requires second_unlinked { IsUnlinked (linked_by V.is_linked) (table V.unlinked second_links.old) object }
+    requires second_shown { PlainShowsSome V.unlinked V.is_linked V.next_word second_links.old second.old }
     ensures answer { IsTrue result }
-    ensures first { (s : List Place) → PlainShows first_links.old first.old s
-        → PlainShows first_links.new first.new (insert (at_back s) object) }
-    ensures first_linked { LinksAlso is_linked (plain_table first_links.old) (plain_table first_links.new) object }
-    ensures first_frame { (s : List Place) → PlainShows first_links.old first.old s
-        → KeepsBeside (plain_table first_links.old) (plain_table first_links.new) (object ∷ s) }
-    ensures second { (s : List Place) → PlainShows second_links.old second.old s
-        → PlainShows second_links.new second.new (insert (at_back s) object) }
-    ensures second_linked { LinksAlso is_linked (plain_table second_links.old) (plain_table second_links.new) object }
-    ensures second_frame { (s : List Place) → PlainShows second_links.old second.old s
-        → KeepsBeside (plain_table second_links.old) (plain_table second_links.new) (object ∷ s) }
+    ensures first { (s : List Place) → PlainShows W.unlinked W.is_linked W.next_word first_links.old first.old s
+        → PlainShows W.unlinked W.is_linked W.next_word first_links.new first.new (insert (at_back s) object) }
+    ensures first_linked { LinksAlso (linked_by W.is_linked) (table W.unlinked first_links.old) (table W.unlinked first_links.new) object }
+    ensures first_frame { (s : List Place) → PlainShows W.unlinked W.is_linked W.next_word first_links.old first.old s
+        → KeepsBeside (table W.unlinked first_links.old) (table W.unlinked first_links.new) (object ∷ s) }
+    ensures second { (s : List Place) → PlainShows V.unlinked V.is_linked V.next_word second_links.old second.old s
+        → PlainShows V.unlinked V.is_linked V.next_word second_links.new second.new (insert (at_back s) object) }
+    ensures second_linked { LinksAlso (linked_by V.is_linked) (table V.unlinked second_links.old) (table V.unlinked second_links.new) object }
+    ensures second_frame { (s : List Place) → PlainShows V.unlinked V.is_linked V.next_word second_links.old second.old s
+        → KeepsBeside (table V.unlinked second_links.old) (table V.unlinked second_links.new) (object ∷ s) }
 {
     let in_first = first.push_back(first_links, UnsafeRef::new(object)).is_ok();
     let in_second = second
@@ -124,20 +126,20 @@ pub fn fields_are_apart<T, A: Allocator, B: Allocator>(
 /// are as they were, and so is every other list. O(1).
 ///
 /// It asks that the table covers the object's place, that it is not linked, and that the table shows a sequence.
-pub fn push_then_pop<T, A: Allocator>(
+pub fn push_then_pop<T, W: NextWord, A: Allocator>(
     list: &mut XorLinkedList<T>,
-    links: &mut LinkOps<A>,
+    links: &mut PlainTable<W, A>,
     object: UnsafeRef<T>,
 ) -> Option<UnsafeRef<T>>
-    requires covered { IsCovered (plain_table links.old) object }
-    requires unlinked { IsUnlinked is_linked (plain_table links.old) object }
-    requires shown { PlainShowsSome links.old list.old }
+    requires covered { IsCovered (table W.unlinked links.old) object }
+    requires unlinked { IsUnlinked (linked_by W.is_linked) (table W.unlinked links.old) object }
+    requires shown { PlainShowsSome W.unlinked W.is_linked W.next_word links.old list.old }
     ensures answer { result ≡ Some object }
-    ensures sequence { (s : List Place) → PlainShows links.old list.old s
-        → PlainShows links.new list.new s }
-    ensures linked { KeepsLinked is_linked (plain_table links.old) (plain_table links.new) }
-    ensures frame { (s : List Place) → PlainShows links.old list.old s
-        → KeepsBeside (plain_table links.old) (plain_table links.new) (object ∷ s) }
+    ensures sequence { (s : List Place) → PlainShows W.unlinked W.is_linked W.next_word links.old list.old s
+        → PlainShows W.unlinked W.is_linked W.next_word links.new list.new s }
+    ensures linked { KeepsLinked (linked_by W.is_linked) (table W.unlinked links.old) (table W.unlinked links.new) }
+    ensures frame { (s : List Place) → PlainShows W.unlinked W.is_linked W.next_word links.old list.old s
+        → KeepsBeside (table W.unlinked links.old) (table W.unlinked links.new) (object ∷ s) }
 {
     let Ok(()) = list.push_back(links, object) else {
         return None;
