@@ -1,4 +1,4 @@
-//! Figures for the doubly linked list, for the order of a cache and for the tables of links.
+//! Figures for the lists, and for the order of a cache.
 //!
 //! Where each kind of work ended goes to standard output, the nanoseconds of one operation to standard error, as a table: a
 //! row for each number of members, and for each kind of work a column over the table that is handed in and one over a lent
@@ -10,18 +10,15 @@
 #![tactic(auto)]
 
 ghost use Rattle.ic_link_ops.specs.DoublyEntries.{PlainShowsSome};
-ghost use Rattle.std.specs.Prelude.{◌≡◌, IfSome};
-ghost use Rattle.ic_link_ops.specs.PlainTables.{table};
 
-mod churn;
 mod loops;
 mod measured;
 mod objects;
+mod one_word;
 mod order;
 
-use churn::{churn_doubly, churn_singly, churn_tree, churn_xor};
 use ic_link_ops::linked_list::LinkOps;
-use ic_link_ops::{PlainTable, Words, rbtree, singly_linked_list, xor_linked_list};
+use ic_link_ops::{singly_linked_list, xor_linked_list};
 use ic_linked_list::LinkedList;
 use ic_unsafe_ref::{Objects, Place, UnsafeRef};
 use loops::put;
@@ -29,6 +26,7 @@ use measured::{
     add, add_lent, split, split_lent, touch, touch_lent, turn, turn_lent, walk, walk_lent,
 };
 use objects::fill_placed;
+use one_word::{filled_singly, filled_xor, turn_singly, turn_xor, walk_singly, walk_xor};
 use std::alloc::Global;
 use std::rt::Clock;
 use std::time::Instant;
@@ -92,47 +90,48 @@ fn cell(rt: &impl Eprint, nanos: u128, count: u64) -> io::Result<()> {
     eprint!(rt; "| {each} ")
 }
 
-// A table that covers one place, if there is memory for it.
-fn one_place<W: Words>(alloc: Global) -> Option<PlainTable<W>>
-    ensures { IfSome result (λ links. (table W.unlinked links).extent.places ≡ 1) }
-{
-    let mut links = PlainTable::new(alloc);
-    match links.cover(1) {
-        Ok(()) => Some(links),
-        Err(_) => None,
+// A singly linked list of so many members: pairs of a pop and a push, and steps of a cursor, so many of each.
+fn singly(
+    rt: &(impl Print + Eprint + Clock),
+    alloc: Global,
+    members: usize,
+    times: u64,
+) -> io::Result<()> {
+    let mut links = singly_linked_list::LinkOps::new(alloc);
+    if links.cover(members).is_err() {
+        return eprintln!(rt; "no memory for {members} members");
     }
+    let mut list = filled_singly(&mut links);
+    let start = Instant::now(rt)?;
+    turn_singly(&mut list, &mut links, times);
+    let end = walk_singly(&list, &links, 1);
+    report(rt, "singly: pop_front and push_front", end, start, times)?;
+
+    let start = Instant::now(rt)?;
+    let end = walk_singly(&list, &links, times);
+    report(rt, "singly: move_next", end, start, times)
 }
 
-// One place of each table linked and unlinked, so many times.
-fn tables(rt: &(impl Print + Eprint + Clock), alloc: Global, times: u64) -> io::Result<()> {
-    let Some(place) = Place::new(0) else {
-        return Ok(());
-    };
-    let singly: Option<singly_linked_list::LinkOps> = one_place(alloc);
-    if let Some(mut links) = singly {
-        let start = Instant::now(rt)?;
-        let end = churn_singly(&mut links, place, times);
-        report(rt, "singly link", end, start, times)?;
+// The same of an XOR list.
+fn xor(
+    rt: &(impl Print + Eprint + Clock),
+    alloc: Global,
+    members: usize,
+    times: u64,
+) -> io::Result<()> {
+    let mut links = xor_linked_list::LinkOps::new(alloc);
+    if links.cover(members).is_err() {
+        return eprintln!(rt; "no memory for {members} members");
     }
-    let doubly: Option<LinkOps> = one_place(alloc);
-    if let Some(mut links) = doubly {
-        let start = Instant::now(rt)?;
-        let end = churn_doubly(&mut links, place, times);
-        report(rt, "doubly link", end, start, times)?;
-    }
-    let xor: Option<xor_linked_list::LinkOps> = one_place(alloc);
-    if let Some(mut links) = xor {
-        let start = Instant::now(rt)?;
-        let end = churn_xor(&mut links, place, times);
-        report(rt, "XOR link", end, start, times)?;
-    }
-    let tree: Option<rbtree::LinkOps> = one_place(alloc);
-    if let Some(mut links) = tree {
-        let start = Instant::now(rt)?;
-        let end = churn_tree(&mut links, place, times);
-        report(rt, "tree link", end, start, times)?;
-    }
-    Ok(())
+    let mut list = filled_xor(&mut links);
+    let start = Instant::now(rt)?;
+    turn_xor(&mut list, &mut links, times);
+    let end = walk_xor(&list, &links, 1);
+    report(rt, "XOR: pop_front and push_back", end, start, times)?;
+
+    let start = Instant::now(rt)?;
+    let end = walk_xor(&list, &links, times);
+    report(rt, "XOR: move_next", end, start, times)
 }
 
 // Pairs of a push and a pop, and steps of a cursor, so many of each.
@@ -253,7 +252,9 @@ fn main(rt: HostRuntime) -> io::Result<()> {
         one_sum(&rt, rt.alloc(), members)?;
         eprintln!(rt; "|")?;
     }
-    eprintln!(rt; "| singly link | doubly link | XOR link | tree link |")?;
-    tables(&rt, rt.alloc(), times)?;
+    eprintln!(rt; "| singly: pair | step | XOR: pair | step |")?;
+    eprintln!(rt; "|---|---|---|---|")?;
+    singly(&rt, rt.alloc(), 1_000, times)?;
+    xor(&rt, rt.alloc(), 1_000, times)?;
     eprintln!(rt; "|")
 }

@@ -96,20 +96,34 @@ impl<T> XorLinkedList<T> {
         self.tail.get()
     }
 
-    // The first member, as a cursor at null has it behind it, once a round. Called and not inlined, so that a step to a member
-    // is a load by itself.
+    // The first member, as a cursor comes to it from null, once a round. It is called and not inlined, so that a step from a
+    // member is a load by itself, and it is a word then, which both ways of a step lead to.
+    #[inline]
+    pub(crate) fn head_from_null(&self) -> Option<Place>
+        ensures { result ≡ self.now.head }
+    {
+        End::of(self.called_head()).get()
+    }
+
     #[cold]
     #[inline(never)]
-    pub(crate) fn head_from_null(&self) -> Option<Place>
+    fn called_head(&self) -> Option<Place>
         ensures { result ≡ self.now.head }
     {
         self.head()
     }
 
-    // The last member, as a cursor at null has it in front of it.
+    // The same for the last member.
+    #[inline]
+    pub(crate) fn tail_from_null(&self) -> Option<Place>
+        ensures { result ≡ self.now.tail }
+    {
+        End::of(self.called_tail()).get()
+    }
+
     #[cold]
     #[inline(never)]
-    pub(crate) fn tail_from_null(&self) -> Option<Place>
+    fn called_tail(&self) -> Option<Place>
         ensures { result ≡ self.now.tail }
     {
         self.tail()

@@ -1,5 +1,0 @@
-use Rattle.ic_link_ops.specs.Tables.{IsCovered}
-use Rattle.bench.proofs.churn.churn_xor.Given as goal
-
-abbrev pub invariant-loop-time : goal.invariant-loop-time
-invariant-loop-time g l = IsCovered (g.L.LinkOps.table l.links) l.place
