@@ -5,7 +5,8 @@
 //! | `unsafe_ref` | objects by place, and references to them |
 //! | `link_ops` | tables of links, and what collections ask of them |
 //! | `linked_list` | the doubly linked list |
-//! | `singly_linked_list`, `xor_linked_list` | the links and the table of these lists, which are not there yet |
+//! | `singly_linked_list` | the singly linked list |
+//! | `xor_linked_list` | the XOR list: both neighbours in one word |
 //! | `atomic` | claims on places, which threads share |
 //! | `rbtree` | the red-black tree, of which only the keys' trait, the links and the table are there |
 //! | `key_adapter` | where the key of an object stands |
@@ -18,12 +19,16 @@ pub use ic_link_ops::linked_list::Link as LinkedListLink;
 pub use ic_link_ops::rbtree::Link as RBTreeLink;
 pub use ic_link_ops::singly_linked_list::Link as SinglyLinkedListLink;
 pub use ic_link_ops::xor_linked_list::Link as XorLinkedListLink;
-pub use ic_link_ops::{LinkOps, singly_linked_list, xor_linked_list};
+pub use ic_link_ops::LinkOps;
 pub use ic_linked_list as linked_list;
 pub use ic_linked_list::LinkedList;
 pub use ic_rbtree as rbtree;
 pub use ic_rbtree::key_adapter;
 pub use ic_rbtree::key_adapter::KeyAdapter;
+pub use ic_singly_linked_list as singly_linked_list;
+pub use ic_singly_linked_list::SinglyLinkedList;
 pub use ic_unsafe_ref as unsafe_ref;
 pub use ic_unsafe_ref::UnsafeRef;
 pub use ic_world as world;
+pub use ic_xor_linked_list as xor_linked_list;
+pub use ic_xor_linked_list::XorLinkedList;
