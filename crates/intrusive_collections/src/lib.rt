@@ -15,11 +15,11 @@
 
 pub use ic_atomic as atomic;
 pub use ic_link_ops as link_ops;
+pub use ic_link_ops::LinkOps;
 pub use ic_link_ops::linked_list::Link as LinkedListLink;
 pub use ic_link_ops::rbtree::Link as RBTreeLink;
 pub use ic_link_ops::singly_linked_list::Link as SinglyLinkedListLink;
 pub use ic_link_ops::xor_linked_list::Link as XorLinkedListLink;
-pub use ic_link_ops::LinkOps;
 pub use ic_linked_list as linked_list;
 pub use ic_linked_list::LinkedList;
 pub use ic_rbtree as rbtree;

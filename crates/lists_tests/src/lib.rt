@@ -1,6 +1,8 @@
-//! Lists of several kinds in one table: the worked rows of their calls in turn.
+//! Lists of several kinds in one table: the worked rows of their calls in turn. And one object in two fields.
 #![tactic(auto)]
 
+#[cfg(test)]
+mod laws;
 #[cfg(test)]
 mod runs;
 #[cfg(test)]
