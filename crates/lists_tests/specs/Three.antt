@@ -1,50 +1,27 @@
--- Three lists of one tree table, of three kinds.
-use Rattle.std.specs.Prelude.{Bool, Option, List}
+-- Three lists of one plain table, of three kinds.
+use Rattle.std.specs.Prelude.{ℕ, Bool, Option, List}
 use Rattle.ic_unsafe_ref.specs.declared.place.Place.{Place}
-use Rattle.ic_link_ops.specs.declared.rbtree.ThreeWords.{ThreeWords}
 use Rattle.ic_link_ops.specs.declared.link.Link.{Link}
-use Rattle.ic_link_ops.specs.declared.table.PlainTable.{PlainTable}
 use Rattle.ic_link_ops.specs.Sequences.{IsDisjoint}
 use Rattle.ic_link_ops.specs.Tables.{Table}
 use Rattle.ic_link_ops.specs.Chains.{Ends}
 use Rattle.ic_link_ops.specs.SinglyLinkedList as singly
-use Rattle.ic_link_ops.specs.SinglyLinkedList.{Successor}
 use Rattle.ic_link_ops.specs.LinkedList as doubly
-use Rattle.ic_link_ops.specs.LinkedList.{Neighbors}
 use Rattle.ic_link_ops.specs.XorLinkedList as xor
-use Rattle.ic_link_ops.specs.ThreeWords.{no_words, has_link, left_of, right_word_of}
 use Rattle.ic_link_ops.specs.Readings as readings
 use Rattle.ic_link_ops.specs.PlainTables as plain
 
--- a link of three words, and what it says to each kind of list
-abbrev pub TreeLink : Type 0
-TreeLink = Link ThreeWords
+-- `is_linked`, `next_word`, `prev`: what the words of a link say
+module _ {W : Type 0} (is_linked : W → Bool) (next_word : W → ℕ) where
+  -- that a table of such links shows s for a list of each kind
+  abbrev pub ShowsSingly : Table (Link W) → Option Place → List Place → Type 0
+  ShowsSingly = singly.Shows (readings.successor_of next_word is_linked)
 
-abbrev pub is_linked : TreeLink → Bool
-is_linked = plain.linked_by has_link
+  abbrev pub ShowsDoubly : (W → Option Place) → Table (Link W) → Ends → List Place → Type 0
+  ShowsDoubly prev = doubly.Shows (readings.neighbors_of next_word is_linked prev)
 
-abbrev pub successor_of : TreeLink → Successor
-successor_of = readings.successor_of right_word_of has_link
-
-abbrev pub neighbors_of : TreeLink → Neighbors
-neighbors_of = readings.neighbors_of right_word_of has_link left_of
-
-abbrev pub joins : TreeLink → Option Place → Option Place → Type 0
-joins = readings.XorJoins right_word_of
-
--- a tree table, as clauses of its callers see it
-abbrev pub tree_table : {A : Type 0} → PlainTable ThreeWords A → Table TreeLink
-tree_table links = plain.table no_words links
-
--- that it shows s for a list of each kind
-abbrev pub ShowsSingly : Table TreeLink → Option Place → List Place → Type 0
-ShowsSingly = singly.Shows successor_of
-
-abbrev pub ShowsDoubly : Table TreeLink → Ends → List Place → Type 0
-ShowsDoubly = doubly.Shows neighbors_of
-
-abbrev pub ShowsXor : Table TreeLink → Ends → List Place → Type 0
-ShowsXor = xor.Shows is_linked joins
+  abbrev pub ShowsXor : Table (Link W) → Ends → List Place → Type 0
+  ShowsXor = xor.Shows (plain.linked_by is_linked) (readings.XorJoins next_word)
 
 -- `A`, `B`, `C`: the shows-relations of three kinds
 module _ {E H I J : Type 0} (A : Table E → H → List Place → Type 0) (B : Table E → I → List Place → Type 0) (C : Table E → J → List Place → Type 0) where
@@ -60,6 +37,6 @@ module _ {E H I J : Type 0} (A : Table E → H → List Place → Type 0) (B : T
     pub a_and_c : IsDisjoint in_a in_c
     pub b_and_c : IsDisjoint in_b in_c
 
--- three lists of a tree table
-abbrev pub AreThree : Table TreeLink → Option Place → Ends → Ends → Type 0
-AreThree = AreApart ShowsSingly ShowsDoubly ShowsXor
+-- three lists of a table of such links
+abbrev pub AreThree : {W : Type 0} → (W → Bool) → (W → ℕ) → (W → Option Place) → Table (Link W) → Option Place → Ends → Ends → Type 0
+AreThree is_linked next_word prev = AreApart (ShowsSingly is_linked next_word) (ShowsDoubly is_linked next_word prev) (ShowsXor is_linked next_word)

@@ -4,7 +4,7 @@
 use test_support::rows::Run;
 
 /// Three lists of one table, edited in turn.
-pub(crate) const THREE: &[Run] = &[Run {
+pub(crate) const IN_A_TREE_TABLE: &[Run] = &[Run {
     name: "three kinds in one table",
     rows: "
         singly push_front 1 | ok     | 1 / / ; /
@@ -39,5 +39,22 @@ pub(crate) const THREE: &[Run] = &[Run {
         singly pop_front    | 0      | 1 / / ; /
         singly pop_front    | 1      | / / ; /
         singly pop_front    | none
+        ",
+}];
+
+/// A doubly and a singly linked list side by side in a table of six places.
+pub(crate) const IN_A_DOUBLY_TABLE: &[Run] = &[Run {
+    name: "a doubly and a singly linked list side by side",
+    rows: "
+        doubly push_back 0  | ok     | / 0 / ; 0 /
+        doubly push_back 1  | ok     | / 0 1 / ; 1 0 /
+        doubly push_back 2  | ok     | / 0 1 2 / ; 2 1 0 /
+        singly push_front 4 | ok     | 4 / 0 1 2 / ; 2 1 0 /
+        singly push_front 3 | ok     | 3 4 / 0 1 2 / ; 2 1 0 /
+        singly push_front 5 | ok     | 5 3 4 / 0 1 2 / ; 2 1 0 /
+        singly push_front 1 | linked
+        doubly pop_back     | 2      | 5 3 4 / 0 1 / ; 1 0 /
+        singly push_front 2 | ok     | 2 5 3 4 / 0 1 / ; 1 0 /
+        singly push_front 6 | beyond
         ",
 }];

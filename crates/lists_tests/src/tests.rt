@@ -1,15 +1,18 @@
 //! The rows.
 
-use crate::runs::THREE;
+use crate::runs::{IN_A_DOUBLY_TABLE, IN_A_TREE_TABLE};
 use crate::three::Three;
+use ic_link_ops::PrevPlace;
+use ic_link_ops::linked_list::TwoWords;
+use ic_link_ops::rbtree::ThreeWords;
 use std::alloc::Global;
 use std::test::Fail;
-use test_support::rows::play;
+use test_support::rows::{Run, play};
 
-// Plays each run on three empty lists of a table that covers twelve places.
-fn play_all(alloc: Global) -> Result<(), Fail> {
-    for run in THREE {
-        let mut three = Three::new(alloc, 12)?;
+// Plays each run on three empty lists of a table that covers so many places.
+fn play_all<W: PrevPlace>(alloc: Global, covers: usize, runs: &[Run]) -> Result<(), Fail> {
+    for run in runs {
+        let mut three: Three<W> = Three::new(alloc, covers)?;
         play(alloc, &mut three, run)?;
     }
     Ok(())
@@ -17,5 +20,6 @@ fn play_all(alloc: Global) -> Result<(), Fail> {
 
 #[test]
 fn worked_rows(rt: HostRuntime) -> Result<(), Fail> {
-    play_all(rt.alloc())
+    play_all::<ThreeWords>(rt.alloc(), 12, IN_A_TREE_TABLE)?;
+    play_all::<TwoWords>(rt.alloc(), 6, IN_A_DOUBLY_TABLE)
 }

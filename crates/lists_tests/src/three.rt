@@ -1,8 +1,7 @@
-//! A singly linked list, a doubly linked one and an XOR list of one tree table, whose calls ask nothing.
+//! A singly linked list, a doubly linked one and an XOR list of one table, whose calls ask nothing.
 
 use crate::walks::{write_doubly, write_singly, write_xor};
-use ic_link_ops::AlreadyLinked;
-use ic_link_ops::rbtree::LinkOps;
+use ic_link_ops::{AlreadyLinked, PlainTable, PrevPlace};
 use ic_linked_list::LinkedList;
 use ic_singly_linked_list::SinglyLinkedList;
 use ic_unsafe_ref::{Place, UnsafeRef};
@@ -15,22 +14,23 @@ use test_support::rows::{Answer, Played};
 
 /// Three lists, no two of which share a member.
 #[derive(Drop)]
-pub(crate) struct Three {
-    links: LinkOps,
+pub(crate) struct Three<W: PrevPlace> {
+    links: PlainTable<W>,
     singly: SinglyLinkedList<u64>,
     doubly: LinkedList<u64>,
     xor: XorLinkedList<u64>,
 }
 
-impl Model for Three {
+impl<W: PrevPlace> Model for Three<W> {
     ghost use Rattle.std.specs.Prelude.{ℕ};
-    ghost use Rattle.lists_tests.specs.Three.{AreThree, tree_table};
+    ghost use Rattle.ic_link_ops.specs.PlainTables.{table};
+    ghost use Rattle.lists_tests.specs.Three.{AreThree};
 
     ghost Value = { ℕ };
 
     ghost view = { λ _. 0 };
 
-    ghost invariant = { λ l. AreThree (tree_table l.links) l.singly l.doubly l.xor };
+    ghost invariant = { λ l. AreThree W.is_linked W.next_word W.prev (table W.unlinked l.links) l.singly l.doubly l.xor };
 }
 
 // Whether an object was taken in.
@@ -49,10 +49,10 @@ fn taken(object: Option<UnsafeRef<u64>>) -> Answer {
     }
 }
 
-impl Three {
+impl<W: PrevPlace> Three<W> {
     /// Three empty lists of a table that covers so many places.
-    pub(crate) fn new(alloc: Global, covers: usize) -> Result<Three, Fail> {
-        let mut links = LinkOps::new(alloc);
+    pub(crate) fn new(alloc: Global, covers: usize) -> Result<Three<W>, Fail> {
+        let mut links = PlainTable::new(alloc);
         links.cover(covers)?;
         Ok(Three {
             links,
@@ -156,7 +156,7 @@ fn place(word: &str) -> Option<Place> {
     Place::new(word.parse().ok()?)
 }
 
-impl Played for Three {
+impl<W: PrevPlace> Played for Three<W> {
     type Answer = Answer;
 
     /// A call of the list that the first word names.

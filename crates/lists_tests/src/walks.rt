@@ -3,11 +3,12 @@
 ghost use Rattle.std.specs.Prelude.{List};
 ghost use Rattle.ic_unsafe_ref.specs.declared.place.Place.{Place};
 ghost use Rattle.ic_link_ops.specs.Positions.{Stands};
-ghost use Rattle.lists_tests.specs.Three.{tree_table, ShowsSingly, ShowsDoubly, ShowsXor};
+ghost use Rattle.ic_link_ops.specs.PlainTables.{table};
+ghost use Rattle.lists_tests.specs.Three.{ShowsSingly, ShowsDoubly, ShowsXor};
 ghost use Rattle.ic_linked_list.specs.Cursor as doubly;
 ghost use Rattle.ic_xor_linked_list.specs.Cursor as xor;
 
-use ic_link_ops::rbtree::LinkOps;
+use ic_link_ops::{NextWord, PlainTable, PrevPlace};
 use ic_linked_list::{Cursor, LinkedList};
 use ic_singly_linked_list::SinglyLinkedList;
 use ic_unsafe_ref::Place;
@@ -22,12 +23,12 @@ fn write_member(text: &mut String, place: Place) -> fmt::Result {
 }
 
 /// The members of a singly linked list.
-pub(crate) fn write_singly(
+pub(crate) fn write_singly<W: NextWord>(
     shown: &mut String,
     list: &SinglyLinkedList<u64>,
-    links: &LinkOps,
+    links: &PlainTable<W>,
 ) -> fmt::Result
-    requires shown { (s : List Place) × ShowsSingly (tree_table links.now) list.now s }
+    requires shown { (s : List Place) × ShowsSingly W.is_linked W.next_word (table W.unlinked links.now) list.now s }
 {
     let mut cursor = list.cursor(links);
     for _ in 0..=links.covers() {
@@ -41,9 +42,9 @@ pub(crate) fn write_singly(
 }
 
 // Moves the cursor on, or back.
-fn step_doubly(cursor: &mut Cursor<'_, u64, LinkOps>, on: bool)
-    requires stands { Stands ShowsDoubly tree_table (doubly.site_of cursor.old) }
-    ensures stands { Stands ShowsDoubly tree_table (doubly.site_of cursor.new) }
+fn step_doubly<W: PrevPlace>(cursor: &mut Cursor<'_, u64, PlainTable<W>>, on: bool)
+    requires stands { Stands (ShowsDoubly W.is_linked W.next_word W.prev) (λ links. table W.unlinked links) (doubly.site_of cursor.old) }
+    ensures stands { Stands (ShowsDoubly W.is_linked W.next_word W.prev) (λ links. table W.unlinked links) (doubly.site_of cursor.new) }
 {
     if on {
         cursor.move_next();
@@ -53,13 +54,13 @@ fn step_doubly(cursor: &mut Cursor<'_, u64, LinkOps>, on: bool)
 }
 
 /// The members of a doubly linked list, from the front or from the back.
-pub(crate) fn write_doubly(
+pub(crate) fn write_doubly<W: PrevPlace>(
     shown: &mut String,
     list: &LinkedList<u64>,
-    links: &LinkOps,
+    links: &PlainTable<W>,
     on: bool,
 ) -> fmt::Result
-    requires shown { (s : List Place) × ShowsDoubly (tree_table links.now) list.now s }
+    requires shown { (s : List Place) × ShowsDoubly W.is_linked W.next_word W.prev (table W.unlinked links.now) list.now s }
 {
     let mut cursor = list.cursor(links);
     for _ in 0..=links.covers() {
@@ -73,9 +74,9 @@ pub(crate) fn write_doubly(
 }
 
 // The same of an XOR list.
-fn step_xor(cursor: &mut ic_xor_linked_list::Cursor<'_, u64, LinkOps>, on: bool)
-    requires stands { xor.KnowsNeighbors ShowsXor tree_table cursor.old }
-    ensures stands { xor.KnowsNeighbors ShowsXor tree_table cursor.new }
+fn step_xor<W: NextWord>(cursor: &mut ic_xor_linked_list::Cursor<'_, u64, PlainTable<W>>, on: bool)
+    requires stands { xor.KnowsNeighbors (ShowsXor W.is_linked W.next_word) (λ links. table W.unlinked links) cursor.old }
+    ensures stands { xor.KnowsNeighbors (ShowsXor W.is_linked W.next_word) (λ links. table W.unlinked links) cursor.new }
 {
     if on {
         cursor.move_next();
@@ -85,13 +86,13 @@ fn step_xor(cursor: &mut ic_xor_linked_list::Cursor<'_, u64, LinkOps>, on: bool)
 }
 
 /// The members of an XOR list, from the front or from the back.
-pub(crate) fn write_xor(
+pub(crate) fn write_xor<W: NextWord>(
     shown: &mut String,
     list: &XorLinkedList<u64>,
-    links: &LinkOps,
+    links: &PlainTable<W>,
     on: bool,
 ) -> fmt::Result
-    requires shown { (s : List Place) × ShowsXor (tree_table links.now) list.now s }
+    requires shown { (s : List Place) × ShowsXor W.is_linked W.next_word (table W.unlinked links.now) list.now s }
 {
     let mut cursor = list.cursor(links);
     for _ in 0..=links.covers() {

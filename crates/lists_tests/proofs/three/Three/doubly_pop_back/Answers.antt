@@ -4,6 +4,8 @@ use Rattle.lists_tests.proofs.ThreeKinds.{singly, doubly, xor}
 use Rattle.lists_tests.proofs.three.Three.doubly_pop_back.Goals as goal
 
 pub invariant_of-self : goal.invariant_of-self
-invariant_of-self c =
+invariant_of-self g c =
+    let linked = g.W.Words.is_linked in
+    let next = g.W.NextWord.next_word in
     let e = c.pop_back.ensures in
-    second_first (after_pop doubly singly xor (second_first c.self.invariant) but_last without_last e.removed e.frame)
+    second_first (after_pop (doubly linked next g.W.PrevPlace.prev) (singly linked next) (xor linked next) (second_first c.self.invariant) but_last without_last e.removed e.frame)

@@ -5,6 +5,8 @@ use Rattle.lists_tests.proofs.ThreeKinds.{singly, doubly, xor, keeps}
 use Rattle.lists_tests.proofs.three.Three.singly_push_front.Goals as goal
 
 pub invariant_of-self : goal.invariant_of-self
-invariant_of-self c =
+invariant_of-self g c =
+    let linked = g.W.Words.is_linked in
+    let next = g.W.NextWord.next_word in
     let e = c.push_front.ensures in
-    after_push singly doubly xor c.self.invariant (keeps _) c.push_front.result at_front (λ s. refl) e.inserted e.acquired e.frame e.refused e.unchanged
+    after_push (singly linked next) (doubly linked next g.W.PrevPlace.prev) (xor linked next) c.self.invariant (keeps linked g.W.Words.unlinked {x = c.self.inside.links} {y = c.push_front.new.links} _) c.push_front.result at_front (λ s. refl) e.inserted e.acquired e.frame e.refused e.unchanged

@@ -5,6 +5,8 @@ use Rattle.lists_tests.proofs.ThreeKinds.{singly, doubly, xor, keeps}
 use Rattle.lists_tests.proofs.three.Three.xor_push_back.Goals as goal
 
 pub invariant_of-self : goal.invariant_of-self
-invariant_of-self c =
+invariant_of-self g c =
+    let linked = g.W.Words.is_linked in
+    let next = g.W.NextWord.next_word in
     let e = c.push_back.ensures in
-    third_first (after_push xor doubly singly (third_first c.self.invariant) (keeps _) c.push_back.result at_back append-nil e.inserted e.acquired e.frame e.refused e.unchanged)
+    third_first (after_push (xor linked next) (doubly linked next g.W.PrevPlace.prev) (singly linked next) (third_first c.self.invariant) (keeps linked g.W.Words.unlinked {x = c.self.inside.links} {y = c.push_back.new.links} _) c.push_back.result at_back append-nil e.inserted e.acquired e.frame e.refused e.unchanged)
