@@ -66,26 +66,12 @@ impl<W: NextWord> Lists<W> {
     fn call_to_read(&mut self, objects: &Objects<u64>, name: &str) -> Answer {
         match name {
             "is_empty" => Answer::Truth(self.list.is_empty()),
-            "is_null" => self.is_null(),
             "kept" => self.kept(),
-            "peek_next" => self.peek_next(),
-            "get" => self.get(objects),
+            "is_null" | "peek_next" | "get" | "copy" | "position" => self.told(objects, name),
             "into_ref" => self.into_ref(objects),
-            "as_cursor" => self.as_cursor(),
-            "clone_pointer" => self.clone_pointer(),
-            "copy" => self.copy(),
             "values" => self.values(objects),
             "linked" => self.linked(),
             _ => self.call_alone(name),
-        }
-    }
-
-    // A walk of so many calls.
-    fn call_to_walk(&mut self, objects: &Objects<u64>, name: &str, calls: u64) -> Answer {
-        match name {
-            "take_and_drop" => self.take_off(calls, false),
-            "take_and_finish" => self.take_off(calls, true),
-            _ => self.walk(objects, calls),
         }
     }
 }
@@ -125,10 +111,13 @@ impl<W: NextWord> Field<W> {
 
     // A walk of as many calls as the word says.
     fn walk(&mut self, name: &str, word: &str) -> Answer {
-        match word.parse() {
-            Ok(calls) => self.lists.call_to_walk(&self.objects, name, calls),
-            Err(_) => Answer::Refused("no number"),
+        let Ok(calls) = word.parse() else {
+            return Answer::Refused("no number");
+        };
+        if name == "walk" {
+            return self.lists.walk(&self.objects, calls);
         }
+        self.lists.take_off(calls, name == "take_and_finish")
     }
 }
 

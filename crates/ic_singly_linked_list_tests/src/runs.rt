@@ -180,8 +180,7 @@ pub(crate) const OTHERS: &[Run] = &[
         peek_next            | 0
         get                  | none
         into_ref             | none
-        as_cursor            | none
-        clone_pointer        | none
+        position             | none
         copy                 | none
         kept                 | yes
         front                | ok   | (0) 1 2
@@ -189,8 +188,7 @@ pub(crate) const OTHERS: &[Run] = &[
         peek_next            | 1
         get                  | 10
         into_ref             | 10
-        as_cursor            | 0
-        clone_pointer        | 0
+        position             | 0
         copy                 | 0
         kept                 | yes
         move_next            | ok   | 0 (1) 2

@@ -7,6 +7,9 @@ ghost use Rattle.ic_unsafe_ref.specs.Objects.{is_placed};
 ghost use Rattle.ic_link_ops.specs.Tables.{IsCovered};
 ghost use Rattle.ic_link_ops.specs.PlainTables.{table};
 ghost use Rattle.ic_link_ops.specs.Readings.{successor_of};
+ghost use Rattle.ic_link_ops.specs.Positions.{Stands};
+ghost use Rattle.ic_singly_linked_list.specs.Cursor as reads;
+ghost use Rattle.ic_singly_linked_list.specs.CursorMut as lent;
 ghost use Rattle.ic_singly_linked_list.specs.Iter.{CanWalk};
 ghost use Rattle.ic_singly_linked_list_tests.specs.Lists.{Shows};
 
@@ -14,7 +17,7 @@ use crate::answers::{answered, object, standing, value};
 use crate::cursors::{borrowing, owning, reading};
 use crate::lists::{By, Lists};
 use ic_link_ops::{NextWord, PlainTable};
-use ic_singly_linked_list::{Iter, SinglyLinkedList};
+use ic_singly_linked_list::{Cursor, CursorMut, Iter, SinglyLinkedList};
 use ic_unsafe_ref::{Objects, Place};
 use std::alloc::{AllocError, Global};
 use std::fmt::{self, Write};
@@ -156,6 +159,50 @@ fn write_taken<W: NextWord>(
     Ok(())
 }
 
+// Where a copy of the cursor is when the cursor has moved on.
+fn copied<W: NextWord>(cursor: &mut Cursor<'_, u64, PlainTable<W>>) -> Answer
+    requires stands { Stands (Shows W.next_word W.is_linked) (table W.unlinked) (reads.site_of cursor.old) }
+{
+    let Ok(copy) = cursor.clone() else {
+        return Answer::Refused("memory");
+    };
+    cursor.move_next();
+    standing(copy.get_ptr())
+}
+
+// What a cursor that reads tells.
+fn told_by<W: NextWord>(
+    cursor: &mut Cursor<'_, u64, PlainTable<W>>,
+    objects: &Objects<u64>,
+    name: &str,
+) -> Answer
+    requires stands { Stands (Shows W.next_word W.is_linked) (table W.unlinked) (reads.site_of cursor.old) }
+{
+    match name {
+        "is_null" => Answer::Truth(cursor.is_null()),
+        "peek_next" => standing(cursor.peek_next().get_ptr()),
+        "get" => value(cursor.get(objects)),
+        "copy" => copied(cursor),
+        _ => object(cursor.clone_pointer()),
+    }
+}
+
+// What a cursor that edits tells.
+fn told_by_mut<W: NextWord>(
+    cursor: &CursorMut<'_, u64, PlainTable<W>>,
+    objects: &Objects<u64>,
+    name: &str,
+) -> Answer
+    requires stands { Stands (Shows W.next_word W.is_linked) (table W.unlinked) (lent.site_of cursor.now) }
+{
+    match name {
+        "is_null" => Answer::Truth(cursor.is_null()),
+        "peek_next" => standing(cursor.peek_next().get_ptr()),
+        "get" => value(cursor.get(objects)),
+        _ => standing(cursor.as_cursor().get_ptr()),
+    }
+}
+
 impl<W: NextWord> Lists<W> {
     /// What a walk from null gives, of both lists.
     pub(crate) fn write(&self, shown: &mut String) -> fmt::Result {
@@ -208,44 +255,16 @@ impl<W: NextWord> Lists<W> {
         answered(written, text)
     }
 
-    /// The place where a move on would lead.
-    pub(crate) fn peek_next(&mut self) -> Answer {
+    /// What the cursor tells, by its call of that name.
+    pub(crate) fn told(&mut self, objects: &Objects<u64>, name: &str) -> Answer {
         match self.by {
             By::Mut => {
                 let cursor = borrowing(&mut self.list, &mut self.links, self.at);
-                standing(cursor.peek_next().get_ptr())
+                told_by_mut(&cursor, objects, name)
             }
             By::Ref | By::Owning => {
-                let cursor = reading(&self.list, &self.links, self.at);
-                standing(cursor.peek_next().get_ptr())
-            }
-        }
-    }
-
-    /// Whether the cursor is at null.
-    pub(crate) fn is_null(&mut self) -> Answer {
-        match self.by {
-            By::Mut => {
-                let cursor = borrowing(&mut self.list, &mut self.links, self.at);
-                Answer::Truth(cursor.is_null())
-            }
-            By::Ref | By::Owning => {
-                let cursor = reading(&self.list, &self.links, self.at);
-                Answer::Truth(cursor.is_null())
-            }
-        }
-    }
-
-    /// The object that the cursor is on.
-    pub(crate) fn get(&mut self, objects: &Objects<u64>) -> Answer {
-        match self.by {
-            By::Mut => {
-                let cursor = borrowing(&mut self.list, &mut self.links, self.at);
-                value(cursor.get(objects))
-            }
-            By::Ref | By::Owning => {
-                let cursor = reading(&self.list, &self.links, self.at);
-                value(cursor.get(objects))
+                let mut cursor = reading(&self.list, &self.links, self.at);
+                told_by(&mut cursor, objects, name)
             }
         }
     }
@@ -256,12 +275,6 @@ impl<W: NextWord> Lists<W> {
         value(cursor.into_ref(objects))
     }
 
-    /// Where the cursor is that reads in place of one that edits.
-    pub(crate) fn as_cursor(&mut self) -> Answer {
-        let cursor = borrowing(&mut self.list, &mut self.links, self.at);
-        standing(cursor.as_cursor().get_ptr())
-    }
-
     /// Whether the list that a cursor keeps is the one that it was given, and where the cursor is.
     pub(crate) fn kept(&mut self) -> Answer {
         let is_empty = self.list.is_empty();
@@ -269,20 +282,5 @@ impl<W: NextWord> Lists<W> {
         let same = cursor.list().is_empty() == is_empty && cursor.get_ptr() == self.at;
         self.list = cursor.into_inner();
         Answer::Truth(same)
-    }
-
-    /// A reference to the object that the cursor is on.
-    pub(crate) fn clone_pointer(&self) -> Answer {
-        object(reading(&self.list, &self.links, self.at).clone_pointer())
-    }
-
-    /// Where a copy of the cursor is when the cursor has moved on.
-    pub(crate) fn copy(&self) -> Answer {
-        let mut cursor = reading(&self.list, &self.links, self.at);
-        let Ok(copy) = cursor.clone() else {
-            return Answer::Refused("memory");
-        };
-        cursor.move_next();
-        standing(copy.get_ptr())
     }
 }
