@@ -1,0 +1,11 @@
+use Rattle.ic_link_ops.specs.Sequences.{join}
+use Rattle.ic_link_ops.proofs.TwoLists.{popped_front}
+use Rattle.ic_xor_linked_list_tests.proofs.Fixture.{plain_kind, taken, held_at_null}
+use Rattle.ic_xor_linked_list_tests.proofs.lists.Lists.pop_front.Goals as goal
+
+pub invariant_of-self : goal.invariant_of-self
+invariant_of-self g c =
+    let kind = plain_kind g.W.Words.is_linked g.W.NextWord.next_word in
+    let a = taken kind c.take_list-list.ensures c.self.invariant in
+    held_at_null kind c.cursor_owning.ensures.list c.cursor_owning.ensures.null
+    (popped_front kind a (c.pop_front-popped.ensures.removed (join a.gap) a.shown) (c.pop_front-popped.ensures.frame (join a.gap) a.shown))

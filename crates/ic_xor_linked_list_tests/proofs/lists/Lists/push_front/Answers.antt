@@ -1,0 +1,14 @@
+use Rattle.std.proofs.Common.{refl}
+use Rattle.ic_link_ops.specs.Sequences.{at_front}
+use Rattle.ic_link_ops.specs.PlainTables.{table}
+use Rattle.ic_link_ops.proofs.TwoLists.{after_push}
+use Rattle.ic_xor_linked_list_tests.proofs.Fixture.{plain_kind, replays, keeps, taken, held_at_null}
+use Rattle.ic_xor_linked_list_tests.proofs.lists.Lists.push_front.Goals as goal
+
+pub invariant_of-self : goal.invariant_of-self
+invariant_of-self g c =
+    let kind = plain_kind g.W.Words.is_linked g.W.NextWord.next_word in
+    let a = taken kind c.take_list-list.ensures c.self.invariant in
+    held_at_null kind c.cursor_owning.ensures.list c.cursor_owning.ensures.null
+    (let e = c.push_front-result.ensures in
+    after_push kind (table g.W.Words.unlinked) (replays g.W.Words.unlinked g.W.Words.is_linked) (keeps g.W.Words.unlinked g.W.Words.is_linked) _ _ a _ _ c.push_front-result.result at_front (λ s. refl) e.inserted e.acquired e.frame e.refused e.unchanged)

@@ -1,0 +1,189 @@
+//! Calls at a position of the fixture.
+
+use crate::answers::{inserted, object, replaced, standing, value};
+use crate::lent;
+use crate::lists::{By, Lists};
+use crate::spots::{Spot, reading, spot_of};
+use ic_link_ops::NextWord;
+use ic_unsafe_ref::{Objects, Place, UnsafeRef};
+use ic_xor_linked_list::laws;
+use test_support::rows::Answer;
+
+impl<W: NextWord> Lists<W> {
+    /// Moves the cursor to null.
+    pub(crate) fn null(&mut self) -> Answer {
+        self.first.go_null();
+        Answer::Done
+    }
+
+    /// Moves the cursor to the first member.
+    pub(crate) fn front(&mut self) -> Answer {
+        lent::front(self.by, &mut self.first, &mut self.links);
+        Answer::Done
+    }
+
+    /// Moves the cursor to the last member.
+    pub(crate) fn back(&mut self) -> Answer {
+        lent::back(self.by, &mut self.first, &mut self.links);
+        Answer::Done
+    }
+
+    /// Moves the cursor on.
+    pub(crate) fn move_on(&mut self) -> Answer {
+        lent::move_on(self.by, &mut self.first, &mut self.links);
+        Answer::Done
+    }
+
+    /// Moves the cursor back.
+    pub(crate) fn move_back(&mut self) -> Answer {
+        lent::move_back(self.by, &mut self.first, &mut self.links);
+        Answer::Done
+    }
+
+    /// Puts the place behind the cursor.
+    pub(crate) fn insert_after(&mut self, place: Place) -> Answer {
+        if place.index() >= self.links.covers() {
+            return Answer::Refused("beyond");
+        }
+        inserted(lent::insert_after(
+            self.by,
+            &mut self.first,
+            &mut self.links,
+            UnsafeRef::new(place),
+        ))
+    }
+
+    /// Puts the place in front of the cursor.
+    pub(crate) fn insert_before(&mut self, place: Place) -> Answer {
+        if place.index() >= self.links.covers() {
+            return Answer::Refused("beyond");
+        }
+        inserted(lent::insert_before(
+            self.by,
+            &mut self.first,
+            &mut self.links,
+            UnsafeRef::new(place),
+        ))
+    }
+
+    /// Takes off the member that the cursor is on.
+    pub(crate) fn remove(&mut self) -> Answer {
+        object(lent::remove(self.by, &mut self.first, &mut self.links))
+    }
+
+    /// Puts the place where the member is that the cursor is on.
+    pub(crate) fn replace_with(&mut self, place: Place) -> Answer {
+        if place.index() >= self.links.covers() {
+            return Answer::Refused("beyond");
+        }
+        replaced(lent::replace_with(
+            self.by,
+            &mut self.first,
+            &mut self.links,
+            UnsafeRef::new(place),
+        ))
+    }
+
+    /// All of the other list goes in behind the cursor.
+    pub(crate) fn splice_after(&mut self) -> Answer {
+        let given = self.other.take();
+        lent::splice_after(self.by, &mut self.first, &mut self.links, given);
+        Answer::Done
+    }
+
+    /// All of the other list goes in in front of the cursor.
+    pub(crate) fn splice_before(&mut self) -> Answer {
+        let given = self.other.take();
+        lent::splice_before(self.by, &mut self.first, &mut self.links, given);
+        Answer::Done
+    }
+
+    /// The members behind the cursor are the other list then.
+    pub(crate) fn split_after(&mut self) -> Answer {
+        self.other = lent::split_after(self.by, &mut self.first, &mut self.links);
+        Answer::Done
+    }
+
+    /// The members in front of the cursor are the other list then.
+    pub(crate) fn split_before(&mut self) -> Answer {
+        self.other = lent::split_before(self.by, &mut self.first, &mut self.links);
+        Answer::Done
+    }
+
+    /// Moves the cursor to that member.
+    pub(crate) fn on(&mut self, place: Place) -> Answer {
+        let _ = self.null();
+        for _ in 0..self.links.covers() {
+            let _ = self.move_on();
+            if self.first.get_ptr() == Some(place) {
+                return Answer::Done;
+            }
+        }
+        let _ = self.null();
+        Answer::Refused("no member")
+    }
+
+    // Where the cursor stands.
+    fn spot(&self) -> Spot {
+        spot_of(&self.first.as_cursor(&self.links))
+    }
+
+    /// Makes the cursor anew on that member, by the one in front.
+    pub(crate) fn on_behind(&mut self, place: Place, prev: Option<Place>) -> Answer {
+        let _ = self.on(place);
+        if self.spot().prev != prev {
+            return Answer::Refused("another");
+        }
+        lent::renew_behind(&mut self.first, &self.links);
+        Answer::Done
+    }
+
+    /// Makes the cursor anew on that member, by the one behind.
+    pub(crate) fn on_before(&mut self, place: Place, next: Option<Place>) -> Answer {
+        let _ = self.on(place);
+        if self.spot().next != next {
+            return Answer::Refused("another");
+        }
+        lent::renew_before(&mut self.first, &self.links);
+        Answer::Done
+    }
+
+    // What a cursor that borrows the list answers to a call that reads.
+    fn read(&mut self, objects: &Objects<u64>, name: &str) -> Answer {
+        lent::read(&mut self.first, &mut self.links, objects, name)
+    }
+
+    /// A call that reads at the position.
+    pub(crate) fn call_to_look(&mut self, objects: &Objects<u64>, name: &str) -> Answer {
+        if let By::Mut = self.by {
+            return self.read(objects, name);
+        }
+        let cursor = self.first.as_cursor(&self.links);
+        match name {
+            "peek_next" => standing(cursor.peek_next().get_ptr()),
+            "peek_prev" => standing(cursor.peek_prev().get_ptr()),
+            "is_null" => Answer::Truth(cursor.is_null()),
+            "clone_pointer" => object(cursor.clone_pointer()),
+            "get" | "into_ref" => value(cursor.get(objects)),
+            _ => standing(cursor.get_ptr()),
+        }
+    }
+
+    /// Where a copy of the cursor is when the cursor has moved on.
+    pub(crate) fn copy(&self) -> Answer {
+        let spot = spot_of(&self.first.as_cursor(&self.links));
+        let mut cursor = reading(self.first.list(), &self.links, spot);
+        let Ok(copy) = cursor.clone() else {
+            return Answer::Refused("memory");
+        };
+        cursor.move_next();
+        standing(copy.get_ptr())
+    }
+
+    /// The member at the front, as a cursor comes to it from null, or the one at the back.
+    pub(crate) fn there_and_back(&self, at_the_front: bool) -> Answer {
+        let mut cursor = self.first.list().cursor(&self.links);
+        let (front, back) = laws::null_there_and_back(&mut cursor);
+        standing(if at_the_front { front } else { back })
+    }
+}

@@ -1,0 +1,24 @@
+//! The XOR linked list's worked rows, played on a fixture that tests what each call asks, over each table that carries
+//! such lists.
+#![tactic(auto)]
+
+#[cfg(test)]
+mod answers;
+#[cfg(test)]
+mod cursors;
+#[cfg(test)]
+mod fields;
+#[cfg(test)]
+mod lent;
+#[cfg(test)]
+mod lists;
+#[cfg(test)]
+mod runs;
+#[cfg(test)]
+mod spots;
+#[cfg(test)]
+mod taking;
+#[cfg(test)]
+mod tests;
+#[cfg(test)]
+mod walks;

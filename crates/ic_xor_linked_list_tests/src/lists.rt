@@ -1,0 +1,325 @@
+//! Two lists of one table with a cursor that keeps the first, whose calls ask nothing.
+
+use crate::answers::{inserted, object};
+use crate::spots::take_list;
+use ic_link_ops::{NextWord, PlainTable};
+use ic_unsafe_ref::{Objects, Place, UnsafeRef};
+use ic_xor_linked_list::{CursorOwning, XorLinkedList, laws};
+use std::alloc::Global;
+use std::marker::Model;
+use std::test::Fail;
+use test_support::rows::Answer;
+
+/// By which cursor the calls at a position are made.
+#[derive(Clone, Copy)]
+pub(crate) enum By {
+    /// Moves by a cursor that reads, and edits by one that borrows the list.
+    Ref,
+    /// All by a cursor that borrows the list.
+    Mut,
+    /// All by the cursor that keeps the list.
+    Owning,
+}
+
+/// Two lists that share no member, and a cursor of the first.
+#[derive(Drop)]
+pub(crate) struct Lists<W: NextWord> {
+    pub(crate) alloc: Global,
+    pub(crate) by: By,
+    pub(crate) links: PlainTable<W>,
+    pub(crate) first: CursorOwning<u64>,
+    pub(crate) other: XorLinkedList<u64>,
+}
+
+impl<W: NextWord> Model for Lists<W> {
+    ghost use Rattle.std.specs.Prelude.{ℕ};
+    ghost use Rattle.ic_link_ops.specs.XorLinkedList.{Shows};
+    ghost use Rattle.ic_link_ops.specs.PlainTables.{table, linked_by};
+    ghost use Rattle.ic_link_ops.specs.Readings.{XorJoins};
+    ghost use Rattle.ic_xor_linked_list_tests.specs.Lists.{AreHeld};
+
+    ghost Value = { ℕ };
+
+    ghost view = { λ _. 0 };
+
+    ghost invariant = { λ l. AreHeld (Shows (linked_by W.is_linked) (XorJoins W.next_word)) (table W.unlinked) l.links l.first l.other };
+}
+
+impl<W: NextWord> Lists<W> {
+    /// Two empty lists, a new one and the default, of a table that covers so many places.
+    pub(crate) fn new(alloc: Global, by: By, covers: usize) -> Result<Lists<W>, Fail> {
+        let mut links = PlainTable::new(alloc);
+        links.cover(covers)?;
+        Ok(Lists {
+            alloc,
+            by,
+            links,
+            first: XorLinkedList::new().cursor_owning(),
+            other: XorLinkedList::default(),
+        })
+    }
+
+    /// Whether neither list has a member.
+    pub(crate) fn is_empty(&self) -> bool {
+        self.first.list().is_empty() && self.other.is_empty()
+    }
+
+    fn push_back(&mut self, place: Place) -> Answer {
+        if place.index() >= self.links.covers() {
+            return Answer::Refused("beyond");
+        }
+        let mut list = take_list(&mut self.first);
+        let result = list.push_back(&mut self.links, UnsafeRef::new(place));
+        self.first = list.cursor_owning();
+        inserted(result)
+    }
+
+    fn push_front(&mut self, place: Place) -> Answer {
+        if place.index() >= self.links.covers() {
+            return Answer::Refused("beyond");
+        }
+        let mut list = take_list(&mut self.first);
+        let result = list.push_front(&mut self.links, UnsafeRef::new(place));
+        self.first = list.cursor_owning();
+        inserted(result)
+    }
+
+    fn pop_front(&mut self) -> Answer {
+        let mut list = take_list(&mut self.first);
+        let popped = list.pop_front(&mut self.links);
+        self.first = list.cursor_owning();
+        object(popped)
+    }
+
+    fn pop_back(&mut self) -> Answer {
+        let mut list = take_list(&mut self.first);
+        let popped = list.pop_back(&mut self.links);
+        self.first = list.cursor_owning();
+        object(popped)
+    }
+
+    fn reverse(&mut self) -> Answer {
+        let mut list = take_list(&mut self.first);
+        laws::reversed_is_shown(&mut list, &self.links);
+        self.first = list.cursor_owning();
+        Answer::Done
+    }
+
+    fn clear(&mut self) -> Answer {
+        let mut list = take_list(&mut self.first);
+        list.clear(&mut self.links);
+        self.first = list.cursor_owning();
+        Answer::Done
+    }
+
+    fn dispose(&mut self) -> Answer {
+        let list = take_list(&mut self.first);
+        list.dispose(&mut self.links);
+        self.first = XorLinkedList::new().cursor_owning();
+        Answer::Done
+    }
+
+    fn fast_clear(&mut self) -> Answer {
+        let mut list = take_list(&mut self.first);
+        list.fast_clear();
+        self.first = list.cursor_owning();
+        Answer::Done
+    }
+
+    // Only where there is no list of which the place could be a member.
+    fn force_unlink(&mut self, place: Place) -> Answer {
+        if place.index() >= self.links.covers() {
+            return Answer::Refused("beyond");
+        }
+        if !self.is_empty() {
+            return Answer::Refused("member");
+        }
+        self.first = XorLinkedList::new().cursor_owning();
+        self.other = XorLinkedList::new();
+        self.links.force_unlink(place);
+        Answer::Done
+    }
+
+    fn is_linked(&self, place: Place) -> Answer {
+        if place.index() >= self.links.covers() {
+            return Answer::Refused("beyond");
+        }
+        Answer::Truth(self.links.is_linked(place))
+    }
+
+    // The two lists change places.
+    fn swap(&mut self) -> Answer {
+        let list = take_list(&mut self.first);
+        let other = self.other.take();
+        self.first = other.cursor_owning();
+        self.other = list;
+        Answer::Done
+    }
+
+    // The whole list is the other one then. Only where that has no member.
+    fn take(&mut self) -> Answer {
+        if !self.other.is_empty() {
+            return Answer::Refused("two lists");
+        }
+        let mut list = take_list(&mut self.first);
+        self.other = list.take();
+        self.first = list.cursor_owning();
+        Answer::Done
+    }
+
+    // Puts an unlinked place at the back and takes it off there again.
+    fn push_then_pop(&mut self, place: Place) -> Answer {
+        if place.index() >= self.links.covers() {
+            return Answer::Refused("beyond");
+        }
+        if self.links.is_linked(place) {
+            return Answer::Refused("linked");
+        }
+        let mut list = take_list(&mut self.first);
+        let popped = laws::push_then_pop(&mut list, &mut self.links, UnsafeRef::new(place));
+        self.first = list.cursor_owning();
+        object(popped)
+    }
+
+    /// Puts a place at the back of the list here and of one of another field, where it is linked in neither and each field
+    /// has one list.
+    pub(crate) fn push_in_both(&mut self, field: &mut Lists<W>, place: Place) -> Answer {
+        if place.index() >= self.links.covers() || place.index() >= field.links.covers() {
+            return Answer::Refused("beyond");
+        }
+        if self.links.is_linked(place) || field.links.is_linked(place) {
+            return Answer::Refused("linked");
+        }
+        if !self.other.is_empty() || !field.other.is_empty() {
+            return Answer::Refused("two lists");
+        }
+        self.other = XorLinkedList::new();
+        field.other = XorLinkedList::new();
+        let mut first = take_list(&mut self.first);
+        let mut second = take_list(&mut field.first);
+        let both = laws::fields_are_apart(
+            &mut first,
+            &mut self.links,
+            &mut second,
+            &mut field.links,
+            place,
+        );
+        self.first = first.cursor_owning();
+        field.first = second.cursor_owning();
+        Answer::Truth(both)
+    }
+
+    // A call that is given a place.
+    fn call_at(&mut self, name: &str, place: Place) -> Answer {
+        match name {
+            "push_back" => self.push_back(place),
+            "push_front" => self.push_front(place),
+            "insert_after" => self.insert_after(place),
+            "insert_before" => self.insert_before(place),
+            "replace_with" => self.replace_with(place),
+            "push_then_pop" => self.push_then_pop(place),
+            "force_unlink" => self.force_unlink(place),
+            "is_linked" => self.is_linked(place),
+            "on" => self.on(place),
+            _ => Answer::Refused("no such call"),
+        }
+    }
+
+    // The calls that are given one of these places each, and what the last one answers.
+    fn call_at_each(&mut self, name: &str, places: &[&str]) -> Answer {
+        let mut answer = Answer::Nothing;
+        for word in places {
+            answer = match place(word) {
+                Some(place) => self.call_at(name, place),
+                None => Answer::Refused("no such place"),
+            };
+        }
+        answer
+    }
+
+    // A call that is given nothing and edits.
+    fn call_alone(&mut self, name: &str) -> Answer {
+        match name {
+            "pop_front" => self.pop_front(),
+            "pop_back" => self.pop_back(),
+            "reverse" => self.reverse(),
+            "clear" => self.clear(),
+            "take" => self.take(),
+            "dispose" => self.dispose(),
+            "fast_clear" => self.fast_clear(),
+            "swap" => self.swap(),
+            "remove" => self.remove(),
+            "splice_after" => self.splice_after(),
+            "splice_before" => self.splice_before(),
+            "split_after" => self.split_after(),
+            "split_before" => self.split_before(),
+            _ => self.call_to_move(name),
+        }
+    }
+
+    // A call that is given nothing and moves the cursor.
+    fn call_to_move(&mut self, name: &str) -> Answer {
+        match name {
+            "null" => self.null(),
+            "front" => self.front(),
+            "back" => self.back(),
+            "there_and_back" => self.there_and_back(true),
+            "back_and_there" => self.there_and_back(false),
+            "move_next" => self.move_on(),
+            "move_prev" => self.move_back(),
+            _ => Answer::Refused("no such call"),
+        }
+    }
+
+    // A call that is given nothing and reads.
+    fn call_to_read(&mut self, objects: &Objects<u64>, name: &str) -> Answer {
+        match name {
+            "is_empty" => Answer::Truth(self.first.list().is_empty()),
+            "is_null"
+            | "peek_next"
+            | "peek_prev"
+            | "get"
+            | "into_ref"
+            | "as_cursor"
+            | "clone_pointer" => { self.call_to_look(objects, name) }
+            "copy" => self.copy(),
+            "values" => self.values(objects),
+            "linked" => self.linked(),
+            _ => self.call_alone(name),
+        }
+    }
+
+    // A call that is given a member and a place beside it, `none` at an end.
+    fn call_beside(&mut self, name: &str, member: &str, beside: &str) -> Answer {
+        let Some(member) = place(member) else {
+            return Answer::Refused("no such place");
+        };
+        match name {
+            "on_behind" => self.on_behind(member, place(beside)),
+            "on_before" => self.on_before(member, place(beside)),
+            _ => Answer::Refused("no such call"),
+        }
+    }
+
+    /// Makes the call that these words are.
+    pub(crate) fn call(&mut self, objects: &Objects<u64>, words: &[&str]) -> Answer {
+        let Some((name, rest)) = words.split_first() else {
+            return Answer::Refused("no call");
+        };
+        match *name {
+            "walk" => self.walk(objects, rest),
+            "take_and_drop" => self.take_off(rest, false),
+            "take_and_finish" => self.take_off(rest, true),
+            "on_behind" | "on_before" if rest.len() == 2 => self.call_beside(
+                name, rest[0], rest[1],
+            ),
+            name if rest.is_empty() => self.call_to_read(objects, name),
+            name => self.call_at_each(name, rest),
+        }
+    }
+}
+
+/// The place that the word is.
+pub(crate) fn place(word: &str) -> Option<Place> {
+    Place::new(word.parse().ok()?)
+}
