@@ -22,8 +22,8 @@ use ic_link_ops::{NextWord, PlainTable};
 use ic_unsafe_ref::{Place, UnsafeRef};
 use std::alloc::Allocator;
 
-/// Splits a list behind the cursor and splices what was handed out in again there: the list is what it was. One reading for
-/// each member that was handed out.
+/// Splits a list behind the cursor and splices what was handed out in again there: the list is what it was. O(1), since
+/// nothing follows the cursor then.
 ///
 /// It asks that the cursor stands in its list. No link is acquired or released.
 pub fn split_then_splice<T, L: SinglyLinkedListOps>(cursor: &mut CursorMut<'_, T, L>)
