@@ -1,10 +1,15 @@
 //! Two lists of one table with a cursor that keeps the first, whose calls ask nothing.
 
+ghost use Rattle.std.specs.Prelude.{List};
+ghost use Rattle.ic_unsafe_ref.specs.declared.place.Place.{Place};
+ghost use Rattle.ic_link_ops.specs.Tables.{KeepsBeside};
+ghost use Rattle.ic_link_ops.specs.XorLinkedList.{Shows, ShowsSome};
+
 use crate::answers::{inserted, object};
 use crate::spots::take_list;
-use ic_link_ops::{NextWord, PlainTable};
+use ic_link_ops::{LinkOps, NextWord, PlainTable};
 use ic_unsafe_ref::{Objects, Place, UnsafeRef};
-use ic_xor_linked_list::{CursorOwning, XorLinkedList, laws};
+use ic_xor_linked_list::{CursorOwning, XorLinkedList, XorLinkedListOps, laws};
 use std::alloc::Global;
 use std::marker::Model;
 use std::test::Fail;
@@ -43,6 +48,18 @@ impl<W: NextWord> Model for Lists<W> {
     ghost view = { λ _. 0 };
 
     ghost invariant = { λ l. AreHeld (Shows (linked_by W.is_linked) (XorJoins W.next_word)) (table W.unlinked) l.links l.first l.other };
+}
+
+// Splits the list behind its first member, and puts it together again.
+fn split_and_join<L: XorLinkedListOps>(list: &mut XorLinkedList<u64>, links: &mut L)
+    requires shown { ShowsSome L.linked L.Joins (L.table links.old) list.old }
+    ensures sequence { (s : List Place) → Shows L.linked L.Joins (L.table links.old) list.old s
+        → Shows L.linked L.Joins (L.table links.new) list.new s }
+    ensures frame { (s : List Place) → Shows L.linked L.Joins (L.table links.old) list.old s
+        → KeepsBeside (L.table links.old) (L.table links.new) s }
+{
+    let mut cursor = list.front_mut(links);
+    laws::split_then_splice(&mut cursor);
 }
 
 impl<W: NextWord> Lists<W> {
@@ -96,6 +113,22 @@ impl<W: NextWord> Lists<W> {
         let popped = list.pop_back(&mut self.links);
         self.first = list.cursor_owning();
         object(popped)
+    }
+
+    // Turned round twice, the list is what it was.
+    fn reverse_twice(&mut self) -> Answer {
+        let mut list = take_list(&mut self.first);
+        laws::reverse_twice(&mut list);
+        self.first = list.cursor_owning();
+        Answer::Done
+    }
+
+    // Split and put together again, it is what it was.
+    fn split_then_splice(&mut self) -> Answer {
+        let mut list = take_list(&mut self.first);
+        split_and_join(&mut list, &mut self.links);
+        self.first = list.cursor_owning();
+        Answer::Done
     }
 
     fn reverse(&mut self) -> Answer {
@@ -243,6 +276,8 @@ impl<W: NextWord> Lists<W> {
             "pop_front" => self.pop_front(),
             "pop_back" => self.pop_back(),
             "reverse" => self.reverse(),
+            "reverse_twice" => self.reverse_twice(),
+            "split_then_splice" => self.split_then_splice(),
             "clear" => self.clear(),
             "take" => self.take(),
             "dispose" => self.dispose(),

@@ -80,7 +80,19 @@ pub(crate) const OWN: &[Run] = &[
         push_back 4     | ok | 3 2 1 0 4
         pop_back        | 4  | 3 2 1 0
         reverse         | ok | 0 1 2 3
+        reverse_twice   | ok
         pop_front       | 0  | 1 2 3
+        ",
+    },
+    Run {
+        name: "split and put together again",
+        rows: "
+        split_then_splice | ok
+        push_back 0       | ok | 0
+        split_then_splice | ok
+        push_back 1 2     | ok | 0 1 2
+        split_then_splice | ok
+        pop_back          | 2  | 0 1
         ",
     },
     Run {
