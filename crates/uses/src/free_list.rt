@@ -5,9 +5,9 @@
 //! let object = free_list::take(&mut free, &mut links); // that object
 //! ```
 
-ghost use Rattle.std.specs.Prelude.{◌≡◌, ◌∷◌, [], List, Option, Some, OnOk, OnErr, IfOk, IfErr, IfSome, IfNone};
+ghost use Rattle.std.specs.Prelude.{◌≡◌, ◌∷◌, [], List, drop, Option, Some, OnOk, OnErr, IfOk, IfErr, IfSome, IfNone};
 ghost use Rattle.ic_unsafe_ref.specs.declared.place.Place.{Place};
-ghost use Rattle.ic_link_ops.specs.Sequences.{IsDisjoint};
+ghost use Rattle.ic_link_ops.specs.Sequences.{first, IsDisjoint};
 ghost use Rattle.ic_link_ops.specs.Tables.{IsCovered, KeepsBeside};
 ghost use Rattle.ic_link_ops.specs.LinkSteps.{acquires, releases};
 ghost use Rattle.ic_link_ops.specs.SinglyLinkedList.{Shows, ShowsSome};
@@ -52,8 +52,9 @@ pub fn take<T, L: SinglyLinkedListOps>(
     links: &mut L,
 ) -> Option<UnsafeRef<T>>
     requires shown { ShowsSome L.successor (L.table links.old) free.old }
-    ensures latest { (x : Place) (s : List Place) → Shows L.successor (L.table links.old) free.old (x ∷ s)
-        → (result ≡ Some x) × Shows L.successor (L.table links.new) free.new s }
+    ensures latest { (s : List Place) → Shows L.successor (L.table links.old) free.old s → result ≡ first s }
+    ensures taken { (s : List Place) → Shows L.successor (L.table links.old) free.old s
+        → Shows L.successor (L.table links.new) free.new (drop 1 s) }
     ensures released { IfSome result (λ object. L.Does links.old links.new (releases object ∷ [])) }
     ensures empty { IfNone result ((free.new ≡ free.old) × (links.new ≡ links.old)) }
     ensures others { (s t : List Place) (other : Option Place) → Shows L.successor (L.table links.old) free.old s
@@ -66,7 +67,7 @@ pub fn take<T, L: SinglyLinkedListOps>(
 
 /// Gives an object back and takes one at once: unless its link is refused, it is that object, and the list is as it was. O(1).
 ///
-/// It asks what [`give_back`] asks.
+/// It asks what [`give_back`] asks, and a refused object comes back as there.
 pub fn give_and_take<T, L: SinglyLinkedListOps>(
     free: &mut SinglyLinkedList<T>,
     links: &mut L,
@@ -78,6 +79,8 @@ pub fn give_and_take<T, L: SinglyLinkedListOps>(
     ensures sequence { (s : List Place) → Shows L.successor (L.table links.old) free.old s
         → OnOk result (Shows L.successor (L.table links.new) free.new s) }
     ensures steps { OnOk result (L.Does links.old links.new (acquires object ∷ releases object ∷ [])) }
+    ensures refused { OnErr result (L.Refused links.old links.new object) }
+    ensures unchanged { IfErr result (λ refused. (refused.0 ≡ object) × (free.new ≡ free.old)) }
     ensures frame { (s : List Place) → Shows L.successor (L.table links.old) free.old s
         → KeepsBeside (L.table links.old) (L.table links.new) (object ∷ s) }
 {

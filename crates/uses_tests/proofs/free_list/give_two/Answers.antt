@@ -47,12 +47,12 @@ take-oldest-requires g c =
     let one = c.in_ok-give_back.ensures.given [] (new g.met.L.SinglyLinkedListOps.linked_alike c.new-free.ensures) in
     let same = c.in_ok-at_once.ensures.sequence (c.new.result ∷ []) one in
     let two = c.in_ok-give_back-2.ensures.given (c.new.result ∷ []) same in
-    record { shown = (c.new.result ∷ [], (c.take-latest.ensures.latest c.new-3.result (c.new.result ∷ []) two).1) }
+    record { shown = (c.new.result ∷ [], c.take-latest.ensures.taken (c.new-3.result ∷ c.new.result ∷ []) two) }
 
 pub take-none-requires : goal.take-none-requires
 take-none-requires g c =
     let one = c.in_ok-give_back.ensures.given [] (new g.met.L.SinglyLinkedListOps.linked_alike c.new-free.ensures) in
     let same = c.in_ok-at_once.ensures.sequence (c.new.result ∷ []) one in
     let two = c.in_ok-give_back-2.ensures.given (c.new.result ∷ []) same in
-    let left = (c.take-latest.ensures.latest c.new-3.result (c.new.result ∷ []) two).1 in
-    record { shown = ([], (c.take-oldest.ensures.latest c.new.result [] left).1) }
+    let left = c.take-latest.ensures.taken (c.new-3.result ∷ c.new.result ∷ []) two in
+    record { shown = ([], c.take-oldest.ensures.taken (c.new.result ∷ []) left) }
