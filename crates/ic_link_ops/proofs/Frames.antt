@@ -1,13 +1,14 @@
 -- A tree seen from one of its members: found there by the sequence, taken apart and put together again.
-use Rattle.std.proofs.Common.{◌≡◌, ◌≢◌, Option, Some, None, List, [], ◌∷◌, ◌++◌, refl, sym, ap, ◌∙◌, arith, append_assoc, append-nil}
+use Rattle.std.proofs.Common.{◌≡◌, ◌≢◌, Option, Some, List, [], ◌∷◌, ◌++◌, refl, sym, ap, ◌∙◌, arith, append_assoc, append-nil}
 use Rattle.ic_unsafe_ref.specs.declared.place.Place.{Place}
 use Rattle.ic_link_ops.specs.declared.color.Color.{Color}
 use Rattle.ic_link_ops.specs.declared.side.Side.{Side}
 use Rattle.ic_link_ops.specs.declared.side.Side.TheVariants.{Left, Right}
 use Rattle.ic_link_ops.specs.Trees.{Tree, leaf, fork, top, in_order}
 use Rattle.ic_link_ops.specs.RedBlackTree.{Node, IsTree}
-use Rattle.ic_link_ops.specs.Frames.{Frame, frame, with_child, branch, plug, above, before, after, IsAtSide, IsAround}
-use Rattle.ic_link_ops.proofs.Times.{one_at_self, times, times_around, times_absent, times_order}
+use Rattle.ic_link_ops.specs.Frames.{Frame, frame, with_child, plug, above, before, after, IsAtSide, IsAround}
+use Rattle.ic_link_ops.specs.Times.{times, times_around}
+use Rattle.ic_link_ops.proofs.Times.{one_at_self, times_absent, times_order}
 use Rattle.ic_link_ops.proofs.Trees.{at_same, at_left, at_right, tree_kept}
 
 -- two ways to cut one sequence at a member
@@ -60,25 +61,7 @@ in_order_parts (frame Left c p b ∷ fs) t =
     in_order_parts fs (fork c t p b) ∙ ap (λ z. before fs ++ z) (append_assoc (in_order t) (p ∷ in_order b) (after fs))
 in_order_parts (frame Right c p b ∷ fs) t = in_order_parts fs (fork c b p t) ∙ simp append_assoc
 
--- below a frame the root does not depend on the subtree
-pub top_plug : (f : Frame) (fs : List Frame) (t t' : Tree) → top (plug (f ∷ fs) t) ≡ top (plug (f ∷ fs) t')
-top_plug (frame Left c p b) [] t t' = refl
-top_plug (frame Right c p b) [] t t' = refl
-top_plug (frame d c p b) (f ∷ fs) t t' = top_plug f fs (branch d c t p b) (branch d c t' p b)
-
 module _ {E : Type 0} (n : E → Node) where
-  -- A TREE TAKEN APART: what stands around a subtree, and the subtree
-  pub tree_open : (entry : Place → E) (fs : List Frame) (t : Tree) → IsTree n entry None (plug fs t) → IsAround n entry fs (top t) × IsTree n entry (above fs) t
-  tree_open entry [] t h = (tt, h)
-  tree_open entry (frame Left c p b ∷ fs) t h = let r = tree_open entry fs (fork c t p b) h in ((r.1.0, r.1.2, r.0), r.1.1)
-  tree_open entry (frame Right c p b ∷ fs) t h = let r = tree_open entry fs (fork c b p t) h in ((r.1.0, r.1.1, r.0), r.1.2)
-
-  -- and put together
-  pub tree_close : (entry : Place → E) (fs : List Frame) (t : Tree) → IsAround n entry fs (top t) → IsTree n entry (above fs) t → IsTree n entry None (plug fs t)
-  tree_close entry [] t r h = h
-  tree_close entry (frame Left c p b ∷ fs) t r h = tree_close entry fs (fork c t p b) r.2 (r.0, h, r.1)
-  tree_close entry (frame Right c p b ∷ fs) t r h = tree_close entry fs (fork c b p t) r.2 (r.0, r.1, h)
-
   -- a tree depends on the entries of its members alone, in numbers
   pub tree_same : (old new : Place → E) (up : Option Place) (t : Tree)
       → ((q : Place) → (times q t ≡ 0 → ⊥) → new q ≡ old q) → IsTree n old up t → IsTree n new up t

@@ -23,7 +23,6 @@ pub mod Trees
 pub mod ShownTrees
 pub mod Times
 pub mod Frames
-pub mod TreeEdits
 pub mod EntryLemmas
 pub mod LentTables
 pub mod TreeWordLemmas

@@ -1,5 +1,5 @@
 -- Trees that a table holds, and sequences that it shows for them: kept, read at members, and one at most.
-use Rattle.std.proofs.Common.{◌≡◌, ◌≢◌, ◌≤◌, Bool, true, false, Option, Some, None, List, [], ◌∷◌, ◌++◌, length, refl, sym, ap, ◌∙◌}
+use Rattle.std.proofs.Common.{◌≡◌, ◌≢◌, ◌≤◌, arith, Bool, true, false, Option, Some, None, List, [], ◌∷◌, ◌++◌, length, refl, sym, ap, ◌∙◌}
 use Rattle.ic_unsafe_ref.specs.declared.place.Place.{Place}
 use Rattle.ic_link_ops.specs.declared.color.Color.{Color}
 use Rattle.ic_link_ops.specs.Sequences.{IsAbsent, IsDisjoint, first}
@@ -8,7 +8,10 @@ use Rattle.ic_link_ops.specs.Trees.{Tree, leaf, fork, top, in_order}
 use Rattle.ic_link_ops.specs.RedBlackTree.{Node, IsAt, Holds, Shows, ShowsEnds}
 use Rattle.ic_link_ops.proofs.SequenceLemmas.{absent_right, disjoint_sym, first_not, last_not, none_not}
 use Rattle.ic_link_ops.proofs.Trees.{top_not, top_parent, tree_kept, tree_absent, read_absent, one_tree, tree_covered, same_root}
+use Rattle.ic_link_ops.proofs.CollectionLaws.{IsKind}
 use Rattle.ic_link_ops.proofs.Walks.{pigeonhole}
+use Rattle.ic_link_ops.specs.Times.{times, times_in}
+use Rattle.ic_link_ops.proofs.Times.{distinct_times, absent_times, times_order}
 
 -- a member of t is no member of s if these share none
 outside_of : (q : Place) (s t : List Place) → (IsAbsent q t → ⊥) → IsDisjoint s t → IsAbsent q s
@@ -81,6 +84,15 @@ module _ {E : Type 0} {n : E → Node} where
       → {tree : Tree} {s : List Place} → Holds n t tree s → length s ≤ t.extent.places
   holds_length t law {tree} {s} h =
       pigeonhole s t.extent.places h.distinct (rw (← h.order) (tree_covered n t law None tree h.entries))
+
+  -- no place stands in a held tree twice
+  pub holds_once : {t : Table E} {tree : Tree} {s : List Place} → Holds n t tree s → (q : Place) → times q tree ≤ 1
+  holds_once {t} {tree} {s} h q =
+      let k : times_in q (in_order tree) ≤ 1 = rw h.order (distinct_times s h.distinct q) in omega (arith, k, times_order q tree)
+
+  -- and what is absent from its sequence does not at all
+  pub holds_out : {t : Table E} {tree : Tree} {s : List Place} → Holds n t tree s → (q : Place) → IsAbsent q s → times q tree ≡ 0
+  holds_out {t} {tree} {s} h q out = sym (times_order q tree) ∙ rw h.order (absent_times q s out)
 
   -- the empty tree
   pub holds_nothing : (t : Table E) → Holds n t leaf []
@@ -175,3 +187,13 @@ module _ {E : Type 0} {n : E → Node} where
       let begin : first (in_order h.tree) ≡ first (in_order k.tree) = ap first h.held.order ∙ sym h.starts ∙ k.starts ∙ sym (ap first k.held.order) in
       let root = same_root n t.entry h.tree k.tree h.held.entries k.held.entries begin in
       sym h.held.order ∙ ap in_order (one_tree n t.entry None h.tree k.tree h.held.entries k.held.entries root) ∙ k.held.order
+
+-- the five facts of red-black trees, where both traits say alike whether a place is linked
+pub red_black_trees : {E : Type 0} {n : E → Node} {linked : E → Bool} → ((e : E) → (n e).linked ≡ linked e) → IsKind (Shows n) linked None
+red_black_trees {n = n} alike = record {
+  frame = λ old new root s touched shown apart same. shows_kept shown (λ q m. same q (outside_of q touched s m (disjoint_sym s touched apart)));
+  free = λ t root s p shown off. free_absent shown (alike (t.entry p) ∙ off);
+  distinct = λ t root s shown. shown.held.distinct;
+  nothing = λ t. shows_nothing t;
+  one = λ t root s u shown other. one_sequence shown other;
+}

@@ -1,5 +1,5 @@
--- How often a place stands in a sequence, in a tree, and around a subtree: distinctness in numbers.
-use Rattle.std.proofs.Common.{◌≡◌, ◌≢◌, ℕ, ◌+◌, ◌≤◌, cond, nat_eq, List, [], ◌∷◌, ◌++◌, refl, arith, inl, inr, eq-eqb, ne_eqb}
+-- Distinctness in numbers: how often a place stands in a sequence, in a tree, and around a subtree.
+use Rattle.std.proofs.Common.{◌≡◌, ◌≢◌, ◌+◌, ◌≤◌, List, [], ◌∷◌, ◌++◌, refl, arith, inl, inr, eq-eqb, ne_eqb}
 use Rattle.ic_unsafe_ref.specs.declared.place.Place.{Place}
 use Rattle.ic_unsafe_ref.specs.Places.{index_of}
 use Rattle.ic_unsafe_ref.proofs.PlaceLemmas.{same_index, same_or_not}
@@ -9,22 +9,7 @@ use Rattle.ic_link_ops.specs.declared.side.Side.TheVariants.{Left, Right}
 use Rattle.ic_link_ops.specs.Sequences.{IsAbsent, IsDistinct}
 use Rattle.ic_link_ops.specs.Trees.{Tree, leaf, fork, in_order}
 use Rattle.ic_link_ops.specs.Frames.{Frame, frame, branch, plug}
-
--- 1 if q is p
-abbrev pub one_at : Place → Place → ℕ
-one_at q p = cond (nat_eq (index_of q) (index_of p)) 1 0
-
-abbrev pub times_in : Place → List Place → ℕ
-times_in q [] = 0
-times_in q (x ∷ s) = one_at q x + times_in q s
-
-abbrev pub times : Place → Tree → ℕ
-times q leaf = 0
-times q (fork c a p b) = times q a + one_at q p + times q b
-
-abbrev pub times_around : Place → List Frame → ℕ
-times_around q [] = 0
-times_around q (frame d c p b ∷ fs) = one_at q p + times q b + times_around q fs
+use Rattle.ic_link_ops.specs.Times.{one_at, times_in, times, times_around}
 
 pub one_at_self : (p : Place) → one_at p p ≡ 1
 one_at_self p = rw (eq-eqb (index_of p) (index_of p) refl) refl

@@ -12,6 +12,16 @@ abbrev pub with_child : Side → Node → Option Place → Node
 with_child Left e x = record e { left = x }
 with_child Right e x = record e { right = x }
 
+-- the other side
+abbrev pub across : Side → Side
+across Left = Right
+across Right = Left
+
+-- the child on a side
+abbrev pub child_on : Side → Node → Option Place
+child_on Left e = e.left
+child_on Right e = e.right
+
 -- the tree with a on this side of p, and b on the other
 abbrev pub branch : Side → Color → Tree → Place → Tree → Tree
 branch Left c a p b = fork c a p b
@@ -33,6 +43,11 @@ plug (f ∷ fs) t = plug fs (put_in f t)
 abbrev pub above : List Frame → Option Place
 above [] = None
 above (frame d c p b ∷ fs) = Some p
+
+-- the root of all, where a subtree with the root o stands below the frames
+abbrev pub topmost : List Frame → Option Place → Option Place
+topmost [] o = o
+topmost (frame d c p b ∷ fs) o = topmost fs (Some p)
 
 -- the members in front of what stands below the frames, in order
 abbrev pub before : List Frame → List Place

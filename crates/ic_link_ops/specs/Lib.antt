@@ -19,6 +19,7 @@ pub mod Trees
 pub mod Shape
 pub mod RedBlackTree
 pub mod Frames
+pub mod Times
 pub mod Words
 pub mod XorLaws
 pub mod TreeWords

@@ -1,7 +1,13 @@
 //! The red-black tree. So far it has what names the keys of objects, and the links.
 #![tactic(auto)]
 
+mod edits;
+mod insertion;
 pub mod key_adapter;
+pub mod laws;
+mod readings;
+mod removal;
+mod writers;
 
 pub use ic_link_ops::Color;
 pub use ic_link_ops::rbtree::{Link, LinkOps, RBTreeOps};

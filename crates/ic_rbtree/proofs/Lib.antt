@@ -1,0 +1,16 @@
+pub mod Branches
+pub mod Pieces
+pub mod Stepping
+pub mod Turning
+pub mod Zipper
+pub mod Shapes
+pub mod Shortening
+pub mod Raising
+pub mod Settling
+pub mod Climbing
+pub mod Taking
+pub mod Removing
+pub mod Easing
+pub mod Attaching
+pub mod Replacing
+pub mod Bound

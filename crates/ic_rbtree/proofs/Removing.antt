@@ -1,0 +1,228 @@
+-- A member is removed: found by the sequence, taken out, and released.
+use Rattle.std.proofs.Common.{◌≡◌, inl, inr, Bool, true, Option, Some, None, List, [], ◌∷◌, ◌++◌, refl, sym, ap, ◌∙◌, subst, arith, append-nil, append_assoc, drop}
+use Rattle.ic_unsafe_ref.specs.declared.place.Place.{Place}
+use Rattle.ic_link_ops.specs.declared.color.Color.{Color}
+use Rattle.ic_link_ops.specs.declared.side.Side.TheVariants.{Right}
+use Rattle.ic_link_ops.specs.Sequences.{Cut, join, first, IsAbsent, IsDistinct}
+use Rattle.ic_link_ops.specs.Tables.{Table, ChangesOnly, IsUnlinked}
+use Rattle.ic_link_ops.specs.Edits.{Removes}
+use Rattle.ic_link_ops.specs.Trees.{Tree, leaf, fork, top, in_order}
+use Rattle.ic_link_ops.specs.Shape.{IsRight}
+use Rattle.ic_link_ops.specs.RedBlackTree.{Node, Shows}
+use Rattle.ic_link_ops.specs.Frames.{Frame, frame, branch, plug, before, after}
+use Rattle.ic_link_ops.proofs.SequenceLemmas.{none_not, some_same}
+use Rattle.ic_link_ops.proofs.Frames.{focus, in_order_parts}
+use Rattle.ic_link_ops.specs.Times.{one_at, times, times_in}
+use Rattle.ic_link_ops.proofs.Times.{one_at_self, apart, times_order, times_distinct, times_absent, absent_times, times_append}
+use Rattle.ic_link_ops.proofs.ShownTrees.{holds_once}
+use Rattle.ic_link_ops.proofs.ShownTrees.{shows_beside}
+use Rattle.ic_rbtree.specs.Pieces.{Piece, loose, Stands, Shown}
+use Rattle.ic_rbtree.specs.Taking.{only, IsLone, both_of, StandsAt, CanTakeOut, TakesOut, CanTakePlace, TakesPlace, IsLeftmost}
+use Rattle.ic_rbtree.proofs.Zipper.{go_down, go_top}
+use Rattle.ic_rbtree.proofs.Shapes.{right_plug}
+use Rattle.ic_rbtree.proofs.Shortening.{shape_open}
+use Rattle.ic_rbtree.proofs.Taking.{order_only}
+
+cancel : (s t u : List Place) → s ++ t ≡ s ++ u → t ≡ u
+cancel [] t u e = e
+cancel (x ∷ s) t u e = let k : s ++ t ≡ s ++ u = cc in cancel s t u k
+
+-- another place with the same color keeps the shape
+pub renamed : (fs : List Frame) (c : Color) (a : Tree) (p q : Place) (b : Tree) → IsRight (plug fs (fork c a p b)) → IsRight (plug fs (fork c a q b))
+renamed fs c a p q b r =
+    let o = shape_open fs (fork c a p b) r in right_plug fs (fork c a q b) o.0 o.1 o.2 o.3 o.4
+
+module _ {E : Type 0} (n : E → Node) where
+  pub go_into : {base v : Table E} (root : Option Place) (fs : List Frame) (t : Tree) (ps : List Piece) → Stands n base v root [] (plug fs t) ps → Stands n base v root fs t ps
+  go_into root [] t ps h = h
+  go_into root (frame d c p b ∷ fs) t ps h = go_down n root d c p b fs t ps (go_into root fs (branch d c t p b) ps h)
+
+  -- FROM THE SEQUENCE to the member
+  pub record Spot (base v : Table E) (root : Option Place) (front : List Place) (p : Place) (back : List Place) (ps : List Piece) : Type 0 where
+    pub fs : List Frame
+    pub c : Color
+    pub a : Tree
+    pub b : Tree
+    pub stands : Stands n base v root fs (fork c a p b) ps
+    pub right : IsRight (plug fs (fork c a p b))
+    pub front_is : before fs ++ in_order a ≡ front
+    pub back_is : in_order b ++ after fs ≡ back
+
+  pub spot : {base v : Table E} {root : Option Place} (front : List Place) (p : Place) (back : List Place) {ps : List Piece} → Shown n base v root (front ++ p ∷ back) ps → Spot base v root front p back ps
+  spot {base} {v} {root} front p back {ps} h =
+      let f = focus h.tree [] front p back h.order in
+      record {
+        fs = f.0;
+        c = f.1;
+        a = f.2;
+        b = f.3;
+        stands = go_into root f.0 (fork f.1 f.2 p f.3) ps (subst (λ (x : Tree). Stands n base v root [] x ps) (sym f.4) h.stands);
+        right = subst (λ (x : Tree). IsRight x) (sym f.4) h.shape;
+        front_is = f.5;
+        back_is = f.6 ∙ append-nil back;
+      }
+
+  module _ {base v : Table E} {root : Option Place} {front : List Place} {p : Place} {back : List Place} {ps : List Piece} (x : Spot base v root front p back ps) where
+    pub spot_linked : (n (v.entry p)).linked ≡ true
+    spot_linked = x.stands.are.1.0.0.linked
+
+    -- at most one child
+    pub lone : (o : Option Place) → o ≡ both_of (n (v.entry p)).left (n (v.entry p)).right → o ≡ None → IsLone x.a x.b
+    lone o eo none =
+        let at = x.stands.are.1.0.0 in
+        pick x.a x.b (sym (ap (λ (y : Option Place). both_of y (top x.b)) at.left) ∙ (sym (ap (λ (y : Option Place). both_of (n (v.entry p)).left y) at.right) ∙ (sym eo ∙ none)))
+      where
+        pick : (a b : Tree) → both_of (top a) (top b) ≡ None → IsLone a b
+        pick leaf b e = inl refl
+        pick (fork c a q b) leaf e = inr refl
+        pick (fork c a q b) (fork k l r m) e = absurd (none_not r (sym e))
+
+    pub lone_can : (o : Option Place) → o ≡ both_of (n (v.entry p)).left (n (v.entry p)).right → o ≡ None → CanTakeOut n v root p
+    lone_can o eo none = (base, x.fs, x.c, x.a, x.b, ps, x.stands, lone o eo none, x.right)
+
+    pub lone_taken : {w : Table E} {new_root : Option Place} (o : Option Place) → o ≡ both_of (n (v.entry p)).left (n (v.entry p)).right → o ≡ None
+        → TakesOut n v w root new_root p → Shown n base w new_root (front ++ back) (loose p ∷ ps)
+    lone_taken {w} {new_root} o eo none taken =
+        let one = lone o eo none in
+        subst (λ (s : List Place). Shown n base w new_root s (loose p ∷ ps)) (parts x.fs x.a x.b one x.front_is x.back_is) (taken base x.fs x.c x.a x.b ps x.stands one x.right)
+      where
+        parts : (fs : List Frame) (a b : Tree) → IsLone a b → before fs ++ in_order a ≡ front → in_order b ++ after fs ≡ back → before fs ++ (in_order (only a b) ++ after fs) ≡ front ++ back
+        parts fs a b one ef eb =
+            ap (λ (z : List Place). before fs ++ (z ++ after fs)) (order_only a b one)
+            ∙ (ap (λ (z : List Place). before fs ++ z) (append_assoc (in_order a) (in_order b) (after fs))
+            ∙ (sym (append_assoc (before fs) (in_order a) (in_order b ++ after fs)) ∙ (ap (λ (z : List Place). z ++ (in_order b ++ after fs)) ef ∙ ap (λ (z : List Place). front ++ z) eb)))
+
+    -- both children: the next member stands leftmost on the right
+    module _ (r : Place) (o : Option Place) (eo : o ≡ both_of (n (v.entry p)).left (n (v.entry p)).right) (is : o ≡ Some r) where
+      right_top : top x.b ≡ Some r
+      right_top =
+          let at = x.stands.are.1.0.0 in
+          sym at.right ∙ pick (n (v.entry p)).left (n (v.entry p)).right (sym eo ∙ is) where
+            pick : (l k : Option Place) → both_of l k ≡ Some r → k ≡ Some r
+            pick None k e = absurd (none_not r e)
+            pick (Some l) k e = e
+
+      right_stands : Stands n base v root (frame Right x.c p x.a ∷ x.fs) x.b ps
+      right_stands = go_down n root Right x.c p x.a x.fs x.b ps x.stands
+
+      pub right_can : StandsAt n v r
+      right_can = (base, root, frame Right x.c p x.a ∷ x.fs, x.b, ps, right_stands, right_top)
+
+      module _ (z : Place) (leftmost : IsLeftmost n v r z) where
+        -- the next member, at its place
+        pub record Next : Type 0 where
+          pub gs : List Frame
+          pub k : Color
+          pub m : Tree
+          pub stands : Stands n base v root gs (fork k leaf z m) ps
+          pub right : IsRight (plug gs (fork k leaf z m))
+          pub behind : back ≡ z ∷ (in_order m ++ after gs)
+          pub order : before gs ++ (in_order m ++ after gs) ≡ front ++ p ∷ (in_order m ++ after gs)
+
+        pub next : Next
+        next =
+            let l = leftmost base root (frame Right x.c p x.a ∷ x.fs) x.b ps right_stands right_top in
+            let rest : List Place = in_order l.2 ++ after l.0 in
+            let start : before l.0 ≡ front ++ p ∷ [] = l.4 ∙ (sym (append_assoc (before x.fs) (in_order x.a) (p ∷ [])) ∙ ap (λ (s : List Place). s ++ p ∷ []) x.front_is) in
+            let glued : (s : List Place) → before l.0 ++ s ≡ front ++ p ∷ s = λ s. ap (λ (t : List Place). t ++ s) start ∙ append_assoc front (p ∷ []) s in
+            let old : in_order (plug x.fs (fork x.c x.a p x.b)) ≡ front ++ p ∷ back =
+            in_order_parts x.fs (fork x.c x.a p x.b) ∙ old_parts (before x.fs) (in_order x.a) (in_order x.b) (after x.fs) x.front_is x.back_is in
+            let new : in_order (plug l.0 (fork l.1 leaf z l.2)) ≡ front ++ p ∷ (z ∷ rest) = in_order_parts l.0 (fork l.1 leaf z l.2) ∙ glued (z ∷ rest) in
+            let same : front ++ p ∷ back ≡ front ++ p ∷ (z ∷ rest) = sym old ∙ (sym (ap in_order l.3) ∙ new) in
+            let tail : p ∷ back ≡ p ∷ (z ∷ rest) = cancel front (p ∷ back) (p ∷ (z ∷ rest)) same in
+            record {
+              gs = l.0;
+              k = l.1;
+              m = l.2;
+              stands = go_into root l.0 (fork l.1 leaf z l.2) ps (subst (λ (t : Tree). Stands n base v root [] t ps) (sym l.3) (go_top n root (frame Right x.c p x.a ∷ x.fs) x.b ps right_stands));
+              right = subst (λ (t : Tree). IsRight t) (sym l.3) x.right;
+              behind = cc;
+              order = glued rest;
+            }
+          where
+            old_parts : (f a b g : List Place) → f ++ a ≡ front → b ++ g ≡ back → f ++ ((a ++ p ∷ b) ++ g) ≡ front ++ p ∷ back
+            old_parts f a b g ef eb =
+                ap (λ (s : List Place). f ++ s) (append_assoc a (p ∷ b) g) ∙ (sym (append_assoc f a (p ∷ (b ++ g))) ∙ (ap (λ (s : List Place). s ++ p ∷ (b ++ g)) ef ∙ ap (λ (s : List Place). front ++ p ∷ s) eb))
+
+        pub next_can : CanTakeOut n v root z
+        next_can = (base, next.gs, next.k, leaf, next.m, ps, next.stands, inl refl, next.right)
+
+        pub next_out : {w : Table E} {new_root : Option Place} → TakesOut n v w root new_root z → Shown n base w new_root (front ++ p ∷ (in_order next.m ++ after next.gs)) (loose z ∷ ps)
+        next_out {w} {new_root} taken =
+            subst (λ (s : List Place). Shown n base w new_root s (loose z ∷ ps)) next.order (taken base next.gs next.k leaf next.m ps next.stands (inl refl) next.right)
+
+        pub place_can : {w : Table E} {new_root : Option Place} → TakesOut n v w root new_root z → CanTakePlace n w new_root p z
+        place_can taken = let y = spot front p (in_order next.m ++ after next.gs) (next_out taken) in (base, y.fs, y.c, y.a, y.b, ps, y.stands)
+
+        pub place_taken : {w u : Table E} {root1 root2 : Option Place} → TakesOut n v w root root1 z → TakesPlace n w u root1 root2 p z → Shown n base u root2 (front ++ back) (loose p ∷ ps)
+        place_taken {w} {u} {root1} {root2} taken swapped =
+            let y = spot front p (in_order next.m ++ after next.gs) (next_out taken) in
+            let st = swapped base y.fs y.c y.a y.b ps y.stands in
+            subst (λ (s : List Place). Shown n base u root2 (front ++ s) (loose p ∷ ps)) (sym next.behind) (record {
+              tree = plug y.fs (fork y.c y.a z y.b);
+              stands = go_top n root2 y.fs (fork y.c y.a z y.b) (loose p ∷ ps) st;
+              order = in_order_parts y.fs (fork y.c y.a z y.b) ∙ put (before y.fs) (in_order y.a) (in_order y.b) (after y.fs) y.front_is y.back_is;
+              shape = renamed y.fs y.c y.a p z y.b y.right;
+            })
+          where
+            put : (f a b g : List Place) → f ++ a ≡ front → b ++ g ≡ in_order next.m ++ after next.gs → f ++ ((a ++ z ∷ b) ++ g) ≡ front ++ z ∷ (in_order next.m ++ after next.gs)
+            put f a b g ef eb =
+                ap (λ (s : List Place). f ++ s) (append_assoc a (z ∷ b) g) ∙ (sym (append_assoc f a (z ∷ (b ++ g))) ∙ (ap (λ (s : List Place). s ++ z ∷ (b ++ g)) ef ∙ ap (λ (s : List Place). front ++ z ∷ s) eb))
+
+  -- INTO THE PIECES, and out of them
+  pub shown_of : {v : Table E} {root : Option Place} {s : List Place} → Shows n v root s → Shown n v v root s []
+  shown_of {v} {root} {s} h = record {
+    tree = h.tree;
+    stands = record {
+      are = ((tt, h.starts), (h.held.entries, tt));
+      once = λ q. omega (arith, holds_once h.held q);
+      beside = λ q none. refl;
+      linked = λ q. refl;
+      extent = refl;
+    };
+    order = h.held.order;
+    shape = h.shape;
+  }
+
+  pub shows_of : {base v : Table E} {root : Option Place} {s : List Place} {ps : List Piece} → Shown n base v root s ps → Shows n v root s
+  shows_of {base} {v} {root} {s} {ps} h = record {
+    tree = h.tree;
+    held = record {
+      order = h.order;
+      distinct = subst (λ (x : List Place). IsDistinct x) h.order (times_distinct (in_order h.tree) (λ q. omega (arith, h.stands.once q, times_order q h.tree)));
+      entries = h.stands.are.1.0;
+    };
+    starts = h.stands.are.0.1;
+    shape = h.shape;
+  }
+
+  -- what is on its own is no member
+  pub loose_absent : {base v : Table E} {root : Option Place} {s : List Place} {p : Place} {ps : List Piece} → Shown n base v root s (loose p ∷ ps) → IsAbsent p s
+  loose_absent {base} {v} {root} {s} {p} {ps} h =
+      subst (λ (x : List Place). IsAbsent p x) h.order (times_absent p (in_order h.tree) (omega (arith, h.stands.once p, one_at_self p, times_order p h.tree)))
+
+  pub front_shown : {v : Table E} {root : Option Place} (gap : Cut) (p : Place) → Shows n v root (join gap) → first gap.back ≡ Some p → (rest : List Place) × (gap.back ≡ p ∷ rest) × Shown n v v root (gap.front ++ p ∷ rest) []
+  front_shown {v} {root} gap p h e =
+      let r = begins gap.back e in (r.0, r.1, subst (λ (x : List Place). Shown n v v root (gap.front ++ x) []) r.1 (shown_of h)) where
+        begins : (s : List Place) → first s ≡ Some p → (rest : List Place) × (s ≡ p ∷ rest)
+        begins [] e = absurd (none_not p e)
+        begins (x ∷ s) e = (s, ap (λ (y : Place). y ∷ s) (some_same e))
+
+  -- THE WHOLE REMOVAL, in the words of edits
+  pub removes : (v w z : Table E) (root new_root : Option Place) (p : Place) (gap : Cut) (rest : List Place)
+      → gap.back ≡ p ∷ rest → Shown n v v root (gap.front ++ p ∷ rest) [] → Shown n v w new_root (gap.front ++ rest) (loose p ∷ [])
+      → ChangesOnly w z p → Removes (Shows n) v z new_root gap
+  removes v w z root new_root p gap rest is old h only = record {
+    shows = subst (λ (s : List Place). Shows n z new_root (gap.front ++ s)) (sym (ap (λ (s : List Place). drop 1 s) is)) (shows_beside (shows_of h) (loose_absent h) only.others);
+    frame = record {
+      extent = only.extent ∙ h.stands.extent;
+      others = λ q out. others q out;
+    };
+  } where
+    others : (q : Place) → IsAbsent q (gap.front ++ gap.back) → z.entry q ≡ v.entry q
+    others q out =
+        let a : times_in q (gap.front ++ (p ∷ rest)) ≡ 0 = absent_times q (gap.front ++ p ∷ rest) (subst (λ (s : List Place). IsAbsent q (gap.front ++ s)) is out) in
+        let b : times_in q (gap.front ++ rest) ≡ 0 = omega (arith, times_append q gap.front (p ∷ rest), times_append q gap.front rest) in
+        let c : times q h.tree ≡ 0 = sym (times_order q h.tree) ∙ (ap (λ (s : List Place). times_in q s) h.order ∙ b) in
+        let d : one_at q p ≡ 0 = omega (arith, times_append q gap.front (p ∷ rest)) in
+        only.others q (apart q p d) ∙ h.stands.beside q (omega arith)

@@ -1,0 +1,66 @@
+-- A member is replaced.
+use Rattle.std.proofs.Common.{◌≡◌, ◌≢◌, Bool, Option, Some, List, [], ◌∷◌, ◌++◌, sym, ap, ◌∙◌, subst, arith, append_assoc, drop}
+use Rattle.ic_unsafe_ref.specs.declared.place.Place.{Place}
+use Rattle.ic_link_ops.specs.Sequences.{Cut, join, first, IsAbsent}
+use Rattle.ic_link_ops.specs.Tables.{Table, ChangesOnly, IsLinked, IsUnlinked}
+use Rattle.ic_link_ops.specs.Edits.{Replaces}
+use Rattle.ic_link_ops.specs.Trees.{fork, in_order}
+use Rattle.ic_link_ops.specs.RedBlackTree.{Node, Shows}
+use Rattle.ic_link_ops.specs.Frames.{plug, before, after}
+use Rattle.ic_link_ops.proofs.Frames.{in_order_parts}
+use Rattle.ic_link_ops.specs.Times.{one_at, times, times_in}
+use Rattle.ic_link_ops.proofs.Times.{one_at_self, one_at_other, apart, times_order, absent_times, times_append}
+use Rattle.ic_link_ops.proofs.ShownTrees.{shows_beside}
+use Rattle.ic_rbtree.specs.Pieces.{Piece, loose, Shown}
+use Rattle.ic_rbtree.specs.Taking.{CanTakePlace, TakesPlace}
+use Rattle.ic_rbtree.proofs.Zipper.{go_top}
+use Rattle.ic_rbtree.proofs.Removing.{Spot, spot, spot_linked, renamed, shows_of, loose_absent, front_shown}
+use Rattle.ic_rbtree.proofs.Attaching.{acquired_shown}
+
+module _ {E : Type 0} (n : E → Node) where
+  pub placed : {base w u : Table E} {root1 root2 : Option Place} {front : List Place} {p : Place} {back : List Place} {ps : List Piece} (z : Place)
+      → Spot n base w root1 front p back (loose z ∷ ps) → TakesPlace n w u root1 root2 p z → Shown n base u root2 (front ++ z ∷ back) (loose p ∷ ps)
+  placed {base} {w} {u} {root1} {root2} {front} {p} {back} {ps} z x swapped = record {
+    tree = plug x.fs (fork x.c x.a z x.b);
+    stands = go_top n root2 x.fs (fork x.c x.a z x.b) (loose p ∷ ps) (swapped base x.fs x.c x.a x.b ps x.stands);
+    order = in_order_parts x.fs (fork x.c x.a z x.b) ∙ put (before x.fs) (in_order x.a) (in_order x.b) (after x.fs) x.front_is x.back_is;
+    shape = renamed x.fs x.c x.a p z x.b x.right;
+  } where
+    put : (f a b g : List Place) → f ++ a ≡ front → b ++ g ≡ back → f ++ ((a ++ z ∷ b) ++ g) ≡ front ++ z ∷ back
+    put f a b g ef eb =
+        ap (λ (s : List Place). f ++ s) (append_assoc a (z ∷ b) g) ∙ (sym (append_assoc f a (z ∷ (b ++ g))) ∙ (ap (λ (s : List Place). s ++ z ∷ (b ++ g)) ef ∙ ap (λ (s : List Place). front ++ z ∷ s) eb))
+
+  -- the member, beside a place that has just been linked
+  pub member_spot : (linked : E → Bool) → ((e : E) → (n e).linked ≡ linked e) → (old v : Table E) (root : Option Place) (gap : Cut) (p new : Place) → Shows n old root (join gap) → first gap.back ≡ Some p
+      → IsUnlinked linked old new → IsLinked linked v new → ChangesOnly old v new → (rest : List Place) × (gap.back ≡ p ∷ rest) × Spot n v v root gap.front p rest (loose new ∷ [])
+  member_spot linked alike old v root gap p new shown e was is only =
+      let f = front_shown n gap p shown e in
+      let s = acquired_shown n linked alike old v root (join gap) new shown was is only in
+      (f.0, f.1, spot n gap.front p f.0 (subst (λ (x : List Place). Shown n v v root (gap.front ++ x) (loose new ∷ [])) f.1 s))
+
+  pub not_same : {base v : Table E} {root : Option Place} {front : List Place} {p new : Place} {back : List Place} {ps : List Piece} → Spot n base v root front p back (loose new ∷ ps) → p ≢ new
+  not_same {base} {v} {root} {front} {p} {new} x = apart p new (omega (arith, x.stands.once p, one_at_self p))
+
+  pub place_ready : {v : Table E} {root : Option Place} {front : List Place} {p new : Place} {back : List Place} → Spot n v v root front p back (loose new ∷ []) → CanTakePlace n v root p new
+  place_ready {v} x = (v, x.fs, x.c, x.a, x.b, [], x.stands)
+
+  pub replaces : (old v w z : Table E) (root new_root : Option Place) (p new : Place) (gap : Cut) (rest : List Place)
+      → gap.back ≡ p ∷ rest → ChangesOnly old v new → Spot n v v root gap.front p rest (loose new ∷ []) → TakesPlace n v w root new_root p new
+      → ChangesOnly w z p → Replaces (Shows n) old z new_root gap new
+  replaces old v w z root new_root p new gap rest is only x swapped only' =
+      let h = placed new x swapped in
+      record {
+        shows = subst (λ (s : List Place). Shows n z new_root (gap.front ++ new ∷ s)) (sym (ap (λ (s : List Place). drop 1 s) is)) (shows_beside (shows_of n h) (loose_absent n h) only'.others);
+        frame = record {
+          extent = only'.extent ∙ (h.stands.extent ∙ only.extent);
+          others = λ q out. others h q out.0 out.1;
+        };
+      }
+    where
+      others : Shown n v w new_root (gap.front ++ new ∷ rest) (loose p ∷ []) → (q : Place) → q ≢ new → IsAbsent q (gap.front ++ gap.back) → z.entry q ≡ old.entry q
+      others h q i out =
+          let a : times_in q (gap.front ++ (p ∷ rest)) ≡ 0 = absent_times q (gap.front ++ p ∷ rest) (subst (λ (s : List Place). IsAbsent q (gap.front ++ s)) is out) in
+          let b : times_in q (gap.front ++ new ∷ rest) ≡ 0 = omega (arith, times_append q gap.front (p ∷ rest), times_append q gap.front (new ∷ rest), one_at_other q new i) in
+          let c : times q h.tree ≡ 0 = sym (times_order q h.tree) ∙ (ap (λ (s : List Place). times_in q s) h.order ∙ b) in
+          let d : one_at q p ≡ 0 = omega (arith, times_append q gap.front (p ∷ rest)) in
+          only'.others q (apart q p d) ∙ (h.stands.beside q (omega arith) ∙ only.others q i)

@@ -1,0 +1,261 @@
+-- A member is taken out, and a place takes another's.
+use Rattle.std.proofs.Common.{◌≡◌, ℕ, suc, ◌+◌, ◌-◌, ◌<◌, length, inl, inr, true, Option, Some, None, List, [], ◌∷◌, ◌++◌, refl, sym, ap, ◌∙◌, subst, arith, append-nil}
+use Rattle.ic_unsafe_ref.specs.declared.place.Place.{Place}
+use Rattle.ic_link_ops.specs.declared.color.Color.{Color}
+use Rattle.ic_link_ops.specs.declared.color.Color.TheVariants.{Red, Black}
+use Rattle.ic_link_ops.specs.declared.side.Side.{Side}
+use Rattle.ic_link_ops.specs.declared.side.Side.TheVariants.{Left, Right}
+use Rattle.ic_link_ops.specs.Tables.{Table, ChangesOnly, IsCovered}
+use Rattle.ic_link_ops.specs.Trees.{Tree, leaf, fork, top, in_order}
+use Rattle.ic_link_ops.specs.Shape.{top_color, weight, blacks, IsEven, NoRedPair, IsRight}
+use Rattle.ic_link_ops.specs.RedBlackTree.{Node, IsTree}
+use Rattle.ic_link_ops.specs.Frames.{Frame, frame, with_child, plug, above, before, after}
+use Rattle.ic_link_ops.proofs.SequenceLemmas.{none_not, some_same}
+use Rattle.ic_link_ops.proofs.Frames.{in_order_parts}
+use Rattle.ic_link_ops.specs.Times.{times, times_around}
+use Rattle.ic_link_ops.proofs.Times.{one_at_self}
+use Rattle.ic_rbtree.specs.Pieces.{Piece, cell, loose, below, around, Stands, Shown}
+use Rattle.ic_rbtree.specs.Steps.{Adopts, Relinks}
+use Rattle.ic_rbtree.specs.Shortage.{EvenAround, PairsAround}
+use Rattle.ic_rbtree.specs.Removal.{IsOn, Short}
+use Rattle.ic_rbtree.specs.Taking.{or_else, only, IsLone, IsGap, Gap, IsSideBelow}
+use Rattle.ic_rbtree.proofs.Branches.{order_plug, side_loose}
+use Rattle.ic_rbtree.proofs.Pieces.{regroup, set_near, set_far, set_up, set_tint}
+use Rattle.ic_rbtree.proofs.Turning.{open_at, close_at, below_linked, around_linked}
+use Rattle.ic_rbtree.proofs.Zipper.{go_top, go_down, painted_top}
+use Rattle.ic_rbtree.proofs.Shapes.{right_plug, red_not_black}
+use Rattle.ic_rbtree.proofs.Shortening.{shape_open}
+use Rattle.ic_rbtree.specs.Climb.{depth}
+use Rattle.ic_rbtree.proofs.Climbing.{side_found, depth_top}
+
+pub top_only : (a b : Tree) → or_else (top a) (top b) ≡ top (only a b)
+top_only leaf b = refl
+top_only (fork c a p b) r = refl
+
+pub order_only : (a b : Tree) → IsLone a b → in_order (only a b) ≡ in_order a ++ in_order b
+order_only leaf b h = refl
+order_only (fork c a p b) r (inl e) = cc
+order_only (fork c a p b) r (inr e) = sym (append-nil (in_order (fork c a p b))) ∙ ap (λ (x : Tree). in_order (fork c a p b) ++ in_order x) (sym e)
+
+top_leaf : (t : Tree) → top t ≡ None → t ≡ leaf
+top_leaf leaf e = refl
+top_leaf (fork c a p b) e = absurd (none_not p (sym e))
+
+pub not_red_black : (c : Color) → (c ≡ Red → ⊥) → c ≡ Black
+not_red_black Red h = absurd (h refl)
+not_red_black Black h = refl
+
+-- what is missing where a member is taken out
+pub gap_open : (c : Color) (fs : List Frame) (a : Tree) (p : Place) (b : Tree) → IsLone a b → IsRight (plug fs (fork c a p b)) → IsGap c fs (only a b)
+gap_open c fs a p b h r = let o = shape_open fs (fork c a p b) r in open_gap a b h o.0 o.1 o.2 o.3 where
+  open_gap : (a b : Tree) → IsLone a b → NoRedPair (fork c a p b) → IsEven (fork c a p b) → PairsAround fs → EvenAround fs (weight c + blacks a) → IsGap c fs (only a b)
+  open_gap leaf b h pairs even pa ea = record {
+    pairs = pairs.2;
+    even = even.2;
+    pairs_around = pa;
+    even_around = subst (λ (k : ℕ). EvenAround fs (weight c + k)) even.0 ea;
+    red = λ e. (pairs.0 e).1;
+    none = sym even.0;
+  }
+  open_gap (fork k l q m) b (inl e) pairs even pa ea = cc
+  open_gap (fork k l q m) b (inr e) pairs even pa ea = record {
+    pairs = pairs.1;
+    even = even.1;
+    pairs_around = pa;
+    even_around = ea;
+    red = λ i. (pairs.0 i).0;
+    none = even.0 ∙ ap blacks e;
+  }
+
+module _ {E : Type 0} (n : E → Node) where
+  pub side_on : (v : Table E) (base : Table E) (root : Option Place) (fs : List Frame) (t : Tree) (ps : List Piece) (q : Place) (parent : Option Place) (d : Side)
+      → Stands n base v root fs t ps → top t ≡ Some q → parent ≡ above fs → IsSideBelow n v q parent d → IsOn d fs
+  side_on v base root [] t ps q parent d h e up is = tt
+  side_on v base root (frame k c p b ∷ fs) t ps q parent d h e up is = side_found n v base root k c p b fs t ps q d h e (is p up)
+
+  -- the ways in which a gap is closed
+  module _ {base v : Table E} {root child parent : Option Place} {d : Side} {s : List Place} (c : Color) (fs : List Frame) (x : Tree) {ps : List Piece} (h : Gap n base v root c child parent d s fs x ps) where
+    pub close_red : c ≡ Red → Shown n base v root s ps
+    close_red e = record {
+      tree = plug fs x;
+      stands = go_top n root fs x ps h.stands;
+      order = h.order;
+      shape = right_plug fs x h.gap.pairs h.gap.even h.gap.pairs_around (let k : weight c + blacks x ≡ blacks x = omega (arith, ap weight e) in subst (λ (m : ℕ). EvenAround fs m) k h.gap.even_around) (λ i. h.gap.red e);
+    }
+
+    pub close_short : c ≡ Black → child ≡ None → Short n base v root parent d s fs x ps
+    close_short e i = record {
+      stands = h.stands;
+      parent_is = h.parent_is;
+      side_is = h.side_is;
+      short = record {
+        black = no_top x (sym h.child_is ∙ i);
+        pairs = h.gap.pairs;
+        even = h.gap.even;
+        pairs_around = h.gap.pairs_around;
+        even_around = subst (λ (k : Color). EvenAround fs (weight k + blacks x)) e h.gap.even_around;
+      };
+      order = h.order;
+    } where
+      no_top : (t : Tree) → top t ≡ None → top_color t ≡ Black
+      no_top leaf e = refl
+      no_top (fork k a p b) e = absurd (none_not p (sym e))
+
+    pub child_linked : (q : Place) → child ≡ Some q → (n (v.entry q)).linked ≡ true
+    child_linked q e = below_linked n v.entry (above fs) x q h.stands.are.1.0 (sym h.child_is ∙ e)
+
+  pub close_black : {base v w : Table E} {root child parent : Option Place} {d : Side} {s : List Place} (c : Color) (fs : List Frame) (x : Tree) {ps : List Piece}
+      → Gap n base v root c child parent d s fs x ps → c ≡ Black → (q : Place) → child ≡ Some q → n (w.entry q) ≡ record (n (v.entry q)) { color = Black } → ChangesOnly v w q
+      → Shown n base w root s ps
+  close_black c fs leaf h e q i set only = absurd (none_not q (sym h.child_is ∙ i))
+  close_black {base} {v} {w} {root} {child} {parent} {d} {s} c fs (fork k a p b) {ps} h e q i set only =
+      let all : Tree = fork Black a p b in
+      let none : blacks a ≡ 0 = omega (arith, h.gap.none) in
+      let old : blacks (fork k a p b) ≡ 0 = h.gap.none in
+      let level : weight c + blacks (fork k a p b) ≡ blacks all = omega (arith, ap weight e, none, old) in
+      record {
+        tree = plug fs all;
+        stands = go_top n root fs all ps (painted_top n root Left k Black Black a p q b fs ps (some_same (sym i ∙ h.child_is)) refl set only h.stands);
+        order = order_plug fs all (fork k a p b) refl ∙ h.order;
+        shape = right_plug fs all (red_not_black, h.gap.pairs.1, h.gap.pairs.2) h.gap.even h.gap.pairs_around (subst (λ (m : ℕ). EvenAround fs m) level h.gap.even_around) (λ r. refl);
+      }
+
+  -- THE WRITES OF TAKING OUT
+  pub taken_out : {base v v1 v2 : Table E} (root new_root child parent : Option Place) (fs : List Frame) (c : Color) (a : Tree) (p : Place) (b : Tree) (ps : List Piece)
+      → Stands n base v root fs (fork c a p b) ps → IsLone a b → child ≡ or_else (n (v.entry p)).left (n (v.entry p)).right → parent ≡ (n (v.entry p)).parent
+      → Adopts n v v1 child parent → Relinks n v1 v2 root new_root parent p child
+      → Stands n base v2 new_root fs (only a b) (loose p ∷ ps) × (child ≡ top (only a b)) × (parent ≡ above fs)
+  taken_out {base} {v} {v1} {v2} root new_root child parent fs c a p b ps s lone ec ep f1 f2 =
+      let h0 = open_at n root fs Left c a p b ps s in
+      let at = h0.are.0 in
+      let child_is : child ≡ top (only a b) = ec ∙ (ap (λ (x : Option Place). or_else x (n (v.entry p)).right) at.left ∙ (ap (λ (x : Option Place). or_else (top a) x) at.right ∙ top_only a b)) in
+      let up : parent ≡ above fs = ep ∙ at.parent in
+      let x : Tree = only a b in
+      let parts = lone_tree a b lone (λ (t : Tree). IsTree n v.entry (Some p) t) h0.are.1.0 h0.are.1.1.0 in
+      let h1 = regroup n (below (Some p) x ∷ loose p ∷ around root fs (Some p) ∷ ps) h0 (λ q. omega (arith, lone_times q a b lone))
+      (parts, (at.linked, h0.are.1.1.1)) in
+      let h2 = f1 base (Some p) (above fs) x (loose p ∷ around root fs (Some p) ∷ ps) child_is up h1 in
+      let h3 = regroup n (around root fs (Some p) ∷ below (above fs) x ∷ loose p ∷ ps) h2 (λ q. omega arith) (h2.are.1.1.0, (h2.are.0, (h2.are.1.0, h2.are.1.1.1))) in
+      let out : times_around p fs ≡ 0 = omega (arith, h3.once p, one_at_self p) in
+      let h4 = f2 base fs (top x) (below (above fs) x ∷ loose p ∷ ps) up child_is out h3 in
+      (h4, child_is, up)
+    where
+      lone_tree : (a b : Tree) → IsLone a b → (P : Tree → Type 0) → P a → P b → P (only a b)
+      lone_tree leaf b h P pa pb = pb
+      lone_tree (fork c a p b) r h P pa pb = pa
+
+      lone_times : (q : Place) (a b : Tree) → IsLone a b → times q (only a b) ≡ times q a + times q b
+      lone_times q leaf b h = omega arith
+      lone_times q (fork c a p b) r (inl e) = cc
+      lone_times q (fork c a p b) r (inr e) = omega (arith, ap (λ (t : Tree). times q t) e)
+
+  pub gap_made : {base v2 : Table E} (root child parent : Option Place) (d : Side) (fs : List Frame) (k c : Color) (a : Tree) (p : Place) (b : Tree) (ps : List Piece)
+      → k ≡ c → Stands n base v2 root fs (only a b) ps → child ≡ top (only a b) → parent ≡ above fs → IsOn d fs → IsLone a b → IsRight (plug fs (fork c a p b))
+      → Gap n base v2 root k child parent d (before fs ++ (in_order (only a b) ++ after fs)) fs (only a b) ps
+  gap_made root child parent d fs k c a p b ps ek s ec ep on lone right = record {
+    stands = s;
+    child_is = ec;
+    parent_is = ep;
+    side_is = on;
+    gap = subst (λ (x : Color). IsGap x fs (only a b)) (sym ek) (gap_open c fs a p b lone right);
+    order = in_order_parts fs (only a b);
+  }
+
+  -- what is read where a member stands
+  pub record Reads (v : Table E) (p : Place) : Type 0 where
+    pub here : (n (v.entry p)).linked ≡ true
+    pub left : (q : Place) → (n (v.entry p)).left ≡ Some q → (n (v.entry q)).linked ≡ true
+    pub right : (q : Place) → (n (v.entry p)).right ≡ Some q → (n (v.entry q)).linked ≡ true
+    pub parent : (q : Place) → (n (v.entry p)).parent ≡ Some q → (n (v.entry q)).linked ≡ true
+
+  pub reads : {base v : Table E} (root : Option Place) (fs : List Frame) (c : Color) (a : Tree) (p : Place) (b : Tree) (ps : List Piece) → Stands n base v root fs (fork c a p b) ps → Reads v p
+  reads {base} {v} root fs c a p b ps h =
+      let at = h.are.1.0.0 in
+      record {
+        here = at.linked;
+        left = λ q e. below_linked n v.entry (Some p) a q h.are.1.0.1 (sym at.left ∙ e);
+        right = λ q e. below_linked n v.entry (Some p) b q h.are.1.0.2 (sym at.right ∙ e);
+        parent = λ q e. around_linked n v.entry fs (Some p) q h.are.0.0 (sym at.parent ∙ e);
+      }
+
+  pub only_linked : {v : Table E} {p : Place} → Reads v p → (q : Place) → or_else (n (v.entry p)).left (n (v.entry p)).right ≡ Some q → (n (v.entry q)).linked ≡ true
+  only_linked {v} {p} r q e = pick (n (v.entry p)).left (n (v.entry p)).right (r.left q) (r.right q) e where
+    pick : (x y : Option Place) → (x ≡ Some q → (n (v.entry q)).linked ≡ true) → (y ≡ Some q → (n (v.entry q)).linked ≡ true) → or_else x y ≡ Some q → (n (v.entry q)).linked ≡ true
+    pick None y hx hy e = hy e
+    pick (Some x) y hx hy e = hx e
+
+  pub reads_color : {base v : Table E} (root : Option Place) (fs : List Frame) (c : Color) (a : Tree) (p : Place) (b : Tree) (ps : List Piece) → Stands n base v root fs (fork c a p b) ps → (n (v.entry p)).color ≡ c
+  reads_color root fs c a p b ps h = h.are.1.0.0.color
+
+  -- THE WRITES OF TAKING A PLACE
+  pub taken_place : (v v1 v2 v3 v4 v5 v6 w : Table E) (root new_root left right parent : Option Place) (color : Color) (p new : Place)
+      → parent ≡ (n (v.entry p)).parent → left ≡ (n (v.entry p)).left → right ≡ (n (v.entry p)).right → color ≡ (n (v.entry p)).color
+      → Relinks n v v1 root new_root parent p (Some new) → Adopts n v1 v2 left (Some new) → Adopts n v2 v3 right (Some new)
+      → n (v4.entry new) ≡ with_child Left (n (v3.entry new)) left → ChangesOnly v3 v4 new
+      → n (v5.entry new) ≡ with_child Right (n (v4.entry new)) right → ChangesOnly v4 v5 new
+      → n (v6.entry new) ≡ record (n (v5.entry new)) { parent = parent } → ChangesOnly v5 v6 new
+      → n (w.entry new) ≡ record (n (v6.entry new)) { color = color } → ChangesOnly v6 w new
+      → (base : Table E) (fs : List Frame) (c : Color) (a b : Tree) (ps : List Piece)
+      → Stands n base v root fs (fork c a p b) (loose new ∷ ps) → Stands n base w new_root fs (fork c a new b) (loose p ∷ ps)
+  taken_place v v1 v2 v3 v4 v5 v6 w root new_root left right parent color p new up el er ec f1 f2 f3 set4 only4 set5 only5 set6 only6 set7 only7 base fs c a b ps s =
+      let h0 = open_at n root fs Left c a p b (loose new ∷ ps) s in
+      let at = h0.are.0 in
+      let eu : parent ≡ above fs = up ∙ at.parent in
+      let ea : left ≡ top a = el ∙ at.left in
+      let eb : right ≡ top b = er ∙ at.right in
+      let et : color ≡ c = ec ∙ at.color in
+      let h1' = regroup n (around root fs (Some p) ∷ below (Some p) a ∷ below (Some p) b ∷ loose p ∷ loose new ∷ ps) h0 (λ q. omega arith)
+      (h0.are.1.1.1.0, (h0.are.1.0, (h0.are.1.1.0, (at.linked, h0.are.1.1.1.1)))) in
+      let out : times_around p fs ≡ 0 = omega (arith, h1'.once p, one_at_self p) in
+      let h1 = f1 base fs (Some new) (below (Some p) a ∷ below (Some p) b ∷ loose p ∷ loose new ∷ ps) eu refl out h1' in
+      let R : Piece = around new_root fs (Some new) in
+      let h2' = regroup n (below (Some p) a ∷ R ∷ below (Some p) b ∷ loose p ∷ loose new ∷ ps) h1 (λ q. omega arith) (h1.are.1.0, (h1.are.0, h1.are.1.1)) in
+      let h2 = f2 base (Some p) (Some new) a (R ∷ below (Some p) b ∷ loose p ∷ loose new ∷ ps) ea refl h2' in
+      let A : Piece = below (Some new) a in
+      let h3' = regroup n (below (Some p) b ∷ A ∷ R ∷ loose p ∷ loose new ∷ ps) h2 (λ q. omega arith) (h2.are.1.1.0, (h2.are.0, (h2.are.1.0, h2.are.1.1.1))) in
+      let h3 = f3 base (Some p) (Some new) b (A ∷ R ∷ loose p ∷ loose new ∷ ps) eb refl h3' in
+      let B : Piece = below (Some new) b in
+      let rest : List Piece = A ∷ B ∷ R ∷ loose p ∷ ps in
+      let e : Node = n (v3.entry new) in
+      let h4' = regroup n (cell Left new e.color e.left e.right e.parent ∷ rest) h3 (λ q. omega arith)
+      (side_loose n v3.entry new h3.are.1.1.1.1.0, (h3.are.1.0, (h3.are.0, (h3.are.1.1.0, (h3.are.1.1.1.0, h3.are.1.1.1.1.1))))) in
+      let h4 = set_near n Left new e.color e.left e.right e.parent rest h4' new Left left (top a) refl refl ea set4 only4 in
+      let h5 = set_far n Left new e.color (top a) e.right e.parent rest h4 new Right right (top b) refl refl eb set5 only5 in
+      let h6 = set_up n Left new e.color (top a) (top b) e.parent rest h5 new parent (above fs) refl eu set6 only6 in
+      let h7 = set_tint n Left new e.color (top a) (top b) (above fs) rest h6 new color c refl et set7 only7 in
+      close_at n new_root (top a) (top b) fs Left c a new b (loose p ∷ ps) refl refl h7
+
+  -- A DESCENT to the left
+  pub record Down (base v : Table E) (root : Option Place) (p : Place) (fs : List Frame) (t : Tree) (ps : List Piece) (gs : List Frame) (u : Tree) : Type 0 where
+    pub stands : Stands n base v root gs u ps
+    pub top_is : top u ≡ Some p
+    pub same : plug gs u ≡ plug fs t
+    pub front : before gs ≡ before fs
+
+  pub down_reads : {base v : Table E} (root : Option Place) (fs : List Frame) (t : Tree) (ps : List Piece) (p : Place) → Stands n base v root fs t ps → top t ≡ Some p → Reads v p
+  down_reads root fs leaf ps p h e = absurd (none_not p e)
+  down_reads {base} {v} root fs (fork c a q b) ps p h e = subst (λ (z : Place). Reads v z) (some_same e) (reads root fs c a q b ps h)
+
+  module _ {v : Table E} {p q : Place} (is : (n (v.entry p)).left ≡ Some q) where
+    pub step_down : {base : Table E} {root : Option Place} (fs : List Frame) (t : Tree) {ps : List Piece} (gs : List Frame) (u : Tree) → Down base v root p fs t ps gs u
+        → (gs' : List Frame) × (u' : Tree) × Down base v root q fs t ps gs' u' × (length gs' ≡ suc (length gs))
+    step_down fs t gs leaf h = absurd (none_not p h.top_is)
+    step_down {base} {root} fs t {ps} gs (fork c a r b) h =
+        let l : (n (v.entry p)).left ≡ top a = subst (λ (z : Place). (n (v.entry z)).left ≡ top a) (some_same h.top_is) h.stands.are.1.0.0.left in
+        (frame Left c r b ∷ gs, a, record { stands = go_down n root Left c r b gs a ps h.stands; top_is = sym l ∙ is; same = h.same; front = h.front }, refl)
+
+    pub down_falls : (law : (x : Place) → (n (v.entry x)).linked ≡ true → IsCovered v x) → {base : Table E} {root : Option Place} (gs : List Frame) (u : Tree) {ps : List Piece}
+        → Stands n base v root gs u ps → top u ≡ Some p → v.extent.places - depth n v (Some q) < v.extent.places - depth n v (Some p)
+    down_falls law {base} {root} gs u {ps} s e =
+        let d = step_down gs u gs u (record { stands = s; top_is = e; same = refl; front = refl }) in
+        let old = depth_top n law root gs u ps p s e in
+        let new = depth_top n law root d.0 d.1 ps q d.2.stands d.2.top_is in
+        omega (arith, old.0, old.1, new.0, new.1, d.3)
+
+  pub down_ends : {base v : Table E} {root : Option Place} {p : Place} (fs : List Frame) (t : Tree) {ps : List Piece} (gs : List Frame) (u : Tree) → Down base v root p fs t ps gs u
+      → (n (v.entry p)).left ≡ None → (hs : List Frame) × (c : Color) × (b : Tree) × (plug hs (fork c leaf p b) ≡ plug fs t) × (before hs ≡ before fs)
+  down_ends {p = p} fs t gs leaf h e = absurd (none_not p h.top_is)
+  down_ends {base} {v} {root} {p} fs t {ps} gs (fork c a r b) h e =
+      let l : (n (v.entry p)).left ≡ top a = subst (λ (z : Place). (n (v.entry z)).left ≡ top a) (some_same h.top_is) h.stands.are.1.0.0.left in
+      let none : a ≡ leaf = top_leaf a (sym l ∙ e) in
+      (gs, c, b, sym (ap (λ (x : Tree). plug gs (fork c x p b)) none) ∙ (sym (ap (λ (x : Place). plug gs (fork c a x b)) (some_same h.top_is)) ∙ h.same), h.front)

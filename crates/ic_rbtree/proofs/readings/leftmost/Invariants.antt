@@ -1,0 +1,23 @@
+use Rattle.std.proofs.Common.{◌≡◌, ◌-◌, List, Option, Some}
+use Rattle.ic_unsafe_ref.specs.declared.place.Place.{Place}
+use Rattle.ic_link_ops.specs.Tables.{Table}
+use Rattle.ic_link_ops.specs.Trees.{Tree, top}
+use Rattle.ic_link_ops.specs.Frames.{Frame}
+use Rattle.ic_rbtree.specs.Climb.{depth}
+use Rattle.ic_rbtree.specs.Pieces.{Piece, Stands}
+use Rattle.ic_rbtree.specs.Taking.{StandsAt}
+use Rattle.ic_rbtree.proofs.Taking.{Down}
+use Rattle.ic_rbtree.proofs.readings.leftmost.Given as goal
+
+abbrev pub invariant-loop-left : goal.invariant-loop-left
+invariant-loop-left g l =
+    let n = g.L.RBTreeOps.node in
+    let v = g.L.LinkOps.table l.links in
+    record {
+      some : StandsAt n v l.place;
+      each : (base : Table g.row.L-Entry.Denot) (root : Option Place) (fs : List Frame) (t : Tree) (ps : List Piece) → Stands n base v root fs t ps → top t ≡ Some l.fn.place
+          → (gs : List Frame) × (u : Tree) × Down n base v root l.place fs t ps gs u;
+    }
+
+abbrev pub decreases-loop-left : goal.decreases-loop-left
+decreases-loop-left g l = let v = g.L.LinkOps.table l.links in v.extent.places - depth g.L.RBTreeOps.node v (Some l.place)

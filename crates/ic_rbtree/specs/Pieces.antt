@@ -1,0 +1,65 @@
+-- A table in pieces that share no place: members on their own, trees, and what stands around a subtree.
+use Rattle.std.specs.Prelude.{◌≡◌, ℕ, ◌+◌, ◌≤◌, true, Option, Some, List, [], ◌∷◌}
+use Rattle.ic_unsafe_ref.specs.declared.place.Place.{Place}
+use Rattle.ic_link_ops.specs.declared.color.Color.{Color}
+use Rattle.ic_link_ops.specs.declared.side.Side.{Side}
+use Rattle.ic_link_ops.specs.declared.side.Side.TheVariants.{Left, Right}
+use Rattle.ic_link_ops.specs.Tables.{Table}
+use Rattle.ic_link_ops.specs.Trees.{Tree, top, in_order}
+use Rattle.ic_link_ops.specs.Shape.{IsRight}
+use Rattle.ic_link_ops.specs.RedBlackTree.{Node, IsTree}
+use Rattle.ic_link_ops.specs.Frames.{Frame, above, topmost, IsAtSide, IsAround}
+use Rattle.ic_link_ops.specs.Times.{one_at, times, times_around}
+
+-- one piece of a table
+pub data Piece : Type 0 where
+  -- a linked place: a side, the place, its color, its child on that side, the other child, its parent
+  cell : Side → Place → Color → Option Place → Option Place → Option Place → Piece
+  -- a linked place, whatever it reads
+  loose : Place → Piece
+  -- a tree, below the parent of its root
+  below : Option Place → Tree → Piece
+  -- the root of all, and what stands around a subtree with this root
+  around : Option Place → List Frame → Option Place → Piece
+
+-- how often a place stands there
+abbrev pub times_piece : Place → Piece → ℕ
+times_piece q (cell d p c near far up) = one_at q p
+times_piece q (loose p) = one_at q p
+times_piece q (below up t) = times q t
+times_piece q (around root fs o) = times_around q fs
+
+abbrev pub times_all : Place → List Piece → ℕ
+times_all q [] = 0
+times_all q (x ∷ ps) = times_piece q x + times_all q ps
+
+module _ {E : Type 0} (n : E → Node) where
+  -- the entries are those of this piece
+  abbrev pub IsPiece : (Place → E) → Piece → Type 0
+  IsPiece entry (cell d p c near far up) = IsAtSide n entry d p c near far up
+  IsPiece entry (loose p) = (n (entry p)).linked ≡ true
+  IsPiece entry (below up t) = IsTree n entry up t
+  IsPiece entry (around root fs o) = IsAround n entry fs o × (root ≡ topmost fs o)
+
+  abbrev pub ArePieces : (Place → E) → List Piece → Type 0
+  ArePieces entry [] = Unit {0}
+  ArePieces entry (x ∷ ps) = IsPiece entry x × ArePieces entry ps
+
+  -- THE TABLE v IS IN THESE PIECES, and has come from `base` by changes of entries of their members alone
+  pub record Held (base v : Table E) (ps : List Piece) : Type 0 where
+    pub are : ArePieces v.entry ps
+    pub once : (q : Place) → times_all q ps ≤ 1
+    pub beside : (q : Place) → times_all q ps ≡ 0 → v.entry q ≡ base.entry q
+    pub linked : (q : Place) → (n (v.entry q)).linked ≡ (n (base.entry q)).linked
+    pub extent : v.extent ≡ base.extent
+
+  -- the tree t stands below these frames, beside the pieces ps
+  abbrev pub Stands : Table E → Table E → Option Place → List Frame → Tree → List Piece → Type 0
+  Stands base v root fs t ps = Held base v (around root fs (top t) ∷ below (above fs) t ∷ ps)
+
+  -- a tree of the right shape with the in-order list s stands there
+  pub record Shown (base v : Table E) (root : Option Place) (s : List Place) (ps : List Piece) : Type 0 where
+    pub tree : Tree
+    pub stands : Stands base v root [] tree ps
+    pub order : in_order tree ≡ s
+    pub shape : IsRight tree

@@ -1,0 +1,47 @@
+-- What the writers of children and parents do.
+use Rattle.std.specs.Prelude.{◌≡◌, Option, Some, List, ◌∷◌}
+use Rattle.ic_unsafe_ref.specs.declared.place.Place.{Place}
+use Rattle.ic_link_ops.specs.declared.color.Color.{Color}
+use Rattle.ic_link_ops.specs.declared.side.Side.{Side}
+use Rattle.ic_link_ops.specs.declared.side.Side.TheVariants.{Left, Right}
+use Rattle.ic_link_ops.specs.Tables.{Table}
+use Rattle.ic_link_ops.specs.Trees.{Tree, top}
+use Rattle.ic_link_ops.specs.LinkSteps.{LinkStep}
+use Rattle.ic_link_ops.specs.RedBlackTree.{Node}
+use Rattle.ic_link_ops.specs.Frames.{Frame, branch, above}
+use Rattle.ic_link_ops.specs.Times.{times_around}
+use Rattle.ic_rbtree.specs.Pieces.{Piece, below, around, Held, Stands}
+
+-- whatever steps led to the old state lead to the new one: no step was taken in between
+abbrev pub TakesNoStep : {L : Type 0} → (L → L → List LinkStep → Type 0) → L → L → Type 0
+TakesNoStep {L} Does old new = (start : L) (s : List LinkStep) → Does start old s → Does start new s
+
+module _ {E : Type 0} (n : E → Node) where
+  -- the side of its parent on which a place stands
+  abbrev pub IsSideOf : Table E → Place → Place → Side → Type 0
+  IsSideOf v p parent Left = (n (v.entry parent)).left ≡ Some p
+  IsSideOf v p parent Right = (n (v.entry parent)).left ≡ Some p → ⊥
+
+  -- a tree with the root `child` stands below `parent` now
+  abbrev pub Adopts : Table E → Table E → Option Place → Option Place → Type 0
+  Adopts v w child parent =
+      (base : Table E) (up x : Option Place) (t : Tree) (ps : List Piece) → child ≡ top t → parent ≡ x
+      → Held n base v (below up t ∷ ps) → Held n base w (below x t ∷ ps)
+
+  -- `to` hangs where `was` hung below `parent`
+  abbrev pub Relinks : Table E → Table E → Option Place → Option Place → Option Place → Place → Option Place → Type 0
+  Relinks v w old_root new_root parent was to =
+      (base : Table E) (fs : List Frame) (x : Option Place) (ps : List Piece) → parent ≡ above fs → to ≡ x
+      → times_around was fs ≡ 0 → Held n base v (around old_root fs (Some was) ∷ ps) → Held n base w (around new_root fs x ∷ ps)
+
+  -- the place goes down on this side, and its child on the other side comes up
+  abbrev pub Rotates : Table E → Table E → Option Place → Option Place → Place → Side → Type 0
+  Rotates v w old_root new_root p d =
+      (base : Table E) (fs : List Frame) (c : Color) (a : Tree) (k : Color) (b : Tree) (y : Place) (e : Tree) (ps : List Piece)
+      → Stands n base v old_root fs (branch d c a p (branch d k b y e)) ps
+      → Stands n base w new_root fs (branch d k (branch d c a p b) y e) ps
+
+  abbrev pub CanRotate : Table E → Option Place → Place → Side → Type 0
+  CanRotate v root p d =
+      (base : Table E) × (fs : List Frame) × (c : Color) × (a : Tree) × (k : Color) × (b : Tree) × (y : Place) × (e : Tree) × (ps : List Piece)
+      × Stands n base v root fs (branch d c a p (branch d k b y e)) ps

@@ -1,0 +1,105 @@
+-- What it is to take a member out, and to put a place in place of a member.
+use Rattle.std.specs.Prelude.{◌≡◌, ◌+◌, ◌⊎◌, Option, Some, None, List, ◌∷◌, ◌++◌}
+use Rattle.ic_unsafe_ref.specs.declared.place.Place.{Place}
+use Rattle.ic_link_ops.specs.declared.color.Color.{Color}
+use Rattle.ic_link_ops.specs.declared.color.Color.TheVariants.{Red, Black}
+use Rattle.ic_link_ops.specs.declared.side.Side.{Side}
+use Rattle.ic_link_ops.specs.Tables.{Table}
+use Rattle.ic_link_ops.specs.Trees.{Tree, leaf, fork, top, in_order}
+use Rattle.ic_link_ops.specs.Shape.{top_color, weight, blacks, IsEven, NoRedPair, IsRight}
+use Rattle.ic_link_ops.specs.RedBlackTree.{Node}
+use Rattle.ic_link_ops.specs.Frames.{Frame, plug, above, before, after}
+use Rattle.ic_rbtree.specs.Pieces.{Piece, loose, Stands, Shown}
+use Rattle.ic_rbtree.specs.Shortage.{EvenAround, PairsAround}
+use Rattle.ic_rbtree.specs.Removal.{IsOn}
+use Rattle.ic_rbtree.specs.Steps.{IsSideOf}
+
+-- the first of two that is there
+abbrev pub or_else : Option Place → Option Place → Option Place
+or_else None b = b
+or_else (Some x) b = Some x
+
+-- the subtree of a member that has one at most
+abbrev pub only : Tree → Tree → Tree
+only leaf b = b
+only (fork c a p b) r = fork c a p b
+
+abbrev pub IsLone : Tree → Tree → Type 0
+IsLone a b = (a ≡ leaf) ⊎ (b ≡ leaf)
+
+-- all is right, but that a member with this color is missing between the frames and its only subtree x
+pub record IsGap (c : Color) (fs : List Frame) (x : Tree) : Type 0 where
+  pub pairs : NoRedPair x
+  pub even : IsEven x
+  pub pairs_around : PairsAround fs
+  pub even_around : EvenAround fs (weight c + blacks x)
+  pub red : c ≡ Red → top_color x ≡ Black
+  pub none : blacks x ≡ 0
+
+module _ {E : Type 0} (n : E → Node) where
+  abbrev pub IsSideBelow : Table E → Place → Option Place → Side → Type 0
+  IsSideBelow v p parent d = (q : Place) → parent ≡ Some q → IsSideOf n v p q d
+
+  pub record Gap (base v : Table E) (root : Option Place) (c : Color) (child parent : Option Place) (d : Side) (s : List Place) (fs : List Frame) (x : Tree) (ps : List Piece) : Type 0 where
+    pub stands : Stands n base v root fs x ps
+    pub child_is : child ≡ top x
+    pub parent_is : parent ≡ above fs
+    pub side_is : IsOn d fs
+    pub gap : IsGap c fs x
+    pub order : in_order (plug fs x) ≡ s
+
+  abbrev pub CanClose : Table E → Option Place → Color → Option Place → Option Place → Side → Type 0
+  CanClose v root c child parent d =
+      (base : Table E) × (s : List Place) × (fs : List Frame) × (x : Tree) × (ps : List Piece) × Gap base v root c child parent d s fs x ps
+
+  abbrev pub Closes : Table E → Table E → Option Place → Option Place → Color → Option Place → Option Place → Side → Type 0
+  Closes v w root new_root c child parent d =
+      (base : Table E) (s : List Place) (fs : List Frame) (x : Tree) (ps : List Piece) → Gap base v root c child parent d s fs x ps → Shown n base w new_root s ps
+
+  abbrev pub CanTakeOut : Table E → Option Place → Place → Type 0
+  CanTakeOut v root p =
+      (base : Table E) × (fs : List Frame) × (c : Color) × (a : Tree) × (b : Tree) × (ps : List Piece)
+      × Stands n base v root fs (fork c a p b) ps × IsLone a b × IsRight (plug fs (fork c a p b))
+
+  -- a member with one child at most is taken out: the tree is right without it, and it is on its own
+  abbrev pub TakesOut : Table E → Table E → Option Place → Option Place → Place → Type 0
+  TakesOut v w root new_root p =
+      (base : Table E) (fs : List Frame) (c : Color) (a : Tree) (b : Tree) (ps : List Piece)
+      → Stands n base v root fs (fork c a p b) ps → IsLone a b → IsRight (plug fs (fork c a p b))
+      → Shown n base w new_root (before fs ++ (in_order (only a b) ++ after fs)) (loose p ∷ ps)
+
+  abbrev pub CanTakePlace : Table E → Option Place → Place → Place → Type 0
+  CanTakePlace v root p new =
+      (base : Table E) × (fs : List Frame) × (c : Color) × (a : Tree) × (b : Tree) × (ps : List Piece)
+      × Stands n base v root fs (fork c a p b) (loose new ∷ ps)
+
+  -- IN PLACE OF a member stands `new`, in its color, and the member is on its own
+  abbrev pub TakesPlace : Table E → Table E → Option Place → Option Place → Place → Place → Type 0
+  TakesPlace v w root new_root p new =
+      (base : Table E) (fs : List Frame) (c : Color) (a : Tree) (b : Tree) (ps : List Piece)
+      → Stands n base v root fs (fork c a p b) (loose new ∷ ps) → Stands n base w new_root fs (fork c a new b) (loose p ∷ ps)
+
+  abbrev pub StandsAt : Table E → Place → Type 0
+  StandsAt v p = (base : Table E) × (root : Option Place) × (fs : List Frame) × (t : Tree) × (ps : List Piece) × Stands n base v root fs t ps × (top t ≡ Some p)
+
+  -- y is the leftmost member at or below p
+  abbrev pub IsLeftmost : Table E → Place → Place → Type 0
+  IsLeftmost v p y =
+      (base : Table E) (root : Option Place) (fs : List Frame) (t : Tree) (ps : List Piece) → Stands n base v root fs t ps → top t ≡ Some p
+      → (gs : List Frame) × (c : Color) × (b : Tree) × (plug gs (fork c leaf y b) ≡ plug fs t) × (before gs ≡ before fs)
+
+-- the second of two, if both are there
+abbrev pub both_of : Option Place → Option Place → Option Place
+both_of None b = None
+both_of (Some x) b = b
+
+module _ {E : Type 0} (n : E → Node) where
+  abbrev pub CanUnlink : Table E → Option Place → Place → Type 0
+  CanUnlink v root p =
+      (base : Table E) × (front : List Place) × (back : List Place) × (ps : List Piece) × Shown n base v root (front ++ p ∷ back) ps
+
+  -- a member is taken out of the sequence, and is on its own
+  abbrev pub TakesAway : Table E → Table E → Option Place → Option Place → Place → Type 0
+  TakesAway v w root new_root p =
+      (base : Table E) (front : List Place) (back : List Place) (ps : List Piece)
+      → Shown n base v root (front ++ p ∷ back) ps → Shown n base w new_root (front ++ back) (loose p ∷ ps)

@@ -1,0 +1,150 @@
+//! What the members of a tree tell of where they stand, by sides.
+
+ghost use Rattle.std.specs.Prelude.{◌≡◌, Some};
+ghost use Rattle.ic_unsafe_ref.specs.declared.place.Place.{Place};
+ghost use Rattle.ic_link_ops.specs.Tables.{IsLinked};
+ghost use Rattle.ic_link_ops.specs.Walk.{is_end};
+ghost use Rattle.ic_link_ops.specs.RedBlackTree.{node_at};
+ghost use Rattle.ic_link_ops.specs.Frames.{across, child_on};
+ghost use Rattle.ic_rbtree.specs.Removal.{red_at, red_below, AreRead};
+ghost use Rattle.ic_rbtree.specs.Taking.{or_else, IsSideBelow, StandsAt, IsLeftmost, both_of};
+ghost use Rattle.ic_rbtree.specs.Insertion.{color_below, are_across};
+ghost use Rattle.ic_rbtree.specs.Steps.{IsSideOf};
+
+use ic_link_ops::rbtree::RBTreeOps;
+use ic_link_ops::{Color, Side};
+use ic_unsafe_ref::Place;
+
+pub(crate) fn other(side: Side) -> Side
+    ensures { result ≡ across side }
+{
+    match side {
+        Side::Left => Side::Right,
+        Side::Right => Side::Left,
+    }
+}
+
+pub(crate) fn child<L: RBTreeOps>(links: &L, place: Place, side: Side) -> Option<Place>
+    requires { IsLinked L.linked (L.table links.now) place }
+    ensures { result ≡ child_on side (node_at L.node (L.table links.now) place) }
+{
+    match side {
+        Side::Left => links.left(place),
+        Side::Right => links.right(place),
+    }
+}
+
+// Whether `end` is `place`.
+pub(crate) fn is_at(end: Option<Place>, place: Place) -> bool
+    ensures { result ≡ is_end end place }
+{
+    match end {
+        None => false,
+        Some(end) => end == place,
+    }
+}
+
+pub(crate) fn is_red<L: RBTreeOps>(links: &L, place: Option<Place>) -> bool
+    requires { (q : Place) → place ≡ Some q → IsLinked L.linked (L.table links.now) q }
+    ensures { result ≡ red_at L.node (L.table links.now) place }
+{
+    match place {
+        None => false,
+        Some(place) => match links.color(place) {
+            Color::Red => true,
+            Color::Black => false,
+        },
+    }
+}
+
+pub(crate) fn has_red_child<L: RBTreeOps>(links: &L, place: Place) -> bool
+    requires { AreRead L.node (L.table links.now) place }
+    ensures { result ≡ red_below L.node (L.table links.now) place }
+{
+    is_red(links, links.left(place)) || is_red(links, links.right(place))
+}
+
+// The left child, or else the right one.
+pub(crate) fn only_child<L: RBTreeOps>(links: &L, place: Place) -> Option<Place>
+    requires { IsLinked L.linked (L.table links.now) place }
+    ensures { result ≡ or_else (node_at L.node (L.table links.now) place).left
+        (node_at L.node (L.table links.now) place).right }
+{
+    match links.left(place) {
+        Some(left) => Some(left),
+        None => links.right(place),
+    }
+}
+
+/// On which side of its parent a member stands.
+pub(crate) fn side_of<L: RBTreeOps>(links: &L, place: Place, parent: Place) -> Side
+    requires { IsLinked L.linked (L.table links.now) parent }
+    ensures { IsSideOf L.node (L.table links.now) place parent result }
+{
+    if is_at(links.left(parent), place) {
+        Side::Left
+    } else {
+        Side::Right
+    }
+}
+
+pub(crate) fn side_below<L: RBTreeOps>(links: &L, place: Place, parent: Option<Place>) -> Side
+    requires { (q : Place) → parent ≡ Some q → IsLinked L.linked (L.table links.now) q }
+    ensures { IsSideBelow L.node (L.table links.now) place parent result }
+{
+    match parent {
+        Some(parent) => side_of(links, place, parent),
+        None => Side::Left,
+    }
+}
+
+// The right child of a member that has both.
+pub(crate) fn second_child<L: RBTreeOps>(links: &L, place: Place) -> Option<Place>
+    requires { IsLinked L.linked (L.table links.now) place }
+    ensures { result ≡ both_of (node_at L.node (L.table links.now) place).left
+        (node_at L.node (L.table links.now) place).right }
+{
+    match links.left(place) {
+        Some(_) => links.right(place),
+        None => None,
+    }
+}
+
+// Red below a parent, and black at the root.
+pub(crate) fn color_here<L: RBTreeOps>(links: &L, place: Place) -> Color
+    requires { IsLinked L.linked (L.table links.now) place }
+    ensures { result ≡ color_below (node_at L.node (L.table links.now) place).parent }
+{
+    match links.parent(place) {
+        Some(_) => Color::Red,
+        None => Color::Black,
+    }
+}
+
+// Whether two sides are across.
+pub(crate) fn is_across(one: Side, other: Side) -> bool
+    ensures { result ≡ are_across one other }
+{
+    match one {
+        Side::Left => match other {
+            Side::Left => false,
+            Side::Right => true,
+        },
+        Side::Right => match other {
+            Side::Left => true,
+            Side::Right => false,
+        },
+    }
+}
+
+/// The leftmost member at or below a place.
+pub(crate) fn leftmost<L: RBTreeOps>(links: &L, place: Place) -> Place
+    requires { StandsAt L.node (L.table links.now) place }
+    ensures { IsLeftmost L.node (L.table links.now) place result }
+{
+    let mut place = place;
+    while let Some(left) = links.left(place) {
+        place = left;
+    }
+    place
+}
