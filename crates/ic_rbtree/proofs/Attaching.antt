@@ -61,7 +61,7 @@ module _ {E : Type 0} (n : E → Node) where
   hole {base} {v} {root} parent q d gap {ps} is h at' = at_side d (subst (λ (o : Option Place). IsHole n v o d gap) is at') where
     at_side : (d : Side) → IsHole n v (Some q) d gap → Hole base v root d q gap.front gap.back ps
     at_side Left at =
-        let r = begins gap.back q at.1 in
+        let r = begins gap.back q (sym at.1) in
         let x = spot n gap.front q r.0 (subst (λ (s : List Place). Shown n base v root (gap.front ++ s) ps) r.1 h) in
         let none : x.a ≡ leaf = no_tree x.a (sym x.stands.are.1.0.0.left ∙ at.0) in
         record {
@@ -74,7 +74,7 @@ module _ {E : Type 0} (n : E → Node) where
           back_is = ap (λ (s : List Place). q ∷ s) x.back_is ∙ sym r.1;
         }
     at_side Right at =
-        let r = ends None gap.front q at.1 (none_not q) in
+        let r = ends None gap.front q (sym at.1) (none_not q) in
         let both : gap.front ++ gap.back ≡ r.0 ++ q ∷ gap.back = ap (λ (s : List Place). s ++ gap.back) r.1 ∙ append_assoc r.0 (q ∷ []) gap.back in
         let x = spot n r.0 q gap.back (subst (λ (s : List Place). Shown n base v root s ps) both h) in
         let none : x.b ≡ leaf = no_tree x.b (sym x.stands.are.1.0.0.right ∙ at.0) in
@@ -201,8 +201,4 @@ module _ {E : Type 0} (n : E → Node) where
   hole_kept linked alike old v root (Some q) d gap p h was only at =
       let l = hole_linked (hole (Some q) q d gap refl (shown_of n h) at) in
       let other : q ≢ p = λ e. let m : true ≡ false = sym l ∙ (alike (old.entry q) ∙ (ap (λ (z : Place). linked (old.entry z)) e ∙ was)) in cc in
-      moved d at (only.others q other)
-    where
-      moved : (d : Side) → IsHole n old (Some q) d gap → v.entry q ≡ old.entry q → IsHole n v (Some q) d gap
-      moved Left at same = (ap (λ (e : E). (n e).left) same ∙ at.0, at.1)
-      moved Right at same = (ap (λ (e : E). (n e).right) same ∙ at.0, at.1)
+      (ap (λ (e : E). child_on d (n e)) (only.others q other) ∙ at.0, at.1)

@@ -9,6 +9,8 @@ pub mod Raising
 pub mod Settling
 pub mod Climbing
 pub mod Taking
+pub mod Nearest
+pub mod Descending
 pub mod Removing
 pub mod Easing
 pub mod Attaching

@@ -1,10 +1,10 @@
 -- A member is removed: found by the sequence, taken out, and released.
-use Rattle.std.proofs.Common.{◌≡◌, inl, inr, Bool, true, Option, Some, None, List, [], ◌∷◌, ◌++◌, refl, sym, ap, ◌∙◌, subst, arith, append-nil, append_assoc, drop}
+use Rattle.std.proofs.Common.{◌≡◌, inl, inr, true, Option, Some, None, List, [], ◌∷◌, ◌++◌, refl, sym, ap, ◌∙◌, subst, arith, append-nil, append_assoc, drop}
 use Rattle.ic_unsafe_ref.specs.declared.place.Place.{Place}
 use Rattle.ic_link_ops.specs.declared.color.Color.{Color}
-use Rattle.ic_link_ops.specs.declared.side.Side.TheVariants.{Right}
+use Rattle.ic_link_ops.specs.declared.side.Side.TheVariants.{Left, Right}
 use Rattle.ic_link_ops.specs.Sequences.{Cut, join, first, IsAbsent, IsDistinct}
-use Rattle.ic_link_ops.specs.Tables.{Table, ChangesOnly, IsUnlinked}
+use Rattle.ic_link_ops.specs.Tables.{Table, ChangesOnly}
 use Rattle.ic_link_ops.specs.Edits.{Removes}
 use Rattle.ic_link_ops.specs.Trees.{Tree, leaf, fork, top, in_order}
 use Rattle.ic_link_ops.specs.Shape.{IsRight}
@@ -17,7 +17,8 @@ use Rattle.ic_link_ops.proofs.Times.{one_at_self, apart, times_order, times_dist
 use Rattle.ic_link_ops.proofs.ShownTrees.{holds_once}
 use Rattle.ic_link_ops.proofs.ShownTrees.{shows_beside}
 use Rattle.ic_rbtree.specs.Pieces.{Piece, loose, Stands, Shown}
-use Rattle.ic_rbtree.specs.Taking.{only, IsLone, both_of, StandsAt, CanTakeOut, TakesOut, CanTakePlace, TakesPlace, IsLeftmost}
+use Rattle.ic_rbtree.specs.Sides.{StandsAt, IsOutermost}
+use Rattle.ic_rbtree.specs.Taking.{only, IsLone, both_of, CanTakeOut, TakesOut, CanTakePlace, TakesPlace}
 use Rattle.ic_rbtree.proofs.Zipper.{go_down, go_top}
 use Rattle.ic_rbtree.proofs.Shapes.{right_plug}
 use Rattle.ic_rbtree.proofs.Shortening.{shape_open}
@@ -108,7 +109,7 @@ module _ {E : Type 0} (n : E → Node) where
       pub right_can : StandsAt n v r
       right_can = (base, root, frame Right x.c p x.a ∷ x.fs, x.b, ps, right_stands, right_top)
 
-      module _ (z : Place) (leftmost : IsLeftmost n v r z) where
+      module _ (z : Place) (leftmost : IsOutermost n v r Left z) where
         -- the next member, at its place
         pub record Next : Type 0 where
           pub gs : List Frame
@@ -122,20 +123,20 @@ module _ {E : Type 0} (n : E → Node) where
         pub next : Next
         next =
             let l = leftmost base root (frame Right x.c p x.a ∷ x.fs) x.b ps right_stands right_top in
-            let rest : List Place = in_order l.2 ++ after l.0 in
-            let start : before l.0 ≡ front ++ p ∷ [] = l.4 ∙ (sym (append_assoc (before x.fs) (in_order x.a) (p ∷ [])) ∙ ap (λ (s : List Place). s ++ p ∷ []) x.front_is) in
-            let glued : (s : List Place) → before l.0 ++ s ≡ front ++ p ∷ s = λ s. ap (λ (t : List Place). t ++ s) start ∙ append_assoc front (p ∷ []) s in
+            let rest : List Place = in_order l.b ++ after l.gs in
+            let start : before l.gs ≡ front ++ p ∷ [] = l.beside ∙ (sym (append_assoc (before x.fs) (in_order x.a) (p ∷ [])) ∙ ap (λ (s : List Place). s ++ p ∷ []) x.front_is) in
+            let glued : (s : List Place) → before l.gs ++ s ≡ front ++ p ∷ s = λ s. ap (λ (t : List Place). t ++ s) start ∙ append_assoc front (p ∷ []) s in
             let old : in_order (plug x.fs (fork x.c x.a p x.b)) ≡ front ++ p ∷ back =
             in_order_parts x.fs (fork x.c x.a p x.b) ∙ old_parts (before x.fs) (in_order x.a) (in_order x.b) (after x.fs) x.front_is x.back_is in
-            let new : in_order (plug l.0 (fork l.1 leaf z l.2)) ≡ front ++ p ∷ (z ∷ rest) = in_order_parts l.0 (fork l.1 leaf z l.2) ∙ glued (z ∷ rest) in
-            let same : front ++ p ∷ back ≡ front ++ p ∷ (z ∷ rest) = sym old ∙ (sym (ap in_order l.3) ∙ new) in
+            let new : in_order (plug l.gs (fork l.c leaf z l.b)) ≡ front ++ p ∷ (z ∷ rest) = in_order_parts l.gs (fork l.c leaf z l.b) ∙ glued (z ∷ rest) in
+            let same : front ++ p ∷ back ≡ front ++ p ∷ (z ∷ rest) = sym old ∙ (sym (ap in_order l.same) ∙ new) in
             let tail : p ∷ back ≡ p ∷ (z ∷ rest) = cancel front (p ∷ back) (p ∷ (z ∷ rest)) same in
             record {
-              gs = l.0;
-              k = l.1;
-              m = l.2;
-              stands = go_into root l.0 (fork l.1 leaf z l.2) ps (subst (λ (t : Tree). Stands n base v root [] t ps) (sym l.3) (go_top n root (frame Right x.c p x.a ∷ x.fs) x.b ps right_stands));
-              right = subst (λ (t : Tree). IsRight t) (sym l.3) x.right;
+              gs = l.gs;
+              k = l.c;
+              m = l.b;
+              stands = go_into root l.gs (fork l.c leaf z l.b) ps (subst (λ (t : Tree). Stands n base v root [] t ps) (sym l.same) (go_top n root (frame Right x.c p x.a ∷ x.fs) x.b ps right_stands));
+              right = subst (λ (t : Tree). IsRight t) (sym l.same) x.right;
               behind = cc;
               order = glued rest;
             }

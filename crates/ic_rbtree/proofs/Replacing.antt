@@ -14,7 +14,7 @@ use Rattle.ic_link_ops.proofs.ShownTrees.{shows_beside}
 use Rattle.ic_rbtree.specs.Pieces.{Piece, loose, Shown}
 use Rattle.ic_rbtree.specs.Taking.{CanTakePlace, TakesPlace}
 use Rattle.ic_rbtree.proofs.Zipper.{go_top}
-use Rattle.ic_rbtree.proofs.Removing.{Spot, spot, spot_linked, renamed, shows_of, loose_absent, front_shown}
+use Rattle.ic_rbtree.proofs.Removing.{Spot, spot, renamed, shows_of, loose_absent, front_shown}
 use Rattle.ic_rbtree.proofs.Attaching.{acquired_shown}
 
 module _ {E : Type 0} (n : E → Node) where

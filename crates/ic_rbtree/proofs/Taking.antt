@@ -224,38 +224,3 @@ module _ {E : Type 0} (n : E → Node) where
       let h6 = set_up n Left new e.color (top a) (top b) e.parent rest h5 new parent (above fs) refl eu set6 only6 in
       let h7 = set_tint n Left new e.color (top a) (top b) (above fs) rest h6 new color c refl et set7 only7 in
       close_at n new_root (top a) (top b) fs Left c a new b (loose p ∷ ps) refl refl h7
-
-  -- A DESCENT to the left
-  pub record Down (base v : Table E) (root : Option Place) (p : Place) (fs : List Frame) (t : Tree) (ps : List Piece) (gs : List Frame) (u : Tree) : Type 0 where
-    pub stands : Stands n base v root gs u ps
-    pub top_is : top u ≡ Some p
-    pub same : plug gs u ≡ plug fs t
-    pub front : before gs ≡ before fs
-
-  pub down_reads : {base v : Table E} (root : Option Place) (fs : List Frame) (t : Tree) (ps : List Piece) (p : Place) → Stands n base v root fs t ps → top t ≡ Some p → Reads v p
-  down_reads root fs leaf ps p h e = absurd (none_not p e)
-  down_reads {base} {v} root fs (fork c a q b) ps p h e = subst (λ (z : Place). Reads v z) (some_same e) (reads root fs c a q b ps h)
-
-  module _ {v : Table E} {p q : Place} (is : (n (v.entry p)).left ≡ Some q) where
-    pub step_down : {base : Table E} {root : Option Place} (fs : List Frame) (t : Tree) {ps : List Piece} (gs : List Frame) (u : Tree) → Down base v root p fs t ps gs u
-        → (gs' : List Frame) × (u' : Tree) × Down base v root q fs t ps gs' u' × (length gs' ≡ suc (length gs))
-    step_down fs t gs leaf h = absurd (none_not p h.top_is)
-    step_down {base} {root} fs t {ps} gs (fork c a r b) h =
-        let l : (n (v.entry p)).left ≡ top a = subst (λ (z : Place). (n (v.entry z)).left ≡ top a) (some_same h.top_is) h.stands.are.1.0.0.left in
-        (frame Left c r b ∷ gs, a, record { stands = go_down n root Left c r b gs a ps h.stands; top_is = sym l ∙ is; same = h.same; front = h.front }, refl)
-
-    pub down_falls : (law : (x : Place) → (n (v.entry x)).linked ≡ true → IsCovered v x) → {base : Table E} {root : Option Place} (gs : List Frame) (u : Tree) {ps : List Piece}
-        → Stands n base v root gs u ps → top u ≡ Some p → v.extent.places - depth n v (Some q) < v.extent.places - depth n v (Some p)
-    down_falls law {base} {root} gs u {ps} s e =
-        let d = step_down gs u gs u (record { stands = s; top_is = e; same = refl; front = refl }) in
-        let old = depth_top n law root gs u ps p s e in
-        let new = depth_top n law root d.0 d.1 ps q d.2.stands d.2.top_is in
-        omega (arith, old.0, old.1, new.0, new.1, d.3)
-
-  pub down_ends : {base v : Table E} {root : Option Place} {p : Place} (fs : List Frame) (t : Tree) {ps : List Piece} (gs : List Frame) (u : Tree) → Down base v root p fs t ps gs u
-      → (n (v.entry p)).left ≡ None → (hs : List Frame) × (c : Color) × (b : Tree) × (plug hs (fork c leaf p b) ≡ plug fs t) × (before hs ≡ before fs)
-  down_ends {p = p} fs t gs leaf h e = absurd (none_not p h.top_is)
-  down_ends {base} {v} {root} {p} fs t {ps} gs (fork c a r b) h e =
-      let l : (n (v.entry p)).left ≡ top a = subst (λ (z : Place). (n (v.entry z)).left ≡ top a) (some_same h.top_is) h.stands.are.1.0.0.left in
-      let none : a ≡ leaf = top_leaf a (sym l ∙ e) in
-      (gs, c, b, sym (ap (λ (x : Tree). plug gs (fork c x p b)) none) ∙ (sym (ap (λ (x : Place). plug gs (fork c a x b)) (some_same h.top_is)) ∙ h.same), h.front)

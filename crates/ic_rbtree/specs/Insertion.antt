@@ -5,11 +5,12 @@ use Rattle.ic_link_ops.specs.declared.color.Color.{Color}
 use Rattle.ic_link_ops.specs.declared.color.Color.TheVariants.{Red, Black}
 use Rattle.ic_link_ops.specs.declared.side.Side.{Side}
 use Rattle.ic_link_ops.specs.declared.side.Side.TheVariants.{Left, Right}
-use Rattle.ic_link_ops.specs.Sequences.{Cut, first, last}
+use Rattle.ic_link_ops.specs.Sequences.{Cut}
 use Rattle.ic_link_ops.specs.Tables.{Table}
 use Rattle.ic_link_ops.specs.Trees.{Tree, fork, top, in_order}
 use Rattle.ic_link_ops.specs.RedBlackTree.{Node}
-use Rattle.ic_link_ops.specs.Frames.{Frame, frame, branch, plug}
+use Rattle.ic_link_ops.specs.Frames.{Frame, frame, branch, plug, child_on}
+use Rattle.ic_rbtree.specs.Sides.{IsBeside}
 use Rattle.ic_rbtree.specs.Pieces.{Piece, loose, Stands, Shown}
 use Rattle.ic_rbtree.specs.Shortage.{wanted, IsNearlyRight}
 
@@ -100,8 +101,7 @@ module _ {E : Type 0} (n : E → Node) where
   -- THE HOLE: on side d of q, which has no child there, is this gap; without q the tree is empty
   abbrev pub IsHole : Table E → Option Place → Side → Cut → Type 0
   IsHole v None d gap = (gap.front ≡ []) × (gap.back ≡ [])
-  IsHole v (Some q) Left gap = ((n (v.entry q)).left ≡ None) × (first gap.back ≡ Some q)
-  IsHole v (Some q) Right gap = ((n (v.entry q)).right ≡ None) × (last gap.front ≡ Some q)
+  IsHole v (Some q) d gap = (child_on d (n (v.entry q)) ≡ None) × IsBeside d gap (Some q)
 
   abbrev pub CanAttach : Table E → Option Place → Option Place → Side → Place → Type 0
   CanAttach v root parent d p =

@@ -79,15 +79,6 @@ module _ {E : Type 0} (n : E → Node) where
       (base : Table E) (fs : List Frame) (c : Color) (a : Tree) (b : Tree) (ps : List Piece)
       → Stands n base v root fs (fork c a p b) (loose new ∷ ps) → Stands n base w new_root fs (fork c a new b) (loose p ∷ ps)
 
-  abbrev pub StandsAt : Table E → Place → Type 0
-  StandsAt v p = (base : Table E) × (root : Option Place) × (fs : List Frame) × (t : Tree) × (ps : List Piece) × Stands n base v root fs t ps × (top t ≡ Some p)
-
-  -- y is the leftmost member at or below p
-  abbrev pub IsLeftmost : Table E → Place → Place → Type 0
-  IsLeftmost v p y =
-      (base : Table E) (root : Option Place) (fs : List Frame) (t : Tree) (ps : List Piece) → Stands n base v root fs t ps → top t ≡ Some p
-      → (gs : List Frame) × (c : Color) × (b : Tree) × (plug gs (fork c leaf y b) ≡ plug fs t) × (before gs ≡ before fs)
-
 -- the second of two, if both are there
 abbrev pub both_of : Option Place → Option Place → Option Place
 both_of None b = None

@@ -5,10 +5,14 @@ mod edits;
 mod insertion;
 pub mod key_adapter;
 pub mod laws;
+mod linking;
 mod readings;
 mod removal;
+mod steps;
+mod tree;
 mod writers;
 
 pub use ic_link_ops::Color;
 pub use ic_link_ops::rbtree::{Link, LinkOps, RBTreeOps};
 pub use key_adapter::KeyAdapter;
+pub use tree::RBTree;

@@ -7,7 +7,7 @@ ghost use Rattle.ic_link_ops.specs.Walk.{is_end};
 ghost use Rattle.ic_link_ops.specs.RedBlackTree.{node_at};
 ghost use Rattle.ic_link_ops.specs.Frames.{across, child_on};
 ghost use Rattle.ic_rbtree.specs.Removal.{red_at, red_below, AreRead};
-ghost use Rattle.ic_rbtree.specs.Taking.{or_else, IsSideBelow, StandsAt, IsLeftmost, both_of};
+ghost use Rattle.ic_rbtree.specs.Taking.{or_else, IsSideBelow, both_of};
 ghost use Rattle.ic_rbtree.specs.Insertion.{color_below, are_across};
 ghost use Rattle.ic_rbtree.specs.Steps.{IsSideOf};
 
@@ -135,16 +135,4 @@ pub(crate) fn is_across(one: Side, other: Side) -> bool
             Side::Right => false,
         },
     }
-}
-
-/// The leftmost member at or below a place.
-pub(crate) fn leftmost<L: RBTreeOps>(links: &L, place: Place) -> Place
-    requires { StandsAt L.node (L.table links.now) place }
-    ensures { IsLeftmost L.node (L.table links.now) place result }
-{
-    let mut place = place;
-    while let Some(left) = links.left(place) {
-        place = left;
-    }
-    place
 }

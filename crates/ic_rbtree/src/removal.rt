@@ -6,9 +6,8 @@ ghost use Rattle.ic_rbtree.specs.Removal.{CanMend, Mends, CanMendAt, Raises, IsB
 ghost use Rattle.ic_rbtree.specs.Taking.{CanClose, Closes, CanTakeOut, TakesOut, CanUnlink, TakesAway};
 ghost use Rattle.ic_rbtree.specs.Steps.{TakesNoStep};
 
-use crate::readings::{
-    child, has_red_child, is_red, leftmost, only_child, other, second_child, side_below, side_of,
-};
+use crate::readings::{child, has_red_child, is_red, only_child, other, second_child, side_below, side_of};
+use crate::steps::outermost;
 use crate::writers::{adopt, relink, rotate, set_color, take_place};
 use ic_link_ops::rbtree::RBTreeOps;
 use ic_link_ops::{Color, End, Side};
@@ -177,7 +176,7 @@ pub(crate) fn unlink<L: RBTreeOps>(links: &mut L, root: &mut End, place: Place)
     ensures no_step { TakesNoStep L.Does links.old links.new }
 {
     if let Some(right) = second_child(&*links, place) {
-        let next = leftmost(&*links, right);
+        let next = outermost(&*links, right, Side::Left);
         take_out(links, root, next);
         take_place(links, root, place, next);
     } else {

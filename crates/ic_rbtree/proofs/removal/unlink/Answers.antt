@@ -8,8 +8,8 @@ second_child-requires g c =
     let r = c.requires in
     sym (g.met.L.RBTreeOps.linked_alike _) ∙ spot_linked n (spot n r.1 c.args.place r.2 r.4)
 
-pub leftmost-next-requires : goal.leftmost-next-requires
-leftmost-next-requires g c =
+pub outermost-next-requires : goal.outermost-next-requires
+outermost-next-requires g c =
     let n = g.L.RBTreeOps.node in
     let r = c.requires in
     right_can n (spot n r.1 c.args.place r.2 r.4) c.in-Some.right c.second_child.result c.second_child.ensures c.in-Some.is
@@ -18,13 +18,13 @@ pub take_out-requires : goal.take_out-requires
 take_out-requires g c =
     let n = g.L.RBTreeOps.node in
     let r = c.requires in
-    next_can n (spot n r.1 c.args.place r.2 r.4) c.in-Some.right c.second_child.result c.second_child.ensures c.in-Some.is c.leftmost-next.result c.leftmost-next.ensures
+    next_can n (spot n r.1 c.args.place r.2 r.4) c.in-Some.right c.second_child.result c.second_child.ensures c.in-Some.is c.outermost-next.result c.outermost-next.ensures
 
 pub take_place-requires : goal.take_place-requires
 take_place-requires g c =
     let n = g.L.RBTreeOps.node in
     let r = c.requires in
-    place_can n (spot n r.1 c.args.place r.2 r.4) c.in-Some.right c.second_child.result c.second_child.ensures c.in-Some.is c.leftmost-next.result c.leftmost-next.ensures c.take_out.ensures.taken
+    place_can n (spot n r.1 c.args.place r.2 r.4) c.in-Some.right c.second_child.result c.second_child.ensures c.in-Some.is c.outermost-next.result c.outermost-next.ensures c.take_out.ensures.taken
 
 pub take_out-requires-in_default : goal.take_out-requires-in_default
 take_out-requires-in_default g c =
@@ -35,7 +35,7 @@ take_out-requires-in_default g c =
 pub returns-in-Some-clause-taken : goal.returns-in-Some-clause-taken
 returns-in-Some-clause-taken g c base front back ps h =
     let n = g.L.RBTreeOps.node in
-    place_taken n (spot n front c.args.place back h) c.in-Some.right c.second_child.result c.second_child.ensures c.in-Some.is c.leftmost-next.result c.leftmost-next.ensures c.take_out.ensures.taken c.take_place.ensures.taken
+    place_taken n (spot n front c.args.place back h) c.in-Some.right c.second_child.result c.second_child.ensures c.in-Some.is c.outermost-next.result c.outermost-next.ensures c.take_out.ensures.taken c.take_place.ensures.taken
 
 pub returns-in_default-clause-taken : goal.returns-in_default-clause-taken
 returns-in_default-clause-taken g c base front back ps h =

@@ -1,7 +1,7 @@
 use Rattle.std.proofs.Common.{sym, ◌∙◌}
 use Rattle.ic_rbtree.proofs.Removing.{spot_linked}
 use Rattle.ic_rbtree.proofs.Replacing.{member_spot, place_ready, replaces}
-use Rattle.ic_rbtree.proofs.edits.replace.Goals as goal
+use Rattle.ic_rbtree.proofs.linking.replace.Goals as goal
 
 pub take_place-requires : goal.take_place-requires
 take_place-requires g c =

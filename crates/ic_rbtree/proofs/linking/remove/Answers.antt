@@ -1,6 +1,6 @@
 use Rattle.std.proofs.Common.{[], sym, ◌∙◌}
 use Rattle.ic_rbtree.proofs.Removing.{spot, front_shown, spot_linked, removes}
-use Rattle.ic_rbtree.proofs.edits.remove.Goals as goal
+use Rattle.ic_rbtree.proofs.linking.remove.Goals as goal
 
 pub unlink-requires : goal.unlink-requires
 unlink-requires g c =

@@ -1,7 +1,7 @@
 use Rattle.std.proofs.Common.{[]}
 use Rattle.ic_link_ops.specs.Sequences.{join}
 use Rattle.ic_rbtree.proofs.Attaching.{acquired_shown, hole_kept, inserts}
-use Rattle.ic_rbtree.proofs.edits.insert.Goals as goal
+use Rattle.ic_rbtree.proofs.linking.insert.Goals as goal
 
 pub attach-requires : goal.attach-requires
 attach-requires g c =

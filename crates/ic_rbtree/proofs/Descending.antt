@@ -1,0 +1,158 @@
+-- A descent to the outermost member below a place, and a climb to the nearest member above.
+use Rattle.std.proofs.Common.{◌≡◌, ◌≢◌, ◌+◌, ◌-◌, ◌<◌, ◌≤◌, Bool, true, false, suc, Option, Some, None, List, [], ◌∷◌, length, refl, sym, ap, ◌∙◌, subst, arith}
+use Rattle.ic_unsafe_ref.specs.declared.place.Place.{Place}
+use Rattle.ic_link_ops.specs.declared.color.Color.{Color}
+use Rattle.ic_link_ops.specs.declared.side.Side.{Side}
+use Rattle.ic_link_ops.specs.declared.side.Side.TheVariants.{Left, Right}
+use Rattle.ic_link_ops.specs.Tables.{Table, IsCovered}
+use Rattle.ic_link_ops.specs.Trees.{Tree, leaf, fork, top, in_order}
+use Rattle.ic_link_ops.specs.Shape.{top_color}
+use Rattle.ic_link_ops.specs.RedBlackTree.{Node}
+use Rattle.ic_link_ops.specs.Frames.{Frame, frame, across, child_on, branch, plug, above}
+use Rattle.ic_link_ops.specs.Times.{one_at, times, times_around}
+use Rattle.ic_link_ops.proofs.SequenceLemmas.{none_not, some_same}
+use Rattle.ic_link_ops.proofs.Trees.{top_parent}
+use Rattle.ic_rbtree.specs.Climb.{depth}
+use Rattle.ic_rbtree.specs.Pieces.{Piece, Stands}
+use Rattle.ic_rbtree.specs.Sides.{beyond, nearest, IsEnd}
+use Rattle.ic_rbtree.proofs.Branches.{as_branch, top_branch, side_near, side_far, side_linked}
+use Rattle.ic_rbtree.proofs.Turning.{open_at, below_linked, around_linked, times_top}
+use Rattle.ic_rbtree.proofs.Zipper.{go_up, go_down}
+use Rattle.ic_rbtree.proofs.Climbing.{depth_top}
+use Rattle.ic_rbtree.proofs.Nearest.{nearest_or, nearest_branch, nearest_there, nearest_plain, beyond_same, nearest_frame, beyond_nothing}
+
+no_top : (t : Tree) → top t ≡ None → t ≡ leaf
+no_top leaf e = refl
+no_top (fork c a p b) e = absurd (none_not p (sym e))
+
+module _ {E : Type 0} (n : E → Node) where
+  -- a subtree opened at its root
+  pub record Opened (base v : Table E) (root : Option Place) (d : Side) (p : Place) (fs : List Frame) (t : Tree) (ps : List Piece) : Type 0 where
+    pub c : Color
+    pub a : Tree
+    pub b : Tree
+    pub is : t ≡ branch d c a p b
+    pub stands : Stands n base v root fs (branch d c a p b) ps
+    pub linked : (n (v.entry p)).linked ≡ true
+    pub near : child_on d (n (v.entry p)) ≡ top a
+    pub down : Stands n base v root (frame d c p b ∷ fs) a ps
+
+  pub opened : {base v : Table E} {root : Option Place} (d : Side) {p : Place} (fs : List Frame) (t : Tree) {ps : List Piece} → Stands n base v root fs t ps → top t ≡ Some p
+      → Opened base v root d p fs t ps
+  opened {base} {v} {root} d {p} fs t {ps} h e =
+      let k = as_branch d t p e in
+      let s : Stands n base v root fs (branch d (top_color t) k.0 p k.1) ps = subst (λ (x : Tree). Stands n base v root fs x ps) k.2 h in
+      let o = open_at n root fs d (top_color t) k.0 p k.1 ps s in
+      record {
+        c = top_color t;
+        a = k.0;
+        b = k.1;
+        is = k.2;
+        stands = s;
+        linked = side_linked n v.entry d p (top_color t) (top k.0) (top k.1) (above fs) o.are.0;
+        near = side_near n v.entry d p (top_color t) (top k.0) (top k.1) (above fs) o.are.0;
+        down = go_down n root d (top_color t) p k.1 fs k.0 ps s;
+      }
+
+  -- A DESCENT to a side, from the subtree t below the frames fs: it has come to p, the root of u below gs
+  pub record Down (base v : Table E) (root : Option Place) (d : Side) (p : Place) (fs : List Frame) (t : Tree) (ps : List Piece) (gs : List Frame) (u : Tree) : Type 0 where
+    pub stands : Stands n base v root gs u ps
+    pub top_is : top u ≡ Some p
+    pub same : plug gs u ≡ plug fs t
+    pub beside : beyond d gs ≡ beyond d fs
+    pub nearest_is : nearest (across d) (in_order u) ≡ nearest (across d) (in_order t)
+
+  module _ {base v : Table E} {root : Option Place} {d : Side} {p : Place} (fs : List Frame) (t : Tree) {ps : List Piece} (gs : List Frame) (u : Tree)
+      (h : Down base v root d p fs t ps gs u) where
+    pub step_down : {q : Place} → child_on d (n (v.entry p)) ≡ Some q
+        → (gs' : List Frame) × (u' : Tree) × Down base v root d q fs t ps gs' u' × (length gs' ≡ suc (length gs))
+    step_down {q} is =
+        let o = opened d gs u h.stands h.top_is in
+        let below : top o.a ≡ Some q = sym o.near ∙ is in (
+          frame d o.c p o.b ∷ gs,
+          o.a,
+          record {
+            stands = o.down;
+            top_is = below;
+            same = sym (ap (plug gs) o.is) ∙ h.same;
+            beside = beyond_same d o.c p o.b gs ∙ h.beside;
+            nearest_is = nearest_plain (across d) (in_order o.a) ∙ nearest_there (across d) o.a q None (Some p) below ∙ sym (nearest_branch d o.c o.a p o.b)
+                ∙ ap (λ (x : Tree). nearest (across d) (in_order x)) (sym o.is) ∙ h.nearest_is;
+          },
+          refl,
+        )
+
+    pub down_ends : child_on d (n (v.entry p)) ≡ None → IsEnd n v d p fs t
+    down_ends none =
+        let o = opened d gs u h.stands h.top_is in
+        let bare : o.a ≡ leaf = no_top o.a (sym o.near ∙ none) in
+        let is : u ≡ branch d o.c leaf p o.b = o.is ∙ ap (λ (x : Tree). branch d o.c x p o.b) bare in
+        record {
+          gs = gs;
+          c = o.c;
+          b = o.b;
+          same = sym (ap (plug gs) is) ∙ h.same;
+          beside = h.beside;
+          nearest_is = sym h.nearest_is ∙ ap (λ (x : Tree). nearest (across d) (in_order x)) is ∙ nearest_branch d o.c leaf p o.b ∙ nothing_there (across d);
+          childless = none;
+        }
+      where
+        nothing_there : (k : Side) → nearest_or k [] (Some p) ≡ Some p
+        nothing_there Left = refl
+        nothing_there Right = refl
+
+  pub down_starts : {base v : Table E} {root : Option Place} {d : Side} {p : Place} (fs : List Frame) (t : Tree) {ps : List Piece} → Stands n base v root fs t ps → top t ≡ Some p
+      → Down base v root d p fs t ps fs t
+  down_starts fs t h e = record { stands = h; top_is = e; same = refl; beside = refl; nearest_is = refl }
+
+  -- each step goes further from the root
+  pub down_falls : {v : Table E} (law : (x : Place) → (n (v.entry x)).linked ≡ true → IsCovered v x) {base : Table E} {root : Option Place} {d : Side} {p q : Place}
+      (gs : List Frame) (u : Tree) {ps : List Piece} → Stands n base v root gs u ps → top u ≡ Some p → child_on d (n (v.entry p)) ≡ Some q
+      → v.extent.places - depth n v (Some q) < v.extent.places - depth n v (Some p)
+  down_falls {v} law {base} {root} {d} {p} {q} gs u {ps} s e is =
+      let k = step_down gs u gs u (down_starts {d = d} gs u s e) is in
+      let old = depth_top n law root gs u ps p s e in
+      let new = depth_top n law root k.0 k.1 ps q k.2.stands k.2.top_is in
+      omega (arith, old.0, old.1, new.0, new.1, k.3)
+
+  -- A CLIMB to a side, from the subtree t below the frames fs: it has come to p, the root of u below gs
+  pub record Up (base v : Table E) (root : Option Place) (d : Side) (p : Place) (fs : List Frame) (ps : List Piece) (gs : List Frame) (u : Tree) : Type 0 where
+    pub stands : Stands n base v root gs u ps
+    pub top_is : top u ≡ Some p
+    pub nearest_is : nearest d (beyond d gs) ≡ nearest d (beyond d fs)
+
+  module _ {base v : Table E} {root : Option Place} {d : Side} {p : Place} (fs : List Frame) {ps : List Piece} where
+    pub up_starts : (t : Tree) → Stands n base v root fs t ps → top t ≡ Some p → Up base v root d p fs ps fs t
+    up_starts t h e = record { stands = h; top_is = e; nearest_is = refl }
+
+    -- the frame above
+    pub record Framed (q : Place) (gs : List Frame) (u : Tree) : Type 0 where
+      pub k : Side
+      pub c : Color
+      pub b : Tree
+      pub rest : List Frame
+      pub is : gs ≡ frame k c q b ∷ rest
+      pub linked : (n (v.entry q)).linked ≡ true
+      pub near : child_on k (n (v.entry q)) ≡ Some p
+      pub far : child_on (across k) (n (v.entry q)) ≢ Some p
+      pub stands : Stands n base v root rest (branch k c u q b) ps
+
+    pub framed : {q : Place} (gs : List Frame) (u : Tree) → Stands n base v root gs u ps → top u ≡ Some p → (n (v.entry p)).parent ≡ Some q → Framed q gs u
+    framed {q} gs u h e up = by gs h (sym (top_parent n v.entry (above gs) u p h.are.1.0 e) ∙ up) where
+      by : (gs : List Frame) → Stands n base v root gs u ps → above gs ≡ Some q → Framed q gs u
+      by [] h is = absurd (none_not q is)
+      by (frame k c r b ∷ rest) h is =
+          let same : r ≡ q = some_same is in
+          subst (λ (z : Place). Framed z (frame k c r b ∷ rest) u) same (record {
+            k = k;
+            c = c;
+            b = b;
+            rest = rest;
+            is = refl;
+            linked = side_linked n v.entry k r c (top u) (top b) (above rest) h.are.0.0.0;
+            near = side_near n v.entry k r c (top u) (top b) (above rest) h.are.0.0.0 ∙ e;
+            far = λ f.
+                let there : top b ≡ Some p = sym (side_far n v.entry k r c (top u) (top b) (above rest) h.are.0.0.0) ∙ f in
+                absurd (omega (arith, h.once p, times_top p u e, times_top p b there));
+            stands = go_up n root k c r b rest u ps h;
+          })

@@ -1,0 +1,32 @@
+-- The members of a tree, as the entries lead through them.
+use Rattle.std.specs.Prelude.{ℕ, zero, suc, Option, Some, None, List}
+use Rattle.ic_unsafe_ref.specs.declared.place.Place.{Place}
+use Rattle.ic_link_ops.specs.Tables.{Table}
+use Rattle.ic_link_ops.specs.Trees.{Tree, leaf, fork, in_order}
+use Rattle.ic_link_ops.specs.RedBlackTree.{Node}
+
+module _ {E : Type 0} (n : E → Node) where
+  -- the tree below a place, at most so many levels of it
+  unfoldable pub tree_below : (Place → E) → ℕ → Option Place → Tree
+  tree_below entry zero o = leaf
+  tree_below entry (suc k) None = leaf
+  tree_below entry (suc k) (Some p) =
+      fork (n (entry p)).color (tree_below entry k (n (entry p)).left) p (tree_below entry k (n (entry p)).right)
+
+  -- the last place that the parents lead to, after at most so many steps
+  unfoldable pub top_above : (Place → E) → ℕ → Option Place → Option Place
+  top_above entry zero o = o
+  top_above entry (suc k) None = None
+  top_above entry (suc k) (Some p) = up (n (entry p)).parent
+    where
+      up : Option Place → Option Place
+      up None = Some p
+      up (Some q) = top_above entry k (Some q)
+
+  -- the members of the tree with this root: no way down is longer than what the table covers
+  abbrev pub members : Table E → Option Place → List Place
+  members t root = in_order (tree_below t.entry t.extent.places root)
+
+  -- and of the tree that this place is in
+  abbrev pub members_around : Table E → Option Place → List Place
+  members_around t p = members t (top_above t.entry t.extent.places p)

@@ -1,0 +1,53 @@
+-- Gaps and descents by sides: what is said of one side holds of the other, mirrored.
+use Rattle.std.specs.Prelude.{◌≡◌, Option, Some, None, List}
+use Rattle.ic_unsafe_ref.specs.declared.place.Place.{Place}
+use Rattle.ic_link_ops.specs.declared.color.Color.{Color}
+use Rattle.ic_link_ops.specs.declared.side.Side.{Side}
+use Rattle.ic_link_ops.specs.declared.side.Side.TheVariants.{Left, Right}
+use Rattle.ic_link_ops.specs.Sequences.{Cut, first, last, IsAfter, IsBefore}
+use Rattle.ic_link_ops.specs.Tables.{Table}
+use Rattle.ic_link_ops.specs.Trees.{Tree, leaf, top, in_order}
+use Rattle.ic_link_ops.specs.RedBlackTree.{Node}
+use Rattle.ic_link_ops.specs.Frames.{Frame, across, child_on, branch, plug, before, after}
+use Rattle.ic_rbtree.specs.Pieces.{Piece, Stands}
+
+-- the gap is beside the position: after it on the right, before it on the left
+abbrev pub IsBeside : Side → Cut → Option Place → Type 0
+IsBeside Left = IsBefore
+IsBeside Right = IsAfter
+
+-- the members beyond what stands below these frames, on this side, in order
+abbrev pub beyond : Side → List Frame → List Place
+beyond Left fs = before fs
+beyond Right fs = after fs
+
+-- the one nearest to the subtree: the last of those on the left, the first of those on the right
+abbrev pub nearest : Side → List Place → Option Place
+nearest Left s = last s
+nearest Right s = first s
+
+module _ {E : Type 0} (n : E → Node) where
+  -- p is the root of a subtree of a tree in the table
+  abbrev pub StandsAt : Table E → Place → Type 0
+  StandsAt v p = (base : Table E) × (root : Option Place) × (fs : List Frame) × (t : Tree) × (ps : List Piece) × Stands n base v root fs t ps × (top t ≡ Some p)
+
+  -- y is the member of the subtree t below the frames fs that stands outermost on this side
+  pub record IsEnd (v : Table E) (d : Side) (y : Place) (fs : List Frame) (t : Tree) : Type 0 where
+    pub gs : List Frame
+    pub c : Color
+    pub b : Tree
+    pub same : plug gs (branch d c leaf y b) ≡ plug fs t
+    pub beside : beyond d gs ≡ beyond d fs
+    pub nearest_is : nearest (across d) (in_order t) ≡ Some y
+    pub childless : child_on d (n (v.entry y)) ≡ None
+
+  -- y is the member at or below p that stands outermost on this side
+  abbrev pub IsOutermost : Table E → Place → Side → Place → Type 0
+  IsOutermost v p d y =
+      (base : Table E) (root : Option Place) (fs : List Frame) (t : Tree) (ps : List Piece) → Stands n base v root fs t ps → top t ≡ Some p → IsEnd v d y fs t
+
+  -- the result is the member nearest to what stands at p and below, on this side of it, none if there is none
+  abbrev pub IsNearestAbove : Table E → Place → Side → Option Place → Type 0
+  IsNearestAbove v p d result =
+      (base : Table E) (root : Option Place) (fs : List Frame) (t : Tree) (ps : List Piece) → Stands n base v root fs t ps → top t ≡ Some p
+      → result ≡ nearest d (beyond d fs)

@@ -1,0 +1,77 @@
+//! A place that is linked and put in, a member that is taken off and unlinked, and one for the other.
+//!
+//! The repair follows Cormen, Leiserson, Rivest and Stein, Introduction to Algorithms, chapter 13, with these departures:
+//! mirrored cases are one, by sides; a missing child is no node of its own; a member with two children is replaced by
+//! the next one only when that one is out of the tree and the colors are right.
+
+ghost use Rattle.std.specs.Prelude.{◌≡◌, Some, [], ◌∷◌};
+ghost use Rattle.std.specs.Bool.{OnTrue, OnFalse};
+ghost use Rattle.ic_unsafe_ref.specs.declared.place.Place.{Place};
+ghost use Rattle.ic_link_ops.specs.Tables.{IsCovered};
+ghost use Rattle.ic_link_ops.specs.LinkSteps.{acquires, releases};
+ghost use Rattle.ic_link_ops.specs.Sequences.{Cut, join, IsBefore};
+ghost use Rattle.ic_link_ops.specs.Edits.{Removes, Inserts, Replaces};
+ghost use Rattle.ic_link_ops.specs.RedBlackTree.{Shows};
+ghost use Rattle.ic_rbtree.specs.Insertion.{IsHole};
+
+use crate::insertion::attach;
+use crate::removal::unlink;
+use crate::writers::take_place;
+use ic_link_ops::rbtree::RBTreeOps;
+use ic_link_ops::{End, LinkOps, Side};
+use ic_unsafe_ref::Place;
+
+// Links the place as a new member on this side of `parent`, which has no child there, and says whether the link could be
+// had. With no parent the tree is empty.
+pub(crate) fn insert<L: RBTreeOps>(
+    links: &mut L,
+    root: &mut End,
+    parent: Option<Place>,
+    side: Side,
+    place: Place,
+) -> bool
+    requires covered { IsCovered (L.table links.old) place }
+    requires hole { (gap : Cut) × Shows L.node (L.table links.old) root.old (join gap)
+        × IsHole L.node (L.table links.old) parent side gap }
+    ensures inserted { (gap : Cut) → Shows L.node (L.table links.old) root.old (join gap)
+        → IsHole L.node (L.table links.old) parent side gap → OnTrue result
+        (Inserts (Shows L.node) (L.table links.old) (L.table links.new) root.new gap place) }
+    ensures acquired { OnTrue result (L.Does links.old links.new (acquires place ∷ [])) }
+    ensures refused { OnFalse result (L.Refused links.old links.new place) }
+    ensures unchanged { OnFalse result (root.new ≡ root.old) }
+{
+    if !links.acquire_link(place) {
+        return false;
+    }
+    attach(links, root, parent, side, place);
+    true
+}
+
+// Takes the member off the tree, and unlinks it.
+pub(crate) fn remove<L: RBTreeOps>(links: &mut L, root: &mut End, place: Place)
+    requires member { (gap : Cut) × Shows L.node (L.table links.old) root.old (join gap) × IsBefore gap (Some place) }
+    ensures removed { (gap : Cut) → Shows L.node (L.table links.old) root.old (join gap) → IsBefore gap (Some place)
+        → Removes (Shows L.node) (L.table links.old) (L.table links.new) root.new gap }
+    ensures released { L.Does links.old links.new (releases place ∷ []) }
+{
+    unlink(links, root, place);
+    links.release_link(place);
+}
+
+// In place of a member stands another place, and the member is unlinked. It says whether the link could be had.
+pub(crate) fn replace<L: RBTreeOps>(links: &mut L, root: &mut End, place: Place, new: Place) -> bool
+    requires covered { IsCovered (L.table links.old) new }
+    requires member { (gap : Cut) × Shows L.node (L.table links.old) root.old (join gap) × IsBefore gap (Some place) }
+    ensures replaced { (gap : Cut) → Shows L.node (L.table links.old) root.old (join gap) → IsBefore gap (Some place)
+        → OnTrue result (Replaces (Shows L.node) (L.table links.old) (L.table links.new) root.new gap new) }
+    ensures exchanged { OnTrue result (L.Does links.old links.new (acquires new ∷ releases place ∷ [])) }
+    ensures refused { OnFalse result (L.Refused links.old links.new new) }
+    ensures unchanged { OnFalse result (root.new ≡ root.old) }
+{
+    if !links.acquire_link(new) {
+        return false;
+    }
+    take_place(links, root, place, new);
+    links.release_link(place);
+    true
+}

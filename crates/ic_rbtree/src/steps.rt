@@ -1,0 +1,93 @@
+//! From a position in a tree to the one beside it, and to the hole between them.
+//!
+//! A step down is one to a child, a step up one to the parent. Beside a member with a child on that side stands the
+//! outermost one below that child; beside one without stands the lowest member above, on the other side of which it is.
+
+ghost use Rattle.std.specs.Prelude.{◌≡◌, Option, Some, None};
+ghost use Rattle.ic_unsafe_ref.specs.declared.place.Place.{Place};
+ghost use Rattle.ic_link_ops.specs.Sequences.{Cut, join};
+ghost use Rattle.ic_link_ops.specs.Frames.{across};
+ghost use Rattle.ic_link_ops.specs.RedBlackTree.{Shows};
+ghost use Rattle.ic_link_ops.specs.Positions.{site, Stands};
+ghost use Rattle.ic_rbtree.specs.Insertion.{IsHole};
+ghost use Rattle.ic_rbtree.specs.Sides.{IsBeside, StandsAt, IsOutermost, IsNearestAbove};
+
+use crate::readings::{child, is_at, other};
+use ic_link_ops::rbtree::RBTreeOps;
+use ic_link_ops::Side;
+use ic_unsafe_ref::Place;
+
+// The member at or below a place that stands outermost on a side.
+#[inline]
+pub(crate) fn outermost<L: RBTreeOps>(links: &L, place: Place, side: Side) -> Place
+    requires { StandsAt L.node (L.table links.now) place }
+    ensures { IsOutermost L.node (L.table links.now) place side result }
+{
+    let mut place = place;
+    while let Some(below) = child(links, place, side) {
+        place = below;
+    }
+    place
+}
+
+// The lowest member above a place that stands on this side of it, `None` if there is none.
+#[inline]
+pub(crate) fn above_on<L: RBTreeOps>(links: &L, place: Place, side: Side) -> Option<Place>
+    requires { StandsAt L.node (L.table links.now) place }
+    ensures { IsNearestAbove L.node (L.table links.now) place side result }
+{
+    let mut place = place;
+    while let Some(parent) = links.parent(place) {
+        if !is_at(child(links, parent, side), place) {
+            return Some(parent);
+        }
+        place = parent;
+    }
+    None
+}
+
+// Where a step to a side leads from a position: from null to the end on the other side.
+#[inline]
+pub(crate) fn step<L: RBTreeOps>(
+    links: &L,
+    root: Option<Place>,
+    current: Option<Place>,
+    side: Side,
+) -> Option<Place>
+    requires stands { Stands (Shows L.node) L.table (site links.now root current) }
+    ensures leads { (gap : Cut) → Shows L.node (L.table links.now) root (join gap) → IsBeside side gap current
+        → IsBeside (across side) gap result }
+{
+    let Some(place) = current else {
+        return Some(outermost(links, root?, other(side)));
+    };
+    match child(links, place, side) {
+        Some(below) => Some(outermost(links, below, other(side))),
+        None => above_on(links, place, side),
+    }
+}
+
+// The hole beside a position: the member below which it is, none in an empty tree, and the side of that member.
+#[inline]
+pub(crate) fn hole_beside<L: RBTreeOps>(
+    links: &L,
+    root: Option<Place>,
+    current: Option<Place>,
+    side: Side,
+) -> (Option<Place>, Side)
+    requires stands { Stands (Shows L.node) L.table (site links.now root current) }
+    ensures { (gap : Cut) → Shows L.node (L.table links.now) root (join gap) → IsBeside side gap current
+        → IsHole L.node (L.table links.now) result.0 result.1 gap }
+{
+    let below = match current {
+        None => root,
+        Some(place) => child(links, place, side),
+    };
+    match below {
+        None => (current, side),
+        Some(below) => (
+            Some(outermost(links, below, other(side))),
+            other(side),
+        ),
+    }
+}
