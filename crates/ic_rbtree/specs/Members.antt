@@ -5,6 +5,11 @@ use Rattle.ic_link_ops.specs.Tables.{Table}
 use Rattle.ic_link_ops.specs.Trees.{Tree, leaf, fork, in_order}
 use Rattle.ic_link_ops.specs.RedBlackTree.{Node}
 
+-- the first of two, unless the second is there
+abbrev pub some_or : Option Place → Option Place → Option Place
+some_or o None = o
+some_or o (Some q) = Some q
+
 module _ {E : Type 0} (n : E → Node) where
   -- the tree below a place, at most so many levels of it
   unfoldable pub tree_below : (Place → E) → ℕ → Option Place → Tree
@@ -17,11 +22,7 @@ module _ {E : Type 0} (n : E → Node) where
   unfoldable pub top_above : (Place → E) → ℕ → Option Place → Option Place
   top_above entry zero o = o
   top_above entry (suc k) None = None
-  top_above entry (suc k) (Some p) = up (n (entry p)).parent
-    where
-      up : Option Place → Option Place
-      up None = Some p
-      up (Some q) = top_above entry k (Some q)
+  top_above entry (suc k) (Some p) = some_or (Some p) (top_above entry k (n (entry p)).parent)
 
   -- the members of the tree with this root: no way down is longer than what the table covers
   abbrev pub members : Table E → Option Place → List Place
