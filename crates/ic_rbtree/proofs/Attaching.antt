@@ -12,7 +12,7 @@ use Rattle.ic_link_ops.specs.Edits.{Inserts}
 use Rattle.ic_link_ops.specs.Trees.{Tree, leaf, fork, top, in_order}
 use Rattle.ic_link_ops.specs.Shape.{IsRight}
 use Rattle.ic_link_ops.specs.RedBlackTree.{Node, Holds, Shows}
-use Rattle.ic_link_ops.specs.Frames.{Frame, frame, with_child, plug, above, before, after}
+use Rattle.ic_link_ops.specs.Frames.{child_on, Frame, frame, with_child, plug, above, before, after}
 use Rattle.ic_link_ops.proofs.SequenceLemmas.{none_not, some_same}
 use Rattle.ic_link_ops.proofs.Frames.{in_order_parts}
 use Rattle.ic_link_ops.specs.Times.{one_at, times, times_in}

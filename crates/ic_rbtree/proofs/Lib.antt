@@ -12,6 +12,7 @@ pub mod Taking
 pub mod Nearest
 pub mod Descending
 pub mod Removing
+pub mod Beside
 pub mod Easing
 pub mod Attaching
 pub mod Replacing

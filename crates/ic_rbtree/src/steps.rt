@@ -85,9 +85,9 @@ pub(crate) fn hole_beside<L: RBTreeOps>(
     };
     match below {
         None => (current, side),
-        Some(below) => (
-            Some(outermost(links, below, other(side))),
-            other(side),
-        ),
+        Some(below) => {
+            let end = other(side);
+            (Some(outermost(links, below, end)), end)
+        }
     }
 }

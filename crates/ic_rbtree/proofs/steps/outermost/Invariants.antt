@@ -5,19 +5,19 @@ use Rattle.ic_link_ops.specs.Trees.{Tree, top}
 use Rattle.ic_link_ops.specs.Frames.{Frame}
 use Rattle.ic_rbtree.specs.Climb.{depth}
 use Rattle.ic_rbtree.specs.Pieces.{Piece, Stands}
-use Rattle.ic_rbtree.specs.Taking.{StandsAt}
-use Rattle.ic_rbtree.proofs.Taking.{Down}
-use Rattle.ic_rbtree.proofs.readings.leftmost.Given as goal
+use Rattle.ic_rbtree.specs.Sides.{StandsAt}
+use Rattle.ic_rbtree.proofs.Descending.{Down}
+use Rattle.ic_rbtree.proofs.steps.outermost.Given as goal
 
-abbrev pub invariant-loop-left : goal.invariant-loop-left
-invariant-loop-left g l =
+abbrev pub invariant-loop-below : goal.invariant-loop-below
+invariant-loop-below g l =
     let n = g.L.RBTreeOps.node in
     let v = g.L.LinkOps.table l.links in
     record {
       some : StandsAt n v l.place;
       each : (base : Table g.row.L-Entry.Denot) (root : Option Place) (fs : List Frame) (t : Tree) (ps : List Piece) → Stands n base v root fs t ps → top t ≡ Some l.fn.place
-          → (gs : List Frame) × (u : Tree) × Down n base v root l.place fs t ps gs u;
+          → (gs : List Frame) × (u : Tree) × Down n base v root l.side l.place fs t ps gs u;
     }
 
-abbrev pub decreases-loop-left : goal.decreases-loop-left
-decreases-loop-left g l = let v = g.L.LinkOps.table l.links in v.extent.places - depth g.L.RBTreeOps.node v (Some l.place)
+abbrev pub decreases-loop-below : goal.decreases-loop-below
+decreases-loop-below g l = let v = g.L.LinkOps.table l.links in v.extent.places - depth g.L.RBTreeOps.node v (Some l.place)

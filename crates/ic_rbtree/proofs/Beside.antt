@@ -1,0 +1,130 @@
+-- From a position in a shown tree to the member beside it, and to the hole between them.
+use Rattle.std.proofs.Common.{◌≡◌, true, Option, Some, None, List, [], ◌∷◌, ◌++◌, refl, sym, ap, ◌∙◌, subst}
+use Rattle.ic_unsafe_ref.specs.declared.place.Place.{Place}
+use Rattle.ic_link_ops.specs.declared.color.Color.{Color}
+use Rattle.ic_link_ops.specs.declared.side.Side.{Side}
+use Rattle.ic_link_ops.specs.declared.side.Side.TheVariants.{Left, Right}
+use Rattle.ic_link_ops.specs.Sequences.{Cut, join}
+use Rattle.ic_link_ops.specs.Tables.{Table}
+use Rattle.ic_link_ops.specs.Trees.{Tree, leaf, fork, top, in_order}
+use Rattle.ic_link_ops.specs.RedBlackTree.{Node, Shows}
+use Rattle.ic_link_ops.specs.Frames.{frame, across, child_on, branch}
+use Rattle.ic_link_ops.specs.Positions.{HasMember}
+use Rattle.ic_link_ops.proofs.SequenceLemmas.{none_not}
+use Rattle.ic_link_ops.proofs.ShownTrees.{no_root}
+use Rattle.ic_rbtree.specs.Pieces.{Stands}
+use Rattle.ic_rbtree.specs.Sides.{IsBeside, beyond, nearest, StandsAt, IsEnd, IsOutermost, IsNearestAbove}
+use Rattle.ic_rbtree.specs.Insertion.{IsHole}
+use Rattle.ic_rbtree.proofs.Nearest.{nearest_or, part, choose, is_beside, nearest_there, nearest_plain, nearest_around, beside_member, beside_null}
+use Rattle.ic_rbtree.proofs.Zipper.{go_down}
+use Rattle.ic_rbtree.proofs.Removing.{Spot, spot, shown_of}
+
+-- a tree at one of its members, from a side
+fork_branch : (d : Side) (c : Color) (a : Tree) (p : Place) (b : Tree) → fork c a p b ≡ branch d c (choose d a b) p (choose (across d) a b)
+fork_branch Left c a p b = refl
+fork_branch Right c a p b = refl
+
+nearest_twice : (d : Side) (s : List Place) → nearest (across (across d)) s ≡ nearest d s
+nearest_twice Left s = refl
+nearest_twice Right s = refl
+
+nearest_nothing : (d : Side) (o : Option Place) → nearest_or d [] o ≡ o
+nearest_nothing Left o = refl
+nearest_nothing Right o = refl
+
+no_top : (t : Tree) → top t ≡ None → t ≡ leaf
+no_top leaf e = refl
+no_top (fork c a p b) e = absurd (none_not p (sym e))
+
+module _ {E : Type 0} (n : E → Node) where
+  module _ {v : Table E} {root : Option Place} where
+    -- the root of a shown tree
+    pub root_can : {s : List Place} {r : Place} → Shows n v root s → root ≡ Some r → StandsAt n v r
+    root_can h is = let k = shown_of n h in (v, root, [], k.tree, [], k.stands, sym k.stands.are.0.1 ∙ is)
+
+    root_end : {s : List Place} {r : Place} (d : Side) {y : Place} → Shows n v root s → root ≡ Some r → IsOutermost n v r d y → (nearest (across d) s ≡ Some y) × (child_on d (n (v.entry y)) ≡ None)
+    root_end d h is outermost =
+        let k = shown_of n h in
+        let e = outermost v root [] k.tree [] k.stands (sym k.stands.are.0.1 ∙ is) in
+        (sym (ap (nearest (across d)) k.order) ∙ e.nearest_is, e.childless)
+
+    -- a member, and its subtree on a side
+    pub member_spot : {p : Place} → HasMember (Shows n v root) p → (front : List Place) × (back : List Place) × Spot n v v root front p back []
+    member_spot {p} m = (m.front, m.back, spot n m.front p m.back (shown_of n m.shown))
+
+    module _ {front back : List Place} {p : Place} (x : Spot n v v root front p back []) where
+      pub spot_can : StandsAt n v p
+      spot_can = (v, root, x.fs, fork x.c x.a p x.b, [], x.stands, refl)
+
+      child_is : (d : Side) → child_on d (n (v.entry p)) ≡ top (choose d x.a x.b)
+      child_is Left = x.stands.are.1.0.0.left
+      child_is Right = x.stands.are.1.0.0.right
+
+      below_stands : (d : Side) → Stands n v v root (frame d x.c p (choose (across d) x.a x.b) ∷ x.fs) (choose d x.a x.b) []
+      below_stands d =
+          go_down n root d x.c p (choose (across d) x.a x.b) x.fs (choose d x.a x.b) []
+          (subst (λ t. Stands n v v root x.fs t []) (fork_branch d x.c x.a p x.b) x.stands)
+
+      pub below_can : (d : Side) {q : Place} → child_on d (n (v.entry p)) ≡ Some q → StandsAt n v q
+      below_can d is = (v, root, frame d x.c p (choose (across d) x.a x.b) ∷ x.fs, choose d x.a x.b, [], below_stands d, sym (child_is d) ∙ is)
+
+      -- beside it is the outermost member below its child there,
+      below_end : (d : Side) {q y : Place} → child_on d (n (v.entry p)) ≡ Some q → IsOutermost n v q (across d) y
+          → (nearest d (choose d front back) ≡ Some y) × (child_on (across d) (n (v.entry y)) ≡ None)
+      below_end d {q} is outermost =
+          let below : top (choose d x.a x.b) ≡ Some q = sym (child_is d) ∙ is in
+          let e = outermost v root (frame d x.c p (choose (across d) x.a x.b) ∷ x.fs) (choose d x.a x.b) [] (below_stands d) below in (
+            nearest_around d x.fs x.a x.b front back x.front_is x.back_is
+            ∙ nearest_there d (choose d x.a x.b) q (nearest d (beyond d x.fs)) None below
+            ∙ sym (nearest_plain d (in_order (choose d x.a x.b)))
+            ∙ sym (nearest_twice d (in_order (choose d x.a x.b)))
+            ∙ e.nearest_is,
+            e.childless,
+          )
+
+      -- and where it has none, the nearest one above
+      above_end : (d : Side) {r : Option Place} → child_on d (n (v.entry p)) ≡ None → IsNearestAbove n v p d r → r ≡ nearest d (choose d front back)
+      above_end d none nearest_above =
+          let bare : choose d x.a x.b ≡ leaf = no_top (choose d x.a x.b) (sym (child_is d) ∙ none) in
+          nearest_above v root x.fs (fork x.c x.a p x.b) [] x.stands refl
+          ∙ sym (nearest_nothing d (nearest d (beyond d x.fs)))
+          ∙ ap (λ t. nearest_or d (in_order t) (nearest d (beyond d x.fs))) (sym bare)
+          ∙ sym (nearest_around d x.fs x.a x.b front back x.front_is x.back_is)
+
+    -- A STEP, beside a gap: from null there is nothing in an empty tree,
+    module _ (d : Side) (gap : Cut) (shown : Shows n v root (join gap)) where
+      pub null_nothing : IsBeside d gap None → root ≡ None → IsBeside (across d) gap None
+      null_nothing here is =
+          is_beside d gap None (sym (ap (nearest d) (beside_null d gap here ∙ no_root (subst (λ o. Shows n v o (join gap)) is shown)) ∙ nothing d)) where
+        nothing : (d : Side) → nearest d [] ≡ None
+        nothing Left = refl
+        nothing Right = refl
+
+      -- and else the end of the tree on the other side,
+      pub null_end : {k : Side} {r y : Place} → k ≡ across d → IsBeside d gap None → root ≡ Some r → IsOutermost n v r k y → IsHole n v (Some y) k gap
+      null_end {k} {r} {y} other here is outermost =
+          let e = root_end (across d) shown is (subst (λ z. IsOutermost n v r z y) other outermost) in
+          subst (λ z. IsHole n v (Some y) z gap) (sym other)
+          (e.1, is_beside d gap (Some y) (sym (ap (nearest d) (beside_null d gap here) ∙ sym (nearest_twice d (join gap)) ∙ e.0)))
+
+      -- from a member the outermost one below its child,
+      pub member_end : {k : Side} (p : Place) {q y : Place} → k ≡ across d → IsBeside d gap (Some p) → child_on d (n (v.entry p)) ≡ Some q → IsOutermost n v q k y → IsHole n v (Some y) k gap
+      member_end {k} p {q} {y} other here is outermost =
+          let m = beside_member d gap p here in
+          let x = spot n m.0 p m.1 (shown_of n (subst (λ s. Shows n v root s) m.2 shown)) in
+          let e = below_end x d is (subst (λ z. IsOutermost n v q z y) other outermost) in
+          subst (λ z. IsHole n v (Some y) z gap) (sym other) (e.1, is_beside d gap (Some y) (sym (ap (nearest d) m.3 ∙ e.0)))
+
+      -- or the nearest above
+      pub member_above : (p : Place) {r : Option Place} → IsBeside d gap (Some p) → child_on d (n (v.entry p)) ≡ None → IsNearestAbove n v p d r → IsBeside (across d) gap r
+      member_above p {r} here none nearest_above =
+          let m = beside_member d gap p here in
+          let x = spot n m.0 p m.1 (shown_of n (subst (λ s. Shows n v root s) m.2 shown)) in
+          is_beside d gap r (above_end x d none nearest_above ∙ sym (ap (nearest d) m.3))
+
+      -- a hole of the empty tree
+      pub null_hole : IsBeside d gap None → root ≡ None → IsHole n v None d gap
+      null_hole here is = both gap.front gap.back (no_root (subst (λ o. Shows n v o (join gap)) is shown)) where
+        both : (s t : List Place) → s ++ t ≡ [] → (s ≡ []) × (t ≡ [])
+        both [] t e = (refl, e)
+        both (x ∷ s) t e = cc

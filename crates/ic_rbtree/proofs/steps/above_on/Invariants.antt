@@ -1,0 +1,23 @@
+use Rattle.std.proofs.Common.{◌≡◌, List, Option, Some}
+use Rattle.ic_unsafe_ref.specs.declared.place.Place.{Place}
+use Rattle.ic_link_ops.specs.Tables.{Table}
+use Rattle.ic_link_ops.specs.Trees.{Tree, top}
+use Rattle.ic_link_ops.specs.Frames.{Frame}
+use Rattle.ic_rbtree.specs.Climb.{depth}
+use Rattle.ic_rbtree.specs.Pieces.{Piece, Stands}
+use Rattle.ic_rbtree.specs.Sides.{StandsAt}
+use Rattle.ic_rbtree.proofs.Descending.{Up}
+use Rattle.ic_rbtree.proofs.steps.above_on.Given as goal
+
+abbrev pub invariant-loop-parent : goal.invariant-loop-parent
+invariant-loop-parent g l =
+    let n = g.L.RBTreeOps.node in
+    let v = g.L.LinkOps.table l.links in
+    record {
+      some : StandsAt n v l.place;
+      each : (base : Table g.row.L-Entry.Denot) (root : Option Place) (fs : List Frame) (t : Tree) (ps : List Piece) → Stands n base v root fs t ps → top t ≡ Some l.fn.place
+          → (gs : List Frame) × (u : Tree) × Up n base v root l.side l.place fs ps gs u;
+    }
+
+abbrev pub decreases-loop-parent : goal.decreases-loop-parent
+decreases-loop-parent g l = depth g.L.RBTreeOps.node (g.L.LinkOps.table l.links) (Some l.place)
