@@ -1,5 +1,5 @@
 -- From a position in a shown tree to the member beside it, and to the hole between them.
-use Rattle.std.proofs.Common.{◌≡◌, true, Option, Some, None, List, [], ◌∷◌, ◌++◌, refl, sym, ap, ◌∙◌, subst}
+use Rattle.std.proofs.Common.{◌≡◌, Option, Some, None, List, [], ◌∷◌, ◌++◌, refl, sym, ap, ◌∙◌, subst}
 use Rattle.ic_unsafe_ref.specs.declared.place.Place.{Place}
 use Rattle.ic_link_ops.specs.declared.color.Color.{Color}
 use Rattle.ic_link_ops.specs.declared.side.Side.{Side}
@@ -13,9 +13,9 @@ use Rattle.ic_link_ops.specs.Positions.{HasMember}
 use Rattle.ic_link_ops.proofs.SequenceLemmas.{none_not}
 use Rattle.ic_link_ops.proofs.ShownTrees.{no_root}
 use Rattle.ic_rbtree.specs.Pieces.{Stands}
-use Rattle.ic_rbtree.specs.Sides.{IsBeside, beyond, nearest, StandsAt, IsEnd, IsOutermost, IsNearestAbove}
+use Rattle.ic_rbtree.specs.Sides.{IsBeside, beyond, nearest, StandsAt, IsOutermost, IsNearestAbove}
 use Rattle.ic_rbtree.specs.Insertion.{IsHole}
-use Rattle.ic_rbtree.proofs.Nearest.{nearest_or, part, choose, is_beside, nearest_there, nearest_plain, nearest_around, beside_member, beside_null}
+use Rattle.ic_rbtree.proofs.Nearest.{nearest_or, choose, is_beside, nearest_there, nearest_plain, nearest_around, beside_member, beside_null}
 use Rattle.ic_rbtree.proofs.Zipper.{go_down}
 use Rattle.ic_rbtree.proofs.Removing.{Spot, spot, shown_of}
 
@@ -75,10 +75,10 @@ module _ {E : Type 0} (n : E → Node) where
           let below : top (choose d x.a x.b) ≡ Some q = sym (child_is d) ∙ is in
           let e = outermost v root (frame d x.c p (choose (across d) x.a x.b) ∷ x.fs) (choose d x.a x.b) [] (below_stands d) below in (
             nearest_around d x.fs x.a x.b front back x.front_is x.back_is
-            ∙ nearest_there d (choose d x.a x.b) q (nearest d (beyond d x.fs)) None below
-            ∙ sym (nearest_plain d (in_order (choose d x.a x.b)))
-            ∙ sym (nearest_twice d (in_order (choose d x.a x.b)))
-            ∙ e.nearest_is,
+                ∙ nearest_there d (choose d x.a x.b) q (nearest d (beyond d x.fs)) None below
+                ∙ sym (nearest_plain d (in_order (choose d x.a x.b)))
+                ∙ sym (nearest_twice d (in_order (choose d x.a x.b)))
+                ∙ e.nearest_is,
             e.childless,
           )
 
@@ -96,9 +96,9 @@ module _ {E : Type 0} (n : E → Node) where
       pub null_nothing : IsBeside d gap None → root ≡ None → IsBeside (across d) gap None
       null_nothing here is =
           is_beside d gap None (sym (ap (nearest d) (beside_null d gap here ∙ no_root (subst (λ o. Shows n v o (join gap)) is shown)) ∙ nothing d)) where
-        nothing : (d : Side) → nearest d [] ≡ None
-        nothing Left = refl
-        nothing Right = refl
+            nothing : (d : Side) → nearest d [] ≡ None
+            nothing Left = refl
+            nothing Right = refl
 
       -- and else the end of the tree on the other side,
       pub null_end : {k : Side} {r y : Place} → k ≡ across d → IsBeside d gap None → root ≡ Some r → IsOutermost n v r k y → IsHole n v (Some y) k gap

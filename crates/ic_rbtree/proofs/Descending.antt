@@ -1,5 +1,5 @@
 -- A descent to the outermost member below a place, and a climb to the nearest member above.
-use Rattle.std.proofs.Common.{◌≡◌, ◌≢◌, ◌+◌, ◌-◌, ◌<◌, ◌≤◌, Bool, true, false, suc, Option, Some, None, List, [], ◌∷◌, length, refl, sym, ap, ◌∙◌, subst, arith}
+use Rattle.std.proofs.Common.{◌≡◌, ◌≢◌, ◌-◌, ◌<◌, true, suc, Option, Some, None, List, [], ◌∷◌, length, refl, sym, ap, ◌∙◌, subst, arith}
 use Rattle.ic_unsafe_ref.specs.declared.place.Place.{Place}
 use Rattle.ic_link_ops.specs.declared.color.Color.{Color}
 use Rattle.ic_link_ops.specs.declared.side.Side.{Side}
@@ -9,14 +9,13 @@ use Rattle.ic_link_ops.specs.Trees.{Tree, leaf, fork, top, in_order}
 use Rattle.ic_link_ops.specs.Shape.{top_color}
 use Rattle.ic_link_ops.specs.RedBlackTree.{Node}
 use Rattle.ic_link_ops.specs.Frames.{Frame, frame, across, child_on, branch, plug, above}
-use Rattle.ic_link_ops.specs.Times.{one_at, times, times_around}
 use Rattle.ic_link_ops.proofs.SequenceLemmas.{none_not, some_same}
 use Rattle.ic_link_ops.proofs.Trees.{top_parent}
 use Rattle.ic_rbtree.specs.Climb.{depth}
 use Rattle.ic_rbtree.specs.Pieces.{Piece, Stands}
 use Rattle.ic_rbtree.specs.Sides.{beyond, nearest, IsEnd}
 use Rattle.ic_rbtree.proofs.Branches.{as_branch, top_branch, side_near, side_far, side_linked}
-use Rattle.ic_rbtree.proofs.Turning.{open_at, below_linked, around_linked, times_top}
+use Rattle.ic_rbtree.proofs.Turning.{open_at, times_top}
 use Rattle.ic_rbtree.proofs.Zipper.{go_up, go_down}
 use Rattle.ic_rbtree.proofs.Climbing.{depth_top}
 use Rattle.ic_rbtree.proofs.Nearest.{nearest_or, nearest_branch, nearest_there, nearest_plain, beyond_same, nearest_frame, beyond_nothing}

@@ -13,6 +13,7 @@ pub mod Nearest
 pub mod Descending
 pub mod Removing
 pub mod Beside
+pub mod SidedEdits
 pub mod Easing
 pub mod Attaching
 pub mod Replacing

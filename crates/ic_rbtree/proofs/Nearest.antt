@@ -6,7 +6,7 @@ use Rattle.ic_link_ops.specs.declared.side.Side.{Side}
 use Rattle.ic_link_ops.specs.declared.side.Side.TheVariants.{Left, Right}
 use Rattle.ic_link_ops.specs.Sequences.{Cut, join, first, first_or, last, last_or, but_last}
 use Rattle.ic_link_ops.specs.Trees.{Tree, leaf, fork, top, in_order}
-use Rattle.ic_link_ops.specs.Frames.{Frame, frame, across, branch, plug, before, after}
+use Rattle.ic_link_ops.specs.Frames.{Frame, frame, across, branch, before, after}
 use Rattle.ic_link_ops.proofs.SequenceLemmas.{none_not, first_or-append, last_or-append, split_last, first_is, last_some}
 use Rattle.ic_rbtree.specs.Sides.{IsBeside, beyond, nearest}
 

@@ -1,11 +1,11 @@
 -- A member is taken out, and a place takes another's.
-use Rattle.std.proofs.Common.{◌≡◌, ℕ, suc, ◌+◌, ◌-◌, ◌<◌, length, inl, inr, true, Option, Some, None, List, [], ◌∷◌, ◌++◌, refl, sym, ap, ◌∙◌, subst, arith, append-nil}
+use Rattle.std.proofs.Common.{◌≡◌, ℕ, ◌+◌, inl, inr, true, Option, Some, None, List, [], ◌∷◌, ◌++◌, refl, sym, ap, ◌∙◌, subst, arith, append-nil}
 use Rattle.ic_unsafe_ref.specs.declared.place.Place.{Place}
 use Rattle.ic_link_ops.specs.declared.color.Color.{Color}
 use Rattle.ic_link_ops.specs.declared.color.Color.TheVariants.{Red, Black}
 use Rattle.ic_link_ops.specs.declared.side.Side.{Side}
 use Rattle.ic_link_ops.specs.declared.side.Side.TheVariants.{Left, Right}
-use Rattle.ic_link_ops.specs.Tables.{Table, ChangesOnly, IsCovered}
+use Rattle.ic_link_ops.specs.Tables.{Table, ChangesOnly}
 use Rattle.ic_link_ops.specs.Trees.{Tree, leaf, fork, top, in_order}
 use Rattle.ic_link_ops.specs.Shape.{top_color, weight, blacks, IsEven, NoRedPair, IsRight}
 use Rattle.ic_link_ops.specs.RedBlackTree.{Node, IsTree}
@@ -22,11 +22,10 @@ use Rattle.ic_rbtree.specs.Taking.{or_else, only, IsLone, IsGap, Gap, IsSideBelo
 use Rattle.ic_rbtree.proofs.Branches.{order_plug, side_loose}
 use Rattle.ic_rbtree.proofs.Pieces.{regroup, set_near, set_far, set_up, set_tint}
 use Rattle.ic_rbtree.proofs.Turning.{open_at, close_at, below_linked, around_linked}
-use Rattle.ic_rbtree.proofs.Zipper.{go_top, go_down, painted_top}
+use Rattle.ic_rbtree.proofs.Zipper.{go_top, painted_top}
 use Rattle.ic_rbtree.proofs.Shapes.{right_plug, red_not_black}
 use Rattle.ic_rbtree.proofs.Shortening.{shape_open}
-use Rattle.ic_rbtree.specs.Climb.{depth}
-use Rattle.ic_rbtree.proofs.Climbing.{side_found, depth_top}
+use Rattle.ic_rbtree.proofs.Climbing.{side_found}
 
 pub top_only : (a b : Tree) → or_else (top a) (top b) ≡ top (only a b)
 top_only leaf b = refl

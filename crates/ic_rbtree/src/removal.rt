@@ -6,7 +6,9 @@ ghost use Rattle.ic_rbtree.specs.Removal.{CanMend, Mends, CanMendAt, Raises, IsB
 ghost use Rattle.ic_rbtree.specs.Taking.{CanClose, Closes, CanTakeOut, TakesOut, CanUnlink, TakesAway};
 ghost use Rattle.ic_rbtree.specs.Steps.{TakesNoStep};
 
-use crate::readings::{child, has_red_child, is_red, only_child, other, second_child, side_below, side_of};
+use crate::readings::{
+    child, has_red_child, is_red, only_child, other, second_child, side_below, side_of,
+};
 use crate::steps::outermost;
 use crate::writers::{adopt, relink, rotate, set_color, take_place};
 use ic_link_ops::rbtree::RBTreeOps;

@@ -13,8 +13,8 @@ ghost use Rattle.ic_rbtree.specs.Insertion.{IsHole};
 ghost use Rattle.ic_rbtree.specs.Sides.{IsBeside, StandsAt, IsOutermost, IsNearestAbove};
 
 use crate::readings::{child, is_at, other};
-use ic_link_ops::rbtree::RBTreeOps;
 use ic_link_ops::Side;
+use ic_link_ops::rbtree::RBTreeOps;
 use ic_unsafe_ref::Place;
 
 // The member at or below a place that stands outermost on a side.

@@ -1,8 +1,5 @@
-use Rattle.std.proofs.Common.{Option, Some, None, sym, ◌∙◌, subst}
-use Rattle.ic_unsafe_ref.specs.declared.place.Place.{Place}
+use Rattle.std.proofs.Common.{Some, sym, ◌∙◌, subst}
 use Rattle.ic_link_ops.specs.Frames.{across}
-use Rattle.ic_link_ops.specs.Positions.{HasMember}
-use Rattle.ic_link_ops.specs.RedBlackTree.{Shows}
 use Rattle.ic_link_ops.proofs.Positions.{member_there}
 use Rattle.ic_rbtree.specs.Sides.{IsBeside}
 use Rattle.ic_rbtree.proofs.Removing.{spot_linked}
