@@ -1,8 +1,9 @@
 -- Sequences of distinct places: their ends, cut and joined.
-use Rattle.std.proofs.Common.{◌≡◌, ◌≢◌, ◌<◌, Option, Some, None, List, [], ◌∷◌, ◌++◌, drop, length, reverse, refl, sym, ◌∙◌, ap, subst, arith, append_assoc, append-nil}
+use Rattle.std.proofs.Common.{◌≡◌, ◌≢◌, ◌<◌, Option, Some, None, List, [], ◌∷◌, ◌++◌, drop, length, reverse, refl, sym, ◌∙◌, ap, subst, arith, append_assoc, append-nil, inl, inr}
 use Rattle.std.proofs.lemmas.List.{reverse-append}
 use Rattle.ic_unsafe_ref.specs.declared.place.Place.{Place}
-use Rattle.ic_link_ops.specs.Sequences.{Cut, join, at_front, at_back, first, last, but_last, IsAfter, IsBefore, IsAbsent, IsDistinct, IsDisjoint, first_or, last_or}
+use Rattle.ic_unsafe_ref.proofs.PlaceLemmas.{same_or_not}
+use Rattle.ic_link_ops.specs.Sequences.{Cut, join, at_front, at_back, first, last, but_last, IsAfter, IsBefore, IsAbsent, IsMember, IsDistinct, IsDisjoint, first_or, last_or}
 use Rattle.ic_link_ops.specs.Chains.{end_of}
 
 -- an end that is no member of s
@@ -310,3 +311,14 @@ same_front b (x ∷ s) t (y ∷ u) v out d e k =
 pub same_gap : (gap other : Cut) → IsDistinct (join gap) → join gap ≡ join other → last gap.front ≡ last other.front
     → (gap.front ≡ other.front) × (gap.back ≡ other.back)
 same_gap gap other d e k = same_front None gap.front gap.back other.front other.back tt d e k
+
+-- A MEMBER stands between what is in front of it and what is behind
+pub member_split : (q : Place) (s : List Place) → IsMember q s → (front : List Place) × (back : List Place) × (s ≡ front ++ q ∷ back)
+member_split q [] member = absurd (member tt)
+member_split q (x ∷ s) member = elim (same_or_not q x) [
+  | inl e ↦ ([], s, ap (λ (y : Place). y ∷ s) (sym e))
+  | inr n ↦ let r = member_split q s (λ out. member (n, out)) in (x ∷ r.0, r.1, ap (λ (t : List Place). x ∷ t) r.2)
+]
+
+pub split_member : (front : List Place) (q : Place) (back : List Place) → IsMember q (front ++ q ∷ back)
+split_member front q back out = (absent_right q front (q ∷ back) out).0 refl

@@ -6,7 +6,7 @@ use Rattle.ic_link_ops.specs.Sequences.{IsAbsent, IsDisjoint, first}
 use Rattle.ic_link_ops.specs.Tables.{Table, IsCovered, KeepsBeside}
 use Rattle.ic_link_ops.specs.Trees.{Tree, leaf, fork, top, in_order}
 use Rattle.ic_link_ops.specs.RedBlackTree.{Node, IsAt, Holds, Shows, ShowsEnds}
-use Rattle.ic_link_ops.proofs.SequenceLemmas.{absent_right, disjoint_sym, first_not, last_not, none_not}
+use Rattle.ic_link_ops.proofs.SequenceLemmas.{split_member, disjoint_sym, first_not, last_not, none_not}
 use Rattle.ic_link_ops.proofs.Trees.{top_not, top_parent, tree_kept, tree_absent, read_absent, one_tree, tree_covered, same_root}
 use Rattle.ic_link_ops.proofs.CollectionLaws.{IsKind}
 use Rattle.ic_link_ops.proofs.Walks.{pigeonhole}
@@ -21,10 +21,6 @@ outside_of q (x ∷ s) t m d = ((λ e. m (rw e d.0)), outside_of q s t m d.1)
 not_false : (b : Bool) → (b ≡ false → ⊥) → b ≡ true
 not_false true h = refl
 not_false false h = absurd (h refl)
-
--- what stands in the middle is a member
-pub middle_member : (front : List Place) (q : Place) (back : List Place) → IsAbsent q (front ++ q ∷ back) → ⊥
-middle_member front q back out = (absent_right q front (q ∷ back) out).0 refl
 
 module _ {E : Type 0} {n : E → Node} where
   -- a tree stays where the table keeps the entries of its members
@@ -173,7 +169,7 @@ module _ {E : Type 0} {n : E → Node} where
   no_members {t} {root} h = h.starts ∙ none h.tree h.held.order where
     none : (tree : Tree) → in_order tree ≡ [] → top tree ≡ None
     none leaf order = refl
-    none (fork c a p b) order = absurd (middle_member (in_order a) p (in_order b) (rw order tt))
+    none (fork c a p b) order = absurd (split_member (in_order a) p (in_order b) (rw order tt))
 
   -- A TABLE SHOWS AT MOST ONE SEQUENCE for a tree
   pub one_sequence : {t : Table E} {root : Option Place} {s s' : List Place} → Shows n t root s → Shows n t root s' → s ≡ s'

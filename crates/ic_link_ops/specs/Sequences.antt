@@ -74,6 +74,10 @@ abbrev pub IsAbsent : Place → List Place → Type 0
 IsAbsent q [] = Unit {0}
 IsAbsent q (x ∷ s) = (q ≢ x) × IsAbsent q s
 
+-- q is a member of s
+abbrev pub IsMember : Place → List Place → Type 0
+IsMember q s = IsAbsent q s → ⊥
+
 -- no place stands twice in s
 abbrev pub IsDistinct : List Place → Type 0
 IsDistinct [] = Unit {0}
