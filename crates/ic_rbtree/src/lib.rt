@@ -1,6 +1,7 @@
 //! The red-black tree. So far it has what names the keys of objects, and the links.
 #![tactic(auto)]
 
+mod cursor;
 mod edits;
 mod insertion;
 pub mod key_adapter;
@@ -12,6 +13,7 @@ mod steps;
 mod tree;
 mod writers;
 
+pub use cursor::Cursor;
 pub use ic_link_ops::Color;
 pub use ic_link_ops::rbtree::{Link, LinkOps, RBTreeOps};
 pub use key_adapter::KeyAdapter;
