@@ -2,6 +2,7 @@
 #![tactic(auto)]
 
 mod cursor;
+mod cursor_mut;
 mod edits;
 mod insertion;
 pub mod key_adapter;
@@ -14,6 +15,7 @@ mod tree;
 mod writers;
 
 pub use cursor::Cursor;
+pub use cursor_mut::CursorMut;
 pub use ic_link_ops::Color;
 pub use ic_link_ops::rbtree::{Link, LinkOps, RBTreeOps};
 pub use key_adapter::KeyAdapter;
