@@ -3,6 +3,7 @@
 
 mod cursor;
 mod cursor_mut;
+mod cursor_owning;
 mod edits;
 mod insertion;
 pub mod key_adapter;
@@ -16,6 +17,7 @@ mod writers;
 
 pub use cursor::Cursor;
 pub use cursor_mut::CursorMut;
+pub use cursor_owning::CursorOwning;
 pub use ic_link_ops::Color;
 pub use ic_link_ops::rbtree::{Link, LinkOps, RBTreeOps};
 pub use key_adapter::KeyAdapter;
