@@ -26,7 +26,7 @@ length_branch Left c a p b = omega (arith, length-append (in_order a) (p ∷ in_
 length_branch Right c a p b = omega (arith, length-append (in_order b) (p ∷ in_order a))
 
 -- no way down is longer than the sequence
-length_frames : (fs : List Frame) (t : Tree) → length fs + length (in_order t) ≤ length (in_order (plug fs t))
+pub length_frames : (fs : List Frame) (t : Tree) → length fs + length (in_order t) ≤ length (in_order (plug fs t))
 length_frames [] t = omega arith
 length_frames (frame d c p b ∷ fs) t = omega (arith, length_frames fs (branch d c t p b), length_branch d c t p b)
 

@@ -18,3 +18,4 @@ pub mod Easing
 pub mod Attaching
 pub mod Replacing
 pub mod Bound
+pub mod Members

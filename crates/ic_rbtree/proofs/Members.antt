@@ -1,0 +1,106 @@
+-- The members of a tree, as the entries lead through them, are the sequence that the table shows.
+use Rattle.std.proofs.Common.{◌≡◌, ℕ, suc, zero, ◌+◌, ◌≤◌, true, Option, Some, None, List, [], ◌∷◌, ◌++◌, length, refl, sym, ap, ◌∙◌, subst, arith, length-append}
+use Rattle.ic_unsafe_ref.specs.declared.place.Place.{Place}
+use Rattle.ic_link_ops.specs.Sequences.{first}
+use Rattle.ic_link_ops.specs.Tables.{Table, IsCovered}
+use Rattle.ic_link_ops.specs.Trees.{Tree, leaf, fork, top, in_order}
+use Rattle.ic_link_ops.specs.RedBlackTree.{Node, IsTree, Holds, Shows, ShowsEnds}
+use Rattle.ic_link_ops.specs.Frames.{Frame, frame, plug, above, topmost, IsAround}
+use Rattle.ic_link_ops.specs.Times.{times}
+use Rattle.ic_link_ops.proofs.SequenceLemmas.{none_not}
+use Rattle.ic_link_ops.proofs.Frames.{focus}
+use Rattle.ic_link_ops.proofs.ShownTrees.{holds_length, holds_once, middle_member}
+use Rattle.ic_rbtree.specs.Members.{some_or, tree_below, top_above, members, members_around}
+use Rattle.ic_rbtree.specs.Pieces.{Stands}
+use Rattle.ic_rbtree.proofs.Branches.{side_up}
+use Rattle.ic_rbtree.proofs.Climbing.{length_frames}
+use Rattle.ic_rbtree.proofs.Removing.{go_into}
+
+-- with no member there is no root
+pub no_top : (t : Tree) → in_order t ≡ [] → top t ≡ None
+no_top leaf e = refl
+no_top (fork c a p b) e = absurd (middle_member (in_order a) p (in_order b) (rw e tt))
+
+topmost_some : (fs : List Frame) (q p : Place) → some_or (Some p) (topmost fs (Some q)) ≡ topmost fs (Some q)
+topmost_some [] q p = refl
+topmost_some (frame d c r b ∷ fs) q p = topmost_some fs r p
+
+length_fork : (a : Tree) (p : Place) (b : Tree) → length (in_order a) + length (in_order b) + 1 ≡ length (in_order a ++ p ∷ in_order b)
+length_fork a p b = omega (arith, length-append (in_order a) (p ∷ in_order b))
+
+module _ {E : Type 0} (n : E → Node) where
+  -- a held tree on its own
+  pub stands_of : {v : Table E} {tree : Tree} {s : List Place} → Holds n v tree s → Stands n v v (top tree) [] tree []
+  stands_of h = record {
+    are = ((tt, refl), (h.entries, tt));
+    once = λ q. omega (arith, holds_once h q);
+    beside = λ q none. refl;
+    linked = λ q. refl;
+    extent = refl;
+  }
+
+  -- what is read below the root of a tree is that tree
+  tree_read : (entry : Place → E) (up : Option Place) (t : Tree) (k : ℕ) → IsTree n entry up t → length (in_order t) ≤ k → tree_below n entry k (top t) ≡ t
+  unfolding tree_below
+  tree_read entry up leaf zero h fits = refl
+  tree_read entry up leaf (suc k) h fits = refl
+  tree_read entry up (fork c a p b) zero h fits = absurd (omega (arith, length_fork a p b))
+  tree_read entry up (fork c a p b) (suc k) h fits =
+      let left : tree_below n entry k ((n (entry p)).left) ≡ a =
+      ap (tree_below n entry k) h.0.left ∙ tree_read entry (Some p) a k h.1 (omega (arith, length_fork a p b)) in
+      let right : tree_below n entry k ((n (entry p)).right) ≡ b =
+      ap (tree_below n entry k) h.0.right ∙ tree_read entry (Some p) b k h.2 (omega (arith, length_fork a p b)) in
+      let color : (n (entry p)).color ≡ c = h.0.color in
+      λ i. fork (color i) (left i) p (right i)
+
+  top_none : (entry : Place → E) (k : ℕ) → top_above n entry k None ≡ None
+  unfolding top_above
+  top_none entry zero = refl
+  top_none entry (suc k) = refl
+
+  -- from a member the parents lead to the root
+  above_read : (entry : Place → E) (fs : List Frame) (o : Option Place) (p : Place) (k : ℕ) → IsAround n entry fs o → length fs ≤ k
+      → some_or (Some p) (top_above n entry k (above fs)) ≡ topmost fs (Some p)
+  unfolding top_above
+  above_read entry [] o p k h fits = ap (some_or (Some p)) (top_none entry k)
+  above_read entry (frame d c q b ∷ fs) o p zero h fits = absurd (omega arith)
+  above_read entry (frame d c q b ∷ fs) o p (suc k) h fits =
+      let up : (n (entry q)).parent ≡ above fs = side_up n entry d q c o (top b) (above fs) h.0 in
+      ap (λ (x : Option Place). some_or (Some p) (some_or (Some q) (top_above n entry k x))) up
+      ∙ ap (some_or (Some p)) (above_read entry fs (Some q) q k h.2 (omega arith)) ∙ topmost_some fs q p
+
+  top_read : (entry : Place → E) (fs : List Frame) (o : Option Place) (p : Place) (k : ℕ) → (n (entry p)).parent ≡ above fs → IsAround n entry fs o → suc (length fs) ≤ k
+      → top_above n entry k (Some p) ≡ topmost fs (Some p)
+  unfolding top_above
+  top_read entry fs o p zero up h fits = absurd (omega arith)
+  top_read entry fs o p (suc k) up h fits =
+      ap (λ (x : Option Place). some_or (Some p) (top_above n entry k x)) up ∙ above_read entry fs o p k h (omega arith)
+
+  -- the laws ask for a table in which only covered places are linked
+  module _ (t : Table E) (law : (q : Place) → (n (t.entry q)).linked ≡ true → IsCovered t q) where
+    pub members_held : {tree : Tree} {s : List Place} → Holds n t tree s → members n t (top tree) ≡ s
+    members_held {tree} {s} h =
+        let few : length s ≤ t.extent.places = holds_length t law h in
+        let fits : length (in_order tree) ≤ t.extent.places = rw h.order few in
+        ap in_order (tree_read t.entry None tree t.extent.places h.entries fits) ∙ h.order
+
+    around_held : (tree : Tree) (s : List Place) → Holds n t tree s → members_around n t (first s) ≡ s
+    around_held tree [] h = ap (members n t) (top_none t.entry t.extent.places ∙ sym (no_top tree h.order)) ∙ members_held h
+    around_held tree (x ∷ s) h =
+        let f = focus tree [] [] x s h.order in
+        let st = go_into n (top tree) f.0 (fork f.1 f.2 x f.3) [] (subst (λ (y : Tree). Stands n t t (top tree) [] y []) (sym f.4) (stands_of h)) in
+        let few : length (x ∷ s) ≤ t.extent.places = holds_length t law h in
+        let all : length (in_order (plug f.0 (fork f.1 f.2 x f.3))) ≡ length (x ∷ s) = ap (λ (y : Tree). length (in_order y)) f.4 ∙ ap length h.order in
+        let fits : suc (length f.0) ≤ t.extent.places =
+        omega (arith, all, length_frames f.0 (fork f.1 f.2 x f.3), length_fork f.2 x f.3) in
+        let root : top_above n t.entry t.extent.places (Some x) ≡ top tree =
+        top_read t.entry f.0 (Some x) x t.extent.places st.are.1.0.0.parent st.are.0.0 fits ∙ sym st.are.0.1 in
+        ap (members n t) root ∙ members_held h
+
+    -- THE MEMBERS below the root of a tree are the sequence that is shown for it
+    pub members_shown : (root : Option Place) (s : List Place) → Shows n t root s → members n t root ≡ s
+    members_shown root s h = ap (members n t) h.starts ∙ members_held h.held
+
+    -- and those around the first of two ends the sequence between them
+    pub members_between_ends : (front back : Option Place) (s : List Place) → ShowsEnds n t front back s → members_around n t front ≡ s
+    members_between_ends front back s h = ap (members_around n t) h.starts ∙ around_held h.tree s h.held
