@@ -18,4 +18,6 @@ pub mod Easing
 pub mod Attaching
 pub mod Replacing
 pub mod Bound
+pub mod Climbed
+pub mod Laws
 pub mod Members

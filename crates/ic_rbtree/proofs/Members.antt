@@ -6,10 +6,9 @@ use Rattle.ic_link_ops.specs.Tables.{Table, IsCovered}
 use Rattle.ic_link_ops.specs.Trees.{Tree, leaf, fork, top, in_order}
 use Rattle.ic_link_ops.specs.RedBlackTree.{Node, IsTree, Holds, Shows, ShowsEnds}
 use Rattle.ic_link_ops.specs.Frames.{Frame, frame, plug, above, topmost, IsAround}
-use Rattle.ic_link_ops.specs.Times.{times}
-use Rattle.ic_link_ops.proofs.SequenceLemmas.{none_not}
 use Rattle.ic_link_ops.proofs.Frames.{focus}
-use Rattle.ic_link_ops.proofs.ShownTrees.{holds_length, holds_once, middle_member}
+use Rattle.ic_link_ops.proofs.ShownTrees.{holds_length, holds_once}
+use Rattle.ic_link_ops.proofs.SequenceLemmas.{split_member}
 use Rattle.ic_rbtree.specs.Members.{some_or, tree_below, top_above, members, members_around}
 use Rattle.ic_rbtree.specs.Pieces.{Stands}
 use Rattle.ic_rbtree.proofs.Branches.{side_up}
@@ -19,7 +18,7 @@ use Rattle.ic_rbtree.proofs.Removing.{go_into}
 -- with no member there is no root
 pub no_top : (t : Tree) → in_order t ≡ [] → top t ≡ None
 no_top leaf e = refl
-no_top (fork c a p b) e = absurd (middle_member (in_order a) p (in_order b) (rw e tt))
+no_top (fork c a p b) e = absurd (split_member (in_order a) p (in_order b) (rw e tt))
 
 topmost_some : (fs : List Frame) (q p : Place) → some_or (Some p) (topmost fs (Some q)) ≡ topmost fs (Some q)
 topmost_some [] q p = refl

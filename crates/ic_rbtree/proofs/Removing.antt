@@ -28,6 +28,16 @@ cancel : (s t u : List Place) → s ++ t ≡ s ++ u → t ≡ u
 cancel [] t u e = e
 cancel (x ∷ s) t u e = let k : s ++ t ≡ s ++ u = cc in cancel s t u k
 
+-- the sequence of a tree around one of its members
+pub order_around : (fs : List Frame) (c : Color) (a : Tree) (p : Place) (b : Tree) (front back : List Place) → before fs ++ in_order a ≡ front → in_order b ++ after fs ≡ back
+    → in_order (plug fs (fork c a p b)) ≡ front ++ p ∷ back
+order_around fs c a p b front back ef eb =
+    in_order_parts fs (fork c a p b)
+    ∙ ap (λ (s : List Place). before fs ++ s) (append_assoc (in_order a) (p ∷ in_order b) (after fs))
+    ∙ sym (append_assoc (before fs) (in_order a) (p ∷ (in_order b ++ after fs)))
+    ∙ ap (λ (s : List Place). s ++ p ∷ (in_order b ++ after fs)) ef
+    ∙ ap (λ (s : List Place). front ++ p ∷ s) eb
+
 -- another place with the same color keeps the shape
 pub renamed : (fs : List Frame) (c : Color) (a : Tree) (p q : Place) (b : Tree) → IsRight (plug fs (fork c a p b)) → IsRight (plug fs (fork c a q b))
 renamed fs c a p q b r =
@@ -62,6 +72,16 @@ module _ {E : Type 0} (n : E → Node) where
         front_is = f.5;
         back_is = f.6 ∙ append-nil back;
       }
+
+  -- another place stands in the member's place
+  pub placed : {base w u : Table E} {root1 root2 : Option Place} {front : List Place} {p : Place} {back : List Place} {ps : List Piece} (z : Place)
+      → Spot base w root1 front p back (loose z ∷ ps) → TakesPlace n w u root1 root2 p z → Shown n base u root2 (front ++ z ∷ back) (loose p ∷ ps)
+  placed {base} {w} {u} {root1} {root2} {front} {p} {back} {ps} z x swapped = record {
+    tree = plug x.fs (fork x.c x.a z x.b);
+    stands = go_top n root2 x.fs (fork x.c x.a z x.b) (loose p ∷ ps) (swapped base x.fs x.c x.a x.b ps x.stands);
+    order = order_around x.fs x.c x.a z x.b front back x.front_is x.back_is;
+    shape = renamed x.fs x.c x.a p z x.b x.right;
+  }
 
   module _ {base v : Table E} {root : Option Place} {front : List Place} {p : Place} {back : List Place} {ps : List Piece} (x : Spot base v root front p back ps) where
     pub spot_linked : (n (v.entry p)).linked ≡ true
@@ -127,7 +147,7 @@ module _ {E : Type 0} (n : E → Node) where
             let start : before l.gs ≡ front ++ p ∷ [] = l.beside ∙ (sym (append_assoc (before x.fs) (in_order x.a) (p ∷ [])) ∙ ap (λ (s : List Place). s ++ p ∷ []) x.front_is) in
             let glued : (s : List Place) → before l.gs ++ s ≡ front ++ p ∷ s = λ s. ap (λ (t : List Place). t ++ s) start ∙ append_assoc front (p ∷ []) s in
             let old : in_order (plug x.fs (fork x.c x.a p x.b)) ≡ front ++ p ∷ back =
-            in_order_parts x.fs (fork x.c x.a p x.b) ∙ old_parts (before x.fs) (in_order x.a) (in_order x.b) (after x.fs) x.front_is x.back_is in
+            order_around x.fs x.c x.a p x.b front back x.front_is x.back_is in
             let new : in_order (plug l.gs (fork l.c leaf z l.b)) ≡ front ++ p ∷ (z ∷ rest) = in_order_parts l.gs (fork l.c leaf z l.b) ∙ glued (z ∷ rest) in
             let same : front ++ p ∷ back ≡ front ++ p ∷ (z ∷ rest) = sym old ∙ (sym (ap in_order l.same) ∙ new) in
             let tail : p ∷ back ≡ p ∷ (z ∷ rest) = cancel front (p ∷ back) (p ∷ (z ∷ rest)) same in
@@ -140,10 +160,6 @@ module _ {E : Type 0} (n : E → Node) where
               behind = cc;
               order = glued rest;
             }
-          where
-            old_parts : (f a b g : List Place) → f ++ a ≡ front → b ++ g ≡ back → f ++ ((a ++ p ∷ b) ++ g) ≡ front ++ p ∷ back
-            old_parts f a b g ef eb =
-                ap (λ (s : List Place). f ++ s) (append_assoc a (p ∷ b) g) ∙ (sym (append_assoc f a (p ∷ (b ++ g))) ∙ (ap (λ (s : List Place). s ++ p ∷ (b ++ g)) ef ∙ ap (λ (s : List Place). front ++ p ∷ s) eb))
 
         pub next_can : CanTakeOut n v root z
         next_can = (base, next.gs, next.k, leaf, next.m, ps, next.stands, inl refl, next.right)
@@ -158,17 +174,7 @@ module _ {E : Type 0} (n : E → Node) where
         pub place_taken : {w u : Table E} {root1 root2 : Option Place} → TakesOut n v w root root1 z → TakesPlace n w u root1 root2 p z → Shown n base u root2 (front ++ back) (loose p ∷ ps)
         place_taken {w} {u} {root1} {root2} taken swapped =
             let y = spot front p (in_order next.m ++ after next.gs) (next_out taken) in
-            let st = swapped base y.fs y.c y.a y.b ps y.stands in
-            subst (λ (s : List Place). Shown n base u root2 (front ++ s) (loose p ∷ ps)) (sym next.behind) (record {
-              tree = plug y.fs (fork y.c y.a z y.b);
-              stands = go_top n root2 y.fs (fork y.c y.a z y.b) (loose p ∷ ps) st;
-              order = in_order_parts y.fs (fork y.c y.a z y.b) ∙ put (before y.fs) (in_order y.a) (in_order y.b) (after y.fs) y.front_is y.back_is;
-              shape = renamed y.fs y.c y.a p z y.b y.right;
-            })
-          where
-            put : (f a b g : List Place) → f ++ a ≡ front → b ++ g ≡ in_order next.m ++ after next.gs → f ++ ((a ++ z ∷ b) ++ g) ≡ front ++ z ∷ (in_order next.m ++ after next.gs)
-            put f a b g ef eb =
-                ap (λ (s : List Place). f ++ s) (append_assoc a (z ∷ b) g) ∙ (sym (append_assoc f a (z ∷ (b ++ g))) ∙ (ap (λ (s : List Place). s ++ z ∷ (b ++ g)) ef ∙ ap (λ (s : List Place). front ++ z ∷ s) eb))
+            subst (λ (s : List Place). Shown n base u root2 (front ++ s) (loose p ∷ ps)) (sym next.behind) (placed z y swapped)
 
   -- INTO THE PIECES, and out of them
   pub shown_of : {v : Table E} {root : Option Place} {s : List Place} → Shows n v root s → Shown n v v root s []

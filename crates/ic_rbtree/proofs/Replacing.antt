@@ -1,35 +1,19 @@
 -- A member is replaced.
-use Rattle.std.proofs.Common.{◌≡◌, ◌≢◌, Bool, Option, Some, List, [], ◌∷◌, ◌++◌, sym, ap, ◌∙◌, subst, arith, append_assoc, drop}
+use Rattle.std.proofs.Common.{◌≡◌, ◌≢◌, Bool, Option, Some, List, [], ◌∷◌, ◌++◌, sym, ap, ◌∙◌, subst, arith, drop}
 use Rattle.ic_unsafe_ref.specs.declared.place.Place.{Place}
 use Rattle.ic_link_ops.specs.Sequences.{Cut, join, first, IsAbsent}
 use Rattle.ic_link_ops.specs.Tables.{Table, ChangesOnly, IsLinked, IsUnlinked}
 use Rattle.ic_link_ops.specs.Edits.{Replaces}
-use Rattle.ic_link_ops.specs.Trees.{fork, in_order}
 use Rattle.ic_link_ops.specs.RedBlackTree.{Node, Shows}
-use Rattle.ic_link_ops.specs.Frames.{plug, before, after}
-use Rattle.ic_link_ops.proofs.Frames.{in_order_parts}
 use Rattle.ic_link_ops.specs.Times.{one_at, times, times_in}
 use Rattle.ic_link_ops.proofs.Times.{one_at_self, one_at_other, apart, times_order, absent_times, times_append}
 use Rattle.ic_link_ops.proofs.ShownTrees.{shows_beside}
 use Rattle.ic_rbtree.specs.Pieces.{Piece, loose, Shown}
 use Rattle.ic_rbtree.specs.Taking.{CanTakePlace, TakesPlace}
-use Rattle.ic_rbtree.proofs.Zipper.{go_top}
-use Rattle.ic_rbtree.proofs.Removing.{Spot, spot, renamed, shows_of, loose_absent, front_shown}
+use Rattle.ic_rbtree.proofs.Removing.{placed, Spot, spot, shows_of, loose_absent, front_shown}
 use Rattle.ic_rbtree.proofs.Attaching.{acquired_shown}
 
 module _ {E : Type 0} (n : E → Node) where
-  pub placed : {base w u : Table E} {root1 root2 : Option Place} {front : List Place} {p : Place} {back : List Place} {ps : List Piece} (z : Place)
-      → Spot n base w root1 front p back (loose z ∷ ps) → TakesPlace n w u root1 root2 p z → Shown n base u root2 (front ++ z ∷ back) (loose p ∷ ps)
-  placed {base} {w} {u} {root1} {root2} {front} {p} {back} {ps} z x swapped = record {
-    tree = plug x.fs (fork x.c x.a z x.b);
-    stands = go_top n root2 x.fs (fork x.c x.a z x.b) (loose p ∷ ps) (swapped base x.fs x.c x.a x.b ps x.stands);
-    order = in_order_parts x.fs (fork x.c x.a z x.b) ∙ put (before x.fs) (in_order x.a) (in_order x.b) (after x.fs) x.front_is x.back_is;
-    shape = renamed x.fs x.c x.a p z x.b x.right;
-  } where
-    put : (f a b g : List Place) → f ++ a ≡ front → b ++ g ≡ back → f ++ ((a ++ z ∷ b) ++ g) ≡ front ++ z ∷ back
-    put f a b g ef eb =
-        ap (λ (s : List Place). f ++ s) (append_assoc a (z ∷ b) g) ∙ (sym (append_assoc f a (z ∷ (b ++ g))) ∙ (ap (λ (s : List Place). s ++ z ∷ (b ++ g)) ef ∙ ap (λ (s : List Place). front ++ z ∷ s) eb))
-
   -- the member, beside a place that has just been linked
   pub member_spot : (linked : E → Bool) → ((e : E) → (n e).linked ≡ linked e) → (old v : Table E) (root : Option Place) (gap : Cut) (p new : Place) → Shows n old root (join gap) → first gap.back ≡ Some p
       → IsUnlinked linked old new → IsLinked linked v new → ChangesOnly old v new → (rest : List Place) × (gap.back ≡ p ∷ rest) × Spot n v v root gap.front p rest (loose new ∷ [])
@@ -48,7 +32,7 @@ module _ {E : Type 0} (n : E → Node) where
       → gap.back ≡ p ∷ rest → ChangesOnly old v new → Spot n v v root gap.front p rest (loose new ∷ []) → TakesPlace n v w root new_root p new
       → ChangesOnly w z p → Replaces (Shows n) old z new_root gap new
   replaces old v w z root new_root p new gap rest is only x swapped only' =
-      let h = placed new x swapped in
+      let h = placed n new x swapped in
       record {
         shows = subst (λ (s : List Place). Shows n z new_root (gap.front ++ new ∷ s)) (sym (ap (λ (s : List Place). drop 1 s) is)) (shows_beside (shows_of n h) (loose_absent n h) only'.others);
         frame = record {

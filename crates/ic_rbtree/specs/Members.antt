@@ -1,7 +1,7 @@
 -- The members of a tree, as the entries lead through them.
-use Rattle.std.specs.Prelude.{ℕ, zero, suc, Option, Some, None, List}
+use Rattle.std.specs.Prelude.{◌≡◌, ◌⊎◌, true, ℕ, zero, suc, Option, Some, None, List, [], ◌∷◌}
 use Rattle.ic_unsafe_ref.specs.declared.place.Place.{Place}
-use Rattle.ic_link_ops.specs.Tables.{Table}
+use Rattle.ic_link_ops.specs.Tables.{Table, IsCovered}
 use Rattle.ic_link_ops.specs.Trees.{Tree, leaf, fork, in_order}
 use Rattle.ic_link_ops.specs.RedBlackTree.{Node}
 
@@ -31,3 +31,14 @@ module _ {E : Type 0} (n : E → Node) where
   -- and of the tree that this place is in
   abbrev pub members_around : Table E → Option Place → List Place
   members_around t p = members t (top_above t.entry t.extent.places p)
+
+  -- q is covered and linked, and has p as a child
+  pub record HasChild (t : Table E) (q p : Place) : Type 0 where
+    pub covered : IsCovered t q
+    pub linked : (n (t.entry q)).linked ≡ true
+    pub child : ((n (t.entry q)).left ≡ Some p) ⊎ ((n (t.entry q)).right ≡ Some p)
+
+  -- A PATH DOWN from this place: each member of it is a child of the one before
+  abbrev pub IsPathDown : Table E → Option Place → List Place → Type 0
+  IsPathDown t o [] = Unit {0}
+  IsPathDown t o (p ∷ path) = (o ≡ Some p) × (IsPathDown t (n (t.entry p)).left path ⊎ IsPathDown t (n (t.entry p)).right path)

@@ -1,13 +1,13 @@
 //! The red-black tree. So far it has what names the keys of objects, and the links.
 #![tactic(auto)]
 
+mod contains;
 mod cursor;
 mod cursor_mut;
 mod cursor_owning;
 mod edits;
 mod insertion;
 pub mod key_adapter;
-pub mod laws;
 mod linking;
 mod readings;
 mod removal;

@@ -1,0 +1,105 @@
+-- Membership by a climb: a path down a tree is short, and what a member's readings name is a member.
+use Rattle.std.proofs.Common.{◌≡◌, ℕ, ◌+◌, ◌^◌, ◌≤◌, ◌<◌, true, Option, Some, None, List, [], ◌∷◌, length, refl, sym, ap, ◌∙◌, subst, arith, inl, inr, ◌⊎◌, eq-eqb}
+use Rattle.std.specs.List.{AllByRecursion}
+use Rattle.std.proofs.Math.Nat.{pow-le-pow_left}
+use Rattle.std.proofs.lemmas.Nat.{pow_below}
+use Rattle.std.proofs.lemmas.Bool.{cases_lt}
+use Rattle.ic_unsafe_ref.specs.declared.place.Place.{Place}
+use Rattle.ic_unsafe_ref.specs.Places.{index_of}
+use Rattle.ic_unsafe_ref.proofs.PlaceLemmas.{index_small}
+use Rattle.ic_link_ops.specs.declared.color.Color.{Color}
+use Rattle.ic_link_ops.specs.Sequences.{IsMember}
+use Rattle.ic_link_ops.specs.Tables.{Table, IsCovered}
+use Rattle.ic_link_ops.specs.Walk.{is_end}
+use Rattle.ic_link_ops.specs.Trees.{Tree, fork, top, in_order}
+use Rattle.ic_link_ops.specs.Shape.{IsRight}
+use Rattle.ic_link_ops.specs.RedBlackTree.{Node, Shows}
+use Rattle.ic_link_ops.specs.Frames.{Frame, frame, branch, plug, above, child_on}
+use Rattle.ic_link_ops.specs.declared.side.Side.{Side}
+use Rattle.ic_link_ops.specs.declared.side.Side.TheVariants.{Left, Right}
+use Rattle.ic_link_ops.proofs.SequenceLemmas.{none_not, member_split}
+use Rattle.ic_link_ops.proofs.ShownTrees.{left_member, right_member}
+use Rattle.ic_link_ops.proofs.Trees.{top_parent}
+use Rattle.ic_link_ops.proofs.Walks.{pigeonhole}
+use Rattle.ic_rbtree.specs.Members.{HasChild}
+use Rattle.ic_rbtree.specs.Pieces.{Stands}
+use Rattle.ic_rbtree.proofs.Bound.{looks_few}
+use Rattle.ic_rbtree.proofs.Descending.{framed}
+use Rattle.ic_rbtree.proofs.Branches.{top_branch}
+use Rattle.ic_rbtree.proofs.Removing.{spot, shown_of, order_around}
+
+-- an end is where it is
+pub is_end_there : {end : Option Place} {p : Place} → end ≡ Some p → is_end end p ≡ true
+is_end_there {end} {p} e = rw e (eq-eqb (index_of p) (index_of p) refl)
+
+-- all places are few
+all_small : (s : List Place) → AllByRecursion (λ q. index_of q < 8589934591) s
+all_small [] = tt
+all_small (x ∷ s) = (index_small x, all_small s)
+
+-- what is at most the square of 2 ^ 33 as a power of 2 has a small exponent
+exponent_small : (v m : ℕ) → m ≤ 8589934592 → 2 ^ v ≤ m ^ 2 → v ≤ 66
+exponent_small v m small h = elim (cases_lt 66 v) [
+  | inl more ↦
+      let big : 2 ^ 66 < 2 ^ v = pow_below 66 v more in
+      let square : m ^ 2 ≤ 8589934592 ^ 2 = pow-le-pow_left small 2 in
+      let is : 8589934592 ^ 2 ≡ 2 ^ 66 = refl in
+      absurd (omega (arith, big, h, square, is))
+  | inr few ↦ few
+]
+
+module _ {E : Type 0} (n : E → Node) where
+  -- THE CLIMB: the member p stands below so few frames that with the steps made they are less than the longest path has members
+  pub record Climbs (v : Table E) (root : Option Place) (p : Place) (steps : ℕ) : Type 0 where
+    pub fs : List Frame
+    pub t : Tree
+    pub stands : Stands n v v root fs t []
+    pub top_is : top t ≡ Some p
+    pub few : length fs + steps ≤ 65
+
+  module _ {v : Table E} {root : Option Place} {s : List Place} (shown : Shows n v root s) where
+    pub starts : {p : Place} → IsMember p s → Climbs v root p 0
+    starts {p} member =
+        let m = member_split p s member in
+        let x = spot n m.0 p m.1 (shown_of n (subst (λ z. Shows n v root z) m.2 shown)) in
+        let t : Tree = fork x.c x.a p x.b in
+        let n_few : length s ≤ 8589934591 = pigeonhole s 8589934591 shown.held.distinct (all_small s) in
+        record {
+          fs = x.fs;
+          t = t;
+          stands = x.stands;
+          top_is = refl;
+          few = omega (arith, exponent_small (length x.fs + 1) (length s + 1) (omega arith) (looks x.fs x.c x.a x.b x.right (order_around x.fs x.c x.a p x.b m.0 m.1 x.front_is x.back_is ∙ sym m.2)));
+        }
+      where
+        looks : (fs : List Frame) (c : Color) (a b : Tree) → IsRight (plug fs (fork c a p b)) → in_order (plug fs (fork c a p b)) ≡ s → 2 ^ (length fs + 1) ≤ (length s + 1) ^ 2
+        looks fs c a b right same = subst (λ (z : List Place). 2 ^ (length fs + 1) ≤ (length z + 1) ^ 2) same (looks_few fs (fork c a p b) (length fs + 1) right (omega arith))
+
+    -- one step goes to a member as well, whose child the old one is
+    pub climbs : {p q : Place} {steps : ℕ} → Climbs v root p steps → (n (v.entry p)).parent ≡ Some q → Climbs v root q (steps + 1)
+    climbs {p} {q} {steps} k up =
+        let f = framed n k.fs k.t k.stands k.top_is up in
+        record { fs = f.rest; t = branch f.k f.c k.t q f.b; stands = f.stands; top_is = top_branch f.k f.c k.t q f.b; few = omega (arith, k.few, ap length f.is) }
+
+    pub has_child : {p q : Place} {steps : ℕ} → ((x : Place) → (n (v.entry x)).linked ≡ true → IsCovered v x) → Climbs v root p steps → (n (v.entry p)).parent ≡ Some q → HasChild n v q p
+    has_child {p} {q} law k up =
+        let f = framed n k.fs k.t k.stands k.top_is up in
+        record { covered = law q f.linked; linked = f.linked; child = by f.k f.near }
+      where
+        by : (d : Side) → child_on d (n (v.entry q)) ≡ Some p → ((n (v.entry q)).left ≡ Some p) ⊎ ((n (v.entry q)).right ≡ Some p)
+        by Left e = inl e
+        by Right e = inr e
+
+    -- and the child of a member is one
+    pub child_member : {p q : Place} → HasChild n v q p → IsMember q s → IsMember p s
+    child_member {p} {q} h member = elim h.child [
+      | inl e ↦ left_member shown.held member e
+      | inr e ↦ right_member shown.held member e
+    ]
+
+    -- a member without a parent is the root
+    pub at_root : {p : Place} {steps : ℕ} → Climbs v root p steps → (n (v.entry p)).parent ≡ None → root ≡ Some p
+    at_root {p} k none = by k.fs k.stands (sym (top_parent n v.entry (above k.fs) k.t p k.stands.are.1.0 k.top_is) ∙ none) where
+      by : (fs : List Frame) → Stands n v v root fs k.t [] → above fs ≡ None → root ≡ Some p
+      by [] h e = h.are.0.1 ∙ k.top_is
+      by (frame d c q b ∷ fs) h e = absurd (none_not q (sym e))

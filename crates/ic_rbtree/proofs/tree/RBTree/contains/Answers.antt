@@ -1,0 +1,51 @@
+use Rattle.std.proofs.Common.{refl, sym, ◌∙◌, arith}
+use Rattle.ic_unsafe_ref.specs.Places.{index_of}
+use Rattle.ic_link_ops.specs.Links.{link_of}
+use Rattle.ic_link_ops.specs.PlainTables.{entries, linked_by}
+use Rattle.ic_link_ops.specs.EntryLaws.{linked_in_range}
+use Rattle.ic_link_ops.specs.ThreeWords.{has_link, no_words, node_of}
+use Rattle.ic_link_ops.proofs.ShownTrees.{holds_linked, root_member}
+use Rattle.ic_link_ops.proofs.Walks.{is_end_yes}
+use Rattle.ic_rbtree.proofs.Climbed.{is_end_there, starts, climbs, has_child, child_member, at_root}
+use Rattle.ic_rbtree.proofs.tree.RBTree.contains.Goals as goal
+
+pub returns-then-not-is_linked : goal.returns-then-not-is_linked
+returns-then-not-is_linked g c s shown = (
+  λ never. absurd (cc),
+  λ member. c.if-not-is_linked.ensures ∙ holds_linked shown.held member,
+)
+
+pub loop-steps-init : goal.loop-steps-init
+loop-steps-init g c = record {
+  linked = sym c.if-not-is_linked.ensures;
+  climbs = λ s shown member. starts node_of shown member;
+  back = λ s shown member. member;
+  few = omega arith;
+}
+
+pub returns-in_default : goal.returns-in_default
+returns-in_default g c s shown =
+    let i = c.loop-steps.invariant in (
+      λ yes. i.back s shown (root_member shown (sym c.get.ensures ∙ is_end_yes c.get.result c.loop-steps.place (sym c.is_at.ensures ∙ yes))),
+      λ member. c.is_at.ensures ∙ is_end_there (c.get.ensures ∙ at_root node_of shown (i.climbs s shown member) (sym c.parent.ensures ∙ c.in_default.is)),
+    )
+
+pub returns-then-not-has_child : goal.returns-then-not-has_child
+returns-then-not-has_child g c s shown = (
+  λ never. absurd (cc),
+  λ member.
+      c.if-not-has_child.ensures.1
+      (has_child node_of shown (λ x e. linked_in_range (linked_by has_link) (link_of no_words) refl (entries c.args.links.now) (index_of x) e)
+      (c.loop-steps.invariant.climbs s shown member) (sym c.in-Some.ensures)),
+)
+
+pub loop-steps-preserved : goal.loop-steps-preserved
+loop-steps-preserved g c =
+    let i = c.loop-steps.invariant in
+    let has = c.if-not-has_child.ensures.0 refl in
+    record {
+      linked = has.linked;
+      climbs = λ s shown member. climbs node_of shown (i.climbs s shown member) (sym c.in-Some.ensures);
+      back = λ s shown member. i.back s shown (child_member node_of shown has member);
+      few = omega (arith, c.loop-steps-test.true);
+    }

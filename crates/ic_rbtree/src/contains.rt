@@ -1,0 +1,63 @@
+//! Whether a place is that of a member, by a climb to the root.
+//!
+//! ```text
+//! tree.contains(&links, place) // at most 66 places are read, whatever stale links say
+//! ```
+
+ghost use Rattle.std.specs.Prelude.{◌≡◌, ◌↔◌, ◌⊎◌, IsTrue, Some, List};
+ghost use Rattle.ic_unsafe_ref.specs.declared.place.Place.{Place};
+ghost use Rattle.ic_link_ops.specs.Sequences.{IsMember};
+ghost use Rattle.ic_link_ops.specs.Tables.{IsCovered};
+ghost use Rattle.ic_link_ops.specs.ThreeWords.{node_of};
+ghost use Rattle.ic_rbtree.specs.PlainTrees.{plain_table, PlainShows, PlainShowsSome};
+ghost use Rattle.ic_rbtree.specs.Members.{HasChild};
+ghost use Rattle.ic_rbtree.specs.Tree.{root_of};
+
+use crate::readings::is_at;
+use crate::{KeyAdapter, LinkOps, RBTree};
+use ic_link_ops::rbtree::RBTreeOps;
+use ic_unsafe_ref::Place;
+use std::alloc::Allocator;
+
+// No path down a tree has more members: a path of v in a tree of n members has 2^v <= (n + 1)^2, and there are fewer
+// than 2^33 places.
+const LONGEST_PATH: usize = 66;
+
+// Whether `parent` is covered and linked, and has the place as a child.
+fn has_child<M: Allocator>(links: &LinkOps<M>, parent: Place, place: Place) -> bool
+    ensures { IsTrue result ↔ HasChild node_of (plain_table links.now) parent place }
+{
+    if parent.index() >= links.covers() || !links.is_linked(parent) {
+        return false;
+    }
+    is_at(links.left(parent), place) || is_at(links.right(parent), place)
+}
+
+impl<A: KeyAdapter> RBTree<A> {
+    /// Whether the place is that of a member. It asks that the place is covered. O(log n): it reads no more than 66 places.
+    ///
+    /// It climbs by the parents, and looks at each step whether the parent has the place as a child: so links that an
+    /// object keeps from a tree that was emptied by `fast_clear` make no member of it.
+    pub fn contains<M: Allocator>(&self, links: &LinkOps<M>, place: Place) -> bool
+        requires covered { IsCovered (plain_table links.now) place }
+        requires shown { PlainShowsSome links.now (root_of self.now) }
+        ensures { (s : List Place) → PlainShows links.now (root_of self.now) s → IsTrue result ↔ IsMember place s }
+    {
+        if !links.is_linked(place) {
+            return false;
+        }
+        let mut place = place;
+        let mut steps = 0;
+        while steps < LONGEST_PATH {
+            let Some(parent) = links.parent(place) else {
+                return is_at(self.root.get(), place);
+            };
+            if !has_child(links, parent, place) {
+                return false;
+            }
+            place = parent;
+            steps += 1;
+        }
+        false
+    }
+}
