@@ -21,3 +21,5 @@ pub mod Bound
 pub mod Climbed
 pub mod Laws
 pub mod Members
+pub mod Ends
+pub mod Finishing

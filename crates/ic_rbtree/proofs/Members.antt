@@ -1,8 +1,8 @@
 -- The members of a tree, as the entries lead through them, are the sequence that the table shows.
-use Rattle.std.proofs.Common.{◌≡◌, ℕ, suc, zero, ◌+◌, ◌≤◌, true, Option, Some, None, List, [], ◌∷◌, ◌++◌, length, refl, sym, ap, ◌∙◌, subst, arith, length-append}
+use Rattle.std.proofs.Common.{◌≡◌, ℕ, suc, zero, ◌+◌, ◌≤◌, Bool, true, Option, Some, None, List, [], ◌∷◌, ◌++◌, length, refl, sym, ap, ◌∙◌, subst, arith, length-append}
 use Rattle.ic_unsafe_ref.specs.declared.place.Place.{Place}
 use Rattle.ic_link_ops.specs.Sequences.{first}
-use Rattle.ic_link_ops.specs.Tables.{Table, IsCovered}
+use Rattle.ic_link_ops.specs.Tables.{Table, IsCovered, IsLinked}
 use Rattle.ic_link_ops.specs.Trees.{Tree, leaf, fork, top, in_order}
 use Rattle.ic_link_ops.specs.RedBlackTree.{Node, IsTree, Holds, Shows, ShowsEnds}
 use Rattle.ic_link_ops.specs.Frames.{Frame, frame, plug, above, topmost, IsAround}
@@ -26,6 +26,11 @@ topmost_some (frame d c r b ∷ fs) q p = topmost_some fs r p
 
 length_fork : (a : Tree) (p : Place) (b : Tree) → length (in_order a) + length (in_order b) + 1 ≡ length (in_order a ++ p ∷ in_order b)
 length_fork a p b = omega (arith, length-append (in_order a) (p ∷ in_order b))
+
+-- a table covers the places that its nodes say are linked
+pub nodes_covered : {L E : Type 0} {linked : E → Bool} (n : E → Node) (table : L → Table E) → ((t : L) (q : Place) → IsLinked linked (table t) q → IsCovered (table t) q)
+    → ((e : E) → (n e).linked ≡ linked e) → (t : L) (q : Place) → (n ((table t).entry q)).linked ≡ true → IsCovered (table t) q
+nodes_covered n table covered alike t q h = covered t q (sym (alike _) ∙ h)
 
 module _ {E : Type 0} (n : E → Node) where
   -- a held tree on its own
