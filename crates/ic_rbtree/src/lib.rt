@@ -14,6 +14,7 @@ mod readings;
 mod removal;
 mod steps;
 mod tree;
+mod whole;
 mod writers;
 
 pub use cursor::Cursor;

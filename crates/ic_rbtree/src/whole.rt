@@ -1,0 +1,73 @@
+//! Calls on a tree as a whole.
+//!
+//! ```text
+//! let rest = tree.take();      // `tree` is empty now
+//! rest.dispose(&mut links);    // and its members are unlinked
+//! ```
+
+ghost use Rattle.std.specs.Prelude.{◌≡◌, None, List};
+ghost use Rattle.ic_unsafe_ref.specs.declared.place.Place.{Place};
+ghost use Rattle.ic_link_ops.specs.Tables.{KeepsBeside};
+ghost use Rattle.ic_link_ops.specs.LinkSteps.{releases_each};
+ghost use Rattle.ic_link_ops.specs.RedBlackTree.{Shows, ShowsSome};
+ghost use Rattle.ic_rbtree.specs.Tree.{root_of, adapter_of};
+
+use crate::{KeyAdapter, RBTree};
+use ic_link_ops::LinkOps;
+use ic_link_ops::rbtree::RBTreeOps;
+use std::mem;
+
+impl<A: KeyAdapter> RBTree<A> {
+    /// Takes all objects off the tree: each member is unlinked, in order, and the tree is empty.
+    ///
+    /// One step for each member, and no memory. Trees that share no member with this one stay.
+    pub fn clear<L: RBTreeOps>(&mut self, links: &mut L)
+        requires shown { ShowsSome L.node (L.table links.old) (root_of self.old) }
+
+        ensures empty { root_of self.new ≡ None }
+        ensures adapter { adapter_of self.new ≡ adapter_of self.old }
+        ensures released { (s : List Place) → Shows L.node (L.table links.old) (root_of self.old) s
+            → L.Does links.old links.new (releases_each s) }
+        ensures frame { (s : List Place) → Shows L.node (L.table links.old) (root_of self.old) s
+            → KeepsBeside (L.table links.old) (L.table links.new) s }
+    {
+        self.take().dispose(links);
+    }
+
+    /// Takes all objects off a tree that is given up. What [`clear`](Self::clear) says of the table holds here as well.
+    pub fn dispose<L: RBTreeOps>(self, links: &mut L)
+        requires shown { ShowsSome L.node (L.table links.old) (root_of self) }
+
+        ensures released { (s : List Place) → Shows L.node (L.table links.old) (root_of self) s
+            → L.Does links.old links.new (releases_each s) }
+        ensures frame { (s : List Place) → Shows L.node (L.table links.old) (root_of self) s
+            → KeepsBeside (L.table links.old) (L.table links.new) s }
+    {
+        self.into_iter(links).finish();
+    }
+}
+
+impl<A: Copy> RBTree<A> {
+    /// Empties the tree, and leaves the objects that were in it linked. O(1): it reads no table.
+    ///
+    /// A linked object goes into no tree, until the table is made to forget its link, by the call `force_unlink` of a
+    /// plain one.
+    #[inline]
+    pub fn fast_clear(&mut self)
+        ensures empty { root_of self.new ≡ None }
+        ensures adapter { adapter_of self.new ≡ adapter_of self.old }
+    {
+        let _ = self.take();
+    }
+
+    /// Hands out all of the tree, and leaves it empty. O(1): it reads no table, and no link changes.
+    #[inline]
+    pub fn take(&mut self) -> RBTree<A>
+        ensures whole { result ≡ self.old }
+        ensures empty { root_of self.new ≡ None }
+        ensures adapter { adapter_of self.new ≡ adapter_of self.old }
+    {
+        let adapter = self.adapter;
+        mem::replace(self, RBTree::new(adapter))
+    }
+}
