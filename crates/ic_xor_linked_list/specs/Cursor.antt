@@ -24,6 +24,6 @@ module _ {T L : Type 0} where
   abbrev pub site_of : Cursor T L → Site L Ends
   site_of c = site (links_of c) (list_of c) (position c)
 
-  -- it stands, and the neighbours that it keeps are right
+  -- it stands, and the place behind it that it keeps is right
   abbrev pub KnowsNeighbors : {E : Type 0} → (Table E → Ends → List Place → Type 0) → (L → Table E) → Cursor T L → Type 0
   KnowsNeighbors Shows table c = Knows Shows table (links_of c) (list_of c) c.at

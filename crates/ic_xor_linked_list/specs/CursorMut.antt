@@ -25,7 +25,7 @@ module _ {T L : Type 0} where
   abbrev pub site_of : CursorMut T L → Site L Ends
   site_of c = site (links_of c) (list_of c) (position c)
 
-  -- it stands, and the neighbours that it keeps are right
+  -- it stands, and the place behind it that it keeps is right
   abbrev pub KnowsNeighbors : {E : Type 0} → (Table E → Ends → List Place → Type 0) → (L → Table E) → CursorMut T L → Type 0
   KnowsNeighbors Shows table c = Knows Shows table (links_of c) (list_of c) c.at
 

@@ -4,8 +4,7 @@ use Rattle.ic_unsafe_ref.specs.declared.place.Place.{Place}
 use Rattle.ic_link_ops.specs.Tables.{Table}
 use Rattle.ic_link_ops.specs.Chains.{Ends}
 use Rattle.ic_link_ops.specs.Positions.{Site, site}
-use Rattle.ic_xor_linked_list.specs.Position.{Knows}
-use Rattle.ic_xor_linked_list.specs.declared.position.Position.{Position}
+use Rattle.ic_xor_linked_list.specs.Position.{Knows, Spot}
 use Rattle.ic_xor_linked_list.specs.declared.cursor_owning.CursorOwning.{CursorOwning}
 
 module _ {T : Type 0} where
@@ -17,8 +16,8 @@ module _ {T : Type 0} where
   abbrev pub position : CursorOwning T → Option Place
   position c = c.at.current
 
-  -- with the two places beside it
-  abbrev pub place_of : CursorOwning T → Position
+  -- with the place behind it
+  abbrev pub place_of : CursorOwning T → Spot
   place_of c = c.at
 
   module _ {L : Type 0} where
@@ -26,6 +25,6 @@ module _ {T : Type 0} where
     abbrev pub site_of : L → CursorOwning T → Site L Ends
     site_of links c = site links (list_of c) (position c)
 
-    -- it stands, as this table shows its list, and the neighbours that it keeps are right
+    -- it stands, as this table shows its list, and the place behind it that it keeps is right
     abbrev pub KnowsNeighbors : {E : Type 0} → (Table E → Ends → List Place → Type 0) → (L → Table E) → L → CursorOwning T → Type 0
     KnowsNeighbors Shows table links c = Knows Shows table links (list_of c) c.at

@@ -23,8 +23,7 @@ use ic_link_ops::xor_linked_list::XorLinkedListOps;
 use ic_unsafe_ref::{Objects, Place, UnsafeRef};
 use std::alloc::{AllocError, Allocator};
 
-/// A position in a list: on a member, or null, which stands between the last and the first. It keeps the two places beside
-/// it.
+/// A position in a list: on a member, or null, which stands between the last and the first. It knows the place behind it.
 pub struct Cursor<'a, T, L> {
     pub(crate) list: &'a XorLinkedList<T>,
     pub(crate) links: &'a L,
@@ -83,7 +82,7 @@ impl<T> XorLinkedList<T> {
     }
 
     /// A cursor on the object. It asks that the object is a member, and that `next` is the one behind it, `None` at the
-    /// back. O(1): one reading of an entry.
+    /// back. O(1): it reads no entry.
     #[inline]
     pub fn cursor_from_ptr_and_next<'a, L: XorLinkedListOps>(
         &'a self,
@@ -147,7 +146,7 @@ impl<'a, T, L: XorLinkedListOps> Cursor<'a, T, L> {
     pub fn is_null(&self) -> bool
         ensures { IsTrue result ↔ (position self.now ≡ None) }
     {
-        self.at.current.get().is_none()
+        self.at.current().is_none()
     }
 
     /// The place of the member that the cursor is on, `None` at null.
@@ -155,7 +154,7 @@ impl<'a, T, L: XorLinkedListOps> Cursor<'a, T, L> {
     pub fn get_ptr(&self) -> Option<Place>
         ensures { result ≡ position self.now }
     {
-        self.at.current.get()
+        self.at.current()
     }
 
     /// The object that the cursor is on, `None` at null. One look-up, O(1).
@@ -163,7 +162,7 @@ impl<'a, T, L: XorLinkedListOps> Cursor<'a, T, L> {
     pub fn get<'b, A: Allocator>(&self, objects: &'b Objects<T, A>) -> Option<&'b T>
         ensures { option_copied result ≡ object_there objects.now (position self.now) }
     {
-        objects.get(self.at.current.get()?)
+        objects.get(self.at.current()?)
     }
 
     /// A reference to the object that the cursor is on, `None` at null.
@@ -171,7 +170,7 @@ impl<'a, T, L: XorLinkedListOps> Cursor<'a, T, L> {
     pub fn clone_pointer(&self) -> Option<UnsafeRef<T>>
         ensures { result ≡ position self.now }
     {
-        let place = self.at.current.get()?;
+        let place = self.at.current()?;
         Some(UnsafeRef::new(place))
     }
 

@@ -24,7 +24,7 @@ use ic_link_ops::{AlreadyLinked, LinkOps, ReplaceError};
 use ic_unsafe_ref::{Objects, Place, UnsafeRef};
 use std::alloc::Allocator;
 
-/// A position in a list that it edits, with the list and the table of its links. It keeps the two places beside it.
+/// A position in a list that it edits, with the list and the table of its links. It knows the place behind it.
 pub struct CursorMut<'a, T, L> {
     list: &'a mut XorLinkedList<T>,
     links: &'a mut L,
@@ -89,7 +89,7 @@ impl<T> XorLinkedList<T> {
     }
 
     /// A cursor that edits, on the object. It asks that the object is a member, and that `next` is the one behind it,
-    /// `None` at the back. O(1): one reading of an entry.
+    /// `None` at the back. O(1): it reads no entry.
     #[inline]
     pub fn cursor_mut_from_ptr_and_next<'a, L: XorLinkedListOps>(
         &'a mut self,
@@ -154,7 +154,7 @@ impl<'a, T, L: XorLinkedListOps> CursorMut<'a, T, L> {
     pub fn is_null(&self) -> bool
         ensures { IsTrue result ↔ (position self.now ≡ None) }
     {
-        self.at.current.get().is_none()
+        self.at.current().is_none()
     }
 
     /// The place of the member that the cursor is on, `None` at null.
@@ -162,7 +162,7 @@ impl<'a, T, L: XorLinkedListOps> CursorMut<'a, T, L> {
     pub fn get_ptr(&self) -> Option<Place>
         ensures { result ≡ position self.now }
     {
-        self.at.current.get()
+        self.at.current()
     }
 
     /// The object that the cursor is on, `None` at null. One look-up, O(1).
@@ -170,7 +170,7 @@ impl<'a, T, L: XorLinkedListOps> CursorMut<'a, T, L> {
     pub fn get<'b, A: Allocator>(&self, objects: &'b Objects<T, A>) -> Option<&'b T>
         ensures { option_copied result ≡ object_there objects.now (position self.now) }
     {
-        objects.get(self.at.current.get()?)
+        objects.get(self.at.current()?)
     }
 
     /// Ends the edits and answers as [`CursorMut::get`]. List and table stay as they are.
@@ -343,7 +343,7 @@ impl<'a, T, L: XorLinkedListOps> CursorMut<'a, T, L> {
 
     /// Hands out the members behind the cursor, and at null the whole list. O(1).
     ///
-    /// The cursor stays where it is. At null it is at null of an empty list then, with no place beside it.
+    /// The cursor stays where it is. At null it is at null of an empty list then, with no place behind it.
     #[inline]
     pub fn split_after(&mut self) -> XorLinkedList<T>
         requires stands { KnowsNeighbors (Shows L.linked L.Joins) L.table self.old }
@@ -356,7 +356,7 @@ impl<'a, T, L: XorLinkedListOps> CursorMut<'a, T, L> {
 
     /// Hands out the members in front of the cursor, and at null the whole list. O(1).
     ///
-    /// The cursor stays where it is. At null it is at null of an empty list then, with no place beside it.
+    /// The cursor stays where it is. At null it is at null of an empty list then, with no place behind it.
     #[inline]
     pub fn split_before(&mut self) -> XorLinkedList<T>
         requires stands { KnowsNeighbors (Shows L.linked L.Joins) L.table self.old }

@@ -22,8 +22,7 @@ use ic_link_ops::xor_linked_list::XorLinkedListOps;
 use ic_link_ops::{AlreadyLinked, LinkOps, ReplaceError};
 use ic_unsafe_ref::{Place, UnsafeRef};
 
-/// A position in a list that it keeps, with the two places beside it. Its calls take the table of the list's links each
-/// time.
+/// A position in a list that it keeps, with the place behind it. Its calls take the table of the list's links each time.
 pub struct CursorOwning<T> {
     list: XorLinkedList<T>,
     at: Position,
@@ -38,7 +37,7 @@ impl<T> Drop for CursorOwning<T> {
 impl<T> XorLinkedList<T> {
     ghost use Rattle.ic_xor_linked_list.specs.CursorOwning.{list_of, position, place_of, KnowsNeighbors};
 
-    /// A cursor at null that keeps the list. It reads no table: the places beside it are the list's ends.
+    /// A cursor at null that keeps the list. It reads no table: the place behind it is the list's head.
     #[inline]
     pub fn cursor_owning(self) -> CursorOwning<T>
         ensures list { list_of result ≡ self }
@@ -67,7 +66,7 @@ impl<T> XorLinkedList<T> {
     }
 
     /// A cursor that keeps the list, on the object. It asks that the object is a member, and that `next` is the one behind
-    /// it, `None` at the back. O(1): one reading of an entry.
+    /// it, `None` at the back. O(1): it reads no entry.
     #[inline]
     pub fn cursor_owning_from_ptr_and_next<L: XorLinkedListOps>(
         self,
@@ -152,10 +151,10 @@ impl<T> CursorOwning<T> {
     pub fn get_ptr(&self) -> Option<Place>
         ensures { result ≡ position self.now }
     {
-        self.at.current.get()
+        self.at.current()
     }
 
-    /// Moves to null, from wherever the cursor is: the places beside it are the list's ends then. It reads no entry, and asks
+    /// Moves to null, from wherever the cursor is: the place behind it is the list's head then. It reads no entry, and asks
     /// nothing. O(1).
     #[inline]
     pub fn go_null(&mut self)
@@ -292,7 +291,7 @@ impl<T> CursorOwning<T> {
 
     /// Hands out the members behind the cursor, and at null the whole list. O(1).
     ///
-    /// The cursor stays where it is. At null it is at null of an empty list then, with no place beside it.
+    /// The cursor stays where it is. At null it is at null of an empty list then, with no place behind it.
     #[inline]
     pub fn split_after<L: XorLinkedListOps>(&mut self, links: &mut L) -> XorLinkedList<T>
         requires stands { KnowsNeighbors (Shows L.linked L.Joins) L.table links.old self.old }
@@ -304,7 +303,7 @@ impl<T> CursorOwning<T> {
 
     /// Hands out the members in front of the cursor, and at null the whole list. O(1).
     ///
-    /// The cursor stays where it is. At null it is at null of an empty list then, with no place beside it.
+    /// The cursor stays where it is. At null it is at null of an empty list then, with no place behind it.
     #[inline]
     pub fn split_before<L: XorLinkedListOps>(&mut self, links: &mut L) -> XorLinkedList<T>
         requires stands { KnowsNeighbors (Shows L.linked L.Joins) L.table links.old self.old }

@@ -1,7 +1,8 @@
 //! Edits at a position in a list, once for all cursors.
 //!
 //! "After" is the gap behind the position's member, or the first gap at null; "before" is the gap in front of it, or
-//! the last gap at null. Each edit leaves the position with the neighbours that it has then.
+//! the last gap at null. Each edit leaves the position with the place that stands behind it then. What stands in front of
+//! it is where a move back would lead.
 
 ghost use Rattle.std.specs.Prelude.{◌≡◌, List};
 ghost use Rattle.ic_unsafe_ref.specs.declared.place.Place.{Place};
@@ -15,7 +16,7 @@ ghost use Rattle.ic_xor_linked_list.specs.Position.{Knows};
 use crate::XorLinkedList;
 use crate::position::Position;
 use ic_link_ops::xor_linked_list::XorLinkedListOps;
-use ic_link_ops::{AlreadyLinked, End, LinkOps, ReplaceError};
+use ic_link_ops::{AlreadyLinked, LinkOps, ReplaceError};
 use ic_unsafe_ref::UnsafeRef;
 use std::mem;
 
@@ -34,10 +35,10 @@ impl<T> XorLinkedList<T> {
         ensures kept { Knows (Shows L.linked L.Joins) L.table links.new self.new at.new }
     {
         let place = object.place();
-        match self.insert_between(links, at.current.get(), object, at.next.get()) {
+        match self.insert_between(links, at.current(), object, at.next()) {
             Err(refused) => Err(refused),
             Ok(()) => {
-                at.set_next(&*self, Some(place));
+                at.set_next(Some(place));
                 Ok(())
             }
         }
@@ -56,11 +57,11 @@ impl<T> XorLinkedList<T> {
             (site links.old self.old at.old.current) object result (site links.new self.new at.new.current) }
         ensures kept { Knows (Shows L.linked L.Joins) L.table links.new self.new at.new }
     {
-        let place = object.place();
-        match self.insert_between(links, at.prev.get(), object, at.current.get()) {
+        let before = self.moved_back(&*links, at).current();
+        match self.insert_between(links, before, object, at.current()) {
             Err(refused) => Err(refused),
             Ok(()) => {
-                at.set_prev(&*self, Some(place));
+                at.stay(&*self);
                 Ok(())
             }
         }
@@ -78,9 +79,9 @@ impl<T> XorLinkedList<T> {
             (site links.old self.old at.old.current) result (site links.new self.new at.new.current) }
         ensures kept { Knows (Shows L.linked L.Joins) L.table links.new self.new at.new }
     {
-        let place = at.current.get()?;
-        let before = at.prev.get();
-        let behind = at.next.get();
+        let place = at.current()?;
+        let before = self.moved_back(&*links, at).current();
+        let behind = at.next();
         self.take_off(links, before, place, behind);
         *at = self.position_behind(&*links, before, behind);
         Some(UnsafeRef::new(place))
@@ -100,16 +101,18 @@ impl<T> XorLinkedList<T> {
             (site links.old self.old at.old.current) object result (site links.new self.new at.new.current) }
         ensures kept { Knows (Shows L.linked L.Joins) L.table links.new self.new at.new }
     {
-        let Some(out) = at.current.get() else {
+        let Some(out) = at.current() else {
             return Err(ReplaceError::Null(object));
         };
+        let before = self.moved_back(&*links, at).current();
+        let behind = at.next();
         let place = object.place();
         if !links.acquire_link(place) {
             return Err(ReplaceError::AlreadyLinked(object));
         }
-        self.put_in_place(links, at.prev.get(), out, place, at.next.get());
+        self.put_in_place(links, before, out, place, behind);
         links.release_link(out);
-        at.current = End::of(Some(place));
+        *at = Position::of(Some(place), behind);
         Ok(UnsafeRef::new(out))
     }
 
@@ -128,10 +131,10 @@ impl<T> XorLinkedList<T> {
             → IsAfter gap at.old.current → Shows L.linked L.Joins (L.table links.old) given t → IsDisjoint t (join gap)
             → Knows (Shows L.linked L.Joins) L.table links.new self.new at.new }
     {
-        let behind = at.next.get();
+        let behind = at.next();
         let first = given.head();
-        self.splice_between(links, at.current.get(), given, behind);
-        at.set_next(&*self, first.or(behind));
+        self.splice_between(links, at.current(), given, behind);
+        at.set_next(first.or(behind));
     }
 
     #[inline]
@@ -149,10 +152,9 @@ impl<T> XorLinkedList<T> {
             → IsBefore gap at.old.current → Shows L.linked L.Joins (L.table links.old) given t → IsDisjoint t (join gap)
             → Knows (Shows L.linked L.Joins) L.table links.new self.new at.new }
     {
-        let before = at.prev.get();
-        let last = given.tail();
-        self.splice_between(links, before, given, at.current.get());
-        at.set_prev(&*self, last.or(before));
+        let before = self.moved_back(&*links, at).current();
+        self.splice_between(links, before, given, at.current());
+        at.stay(&*self);
     }
 
     #[inline]
@@ -166,8 +168,8 @@ impl<T> XorLinkedList<T> {
             (site links.old self.old at.old.current) result (site links.new self.new at.new.current) }
         ensures kept { Knows (Shows L.linked L.Joins) L.table links.new self.new at.new }
     {
-        let rest = self.split_between(links, at.current.get(), at.next.get());
-        at.set_next(&*self, None);
+        let rest = self.split_between(links, at.current(), at.next());
+        at.set_next(None);
         rest
     }
 
@@ -182,9 +184,10 @@ impl<T> XorLinkedList<T> {
             (site links.old self.old at.old.current) result (site links.new self.new at.new.current) }
         ensures kept { Knows (Shows L.linked L.Joins) L.table links.new self.new at.new }
     {
-        let rest = self.split_between(links, at.prev.get(), at.current.get());
+        let before = self.moved_back(&*links, at).current();
+        let rest = self.split_between(links, before, at.current());
         let front = mem::replace(self, rest);
-        at.set_prev(&*self, None);
+        at.stay(&*self);
         front
     }
 }

@@ -13,9 +13,10 @@
 //! let taken = list.pop_front(&mut links); // the first
 //! ```
 //!
-//! A cursor is on a member, or at null, which stands between the last and the first, and keeps the two places beside
-//! it. [`Cursor`] reads. [`CursorMut`] edits: it inserts, removes, replaces, splices and splits, each in O(1).
-//! [`CursorOwning`] edits too, and keeps its list, so it can stand in a structure; it is handed the table at each call.
+//! A cursor is on a member, or at null, which stands between the last and the first, and knows the place behind it, by
+//! which an entry tells the one in front. [`Cursor`] reads. [`CursorMut`] edits: it inserts, removes, replaces, splices and
+//! splits, each in O(1). [`CursorOwning`] edits too, and keeps its list, so it can stand in a structure; it is handed the
+//! table at each call.
 //!
 //! ```text
 //! let mut cursor = list.front_mut(&mut links);

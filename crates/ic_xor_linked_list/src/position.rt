@@ -1,26 +1,41 @@
-//! Where a cursor stands, and the two places beside it.
+//! Where a cursor stands, and the place behind it.
 //!
-//! An entry tells a neighbour only to who knows the other one, so a cursor keeps both: a step reads one entry.
+//! An entry tells a neighbour only to who knows the other one. So a cursor keeps two words: its own place's, and the exclusive
+//! or of that and the next place's. A move on takes the second word into the first, and the entry that it comes to into the
+//! second; a move back takes them in the other order.
 
 ghost use Rattle.std.specs.Prelude.{◌≡◌, Option};
+ghost use Rattle.ic_unsafe_ref.specs.declared.place.Place.{Place};
 ghost use Rattle.ic_link_ops.specs.Sequences.{Cut, join, IsAfter, IsBefore};
 ghost use Rattle.ic_link_ops.specs.XorLinkedList.{Shows};
 ghost use Rattle.ic_link_ops.specs.Positions.{site, MovesOn, MovesBack};
-ghost use Rattle.ic_xor_linked_list.specs.Position.{Knows, null_of, with_next, with_prev};
+ghost use Rattle.ic_xor_linked_list.specs.Position.{Knows, spot, null_of, spot_then};
 
 use crate::XorLinkedList;
 use ic_link_ops::xor_linked_list::XorLinkedListOps;
-use ic_link_ops::{End, LinkOps};
+use ic_link_ops::{End, LinkOps, Word};
 use ic_unsafe_ref::{Place, UnsafeRef};
+use std::marker::Model;
 
-/// A position in a list, with the two places beside it.
+/// A position in a list, and the place behind it.
 ///
-/// On a member they are its neighbours, `None` beyond an end. At null they are the last member and the first.
+/// On a member that is the next one, `None` at the back. At null it is the first one. A clause sees the two places; what is
+/// kept is the word of the one and the exclusive or of both.
 #[derive(Drop)]
 pub(crate) struct Position {
-    pub(crate) current: End,
-    pub(crate) prev: End,
-    pub(crate) next: End,
+    current: End,
+    both: Word,
+}
+
+impl Model for Position {
+    ghost use Rattle.std.specs.Prelude.{bit_xor};
+    ghost use Rattle.ic_unsafe_ref.specs.Places.{place_at, word_of};
+    ghost use Rattle.ic_link_ops.specs.Words.{bits_of};
+    ghost use Rattle.ic_xor_linked_list.specs.Position.{Spot};
+
+    ghost Value = { Spot };
+
+    ghost view = { λ p. record { current = p.current; next = place_at (bit_xor (bits_of p.both) (word_of p.current)) } };
 }
 
 // The place of an object, if there is one.
@@ -32,52 +47,68 @@ pub(crate) fn place_of<T>(object: Option<UnsafeRef<T>>) -> Option<Place>
 }
 
 impl Position {
+    // On this place, none for null, with that place behind it.
+    #[inline]
+    pub(crate) fn of(current: Option<Place>, next: Option<Place>) -> Position
+        ensures { result ≡ spot current next }
+    {
+        Position {
+            current: End::of(current),
+            both: Word::between(current, next),
+        }
+    }
+
+    // The place that the position is on, none at null.
+    #[inline]
+    pub(crate) fn current(&self) -> Option<Place>
+        ensures { result ≡ self.now.current }
+    {
+        self.current.get()
+    }
+
+    // The place behind it.
+    #[inline]
+    pub(crate) fn next(&self) -> Option<Place>
+        ensures { result ≡ self.now.next }
+    {
+        self.both.other(self.current.get())
+    }
+
     // The same once more.
     #[inline]
     pub(crate) fn again(&self) -> Position
         ensures { result ≡ self.now }
     {
-        Position {
-            current: End::of(self.current.get()),
-            prev: End::of(self.prev.get()),
-            next: End::of(self.next.get()),
-        }
+        Position::of(self.current(), self.next())
     }
 
-    // Another place stands behind the position now. At null, the places beside it are the list's ends.
+    // Another place stands behind the position now.
     #[inline]
-    pub(crate) fn set_next<T>(&mut self, list: &XorLinkedList<T>, next: Option<Place>)
-        ensures { self.new ≡ with_next list.now self.old.current self.old.prev next }
+    pub(crate) fn set_next(&mut self, next: Option<Place>)
+        ensures { self.new ≡ spot self.old.current next }
     {
-        match self.current.get() {
-            None => *self = list.null_position(),
-            Some(_) => self.next = End::of(next),
-        }
+        *self = Position::of(self.current(), next);
     }
 
-    // Another place stands in front of the position now. At null, the places beside it are the list's ends.
+    // The list was edited in front of the position, which stays: what is behind a member is as it was, and what is behind
+    // null is the list's head, whichever that is now.
     #[inline]
-    pub(crate) fn set_prev<T>(&mut self, list: &XorLinkedList<T>, prev: Option<Place>)
-        ensures { self.new ≡ with_prev list.now self.old.current prev self.old.next }
+    pub(crate) fn stay<T>(&mut self, list: &XorLinkedList<T>)
+        ensures { self.new ≡ spot_then list.now self.old.current self.old.next }
     {
-        match self.current.get() {
-            None => *self = list.null_position(),
-            Some(_) => self.prev = End::of(prev),
+        if self.current().is_none() {
+            *self = list.null_position();
         }
     }
 }
 
 impl<T> XorLinkedList<T> {
-    // Null: it stands between the last member and the first.
+    // Null: the first member is behind it.
     #[inline]
     pub(crate) fn null_position(&self) -> Position
         ensures { result ≡ null_of self.now }
     {
-        Position {
-            current: End::of(None),
-            prev: End::of(self.tail()),
-            next: End::of(self.head()),
-        }
+        Position::of(None, self.head())
     }
 
     // The position behind a gap, whose two sides are told: what stands behind it is read, or is the head at null.
@@ -93,18 +124,13 @@ impl<T> XorLinkedList<T> {
         ensures current { result.current ≡ current }
         ensures kept { Knows (Shows L.linked L.Joins) L.table links.now self.now result }
     {
-        let next = match current {
-            None => self.head_from_null(),
-            Some(place) => links.next(place, prev),
-        };
-        Position {
-            current: End::of(current),
-            prev: End::of(prev),
-            next: End::of(next),
+        match current {
+            None => Position::of(None, self.head_from_null()),
+            Some(place) => Position::of(current, links.next(place, prev)),
         }
     }
 
-    // The position in front of a gap, whose two sides are told: what stands in front of it is read, or is the tail at null.
+    // The position in front of a gap, whose two sides are told: they are what it keeps, and no entry is read.
     #[inline]
     pub(crate) fn position_before<L: XorLinkedListOps>(
         &self,
@@ -117,15 +143,8 @@ impl<T> XorLinkedList<T> {
         ensures current { result.current ≡ current }
         ensures kept { Knows (Shows L.linked L.Joins) L.table links.now self.now result }
     {
-        let prev = match current {
-            None => self.tail_from_null(),
-            Some(place) => links.prev(place, next),
-        };
-        Position {
-            current: End::of(current),
-            prev: End::of(prev),
-            next: End::of(next),
-        }
+        let _ = links;
+        Position::of(current, next)
     }
 
     // Where a move on leads.
@@ -135,16 +154,19 @@ impl<T> XorLinkedList<T> {
         ensures moved { MovesOn (Shows L.linked L.Joins) L.table (site links.now self.now at.now.current) result.current }
         ensures kept { Knows (Shows L.linked L.Joins) L.table links.now self.now result }
     {
-        self.position_behind(links, at.current.get(), at.next.get())
+        self.position_behind(links, at.current(), at.next())
     }
 
-    // Where a move back leads.
+    // Where a move back leads: to what the entry of the member tells who knows what is behind it, or to the tail from null.
     #[inline]
     pub(crate) fn moved_back<L: XorLinkedListOps>(&self, links: &L, at: &Position) -> Position
         requires stands { Knows (Shows L.linked L.Joins) L.table links.now self.now at.now }
         ensures moved { MovesBack (Shows L.linked L.Joins) L.table (site links.now self.now at.now.current) result.current }
         ensures kept { Knows (Shows L.linked L.Joins) L.table links.now self.now result }
     {
-        self.position_before(links, at.prev.get(), at.current.get())
+        match at.current() {
+            None => Position::of(self.tail_from_null(), None),
+            Some(place) => Position::of(links.prev(place, at.next()), Some(place)),
+        }
     }
 }

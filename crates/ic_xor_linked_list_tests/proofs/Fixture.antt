@@ -20,22 +20,25 @@ use Rattle.ic_link_ops.proofs.CollectionLaws.{IsKind}
 use Rattle.ic_link_ops.proofs.SequenceLemmas.{disjoint_sym, disjoint_reverse}
 use Rattle.ic_link_ops.proofs.Positions.{member_there}
 use Rattle.ic_link_ops.proofs.XorLists.{xor_lists}
-use Rattle.ic_xor_linked_list.specs.Position.{StandsBetween, HasMemberBehind, HasMemberBefore, null_of}
+use Rattle.ic_xor_linked_list.specs.Position.{HasMemberBehind, HasMemberBefore, null_of}
 use Rattle.ic_xor_linked_list.specs.CursorOwning.{list_of, position, place_of}
 use Rattle.ic_xor_linked_list.specs.declared.cursor_owning.CursorOwning.{CursorOwning}
-use Rattle.ic_xor_linked_list.proofs.Standing.{beside_member, knows_null_of}
+use Rattle.ic_xor_linked_list.proofs.Standing.{behind_member, knows_null_of}
 use Rattle.ic_xor_linked_list_tests.specs.Lists.{AreHeld}
+use Rattle.ic_xor_linked_list_tests.specs.Spots.{StandsBetween}
 
 module _ {L E H : Type 0} {S : Table E → H → List Place → Type 0} {table : L → Table E} {at : Site L H} {prev next : Option Place} {p : Place}
     (k : StandsBetween S table at prev next) (on : at.position ≡ Some p) where
   -- a cursor on a member can be made anew by the one in front, and by the one behind
   pub member_behind : HasMemberBehind (ShowsAt S table at) p prev
   member_behind =
-      let m = member_there k.stands on in record { front = m.front; back = m.back; shown = m.shown; neighbor = (beside_member m.front m.back p k m.shown on).0 }
+      let m = member_there k.stands on in
+      record { front = m.front; back = m.back; shown = m.shown; neighbor = k.back.leads (record { front = m.front; back = p ∷ m.back }) m.shown on }
 
   pub member_before : HasMemberBefore (ShowsAt S table at) p next
   member_before =
-      let m = member_there k.stands on in record { front = m.front; back = m.back; shown = m.shown; neighbor = (beside_member m.front m.back p k m.shown on).1 }
+      let m = member_there k.stands on in
+      record { front = m.front; back = m.back; shown = m.shown; neighbor = behind_member m.front m.back p (record { stands = k.stands; on = k.on }) m.shown on }
 
 -- where an object stands at each covered place, one stands at each member of a chain, which is covered
 pub are_placed : {E : Type 0} (linked : E → Bool) (joins : E → Option Place → Option Place → Type 0) (t : Table E) (o : Objects ℕ)

@@ -3,7 +3,7 @@
 ghost use Rattle.std.specs.Prelude.{◌≡◌};
 ghost use Rattle.ic_link_ops.specs.XorLinkedList.{Shows};
 ghost use Rattle.ic_link_ops.specs.Positions.{site};
-ghost use Rattle.ic_xor_linked_list.specs.Position.{StandsBetween};
+ghost use Rattle.ic_xor_linked_list_tests.specs.Spots.{StandsBetween};
 ghost use Rattle.ic_xor_linked_list.specs.CursorOwning as owned;
 ghost use Rattle.ic_xor_linked_list.specs.CursorMut as lent;
 ghost use Rattle.ic_xor_linked_list.specs.Cursor as reads;

@@ -1,19 +1,19 @@
 use Rattle.std.proofs.Common.{◌∷◌, ◌∙◌, ap, Some}
 use Rattle.ic_link_ops.proofs.Positions.{inserts_after}
 use Rattle.ic_link_ops.proofs.XorLists.{xor_lists}
-use Rattle.ic_xor_linked_list.proofs.Standing.{with_next_stays, knows_behind}
+use Rattle.ic_xor_linked_list.proofs.Standing.{stands_before}
 use Rattle.ic_xor_linked_list.proofs.list.XorLinkedList.insert_after.Goals as goal
 
 pub returns-in-Ok-clause-inserted : goal.returns-in-Ok-clause-inserted
 returns-in-Ok-clause-inserted g c =
     let e = c.in-Ok.ensures in
-    inserts_after g.met.L.LinkOps.refused_keeps _ c.requires.stands.stands (ap (λ at. at.current) c.set_next.ensures ∙ with_next_stays _ _ _ _) _ e.acquired e.refused e.unchanged
-    (λ gap shown after. e.inserted gap shown (c.get.ensures ∙ after) (c.get-2.ensures ∙ c.requires.stands.on.leads gap shown after))
+    inserts_after g.met.L.LinkOps.refused_keeps _ c.requires.stands.stands (ap (λ at. at.current) c.set_next.ensures) _ e.acquired e.refused e.unchanged
+    (λ gap shown after. e.inserted gap shown (c.current.ensures ∙ after) (c.next.ensures ∙ c.requires.stands.on.leads gap shown after))
 
 pub returns-in-Ok-clause-kept : goal.returns-in-Ok-clause-kept
 returns-in-Ok-clause-kept g c =
     let at = c.requires.stands.stands in
-    let put = c.in-Ok.ensures.inserted at.gap at.shown (c.get.ensures ∙ at.after) (c.get-2.ensures ∙ c.requires.stands.on.leads at.gap at.shown at.after) in
+    let put = c.in-Ok.ensures.inserted at.gap at.shown (c.current.ensures ∙ at.after) (c.next.ensures ∙ c.requires.stands.on.leads at.gap at.shown at.after) in
     rw c.set_next.ensures
-    (knows_behind (xor_lists {linked = g.L.LinkOps.linked} g.met.L.XorLinkedListOps.one_other) c.requires.stands at.gap at.shown at.after (c.args.object ∷ at.gap.back) put.shows
+    (stands_before (xor_lists {linked = g.L.LinkOps.linked} g.met.L.XorLinkedListOps.one_other) (record { front = at.gap.front; back = c.args.object ∷ at.gap.back }) put.shows at.after
     (ap (λ p. Some p) c.place-place.ensures))

@@ -11,18 +11,18 @@ use Rattle.ic_xor_linked_list.proofs.list.XorLinkedList.remove_at.Given.{Over}
 
 pub take_off-requires : goal.take_off-requires
 take_off-requires g c =
-    let on = sym c.get.ensures ∙ c.in_ok-place.was in
+    let on = sym c.current.ensures ∙ c.in_ok-place.was in
     let m = member_there c.requires.stands.stands on in
-    let beside = beside_member m.front m.back c.in_ok-place.place c.requires.stands m.shown on in
-    record { shown = (m.front, m.back, m.shown, c.get-before.ensures ∙ beside.0, c.get-behind.ensures ∙ beside.1) }
+    let beside = beside_member m.front m.back c.in_ok-place.place c.requires.stands c.moved_back.ensures.moved m.shown on in
+    record { shown = (m.front, m.back, m.shown, c.current-before.ensures ∙ beside.0, c.next-behind.ensures ∙ beside.1) }
 
 pub position_behind-requires : goal.position_behind-requires
 position_behind-requires g c =
-    let on = sym c.get.ensures ∙ c.in_ok-place.was in
+    let on = sym c.current.ensures ∙ c.in_ok-place.was in
     let m = member_there c.requires.stands.stands on in
-    let beside = beside_member m.front m.back c.in_ok-place.place c.requires.stands m.shown on in
-    let before = c.get-before.ensures ∙ beside.0 in
-    let behind = c.get-behind.ensures ∙ beside.1 in
+    let beside = beside_member m.front m.back c.in_ok-place.place c.requires.stands c.moved_back.ensures.moved m.shown on in
+    let before = c.current-before.ensures ∙ beside.0 in
+    let behind = c.next-behind.ensures ∙ beside.1 in
     record { shown = (record { front = m.front; back = m.back }, c.take_off.ensures.removed m.front m.back m.shown before behind, before, behind) }
 
 -- the member is gone, of whatever sequence was shown
@@ -30,25 +30,25 @@ removes : (g : Over) (c : goal.After-new g) (gap : Cut) → Shows g.L.LinkOps.li
     → IsBefore gap c.args.at.now.current
     → Removes (Shows g.L.LinkOps.linked g.L.XorLinkedListOps.Joins) (g.L.LinkOps.table c.args.links.now) (g.L.LinkOps.table c.take_off.new.links) c.take_off.new.self gap
 removes g c gap shown before =
-    let on = sym c.get.ensures ∙ c.in_ok-place.was in
+    let on = sym c.current.ensures ∙ c.in_ok-place.was in
     let is = first_is gap.back (sym on ∙ before) in
     let whole = rw is at shown in
-    let beside = beside_member gap.front (drop 1 gap.back) c.in_ok-place.place c.requires.stands whole on in record {
-      shows = c.take_off.ensures.removed gap.front (drop 1 gap.back) whole (c.get-before.ensures ∙ beside.0) (c.get-behind.ensures ∙ beside.1);
-      frame = rw is (c.take_off.ensures.frame gap.front (drop 1 gap.back) whole (c.get-before.ensures ∙ beside.0) (c.get-behind.ensures ∙ beside.1));
+    let beside = beside_member gap.front (drop 1 gap.back) c.in_ok-place.place c.requires.stands c.moved_back.ensures.moved whole on in record {
+      shows = c.take_off.ensures.removed gap.front (drop 1 gap.back) whole (c.current-before.ensures ∙ beside.0) (c.next-behind.ensures ∙ beside.1);
+      frame = rw is (c.take_off.ensures.frame gap.front (drop 1 gap.back) whole (c.current-before.ensures ∙ beside.0) (c.next-behind.ensures ∙ beside.1));
     }
 
 -- and the position is on the one behind it
 moves : (g : Over) (c : goal.After-new g) (gap : Cut) → Shows g.L.LinkOps.linked g.L.XorLinkedListOps.Joins (g.L.LinkOps.table c.args.links.now) c.args.self.now (join gap)
     → IsBefore gap c.args.at.now.current → IsBehind gap c.position_behind.result.current
 moves g c gap shown before =
-    let on = sym c.get.ensures ∙ c.in_ok-place.was in
+    let on = sym c.current.ensures ∙ c.in_ok-place.was in
     let whole = rw (first_is gap.back (sym on ∙ before)) at shown in
-    c.position_behind.ensures.current ∙ c.get-behind.ensures ∙ (beside_member gap.front (drop 1 gap.back) c.in_ok-place.place c.requires.stands whole on).1
+    c.position_behind.ensures.current ∙ c.next-behind.ensures ∙ (beside_member gap.front (drop 1 gap.back) c.in_ok-place.place c.requires.stands c.moved_back.ensures.moved whole on).1
 
 pub returns-clause-removed : goal.returns-clause-removed
 returns-clause-removed g c = record {
-  answer = rw c.new.ensures (sym c.in_ok-place.was ∙ c.get.ensures);
+  answer = rw c.new.ensures (sym c.in_ok-place.was ∙ c.current.ensures);
   removed = removes g c;
   released = rw c.new.ensures c.take_off.ensures.released;
   moved = moves g c;

@@ -6,22 +6,22 @@ use Rattle.ic_link_ops.proofs.SequenceLemmas.{absent_right, absent_with, distinc
 use Rattle.ic_link_ops.proofs.ShownLists.{shows_middle, shows_beside, free_absent}
 use Rattle.ic_link_ops.proofs.XorLists.{xor_lists, joined_linked}
 use Rattle.ic_link_ops.proofs.Positions.{gap_there, member_there, replaced_stands}
-use Rattle.ic_xor_linked_list.proofs.Standing.{beside_member, knows_member}
+use Rattle.ic_xor_linked_list.proofs.Standing.{behind_member, beside_member, knows_member}
 use Rattle.ic_xor_linked_list.proofs.list.XorLinkedList.replace_with.Goals as goal
 use Rattle.ic_xor_linked_list.proofs.list.XorLinkedList.replace_with.Given.{Over}
 
 pub put_in_place-requires-clause-shown : goal.put_in_place-requires-clause-shown
 put_in_place-requires-clause-shown g c =
-    let on = sym c.get.ensures ∙ c.in-Some.is in
+    let on = sym c.current.ensures ∙ c.in-Some.is in
     let m = member_there c.requires.stands.stands on in
-    let beside = beside_member m.front m.back c.in-Some.out c.requires.stands m.shown on in
+    let beside = beside_member m.front m.back c.in-Some.out c.requires.stands c.moved_back.ensures.moved m.shown on in
     let a = c.if-not-acquire_link.ensures in
     let absent = free_absent joined_linked m.shown (g.met.L.LinkOps.does_replay _ _ _ a.acquired).was in
-    (m.front, m.back, shows_beside {new = g.L.LinkOps.table c.acquire_link.new.self} m.shown absent a.frame.others, c.get-2.ensures ∙ beside.0, c.get-3.ensures ∙ beside.1)
+    (m.front, m.back, shows_beside {new = g.L.LinkOps.table c.acquire_link.new.self} m.shown absent a.frame.others, c.current-before.ensures ∙ beside.0, c.next-behind.ensures ∙ beside.1)
 
 pub release_link-requires : goal.release_link-requires
 release_link-requires g c =
-    let m = member_there c.requires.stands.stands (sym c.get.ensures ∙ c.in-Some.is) in
+    let m = member_there c.requires.stands.stands (sym c.current.ensures ∙ c.in-Some.is) in
     let a = c.if-not-acquire_link.ensures in
     let absent = free_absent joined_linked m.shown (g.met.L.LinkOps.does_replay _ _ _ a.acquired).was in
     let now = shows_beside {new = g.L.LinkOps.table c.acquire_link.new.self} m.shown absent a.frame.others in
@@ -33,19 +33,19 @@ replaces : (g : Over) (c : goal.After-drop-object g) (gap : Cut) → Shows g.L.L
     → Replaces (Shows g.L.LinkOps.linked g.L.XorLinkedListOps.Joins) (g.L.LinkOps.table c.args.links.now) (g.L.LinkOps.table c.release_link.new.self) c.put_in_place.new.self gap c.args.object
 replaces g c gap shown before =
     let rest = drop 1 gap.back in
-    let on = sym c.get.ensures ∙ c.in-Some.is in
+    let on = sym c.current.ensures ∙ c.in-Some.is in
     let is = first_is gap.back (sym on ∙ before) in
     let whole = rw is at shown in
-    let beside = beside_member gap.front rest c.in-Some.out c.requires.stands whole on in
+    let beside = beside_member gap.front rest c.in-Some.out c.requires.stands c.moved_back.ensures.moved whole on in
     let a = c.if-not-acquire_link.ensures in
     let absent = free_absent joined_linked whole (g.met.L.LinkOps.does_replay _ _ _ a.acquired).was in
     let now = shows_beside {new = g.L.LinkOps.table c.acquire_link.new.self} whole absent a.frame.others in
     let apart = (absent_right c.place-place.result gap.front (c.in-Some.out ∷ rest) absent).0 in
     let put = c.put_in_place.ensures in
-    let kept = put.frame gap.front rest now (c.get-2.ensures ∙ beside.0) (c.get-3.ensures ∙ beside.1) in
+    let kept = put.frame gap.front rest now (c.current-before.ensures ∙ beside.0) (c.next-behind.ensures ∙ beside.1) in
     let released = c.release_link.ensures.frame in
     rw (← c.place-place.ensures) (record {
-      shows = shows_beside {new = g.L.LinkOps.table c.release_link.new.self} (put.shows gap.front rest now (c.get-2.ensures ∙ beside.0) (c.get-3.ensures ∙ beside.1) absent)
+      shows = shows_beside {new = g.L.LinkOps.table c.release_link.new.self} (put.shows gap.front rest now (c.current-before.ensures ∙ beside.0) (c.next-behind.ensures ∙ beside.1) absent)
           (absent_with gap.front rest c.place-place.result c.in-Some.out (λ e. apart (sym e)) (distinct_middle gap.front rest c.in-Some.out whole.distinct))
           released.others;
       frame = record {
@@ -59,8 +59,8 @@ replaces g c gap shown before =
 pub returns-clause-replaced : goal.returns-clause-replaced
 returns-clause-replaced g c =
     let L = g.met.L.LinkOps in
-    let on = c.of-at.ensures ∙ ap (λ p. Some p) c.place-place.ensures in record {
-      answer = rw c.new.ensures (sym c.get.ensures ∙ c.in-Some.is);
+    let on = ap (λ at. at.current) c.of.ensures ∙ ap (λ p. Some p) c.place-place.ensures in record {
+      answer = rw c.new.ensures (sym c.current.ensures ∙ c.in-Some.is);
       replaced = replaces g c;
       moved = on;
       exchanged = rw (← c.place-place.ensures, c.new.ensures)
@@ -72,9 +72,10 @@ returns-clause-replaced g c =
 
 pub returns-clause-kept : goal.returns-clause-kept
 returns-clause-kept g c =
-    let on = sym c.get.ensures ∙ c.in-Some.is in
+    let on = sym c.current.ensures ∙ c.in-Some.is in
     let k = gap_there c.requires.stands.stands in
     let whole = rw (first_is k.0.back (sym on ∙ k.2)) at k.1 in
-    let beside = beside_member k.0.front (drop 1 k.0.back) c.in-Some.out c.requires.stands whole on in
-    knows_member (xor_lists {linked = g.L.LinkOps.linked} g.met.L.XorLinkedListOps.one_other) k.0.front (drop 1 k.0.back) c.args.object (replaces g c k.0 k.1 k.2).shows
-    (c.of-at.ensures ∙ ap (λ p. Some p) c.place-place.ensures) beside.0 beside.1
+    let behind = c.next-behind.ensures ∙ behind_member k.0.front (drop 1 k.0.back) c.in-Some.out c.requires.stands whole on in
+    rw c.of.ensures
+    (knows_member (xor_lists {linked = g.L.LinkOps.linked} g.met.L.XorLinkedListOps.one_other) k.0.front (drop 1 k.0.back) c.args.object (replaces g c k.0 k.1 k.2).shows
+    (ap (λ p. Some p) c.place-place.ensures) behind)
