@@ -23,3 +23,4 @@ pub mod Laws
 pub mod Members
 pub mod Ends
 pub mod Finishing
+pub mod Walking

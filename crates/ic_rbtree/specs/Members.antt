@@ -1,14 +1,26 @@
 -- The members of a tree, as the entries lead through them.
-use Rattle.std.specs.Prelude.{◌≡◌, ◌⊎◌, true, ℕ, zero, suc, Option, Some, None, List, [], ◌∷◌}
+use Rattle.std.specs.Prelude.{◌≡◌, ◌⊎◌, true, ℕ, zero, suc, cond, Option, Some, None, List, [], ◌∷◌, ◌++◌}
 use Rattle.ic_unsafe_ref.specs.declared.place.Place.{Place}
+use Rattle.ic_link_ops.specs.Sequences.{first, last}
 use Rattle.ic_link_ops.specs.Tables.{Table, IsCovered}
 use Rattle.ic_link_ops.specs.Trees.{Tree, leaf, fork, in_order}
-use Rattle.ic_link_ops.specs.RedBlackTree.{Node}
+use Rattle.ic_link_ops.specs.RedBlackTree.{Node, Shows}
+use Rattle.ic_link_ops.specs.Walk.{is_end}
 
 -- the first of two, unless the second is there
 abbrev pub some_or : Option Place → Option Place → Option Place
 some_or o None = o
 some_or o (Some q) = Some q
+
+-- of a sequence, the members up to this one
+abbrev pub up_to : Option Place → List Place → List Place
+up_to tail [] = []
+up_to tail (x ∷ s) = x ∷ cond (is_end tail x) [] (up_to tail s)
+
+-- and those from one to the other, none where the first is none
+abbrev pub between : Option Place → Option Place → List Place → List Place
+between head tail [] = []
+between head tail (x ∷ s) = cond (is_end head x) (up_to tail (x ∷ s)) (between head tail s)
 
 module _ {E : Type 0} (n : E → Node) where
   -- the tree below a place, at most so many levels of it
@@ -42,3 +54,11 @@ module _ {E : Type 0} (n : E → Node) where
   abbrev pub IsPathDown : Table E → Option Place → List Place → Type 0
   IsPathDown t o [] = Unit {0}
   IsPathDown t o (p ∷ path) = (o ≡ Some p) × (IsPathDown t (n (t.entry p)).left path ⊎ IsPathDown t (n (t.entry p)).right path)
+
+  -- the members w stand side by side in the tree, and the ends are the first and the last of them (none where there is none)
+  pub record IsWalk (t : Table E) (root head tail : Option Place) (w : List Place) : Type 0 where
+    pub front : List Place
+    pub back : List Place
+    pub shown : Shows n t root (front ++ (w ++ back))
+    pub starts : head ≡ first w
+    pub ends : tail ≡ last w

@@ -1,0 +1,34 @@
+use Rattle.std.proofs.Common.{[], ◌∷◌, ◌++◌, refl, sym, ◌∙◌}
+use Rattle.ic_link_ops.proofs.Walks.{is_end_yes}
+use Rattle.ic_rbtree.proofs.Walking.{Steps, steps_last, steps_less, last_stands, none_left_back, gives_back, goes_back}
+use Rattle.ic_rbtree.proofs.iter.IterDoubleEndedIterator.next_back.Goals as goal
+use Rattle.ic_rbtree.proofs.iter.IterDoubleEndedIterator.next_back.Goals.{then-is_at, else-is_at}
+use Rattle.ic_rbtree.proofs.iter.IterDoubleEndedIterator.next_back.Given.{Over}
+
+pub prev_of-self-requires : goal.prev_of-self-requires
+prev_of-self-requires g c = record { stands = last_stands g.L.RBTreeOps.node g.L.LinkOps.table c.args.self.now c.in_ok-place.place c.requires c.in_ok-place.was }
+
+-- this call is a step of the walk
+step : (g : Over) (c : goal.After-get g) → Steps g.L.RBTreeOps.node g.L.LinkOps.table c.args.self.now c.if-is_at.self (λ w. w ++ c.in_ok-place.place ∷ [])
+step g c =
+    elim c.if-is_at.branch [
+      | then-is_at w ↦
+          rw w.self-is
+          (steps_last _ _ c.args.self.now c.in_ok-place.place (λ w. w ++ c.in_ok-place.place ∷ []) refl c.requires (is_end_yes _ _ (sym w.if-is_at.ensures)) c.in_ok-place.was)
+      | else-is_at w ↦
+          rw w.self-is
+          (steps_less _ _ c.args.self.now c.in_ok-place.place w.prev_of-self.result c.requires c.in_ok-place.was (sym w.if-is_at.ensures) w.prev_of-self.ensures)
+    ]
+
+pub returns-in_err-place-clause-steps : goal.returns-in_err-place-clause-steps
+returns-in_err-place-clause-steps g c =
+    let none = none_left_back g.L.RBTreeOps.node g.L.LinkOps.table
+    (λ t q e. g.met.L.LinkOps.linked_is_covered t q (sym (g.met.L.RBTreeOps.linked_alike _) ∙ e))
+    c.args.self.now c.requires c.in_err-place.was in
+    rw c.from_residual.ensures ((none, none), refl)
+
+pub returns-clause-steps : goal.returns-clause-steps
+returns-clause-steps g c = gives_back _ _ (λ t q e. g.met.L.LinkOps.linked_is_covered t q (sym (g.met.L.RBTreeOps.linked_alike _) ∙ e)) c.get.result (step g c) c.get.ensures
+
+pub returns-clause-goes : goal.returns-clause-goes
+returns-clause-goes g c = goes_back _ _ (λ t q e. g.met.L.LinkOps.linked_is_covered t q (sym (g.met.L.RBTreeOps.linked_alike _) ∙ e)) c.get.result (step g c) c.get.ensures

@@ -1,0 +1,138 @@
+//! A walk over the objects of a tree.
+//!
+//! ```text
+//! for task in tree.iter(&links, &objects) {
+//!     task.run();
+//! }
+//! let latest = tree.iter(&links, &objects).next_back();
+//! ```
+
+ghost use Rattle.std.specs.Prelude.{◌≡◌, List, Option, Some, ⊤};
+ghost use Rattle.std.specs.Iterator.{item_count};
+ghost use Rattle.ic_unsafe_ref.specs.declared.place.Place.{Place};
+ghost use Rattle.ic_link_ops.specs.RedBlackTree.{Shows};
+ghost use Rattle.ic_link_ops.specs.Walk.{GivesFirst, GivesLast};
+ghost use Rattle.ic_rbtree.specs.Tree.{root_of};
+
+use crate::readings::is_at;
+use crate::{KeyAdapter, RBTree};
+use ic_link_ops::LinkOps;
+use ic_link_ops::rbtree::RBTreeOps;
+use ic_unsafe_ref::{Objects, Place};
+use std::alloc::{AllocError, Allocator, Global};
+
+/// The objects of a tree that are not given out yet: from the front by `next`, from the back by `next_back`.
+///
+/// When the two ends meet, both are exhausted. `A::Key: 'a` holds of every key that is a part of its object: it is said for
+/// callers that are generic in the adapter.
+pub struct Iter<'a, A: KeyAdapter, L, B: Allocator = Global>
+where
+    A::Key: 'a,
+{
+    tree: &'a RBTree<A>,
+    links: &'a L,
+    objects: &'a Objects<A::Value, B>,
+    head: Option<Place>,
+    tail: Option<Place>,
+}
+
+impl<A: KeyAdapter, L, B: Allocator> Drop for Iter<'_, A, L, B> {
+    fn drop(self) {
+        let Iter {
+            tree: _,
+            links: _,
+            objects: _,
+            head: _,
+            tail: _,
+        } = self;
+    }
+}
+
+impl<'a, A: KeyAdapter, L: RBTreeOps, B: Allocator> Iterator for Iter<'a, A, L, B> {
+    type Item = &'a A::Value;
+
+    ghost use Rattle.std.specs.Iterator.{item_count};
+    ghost use Rattle.ic_rbtree.specs.Iter.{objects_left, CanWalk};
+
+    ghost can_next = { CanWalk L.node L.table };
+
+    ghost next_gives = { GivesFirst (objects_left L.node L.table) };
+
+    ghost remaining = { item_count (objects_left L.node L.table) };
+
+    /// The next object. O(log n): one step in the tree, and one look-up of the object.
+    fn next(&mut self) -> Option<&'a A::Value> {
+        let place = self.head?;
+        if is_at(self.tail, place) {
+            self.head = None;
+            self.tail = None;
+        } else {
+            self.head = self.tree.next_of(self.links, Some(place));
+        }
+        let objects: &'a Objects<A::Value, B> = self.objects;
+        objects.get(place)
+    }
+}
+
+impl<'a, A: KeyAdapter, L: RBTreeOps, B: Allocator> DoubleEndedIterator for Iter<'a, A, L, B> {
+    ghost use Rattle.ic_rbtree.specs.Iter.{objects_left, CanWalk};
+
+    ghost can_next_back = { CanWalk L.node L.table };
+
+    ghost next_back_gives = { GivesLast (objects_left L.node L.table) };
+
+    /// The next object from the back. O(log n), as `next`.
+    fn next_back(&mut self) -> Option<&'a A::Value> {
+        let place = self.tail?;
+        if is_at(self.head, place) {
+            self.head = None;
+            self.tail = None;
+        } else {
+            self.tail = self.tree.prev_of(self.links, Some(place));
+        }
+        let objects: &'a Objects<A::Value, B> = self.objects;
+        objects.get(place)
+    }
+}
+
+impl<A: KeyAdapter, L, B: Allocator> Clone for Iter<'_, A, L, B> {
+    ghost is_clone = { λ t copy. copy ≡ t };
+
+    ghost is_infallible = { λ _. ⊤ };
+
+    /// A walk over the same objects, from the same two ends. It never fails.
+    fn clone(&self) -> Result<Self, AllocError> {
+        Ok(Iter {
+            tree: self.tree,
+            links: self.links,
+            objects: self.objects,
+            head: self.head,
+            tail: self.tail,
+        })
+    }
+}
+
+impl<A: KeyAdapter> RBTree<A> {
+    ghost use Rattle.ic_link_ops.specs.PlacedObjects.{ShowsPlaced, values_at};
+    ghost use Rattle.ic_rbtree.specs.Iter.{objects_left, CanWalk};
+
+    /// A walk over the objects of the tree, from either end. It asks that all members are placed.
+    pub fn iter<'a, L: RBTreeOps, B: Allocator>(
+        &'a self,
+        links: &'a L,
+        objects: &'a Objects<A::Value, B>,
+    ) -> Iter<'a, A, L, B>
+        requires placed { ShowsPlaced (Shows L.node (L.table links.now) (root_of self.now)) objects.now }
+        ensures walks { (s : List Place) → Shows L.node (L.table links.now) (root_of self.now) s
+            → objects_left L.node L.table result ≡ values_at objects.now s }
+        ensures can_walk { CanWalk L.node L.table result }
+    {
+        Iter {
+            tree: self,
+            links,
+            objects,
+            head: self.first(links),
+            tail: self.last(links),
+        }
+    }
+}
