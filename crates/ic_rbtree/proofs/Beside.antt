@@ -24,7 +24,7 @@ fork_branch : (d : Side) (c : Color) (a : Tree) (p : Place) (b : Tree) → fork 
 fork_branch Left c a p b = refl
 fork_branch Right c a p b = refl
 
-nearest_twice : (d : Side) (s : List Place) → nearest (across (across d)) s ≡ nearest d s
+pub nearest_twice : (d : Side) (s : List Place) → nearest (across (across d)) s ≡ nearest d s
 nearest_twice Left s = refl
 nearest_twice Right s = refl
 
@@ -42,7 +42,7 @@ module _ {E : Type 0} (n : E → Node) where
     pub root_can : {s : List Place} {r : Place} → Shows n v root s → root ≡ Some r → StandsAt n v r
     root_can h is = let k = shown_of n h in (v, root, [], k.tree, [], k.stands, sym k.stands.are.0.1 ∙ is)
 
-    root_end : {s : List Place} {r : Place} (d : Side) {y : Place} → Shows n v root s → root ≡ Some r → IsOutermost n v r d y → (nearest (across d) s ≡ Some y) × (child_on d (n (v.entry y)) ≡ None)
+    pub root_end : {s : List Place} {r : Place} (d : Side) {y : Place} → Shows n v root s → root ≡ Some r → IsOutermost n v r d y → (nearest (across d) s ≡ Some y) × (child_on d (n (v.entry y)) ≡ None)
     root_end d h is outermost =
         let k = shown_of n h in
         let e = outermost v root [] k.tree [] k.stands (sym k.stands.are.0.1 ∙ is) in
@@ -91,16 +91,12 @@ module _ {E : Type 0} (n : E → Node) where
           ∙ ap (λ t. nearest_or d (in_order t) (nearest d (beyond d x.fs))) (sym bare)
           ∙ sym (nearest_around d x.fs x.a x.b front back x.front_is x.back_is)
 
-    -- A STEP, beside a gap: from null there is nothing in an empty tree,
+    -- A STEP, beside a gap: from null to the end of the tree on the other side,
     module _ (d : Side) (gap : Cut) (shown : Shows n v root (join gap)) where
-      pub null_nothing : IsBeside d gap None → root ≡ None → IsBeside (across d) gap None
-      null_nothing here is =
-          is_beside d gap None (sym (ap (nearest d) (beside_null d gap here ∙ no_root (subst (λ o. Shows n v o (join gap)) is shown)) ∙ nothing d)) where
-            nothing : (d : Side) → nearest d [] ≡ None
-            nothing Left = refl
-            nothing Right = refl
+      pub null_step : {o : Option Place} → IsBeside d gap None → o ≡ nearest d (join gap) → IsBeside (across d) gap o
+      null_step {o} here end = is_beside d gap o (end ∙ sym (ap (nearest d) (beside_null d gap here)))
 
-      -- and else the end of the tree on the other side,
+      -- in front of which there is a hole,
       pub null_end : {k : Side} {r y : Place} → k ≡ across d → IsBeside d gap None → root ≡ Some r → IsOutermost n v r k y → IsHole n v (Some y) k gap
       null_end {k} {r} {y} other here is outermost =
           let e = root_end (across d) shown is (subst (λ z. IsOutermost n v r z y) other outermost) in

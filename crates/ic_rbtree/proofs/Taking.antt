@@ -122,7 +122,7 @@ module _ {E : Type 0} (n : E → Node) where
   -- THE WRITES OF TAKING OUT
   pub taken_out : {base v v1 v2 : Table E} (root new_root child parent : Option Place) (fs : List Frame) (c : Color) (a : Tree) (p : Place) (b : Tree) (ps : List Piece)
       → Stands n base v root fs (fork c a p b) ps → IsLone a b → child ≡ or_else (n (v.entry p)).left (n (v.entry p)).right → parent ≡ (n (v.entry p)).parent
-      → Adopts n v v1 child parent → Relinks n v1 v2 root new_root parent p child
+      → Relinks n v v1 root new_root parent p child → Adopts n v1 v2 child parent
       → Stands n base v2 new_root fs (only a b) (loose p ∷ ps) × (child ≡ top (only a b)) × (parent ≡ above fs)
   taken_out {base} {v} {v1} {v2} root new_root child parent fs c a p b ps s lone ec ep f1 f2 =
       let h0 = open_at n root fs Left c a p b ps s in
@@ -131,13 +131,14 @@ module _ {E : Type 0} (n : E → Node) where
       let up : parent ≡ above fs = ep ∙ at.parent in
       let x : Tree = only a b in
       let parts = lone_tree a b lone (λ (t : Tree). IsTree n v.entry (Some p) t) h0.are.1.0 h0.are.1.1.0 in
-      let h1 = regroup n (below (Some p) x ∷ loose p ∷ around root fs (Some p) ∷ ps) h0 (λ q. omega (arith, lone_times q a b lone))
-      (parts, (at.linked, h0.are.1.1.1)) in
-      let h2 = f1 base (Some p) (above fs) x (loose p ∷ around root fs (Some p) ∷ ps) child_is up h1 in
-      let h3 = regroup n (around root fs (Some p) ∷ below (above fs) x ∷ loose p ∷ ps) h2 (λ q. omega arith) (h2.are.1.1.0, (h2.are.0, (h2.are.1.0, h2.are.1.1.1))) in
-      let out : times_around p fs ≡ 0 = omega (arith, h3.once p, one_at_self p) in
-      let h4 = f2 base fs (top x) (below (above fs) x ∷ loose p ∷ ps) up child_is out h3 in
-      (h4, child_is, up)
+      let h1 = regroup n (around root fs (Some p) ∷ below (Some p) x ∷ loose p ∷ ps) h0 (λ q. omega (arith, lone_times q a b lone))
+      (h0.are.1.1.1.0, (parts, (at.linked, h0.are.1.1.1.1))) in
+      let out : times_around p fs ≡ 0 = omega (arith, h1.once p, one_at_self p) in
+      let h2 = f1 base fs (top x) (below (Some p) x ∷ loose p ∷ ps) up child_is out h1 in
+      let h3 = regroup n (below (Some p) x ∷ around new_root fs (top x) ∷ loose p ∷ ps) h2 (λ q. omega arith) (h2.are.1.0, (h2.are.0, h2.are.1.1)) in
+      let h4 = f2 base (Some p) (above fs) x (around new_root fs (top x) ∷ loose p ∷ ps) child_is up h3 in
+      let h5 = regroup n (around new_root fs (top x) ∷ below (above fs) x ∷ loose p ∷ ps) h4 (λ q. omega arith) (h4.are.1.0, (h4.are.0, h4.are.1.1)) in
+      (h5, child_is, up)
     where
       lone_tree : (a b : Tree) → IsLone a b → (P : Tree → Type 0) → P a → P b → P (only a b)
       lone_tree leaf b h P pa pb = pb

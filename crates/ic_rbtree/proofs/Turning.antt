@@ -195,15 +195,15 @@ module _ {E : Type 0} (n : E → Node) where
       (h3.are.1.1.1.1.1.0, (h3.are.0, (h3.are.1.0, (h3.are.1.1.0, (h3.are.1.1.1.0, (h3.are.1.1.1.1.0, h3.are.1.1.1.1.1.1)))))) in
       let out : times_around p fs ≡ 0 = omega (arith, g4.once p, one_at_self p) in
       let h4 = f4 base fs (Some y) (Y3 ∷ P1 ∷ B2 ∷ W ∷ A ∷ ps) pu (ap Some zy) out g4 in
-      let R4 : Piece = around new_root fs (Some y) in
-      let g5 = regroup n (Y3 ∷ R4 ∷ P1 ∷ B2 ∷ W ∷ A ∷ ps) h4 (λ q. omega arith) (h4.are.1.0, (h4.are.0, h4.are.1.1)) in
-      let h5 = set_near n d y k (top b) (top e) (above fs) (R4 ∷ P1 ∷ B2 ∷ W ∷ A ∷ ps) g5 z d (Some p) (Some p) zy refl refl set5 only5 in
+      let Ring : Piece = around new_root fs (Some y) in
+      let g5 = regroup n (Y3 ∷ Ring ∷ P1 ∷ B2 ∷ W ∷ A ∷ ps) h4 (λ q. omega arith) (h4.are.1.0, (h4.are.0, h4.are.1.1)) in
+      let h5 = set_near n d y k (top b) (top e) (above fs) (Ring ∷ P1 ∷ B2 ∷ W ∷ A ∷ ps) g5 z d (Some p) (Some p) zy refl refl set5 only5 in
       let Y5 : Piece = cell d y k (Some p) (top e) (above fs) in
-      let g6 = regroup n (P1 ∷ Y5 ∷ R4 ∷ B2 ∷ W ∷ A ∷ ps) h5 (λ q. omega arith) (h5.are.1.1.0, (h5.are.0, (h5.are.1.0, h5.are.1.1.1))) in
-      let h6 = set_up n d p c (top a) (top b) (above fs) (Y5 ∷ R4 ∷ B2 ∷ W ∷ A ∷ ps) g6 p (Some z) (Some y) refl (ap Some zy) set6 only6 in
+      let g6 = regroup n (P1 ∷ Y5 ∷ Ring ∷ B2 ∷ W ∷ A ∷ ps) h5 (λ q. omega arith) (h5.are.1.1.0, (h5.are.0, (h5.are.1.0, h5.are.1.1.1))) in
+      let h6 = set_up n d p c (top a) (top b) (above fs) (Y5 ∷ Ring ∷ B2 ∷ W ∷ A ∷ ps) g6 p (Some z) (Some y) refl (ap Some zy) set6 only6 in
       let P6 : Piece = cell d p c (top a) (top b) (Some y) in
-      let g7 = regroup n (P6 ∷ A ∷ B2 ∷ Y5 ∷ W ∷ R4 ∷ ps) h6 (λ q. omega arith)
+      let g7 = regroup n (P6 ∷ A ∷ B2 ∷ Y5 ∷ W ∷ Ring ∷ ps) h6 (λ q. omega arith)
       (h6.are.0, (h6.are.1.1.1.1.1.0, (h6.are.1.1.1.0, (h6.are.1.0, (h6.are.1.1.1.1.0, (h6.are.1.1.0, h6.are.1.1.1.1.1.1)))))) in
-      let low = close_below (Some y) (top a) (top b) d c a p b (Y5 ∷ W ∷ R4 ∷ ps) refl refl g7 in
-      let g8 = regroup n (Y5 ∷ below (Some y) (branch d c a p b) ∷ W ∷ R4 ∷ ps) low (λ q. omega arith) (low.are.1.0, (low.are.0, low.are.1.1)) in
+      let low = close_below (Some y) (top a) (top b) d c a p b (Y5 ∷ W ∷ Ring ∷ ps) refl refl g7 in
+      let g8 = regroup n (Y5 ∷ below (Some y) (branch d c a p b) ∷ W ∷ Ring ∷ ps) low (λ q. omega arith) (low.are.1.0, (low.are.0, low.are.1.1)) in
       close_at new_root (Some p) (top e) fs d k (branch d c a p b) y e ps (sym (top_branch d c a p b)) refl g8

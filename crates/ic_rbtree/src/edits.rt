@@ -14,7 +14,7 @@ ghost use Rattle.ic_rbtree.specs.Sides.{IsBeside};
 ghost use Rattle.ic_rbtree.specs.Tree.{root_of, adapter_of};
 
 use crate::linking::{insert, remove, replace};
-use crate::steps::{hole_beside, step};
+use crate::steps::{end_on, hole_beside, step};
 use crate::{KeyAdapter, RBTree};
 use ic_link_ops::rbtree::RBTreeOps;
 use ic_link_ops::{AlreadyLinked, End, LinkOps, ReplaceError, Side};
@@ -27,7 +27,7 @@ impl<A: KeyAdapter> RBTree<A> {
         requires shown { ShowsSome L.node (L.table links.now) (root_of self.now) }
         ensures { (s : List Place) → Shows L.node (L.table links.now) (root_of self.now) s → result ≡ first s }
     {
-        step(links, self.root.get(), None, Side::Right)
+        end_on(links, self.root.get(), Side::Left)
     }
 
     // The last member.
@@ -36,7 +36,7 @@ impl<A: KeyAdapter> RBTree<A> {
         requires shown { ShowsSome L.node (L.table links.now) (root_of self.now) }
         ensures { (s : List Place) → Shows L.node (L.table links.now) (root_of self.now) s → result ≡ last s }
     {
-        step(links, self.root.get(), None, Side::Left)
+        end_on(links, self.root.get(), Side::Right)
     }
 
     // Where the next move leads: the gap after the position is then before it.

@@ -12,7 +12,7 @@ ghost use Rattle.ic_rbtree.specs.Insertion.{color_below, are_across};
 ghost use Rattle.ic_rbtree.specs.Steps.{IsSideOf};
 
 use ic_link_ops::rbtree::RBTreeOps;
-use ic_link_ops::{Color, Side};
+use ic_link_ops::{Color, End, Side};
 use ic_unsafe_ref::Place;
 
 pub(crate) fn other(side: Side) -> Side
@@ -34,14 +34,12 @@ pub(crate) fn child<L: RBTreeOps>(links: &L, place: Place, side: Side) -> Option
     }
 }
 
-// Whether `end` is `place`.
+// Whether `end` is `place`: one comparison of words.
+#[inline]
 pub(crate) fn is_at(end: Option<Place>, place: Place) -> bool
     ensures { result ≡ is_end end place }
 {
-    match end {
-        None => false,
-        Some(end) => end == place,
-    }
+    Place::to_word(end) == Place::to_word(Some(place))
 }
 
 pub(crate) fn is_red<L: RBTreeOps>(links: &L, place: Option<Place>) -> bool
@@ -70,10 +68,12 @@ pub(crate) fn only_child<L: RBTreeOps>(links: &L, place: Place) -> Option<Place>
     ensures { result ≡ or_else (node_at L.node (L.table links.now) place).left
         (node_at L.node (L.table links.now) place).right }
 {
-    match links.left(place) {
-        Some(left) => Some(left),
-        None => links.right(place),
-    }
+    // as a word, which both ways lead to
+    let only = match links.left(place) {
+        Some(left) => End::of(Some(left)),
+        None => End::of(links.right(place)),
+    };
+    only.get()
 }
 
 /// On which side of its parent a member stands.

@@ -165,8 +165,8 @@ pub(crate) fn take_out<L: RBTreeOps>(links: &mut L, root: &mut End, place: Place
     let parent = links.parent(place);
     let color = links.color(place);
     let side = side_below(&*links, place, parent);
-    adopt(links, child, parent);
     relink(links, root, parent, place, child);
+    adopt(links, child, parent);
     close_gap(links, root, color, child, parent, side);
 }
 

@@ -3,14 +3,14 @@
 //! A step down is one to a child, a step up one to the parent. Beside a member with a child on that side stands the
 //! outermost one below that child; beside one without stands the lowest member above, on the other side of which it is.
 
-ghost use Rattle.std.specs.Prelude.{◌≡◌, Option, Some, None};
+ghost use Rattle.std.specs.Prelude.{◌≡◌, List, Option, Some, None};
 ghost use Rattle.ic_unsafe_ref.specs.declared.place.Place.{Place};
 ghost use Rattle.ic_link_ops.specs.Sequences.{Cut, join};
 ghost use Rattle.ic_link_ops.specs.Frames.{across};
-ghost use Rattle.ic_link_ops.specs.RedBlackTree.{Shows};
+ghost use Rattle.ic_link_ops.specs.RedBlackTree.{Shows, ShowsSome};
 ghost use Rattle.ic_link_ops.specs.Positions.{site, Stands};
 ghost use Rattle.ic_rbtree.specs.Insertion.{IsHole};
-ghost use Rattle.ic_rbtree.specs.Sides.{IsBeside, StandsAt, IsOutermost, IsNearestAbove};
+ghost use Rattle.ic_rbtree.specs.Sides.{IsBeside, nearest, StandsAt, IsOutermost, IsNearestAbove};
 
 use crate::readings::{child, is_at, other};
 use ic_link_ops::Side;
@@ -37,13 +37,35 @@ pub(crate) fn above_on<L: RBTreeOps>(links: &L, place: Place, side: Side) -> Opt
     ensures { IsNearestAbove L.node (L.table links.now) place side result }
 {
     let mut place = place;
-    while let Some(parent) = links.parent(place) {
-        if !is_at(child(links, parent, side), place) {
-            return Some(parent);
+    let mut parent = links.parent(place);
+    while let Some(above) = parent {
+        if !is_at(child(links, above, side), place) {
+            return Some(above);
         }
-        place = parent;
+        place = above;
+        parent = links.parent(above);
     }
     None
+}
+
+// The outermost member on a side, `None` in an empty tree.
+#[inline]
+pub(crate) fn end_on<L: RBTreeOps>(links: &L, root: Option<Place>, side: Side) -> Option<Place>
+    requires shown { ShowsSome L.node (L.table links.now) root }
+    ensures end { (s : List Place) → Shows L.node (L.table links.now) root s → result ≡ nearest (across side) s }
+{
+    Some(outermost(links, root?, side))
+}
+
+// The same, as a cursor comes to it from null, once a round. Called and not inlined, so that a step from a member stands by
+// itself.
+#[cold]
+#[inline(never)]
+fn end_from_null<L: RBTreeOps>(links: &L, root: Option<Place>, side: Side) -> Option<Place>
+    requires shown { ShowsSome L.node (L.table links.now) root }
+    ensures end { (s : List Place) → Shows L.node (L.table links.now) root s → result ≡ nearest (across side) s }
+{
+    end_on(links, root, side)
 }
 
 // Where a step to a side leads from a position: from null to the end on the other side.
@@ -59,7 +81,7 @@ pub(crate) fn step<L: RBTreeOps>(
         → IsBeside (across side) gap result }
 {
     let Some(place) = current else {
-        return Some(outermost(links, root?, other(side)));
+        return end_from_null(links, root, other(side));
     };
     match child(links, place, side) {
         Some(below) => Some(outermost(links, below, other(side))),

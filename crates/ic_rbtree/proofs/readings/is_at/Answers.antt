@@ -1,6 +1,20 @@
-use Rattle.std.proofs.Common.{◌∙◌}
-use Rattle.ic_unsafe_ref.proofs.PlaceLemmas.{number_tells}
+use Rattle.std.proofs.Common.{◌≡◌, ◌*◌, ◌+◌, Option, Some, None, ℕ, nat_eq, false, refl, sym, ap, ◌∙◌, arith, ne_eqb}
+use Rattle.ic_unsafe_ref.specs.declared.place.Place.{Place}
+use Rattle.ic_unsafe_ref.specs.Places.{index_of, word_of}
+use Rattle.ic_unsafe_ref.proofs.PlaceLemmas.{number_of, number_tells}
+use Rattle.ic_link_ops.specs.Walk.{is_end}
 use Rattle.ic_rbtree.proofs.readings.is_at.Goals as goal
 
-pub returns-in-Some : goal.returns-in-Some
-returns-in-Some c = rw c.in-Some.is (c.eq.ensures ∙ number_tells _ _)
+-- words tell whether an end is a place
+same_words : (end : Option Place) (p : Place) → nat_eq (word_of end) (word_of (Some p)) ≡ is_end end p
+same_words None p = ne_eqb 0 (2 * (index_of p + 1)) (λ e. absurd (omega (arith, e)))
+same_words (Some q) p =
+    let words : nat_eq (2 * (index_of q + 1)) (2 * (index_of p + 1)) ≡ nat_eq q.number p.number =
+    ap (λ (m : ℕ). nat_eq m (2 * (index_of p + 1))) (sym (number_of q)) ∙ ap (λ (m : ℕ). nat_eq q.number m) (sym (number_of p)) in
+    words ∙ number_tells q p
+
+pub returns : goal.returns
+returns c =
+    ap (λ (m : ℕ). nat_eq m c.to_word-2.result) c.to_word.ensures.value
+    ∙ ap (λ (m : ℕ). nat_eq (word_of c.args.end) m) c.to_word-2.ensures.value
+    ∙ same_words c.args.end c.args.place

@@ -14,6 +14,7 @@ invariant-loop-parent g l =
     let n = g.L.RBTreeOps.node in
     let v = g.L.LinkOps.table l.links in
     record {
+      parent : l.parent ≡ (n (v.entry l.place)).parent;
       some : StandsAt n v l.place;
       each : (base : Table g.row.L-Entry.Denot) (root : Option Place) (fs : List Frame) (t : Tree) (ps : List Piece) → Stands n base v root fs t ps → top t ≡ Some l.fn.place
           → (gs : List Frame) × (u : Tree) × Up n base v root l.side l.place fs ps gs u;

@@ -1,21 +1,19 @@
-use Rattle.std.proofs.Common.{Some, sym, ◌∙◌, subst}
+use Rattle.std.proofs.Common.{Option, Some, None, sym, ap, ◌∙◌, subst}
 use Rattle.ic_link_ops.specs.Frames.{across}
+use Rattle.ic_link_ops.specs.Sequences.{join}
 use Rattle.ic_link_ops.proofs.Positions.{member_there}
-use Rattle.ic_rbtree.specs.Sides.{IsBeside}
+use Rattle.ic_rbtree.specs.Sides.{IsBeside, nearest}
 use Rattle.ic_rbtree.proofs.Removing.{spot_linked}
-use Rattle.ic_rbtree.proofs.Beside.{root_can, member_spot, spot_can, below_can, null_nothing, null_end, member_end, member_above}
+use Rattle.ic_rbtree.proofs.Beside.{member_spot, spot_can, below_can, nearest_twice, null_step, member_end, member_above}
 use Rattle.ic_rbtree.proofs.steps.step.Goals as goal
-
-pub outermost-requires : goal.outermost-requires
-outermost-requires g c = root_can g.L.RBTreeOps.node c.requires.stands.shown c.in_ok-root.was
 
 pub child-requires : goal.child-requires
 child-requires g c =
     let x = member_spot g.L.RBTreeOps.node (member_there c.requires.stands c.in-Some.is) in
     sym (g.met.L.RBTreeOps.linked_alike _) ∙ spot_linked g.L.RBTreeOps.node x.2
 
-pub outermost-requires-in-Some-child : goal.outermost-requires-in-Some-child
-outermost-requires-in-Some-child g c =
+pub outermost-requires : goal.outermost-requires
+outermost-requires g c =
     let x = member_spot g.L.RBTreeOps.node (member_there c.requires.stands c.in-Some.is) in
     below_can g.L.RBTreeOps.node x.2 c.args.side (sym c.in-Some-child.ensures)
 
@@ -23,26 +21,19 @@ pub above_on-requires : goal.above_on-requires
 above_on-requires g c =
     let x = member_spot g.L.RBTreeOps.node (member_there c.requires.stands c.in-Some.is) in spot_can g.L.RBTreeOps.node x.2
 
-pub returns-in_err-root : goal.returns-in_err-root
-returns-in_err-root g c = record {
-  leads = λ gap shown here.
-      subst (λ o. IsBeside (across c.args.side) gap o) (sym c.from_residual.ensures)
-      (null_nothing g.L.RBTreeOps.node c.args.side gap shown (subst (λ o. IsBeside c.args.side gap o) c.in_default.is here) c.in_err-root.was);
-}
-
 pub returns-in_default : goal.returns-in_default
 returns-in_default g c = record {
   leads = λ gap shown here.
-      subst (λ k. IsBeside k gap (Some c.outermost.result)) c.other.ensures
-      (null_end g.L.RBTreeOps.node c.args.side gap shown c.other.ensures (subst (λ o. IsBeside c.args.side gap o) c.in_default.is here) c.in_ok-root.was c.outermost.ensures).1;
+      null_step g.L.RBTreeOps.node c.args.side gap shown (subst (λ o. IsBeside c.args.side gap o) c.in_default.is here)
+      (c.end_from_null.ensures.end (join gap) shown ∙ ap (λ k. nearest (across k) (join gap)) c.other.ensures ∙ nearest_twice c.args.side (join gap));
 }
 
 pub returns-in-Some-child : goal.returns-in-Some-child
 returns-in-Some-child g c = record {
   leads = λ gap shown here.
-      subst (λ k. IsBeside k gap (Some c.outermost-in-Some-child.result)) c.other-in-Some-child.ensures
+      subst (λ k. IsBeside k gap (Some c.outermost.result)) c.other-in-Some-child.ensures
       (member_end g.L.RBTreeOps.node c.args.side gap shown c.in-Some.place c.other-in-Some-child.ensures (subst (λ o. IsBeside c.args.side gap o) c.in-Some.is here) (sym c.in-Some-child.ensures)
-      c.outermost-in-Some-child.ensures).1;
+      c.outermost.ensures).1;
 }
 
 pub returns-in-None : goal.returns-in-None
