@@ -13,8 +13,8 @@ ghost use Rattle.ic_rbtree.specs.Insertion.{IsHole};
 ghost use Rattle.ic_rbtree.specs.Sides.{IsBeside, nearest, StandsAt, IsOutermost, IsNearestAbove};
 
 use crate::readings::{child, is_at, other};
-use ic_link_ops::Side;
 use ic_link_ops::rbtree::RBTreeOps;
+use ic_link_ops::{End, Side};
 use ic_unsafe_ref::Place;
 
 // The member at or below a place that stands outermost on a side.
@@ -81,11 +81,12 @@ pub(crate) fn step<L: RBTreeOps>(
         → IsBeside (across side) gap result }
 {
     let Some(place) = current else {
-        return end_from_null(links, root, other(side));
+        return End::of(end_from_null(links, root, other(side))).get();
     };
+    // as a word, which all ways lead to
     match child(links, place, side) {
-        Some(below) => Some(outermost(links, below, other(side))),
-        None => above_on(links, place, side),
+        Some(below) => End::of(Some(outermost(links, below, other(side)))).get(),
+        None => End::of(above_on(links, place, side)).get(),
     }
 }
 

@@ -1,4 +1,4 @@
-use Rattle.std.proofs.Common.{Option, Some, None, sym, ap, ◌∙◌, subst}
+use Rattle.std.proofs.Common.{Some, sym, ap, ◌∙◌, subst}
 use Rattle.ic_link_ops.specs.Frames.{across}
 use Rattle.ic_link_ops.specs.Sequences.{join}
 use Rattle.ic_link_ops.proofs.Positions.{member_there}
@@ -25,19 +25,21 @@ pub returns-in_default : goal.returns-in_default
 returns-in_default g c = record {
   leads = λ gap shown here.
       null_step g.L.RBTreeOps.node c.args.side gap shown (subst (λ o. IsBeside c.args.side gap o) c.in_default.is here)
-      (c.end_from_null.ensures.end (join gap) shown ∙ ap (λ k. nearest (across k) (join gap)) c.other.ensures ∙ nearest_twice c.args.side (join gap));
+      (c.get.ensures ∙ (c.of.ensures ∙ (c.end_from_null.ensures.end (join gap) shown ∙ (ap (λ k. nearest (across k) (join gap)) c.other.ensures ∙ nearest_twice c.args.side (join gap)))));
 }
 
 pub returns-in-Some-child : goal.returns-in-Some-child
 returns-in-Some-child g c = record {
   leads = λ gap shown here.
-      subst (λ k. IsBeside k gap (Some c.outermost.result)) c.other-in-Some-child.ensures
+      subst (λ o. IsBeside (across c.args.side) gap o) (sym (c.get-in-Some-child.ensures ∙ c.of-in-Some-child.ensures))
+      (subst (λ k. IsBeside k gap (Some c.outermost.result)) c.other-in-Some-child.ensures
       (member_end g.L.RBTreeOps.node c.args.side gap shown c.in-Some.place c.other-in-Some-child.ensures (subst (λ o. IsBeside c.args.side gap o) c.in-Some.is here) (sym c.in-Some-child.ensures)
-      c.outermost.ensures).1;
+      c.outermost.ensures).1);
 }
 
 pub returns-in-None : goal.returns-in-None
 returns-in-None g c = record {
   leads = λ gap shown here.
-      member_above g.L.RBTreeOps.node c.args.side gap shown c.in-Some.place (subst (λ o. IsBeside c.args.side gap o) c.in-Some.is here) (sym c.in-None.ensures) c.above_on.ensures;
+      subst (λ o. IsBeside (across c.args.side) gap o) (sym (c.get-in-None.ensures ∙ c.of-in-None.ensures))
+      (member_above g.L.RBTreeOps.node c.args.side gap shown c.in-Some.place (subst (λ o. IsBeside c.args.side gap o) c.in-Some.is here) (sym c.in-None.ensures) c.above_on.ensures);
 }
