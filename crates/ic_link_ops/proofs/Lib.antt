@@ -12,6 +12,7 @@ pub mod BothEnds
 pub mod WalkLaws
 pub mod EditingWalks
 pub mod Clearing
+pub mod Membership
 pub mod Taking
 pub mod Calling
 pub mod LinkedSets
