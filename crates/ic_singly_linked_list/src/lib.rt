@@ -25,6 +25,7 @@
 //! [`Iter`] lends the objects, and [`IntoIter`] takes the members off. [`laws`] has what follows for every table.
 #![tactic(auto)]
 
+mod contains;
 mod cursor;
 mod cursor_mut;
 mod cursor_owning;
