@@ -28,6 +28,7 @@
 //! for every table.
 #![tactic(auto)]
 
+mod contains;
 mod cursor;
 mod cursor_mut;
 mod cursor_owning;
