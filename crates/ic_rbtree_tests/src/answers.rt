@@ -1,0 +1,60 @@
+//! What calls of a tree are answered as.
+
+use ic_link_ops::{AlreadyLinked, ReplaceError};
+use ic_unsafe_ref::{Place, UnsafeRef};
+use std::fmt;
+use test_support::rows::Answer;
+
+/// What a place is answered as.
+pub(crate) fn number(place: Place) -> Answer {
+    Answer::Number(place.index() as u64)
+}
+
+/// What an object that comes back is answered as.
+pub(crate) fn object(found: Option<UnsafeRef<u64>>) -> Answer {
+    match found {
+        Some(object) => number(object.place()),
+        None => Answer::Nothing,
+    }
+}
+
+/// Whether an object was taken in.
+pub(crate) fn inserted(given: Result<(), AlreadyLinked<u64>>) -> Answer {
+    match given {
+        Ok(()) => Answer::Done,
+        Err(_) => Answer::Refused("linked"),
+    }
+}
+
+/// What was replaced.
+pub(crate) fn replaced(given: Result<UnsafeRef<u64>, ReplaceError<u64>>) -> Answer {
+    match &given {
+        Ok(out) => number(out.place()),
+        Err(ReplaceError::Null(_)) => Answer::Refused("null"),
+        Err(ReplaceError::AlreadyLinked(_)) => Answer::Refused("linked"),
+    }
+}
+
+/// What a position is answered as.
+pub(crate) fn standing(at: Option<Place>) -> Answer {
+    match at {
+        Some(place) => number(place),
+        None => Answer::Nothing,
+    }
+}
+
+/// What an object's value is answered as.
+pub(crate) fn value(found: Option<&u64>) -> Answer {
+    match found {
+        Some(value) => Answer::Number(*value),
+        None => Answer::Nothing,
+    }
+}
+
+/// What a text is answered as, if it could be written.
+pub(crate) fn answered(written: fmt::Result, text: String) -> Answer {
+    match written {
+        Ok(()) => Answer::Text(text),
+        Err(_) => Answer::Refused("memory"),
+    }
+}

@@ -1,0 +1,272 @@
+//! Calls at a position, by a cursor that reads, by one that borrows the tree, and by one that keeps it.
+
+ghost use Rattle.std.specs.Prelude.{◌≡◌, IfSome};
+ghost use Rattle.ic_link_ops.specs.Positions.{site, Stands};
+ghost use Rattle.ic_link_ops.specs.RedBlackTree.{Shows, ShowsSome};
+ghost use Rattle.ic_link_ops.specs.Tables.{IsCovered};
+ghost use Rattle.ic_rbtree.specs.Tree.{root_of};
+ghost use Rattle.ic_rbtree.specs.Cursor as reads;
+ghost use Rattle.ic_rbtree.specs.CursorMut as lent;
+ghost use Rattle.ic_rbtree.specs.CursorOwning as owned;
+
+use crate::answers::{inserted, object, replaced, standing, value};
+use crate::values::OwnKey;
+use ic_rbtree::{Cursor, CursorMut, CursorOwning, RBTree, RBTreeOps};
+use ic_unsafe_ref::{Objects, Place, UnsafeRef};
+use std::mem;
+use test_support::rows::Answer;
+
+/// By which cursor the calls at a position are made.
+#[derive(Clone, Copy)]
+pub(crate) enum By {
+    /// Moves by a cursor that reads, and edits by one that borrows the tree.
+    Ref,
+    /// All by a cursor that borrows the tree.
+    Mut,
+    /// All by a cursor that keeps the tree.
+    Owning,
+}
+
+/// A cursor that reads, at that position.
+pub(crate) fn reading<'a, L: RBTreeOps>(
+    tree: &'a RBTree<OwnKey>,
+    links: &'a L,
+    at: Option<Place>,
+) -> Cursor<'a, OwnKey, L>
+    requires stands { Stands (Shows L.node) L.table (site links.now (root_of tree.now) at) }
+    ensures tree { reads.tree_of result ≡ tree.now }
+    ensures links { reads.links_of result ≡ links.now }
+    ensures position { reads.position result ≡ at }
+{
+    match at {
+        None => tree.cursor(links),
+        Some(place) => tree.cursor_from_ptr(links, UnsafeRef::new(place)),
+    }
+}
+
+/// A cursor that borrows the tree, at that position.
+pub(crate) fn borrowing<'a, L: RBTreeOps>(
+    tree: &'a mut RBTree<OwnKey>,
+    links: &'a mut L,
+    at: Option<Place>,
+) -> CursorMut<'a, OwnKey, L>
+    requires stands { Stands (Shows L.node) L.table (site links.old (root_of tree.old) at) }
+    ensures borrows { lent.IsBorrowed tree.entry links.entry result }
+    ensures position { lent.position result ≡ at }
+{
+    match at {
+        None => tree.cursor_mut(links),
+        Some(place) => tree.cursor_mut_from_ptr(links, UnsafeRef::new(place)),
+    }
+}
+
+/// A cursor that keeps the tree, at that position.
+pub(crate) fn owning<L: RBTreeOps>(
+    tree: RBTree<OwnKey>,
+    links: &L,
+    at: Option<Place>,
+) -> CursorOwning<OwnKey>
+    requires stands { Stands (Shows L.node) L.table (site links.now (root_of tree) at) }
+    ensures tree { owned.tree_of result ≡ tree }
+    ensures position { owned.position result ≡ at }
+{
+    match at {
+        None => tree.cursor_owning(),
+        Some(place) => tree.cursor_owning_from_ptr(links, UnsafeRef::new(place)),
+    }
+}
+
+/// A move of a cursor that reads.
+pub(crate) fn moved<L: RBTreeOps>(cursor: &mut Cursor<'_, OwnKey, L>, name: &str) -> Answer
+    requires stands { Stands (Shows L.node) L.table (reads.site_of cursor.old) }
+    ensures stands { Stands (Shows L.node) L.table (reads.site_of cursor.new) }
+    ensures tree { reads.tree_of cursor.new ≡ reads.tree_of cursor.old }
+    ensures links { reads.links_of cursor.new ≡ reads.links_of cursor.old }
+{
+    if name == "move_next" {
+        cursor.move_next();
+    } else {
+        cursor.move_prev();
+    }
+    Answer::Done
+}
+
+// A call of a cursor that borrows the tree.
+fn edited<L: RBTreeOps>(
+    cursor: &mut CursorMut<'_, OwnKey, L>,
+    name: &str,
+    place: Option<Place>,
+) -> Answer
+    requires stands { Stands (Shows L.node) L.table (lent.site_of cursor.old) }
+    requires covered { IfSome place (λ p. IsCovered (L.table (lent.links_of cursor.old)) p) }
+    ensures stands { Stands (Shows L.node) L.table (lent.site_of cursor.new) }
+    ensures borrows { lent.SameBorrows cursor.old cursor.new }
+{
+    match (name, place) {
+        ("insert_after", Some(place)) => inserted(cursor.insert_after(UnsafeRef::new(place))),
+        ("insert_before", Some(place)) => inserted(cursor.insert_before(UnsafeRef::new(place))),
+        ("replace_with", Some(place)) => replaced(cursor.replace_with(UnsafeRef::new(place))),
+        ("remove", None) => object(cursor.remove()),
+        ("move_next", None) => {
+            cursor.move_next();
+            Answer::Done
+        }
+        ("move_prev", None) => {
+            cursor.move_prev();
+            Answer::Done
+        }
+        _ => Answer::Refused("no such call"),
+    }
+}
+
+// The same of a cursor that keeps it.
+fn edited_owning<L: RBTreeOps>(
+    cursor: &mut CursorOwning<OwnKey>,
+    links: &mut L,
+    name: &str,
+    place: Option<Place>,
+) -> Answer
+    requires stands { Stands (Shows L.node) L.table (owned.site_of links.old cursor.old) }
+    requires covered { IfSome place (λ p. IsCovered (L.table links.old) p) }
+    ensures stands { Stands (Shows L.node) L.table (owned.site_of links.new cursor.new) }
+{
+    match (name, place) {
+        ("insert_after", Some(place)) => inserted(cursor.insert_after(
+            links,
+            UnsafeRef::new(place),
+        )),
+        ("insert_before", Some(place)) => inserted(cursor.insert_before(
+            links,
+            UnsafeRef::new(place),
+        )),
+        ("replace_with", Some(place)) => replaced(cursor.replace_with(
+            links,
+            UnsafeRef::new(place),
+        )),
+        ("remove", None) => object(cursor.remove(links)),
+        ("move_next", None) => {
+            cursor.move_next(&*links);
+            Answer::Done
+        }
+        ("move_prev", None) => {
+            cursor.move_prev(&*links);
+            Answer::Done
+        }
+        _ => Answer::Refused("no such call"),
+    }
+}
+
+/// Makes the call of that name at that position, by such a cursor. The position is where the cursor is then.
+pub(crate) fn edit<L: RBTreeOps>(
+    by: By,
+    tree: &mut RBTree<OwnKey>,
+    links: &mut L,
+    at: &mut Option<Place>,
+    name: &str,
+    place: Option<Place>,
+) -> Answer
+    requires stands { Stands (Shows L.node) L.table (site links.old (root_of tree.old) at.old) }
+    requires covered { IfSome place (λ p. IsCovered (L.table links.old) p) }
+    ensures stands { Stands (Shows L.node) L.table (site links.new (root_of tree.new) at.new) }
+{
+    match (by, name) {
+        (By::Owning, name) => {
+            let whole = mem::replace(tree, RBTree::default());
+            let mut cursor = owning(whole, &*links, *at);
+            let answer = edited_owning(&mut cursor, links, name, place);
+            *at = cursor.get_ptr();
+            *tree = cursor.into_inner();
+            answer
+        }
+        (By::Ref, "move_next" | "move_prev") => {
+            let mut cursor = reading(&*tree, &*links, *at);
+            let answer = moved(&mut cursor, name);
+            *at = cursor.get_ptr();
+            answer
+        }
+        (_, name) => {
+            let mut cursor = borrowing(tree, links, *at);
+            let answer = edited(&mut cursor, name, place);
+            *at = cursor.get_ptr();
+            answer
+        }
+    }
+}
+
+/// The first member, or the last one, by such a cursor.
+pub(crate) fn end<L: RBTreeOps>(
+    by: By,
+    tree: &mut RBTree<OwnKey>,
+    links: &mut L,
+    is_front: bool,
+) -> Option<Place>
+    requires shown { ShowsSome L.node (L.table links.old) (root_of tree.old) }
+    ensures stands { Stands (Shows L.node) L.table (site links.new (root_of tree.new) result) }
+{
+    match (by, is_front) {
+        (By::Ref, true) => tree.front(&*links).get_ptr(),
+        (By::Ref, false) => tree.back(&*links).get_ptr(),
+        (By::Mut, true) => tree.front_mut(links).get_ptr(),
+        (By::Mut, false) => tree.back_mut(links).get_ptr(),
+        (By::Owning, true) => {
+            let whole = mem::replace(tree, RBTree::default());
+            let cursor = whole.front_owning(&*links);
+            let at = cursor.get_ptr();
+            *tree = cursor.into_inner();
+            at
+        }
+        (By::Owning, false) => {
+            let whole = mem::replace(tree, RBTree::default());
+            let cursor = whole.back_owning(&*links);
+            let at = cursor.get_ptr();
+            *tree = cursor.into_inner();
+            at
+        }
+    }
+}
+
+// Where a copy of the cursor is when the cursor has moved on.
+fn copied<L: RBTreeOps>(cursor: &mut Cursor<'_, OwnKey, L>) -> Answer
+    requires stands { Stands (Shows L.node) L.table (reads.site_of cursor.old) }
+{
+    let Ok(copy) = cursor.clone() else {
+        return Answer::Refused("memory");
+    };
+    cursor.move_next();
+    standing(copy.get_ptr())
+}
+
+/// What a cursor that reads tells.
+pub(crate) fn told<L: RBTreeOps>(
+    cursor: &mut Cursor<'_, OwnKey, L>,
+    objects: &Objects<u64>,
+    name: &str,
+) -> Answer
+    requires stands { Stands (Shows L.node) L.table (reads.site_of cursor.old) }
+{
+    match name {
+        "is_null" => Answer::Truth(cursor.is_null()),
+        "peek_next" => standing(cursor.peek_next().get_ptr()),
+        "peek_prev" => standing(cursor.peek_prev().get_ptr()),
+        "get" => value(cursor.get(objects)),
+        "copy" => copied(cursor),
+        _ => object(cursor.clone_pointer()),
+    }
+}
+
+/// What a cursor that borrows the tree tells.
+pub(crate) fn told_by_mut<L: RBTreeOps>(
+    cursor: &CursorMut<'_, OwnKey, L>,
+    objects: &Objects<u64>,
+    name: &str,
+) -> Answer
+    requires stands { Stands (Shows L.node) L.table (lent.site_of cursor.now) }
+{
+    match name {
+        "is_null" => Answer::Truth(cursor.is_null()),
+        "peek_next" => standing(cursor.peek_next().get_ptr()),
+        "peek_prev" => standing(cursor.peek_prev().get_ptr()),
+        "get" => value(cursor.get(objects)),
+        _ => standing(cursor.as_cursor().get_ptr()),
+    }
+}

@@ -1,0 +1,234 @@
+//! A tree with a position in it, and objects, whose calls ask nothing.
+
+use crate::answers::{answered, number, value};
+use crate::cursors::{By, borrowing, edit, end, owning, reading, told, told_by_mut};
+use crate::shape::{blacks_below, root_above, write_below};
+use crate::values::OwnKey;
+use crate::walks::{is_walked, write_walk};
+use ic_link_ops::rbtree::LinkOps;
+use ic_rbtree::{KeyAdapter, RBTree};
+use ic_unsafe_ref::{Objects, Place, UnsafeRef};
+use std::alloc::Global;
+use std::fmt::{self, Write};
+use std::marker::Model;
+use std::mem;
+use std::test::Fail;
+use test_support::plain_sequence::PlainSequence;
+use test_support::rows::Answer;
+
+/// A tree, a position in it, and objects.
+#[derive(Drop)]
+pub(crate) struct Field {
+    alloc: Global,
+    by: By,
+    objects: Objects<u64>,
+    links: LinkOps,
+    tree: RBTree<OwnKey>,
+    at: Option<Place>,
+}
+
+impl Model for Field {
+    ghost use Rattle.std.specs.Prelude.{ℕ};
+    ghost use Rattle.ic_link_ops.specs.PlainTables.{table};
+    ghost use Rattle.ic_link_ops.specs.Positions.{site, Stands};
+    ghost use Rattle.ic_link_ops.specs.RedBlackTree.{Shows};
+    ghost use Rattle.ic_link_ops.specs.ThreeWords.{no_words, node_of};
+    ghost use Rattle.ic_rbtree.specs.Tree.{root_of};
+
+    ghost Value = { ℕ };
+
+    ghost view = { λ _. 0 };
+
+    ghost invariant = { λ f. Stands (Shows node_of) (table no_words) (site f.links (root_of f.tree) f.at) };
+}
+
+impl Field {
+    /// An empty tree, no objects yet, and a table that covers so many places.
+    pub(crate) fn new(alloc: Global, by: By, covers: usize) -> Result<Field, Fail> {
+        let mut links = LinkOps::new(alloc);
+        links.cover(covers)?;
+        Ok(Field {
+            alloc,
+            by,
+            objects: Objects::new(alloc),
+            links,
+            tree: RBTree::new(OwnKey),
+            at: None,
+        })
+    }
+
+    /// Places an object, and answers where it stands.
+    pub(crate) fn place(&mut self, word: &str) -> Answer {
+        let Ok(value) = word.parse() else {
+            return Answer::Refused("no number");
+        };
+        let Some(next) = self.objects.next_place() else {
+            return Answer::Refused("full");
+        };
+        let _small = next.index();
+        match UnsafeRef::from_box(&mut self.objects, value) {
+            Ok(object) => number(object.place()),
+            Err(_) => Answer::Refused("memory"),
+        }
+    }
+
+    /// Makes a call at the position, if the place that it is given is covered.
+    pub(crate) fn edit(&mut self, name: &str, place: Option<Place>) -> Answer {
+        if let Some(place) = place {
+            if place.index() >= self.links.covers() {
+                return Answer::Refused("beyond");
+            }
+        }
+        edit(
+            self.by,
+            &mut self.tree,
+            &mut self.links,
+            &mut self.at,
+            name,
+            place,
+        )
+    }
+
+    /// Moves the cursor to the first member, or to the last one.
+    pub(crate) fn go_to_end(&mut self, is_front: bool) -> Answer {
+        self.at = end(self.by, &mut self.tree, &mut self.links, is_front);
+        Answer::Done
+    }
+
+    /// Moves the cursor to null.
+    pub(crate) fn go_null(&mut self) -> Answer {
+        let whole = mem::replace(&mut self.tree, RBTree::default());
+        let mut cursor = owning(whole, &self.links, self.at);
+        cursor.go_null();
+        self.at = cursor.get_ptr();
+        self.tree = cursor.into_inner();
+        Answer::Done
+    }
+
+    /// Moves the cursor to that member.
+    pub(crate) fn on(&mut self, place: Place) -> Answer {
+        let _ = self.go_null();
+        for _ in 0..self.links.covers() {
+            let _ = self.edit("move_next", None);
+            if self.at == Some(place) {
+                return Answer::Done;
+            }
+        }
+        let _ = self.go_null();
+        Answer::Refused("no member")
+    }
+
+    /// What the cursor tells, by its call of that name.
+    pub(crate) fn told(&mut self, name: &str) -> Answer {
+        match self.by {
+            By::Ref => {
+                let mut cursor = reading(&self.tree, &self.links, self.at);
+                told(&mut cursor, &self.objects, name)
+            }
+            By::Mut => {
+                let cursor = borrowing(&mut self.tree, &mut self.links, self.at);
+                told_by_mut(&cursor, &self.objects, name)
+            }
+            By::Owning => {
+                let whole = mem::replace(&mut self.tree, RBTree::default());
+                let cursor = owning(whole, &self.links, self.at);
+                let answer = told(&mut cursor.as_cursor(&self.links), &self.objects, name);
+                self.tree = cursor.into_inner();
+                answer
+            }
+        }
+    }
+
+    /// The object that a cursor that edits was on when it ended.
+    pub(crate) fn into_ref(&mut self) -> Answer {
+        let cursor = borrowing(&mut self.tree, &mut self.links, self.at);
+        value(cursor.into_ref(&self.objects))
+    }
+
+    /// The key of an object that has that value, by the tree's adapter.
+    pub(crate) fn key(&self, value: u64) -> Answer {
+        Answer::Number(*self.tree.adapter().get_key(&value))
+    }
+
+    /// Whether the tree has no member, also as a cursor shows it that keeps the tree.
+    pub(crate) fn is_empty(&mut self) -> Answer {
+        let is_empty = self.tree.is_empty();
+        let whole = mem::replace(&mut self.tree, RBTree::default());
+        let cursor = owning(whole, &self.links, self.at);
+        let same = cursor.tree().is_empty() == is_empty;
+        self.tree = cursor.into_inner();
+        Answer::Truth(is_empty && same)
+    }
+
+    /// The third words of the places, in their order.
+    pub(crate) fn words(&self) -> Answer {
+        let mut text = String::new(self.alloc);
+        let written = self.write_words(&mut text);
+        answered(written, text)
+    }
+
+    fn write_words(&self, text: &mut String) -> fmt::Result {
+        for index in 0..self.links.covers() {
+            if let Some(place) = Place::new(index) {
+                let third = self.links.link(place).words()[2];
+                write!(text, "{third} ")?;
+            }
+        }
+        Ok(())
+    }
+
+    /// The places that are linked.
+    pub(crate) fn linked(&self) -> Answer {
+        let mut text = String::new(self.alloc);
+        let written = self.write_linked(&mut text);
+        answered(written, text)
+    }
+
+    fn write_linked(&self, text: &mut String) -> fmt::Result {
+        for index in 0..self.links.covers() {
+            if let Some(place) = Place::new(index) {
+                if self.links.is_linked(place) {
+                    write!(text, "{index} ")?;
+                }
+            }
+        }
+        Ok(())
+    }
+
+    /// The members from the last to the first.
+    pub(crate) fn backward(&self) -> Answer {
+        let mut text = String::new(self.alloc);
+        let most = self.links.covers();
+        let written = write_walk(
+            &mut text,
+            &self.tree,
+            &self.links,
+            self.at,
+            "move_prev",
+            most,
+        );
+        answered(written, text)
+    }
+
+    /// Writes the members with the cursor's mark, and the shape.
+    pub(crate) fn write(&self, shown: &mut String) -> fmt::Result {
+        let most = self.links.covers();
+        write_walk(shown, &self.tree, &self.links, self.at, "move_next", most)?;
+        shown.write_str("; ")?;
+        let first = self.tree.front(&self.links).get_ptr();
+        write_below(shown, &self.links, root_above(&self.links, first), most)
+    }
+
+    /// Whether the tree has those members, and its shape is right.
+    pub(crate) fn is_right(&self, plain: &PlainSequence) -> bool {
+        let first = self.tree.front(&self.links).get_ptr();
+        let root = root_above(&self.links, first);
+        blacks_below(&self.links, root, None, true, self.links.covers()).is_some()
+            && is_walked(&self.tree, &self.links, plain)
+    }
+
+    /// Where the cursor is.
+    pub(crate) fn position(&self) -> Option<Place> {
+        self.at
+    }
+}

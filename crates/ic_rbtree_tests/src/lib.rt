@@ -1,0 +1,23 @@
+//! The red-black tree's worked rows, played on a fixture that tests what each call asks, and every tree of few members.
+#![tactic(auto)]
+
+#[cfg(test)]
+mod answers;
+#[cfg(test)]
+mod cursors;
+#[cfg(test)]
+mod field;
+#[cfg(test)]
+mod orders;
+#[cfg(test)]
+mod played;
+#[cfg(test)]
+mod runs;
+#[cfg(test)]
+mod shape;
+#[cfg(test)]
+mod tests;
+#[cfg(test)]
+mod values;
+#[cfg(test)]
+mod walks;

@@ -1,0 +1,69 @@
+//! The calls by their names.
+
+use crate::field::Field;
+use ic_unsafe_ref::Place;
+use std::fmt;
+use test_support::rows::{Answer, Played};
+
+// The place that the word is.
+fn place(word: &str) -> Option<Place> {
+    Place::new(word.parse().ok()?)
+}
+
+impl Field {
+    // A call that is given this word.
+    fn call_with(&mut self, name: &str, word: &str) -> Answer {
+        match (name, place(word)) {
+            ("place", _) => self.place(word),
+            ("key", Some(place)) => self.key(place.index() as u64),
+            ("on", Some(place)) => self.on(place),
+            (name, Some(place)) => self.edit(name, Some(place)),
+            _ => Answer::Refused("no such place"),
+        }
+    }
+
+    // The calls that are given one of these words each, and what the last one answers.
+    fn call_with_each(&mut self, name: &str, words: &[&str]) -> Answer {
+        let mut answer = Answer::Nothing;
+        for word in words {
+            answer = self.call_with(name, word);
+        }
+        answer
+    }
+
+    // A call that is given nothing.
+    fn call_alone(&mut self, name: &str) -> Answer {
+        match name {
+            "null" => self.go_null(),
+            "front" => self.go_to_end(true),
+            "back" => self.go_to_end(false),
+            "words" => self.words(),
+            "linked" => self.linked(),
+            "backward" => self.backward(),
+            "is_empty" => self.is_empty(),
+            "into_ref" => self.into_ref(),
+            "is_null" | "peek_next" | "peek_prev" | "get" | "copy" | "position" => {
+                self.told(name)
+            }
+            _ => self.edit(name, None),
+        }
+    }
+}
+
+impl Played for Field {
+    type Answer = Answer;
+
+    fn call(&mut self, words: &[&str]) -> Answer {
+        let Some((name, rest)) = words.split_first() else {
+            return Answer::Refused("no call");
+        };
+        if rest.is_empty() {
+            return self.call_alone(name);
+        }
+        self.call_with_each(name, rest)
+    }
+
+    fn show(&self, shown: &mut String) -> fmt::Result {
+        self.write(shown)
+    }
+}

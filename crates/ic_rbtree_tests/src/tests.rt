@@ -1,0 +1,24 @@
+//! The rows, by each cursor, and every small tree.
+
+use crate::cursors::By;
+use crate::field::Field;
+use crate::orders::all_are_right;
+use crate::runs::RUNS;
+use std::test::Fail;
+use test_support::rows::play;
+
+#[test]
+fn worked_rows(rt: HostRuntime) -> Result<(), Fail> {
+    for run in RUNS {
+        for by in [By::Ref, By::Mut, By::Owning] {
+            let mut field = Field::new(rt.alloc(), by, 8)?;
+            play(rt.alloc(), &mut field, run)?;
+        }
+    }
+    Ok(())
+}
+
+#[test]
+fn every_small_tree(rt: HostRuntime) -> Result<(), Fail> {
+    all_are_right(rt.alloc())
+}
