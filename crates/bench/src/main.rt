@@ -16,9 +16,10 @@ mod measured;
 mod objects;
 mod one_word;
 mod order;
+mod trees;
 
 use ic_link_ops::linked_list::LinkOps;
-use ic_link_ops::{singly_linked_list, xor_linked_list};
+use ic_link_ops::{rbtree, singly_linked_list, xor_linked_list};
 use ic_linked_list::LinkedList;
 use ic_unsafe_ref::{Objects, Place, UnsafeRef};
 use loops::put;
@@ -31,6 +32,7 @@ use std::alloc::Global;
 use std::rt::Clock;
 use std::time::Instant;
 use std::{env, io};
+use trees::{filled_tree, take_off_all, turn_tree, walk_tree};
 
 // How far apart in the table the neighbours in a cache's order stand, so that no two share a line of memory.
 const STRIDE: usize = 7919;
@@ -132,6 +134,39 @@ fn xor(
     let start = Instant::now(rt)?;
     let end = walk_xor(&list, &links, times);
     report(rt, "XOR: move_next", end, start, times)
+}
+
+// A tree of so many members: pairs of a removal in front and an insert at the end, and steps of a cursor, so many of each; and
+// removals of all members in an order as at random.
+fn tree(
+    rt: &(impl Print + Eprint + Clock),
+    alloc: Global,
+    members: u64,
+    times: u64,
+) -> io::Result<()> {
+    let mut links = rbtree::LinkOps::new(alloc);
+    if links.cover(members as usize).is_err() {
+        return eprintln!(rt; "no memory for {members} members");
+    }
+    let mut tree = filled_tree(&mut links);
+    let start = Instant::now(rt)?;
+    turn_tree(&mut tree, &mut links, times);
+    let end = walk_tree(&tree, &links, 1);
+    report(
+        rt,
+        "tree: remove in front and insert_before",
+        end,
+        start,
+        times,
+    )?;
+
+    let start = Instant::now(rt)?;
+    let end = walk_tree(&tree, &links, times);
+    report(rt, "tree: move_next", end, start, times)?;
+
+    let start = Instant::now(rt)?;
+    let end = take_off_all(&mut tree, &mut links, STRIDE);
+    report(rt, "tree: remove", end, start, members)
 }
 
 // Pairs of a push and a pop, and steps of a cursor, so many of each.
@@ -256,5 +291,9 @@ fn main(rt: HostRuntime) -> io::Result<()> {
     eprintln!(rt; "|---|---|---|---|")?;
     singly(&rt, rt.alloc(), 1_000, times)?;
     xor(&rt, rt.alloc(), 1_000, times)?;
+    eprintln!(rt; "|")?;
+    eprintln!(rt; "| tree: pair | step | remove at random, with the test that it is a member |")?;
+    eprintln!(rt; "|---|---|---|")?;
+    tree(&rt, rt.alloc(), 20_000, times)?;
     eprintln!(rt; "|")
 }

@@ -1,12 +1,19 @@
 -- For callers: what holds after a call, of whatever kind of list.
-use Rattle.std.proofs.Common.{◌≡◌, true, false, Bool, Option, List, length, subst, Result, Ok, Err, OnOk, OnErr, IfErr, sym, ap, ◌∙◌}
+use Rattle.std.proofs.Common.{◌≡◌, true, false, Bool, Option, List, length, subst, Result, Ok, Err, OnOk, OnErr, IfErr, sym, ap, ◌∙◌, ◌<◌, Some, None, IfSome, [], ◌∷◌}
 use Rattle.std.proofs.lemmas.Iterator.{YieldsList}
 use Rattle.std.proofs.lemmas.Iterator.Consumers.{YieldsList-from_shown, YieldsList-from_copied}
 use Rattle.std.specs.declared.iter.Copied.{Copied}
 use Rattle.std.specs.Iterator.Adapters.{copied_source}
 use Rattle.std.proofs.iter.Yields.{copies}
 use Rattle.ic_unsafe_ref.specs.declared.place.Place.{Place}
-use Rattle.ic_link_ops.specs.Tables.{Table}
+use Rattle.ic_link_ops.specs.Tables.{Extent, Table, IsCovered, IsLinked}
+use Rattle.ic_unsafe_ref.specs.Places.{index_of}
+use Rattle.ic_link_ops.specs.Sequences.{IsMember}
+use Rattle.ic_link_ops.specs.LinkSteps.{LinkStep, releases, Replays}
+use Rattle.ic_link_ops.specs.EditsAt.{RemovesThere}
+use Rattle.ic_link_ops.specs.Positions.{Site, Stands, HasMember}
+use Rattle.ic_link_ops.proofs.Positions.{gap_there}
+use Rattle.ic_link_ops.proofs.SequenceLemmas.{member_split}
 use Rattle.ic_link_ops.specs.Chains.{Ends, ShowsBetween}
 use Rattle.ic_link_ops.specs.Walk.{GivesFirst}
 use Rattle.ic_link_ops.proofs.ShownLists.{shows_kept}
@@ -38,3 +45,18 @@ module _ {S T : Type 0} (left : S → List T) where
       → YieldsList (copies (GivesFirst left)) (λ x. x) copied xs
   walk_copied {walk} {copied} source is =
       let lent = walk_yields {walk = walk} is in YieldsList-from_copied {s = copied} (rw (← source) at lent)
+
+-- A MEMBER of what is shown stands somewhere in it
+pub has_member : (shows : List Place → Type 0) {q : Place} (s : List Place) → shows s → IsMember q s → HasMember shows q
+has_member shows {q} s shown member =
+    let m = member_split q s member in record { front = m.0; back = m.1; shown = subst shows m.2 shown }
+
+-- WHAT WAS TAKEN OFF is still covered
+module _ {L E H : Type 0} {Shows : Table E → H → List Place → Type 0} {table : L → Table E} {Does : L → L → List LinkStep → Type 0} (linked : E → Bool)
+    (replays : (a b : L) (s : List LinkStep) → Does a b s → Replays linked (table a) (table b) s) (law : (t : L) (p : Place) → IsLinked linked (table t) p → IsCovered (table t) p) where
+  pub removed_covered : {old new : Site L H} (r : Option Place) → Stands Shows table old → RemovesThere Shows table Does old r new → IfSome r (λ p. IsCovered (table new.links) p)
+  removed_covered None stands h = tt
+  removed_covered {old} {new} (Some p) stands h =
+      let l = replays old.links new.links (releases p ∷ []) h.released in
+      let k = gap_there stands in
+      subst (λ (e : Extent). index_of p < e.places) (sym (h.removed k.0 k.1 k.2).frame.extent) (law old.links p l.was)
