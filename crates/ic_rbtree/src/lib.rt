@@ -1,4 +1,12 @@
-//! The red-black tree. So far it has what names the keys of objects, and the links.
+//! The red-black tree: objects in order, which come and leave anywhere.
+//!
+//! So far the order is what cursors make it; no call compares keys.
+//!
+//! ```text
+//! let mut tree = RBTree::new(ByDeadline);
+//! tree.cursor_mut(&mut links).insert_before(object)?; // behind all others
+//! let first = tree.front_mut(&mut links).remove();
+//! ```
 #![tactic(auto)]
 
 mod contains;

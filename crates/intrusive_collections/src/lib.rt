@@ -8,7 +8,7 @@
 //! | `singly_linked_list` | the singly linked list |
 //! | `xor_linked_list` | the XOR list: both neighbours in one word |
 //! | `atomic` | claims on places, which threads share |
-//! | `rbtree` | the red-black tree, of which only the keys' trait, the links and the table are there |
+//! | `rbtree` | the red-black tree, so far without the calls that compare keys |
 //! | `key_adapter` | where the key of an object stands |
 //! | `world` | objects, fields and collections whose calls test every condition themselves |
 #![tactic(auto)]
@@ -23,6 +23,7 @@ pub use ic_link_ops::xor_linked_list::Link as XorLinkedListLink;
 pub use ic_linked_list as linked_list;
 pub use ic_linked_list::LinkedList;
 pub use ic_rbtree as rbtree;
+pub use ic_rbtree::RBTree;
 pub use ic_rbtree::key_adapter;
 pub use ic_rbtree::key_adapter::KeyAdapter;
 pub use ic_singly_linked_list as singly_linked_list;
