@@ -7,7 +7,7 @@ ghost use Rattle.ic_rbtree.specs.Taking.{CanClose, Closes, CanTakeOut, TakesOut,
 ghost use Rattle.ic_rbtree.specs.Steps.{TakesNoStep};
 
 use crate::readings::{
-    child, has_red_child, is_red, only_child, other, second_child, side_below, side_of,
+    child, has_red_child, is_at, is_red, only_child, other, second_child, side_below, side_of,
 };
 use crate::steps::outermost;
 use crate::writers::{adopt, relink, rotate, set_color, take_place};
@@ -177,11 +177,12 @@ pub(crate) fn unlink<L: RBTreeOps>(links: &mut L, root: &mut End, place: Place)
     ensures linked { KeepsLinked L.linked (L.table links.old) (L.table links.new) }
     ensures no_step { TakesNoStep L.Does links.old links.new }
 {
-    if let Some(right) = second_child(&*links, place) {
-        let next = outermost(&*links, right, Side::Left);
-        take_out(links, root, next);
-        take_place(links, root, place, next);
-    } else {
-        take_out(links, root, place);
+    let out = match second_child(&*links, place) {
+        Some(right) => outermost(&*links, right, Side::Left),
+        None => place,
+    };
+    take_out(links, root, out);
+    if !is_at(Some(out), place) {
+        take_place(links, root, place, out);
     }
 }

@@ -1,4 +1,4 @@
-use Rattle.std.proofs.Common.{◌≡◌, ◌*◌, ◌+◌, Option, Some, None, ℕ, nat_eq, false, refl, sym, ap, ◌∙◌, arith, ne_eqb}
+use Rattle.std.proofs.Common.{◌≡◌, ◌*◌, ◌+◌, Option, Some, None, ℕ, nat_eq, sym, ap, ◌∙◌, arith, ne_eqb}
 use Rattle.ic_unsafe_ref.specs.declared.place.Place.{Place}
 use Rattle.ic_unsafe_ref.specs.Places.{index_of, word_of}
 use Rattle.ic_unsafe_ref.proofs.PlaceLemmas.{number_of, number_tells}
