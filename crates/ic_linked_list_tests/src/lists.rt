@@ -131,6 +131,10 @@ impl Lists {
         Answer::Truth(self.links.is_linked(place))
     }
 
+    fn contains(&self, place: Place) -> Answer {
+        Answer::Truth(self.list.contains(&self.links, place))
+    }
+
     // The two lists change places.
     fn swap(&mut self) -> Answer {
         self.at = None;
@@ -196,6 +200,7 @@ impl Lists {
             "push_then_pop" => self.push_then_pop(place),
             "force_unlink" => self.force_unlink(place),
             "is_linked" => self.is_linked(place),
+            "contains" => self.contains(place),
             "text" => self.text(place),
             "on" => self.on(place),
             _ => Answer::Refused("no such call"),

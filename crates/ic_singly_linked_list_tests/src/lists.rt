@@ -111,6 +111,11 @@ impl<W: NextWord> Lists<W> {
         Answer::Done
     }
 
+    /// Whether a place is that of a member.
+    pub(crate) fn contains(&self, place: Place) -> Answer {
+        Answer::Truth(self.list.contains(&self.links, place))
+    }
+
     /// The two lists change places.
     pub(crate) fn swap(&mut self) -> Answer {
         self.at = None;

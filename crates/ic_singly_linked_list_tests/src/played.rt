@@ -25,6 +25,7 @@ impl<W: NextWord> Lists<W> {
             "replace_next_with" => self.replace_next_with(place),
             "push_then_pop" => self.push_then_pop(place),
             "force_unlink" => self.force_unlink(place),
+            "contains" => self.contains(place),
             "on" => self.on(place),
             _ => Answer::Refused("no such call"),
         }

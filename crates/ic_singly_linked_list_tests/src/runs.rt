@@ -172,6 +172,31 @@ pub(crate) const OTHERS: &[Run] = &[
         ",
     },
     Run {
+        name: "which places are members",
+        rows: "
+        contains 0       | no
+        push_front 4 3   | ok  | 3 4
+        swap             | ok  | + 3 4
+        contains 3       | no
+        push_front 2 1 0 | ok  | 0 1 2 + 3 4
+        contains 0       | yes
+        contains 1       | yes
+        contains 2       | yes
+        contains 3       | no
+        contains 4       | no
+        contains 9       | no
+        pop_front        | 0   | 1 2 + 3 4
+        contains 0       | no
+        contains 2       | yes
+        swap             | ok  | 3 4 + 1 2
+        contains 4       | yes
+        contains 1       | no
+        fast_clear       | ok  | + 1 2
+        linked           | 1 2 3 4
+        contains 3       | no
+        ",
+    },
+    Run {
         name: "what a cursor reads",
         rows: "
         place 10 20 30 40 50 | 4

@@ -180,6 +180,10 @@ impl<W: NextWord> Lists<W> {
         Answer::Truth(self.links.is_linked(place))
     }
 
+    fn contains(&self, place: Place) -> Answer {
+        Answer::Truth(self.first.list().contains(&self.links, place))
+    }
+
     // The two lists change places.
     fn swap(&mut self) -> Answer {
         let list = take_list(&mut self.first);
@@ -253,6 +257,7 @@ impl<W: NextWord> Lists<W> {
             "push_then_pop" => self.push_then_pop(place),
             "force_unlink" => self.force_unlink(place),
             "is_linked" => self.is_linked(place),
+            "contains" => self.contains(place),
             "on" => self.on(place),
             _ => Answer::Refused("no such call"),
         }

@@ -108,6 +108,31 @@ pub const WHOLE_LISTS: &[Run] = &[
     },
     BESIDE_THE_PLAIN_SEQUENCE,
     Run {
+        name: "which places are members",
+        rows: "
+        contains 0      | no
+        push_back 3 4   | ok | 3 4
+        swap            | ok | + 3 4
+        contains 3      | no
+        push_back 0 1 2 | ok | 0 1 2 + 3 4
+        contains 0      | yes
+        contains 1      | yes
+        contains 2      | yes
+        contains 3      | no
+        contains 4      | no
+        contains 9      | no
+        pop_back        | 2  | 0 1 + 3 4
+        contains 2      | no
+        contains 1      | yes
+        swap            | ok | 3 4 + 0 1
+        contains 4      | yes
+        contains 0      | no
+        fast_clear      | ok | + 0 1
+        is_linked 3     | yes
+        contains 3      | no
+        ",
+    },
+    Run {
         name: "fast clear and force unlink",
         rows: "
         push_back 0 1 2 | ok | 0 1 2
