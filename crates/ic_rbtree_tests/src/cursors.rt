@@ -13,7 +13,6 @@ use crate::answers::{inserted, object, replaced, standing, value};
 use crate::values::OwnKey;
 use ic_rbtree::{Cursor, CursorMut, CursorOwning, RBTree, RBTreeOps};
 use ic_unsafe_ref::{Objects, Place, UnsafeRef};
-use std::mem;
 use test_support::rows::Answer;
 
 /// By which cursor the calls at a position are made.
@@ -171,7 +170,7 @@ pub(crate) fn edit<L: RBTreeOps>(
 {
     match (by, name) {
         (By::Owning, name) => {
-            let whole = mem::replace(tree, RBTree::default());
+            let whole = tree.take();
             let mut cursor = owning(whole, &*links, *at);
             let answer = edited_owning(&mut cursor, links, name, place);
             *at = cursor.get_ptr();
@@ -209,14 +208,14 @@ pub(crate) fn end<L: RBTreeOps>(
         (By::Mut, true) => tree.front_mut(links).get_ptr(),
         (By::Mut, false) => tree.back_mut(links).get_ptr(),
         (By::Owning, true) => {
-            let whole = mem::replace(tree, RBTree::default());
+            let whole = tree.take();
             let cursor = whole.front_owning(&*links);
             let at = cursor.get_ptr();
             *tree = cursor.into_inner();
             at
         }
         (By::Owning, false) => {
-            let whole = mem::replace(tree, RBTree::default());
+            let whole = tree.take();
             let cursor = whole.back_owning(&*links);
             let at = cursor.get_ptr();
             *tree = cursor.into_inner();

@@ -2,16 +2,15 @@
 
 use crate::answers::{answered, number, value};
 use crate::cursors::{By, borrowing, edit, end, owning, reading, told, told_by_mut};
-use crate::shape::{blacks_below, root_above, write_below};
+use crate::shape::{blacks_below, root_above, write_below, write_linked};
 use crate::values::OwnKey;
-use crate::walks::{is_walked, write_walk};
+use crate::walks::{are_placed, is_walked, write_objects, write_taken, write_walk};
 use ic_link_ops::rbtree::LinkOps;
 use ic_rbtree::{KeyAdapter, RBTree};
 use ic_unsafe_ref::{Objects, Place, UnsafeRef};
 use std::alloc::Global;
 use std::fmt::{self, Write};
 use std::marker::Model;
-use std::mem;
 use std::test::Fail;
 use test_support::plain_sequence::PlainSequence;
 use test_support::rows::Answer;
@@ -44,6 +43,7 @@ impl Model for Field {
 
 impl Field {
     /// An empty tree, no objects yet, and a table that covers so many places.
+    #[tactic(auto, using(crate::proofs::Fixture::none_stands))]
     pub(crate) fn new(alloc: Global, by: By, covers: usize) -> Result<Field, Fail> {
         let mut links = LinkOps::new(alloc);
         links.cover(covers)?;
@@ -97,7 +97,7 @@ impl Field {
 
     /// Moves the cursor to null.
     pub(crate) fn go_null(&mut self) -> Answer {
-        let whole = mem::replace(&mut self.tree, RBTree::default());
+        let whole = self.tree.take();
         let mut cursor = owning(whole, &self.links, self.at);
         cursor.go_null();
         self.at = cursor.get_ptr();
@@ -130,7 +130,7 @@ impl Field {
                 told_by_mut(&cursor, &self.objects, name)
             }
             By::Owning => {
-                let whole = mem::replace(&mut self.tree, RBTree::default());
+                let whole = self.tree.take();
                 let cursor = owning(whole, &self.links, self.at);
                 let answer = told(&mut cursor.as_cursor(&self.links), &self.objects, name);
                 self.tree = cursor.into_inner();
@@ -153,11 +153,62 @@ impl Field {
     /// Whether the tree has no member, also as a cursor shows it that keeps the tree.
     pub(crate) fn is_empty(&mut self) -> Answer {
         let is_empty = self.tree.is_empty();
-        let whole = mem::replace(&mut self.tree, RBTree::default());
+        let whole = self.tree.take();
         let cursor = owning(whole, &self.links, self.at);
         let same = cursor.tree().is_empty() == is_empty;
         self.tree = cursor.into_inner();
         Answer::Truth(is_empty && same)
+    }
+
+    /// Empties the tree by the call of that name, and answers whether it is empty then.
+    #[tactic(auto, using(crate::proofs::Fixture::none_stands))]
+    pub(crate) fn empty(&mut self, name: &str) -> Answer {
+        match name {
+            "clear" => self.tree.clear(&mut self.links),
+            "dispose" => self.tree.take().dispose(&mut self.links),
+            _ => self.tree.fast_clear(),
+        }
+        let is_empty = self.tree.is_empty();
+        self.at = None;
+        self.tree = RBTree::default();
+        Answer::Truth(is_empty)
+    }
+
+    /// Hands the tree out and takes it back, and answers whether what was left is empty.
+    pub(crate) fn take(&mut self) -> Answer {
+        let whole = self.tree.take();
+        let is_empty = self.tree.is_empty();
+        self.tree = whole;
+        Answer::Truth(is_empty)
+    }
+
+    /// Takes members off at these ends, and finishes the walk or drops it.
+    #[tactic(auto, using(crate::proofs::Fixture::none_stands))]
+    pub(crate) fn take_off(&mut self, ends: &[&str], finishes: bool) -> Answer {
+        let whole = self.tree.take();
+        let mut text = String::new(self.alloc);
+        let written = write_taken(&mut text, whole, &mut self.links, ends, finishes);
+        self.at = None;
+        answered(written, text)
+    }
+
+    /// The objects that these calls of a walk give, if one stands at each place.
+    pub(crate) fn walk(&self, calls: &[&str]) -> Answer {
+        if are_placed(&self.links, &self.objects) {
+            let mut text = String::new(self.alloc);
+            let walk = self.tree.iter(&self.links, &self.objects);
+            let written = write_objects(&mut text, walk, calls);
+            return answered(written, text);
+        }
+        Answer::Refused("not placed")
+    }
+
+    /// Whether the place is a member.
+    pub(crate) fn contains(&self, place: Place) -> Answer {
+        if place.index() >= self.links.covers() {
+            return Answer::Refused("beyond");
+        }
+        Answer::Truth(self.tree.contains(&self.links, place))
     }
 
     /// The third words of the places, in their order.
@@ -180,19 +231,8 @@ impl Field {
     /// The places that are linked.
     pub(crate) fn linked(&self) -> Answer {
         let mut text = String::new(self.alloc);
-        let written = self.write_linked(&mut text);
+        let written = write_linked(&mut text, &self.links);
         answered(written, text)
-    }
-
-    fn write_linked(&self, text: &mut String) -> fmt::Result {
-        for index in 0..self.links.covers() {
-            if let Some(place) = Place::new(index) {
-                if self.links.is_linked(place) {
-                    write!(text, "{index} ")?;
-                }
-            }
-        }
-        Ok(())
     }
 
     /// The members from the last to the first.
@@ -221,6 +261,13 @@ impl Field {
 
     /// Whether the tree has those members, and its shape is right.
     pub(crate) fn is_right(&self, plain: &PlainSequence) -> bool {
+        for index in 0..self.links.covers() {
+            if let Some(place) = Place::new(index) {
+                if self.tree.contains(&self.links, place) != plain.contains(place) {
+                    return false;
+                }
+            }
+        }
         let first = self.tree.front(&self.links).get_ptr();
         let root = root_above(&self.links, first);
         blacks_below(&self.links, root, None, true, self.links.covers()).is_some()

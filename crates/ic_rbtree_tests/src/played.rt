@@ -17,6 +17,7 @@ impl Field {
             ("place", _) => self.place(word),
             ("key", Some(place)) => self.key(place.index() as u64),
             ("on", Some(place)) => self.on(place),
+            ("contains", Some(place)) => self.contains(place),
             (name, Some(place)) => self.edit(name, Some(place)),
             _ => Answer::Refused("no such place"),
         }
@@ -41,6 +42,8 @@ impl Field {
             "linked" => self.linked(),
             "backward" => self.backward(),
             "is_empty" => self.is_empty(),
+            "clear" | "dispose" | "fast_clear" => self.empty(name),
+            "take" => self.take(),
             "into_ref" => self.into_ref(),
             "is_null" | "peek_next" | "peek_prev" | "get" | "copy" | "position" => {
                 self.told(name)
@@ -57,10 +60,13 @@ impl Played for Field {
         let Some((name, rest)) = words.split_first() else {
             return Answer::Refused("no call");
         };
-        if rest.is_empty() {
-            return self.call_alone(name);
+        match *name {
+            "walk" => self.walk(rest),
+            "take_and_drop" => self.take_off(rest, false),
+            "take_and_finish" => self.take_off(rest, true),
+            name if rest.is_empty() => self.call_alone(name),
+            name => self.call_with_each(name, rest),
         }
-        self.call_with_each(name, rest)
     }
 
     fn show(&self, shown: &mut String) -> fmt::Result {

@@ -141,4 +141,67 @@ pub(crate) const RUNS: &[Run] = &[
         on 3                 | no member
         ",
     },
+    Run {
+        name: "the tree iterator",
+        rows: "
+        insert_before 0 1             | ok                        | 0 1 ; 0b(-,1r)
+        take_and_finish front         | 0 linked 1                | ; -
+        linked                        |
+        insert_before 0 1 2 3 4 5 6   | ok                        | 0 1 2 3 4 5 6 ; 1b(0b,3r(2b,5b(4r,6r)))
+        take_and_finish front back    | 0 6 linked 1 2 3 4 5      | ; -
+        linked                        |
+        insert_before 0 1 2           | ok                        | 0 1 2 ; 1b(0r,2r)
+        take_and_drop back            | 2 linked 0 1              | ; -
+        linked                        | 0 1
+        insert_before 1               | linked
+        insert_before 3 4             | ok                        | 3 4 ; 3b(-,4r)
+        take_and_drop front back front back | 3 4 none none linked 0 1 | ; -
+        take_and_finish front         | none linked 0 1
+        ",
+    },
+    Run {
+        name: "whole trees",
+        rows: "
+        is_empty            | yes
+        clear               | yes
+        take                | yes
+        dispose             | yes
+        fast_clear          | yes
+        insert_before 0 1 2 | ok     | 0 1 2 ; 1b(0r,2r)
+        is_empty            | no
+        clear               | yes    | ; -
+        linked              |
+        insert_before 2 1 0 | ok     | 2 1 0 ; 1b(2r,0r)
+        take                | yes
+        linked              | 0 1 2
+        dispose             | yes    | ; -
+        linked              |
+        insert_before 0 1 2 | ok     | 0 1 2 ; 1b(0r,2r)
+        contains 1          | yes
+        contains 3          | no
+        contains 8          | beyond
+        fast_clear          | yes    | ; -
+        is_empty            | yes
+        linked              | 0 1 2
+        contains 1          | no
+        insert_before 1     | linked
+        insert_before 3     | ok     | 3 ; 3b
+        contains 1          | no
+        front               | ok     | (3) ; 3b
+        replace_with 2      | linked
+        insert_after 0      | linked
+        ",
+    },
+    Run {
+        name: "a walk over the objects",
+        rows: "
+        walk next                          | not placed
+        place 10 20 30 40 50 60 70 80      | 7
+        walk next next_back copy           | none none none
+        insert_before 0 1 2                | ok | 0 1 2 ; 1b(0r,2r)
+        walk next next next next           | 10 20 30 none
+        walk next_back next next next_back | 30 10 20 none
+        walk next copy next_back copy      | 10 20 30 20
+        ",
+    },
 ];

@@ -5,6 +5,18 @@ use ic_rbtree::{Color, RBTreeOps};
 use ic_unsafe_ref::Place;
 use std::fmt::{self, Write};
 
+/// Writes the places that are linked.
+pub(crate) fn write_linked(text: &mut String, links: &LinkOps) -> fmt::Result {
+    for index in 0..links.covers() {
+        if let Some(place) = Place::new(index) {
+            if links.is_linked(place) {
+                write!(text, "{index} ")?;
+            }
+        }
+    }
+    Ok(())
+}
+
 /// Where the parents lead to from that member.
 pub(crate) fn root_above(links: &LinkOps, member: Option<Place>) -> Option<Place> {
     let mut root = member?;

@@ -1,12 +1,23 @@
 //! What walks from null to null come by.
 
-ghost use Rattle.ic_link_ops.specs.RedBlackTree.{Shows, ShowsSome};
+ghost use Rattle.std.specs.Prelude.{◌≡◌, IsTrue, true};
+ghost use Rattle.ic_unsafe_ref.specs.declared.place.Place.{Place};
+ghost use Rattle.ic_unsafe_ref.specs.Objects.{is_placed};
+ghost use Rattle.ic_link_ops.specs.PlainTables.{table};
+ghost use Rattle.ic_link_ops.specs.RedBlackTree.{ShowsSome};
+ghost use Rattle.ic_link_ops.specs.Tables.{IsCovered};
+ghost use Rattle.ic_link_ops.specs.ThreeWords.{no_words, node_of};
+ghost use Rattle.ic_rbtree.specs.IntoIter.{CanTake};
+ghost use Rattle.ic_rbtree.specs.Iter.{CanWalk};
 ghost use Rattle.ic_rbtree.specs.Tree.{root_of};
 
+use crate::answers::object;
 use crate::cursors::moved;
+use crate::shape::write_linked;
 use crate::values::OwnKey;
-use ic_rbtree::{RBTree, RBTreeOps};
-use ic_unsafe_ref::Place;
+use ic_link_ops::rbtree::LinkOps;
+use ic_rbtree::{IntoIter, Iter, RBTree, RBTreeOps};
+use ic_unsafe_ref::{Objects, Place, UnsafeRef};
 use std::fmt::{self, Write};
 use test_support::plain_sequence::PlainSequence;
 
@@ -67,4 +78,86 @@ pub(crate) fn is_walked<L: RBTreeOps>(
         }
     }
     true
+}
+
+/// Whether an object stands at each place that is covered.
+pub(crate) fn are_placed(links: &LinkOps, objects: &Objects<u64>) -> bool
+    ensures placed { IsTrue result → (q : Place) → IsCovered (table no_words links.now) q → is_placed objects.now q ≡ true }
+{
+    for index in 0..links.covers() {
+        let Some(place) = Place::new(index) else {
+            return false;
+        };
+        if !objects.is_placed(place) {
+            return false;
+        }
+    }
+    true
+}
+
+// Writes what a walk gave.
+fn write_given(text: &mut String, given: Option<&u64>) -> fmt::Result {
+    match given {
+        Some(object) => write!(text, "{object} ")?,
+        None => write!(text, "none ")?,
+    }
+    Ok(())
+}
+
+/// Writes the objects that these calls give. `copy` is the first call of a copy of the walk.
+pub(crate) fn write_objects<L: RBTreeOps>(
+    text: &mut String,
+    mut walk: Iter<'_, OwnKey, L>,
+    calls: &[&str],
+) -> fmt::Result
+    requires can { CanWalk L.node L.table walk }
+{
+    for call in calls {
+        match *call {
+            "next" => write_given(text, walk.next())?,
+            "next_back" => write_given(text, walk.next_back())?,
+            _ => {
+                let mut copy = walk.clone()?;
+                write_given(text, copy.next())?;
+            }
+        }
+    }
+    Ok(())
+}
+
+// Takes off the first of the rest, or the last.
+fn take_end<L: RBTreeOps>(
+    rest: &mut IntoIter<'_, OwnKey, L>,
+    is_front: bool,
+) -> Option<UnsafeRef<u64>>
+    requires can { CanTake L.node L.table rest.old }
+    ensures can { CanTake L.node L.table rest.new }
+{
+    if is_front {
+        return rest.next();
+    }
+    rest.next_back()
+}
+
+/// Takes off members at these ends, tells them and what is linked then, and finishes the walk or drops it.
+pub(crate) fn write_taken(
+    text: &mut String,
+    tree: RBTree<OwnKey>,
+    links: &mut LinkOps,
+    ends: &[&str],
+    finishes: bool,
+) -> fmt::Result
+    requires shown { ShowsSome node_of (table no_words links.old) (root_of tree) }
+{
+    let mut rest = tree.into_iter(links);
+    for end in ends {
+        let answer = object(take_end(&mut rest, *end == "front"));
+        write!(text, "{answer} ")?;
+    }
+    write!(text, "linked ")?;
+    write_linked(text, rest.links())?;
+    if finishes {
+        rest.finish();
+    }
+    Ok(())
 }

@@ -30,11 +30,11 @@ pub returns-in-Owning-true : goal.returns-in-Owning-true
 returns-in-Owning-true g c =
     let s = c.requires.shown in
     let e = c.front_owning-cursor.ensures in
-    record { stands = rw (c.into_inner.ensures, e.tree, c.replace-whole.ensures.value, c.get_ptr-at.ensures) (stands_first s.0 s.1 (e.position s.0 (rw c.replace-whole.ensures.value s.1))) }
+    record { stands = rw (c.into_inner.ensures, e.tree, c.take-whole.ensures.whole, c.get_ptr-at.ensures) (stands_first s.0 s.1 (e.position s.0 (rw c.take-whole.ensures.whole s.1))) }
 
 pub returns-in-Owning-false : goal.returns-in-Owning-false
 returns-in-Owning-false g c =
     let s = c.requires.shown in
     let e = c.back_owning-cursor.ensures in
-    let r = c.replace-whole-in-Owning-false.ensures.value in
+    let r = c.take-whole-in-Owning-false.ensures.whole in
     record { stands = rw (c.into_inner-in-Owning-false.ensures, e.tree, r, c.get_ptr-at-in-Owning-false.ensures) (stands_last s.0 s.1 (e.position s.0 (rw r s.1))) }

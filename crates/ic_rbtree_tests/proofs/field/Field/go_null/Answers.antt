@@ -7,4 +7,4 @@ pub invariant_of-self : goal.invariant_of-self
 invariant_of-self c =
     let a = c.self.invariant in
     let e = c.go_null.ensures in
-    rw (c.into_inner.ensures, e.tree, c.owning-cursor.ensures.tree, c.replace-whole.ensures.value, c.get_ptr-self-inside.ensures, e.null) (stands_null (join a.gap) a.shown refl)
+    rw (c.into_inner.ensures, e.tree, c.owning-cursor.ensures.tree, c.take-whole.ensures.whole, c.get_ptr-self-inside.ensures, e.null) (stands_null (join a.gap) a.shown refl)
