@@ -1,2 +1,4 @@
 pub mod Apart
 pub mod ThreeKinds
+pub mod ApartInFour
+pub mod FourKinds

@@ -1,1 +1,2 @@
 pub mod Three
+pub mod Four

@@ -1,8 +1,13 @@
-//! Lists of several kinds in one table: the worked rows of their calls in turn. And one object in two fields.
+//! Lists of several kinds in one table, and a tree beside them: the worked rows of their calls in turn. And one object in two
+//! fields.
 #![tactic(auto)]
 
 #[cfg(test)]
+mod four;
+#[cfg(test)]
 mod laws;
+#[cfg(test)]
+mod own_key;
 #[cfg(test)]
 mod runs;
 #[cfg(test)]

@@ -58,3 +58,48 @@ pub(crate) const IN_A_DOUBLY_TABLE: &[Run] = &[Run {
         singly push_front 6 | beyond
         ",
 }];
+
+/// A list of each kind and a tree of one table, edited in turn.
+pub(crate) const BESIDE_A_TREE: Run = Run {
+    name: "four kinds in one table",
+    rows: "
+        singly push_front 1 | ok     | 1 / / /
+        singly push_front 0 | ok     | 0 1 / / /
+        doubly push_front 3 | ok     | 0 1 / 3 / /
+        doubly push_front 2 | ok     | 0 1 / 2 3 / /
+        xor push_front 5    | ok     | 0 1 / 2 3 / 5 /
+        xor push_front 4    | ok     | 0 1 / 2 3 / 4 5 /
+        tree push_front 8   | ok     | 0 1 / 2 3 / 4 5 / 8
+        tree push_front 7   | ok     | 0 1 / 2 3 / 4 5 / 7 8
+        tree push_front 6   | ok     | 0 1 / 2 3 / 4 5 / 6 7 8
+        singly push_front 6 | linked
+        doubly push_front 7 | linked
+        xor push_front 8    | linked
+        tree push_front 0   | linked
+        tree push_front 3   | linked
+        tree push_front 5   | linked
+        tree push_front 7   | linked
+        tree remove_second  | 7      | 0 1 / 2 3 / 4 5 / 6 8
+        singly push_front 9 | ok     | 9 0 1 / 2 3 / 4 5 / 6 8
+        tree push_front 9   | linked
+        singly pop_front    | 9      | 0 1 / 2 3 / 4 5 / 6 8
+        doubly push_front 9 | ok     | 0 1 / 9 2 3 / 4 5 / 6 8
+        tree push_front 9   | linked
+        doubly pop_front    | 9      | 0 1 / 2 3 / 4 5 / 6 8
+        xor push_front 9    | ok     | 0 1 / 2 3 / 9 4 5 / 6 8
+        tree push_front 9   | linked
+        xor pop_front       | 9      | 0 1 / 2 3 / 4 5 / 6 8
+        tree push_front 9   | ok     | 0 1 / 2 3 / 4 5 / 9 6 8
+        singly push_front 9 | linked
+        doubly push_front 9 | linked
+        xor push_front 9    | linked
+        tree pop_front      | 9      | 0 1 / 2 3 / 4 5 / 6 8
+        xor push_front 7    | ok     | 0 1 / 2 3 / 7 4 5 / 6 8
+        tree pop_front      | 6      | 0 1 / 2 3 / 7 4 5 / 8
+        doubly push_front 6 | ok     | 0 1 / 6 2 3 / 7 4 5 / 8
+        tree remove_second  | none
+        tree pop_front      | 8      | 0 1 / 6 2 3 / 7 4 5 /
+        tree pop_front      | none
+        tree push_front 12  | beyond
+        ",
+};

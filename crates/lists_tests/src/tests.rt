@@ -1,6 +1,7 @@
 //! The rows.
 
-use crate::runs::{IN_A_DOUBLY_TABLE, IN_A_TREE_TABLE};
+use crate::four::Four;
+use crate::runs::{BESIDE_A_TREE, IN_A_DOUBLY_TABLE, IN_A_TREE_TABLE};
 use crate::three::Three;
 use ic_link_ops::PrevPlace;
 use ic_link_ops::linked_list::TwoWords;
@@ -21,5 +22,7 @@ fn play_all<W: PrevPlace>(alloc: Global, covers: usize, runs: &[Run]) -> Result<
 #[test]
 fn worked_rows(rt: HostRuntime) -> Result<(), Fail> {
     play_all::<ThreeWords>(rt.alloc(), 12, IN_A_TREE_TABLE)?;
-    play_all::<TwoWords>(rt.alloc(), 6, IN_A_DOUBLY_TABLE)
+    play_all::<TwoWords>(rt.alloc(), 6, IN_A_DOUBLY_TABLE)?;
+    let mut four = Four::new(rt.alloc(), 12)?;
+    Ok(play(rt.alloc(), &mut four, &BESIDE_A_TREE)?)
 }

@@ -33,16 +33,16 @@ impl<W: PrevPlace> Model for Three<W> {
     ghost invariant = { λ l. AreThree W.is_linked W.next_word W.prev (table W.unlinked l.links) l.singly l.doubly l.xor };
 }
 
-// Whether an object was taken in.
-fn inserted(given: Result<(), AlreadyLinked<u64>>) -> Answer {
+/// Whether an object was taken in.
+pub(crate) fn inserted(given: Result<(), AlreadyLinked<u64>>) -> Answer {
     match given {
         Ok(()) => Answer::Done,
         Err(_) => Answer::Refused("linked"),
     }
 }
 
-// What an object that came off is answered as.
-fn taken(object: Option<UnsafeRef<u64>>) -> Answer {
+/// What an object that came off is answered as.
+pub(crate) fn taken(object: Option<UnsafeRef<u64>>) -> Answer {
     match object {
         Some(object) => Answer::Number(object.place().index() as u64),
         None => Answer::Nothing,
@@ -151,8 +151,8 @@ impl<W: PrevPlace> Three<W> {
     }
 }
 
-// The place that the word is.
-fn place(word: &str) -> Option<Place> {
+/// The place that the word is.
+pub(crate) fn place(word: &str) -> Option<Place> {
     Place::new(word.parse().ok()?)
 }
 

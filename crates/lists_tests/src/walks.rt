@@ -1,15 +1,21 @@
 //! What walks from null to null come by.
 
-ghost use Rattle.std.specs.Prelude.{List};
+ghost use Rattle.std.specs.Prelude.{◌≡◌, List};
 ghost use Rattle.ic_unsafe_ref.specs.declared.place.Place.{Place};
 ghost use Rattle.ic_link_ops.specs.Positions.{Stands};
 ghost use Rattle.ic_link_ops.specs.PlainTables.{table};
 ghost use Rattle.lists_tests.specs.Three.{ShowsSingly, ShowsDoubly, ShowsXor};
 ghost use Rattle.ic_linked_list.specs.Cursor as doubly;
 ghost use Rattle.ic_xor_linked_list.specs.Cursor as xor;
+ghost use Rattle.ic_link_ops.specs.RedBlackTree.{Shows, ShowsSome};
+ghost use Rattle.ic_rbtree.specs.Tree.{root_of};
+ghost use Rattle.ic_rbtree.specs.CursorOwning as owned;
 
+use crate::own_key::OwnKey;
+use ic_link_ops::rbtree::RBTreeOps;
 use ic_link_ops::{NextWord, PlainTable, PrevPlace};
 use ic_linked_list::{Cursor, LinkedList};
+use ic_rbtree::{CursorOwning, RBTree};
 use ic_singly_linked_list::SinglyLinkedList;
 use ic_unsafe_ref::Place;
 use ic_xor_linked_list::XorLinkedList;
@@ -103,4 +109,36 @@ pub(crate) fn write_xor<W: NextWord>(
         write_member(shown, place)?;
     }
     Ok(())
+}
+
+/// The members of a tree.
+pub(crate) fn write_tree<L: RBTreeOps>(
+    shown: &mut String,
+    tree: &RBTree<OwnKey>,
+    links: &L,
+    most: usize,
+) -> fmt::Result
+    requires shown { ShowsSome L.node (L.table links.now) (root_of tree.now) }
+{
+    let mut cursor = tree.cursor(links);
+    for _ in 0..most {
+        cursor.move_next();
+        let Some(place) = cursor.get_ptr() else {
+            break;
+        };
+        write_member(shown, place)?;
+    }
+    Ok(())
+}
+
+/// Moves a cursor one step on, or two.
+pub(crate) fn step_in<L: RBTreeOps>(cursor: &mut CursorOwning<OwnKey>, links: &L, twice: bool)
+    requires stands { Stands (Shows L.node) L.table (owned.site_of links.now cursor.old) }
+    ensures stands { Stands (Shows L.node) L.table (owned.site_of links.now cursor.new) }
+    ensures tree { owned.tree_of cursor.new ≡ owned.tree_of cursor.old }
+{
+    cursor.move_next(links);
+    if twice {
+        cursor.move_next(links);
+    }
 }
