@@ -96,34 +96,20 @@ impl<T> XorLinkedList<T> {
         self.tail.get()
     }
 
-    // The first member, as a cursor comes to it from null, once a round. It is called and not inlined, so that a step from a
-    // member is a load by itself, and it is a word then, which both ways of a step lead to.
-    #[inline]
-    pub(crate) fn head_from_null(&self) -> Option<Place>
-        ensures { result ≡ self.now.head }
-    {
-        End::of(self.called_head()).get()
-    }
-
+    // The first member, as a cursor comes to it from null, once a round. Called and not inlined, so that a step from a member
+    // is a load by itself.
     #[cold]
     #[inline(never)]
-    fn called_head(&self) -> Option<Place>
+    pub(crate) fn head_from_null(&self) -> Option<Place>
         ensures { result ≡ self.now.head }
     {
         self.head()
     }
 
-    // The same for the last member.
-    #[inline]
-    pub(crate) fn tail_from_null(&self) -> Option<Place>
-        ensures { result ≡ self.now.tail }
-    {
-        End::of(self.called_tail()).get()
-    }
-
+    // The last member, as a cursor comes to it from null.
     #[cold]
     #[inline(never)]
-    fn called_tail(&self) -> Option<Place>
+    pub(crate) fn tail_from_null(&self) -> Option<Place>
         ensures { result ≡ self.now.tail }
     {
         self.tail()
