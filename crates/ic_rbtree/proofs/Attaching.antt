@@ -21,7 +21,7 @@ use Rattle.ic_link_ops.proofs.ShownTrees.{holds_once, holds_out}
 use Rattle.ic_link_ops.proofs.ShownTrees.{free_absent, shows_beside}
 use Rattle.ic_rbtree.specs.Pieces.{Piece, cell, loose, below, around, Held, Stands, Shown}
 use Rattle.ic_rbtree.specs.Insertion.{RedAt, IsHole}
-use Rattle.ic_rbtree.proofs.Branches.{side_loose, side_linked}
+use Rattle.ic_rbtree.proofs.Branches.{side_loose, side_linked, top_leaf}
 use Rattle.ic_rbtree.proofs.Pieces.{regroup, set_near, set_far, set_up, set_tint}
 use Rattle.ic_rbtree.proofs.Turning.{relinks_side, close_below}
 use Rattle.ic_rbtree.proofs.Zipper.{go_down}
@@ -41,10 +41,6 @@ ends o (x ∷ z ∷ s) p e h = let r = ends_on x z s p e in (x ∷ r.0, ap (λ (
   ends_on x z [] p e = ([], ap (λ (y : Place). y ∷ []) (some_same e))
   ends_on x z (y ∷ s) p e = let r = ends_on z y s p e in (z ∷ r.0, ap (λ (k : List Place). z ∷ k) r.1)
 
-no_tree : (t : Tree) → top t ≡ None → t ≡ leaf
-no_tree leaf e = refl
-no_tree (fork c a p b) e = absurd (none_not p (sym e))
-
 module _ {E : Type 0} (n : E → Node) where
   -- THE HOLE in the tree
   pub record Hole (base v : Table E) (root : Option Place) (d : Side) (q : Place) (front back : List Place) (ps : List Piece) : Type 0 where
@@ -63,7 +59,7 @@ module _ {E : Type 0} (n : E → Node) where
     at_side Left at =
         let r = begins gap.back q (sym at.1) in
         let x = spot n gap.front q r.0 (subst (λ (s : List Place). Shown n base v root (gap.front ++ s) ps) r.1 h) in
-        let none : x.a ≡ leaf = no_tree x.a (sym x.stands.are.1.0.0.left ∙ at.0) in
+        let none : x.a ≡ leaf = top_leaf x.a (sym x.stands.are.1.0.0.left ∙ at.0) in
         record {
           c = x.c;
           b = x.b;
@@ -77,7 +73,7 @@ module _ {E : Type 0} (n : E → Node) where
         let r = ends None gap.front q (sym at.1) (none_not q) in
         let both : gap.front ++ gap.back ≡ r.0 ++ q ∷ gap.back = ap (λ (s : List Place). s ++ gap.back) r.1 ∙ append_assoc r.0 (q ∷ []) gap.back in
         let x = spot n r.0 q gap.back (subst (λ (s : List Place). Shown n base v root s ps) both h) in
-        let none : x.b ≡ leaf = no_tree x.b (sym x.stands.are.1.0.0.right ∙ at.0) in
+        let none : x.b ≡ leaf = top_leaf x.b (sym x.stands.are.1.0.0.right ∙ at.0) in
         record {
           c = x.c;
           b = x.a;

@@ -10,14 +10,14 @@ use Rattle.ic_link_ops.specs.Trees.{Tree, leaf, fork, top, in_order}
 use Rattle.ic_link_ops.specs.RedBlackTree.{Node, Shows}
 use Rattle.ic_link_ops.specs.Frames.{frame, across, child_on, branch}
 use Rattle.ic_link_ops.specs.Positions.{HasMember}
-use Rattle.ic_link_ops.proofs.SequenceLemmas.{none_not}
 use Rattle.ic_link_ops.proofs.ShownTrees.{no_root}
 use Rattle.ic_rbtree.specs.Pieces.{Stands}
 use Rattle.ic_rbtree.specs.Sides.{IsBeside, beyond, nearest, StandsAt, IsOutermost, IsNearestAbove}
 use Rattle.ic_rbtree.specs.Insertion.{IsHole}
-use Rattle.ic_rbtree.proofs.Nearest.{nearest_or, choose, is_beside, nearest_there, nearest_plain, nearest_around, beside_member, beside_null}
+use Rattle.ic_rbtree.proofs.Nearest.{nearest_or, choose, is_beside, nearest_there, nearest_plain, nearest_around, beside_member, beside_null, nearest_nothing}
 use Rattle.ic_rbtree.proofs.Zipper.{go_down}
 use Rattle.ic_rbtree.proofs.Removing.{Spot, spot, shown_of}
+use Rattle.ic_rbtree.proofs.Branches.{top_leaf}
 
 -- a tree at one of its members, from a side
 fork_branch : (d : Side) (c : Color) (a : Tree) (p : Place) (b : Tree) → fork c a p b ≡ branch d c (choose d a b) p (choose (across d) a b)
@@ -27,14 +27,6 @@ fork_branch Right c a p b = refl
 pub nearest_twice : (d : Side) (s : List Place) → nearest (across (across d)) s ≡ nearest d s
 nearest_twice Left s = refl
 nearest_twice Right s = refl
-
-nearest_nothing : (d : Side) (o : Option Place) → nearest_or d [] o ≡ o
-nearest_nothing Left o = refl
-nearest_nothing Right o = refl
-
-no_top : (t : Tree) → top t ≡ None → t ≡ leaf
-no_top leaf e = refl
-no_top (fork c a p b) e = absurd (none_not p (sym e))
 
 module _ {E : Type 0} (n : E → Node) where
   module _ {v : Table E} {root : Option Place} where
@@ -85,7 +77,7 @@ module _ {E : Type 0} (n : E → Node) where
       -- and where it has none, the nearest one above
       above_end : (d : Side) {r : Option Place} → child_on d (n (v.entry p)) ≡ None → IsNearestAbove n v p d r → r ≡ nearest d (choose d front back)
       above_end d none nearest_above =
-          let bare : choose d x.a x.b ≡ leaf = no_top (choose d x.a x.b) (sym (child_is d) ∙ none) in
+          let bare : choose d x.a x.b ≡ leaf = top_leaf (choose d x.a x.b) (sym (child_is d) ∙ none) in
           nearest_above v root x.fs (fork x.c x.a p x.b) [] x.stands refl
           ∙ sym (nearest_nothing d (nearest d (beyond d x.fs)))
           ∙ ap (λ t. nearest_or d (in_order t) (nearest d (beyond d x.fs))) (sym bare)

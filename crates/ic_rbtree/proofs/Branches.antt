@@ -1,5 +1,5 @@
 -- Branches: a tree written from one side.
-use Rattle.std.proofs.Common.{◌≡◌, true, Option, Some, List, [], ◌∷◌, ◌++◌, refl, sym, ap, ◌∙◌, append_assoc}
+use Rattle.std.proofs.Common.{◌≡◌, true, Option, Some, None, List, [], ◌∷◌, ◌++◌, refl, sym, ap, ◌∙◌, append_assoc}
 use Rattle.ic_unsafe_ref.specs.declared.place.Place.{Place}
 use Rattle.ic_link_ops.specs.declared.color.Color.{Color}
 use Rattle.ic_link_ops.specs.declared.side.Side.{Side}
@@ -22,6 +22,11 @@ branch_across Right c a p b = refl
 pub top_branch : (d : Side) (c : Color) (a : Tree) (p : Place) (b : Tree) → top (branch d c a p b) ≡ Some p
 top_branch Left c a p b = refl
 top_branch Right c a p b = refl
+
+-- a tree without a root has nothing
+pub top_leaf : (t : Tree) → top t ≡ None → t ≡ leaf
+top_leaf leaf e = refl
+top_leaf (fork c a p b) e = absurd (none_not p (sym e))
 
 -- a tree with a root is a branch of either side
 pub as_branch : (d : Side) (t : Tree) (p : Place) → top t ≡ Some p → (a b : Tree) × (t ≡ branch d (top_color t) a p b)

@@ -5,7 +5,7 @@ use Rattle.ic_link_ops.specs.declared.color.Color.{Color}
 use Rattle.ic_link_ops.specs.declared.side.Side.{Side}
 use Rattle.ic_link_ops.specs.declared.side.Side.TheVariants.{Left, Right}
 use Rattle.ic_link_ops.specs.Tables.{Table, IsCovered}
-use Rattle.ic_link_ops.specs.Trees.{Tree, leaf, fork, top, in_order}
+use Rattle.ic_link_ops.specs.Trees.{Tree, leaf, top, in_order}
 use Rattle.ic_link_ops.specs.Shape.{top_color}
 use Rattle.ic_link_ops.specs.RedBlackTree.{Node}
 use Rattle.ic_link_ops.specs.Frames.{Frame, frame, across, child_on, branch, plug, above}
@@ -14,15 +14,11 @@ use Rattle.ic_link_ops.proofs.Trees.{top_parent}
 use Rattle.ic_rbtree.specs.Climb.{depth}
 use Rattle.ic_rbtree.specs.Pieces.{Piece, Stands}
 use Rattle.ic_rbtree.specs.Sides.{beyond, nearest, IsEnd}
-use Rattle.ic_rbtree.proofs.Branches.{as_branch, top_branch, side_near, side_far, side_linked}
+use Rattle.ic_rbtree.proofs.Branches.{as_branch, top_branch, side_near, side_far, side_linked, top_leaf}
 use Rattle.ic_rbtree.proofs.Turning.{open_at, times_top}
 use Rattle.ic_rbtree.proofs.Zipper.{go_up, go_down}
 use Rattle.ic_rbtree.proofs.Climbing.{depth_top}
-use Rattle.ic_rbtree.proofs.Nearest.{nearest_or, nearest_branch, nearest_there, nearest_plain, beyond_same, nearest_frame, beyond_nothing}
-
-no_top : (t : Tree) → top t ≡ None → t ≡ leaf
-no_top leaf e = refl
-no_top (fork c a p b) e = absurd (none_not p (sym e))
+use Rattle.ic_rbtree.proofs.Nearest.{nearest_branch, nearest_there, nearest_plain, beyond_same, nearest_frame, beyond_nothing, nearest_nothing}
 
 module _ {E : Type 0} (n : E → Node) where
   -- a subtree opened at its root
@@ -84,7 +80,7 @@ module _ {E : Type 0} (n : E → Node) where
     pub down_ends : child_on d (n (v.entry p)) ≡ None → IsEnd n v d p fs t
     down_ends none =
         let o = opened d gs u h.stands h.top_is in
-        let bare : o.a ≡ leaf = no_top o.a (sym o.near ∙ none) in
+        let bare : o.a ≡ leaf = top_leaf o.a (sym o.near ∙ none) in
         let is : u ≡ branch d o.c leaf p o.b = o.is ∙ ap (λ (x : Tree). branch d o.c x p o.b) bare in
         record {
           gs = gs;
@@ -92,13 +88,9 @@ module _ {E : Type 0} (n : E → Node) where
           b = o.b;
           same = sym (ap (plug gs) is) ∙ h.same;
           beside = h.beside;
-          nearest_is = sym h.nearest_is ∙ ap (λ (x : Tree). nearest (across d) (in_order x)) is ∙ nearest_branch d o.c leaf p o.b ∙ nothing_there (across d);
+          nearest_is = sym h.nearest_is ∙ ap (λ (x : Tree). nearest (across d) (in_order x)) is ∙ nearest_branch d o.c leaf p o.b ∙ nearest_nothing (across d) (Some p);
           childless = none;
         }
-      where
-        nothing_there : (k : Side) → nearest_or k [] (Some p) ≡ Some p
-        nothing_there Left = refl
-        nothing_there Right = refl
 
   pub down_starts : {base v : Table E} {root : Option Place} {d : Side} {p : Place} (fs : List Frame) (t : Tree) {ps : List Piece} → Stands n base v root fs t ps → top t ≡ Some p
       → Down base v root d p fs t ps fs t

@@ -19,7 +19,7 @@ use Rattle.ic_rbtree.specs.Steps.{Rotates, CanRotate, IsSideOf}
 use Rattle.ic_rbtree.specs.Shortage.{wanted, color_above, IsNearlyRight}
 use Rattle.ic_rbtree.specs.Removal.{is_red, red_at}
 use Rattle.ic_rbtree.specs.Insertion.{color_below, are_across, RedAt, Eased, PairAt, Recolors, IsStraight, Lifts}
-use Rattle.ic_rbtree.proofs.Branches.{branch_across, top_branch, as_branch, order_plug, order_branch, order_rotated, side_far, side_tint, side_linked, side_up}
+use Rattle.ic_rbtree.proofs.Branches.{branch_across, top_branch, as_branch, order_plug, order_branch, order_rotated, side_far, side_tint, side_up}
 use Rattle.ic_rbtree.proofs.Turning.{below_linked, around_linked}
 use Rattle.ic_rbtree.proofs.Zipper.{go_up, go_down, go_across, go_top, painted_top, painted_above}
 use Rattle.ic_rbtree.proofs.Shapes.{recolored, settled, straightened, right_plug}
@@ -56,9 +56,6 @@ module _ {E : Type 0} (n : E → Node) where
     pub fewer : m ≡ length fs + 2
 
   module _ {base v : Table E} {root : Option Place} {x : Place} {s : List Place} {ps : List Piece} where
-    pub red_linked : (fs : List Frame) (t : Tree) → RedAt n base v root x s fs t ps → (n (v.entry x)).linked ≡ true
-    red_linked fs t h = below_linked n v.entry (above fs) t x h.stands.are.1.0 h.top_is
-
     red_parent : (fs : List Frame) (t : Tree) → RedAt n base v root x s fs t ps → (n (v.entry x)).parent ≡ above fs
     red_parent fs t h = top_parent n v.entry (above fs) t x h.stands.are.1.0 h.top_is
 
@@ -110,12 +107,6 @@ module _ {E : Type 0} (n : E → Node) where
         }
 
   module _ {base v : Table E} {root : Option Place} {x q g : Place} {k : Side} {s : List Place} {d : Side} {b : Tree} {c : Color} {u : Tree} {fs : List Frame} {t : Tree} {ps : List Piece} (h : PairAt n base v root x q g k s d b c u fs t ps) where
-    pub pair_linked : (n (v.entry q)).linked ≡ true
-    pair_linked = side_linked n v.entry d q Red (top t) (top b) (Some g) h.stands.are.0.0.0
-
-    pub grand_linked : (n (v.entry g)).linked ≡ true
-    grand_linked = side_linked n v.entry k g c (Some q) (top u) (above fs) h.stands.are.0.0.2.0
-
     pub grand_is : (n (v.entry q)).parent ≡ Some g
     grand_is = side_up n v.entry d q Red (top t) (top b) (Some g) h.stands.are.0.0.0
 
@@ -280,10 +271,3 @@ module _ {E : Type 0} (n : E → Node) where
       (law' : (p : Place) → (n (w.entry p)).linked ≡ true → IsCovered w p) (fs : List Frame) (t : Tree) → RedAt n base v root x s fs t ps
       → (gs : List Frame) × (u : Tree) × RedAt n base w new_root g s gs u ps × (length gs < length fs) → depth n w (Some g) < depth n v (Some x)
   next_depth law law' fs t h (gs, u, k, fewer) = omega (arith, red_depth law fs t h, red_depth law' gs u k, fewer)
-
-  pub next_eased : {base w : Table E} {root : Option Place} {g : Place} {s : List Place} {m : ℕ} {ps : List Piece} (o : Option Place) → o ≡ Some g → Eased n base w root s m ps o
-      → (fs : List Frame) × (t : Tree) × RedAt n base w root g s fs t ps × (length fs < m)
-  next_eased {base} {w} {root} {g} {s} {m} {ps} o e h = subst (λ (z : Option Place). Eased n base w root s m ps z) e h
-
-  pub last_eased : {base w : Table E} {root : Option Place} {s : List Place} (m : ℕ) {ps : List Piece} (o : Option Place) → o ≡ None → Eased n base w root s m ps o → Shown n base w root s ps
-  last_eased {base} {w} {root} {s} m {ps} o e h = subst (λ (z : Option Place). Eased n base w root s m ps z) e h

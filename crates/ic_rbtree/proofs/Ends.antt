@@ -20,9 +20,9 @@ use Rattle.ic_rbtree.specs.Pieces.{cell, loose, below, around, Held, Stands}
 use Rattle.ic_rbtree.specs.Removal.{IsOn}
 use Rattle.ic_rbtree.specs.Sides.{IsOutermost, beyond, nearest}
 use Rattle.ic_rbtree.specs.Steps.{Adopts}
-use Rattle.ic_rbtree.proofs.Branches.{side_far, side_up, side_linked}
+use Rattle.ic_rbtree.proofs.Branches.{side_far, side_up, side_linked, top_leaf}
 use Rattle.ic_rbtree.proofs.Members.{no_top, stands_of}
-use Rattle.ic_rbtree.proofs.Nearest.{nearest_or, nearest_there, nearest_plain, nearest_frame, beyond_nothing}
+use Rattle.ic_rbtree.proofs.Nearest.{nearest_or, nearest_there, nearest_plain, nearest_frame, beyond_nothing, nearest_nothing}
 use Rattle.ic_rbtree.proofs.Pieces.{regroup}
 use Rattle.ic_rbtree.proofs.Removing.{go_into}
 use Rattle.ic_rbtree.proofs.Turning.{open_at, below_linked, around_linked, relinks_side}
@@ -36,18 +36,6 @@ nothing_both (x ∷ s) t e = absurd (none_not x (sym (ap first e)))
 leaf_is : (t : Tree) → in_order t ≡ [] → t ≡ leaf
 leaf_is leaf e = refl
 leaf_is (fork c a p b) e = absurd (none_not p (sym (no_top (fork c a p b) e)))
-
-no_root : (t : Tree) → top t ≡ None → t ≡ leaf
-no_root leaf e = refl
-no_root (fork c a p b) e = absurd (none_not p (sym e))
-
-nearest_none : (k : Side) (o : Option Place) → nearest_or k [] o ≡ o
-nearest_none Left o = refl
-nearest_none Right o = refl
-
-nearest_of_nothing : (d : Side) → nearest d [] ≡ None
-nearest_of_nothing Left = refl
-nearest_of_nothing Right = refl
 
 -- with nothing beyond on this side, the lowest frame is one to this side,
 pub on_side : (d : Side) (fs : List Frame) → beyond d fs ≡ [] → IsOn d fs
@@ -121,8 +109,8 @@ module _ {E : Type 0} (n : E → Node) where
   -- or else the parent
   pub outer_above : (v : Table E) (child parent : Option Place) (d : Side) → child ≡ None → IsOuter n v child parent d parent
   outer_above v child parent d none base root fs t ps st ec ep bare =
-      let empty : in_order t ≡ [] = ap in_order (no_root t (sym ec ∙ none)) in
-      ep ∙ above_nearest d fs (on_side d fs bare) ∙ sym (nearest_none (across d) (nearest (across d) (beyond (across d) fs)))
+      let empty : in_order t ≡ [] = ap in_order (top_leaf t (sym ec ∙ none)) in
+      ep ∙ above_nearest d fs (on_side d fs bare) ∙ sym (nearest_nothing (across d) (nearest (across d) (beyond (across d) fs)))
       ∙ ap (λ (s : List Place). nearest_or (across d) s (nearest (across d) (beyond (across d) fs))) (sym empty) ∙ sym (end_around d fs t bare)
 
   -- AT THE END on side d: p has no child there, and no member stands beyond

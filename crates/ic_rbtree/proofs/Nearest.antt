@@ -45,6 +45,11 @@ pub nearest_plain : (d : Side) (s : List Place) → nearest d s ≡ nearest_or d
 nearest_plain Left s = refl
 nearest_plain Right s = refl
 
+-- and in nothing, that alone
+pub nearest_nothing : (d : Side) (o : Option Place) → nearest_or d [] o ≡ o
+nearest_nothing Left o = refl
+nearest_nothing Right o = refl
+
 -- a frame on the same side leaves what is beyond, and one on the other side is the nearest
 pub beyond_same : (d : Side) (c : Color) (p : Place) (b : Tree) (fs : List Frame) → beyond d (frame d c p b ∷ fs) ≡ beyond d fs
 beyond_same Left c p b fs = refl

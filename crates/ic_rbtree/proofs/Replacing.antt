@@ -6,9 +6,9 @@ use Rattle.ic_link_ops.specs.Tables.{Table, ChangesOnly, IsLinked, IsUnlinked}
 use Rattle.ic_link_ops.specs.Edits.{Replaces}
 use Rattle.ic_link_ops.specs.RedBlackTree.{Node, Shows}
 use Rattle.ic_link_ops.specs.Times.{one_at, times, times_in}
-use Rattle.ic_link_ops.proofs.Times.{one_at_self, one_at_other, apart, times_order, absent_times, times_append}
+use Rattle.ic_link_ops.proofs.Times.{one_at_other, apart, times_order, absent_times, times_append}
 use Rattle.ic_link_ops.proofs.ShownTrees.{shows_beside}
-use Rattle.ic_rbtree.specs.Pieces.{Piece, loose, Shown}
+use Rattle.ic_rbtree.specs.Pieces.{loose, Shown}
 use Rattle.ic_rbtree.specs.Taking.{CanTakePlace, TakesPlace}
 use Rattle.ic_rbtree.proofs.Removing.{placed, Spot, spot, shows_of, loose_absent, front_shown}
 use Rattle.ic_rbtree.proofs.Attaching.{acquired_shown}
@@ -21,9 +21,6 @@ module _ {E : Type 0} (n : E → Node) where
       let f = front_shown n gap p shown e in
       let s = acquired_shown n linked alike old v root (join gap) new shown was is only in
       (f.0, f.1, spot n gap.front p f.0 (subst (λ (x : List Place). Shown n v v root (gap.front ++ x) (loose new ∷ [])) f.1 s))
-
-  pub not_same : {base v : Table E} {root : Option Place} {front : List Place} {p new : Place} {back : List Place} {ps : List Piece} → Spot n base v root front p back (loose new ∷ ps) → p ≢ new
-  not_same {base} {v} {root} {front} {p} {new} x = apart p new (omega (arith, x.stands.once p, one_at_self p))
 
   pub place_ready : {v : Table E} {root : Option Place} {front : List Place} {p new : Place} {back : List Place} → Spot n v v root front p back (loose new ∷ []) → CanTakePlace n v root p new
   place_ready {v} x = (v, x.fs, x.c, x.a, x.b, [], x.stands)

@@ -1,6 +1,5 @@
 -- A black sibling: it leans, settles or fades.
 use Rattle.std.proofs.Common.{◌≡◌, ◌⊎◌, inl, inr, Bool, true, false, ◌||◌, Option, Some, List, ◌∷◌, refl, sym, ap, ◌∙◌, subst}
-use Rattle.std.specs.Option.{IsSome}
 use Rattle.ic_unsafe_ref.specs.declared.place.Place.{Place}
 use Rattle.ic_link_ops.specs.declared.color.Color.{Color}
 use Rattle.ic_link_ops.specs.declared.color.Color.TheVariants.{Red, Black}
@@ -20,7 +19,7 @@ use Rattle.ic_rbtree.proofs.Branches.{branch_across, across_twice, top_branch, a
 use Rattle.ic_rbtree.proofs.Turning.{below_linked}
 use Rattle.ic_rbtree.proofs.Zipper.{go_up, go_down, go_across, go_top, painted_top, painted_above}
 use Rattle.ic_rbtree.proofs.Shortening.{short_turned, short_settled, short_up, short_ends}
-use Rattle.ic_rbtree.proofs.Raising.{red_is, black_is, some_is, red_tells, parent_at, sib_tree}
+use Rattle.ic_rbtree.proofs.Raising.{red_is, black_is, red_tells, parent_at, sib_tree}
 
 or_true : (x y : Bool) → x || y ≡ true → y ≡ false → x ≡ true
 or_true true y e f = refl
@@ -134,9 +133,6 @@ module _ {E : Type 0} (n : E → Node) where
     far_tree : IsTree n v.entry (Some w) sib_open.1
     far_tree = (branch_open n v.entry (Some q) d Black sib_open.0 w sib_open.1 (sib_tree n opened)).2
 
-    pub far_linked : (o : Option Place) (k : Side) → k ≡ across d → o ≡ child_on k (n (v.entry w)) → (p : Place) → o ≡ Some p → (n (v.entry p)).linked ≡ true
-    far_linked o k ek e p is = below_linked n v.entry (Some w) sib_open.1 p far_tree (sym far_is ∙ (ap (λ (x : Side). child_on x (n (v.entry w))) (sym ek) ∙ (sym e ∙ is)))
-
     -- what the color of its far child tells
     pub far_color : (o : Option Place) (k : Side) (r : Bool) → k ≡ across d → o ≡ child_on k (n (v.entry w)) → r ≡ red_at n v o → r ≡ is_red (top_color sib_open.1)
     far_color o k r ek e er = er ∙ red_tells n v (Some w) o sib_open.1 (e ∙ (ap (λ (x : Side). child_on x (n (v.entry w))) ek ∙ far_is)) far_tree
@@ -150,9 +146,6 @@ module _ {E : Type 0} (n : E → Node) where
     module _ (red : red_child sib ≡ true) (far : is_red (top_color sib_open.1) ≡ false) where
       pub near_red : (m : Tree) × (z : Place) × (o : Tree) × (sib_open.0 ≡ branch d Red m z o)
       near_red = red_branch d sib_open.0 (red_near d Black sib_open.0 w sib_open.1 (ap red_child (sym sib_open.2) ∙ red) far)
-
-      pub near_some : (o : Option Place) → o ≡ child_on d (n (v.entry w)) → IsSome o
-      near_some o e = let r = near_red in some_is o r.1 (e ∙ (near_is ∙ (ap top r.3 ∙ top_branch d Red r.0 r.1 r.2)))
 
       pub near_place : (o : Option Place) (z : Place) → o ≡ child_on d (n (v.entry w)) → o ≡ Some z → near_red.1 ≡ z
       near_place o z e is = let r = near_red in some_same (sym (top_branch d Red r.0 r.1 r.2) ∙ (sym (ap top r.3) ∙ (sym near_is ∙ (sym e ∙ is))))

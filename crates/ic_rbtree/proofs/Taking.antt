@@ -36,10 +36,6 @@ order_only leaf b h = refl
 order_only (fork c a p b) r (inl e) = cc
 order_only (fork c a p b) r (inr e) = sym (append-nil (in_order (fork c a p b))) ∙ ap (λ (x : Tree). in_order (fork c a p b) ++ in_order x) (sym e)
 
-top_leaf : (t : Tree) → top t ≡ None → t ≡ leaf
-top_leaf leaf e = refl
-top_leaf (fork c a p b) e = absurd (none_not p (sym e))
-
 pub not_red_black : (c : Color) → (c ≡ Red → ⊥) → c ≡ Black
 not_red_black Red h = absurd (h refl)
 not_red_black Black h = refl

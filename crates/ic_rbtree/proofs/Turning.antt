@@ -1,12 +1,12 @@
 -- A branch opened and closed, and what `adopt`, `relink` and `rotate` do to the pieces.
-use Rattle.std.proofs.Common.{◌≡◌, ◌≤◌, Option, Some, None, List, [], ◌∷◌, true, false, Bool, refl, sym, ap, ◌∙◌, subst, arith, inl, inr, eq-eqb, eqb-true}
+use Rattle.std.proofs.Common.{◌≡◌, ◌≤◌, Option, Some, None, List, [], ◌∷◌, true, false, Bool, refl, sym, ap, ◌∙◌, subst, arith, eq-eqb, eqb-true}
 use Rattle.ic_unsafe_ref.specs.declared.place.Place.{Place}
 use Rattle.ic_unsafe_ref.specs.Places.{index_of}
-use Rattle.ic_unsafe_ref.proofs.PlaceLemmas.{same_index, same_or_not}
+use Rattle.ic_unsafe_ref.proofs.PlaceLemmas.{same_index}
 use Rattle.ic_link_ops.specs.declared.color.Color.{Color}
 use Rattle.ic_link_ops.specs.declared.side.Side.{Side}
 use Rattle.ic_link_ops.specs.declared.side.Side.TheVariants.{Left, Right}
-use Rattle.ic_link_ops.specs.Tables.{Table, ChangesOnly, KeepsLinked}
+use Rattle.ic_link_ops.specs.Tables.{Table, ChangesOnly}
 use Rattle.ic_link_ops.specs.Walk.{is_end}
 use Rattle.ic_link_ops.specs.Trees.{Tree, leaf, fork, top}
 use Rattle.ic_link_ops.specs.RedBlackTree.{Node, IsTree}
@@ -35,14 +35,6 @@ end_not (Some q) p b e f k =
     let l : true ≡ false = sym o ∙ (sym e ∙ f) in cc
 
 module _ {E : Type 0} (n : E → Node) where
-  -- a setter keeps all links
-  pub linked_set : (linked : E → Bool) → ((e : E) → (n e).linked ≡ linked e) → (v w : Table E) (p : Place) → (n (w.entry p)).linked ≡ (n (v.entry p)).linked
-      → ChangesOnly v w p → KeepsLinked linked v w
-  linked_set linked alike v w p same only q = elim (same_or_not q p) [
-    | inl e ↦ subst (λ (z : Place). linked (w.entry z) ≡ linked (v.entry z)) (sym e) (sym (alike (w.entry p)) ∙ (same ∙ alike (v.entry p)))
-    | inr k ↦ ap linked (only.others q k)
-  ]
-
   pub below_linked : (entry : Place → E) (up : Option Place) (t : Tree) (q : Place) → IsTree n entry up t → top t ≡ Some q → (n (entry q)).linked ≡ true
   below_linked entry up leaf q h e = absurd (none_not q e)
   below_linked entry up (fork c a p b) q h e = subst (λ (z : Place). (n (entry z)).linked ≡ true) (some_same e) h.0.linked

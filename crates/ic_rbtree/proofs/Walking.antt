@@ -1,11 +1,10 @@
 -- The walk over a tree's objects: one step of it, from either end.
-use Rattle.std.proofs.Common.{◌≡◌, ◌≢◌, Bool, true, false, Option, Some, None, List, [], ◌∷◌, ◌++◌, Bor, refl, sym, ◌∙◌, ap, append-nil, append_assoc, drop, eq-eqb}
+use Rattle.std.proofs.Common.{◌≡◌, ◌≢◌, Bool, true, false, Option, Some, None, List, [], ◌∷◌, ◌++◌, Bor, refl, sym, ◌∙◌, ap, append-nil, append_assoc, drop}
 use Rattle.std.specs.Option.{option_copied}
 use Rattle.std.specs.List.{AllByRecursion, cons_option}
 use Rattle.std.specs.Iterator.{MakesProgress, item_count}
 use Rattle.std.proofs.lemmas.List.Elements.{filter_map-append}
 use Rattle.ic_unsafe_ref.specs.declared.place.Place.{Place}
-use Rattle.ic_unsafe_ref.specs.Places.{index_of}
 use Rattle.ic_unsafe_ref.specs.Objects.{object_at}
 use Rattle.ic_link_ops.specs.Sequences.{Cut, join, IsAbsent, IsDistinct, IsAfter, IsBefore, first, last, last_or, but_last}
 use Rattle.ic_link_ops.specs.Tables.{Table, IsCovered}
@@ -21,10 +20,7 @@ use Rattle.ic_rbtree.specs.Tree.{root_of}
 use Rattle.ic_rbtree.specs.Members.{up_to, between, IsWalk, members}
 use Rattle.ic_rbtree.specs.Iter.{objects_left, CanWalk}
 use Rattle.ic_rbtree.proofs.Members.{members_shown}
-
--- an end that is p, and one that is not
-is_end_on : (p : Place) → is_end (Some p) p ≡ true
-is_end_on p = eq-eqb (index_of p) (index_of p) refl
+use Rattle.ic_rbtree.proofs.Climbed.{is_end_there}
 
 is_end_off : (end : Option Place) (p : Place) → end ≢ Some p → is_end end p ≡ false
 is_end_off end p off = go (is_end end p) refl where
@@ -34,7 +30,7 @@ is_end_off end p off = go (is_end end p) refl where
 
 -- OF DISTINCT MEMBERS those between the first of w and its last are w
 up_to_last : (x : Place) (w back : List Place) → IsDistinct (x ∷ w ++ back) → up_to (last_or (Some x) w) (x ∷ w ++ back) ≡ x ∷ w
-up_to_last x [] back d = rw (is_end_on x) refl
+up_to_last x [] back d = rw (is_end_there {p = x} refl) refl
 up_to_last x (y ∷ w) back d =
     rw (is_end_off (last_or (Some y) w) x (last_not (Some y) w x (λ e. d.0.0 (sym (some_same e))) (absent_left x w back d.0.1)))
     (ap (λ (l : List Place). x ∷ l) (up_to_last y w back d.1))
@@ -49,7 +45,7 @@ first_off x front (y ∷ w) back out e = (absent_right x front (y ∷ w ++ back)
 
 between_ends : (front w back : List Place) → IsDistinct (front ++ (w ++ back)) → between (first w) (last w) (front ++ (w ++ back)) ≡ w
 between_ends [] [] back d = none_between back
-between_ends [] (x ∷ w) back d = rw (is_end_on x) (up_to_last x w back d)
+between_ends [] (x ∷ w) back d = rw (is_end_there {p = x} refl) (up_to_last x w back d)
 between_ends (x ∷ front) w back d = rw (is_end_off (first w) x (first_off x front w back d.0)) (between_ends front w back d.1)
 
 -- what holds of all members holds of all but the last, and of the last
