@@ -1,5 +1,5 @@
 -- From a position in a shown tree to the member beside it, and to the hole between them.
-use Rattle.std.proofs.Common.{◌≡◌, Option, Some, None, List, [], ◌∷◌, ◌++◌, refl, sym, ap, ◌∙◌, subst}
+use Rattle.std.proofs.Common.{◌≡◌, Option, Some, None, List, [], ◌∷◌, refl, sym, ap, ◌∙◌, subst}
 use Rattle.ic_unsafe_ref.specs.declared.place.Place.{Place}
 use Rattle.ic_link_ops.specs.declared.color.Color.{Color}
 use Rattle.ic_link_ops.specs.declared.side.Side.{Side}
@@ -14,7 +14,7 @@ use Rattle.ic_link_ops.proofs.ShownTrees.{no_root}
 use Rattle.ic_rbtree.specs.Pieces.{Stands}
 use Rattle.ic_rbtree.specs.Sides.{IsBeside, beyond, nearest, StandsAt, IsOutermost, IsNearestAbove}
 use Rattle.ic_rbtree.specs.Insertion.{IsHole}
-use Rattle.ic_rbtree.proofs.Nearest.{nearest_or, choose, is_beside, nearest_there, nearest_plain, nearest_around, beside_member, beside_null, nearest_nothing}
+use Rattle.ic_rbtree.proofs.Nearest.{nearest_or, choose, is_beside, nearest_there, nearest_plain, nearest_around, beside_member, beside_null, nearest_nothing, nothing_both}
 use Rattle.ic_rbtree.proofs.Zipper.{go_down}
 use Rattle.ic_rbtree.proofs.Removing.{Spot, spot, shown_of}
 use Rattle.ic_rbtree.proofs.Branches.{top_leaf}
@@ -112,7 +112,4 @@ module _ {E : Type 0} (n : E → Node) where
 
       -- a hole of the empty tree
       pub null_hole : IsBeside d gap None → root ≡ None → IsHole n v None d gap
-      null_hole here is = both gap.front gap.back (no_root (subst (λ o. Shows n v o (join gap)) is shown)) where
-        both : (s t : List Place) → s ++ t ≡ [] → (s ≡ []) × (t ≡ [])
-        both [] t e = (refl, e)
-        both (x ∷ s) t e = cc
+      null_hole here is = nothing_both gap.front gap.back (no_root (subst (λ o. Shows n v o (join gap)) is shown))

@@ -22,16 +22,11 @@ use Rattle.ic_rbtree.specs.Sides.{IsOutermost, beyond, nearest}
 use Rattle.ic_rbtree.specs.Steps.{Adopts}
 use Rattle.ic_rbtree.proofs.Branches.{side_far, side_up, side_linked, top_leaf}
 use Rattle.ic_rbtree.proofs.Members.{no_top, stands_of}
-use Rattle.ic_rbtree.proofs.Nearest.{nearest_or, nearest_there, nearest_plain, nearest_frame, beyond_nothing, nearest_nothing}
+use Rattle.ic_rbtree.proofs.Nearest.{nearest_or, nearest_there, nearest_plain, nearest_frame, beyond_nothing, nearest_nothing, nothing_both}
 use Rattle.ic_rbtree.proofs.Pieces.{regroup}
 use Rattle.ic_rbtree.proofs.Removing.{go_into}
 use Rattle.ic_rbtree.proofs.Turning.{open_at, below_linked, around_linked, relinks_side}
 use Rattle.ic_rbtree.proofs.Zipper.{go_top}
-
--- both parts of nothing are nothing
-nothing_both : (s t : List Place) → s ++ t ≡ [] → (s ≡ []) × (t ≡ [])
-nothing_both [] t e = (refl, e)
-nothing_both (x ∷ s) t e = absurd (none_not x (sym (ap first e)))
 
 leaf_is : (t : Tree) → in_order t ≡ [] → t ≡ leaf
 leaf_is leaf e = refl

@@ -74,6 +74,11 @@ pub nearest_around : (d : Side) (fs : List Frame) (a b : Tree) (front back : Lis
 nearest_around Left fs a b front back ef eb = sym (ap last ef) ∙ last_or-append None (before fs) (in_order a)
 nearest_around Right fs a b front back ef eb = sym (ap first eb) ∙ first_or-append (in_order b) (after fs) None
 
+-- both parts of nothing are nothing
+pub nothing_both : (s t : List Place) → s ++ t ≡ [] → (s ≡ []) × (t ≡ [])
+nothing_both [] t e = (refl, e)
+nothing_both (x ∷ s) t e = cc
+
 nothing_first : (s : List Place) → first s ≡ None → s ≡ []
 nothing_first [] e = refl
 nothing_first (x ∷ s) e = absurd (none_not x (sym e))
