@@ -1,5 +1,5 @@
 -- The third word of a tree link: what it says, as its parts are set.
-use Rattle.std.proofs.Common.{◌≡◌, ℕ, zero, suc, ◌+◌, ◌*◌, ◌/◌, ◌%◌, ◌<◌, Option, None, cond, nat_eq, true, false, arith, refl, ap, ◌∙◌}
+use Rattle.std.proofs.Common.{◌≡◌, ℕ, zero, suc, ◌+◌, ◌*◌, ◌/◌, ◌%◌, ◌<◌, Option, None, cond, nat_eq, true, false, arith, refl, sym, ap, ◌∙◌}
 use Rattle.ic_unsafe_ref.specs.declared.place.Place.{Place}
 use Rattle.ic_unsafe_ref.specs.Places.{place_at, word_of}
 use Rattle.ic_unsafe_ref.proofs.PlaceLemmas.{place_at_word, word_at, word_fits}
@@ -13,6 +13,12 @@ parts_at_0 = λ k. record { linked = false; parent = place_at_word None k; color
 
 pub parts_at_3 : parts_at 3 ≡ linked
 parts_at_3 = λ k. record { linked = true; parent = place_at_word None k; color = Black }
+
+-- a word below 4 names no parent
+pub no_parent : (n : ℕ) → n / 4 ≡ 0 → None ≡ (parts_at n).parent
+no_parent n h =
+    let none : n / 4 * 2 ≡ 0 = omega (arith, h) in
+    sym (ap place_at none ∙ place_at_word None)
 
 -- with another parent
 pub parent_set : (n : ℕ) (parent : Option Place) → parts_at (word_of parent * 2 + n % 4) ≡ record (parts_at n) { parent = parent }

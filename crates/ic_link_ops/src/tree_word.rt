@@ -62,10 +62,15 @@ impl TreeWord {
 
     /// The parent, `None` at the root: all but the two lowest bits.
     #[inline]
+    #[tactic(auto, using(crate::proofs::TreeWordLemmas::no_parent))]
     pub fn parent(&self) -> Option<Place>
         ensures { result ≡ self.now.parent }
     {
-        Place::from_word(self.bits / 4 * 2)
+        let above = self.bits / 4;
+        if above == 0 {
+            return None;
+        }
+        Place::from_word(above * 2)
     }
 
     /// The color: the lowest bit, 1 for black.
