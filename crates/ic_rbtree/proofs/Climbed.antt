@@ -21,9 +21,10 @@ use Rattle.ic_link_ops.proofs.SequenceLemmas.{none_not, member_split}
 use Rattle.ic_link_ops.proofs.ShownTrees.{left_member, right_member}
 use Rattle.ic_link_ops.proofs.Trees.{top_parent}
 use Rattle.ic_link_ops.proofs.Walks.{pigeonhole}
+use Rattle.ic_rbtree.specs.Height.{height}
 use Rattle.ic_rbtree.specs.Members.{HasChild}
 use Rattle.ic_rbtree.specs.Pieces.{Stands}
-use Rattle.ic_rbtree.proofs.Bound.{looks_few}
+use Rattle.ic_rbtree.proofs.Heights.{looks_few}
 use Rattle.ic_rbtree.proofs.Descending.{framed}
 use Rattle.ic_rbtree.proofs.Branches.{top_branch}
 use Rattle.ic_rbtree.proofs.Removing.{spot, shown_of, order_around}
@@ -58,22 +59,27 @@ module _ {E : Type 0} (n : E → Node) where
     pub few : length fs + steps ≤ 65
 
   module _ {v : Table E} {root : Option Place} {s : List Place} (shown : Shows n v root s) where
+    -- NO PATH IS LONG
+    pub path_few : (fs : List Frame) (t : Tree) (looks : ℕ) → plug fs t ≡ shown.tree → looks ≤ length fs + height t → looks ≤ 66
+    path_few fs t looks same high =
+        let few : 2 ^ looks ≤ (length s + 1) ^ 2 =
+        subst (λ (z : List Place). 2 ^ looks ≤ (length z + 1) ^ 2) (ap in_order same ∙ shown.held.order)
+        (looks_few fs t looks (subst IsRight (sym same) shown.shape) high) in
+        let small : length s ≤ 8589934591 = pigeonhole s 8589934591 shown.held.distinct (all_small s) in
+        exponent_small looks (length s + 1) (omega (arith, small)) few
+
     pub starts : {p : Place} → IsMember p s → Climbs v root p 0
     starts {p} member =
         let m = member_split p s member in
-        let x = spot n m.0 p m.1 (shown_of n (subst (λ z. Shows n v root z) m.2 shown)) in
-        let t : Tree = fork x.c x.a p x.b in
-        let n_few : length s ≤ 8589934591 = pigeonhole s 8589934591 shown.held.distinct (all_small s) in
-        record {
-          fs = x.fs;
-          t = t;
-          stands = x.stands;
-          top_is = refl;
-          few = omega (arith, exponent_small (length x.fs + 1) (length s + 1) (omega arith) (looks x.fs x.c x.a x.b x.right (order_around x.fs x.c x.a p x.b m.0 m.1 x.front_is x.back_is ∙ sym m.2)));
-        }
+        let h = subst (λ z. Shows n v root z) m.2 shown in
+        let x = spot n m.0 p m.1 (shown_of n h) in
+        let few : length x.fs + 1 ≤ 66 = long x.fs x.c x.a x.b x.right (order_around x.fs x.c x.a p x.b m.0 m.1 x.front_is x.back_is ∙ sym m.2) in
+        record { fs = x.fs; t = fork x.c x.a p x.b; stands = x.stands; top_is = refl; few = omega (arith, few) }
       where
-        looks : (fs : List Frame) (c : Color) (a b : Tree) → IsRight (plug fs (fork c a p b)) → in_order (plug fs (fork c a p b)) ≡ s → 2 ^ (length fs + 1) ≤ (length s + 1) ^ 2
-        looks fs c a b right same = subst (λ (z : List Place). 2 ^ (length fs + 1) ≤ (length z + 1) ^ 2) same (looks_few fs (fork c a p b) (length fs + 1) right (omega arith))
+        long : (fs : List Frame) (c : Color) (a b : Tree) → IsRight (plug fs (fork c a p b)) → in_order (plug fs (fork c a p b)) ≡ s → length fs + 1 ≤ 66
+        long fs c a b right same =
+            exponent_small (length fs + 1) (length s + 1) (omega (arith, pigeonhole s 8589934591 shown.held.distinct (all_small s)))
+            (subst (λ (z : List Place). 2 ^ (length fs + 1) ≤ (length z + 1) ^ 2) same (looks_few fs (fork c a p b) (length fs + 1) right (omega arith)))
 
     -- one step goes to a member as well, whose child the old one is
     pub climbs : {p q : Place} {steps : ℕ} → Climbs v root p steps → (n (v.entry p)).parent ≡ Some q → Climbs v root q (steps + 1)

@@ -10,7 +10,7 @@ use Rattle.ic_link_ops.specs.RedBlackTree.{Node, IsTree, Holds, Shows}
 use Rattle.ic_link_ops.proofs.SequenceLemmas.{none_not, some_same}
 use Rattle.ic_rbtree.specs.Height.{height}
 use Rattle.ic_rbtree.specs.Members.{IsPathDown}
-use Rattle.ic_rbtree.proofs.Bound.{height_few}
+use Rattle.ic_rbtree.proofs.Heights.{height_few}
 
 module _ {E : Type 0} (n : E → Node) where
   -- THE SHAPE, its three facts by name: the root is black, no red member has a red child, and all paths down have equally many

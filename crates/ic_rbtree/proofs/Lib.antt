@@ -17,10 +17,12 @@ pub mod SidedEdits
 pub mod Easing
 pub mod Attaching
 pub mod Replacing
-pub mod Bound
+pub mod Heights
 pub mod Climbed
 pub mod Laws
 pub mod Members
 pub mod Ends
 pub mod Finishing
 pub mod Walking
+pub mod Gaps
+pub mod Sending

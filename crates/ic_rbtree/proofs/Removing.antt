@@ -177,19 +177,18 @@ module _ {E : Type 0} (n : E → Node) where
             subst (λ (s : List Place). Shown n base u root2 (front ++ s) (loose p ∷ ps)) (sym next.behind) (placed z y swapped)
 
   -- INTO THE PIECES, and out of them
-  pub shown_of : {v : Table E} {root : Option Place} {s : List Place} → Shows n v root s → Shown n v v root s []
-  shown_of {v} {root} {s} h = record {
-    tree = h.tree;
-    stands = record {
-      are = ((tt, h.starts), (h.held.entries, tt));
-      once = λ q. omega (arith, holds_once h.held q);
-      beside = λ q none. refl;
-      linked = λ q. refl;
-      extent = refl;
-    };
-    order = h.held.order;
-    shape = h.shape;
+  -- the shown tree stands at the root
+  pub stands_of : {v : Table E} {root : Option Place} {s : List Place} (h : Shows n v root s) → Stands n v v root [] h.tree []
+  stands_of {v} {root} {s} h = record {
+    are = ((tt, h.starts), (h.held.entries, tt));
+    once = λ q. omega (arith, holds_once h.held q);
+    beside = λ q none. refl;
+    linked = λ q. refl;
+    extent = refl;
   }
+
+  pub shown_of : {v : Table E} {root : Option Place} {s : List Place} → Shows n v root s → Shown n v v root s []
+  shown_of {v} {root} {s} h = record { tree = h.tree; stands = stands_of h; order = h.held.order; shape = h.shape }
 
   pub shows_of : {base v : Table E} {root : Option Place} {s : List Place} {ps : List Piece} → Shown n base v root s ps → Shows n v root s
   shows_of {base} {v} {root} {s} {ps} h = record {

@@ -25,9 +25,9 @@ use std::alloc::Allocator;
 
 /// A position in a tree that it edits, with the tree and the table of its links.
 pub struct CursorMut<'a, A, L> {
-    tree: &'a mut RBTree<A>,
-    links: &'a mut L,
-    current: End,
+    pub(crate) tree: &'a mut RBTree<A>,
+    pub(crate) links: &'a mut L,
+    pub(crate) current: End,
 }
 
 impl<A, L> Drop for CursorMut<'_, A, L> {

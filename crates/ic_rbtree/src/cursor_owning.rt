@@ -23,8 +23,8 @@ use ic_unsafe_ref::{Place, UnsafeRef};
 
 /// A position in a tree that it keeps. Its calls take the table of the tree's links each time.
 pub struct CursorOwning<A> {
-    tree: RBTree<A>,
-    current: End,
+    pub(crate) tree: RBTree<A>,
+    pub(crate) current: End,
 }
 
 impl<A: Drop> Drop for CursorOwning<A> {

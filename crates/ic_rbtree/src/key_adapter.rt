@@ -1,4 +1,4 @@
-//! Where the key of an object stands.
+//! Where the key of an object stands, and what bounds a search by keys.
 
 ghost use Rattle.std.specs.Prelude.{◌≡◌};
 
@@ -29,4 +29,19 @@ pub trait KeyAdapter: Copy {
     /// The key of `value`, which is a part of it. O(1).
     fn get_key<'v>(&self, value: &'v Self::Value) -> &'v Self::Key
         ensures { result.now ≡ key_of self.now value.now };
+}
+
+/// An end of a range of keys, as callers give it.
+///
+/// ```text
+/// tree.lower_bound(&links, &objects, Bound::Included(&5)) // the first member with a key of at least 5
+/// ```
+#[derive(Copy, Clone, PartialEq, Eq, Hash, Debug)]
+pub enum Bound<T> {
+    /// Up to this key, and with it.
+    Included(T),
+    /// Up to this key, and without it.
+    Excluded(T),
+    /// All keys.
+    Unbounded,
 }

@@ -1,0 +1,276 @@
+-- A DESCENT that comparisons send from the root of a shown tree to a gap.
+use Rattle.std.proofs.Common.{◌≡◌, ℕ, ◌+◌, ◌^◌, ◌≤◌, ◌<◌, Bool, true, false, not, cond, Option, Some, None, IsSome, List, [], ◌∷◌, ◌++◌, length, refl, sym, ap, ◌∙◌, subst, arith, append_assoc, append-nil}
+use Rattle.std.specs.declared.cmp.Ordering.{Ordering}
+use Rattle.std.specs.declared.cmp.Ordering.TheVariants.{Less, Equal, Greater}
+use Rattle.std.specs.Ordering.{is_eq, is_lt, is_le, is_gt, is_ge}
+use Rattle.ic_unsafe_ref.specs.declared.place.Place.{Place}
+use Rattle.ic_unsafe_ref.specs.Objects.{Objects, object_at}
+use Rattle.ic_link_ops.specs.declared.color.Color.{Color}
+use Rattle.ic_link_ops.specs.declared.side.Side.{Side}
+use Rattle.ic_link_ops.specs.declared.side.Side.TheVariants.{Left, Right}
+use Rattle.ic_link_ops.specs.Sequences.{Cut, first, last}
+use Rattle.ic_link_ops.specs.Tables.{Table}
+use Rattle.ic_link_ops.specs.PlacedObjects.{ArePlaced}
+use Rattle.ic_link_ops.specs.Trees.{Tree, leaf, fork, top, in_order}
+use Rattle.ic_link_ops.specs.Shape.{IsRight}
+use Rattle.ic_link_ops.specs.RedBlackTree.{Node, Shows}
+use Rattle.ic_link_ops.specs.Frames.{Frame, frame, plug, above, before, after, child_on}
+use Rattle.ic_link_ops.specs.Positions.{Site, ShowsAt, Stands as PositionStands}
+use Rattle.ic_link_ops.proofs.Positions.{stands_by_gap, stands_null}
+use Rattle.ic_link_ops.proofs.SequenceLemmas.{none_not}
+use Rattle.ic_rbtree.specs.declared.descent.Descent.{Descent}
+use Rattle.ic_rbtree.specs.declared.key_adapter.Bound.TheVariants.{Included, Excluded, Unbounded}
+use Rattle.ic_rbtree.specs.Borders.{equal_at, at_most_at, if_passes, Finds, IsLowerBorder, IsUpperBorder}
+use Rattle.ic_rbtree.specs.Comparing.{goes_left, meets_lower, is_beyond}
+use Rattle.ic_rbtree.specs.Descents.{side_of, gap_in, SendsPast, passed, at_root, equal_there, EndsAt}
+use Rattle.ic_rbtree.specs.Height.{height}
+use Rattle.ic_rbtree.specs.Insertion.{IsHole}
+use Rattle.ic_rbtree.specs.Pieces.{Stands}
+use Rattle.ic_rbtree.specs.Removal.{IsOn}
+use Rattle.ic_rbtree.specs.Sides.{IsBeside}
+use Rattle.ic_rbtree.proofs.Branches.{side_near, top_leaf}
+use Rattle.ic_rbtree.proofs.Climbed.{path_few}
+use Rattle.ic_rbtree.proofs.Descending.{opened}
+use Rattle.ic_rbtree.proofs.Gaps.{gap_join, gap_border, gap_same, gap_all, gap_none}
+use Rattle.ic_rbtree.proofs.Heights.{looks_few}
+use Rattle.ic_rbtree.proofs.Nearest.{nearest_frame}
+use Rattle.ic_rbtree.proofs.Removing.{order_around, stands_of}
+
+-- a gap of a subtree, seen from above the frames
+abbrev pub gap_around : List Frame → Cut → Cut
+gap_around fs gap = record { front = before fs ++ gap.front; back = gap.back ++ after fs }
+
+left_is : (x : Bool) → Left ≡ side_of x → x ≡ true
+left_is true e = refl
+left_is false e = cc
+
+right_is : (x : Bool) → Right ≡ side_of x → x ≡ false
+right_is true e = cc
+right_is false e = refl
+
+-- THE TEST SENDS into the subtree, and there on
+pub gap_plug : (test : Place → Bool) (fs : List Frame) (t : Tree) → SendsPast test fs → gap_in test (plug fs t) ≡ gap_around fs (gap_in test t)
+gap_plug test [] t h = λ k. record { front = (gap_in test t).front; back = sym (append-nil (gap_in test t).back) k }
+gap_plug test (frame Left c p b ∷ fs) t h =
+    let left : Cut = record { front = (gap_in test t).front; back = (gap_in test t).back ++ p ∷ in_order b } in
+    let right : Cut = record { front = in_order t ++ p ∷ (gap_in test b).front; back = (gap_in test b).back } in
+    gap_plug test fs (fork c t p b) h.1
+    ∙ ap (λ x. gap_around fs (cond x left right)) (left_is (test p) h.0)
+    ∙ (λ k. record { front = before fs ++ (gap_in test t).front; back = append_assoc (gap_in test t).back (p ∷ in_order b) (after fs) k })
+gap_plug test (frame Right c p b ∷ fs) t h =
+    let left : Cut = record { front = (gap_in test b).front; back = (gap_in test b).back ++ p ∷ in_order t } in
+    let right : Cut = record { front = in_order b ++ p ∷ (gap_in test t).front; back = (gap_in test t).back } in
+    let same : before fs ++ (in_order b ++ p ∷ (gap_in test t).front) ≡ (before fs ++ (in_order b ++ p ∷ [])) ++ (gap_in test t).front =
+    sym (append_assoc (before fs) (in_order b ++ p ∷ []) (gap_in test t).front
+    ∙ ap (λ s. before fs ++ s) (append_assoc (in_order b) (p ∷ []) (gap_in test t).front)) in
+    gap_plug test fs (fork c b p t) h.1
+    ∙ ap (λ x. gap_around fs (cond x left right)) (right_is (test p) h.0)
+    ∙ (λ k. record { front = same k; back = (gap_in test t).back ++ after fs })
+
+-- the objects at a sequence's members are placed, and so is each of them
+pub placed_there : {V : Type 0} (objects : Objects V) (s : List Place) (p : Place) (t : List Place) → ArePlaced objects (s ++ p ∷ t) → IsSome (object_at objects p)
+placed_there objects [] p t h = h.0
+placed_there objects (x ∷ s) p t h = placed_there objects s p t h.1
+
+module _ {E : Type 0} (n : E → Node) where
+  -- ON THE WAY: the descent has come to `here`, past these frames, one look each
+  pub record Sent (v : Table E) (root : Option Place) (at : Place → Ordering) (equals : Side) (tree : Tree) (here : Option Place) (d : Descent) (start count : ℕ) : Type 0 where
+    pub fs : List Frame
+    pub t : Tree
+    pub stands : Stands n v v root fs t []
+    pub same : plug fs t ≡ tree
+    pub here_is : here ≡ top t
+    pub sends : SendsPast (λ p. goes_left equals (at p)) fs
+    pub parent_is : d.parent ≡ above fs
+    pub side_is : IsOn d.side fs
+    pub front_is : d.front ≡ last (before fs)
+    pub back_is : d.back ≡ first (after fs)
+    pub equal_is : d.equal ≡ equal_there at d.back
+    pub counted : count ≡ start + length fs
+
+  module _ {v : Table E} {root : Option Place} {at : Place → Ordering} {equals : Side} where
+    first_at : {s : List Place} (start : ℕ) (h : Shows n v root s) → Sent v root at equals h.tree root at_root start start
+    first_at start h = record {
+      fs = [];
+      t = h.tree;
+      stands = stands_of n h;
+      same = refl;
+      here_is = h.starts;
+      sends = tt;
+      parent_is = refl;
+      side_is = tt;
+      front_is = refl;
+      back_is = refl;
+      equal_is = refl;
+      counted = omega arith;
+    }
+
+    pub sent_first : {s : List Place} {d : Descent} → d ≡ at_root → (start : ℕ) (h : Shows n v root s) → Sent v root at equals h.tree root d start start
+    sent_first {s} {d} is start h = subst (λ z. Sent v root at equals h.tree root z start start) (sym is) (first_at start h)
+
+    module _ {tree : Tree} {here : Option Place} {d : Descent} {start count : ℕ} (x : Sent v root at equals tree here d start count) where
+      module _ {p : Place} (is : here ≡ Some p) where
+        -- the member is linked, and there is room for a look at it,
+        pub sent_linked : (n (v.entry p)).linked ≡ true
+        sent_linked = (opened n Left x.fs x.t x.stands (sym x.here_is ∙ is)).linked
+
+        sent_high : length x.fs + 1 ≤ length x.fs + height x.t
+        sent_high = high x.t (sym x.here_is ∙ is) where
+          high : (t : Tree) → top t ≡ Some p → length x.fs + 1 ≤ length x.fs + height t
+          high leaf e = absurd (none_not p e)
+          high (fork c a q b) e = omega arith
+
+        pub sent_room : {s : List Place} (h : Shows n v root s) → h.tree ≡ tree → start + 66 ≤ 18446744073709551615 → count < 18446744073709551615
+        sent_room h same room =
+            let few : length x.fs + 1 ≤ 66 = path_few n h x.fs x.t (length x.fs + 1) (x.same ∙ sym same) sent_high in
+            omega (arith, few, room, x.counted)
+
+        -- and its object is placed
+        pub sent_placed : {V : Type 0} (objects : Objects V) {s : List Place} (h : Shows n v root s) → h.tree ≡ tree → ArePlaced objects s → IsSome (object_at objects p)
+        sent_placed objects {s} h same placed =
+            let o = opened n Left x.fs x.t x.stands (sym x.here_is ∙ is) in
+            let order : s ≡ (before x.fs ++ in_order o.a) ++ p ∷ (in_order o.b ++ after x.fs) =
+            sym h.held.order ∙ ap in_order (same ∙ sym x.same ∙ ap (plug x.fs) o.is) ∙ order_around x.fs o.c o.a p o.b (before x.fs ++ in_order o.a) (in_order o.b ++ after x.fs) refl refl in
+            placed_there objects (before x.fs ++ in_order o.a) p (in_order o.b ++ after x.fs) (subst (ArePlaced objects) order placed)
+
+        past : {order : Ordering} (left : Bool) {equal : Bool} → order ≡ at p → left ≡ goes_left equals order → equal ≡ is_eq order
+            → {next : Option Place} → next ≡ child_on (side_of left) (n (v.entry p)) → {more : ℕ} → more ≡ count + 1 → Sent v root at equals tree next (passed d p left equal) start more
+        past true there goes equal_is next_is more_is =
+            let o = opened n Left x.fs x.t x.stands (sym x.here_is ∙ is) in
+            record {
+              fs = frame Left o.c p o.b ∷ x.fs;
+              t = o.a;
+              stands = o.down;
+              same = sym (ap (plug x.fs) o.is) ∙ x.same;
+              here_is = next_is ∙ o.near;
+              sends = (ap side_of (goes ∙ ap (goes_left equals) there), x.sends);
+              parent_is = refl;
+              side_is = refl;
+              front_is = x.front_is;
+              back_is = refl;
+              equal_is = equal_is ∙ ap is_eq there;
+              counted = omega (arith, more_is, x.counted);
+            }
+        past false there goes equal_is next_is more_is =
+            let o = opened n Right x.fs x.t x.stands (sym x.here_is ∙ is) in
+            record {
+              fs = frame Right o.c p o.b ∷ x.fs;
+              t = o.a;
+              stands = o.down;
+              same = sym (ap (plug x.fs) o.is) ∙ x.same;
+              here_is = next_is ∙ o.near;
+              sends = (ap side_of (goes ∙ ap (goes_left equals) there), x.sends);
+              parent_is = refl;
+              side_is = refl;
+              front_is = sym (nearest_frame Left o.c p o.b x.fs);
+              back_is = x.back_is;
+              equal_is = x.equal_is;
+              counted = omega (arith, more_is, x.counted);
+            }
+
+        -- ONE STEP DOWN, to the side that the comparison tells
+        pub sent_on : {d' : Descent} (left : Bool) {equal : Bool} → d' ≡ passed d p left equal → {order : Ordering} → order ≡ at p → left ≡ goes_left equals order → equal ≡ is_eq order
+            → {next : Option Place} → next ≡ child_on (side_of left) (n (v.entry p)) → {more : ℕ} → more ≡ count + 1 → Sent v root at equals tree next d' start more
+        sent_on left is_passed there goes equal_is {next} next_is {more} more_is =
+            subst (λ z. Sent v root at equals tree next z start more) (sym is_passed) (past left there goes equal_is next_is more_is)
+
+      -- THE END
+      module _ (none : here ≡ None) where
+        bare : x.t ≡ leaf
+        bare = top_leaf x.t (sym x.here_is ∙ none)
+
+        gap_is : gap_in (λ p. goes_left equals (at p)) tree ≡ record { front = before x.fs; back = after x.fs }
+        gap_is =
+            sym (ap (gap_in (λ p. goes_left equals (at p))) x.same)
+            ∙ gap_plug (λ p. goes_left equals (at p)) x.fs x.t x.sends
+            ∙ ap (λ t. gap_around x.fs (gap_in (λ p. goes_left equals (at p)) t)) bare
+            ∙ (λ k. record { front = append-nil (before x.fs) k; back = after x.fs })
+
+        hole_is : IsHole n v d.parent d.side (record { front = before x.fs; back = after x.fs })
+        hole_is = subst (λ o. IsHole n v o d.side (record { front = before x.fs; back = after x.fs })) (sym x.parent_is) (by x.fs x.stands x.side_is) where
+          by : (fs : List Frame) → Stands n v v root fs x.t [] → IsOn d.side fs → IsHole n v (above fs) d.side (record { front = before fs; back = after fs })
+          by [] h on = (refl, refl)
+          by (frame k c q b ∷ fs) h on =
+              subst (λ z. IsHole n v (Some q) z (record { front = before (frame k c q b ∷ fs); back = after (frame k c q b ∷ fs) })) (sym on)
+              (side_near n v.entry k q c (top x.t) (top b) (above fs) h.are.0.0.0 ∙ sym x.here_is ∙ none, beside k c q b fs)
+            where
+              beside : (k : Side) (c : Color) (q : Place) (b : Tree) (fs : List Frame) → IsBeside k (record { front = before (frame k c q b ∷ fs); back = after (frame k c q b ∷ fs) }) (Some q)
+              beside Left c q b fs = refl
+              beside Right c q b fs = sym (nearest_frame Left c q b fs)
+
+        pub sent_ends : EndsAt n v at equals tree d
+        sent_ends = record {
+          hole = subst (IsHole n v d.parent d.side) (sym gap_is) hole_is;
+          front_is = x.front_is ∙ sym (ap (λ (g : Cut). last g.front) gap_is);
+          back_is = x.back_is ∙ sym (ap (λ (g : Cut). first g.back) gap_is);
+          equal_is = x.equal_is;
+        }
+
+      -- as many looks as members on the way
+      pub sent_few : {s : List Place} (h : Shows n v root s) → h.tree ≡ tree → 2 ^ length x.fs ≤ (length s + 1) ^ 2
+      sent_few {s} h same =
+          subst (λ z. 2 ^ length x.fs ≤ (length z + 1) ^ 2) (ap in_order (x.same ∙ sym same) ∙ h.held.order)
+          (looks_few x.fs x.t (length x.fs) (subst IsRight (sym (x.same ∙ sym same)) h.shape) (omega arith))
+
+-- THE ANSWERS of searches, by where a descent ends
+equal_kept : (at : Place → Ordering) (o : Option Place) (x : Bool) → x ≡ equal_there at o → (result : Option Place) → result ≡ cond x o None → result ≡ if_passes (equal_at at) o
+equal_kept at None true e result is = is
+equal_kept at None false e result is = is
+equal_kept at (Some p) x e result is = is ∙ ap (λ y. cond y (Some p) None) e
+
+not_ge : (o : Ordering) → is_lt o ≡ not (is_ge o)
+not_ge Less = refl
+not_ge Equal = refl
+not_ge Greater = refl
+
+not_gt : (o : Ordering) → is_le o ≡ not (is_gt o)
+not_gt Less = refl
+not_gt Equal = refl
+not_gt Greater = refl
+
+module _ {E : Type 0} (n : E → Node) where
+  -- whatever word there is for the root
+  pub ends_at_root : {v : Table E} {root other : Option Place} {at : Place → Ordering} {equals : Side} {d : Descent} → other ≡ root
+      → ((s : List Place) (h : Shows n v other s) → EndsAt n v at equals h.tree d) → {s : List Place} (h : Shows n v root s) → EndsAt n v at equals h.tree d
+  ends_at_root is ends {s} h = ends s (record { tree = h.tree; held = h.held; starts = is ∙ h.starts; shape = h.shape })
+
+  module _ {v : Table E} {root : Option Place} {s : List Place} (h : Shows n v root s) where
+    module _ {at : Place → Ordering} {d : Descent} where
+      pub finds : EndsAt n v at Left h.tree d → {result : Option Place} → result ≡ cond d.equal d.back None → Finds at s result
+      finds x {result} is = record {
+        gap = gap_in (at_most_at at) h.tree;
+        same = gap_join (at_most_at at) h.tree ∙ h.held.order;
+        border = gap_border (at_most_at at) h.tree;
+        answer = equal_kept at d.back d.equal x.equal_is result is ∙ ap (if_passes (equal_at at)) x.back_is;
+      }
+
+      -- the member in front of the gap, as an upper bound has it
+      pub beyond_included : EndsAt n v at Right h.tree d → {result : Option Place} → result ≡ d.front → result ≡ last (gap_in (is_beyond (Included at)) h.tree).front
+      beyond_included x is = is ∙ x.front_is ∙ ap (λ (g : Cut). last g.front) (gap_same (λ p. is_lt (at p)) (is_beyond (Included at)) (λ p. not_ge (at p)) h.tree)
+
+      pub beyond_excluded : EndsAt n v at Left h.tree d → {result : Option Place} → result ≡ d.front → result ≡ last (gap_in (is_beyond (Excluded at)) h.tree).front
+      beyond_excluded x is = is ∙ x.front_is ∙ ap (λ (g : Cut). last g.front) (gap_same (λ p. is_le (at p)) (is_beyond (Excluded at)) (λ p. not_gt (at p)) h.tree)
+
+    -- without a bound the gap is at the end
+    pub lower_unbounded : {result : Option Place} → result ≡ first s → result ≡ first (gap_in (meets_lower Unbounded) h.tree).back
+    lower_unbounded is = is ∙ ap first (sym h.held.order) ∙ sym (ap (λ (g : Cut). first g.back) (gap_all h.tree))
+
+    pub upper_unbounded : {result : Option Place} → result ≡ last s → result ≡ last (gap_in (is_beyond Unbounded) h.tree).front
+    upper_unbounded is = is ∙ ap last (sym h.held.order) ∙ sym (ap (λ (g : Cut). last g.front) (gap_none h.tree))
+
+-- A POSITION STANDS that a search answers
+module _ {L E H : Type 0} {Shows : Table E → H → List Place → Type 0} {table : L → Table E} {site : Site L H} {s : List Place} (shown : ShowsAt Shows table site s) {o : Option Place} (is : site.position ≡ o) where
+  pub found_stands : {at : Place → Ordering} → Finds at s o → PositionStands Shows table site
+  found_stands {at} f = by (first f.gap.back) refl where
+    by : (k : Option Place) → first f.gap.back ≡ k → PositionStands Shows table site
+    by None e = stands_null s shown (is ∙ f.answer ∙ ap (if_passes (equal_at at)) e)
+    by (Some p) e = pick (equal_at at p) refl where
+      pick : (x : Bool) → equal_at at p ≡ x → PositionStands Shows table site
+      pick true y = stands_by_gap f.gap (rw f.same shown) (is ∙ f.answer ∙ ap (if_passes (equal_at at)) e ∙ ap (λ z. cond z (Some p) None) y ∙ sym e)
+      pick false y = stands_null s shown (is ∙ f.answer ∙ ap (if_passes (equal_at at)) e ∙ ap (λ z. cond z (Some p) None) y)
+
+  pub lower_stands : {meets : Place → Bool} → IsLowerBorder meets s o → PositionStands Shows table site
+  lower_stands b = stands_by_gap b.gap (rw b.same shown) (is ∙ b.before)
+
+  pub upper_stands : {meets : Place → Bool} → IsUpperBorder meets s o → PositionStands Shows table site
+  upper_stands b = record { gap = b.gap; shown = rw b.same shown; after = is ∙ b.after }

@@ -1,0 +1,76 @@
+use Rattle.std.proofs.Common.{refl, sym, ap, ◌∙◌, arith, length}
+use Rattle.ic_link_ops.specs.RedBlackTree.{node_at}
+use Rattle.ic_link_ops.specs.Frames.{child_on}
+use Rattle.ic_rbtree.specs.Comparing.{compared}
+use Rattle.ic_rbtree.specs.Descents.{side_of}
+use Rattle.ic_rbtree.proofs.Sending.{sent_first, sent_linked, sent_room, sent_placed, sent_on, sent_ends, sent_few}
+use Rattle.ic_rbtree.proofs.descent.descend.Goals as goal
+
+pub loop-at-init : goal.loop-at-init
+loop-at-init g c = record {
+  each = λ s h. sent_first g.L.RBTreeOps.node c.new-descent.ensures (g.P.Probe.count c.args.probe.now) h;
+  same = refl;
+}
+
+pub compare_at-order-requires-clause-placed : goal.compare_at-order-requires-clause-placed
+compare_at-order-requires-clause-placed g c =
+    let r = c.requires.placed in
+    sent_placed g.L.RBTreeOps.node (c.loop-at.invariant.each r.members r.shown) c.in-Some.is c.args.objects.now r.shown refl r.placed
+
+pub compare_at-order-requires-clause-room : goal.compare_at-order-requires-clause-room
+compare_at-order-requires-clause-room g c =
+    let r = c.requires.placed in
+    sent_room g.L.RBTreeOps.node (c.loop-at.invariant.each r.members r.shown) c.in-Some.is r.shown refl c.requires.room
+
+pub left-at-requires : goal.left-at-requires
+left-at-requires g c =
+    let r = c.requires.placed in
+    record { linked = sym (g.met.L.RBTreeOps.linked_alike _) ∙ sent_linked g.L.RBTreeOps.node (c.loop-at.invariant.each r.members r.shown) c.in-Some.is }
+
+pub right-at-requires : goal.right-at-requires
+right-at-requires g c =
+    let r = c.requires.placed in
+    record { linked = sym (g.met.L.RBTreeOps.linked_alike _) ∙ sent_linked g.L.RBTreeOps.node (c.loop-at.invariant.each r.members r.shown) c.in-Some.is }
+
+pub loop-at-smaller-then-left : goal.loop-at-smaller-then-left
+loop-at-smaller-then-left g c =
+    let r = c.requires.placed in
+    let room = sent_room g.L.RBTreeOps.node (c.loop-at.invariant.each r.members r.shown) c.in-Some.is r.shown refl c.requires.room in
+    omega (arith, room, c.compare_at-order.ensures.counted)
+
+pub loop-at-smaller : goal.loop-at-smaller
+loop-at-smaller g c =
+    let r = c.requires.placed in
+    let room = sent_room g.L.RBTreeOps.node (c.loop-at.invariant.each r.members r.shown) c.in-Some.is r.shown refl c.requires.room in
+    omega (arith, room, c.compare_at-order.ensures.counted)
+
+pub loop-at-preserved-then-left : goal.loop-at-preserved-then-left
+loop-at-preserved-then-left g c = record {
+  each = λ s h.
+      sent_on g.L.RBTreeOps.node (c.loop-at.invariant.each s h) c.in-Some.is c.goes_left-left.result c.pass.ensures
+      (c.compare_at-order.ensures.answer ∙ ap (λ o. compared o c.args.objects.now c.in-Some.place) c.loop-at.invariant.same) c.goes_left-left.ensures c.is_eq.ensures
+      (c.left-at.ensures ∙ ap (λ left. child_on (side_of left) (node_at g.L.RBTreeOps.node (g.L.LinkOps.table c.args.links.now) c.in-Some.place)) (sym c.if-left.true)) c.compare_at-order.ensures.counted;
+  same = c.compare_at-order.ensures.same ∙ c.loop-at.invariant.same;
+}
+
+pub loop-at-preserved : goal.loop-at-preserved
+loop-at-preserved g c = record {
+  each = λ s h.
+      sent_on g.L.RBTreeOps.node (c.loop-at.invariant.each s h) c.in-Some.is c.goes_left-left.result c.pass.ensures
+      (c.compare_at-order.ensures.answer ∙ ap (λ o. compared o c.args.objects.now c.in-Some.place) c.loop-at.invariant.same) c.goes_left-left.ensures c.is_eq.ensures
+      (c.right-at.ensures ∙ ap (λ left. child_on (side_of left) (node_at g.L.RBTreeOps.node (g.L.LinkOps.table c.args.links.now) c.in-Some.place)) (sym c.if-left.false)) c.compare_at-order.ensures.counted;
+  same = c.compare_at-order.ensures.same ∙ c.loop-at.invariant.same;
+}
+
+pub returns-clause-ends : goal.returns-clause-ends
+returns-clause-ends g c s h = sent_ends g.L.RBTreeOps.node (c.loop-at.invariant.each s h) c.in_default.is
+
+pub returns-clause-looks : goal.returns-clause-looks
+returns-clause-looks g c s h =
+    let x = c.loop-at.invariant.each s h in
+    record {
+      looks = length x.fs;
+      counted = x.counted;
+      few = sent_few g.L.RBTreeOps.node x h refl;
+      order_is = c.loop-at.invariant.same;
+    }

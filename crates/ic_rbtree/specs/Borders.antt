@@ -1,0 +1,66 @@
+-- Where a key stands in a sequence of members.
+use Rattle.std.specs.Prelude.{◌≡◌, ◌≢◌, Bool, true, false, not, cond, Option, Some, None, List, [], ◌∷◌, ◌++◌}
+use Rattle.std.specs.List.{AllByRecursion}
+use Rattle.std.specs.declared.cmp.Ordering.{Ordering}
+use Rattle.std.specs.declared.cmp.Ordering.TheVariants.{Less, Equal, Greater}
+use Rattle.std.specs.Ordering.{is_eq, is_lt, is_le}
+use Rattle.ic_unsafe_ref.specs.declared.place.Place.{Place}
+use Rattle.ic_link_ops.specs.Sequences.{Cut, join, first, last, IsAfter, IsBefore}
+
+-- A BORDER of a test: the member in front of the gap, if there is one, fails it, and the one behind the gap, if there is one, passes it
+pub record IsBorder (test : Place → Bool) (gap : Cut) : Type 0 where
+  pub fails : (q : Place) → last gap.front ≡ Some q → test q ≡ false
+  pub passes : (q : Place) → first gap.back ≡ Some q → test q ≡ true
+
+-- A LOWER BORDER: a member that meets the bound, and whose predecessor, if any, doesn't; or null, and the last member, if any, doesn't meet it
+pub record IsLowerBorder (meets : Place → Bool) (s : List Place) (position : Option Place) : Type 0 where
+  pub gap : Cut
+  pub same : join gap ≡ s
+  pub before : IsBefore gap position
+  pub border : IsBorder meets gap
+
+-- AN UPPER BORDER, mirrored: a member that meets the bound, and whose successor, if any, doesn't; or null, and the first, if any, doesn't
+pub record IsUpperBorder (meets : Place → Bool) (s : List Place) (position : Option Place) : Type 0 where
+  pub gap : Cut
+  pub same : join gap ≡ s
+  pub after : IsAfter gap position
+  pub border : IsBorder (λ p. not (meets p)) gap
+
+-- the place, if it passes the test
+abbrev pub if_passes : (Place → Bool) → Option Place → Option Place
+if_passes test None = None
+if_passes test (Some p) = cond (test p) (Some p) None
+
+-- `at`: how what is searched stands to each member
+module _ (at : Place → Ordering) where
+  abbrev pub equal_at : Place → Bool
+  equal_at p = is_eq (at p)
+
+  abbrev pub at_most_at : Place → Bool
+  at_most_at p = is_le (at p)
+
+  abbrev pub less_at : Place → Bool
+  less_at p = is_lt (at p)
+
+  -- FOUND: a gap with no member right in front that is not less than what is searched, and the member behind it, if that is equal
+  pub record Finds (s : List Place) (position : Option Place) : Type 0 where
+    pub gap : Cut
+    pub same : join gap ≡ s
+    pub border : IsBorder at_most_at gap
+    pub answer : position ≡ if_passes equal_at (first gap.back)
+
+  -- SORTED FOR WHAT IS SEARCHED: along s it is first greater than the members, then equal, then less
+  pub record IsSortedFor (s : List Place) : Type 0 where
+    pub smaller : List Place
+    pub equal : List Place
+    pub larger : List Place
+    pub same : smaller ++ (equal ++ larger) ≡ s
+    pub is_greater : AllByRecursion (λ p. at p ≡ Greater) smaller
+    pub is_equal : AllByRecursion (λ p. at p ≡ Equal) equal
+    pub is_less : AllByRecursion (λ p. at p ≡ Less) larger
+
+-- SORTED: the keys of neighbours never fall
+abbrev pub IsSorted : {K : Type 0} → (K → K → Ordering) → List K → Type 0
+IsSorted cmp [] = Unit {0}
+IsSorted cmp (k ∷ []) = Unit {0}
+IsSorted cmp (k ∷ l ∷ keys) = (cmp k l ≢ Greater) × IsSorted cmp (l ∷ keys)

@@ -1,0 +1,59 @@
+-- A descent from the root, which a test sends to one side at each member.
+use Rattle.std.specs.Prelude.{◌≡◌, Bool, true, false, cond, Option, Some, None, List, [], ◌∷◌, ◌++◌}
+use Rattle.ic_unsafe_ref.specs.declared.place.Place.{Place}
+use Rattle.ic_link_ops.specs.declared.side.Side.{Side}
+use Rattle.ic_link_ops.specs.declared.side.Side.TheVariants.{Left, Right}
+use Rattle.ic_link_ops.specs.Sequences.{Cut, first, last}
+use Rattle.ic_link_ops.specs.Trees.{Tree, leaf, fork, in_order}
+use Rattle.ic_link_ops.specs.Frames.{Frame, frame}
+use Rattle.ic_link_ops.specs.Tables.{Table}
+use Rattle.ic_link_ops.specs.RedBlackTree.{Node}
+use Rattle.std.specs.declared.cmp.Ordering.{Ordering}
+use Rattle.ic_rbtree.specs.Comparing.{goes_left}
+use Rattle.ic_rbtree.specs.Borders.{equal_at}
+use Rattle.ic_rbtree.specs.Insertion.{IsHole}
+use Rattle.ic_rbtree.specs.declared.descent.Descent.{Descent}
+
+-- left of a member that passes the test, and right of one that fails it
+abbrev pub side_of : Bool → Side
+side_of true = Left
+side_of false = Right
+
+-- a gap of the left subtree of p, seen from p, and one of its right subtree
+abbrev pub left_of : Cut → Place → Tree → Cut
+left_of gap p b = record { front = gap.front; back = gap.back ++ p ∷ in_order b }
+
+abbrev pub right_of : Tree → Place → Cut → Cut
+right_of a p gap = record { front = in_order a ++ p ∷ gap.front; back = gap.back }
+
+-- THE GAP to which a test sends from the root: at each member to the left if it passes, and else to the right
+abbrev pub gap_in : (Place → Bool) → Tree → Cut
+gap_in test leaf = record { front = []; back = [] }
+gap_in test (fork c a p b) = cond (test p) (left_of (gap_in test a) p b) (right_of a p (gap_in test b))
+
+-- the test sends down past all these frames
+abbrev pub SendsPast : (Place → Bool) → List Frame → Type 0
+SendsPast test [] = Unit {0}
+SendsPast test (frame d c p b ∷ fs) = (d ≡ side_of (test p)) × SendsPast test fs
+
+-- at the root, before any member
+abbrev pub at_root : Descent
+at_root = record { parent = None; side = Left; front = None; back = None; equal = false }
+
+-- past one more member, to one side of it
+abbrev pub passed : Descent → Place → Bool → Bool → Descent
+passed old p true equal = record { parent = Some p; side = Left; front = old.front; back = Some p; equal = equal }
+passed old p false equal = record { parent = Some p; side = Right; front = Some p; back = old.back; equal = old.equal }
+
+-- whether there is a place, and it compares equal
+abbrev pub equal_there : (Place → Ordering) → Option Place → Bool
+equal_there at None = false
+equal_there at (Some p) = equal_at at p
+
+module _ {E : Type 0} (n : E → Node) where
+  -- THE DESCENT ENDS in the gap to which the comparisons send: `equals` is the side to which they send at an equal member
+  pub record EndsAt (t : Table E) (at : Place → Ordering) (equals : Side) (tree : Tree) (d : Descent) : Type 0 where
+    pub hole : IsHole n t d.parent d.side (gap_in (λ p. goes_left equals (at p)) tree)
+    pub front_is : d.front ≡ last (gap_in (λ p. goes_left equals (at p)) tree).front
+    pub back_is : d.back ≡ first (gap_in (λ p. goes_left equals (at p)) tree).back
+    pub equal_is : d.equal ≡ equal_there at d.back

@@ -1,0 +1,16 @@
+-- What clauses see of a search for a key.
+use Rattle.std.specs.Prelude.{ℕ}
+use Rattle.ic_rbtree.specs.declared.probe.KeyProbe.{KeyProbe}
+
+module _ {A V K : Type 0} where
+  -- the adapter by which it finds keys
+  abbrev pub adapter_of : KeyProbe A V K → A
+  adapter_of p = p.adapter
+
+  -- the key that is searched
+  abbrev pub key_of_probe : KeyProbe A V K → K
+  key_of_probe p = p.key.now
+
+  -- how many looks it has made
+  abbrev pub looks_of : KeyProbe A V K → ℕ
+  looks_of p = p.looks

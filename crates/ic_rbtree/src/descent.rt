@@ -1,0 +1,120 @@
+//! The way from the root to where a key belongs, by one look a member.
+
+ghost use Rattle.std.specs.Prelude.{◌≡◌, ◌+◌, ◌<◌, true, List};
+ghost use Rattle.std.specs.declared.cmp.Ordering.{Ordering};
+ghost use Rattle.ic_unsafe_ref.specs.declared.place.Place.{Place};
+ghost use Rattle.ic_unsafe_ref.specs.Objects.{is_placed};
+ghost use Rattle.ic_link_ops.specs.RedBlackTree.{Shows};
+ghost use Rattle.ic_link_ops.specs.PlacedObjects.{ShowsPlaced};
+ghost use Rattle.ic_rbtree.specs.Comparing.{compared, goes_left, HasRoom, Looks};
+ghost use Rattle.ic_rbtree.specs.Descents.{at_root, passed, EndsAt};
+
+use crate::Probe;
+use ic_link_ops::rbtree::RBTreeOps;
+use ic_link_ops::{End, Side};
+use ic_unsafe_ref::{Objects, Place};
+use std::alloc::Allocator;
+use std::cmp::Ordering;
+
+// Where a descent has come to: below `parent`, on a side of it, between two members. `equal` says whether the one behind
+// compared equal.
+#[derive(Drop)]
+pub(crate) struct Descent {
+    pub(crate) parent: End,
+    pub(crate) side: Side,
+    pub(crate) front: End,
+    pub(crate) back: End,
+    pub(crate) equal: bool,
+}
+
+// Whether a descent goes left at a member that answers so, where it turns to the side `equals` at an equal one.
+#[inline]
+fn goes_left(order: Ordering, equals: Side) -> bool
+    ensures { result ≡ goes_left equals order }
+{
+    match equals {
+        Side::Left => order.is_le(),
+        Side::Right => order.is_lt(),
+    }
+}
+
+// How what is searched stands to the object of a member.
+#[inline]
+fn compare_at<V, P: Probe<V>, B: Allocator>(
+    objects: &Objects<V, B>,
+    probe: &mut P,
+    place: Place,
+) -> Ordering
+    requires placed { is_placed objects.now place ≡ true }
+    requires room { P.count probe.old < 18446744073709551615 }
+    ensures answer { result ≡ compared (P.order probe.old) objects.now place }
+    ensures counted { P.count probe.new ≡ P.count probe.old + 1 }
+    ensures same { P.order probe.new ≡ P.order probe.old }
+{
+    probe.compare(objects.get(place).unwrap())
+}
+
+impl Descent {
+    // At the root.
+    #[inline]
+    fn new() -> Descent
+        ensures { result ≡ at_root }
+    {
+        Descent {
+            parent: End::of(None),
+            side: Side::Left,
+            front: End::of(None),
+            back: End::of(None),
+            equal: false,
+        }
+    }
+
+    // Goes past the member to one side of it.
+    #[inline]
+    fn pass(&mut self, place: Place, left: bool, equal: bool)
+        ensures { self.new ≡ passed self.old place left equal }
+    {
+        self.parent = End::of(Some(place));
+        if left {
+            self.side = Side::Left;
+            self.back = End::of(Some(place));
+            self.equal = equal;
+        } else {
+            self.side = Side::Right;
+            self.front = End::of(Some(place));
+        }
+    }
+}
+
+// Goes down from the root to a gap: left of the members that are greater than what is searched, right of those that are
+// less, and past equal ones to the side `equals`.
+#[inline]
+pub(crate) fn descend<L: RBTreeOps, V, P: Probe<V>, B: Allocator>(
+    links: &L,
+    root: Option<Place>,
+    objects: &Objects<V, B>,
+    probe: &mut P,
+    equals: Side,
+) -> Descent
+    requires placed { ShowsPlaced (Shows L.node (L.table links.now) root) objects.now }
+    requires room { HasRoom (P.count probe.old) }
+    ensures ends { (s : List Place) (h : Shows L.node (L.table links.now) root s)
+        → EndsAt L.node (L.table links.now) (compared (P.order probe.old) objects.now) equals h.tree result }
+    ensures looks { (s : List Place) → Shows L.node (L.table links.now) root s
+        → Looks P.order P.count probe.old probe.new s }
+{
+    let mut descent = Descent::new();
+    let mut at = root;
+    while let Some(place) = at {
+        let order = compare_at(objects, probe, place);
+        let left = goes_left(order, equals);
+        descent.pass(place, left, order.is_eq());
+        // each way reads its own child: a choice between two reads would cost more
+        at = if left {
+            links.left(place)
+        } else {
+            links.right(place)
+        };
+    }
+    descent
+}

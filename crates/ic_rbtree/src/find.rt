@@ -1,0 +1,118 @@
+//! The first member with a key.
+//!
+//! ```text
+//! let cursor = tree.find(&links, &objects, &5); // on the first member of key 5, null if there is none
+//! ```
+
+ghost use Rattle.std.specs.Prelude.{◌≡◌, List};
+ghost use Rattle.ic_unsafe_ref.specs.declared.place.Place.{Place};
+ghost use Rattle.ic_link_ops.specs.Positions.{Stands};
+ghost use Rattle.ic_link_ops.specs.RedBlackTree.{Shows};
+ghost use Rattle.ic_link_ops.specs.PlacedObjects.{ShowsPlaced};
+ghost use Rattle.ic_rbtree.specs.Comparing.{compared, order_of, HasRoom, Looks};
+ghost use Rattle.ic_rbtree.specs.Borders.{Finds};
+ghost use Rattle.ic_rbtree.specs.Tree.{root_of, adapter_of};
+
+use crate::{Cursor, CursorMut, CursorOwning, KeyAdapter, KeyProbe, Probe, RBTree};
+use ic_link_ops::rbtree::RBTreeOps;
+use ic_link_ops::{End, LinkOps};
+use ic_unsafe_ref::Objects;
+use std::alloc::Allocator;
+
+impl<A: KeyAdapter> RBTree<A> {
+    ghost use Rattle.ic_rbtree.specs.Cursor.{tree_of, links_of, position, site_of};
+    ghost use Rattle.ic_rbtree.specs.CursorMut as editing;
+    ghost use Rattle.ic_rbtree.specs.CursorOwning as owning;
+
+    /// A cursor on the first member that compares equal, null if there is none.
+    ///
+    /// It asks that all members are placed, and that the probe's count is at most `u64::MAX - 66`. It goes left at a member
+    /// that is greater or equal, and right at one that is less; where the members are not sorted for the probe, it may miss
+    /// equal ones. O(log n): v looks in a tree of n members, where `2^v <= (n + 1)^2`, with one look-up of an object each.
+    #[inline]
+    pub fn find_by<'a, L: RBTreeOps, P: Probe<A::Value>, B: Allocator>(
+        &'a self,
+        links: &'a L,
+        objects: &Objects<A::Value, B>,
+        probe: &mut P,
+    ) -> Cursor<'a, A, L>
+        requires placed { ShowsPlaced (Shows L.node (L.table links.now) (root_of self.now)) objects.now }
+        requires room { HasRoom (P.count probe.old) }
+        ensures tree { tree_of result ≡ self.now }
+        ensures links { links_of result ≡ links.now }
+        ensures found { (s : List Place) → Shows L.node (L.table links.now) (root_of self.now) s
+            → Finds (compared (P.order probe.old) objects.now) s (position result) }
+        ensures stands { Stands (Shows L.node) L.table (site_of result) }
+        ensures looks { (s : List Place) → Shows L.node (L.table links.now) (root_of self.now) s
+            → Looks P.order P.count probe.old probe.new s }
+    {
+        Cursor {
+            tree: self,
+            links,
+            current: End::of(self.first_equal(links, objects, probe)),
+        }
+    }
+
+    /// A cursor on the first member of this key, null if there is none: `find_by` with a `KeyProbe`. O(log n).
+    #[inline]
+    pub fn find<'a, L: RBTreeOps, B: Allocator>(
+        &'a self,
+        links: &'a L,
+        objects: &Objects<A::Value, B>,
+        key: &A::Key,
+    ) -> Cursor<'a, A, L>
+        requires placed { ShowsPlaced (Shows L.node (L.table links.now) (root_of self.now)) objects.now }
+        ensures tree { tree_of result ≡ self.now }
+        ensures links { links_of result ≡ links.now }
+        ensures found { (s : List Place) → Shows L.node (L.table links.now) (root_of self.now) s
+            → Finds (compared (order_of A.Key.cmp (A.key_of (adapter_of self.now)) key.now) objects.now) s (position result) }
+        ensures stands { Stands (Shows L.node) L.table (site_of result) }
+    {
+        self.find_by(links, objects, &mut KeyProbe::new(self.adapter, key))
+    }
+
+    /// A cursor that edits, on the first member of this key, null if there is none. As `find`.
+    #[inline]
+    pub fn find_mut<'a, L: RBTreeOps, B: Allocator>(
+        &'a mut self,
+        links: &'a mut L,
+        objects: &Objects<A::Value, B>,
+        key: &A::Key,
+    ) -> CursorMut<'a, A, L>
+        requires placed { ShowsPlaced (Shows L.node (L.table links.old) (root_of self.old)) objects.now }
+        ensures borrows { editing.IsBorrowed self.entry links.entry result }
+        ensures found { (s : List Place) → Shows L.node (L.table links.old) (root_of self.old) s
+            → Finds (compared (order_of A.Key.cmp (A.key_of (adapter_of self.old)) key.now) objects.now) s
+            (editing.position result) }
+        ensures stands { Stands (Shows L.node) L.table (editing.site_of result) }
+    {
+        let found = self.first_equal(&*links, objects, &mut KeyProbe::new(self.adapter, key));
+        CursorMut {
+            tree: self,
+            links,
+            current: End::of(found),
+        }
+    }
+
+    /// A cursor that keeps the tree, on the first member of this key, null if there is none. As `find`.
+    #[inline]
+    pub fn find_owning<L: RBTreeOps, B: Allocator>(
+        self,
+        links: &L,
+        objects: &Objects<A::Value, B>,
+        key: &A::Key,
+    ) -> CursorOwning<A>
+        requires placed { ShowsPlaced (Shows L.node (L.table links.now) (root_of self)) objects.now }
+        ensures tree { owning.tree_of result ≡ self }
+        ensures found { (s : List Place) → Shows L.node (L.table links.now) (root_of self) s
+            → Finds (compared (order_of A.Key.cmp (A.key_of (adapter_of self)) key.now) objects.now) s
+            (owning.position result) }
+        ensures stands { Stands (Shows L.node) L.table (owning.site_of links.now result) }
+    {
+        let found = self.first_equal(links, objects, &mut KeyProbe::new(self.adapter, key));
+        CursorOwning {
+            tree: self,
+            current: End::of(found),
+        }
+    }
+}

@@ -1,0 +1,82 @@
+//! What a search asks the objects of a tree.
+//!
+//! ```text
+//! let mut probe = KeyProbe::new(ByDeadline, &5);
+//! let cursor = tree.find_by(&links, &objects, &mut probe);
+//! probe.looks() // how many objects it was compared with
+//! ```
+
+ghost use Rattle.std.specs.Prelude.{◌≡◌, ℕ, ◌+◌, ◌<◌};
+ghost use Rattle.std.specs.declared.cmp.Ordering.{Ordering};
+ghost use Rattle.ic_rbtree.specs.Comparing.{order_of};
+ghost use Rattle.ic_rbtree.specs.KeyProbe.{adapter_of, key_of_probe, looks_of};
+
+use crate::KeyAdapter;
+use std::cmp::Ordering;
+
+/// What is searched, and how it compares with a value: for searches by more than a key.
+///
+/// A descent in a tree calls `compare` once a member that it passes. Such a call is a look.
+pub trait Probe<V> {
+    // How what is searched stands to a value: `Less` where it is less.
+    ghost order: { Self → V → Ordering };
+
+    // How many looks it has made.
+    ghost count: { Self → ℕ };
+
+    /// How what is searched stands to `value`: `Less` where it is less.
+    ///
+    /// It asks that the count of looks is below `u64::MAX`. It counts one more, and compares as before.
+    fn compare(&mut self, value: &V) -> Ordering
+        requires room { count self.old < 18446744073709551615 }
+        ensures answer { result ≡ order self.old value.now }
+        ensures counted { count self.new ≡ count self.old + 1 }
+        ensures same { order self.new ≡ order self.old };
+}
+
+/// A search for a key, by the adapter of a tree.
+#[derive(Drop)]
+pub struct KeyProbe<'k, A: KeyAdapter>
+where
+    A::Key: 'k,
+{
+    adapter: A,
+    key: &'k A::Key,
+    looks: u64,
+}
+
+impl<'k, A: KeyAdapter> KeyProbe<'k, A> {
+    /// A search for `key` that has made no look.
+    #[inline]
+    pub fn new(adapter: A, key: &'k A::Key) -> KeyProbe<'k, A>
+        ensures adapter { adapter_of result ≡ adapter }
+        ensures key { key_of_probe result ≡ key.now }
+        ensures none { looks_of result ≡ 0 }
+    {
+        KeyProbe {
+            adapter,
+            key,
+            looks: 0,
+        }
+    }
+
+    /// How many looks it has made: how many objects it was compared with.
+    #[inline]
+    pub fn looks(&self) -> u64
+        ensures { result ≡ looks_of self.now }
+    {
+        self.looks
+    }
+}
+
+impl<A: KeyAdapter> Probe<A::Value> for KeyProbe<'_, A> {
+    ghost order = { λ p. order_of A.Key.cmp (A.key_of (adapter_of p)) (key_of_probe p) };
+
+    ghost count = { looks_of };
+
+    #[inline]
+    fn compare(&mut self, value: &A::Value) -> Ordering {
+        self.looks += 1;
+        self.key.cmp(self.adapter.get_key(value))
+    }
+}

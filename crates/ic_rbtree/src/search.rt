@@ -1,0 +1,95 @@
+//! Members that stand at a border of a search, for all cursors.
+
+ghost use Rattle.std.specs.Prelude.{◌≡◌, List};
+ghost use Rattle.ic_unsafe_ref.specs.declared.place.Place.{Place};
+ghost use Rattle.ic_link_ops.specs.Sequences.{first, last};
+ghost use Rattle.ic_link_ops.specs.RedBlackTree.{Shows};
+ghost use Rattle.ic_link_ops.specs.PlacedObjects.{ShowsPlaced};
+ghost use Rattle.ic_rbtree.specs.Comparing.{compared, compared_within, meets_lower, is_beyond, HasRoom, HasRoomWithin, Looks, LooksWithin};
+ghost use Rattle.ic_rbtree.specs.Borders.{Finds};
+ghost use Rattle.ic_rbtree.specs.Descents.{gap_in};
+ghost use Rattle.ic_rbtree.specs.Tree.{root_of};
+
+use crate::descent::descend;
+use crate::{Bound, KeyAdapter, Probe, RBTree};
+use ic_link_ops::rbtree::RBTreeOps;
+use ic_link_ops::{LinkOps, Side};
+use ic_unsafe_ref::{Objects, Place};
+use std::alloc::Allocator;
+
+impl<A: KeyAdapter> RBTree<A> {
+    // The first member that compares equal.
+    #[inline]
+    pub(crate) fn first_equal<L: RBTreeOps, P: Probe<A::Value>, B: Allocator>(
+        &self,
+        links: &L,
+        objects: &Objects<A::Value, B>,
+        probe: &mut P,
+    ) -> Option<Place>
+        requires placed { ShowsPlaced (Shows L.node (L.table links.now) (root_of self.now)) objects.now }
+        requires room { HasRoom (P.count probe.old) }
+        ensures found { (s : List Place) → Shows L.node (L.table links.now) (root_of self.now) s
+            → Finds (compared (P.order probe.old) objects.now) s result }
+        ensures looks { (s : List Place) → Shows L.node (L.table links.now) (root_of self.now) s
+            → Looks P.order P.count probe.old probe.new s }
+    {
+        let descent = descend(links, self.root.get(), objects, probe, Side::Left);
+        if descent.equal {
+            descent.back.get()
+        } else {
+            None
+        }
+    }
+
+    // The member behind the gap to which the bound sends from below: one that meets it.
+    #[inline]
+    pub(crate) fn lower<L: RBTreeOps, P: Probe<A::Value>, B: Allocator>(
+        &self,
+        links: &L,
+        objects: &Objects<A::Value, B>,
+        bound: &mut Bound<P>,
+    ) -> Option<Place>
+        requires placed { ShowsPlaced (Shows L.node (L.table links.now) (root_of self.now)) objects.now }
+        requires room { HasRoomWithin P.count bound.old }
+        ensures lower { (s : List Place) (h : Shows L.node (L.table links.now) (root_of self.now) s)
+            → result ≡ first (gap_in (meets_lower (compared_within P.order objects.now bound.old)) h.tree).back }
+        ensures looks { (s : List Place) → Shows L.node (L.table links.now) (root_of self.now) s
+            → LooksWithin P.order P.count bound.old bound.new s }
+    {
+        match bound {
+            Bound::Included(probe) => descend(links, self.root.get(), objects, probe, Side::Left)
+                .back
+                .get(),
+            Bound::Excluded(probe) => descend(links, self.root.get(), objects, probe, Side::Right)
+                .back
+                .get(),
+            Bound::Unbounded => self.first(links),
+        }
+    }
+
+    // The member in front of the gap to which the bound sends from above: one that meets it.
+    #[inline]
+    pub(crate) fn upper<L: RBTreeOps, P: Probe<A::Value>, B: Allocator>(
+        &self,
+        links: &L,
+        objects: &Objects<A::Value, B>,
+        bound: &mut Bound<P>,
+    ) -> Option<Place>
+        requires placed { ShowsPlaced (Shows L.node (L.table links.now) (root_of self.now)) objects.now }
+        requires room { HasRoomWithin P.count bound.old }
+        ensures upper { (s : List Place) (h : Shows L.node (L.table links.now) (root_of self.now) s)
+            → result ≡ last (gap_in (is_beyond (compared_within P.order objects.now bound.old)) h.tree).front }
+        ensures looks { (s : List Place) → Shows L.node (L.table links.now) (root_of self.now) s
+            → LooksWithin P.order P.count bound.old bound.new s }
+    {
+        match bound {
+            Bound::Included(probe) => descend(links, self.root.get(), objects, probe, Side::Right)
+                .front
+                .get(),
+            Bound::Excluded(probe) => descend(links, self.root.get(), objects, probe, Side::Left)
+                .front
+                .get(),
+            Bound::Unbounded => self.last(links),
+        }
+    }
+}
