@@ -19,6 +19,7 @@ use Rattle.ic_link_ops.specs.Positions.{Site, ShowsAt, Stands as PositionStands}
 use Rattle.ic_link_ops.proofs.Positions.{stands_by_gap, stands_null}
 use Rattle.ic_link_ops.proofs.SequenceLemmas.{none_not}
 use Rattle.ic_rbtree.specs.declared.descent.Descent.{Descent}
+use Rattle.ic_rbtree.specs.declared.key_adapter.Bound.{Bound}
 use Rattle.ic_rbtree.specs.declared.key_adapter.Bound.TheVariants.{Included, Excluded, Unbounded}
 use Rattle.ic_rbtree.specs.Borders.{equal_at, at_most_at, if_passes, Finds, IsLowerBorder, IsUpperBorder}
 use Rattle.ic_rbtree.specs.Comparing.{goes_left, meets_lower, is_beyond}
@@ -258,6 +259,20 @@ module _ {E : Type 0} (n : E → Node) where
     pub upper_unbounded : {result : Option Place} → result ≡ last s → result ≡ last (gap_in (is_beyond Unbounded) h.tree).front
     upper_unbounded is = is ∙ ap last (sym h.held.order) ∙ sym (ap (λ (g : Cut). last g.front) (gap_none h.tree))
 
+  -- and is a border of the bound
+  pub lower_border : {v : Table E} {root : Option Place} {s : List Place} (h : Shows n v root s) (b : Bound (Place → Ordering)) {result : Option Place} → result ≡ first (gap_in (meets_lower b) h.tree).back → IsLowerBorder b s result
+  lower_border h b is = record { gap = gap_in (meets_lower b) h.tree; same = gap_join (meets_lower b) h.tree ∙ h.held.order; before = is; border = gap_border (meets_lower b) h.tree }
+
+  pub upper_border : {v : Table E} {root : Option Place} {s : List Place} (h : Shows n v root s) (b : Bound (Place → Ordering)) {result : Option Place} → result ≡ last (gap_in (is_beyond b) h.tree).front → IsUpperBorder b s result
+  upper_border h b is = record { gap = gap_in (is_beyond b) h.tree; same = gap_join (is_beyond b) h.tree ∙ h.held.order; after = is; border = gap_border (is_beyond b) h.tree }
+
+-- a border of the same bound, under other words
+pub lower_same : {b other : Bound (Place → Ordering)} {s : List Place} {o k : Option Place} → b ≡ other → k ≡ o → IsLowerBorder b s o → IsLowerBorder other s k
+lower_same {b} {other} {s} {o} {k} same is x = subst (λ z. IsLowerBorder z s k) same (record { gap = x.gap; same = x.same; before = is ∙ x.before; border = x.border })
+
+pub upper_same : {b other : Bound (Place → Ordering)} {s : List Place} {o k : Option Place} → b ≡ other → k ≡ o → IsUpperBorder b s o → IsUpperBorder other s k
+upper_same {b} {other} {s} {o} {k} same is x = subst (λ z. IsUpperBorder z s k) same (record { gap = x.gap; same = x.same; after = is ∙ x.after; border = x.border })
+
 -- A POSITION STANDS that a search answers
 module _ {L E H : Type 0} {Shows : Table E → H → List Place → Type 0} {table : L → Table E} {site : Site L H} {s : List Place} (shown : ShowsAt Shows table site s) {o : Option Place} (is : site.position ≡ o) where
   pub found_stands : {at : Place → Ordering} → Finds at s o → PositionStands Shows table site
@@ -269,8 +284,8 @@ module _ {L E H : Type 0} {Shows : Table E → H → List Place → Type 0} {tab
       pick true y = stands_by_gap f.gap (rw f.same shown) (is ∙ f.answer ∙ ap (if_passes (equal_at at)) e ∙ ap (λ z. cond z (Some p) None) y ∙ sym e)
       pick false y = stands_null s shown (is ∙ f.answer ∙ ap (if_passes (equal_at at)) e ∙ ap (λ z. cond z (Some p) None) y)
 
-  pub lower_stands : {meets : Place → Bool} → IsLowerBorder meets s o → PositionStands Shows table site
+  pub lower_stands : {b : Bound (Place → Ordering)} → IsLowerBorder b s o → PositionStands Shows table site
   lower_stands b = stands_by_gap b.gap (rw b.same shown) (is ∙ b.before)
 
-  pub upper_stands : {meets : Place → Bool} → IsUpperBorder meets s o → PositionStands Shows table site
+  pub upper_stands : {b : Bound (Place → Ordering)} → IsUpperBorder b s o → PositionStands Shows table site
   upper_stands b = record { gap = b.gap; shown = rw b.same shown; after = is ∙ b.after }

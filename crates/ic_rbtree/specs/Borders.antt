@@ -1,10 +1,12 @@
 -- Where a key stands in a sequence of members.
-use Rattle.std.specs.Prelude.{◌≡◌, ◌≢◌, Bool, true, false, not, cond, Option, Some, None, List, [], ◌∷◌, ◌++◌}
+use Rattle.std.specs.Prelude.{◌≡◌, ◌≢◌, Bool, true, false, cond, Option, Some, None, List, [], ◌∷◌, ◌++◌}
 use Rattle.std.specs.List.{AllByRecursion}
 use Rattle.std.specs.declared.cmp.Ordering.{Ordering}
 use Rattle.std.specs.declared.cmp.Ordering.TheVariants.{Less, Equal, Greater}
 use Rattle.std.specs.Ordering.{is_eq, is_lt, is_le}
 use Rattle.ic_unsafe_ref.specs.declared.place.Place.{Place}
+use Rattle.ic_rbtree.specs.declared.key_adapter.Bound.{Bound}
+use Rattle.ic_rbtree.specs.Comparing.{meets_lower, is_beyond}
 use Rattle.ic_link_ops.specs.Sequences.{Cut, join, first, last, IsAfter, IsBefore}
 
 -- A BORDER of a test: the member in front of the gap, if there is one, fails it, and the one behind the gap, if there is one, passes it
@@ -12,19 +14,19 @@ pub record IsBorder (test : Place → Bool) (gap : Cut) : Type 0 where
   pub fails : (q : Place) → last gap.front ≡ Some q → test q ≡ false
   pub passes : (q : Place) → first gap.back ≡ Some q → test q ≡ true
 
--- A LOWER BORDER: a member that meets the bound, and whose predecessor, if any, doesn't; or null, and the last member, if any, doesn't meet it
-pub record IsLowerBorder (meets : Place → Bool) (s : List Place) (position : Option Place) : Type 0 where
+-- A LOWER BORDER of a bound: a member that meets it, and whose predecessor, if any, doesn't; or null, and the last member, if any, doesn't
+pub record IsLowerBorder (bound : Bound (Place → Ordering)) (s : List Place) (position : Option Place) : Type 0 where
   pub gap : Cut
   pub same : join gap ≡ s
   pub before : IsBefore gap position
-  pub border : IsBorder meets gap
+  pub border : IsBorder (meets_lower bound) gap
 
--- AN UPPER BORDER, mirrored: a member that meets the bound, and whose successor, if any, doesn't; or null, and the first, if any, doesn't
-pub record IsUpperBorder (meets : Place → Bool) (s : List Place) (position : Option Place) : Type 0 where
+-- AN UPPER BORDER: a member that meets it, and whose successor, if any, doesn't; or null, and the first member, if any, doesn't
+pub record IsUpperBorder (bound : Bound (Place → Ordering)) (s : List Place) (position : Option Place) : Type 0 where
   pub gap : Cut
   pub same : join gap ≡ s
   pub after : IsAfter gap position
-  pub border : IsBorder (λ p. not (meets p)) gap
+  pub border : IsBorder (is_beyond bound) gap
 
 -- the place, if it passes the test
 abbrev pub if_passes : (Place → Bool) → Option Place → Option Place

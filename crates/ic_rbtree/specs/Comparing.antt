@@ -3,6 +3,7 @@ use Rattle.std.specs.Prelude.{◌≡◌, ℕ, ◌+◌, ◌^◌, ◌≤◌, Bool,
 use Rattle.std.specs.declared.cmp.Ordering.{Ordering}
 use Rattle.std.specs.declared.cmp.Ordering.TheVariants.{Less}
 use Rattle.std.specs.Ordering.{is_lt, is_le, is_gt, is_ge}
+use Rattle.std.specs.Borrow.{Bor}
 use Rattle.ic_unsafe_ref.specs.declared.place.Place.{Place}
 use Rattle.ic_unsafe_ref.specs.Objects.{Objects, object_at}
 use Rattle.ic_link_ops.specs.declared.side.Side.{Side}
@@ -22,6 +23,10 @@ compared order objects p = answer_at order (object_at objects p)
 -- the order of a key: how it stands to the key of each value
 abbrev pub order_of : {V K : Type 0} → (K → K → Ordering) → (V → K) → K → V → Ordering
 order_of cmp key_of key value = cmp key (key_of value)
+
+-- the same of a key behind a reference
+abbrev pub order_there : {V K : Type 0} → (K → K → Ordering) → (V → K) → Bor K → V → Ordering
+order_there cmp key_of key = order_of cmp key_of key.now
 
 -- the same bound, of what is made of its end
 abbrev pub bound_map : {T U : Type 0} → (T → U) → Bound T → Bound U

@@ -1,5 +1,7 @@
 -- What clauses see of a search for a key.
-use Rattle.std.specs.Prelude.{ℕ}
+use Rattle.std.specs.Prelude.{◌≡◌, ℕ}
+use Rattle.ic_rbtree.specs.declared.key_adapter.Bound.{Bound}
+use Rattle.ic_rbtree.specs.declared.key_adapter.Bound.TheVariants.{Included, Excluded, Unbounded}
 use Rattle.ic_rbtree.specs.declared.probe.KeyProbe.{KeyProbe}
 
 module _ {A V K : Type 0} where
@@ -14,3 +16,9 @@ module _ {A V K : Type 0} where
   -- how many looks it has made
   abbrev pub looks_of : KeyProbe A V K → ℕ
   looks_of p = p.looks
+
+  -- a search within the bound has this adapter
+  abbrev pub HasAdapter : A → Bound (KeyProbe A V K) → Type 0
+  HasAdapter adapter (Included p) = adapter_of p ≡ adapter
+  HasAdapter adapter (Excluded p) = adapter_of p ≡ adapter
+  HasAdapter adapter Unbounded = Unit {0}

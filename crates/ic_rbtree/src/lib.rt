@@ -9,6 +9,7 @@
 //! ```
 #![tactic(auto)]
 
+mod bounds;
 mod contains;
 mod cursor;
 mod cursor_mut;

@@ -8,10 +8,11 @@
 
 ghost use Rattle.std.specs.Prelude.{◌≡◌, ℕ, ◌+◌, ◌<◌};
 ghost use Rattle.std.specs.declared.cmp.Ordering.{Ordering};
-ghost use Rattle.ic_rbtree.specs.Comparing.{order_of};
-ghost use Rattle.ic_rbtree.specs.KeyProbe.{adapter_of, key_of_probe, looks_of};
+ghost use Rattle.ic_unsafe_ref.specs.Objects.{Objects};
+ghost use Rattle.ic_rbtree.specs.Comparing.{order_of, order_there, compared_within, HasRoomWithin};
+ghost use Rattle.ic_rbtree.specs.KeyProbe.{adapter_of, key_of_probe, looks_of, HasAdapter};
 
-use crate::KeyAdapter;
+use crate::{Bound, KeyAdapter};
 use std::cmp::Ordering;
 
 /// What is searched, and how it compares with a value: for searches by more than a key.
@@ -78,5 +79,24 @@ impl<A: KeyAdapter> Probe<A::Value> for KeyProbe<'_, A> {
     fn compare(&mut self, value: &A::Value) -> Ordering {
         self.looks += 1;
         self.key.cmp(self.adapter.get_key(value))
+    }
+}
+
+// The same bound, of searches for its key that have made no look.
+#[inline]
+pub(crate) fn probe_within<'k, A: KeyAdapter>(
+    adapter: A,
+    bound: Bound<&'k A::Key>,
+) -> Bound<KeyProbe<'k, A>>
+    ensures order { (objects : Objects A.Value)
+        → compared_within (λ p. order_of A.Key.cmp (A.key_of (adapter_of p)) (key_of_probe p)) objects result
+        ≡ compared_within (order_there A.Key.cmp (A.key_of adapter)) objects bound.entry }
+    ensures adapter { HasAdapter adapter result }
+    ensures room { HasRoomWithin looks_of result }
+{
+    match bound {
+        Bound::Included(key) => Bound::Included(KeyProbe::new(adapter, key)),
+        Bound::Excluded(key) => Bound::Excluded(KeyProbe::new(adapter, key)),
+        Bound::Unbounded => Bound::Unbounded,
     }
 }

@@ -6,7 +6,7 @@ ghost use Rattle.ic_link_ops.specs.Sequences.{first, last};
 ghost use Rattle.ic_link_ops.specs.RedBlackTree.{Shows};
 ghost use Rattle.ic_link_ops.specs.PlacedObjects.{ShowsPlaced};
 ghost use Rattle.ic_rbtree.specs.Comparing.{compared, compared_within, meets_lower, is_beyond, HasRoom, HasRoomWithin, Looks, LooksWithin};
-ghost use Rattle.ic_rbtree.specs.Borders.{Finds};
+ghost use Rattle.ic_rbtree.specs.Borders.{Finds, IsLowerBorder, IsUpperBorder};
 ghost use Rattle.ic_rbtree.specs.Descents.{gap_in};
 ghost use Rattle.ic_rbtree.specs.Tree.{root_of};
 
@@ -51,6 +51,8 @@ impl<A: KeyAdapter> RBTree<A> {
     ) -> Option<Place>
         requires placed { ShowsPlaced (Shows L.node (L.table links.now) (root_of self.now)) objects.now }
         requires room { HasRoomWithin P.count bound.old }
+        ensures border { (s : List Place) → Shows L.node (L.table links.now) (root_of self.now) s
+            → IsLowerBorder (compared_within P.order objects.now bound.old) s result }
         ensures lower { (s : List Place) (h : Shows L.node (L.table links.now) (root_of self.now) s)
             → result ≡ first (gap_in (meets_lower (compared_within P.order objects.now bound.old)) h.tree).back }
         ensures looks { (s : List Place) → Shows L.node (L.table links.now) (root_of self.now) s
@@ -77,6 +79,8 @@ impl<A: KeyAdapter> RBTree<A> {
     ) -> Option<Place>
         requires placed { ShowsPlaced (Shows L.node (L.table links.now) (root_of self.now)) objects.now }
         requires room { HasRoomWithin P.count bound.old }
+        ensures border { (s : List Place) → Shows L.node (L.table links.now) (root_of self.now) s
+            → IsUpperBorder (compared_within P.order objects.now bound.old) s result }
         ensures upper { (s : List Place) (h : Shows L.node (L.table links.now) (root_of self.now) s)
             → result ≡ last (gap_in (is_beyond (compared_within P.order objects.now bound.old)) h.tree).front }
         ensures looks { (s : List Place) → Shows L.node (L.table links.now) (root_of self.now) s
