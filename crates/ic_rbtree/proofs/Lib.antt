@@ -26,3 +26,4 @@ pub mod Finishing
 pub mod Walking
 pub mod Gaps
 pub mod Sending
+pub mod InOrder

@@ -28,6 +28,10 @@ order_of cmp key_of key value = cmp key (key_of value)
 abbrev pub order_there : {V K : Type 0} → (K → K → Ordering) → (V → K) → Bor K → V → Ordering
 order_there cmp key_of key = order_of cmp key_of key.now
 
+-- and of an object's own key
+abbrev pub own_order : {V K : Type 0} → (K → K → Ordering) → (V → K) → Objects V → Place → V → Ordering
+own_order cmp key_of objects object value = answer_at (λ own. cmp (key_of own) (key_of value)) (object_at objects object)
+
 -- the same bound, of what is made of its end
 abbrev pub bound_map : {T U : Type 0} → (T → U) → Bound T → Bound U
 bound_map f (Included x) = Included (f x)

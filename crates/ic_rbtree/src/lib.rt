@@ -22,6 +22,7 @@ mod into_iter;
 mod iter;
 pub mod key_adapter;
 mod linking;
+mod ordered;
 mod probe;
 mod readings;
 mod removal;

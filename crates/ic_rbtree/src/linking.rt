@@ -4,7 +4,7 @@
 //! mirrored cases are one, by sides; a missing child is no node of its own; a member with two children is replaced by
 //! the next one only when that one is out of the tree and the colors are right.
 
-ghost use Rattle.std.specs.Prelude.{◌≡◌, Some, [], ◌∷◌};
+ghost use Rattle.std.specs.Prelude.{◌≡◌, Some, List, [], ◌∷◌};
 ghost use Rattle.std.specs.Bool.{OnTrue, OnFalse};
 ghost use Rattle.ic_unsafe_ref.specs.declared.place.Place.{Place};
 ghost use Rattle.ic_link_ops.specs.Tables.{IsCovered};
@@ -12,14 +12,20 @@ ghost use Rattle.ic_link_ops.specs.LinkSteps.{acquires, releases};
 ghost use Rattle.ic_link_ops.specs.Sequences.{Cut, join, IsBefore};
 ghost use Rattle.ic_link_ops.specs.Edits.{Removes, Inserts, Replaces};
 ghost use Rattle.ic_link_ops.specs.RedBlackTree.{Shows};
+ghost use Rattle.ic_link_ops.specs.PlacedObjects.{ShowsPlaced};
+ghost use Rattle.ic_rbtree.specs.Comparing.{compared, HasRoom, Looks};
 ghost use Rattle.ic_rbtree.specs.Insertion.{IsHole};
+ghost use Rattle.ic_rbtree.specs.Ordered.{InsertsInOrder};
 
+use crate::Probe;
+use crate::descent::descend;
 use crate::insertion::attach;
 use crate::removal::unlink;
 use crate::writers::take_place;
 use ic_link_ops::rbtree::RBTreeOps;
 use ic_link_ops::{End, LinkOps, Side};
-use ic_unsafe_ref::Place;
+use ic_unsafe_ref::{Objects, Place};
+use std::alloc::Allocator;
 
 // Links the place as a new member on this side of `parent`, which has no child there, and says whether the link could be
 // had. With no parent the tree is empty.
@@ -44,6 +50,36 @@ pub(crate) fn insert<L: RBTreeOps>(
         return false;
     }
     attach(links, root, parent, side, place);
+    true
+}
+
+// Links the place as a new member where the probe's order wants it: behind the members that compare equal. It says whether
+// the link could be had. Where it could not, nothing is looked at.
+#[inline]
+pub(crate) fn insert_in_order<L: RBTreeOps, V, P: Probe<V>, B: Allocator>(
+    links: &mut L,
+    root: &mut End,
+    objects: &Objects<V, B>,
+    probe: &mut P,
+    place: Place,
+) -> bool
+    requires covered { IsCovered (L.table links.old) place }
+    requires placed { ShowsPlaced (Shows L.node (L.table links.old) root.old) objects.now }
+    requires room { HasRoom (P.count probe.old) }
+    ensures inserted { (s : List Place) → Shows L.node (L.table links.old) root.old s → OnTrue result
+        (InsertsInOrder (Shows L.node) (compared (P.order probe.old) objects.now) (L.table links.old) (L.table links.new)
+        root.new s place) }
+    ensures acquired { OnTrue result (L.Does links.old links.new (acquires place ∷ [])) }
+    ensures looks { (s : List Place) → Shows L.node (L.table links.old) root.old s
+        → OnTrue result (Looks P.order P.count probe.old probe.new s) }
+    ensures refused { OnFalse result (L.Refused links.old links.new place) }
+    ensures unchanged { OnFalse result ((root.new ≡ root.old) × (probe.new ≡ probe.old)) }
+{
+    if !links.acquire_link(place) {
+        return false;
+    }
+    let hole = descend(&*links, root.get(), objects, probe, Side::Right);
+    attach(links, root, hole.parent.get(), hole.side, place);
     true
 }
 

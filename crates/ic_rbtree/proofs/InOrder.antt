@@ -1,0 +1,104 @@
+-- A place that has just been linked is put in where a descent ends.
+use Rattle.std.proofs.Common.{◌≡◌, Option, Some, None, Result, Ok, Err, OnOk, OnErr, IfErr, List, [], ◌∷◌, ◌++◌, refl, sym, ap, ◌∙◌, subst}
+use Rattle.std.specs.declared.cmp.Ordering.{Ordering}
+use Rattle.std.proofs.Common.{Bool}
+use Rattle.ic_unsafe_ref.specs.declared.place.Place.{Place}
+use Rattle.ic_unsafe_ref.specs.Objects.{Objects, object_at}
+use Rattle.ic_link_ops.specs.declared.side.Side.TheVariants.{Right}
+use Rattle.ic_link_ops.specs.declared.errors.AlreadyLinked.{AlreadyLinked}
+use Rattle.ic_link_ops.specs.LinkSteps.{LinkStep, acquires}
+use Rattle.ic_link_ops.specs.Positions as Standing
+use Rattle.ic_link_ops.specs.Positions.{Site, ShowsAt}
+use Rattle.ic_link_ops.specs.Sequences.{Cut, join, insert, IsAbsent, IsMember}
+use Rattle.ic_link_ops.specs.Tables.{Table, IsLinked, IsUnlinked, ChangesOnly}
+use Rattle.ic_link_ops.specs.RedBlackTree.{Node, Shows}
+use Rattle.ic_link_ops.proofs.Calling.{has_member}
+use Rattle.ic_link_ops.proofs.Positions.{stands_null, stands_on, stands_still, member_there}
+use Rattle.ic_link_ops.proofs.SequenceLemmas.{absent_without, split_member}
+use Rattle.ic_link_ops.proofs.ShownTrees.{shows_beside, free_absent}
+use Rattle.ic_rbtree.specs.declared.descent.Descent.{Descent}
+use Rattle.ic_rbtree.specs.Borders.{IsBorder, less_at}
+use Rattle.ic_rbtree.specs.Comparing.{answer_at, compared, order_of, own_order}
+use Rattle.ic_rbtree.specs.Descents.{gap_in, EndsAt}
+use Rattle.ic_rbtree.specs.Insertion.{IsHole, Attaches}
+use Rattle.ic_rbtree.specs.Ordered.{InsertsInOrder, InsertsAmong}
+use Rattle.ic_rbtree.specs.Pieces.{loose, Shown}
+use Rattle.ic_rbtree.proofs.Attaching.{acquired_shown, inserts}
+use Rattle.ic_rbtree.proofs.Gaps.{gap_join, gap_border}
+use Rattle.ic_rbtree.proofs.Sending.{ends_at_root}
+
+-- the place p fits into a gap of the tree: p is linked, and on its own
+pub record Fits {E : Type 0} (n : E → Node) (v : Table E) (root : Option Place) (p : Place) (at : Place → Ordering) (parent : Option Place) (d : Descent) (s : List Place) : Type 0 where
+  pub gap : Cut
+  pub same : join gap ≡ s
+  pub border : IsBorder (less_at at) gap
+  pub shown : Shown n v v root (join gap) (loose p ∷ [])
+  pub hole : IsHole n v parent d.side gap
+
+module _ {E : Type 0} (n : E → Node) (linked : E → Bool) (alike : (e : E) → (n e).linked ≡ linked e) {old v : Table E} {root : Option Place} {p : Place}
+    (was : IsUnlinked linked old p) (is : IsLinked linked v p) (only : ChangesOnly old v p) where
+  -- the tree is still shown, whatever word there is for its root,
+  pub still_shown : {other : Option Place} {s : List Place} → other ≡ root → Shows n old root s → Shows n v other s
+  still_shown {other} {s} same h = subst (λ o. Shows n v o s) (sym same) (shows_beside h (free_absent h (alike (old.entry p) ∙ was)) only.others)
+
+  -- and the place fits into the gap at which the descent ended
+  pub fits : {at : Place → Ordering} {other parent : Option Place} {d : Descent} {s : List Place} → Shows n old root s → other ≡ root
+      → ((s : List Place) (h : Shows n v other s) → EndsAt n v at Right h.tree d) → parent ≡ d.parent → Fits n v root p at parent d s
+  fits {at} {other} {parent} {d} {s} shown same_root ends same_parent =
+      let h : Shows n v root s = still_shown refl shown in
+      let x : EndsAt n v at Right h.tree d = ends_at_root n same_root ends h in
+      let gap : Cut = gap_in (less_at at) h.tree in
+      let same : join gap ≡ s = gap_join (less_at at) h.tree ∙ h.held.order in
+      record {
+        gap = gap;
+        same = same;
+        border = gap_border (less_at at) h.tree;
+        shown = acquired_shown n linked alike old v root (join gap) p (subst (Shows n old root) (sym same) shown) was is only;
+        hole = subst (λ o. IsHole n v o d.side gap) (sym same_parent) x.hole;
+      }
+
+  pub fitted : {at : Place → Ordering} {parent : Option Place} {d : Descent} {s : List Place} {w : Table E} {new_root : Option Place} → Fits n v root p at parent d s
+      → Attaches n v w root new_root parent d.side p → InsertsInOrder (Shows n) at old w new_root s p
+  fitted {w = w} {new_root} x attached =
+      record { gap = x.gap; same = x.same; border = x.border; inserted = inserts n old v w root new_root p x.gap only (attached v x.gap [] x.shown x.hole) }
+
+-- a search by the object's own key
+pub own_is : {A V K : Type 0} (cmp : K → K → Ordering) (key_of : A → V → K) (objects : Objects V) {a b : A} {key : K} {value : V} {object place : Place} → b ≡ a → key ≡ key_of a value → place ≡ object → object_at objects place ≡ Some value
+    → order_of cmp (key_of b) key ≡ own_order cmp (key_of a) objects object
+own_is cmp key_of objects {a} {b} {key} {value} {object} {place} adapter key_is there placed =
+    ap (λ z. order_of cmp (key_of z) key) adapter
+    ∙ ap (order_of cmp (key_of a)) key_is
+    ∙ ap (λ o. λ other. answer_at (λ own. cmp (key_of a own) (key_of a other)) o) (sym placed ∙ ap (object_at objects) there)
+
+-- A POSITION STILL STANDS beside an insert in order
+module _ {L E H : Type 0} {Shows : Table E → H → List Place → Type 0} {table : L → Table E} {at : Place → Ordering} {old new : Site L H} {p : Place} where
+  pub in_order_stands : Standing.Stands Shows table old → new.position ≡ old.position
+      → ((s : List Place) → ShowsAt Shows table old s → InsertsInOrder Shows at (table old.links) (table new.links) new.head s p) → Standing.Stands Shows table new
+  in_order_stands stands same inserted = by old.position refl where
+    by : (o : Option Place) → old.position ≡ o → Standing.Stands Shows table new
+    by None e = let x = inserted (join stands.gap) stands.shown in stands_null (insert x.gap p) x.inserted.shows (same ∙ e)
+    by (Some q) e =
+        let m = member_there stands e in
+        let x = inserted (m.front ++ q ∷ m.back) m.shown in
+        let member : IsMember q (insert x.gap p) =
+        λ absent. split_member m.front q m.back (subst (IsAbsent q) x.same (absent_without x.gap.front x.gap.back p q absent)) in
+        stands_on (has_member (ShowsAt Shows table new) (insert x.gap p) x.inserted.shows member) (same ∙ e)
+
+  pub inserts_among : {Refused : L → L → Place → Type 0} → ((a b : L) (q : Place) → Refused a b q → table b ≡ table a) → Standing.Stands Shows table old → new.position ≡ old.position
+      → {T : Type 0} {Does : L → L → List LinkStep → Type 0} (r : Result Unit (AlreadyLinked T)) → OnOk r (Does old.links new.links (acquires p ∷ [])) → OnErr r (Refused old.links new.links p)
+      → IfErr r (λ refused. (refused.0 ≡ p) × (new.head ≡ old.head))
+      → ((s : List Place) → ShowsAt Shows table old s → OnOk r (InsertsInOrder Shows at (table old.links) (table new.links) new.head s p))
+      → InsertsAmong Shows table Does Refused at old p r new
+  inserts_among {Refused} keeps stands position {T} r acquired refused unchanged inserted =
+      record { inserted = inserted; acquired = acquired; refused = refused; unchanged = unchanged; position = position; stands = by r refused unchanged inserted }
+    where
+      by : (r : Result Unit (AlreadyLinked T)) → OnErr r (Refused old.links new.links p) → IfErr r (λ refused. (refused.0 ≡ p) × (new.head ≡ old.head))
+          → ((s : List Place) → ShowsAt Shows table old s → OnOk r (InsertsInOrder Shows at (table old.links) (table new.links) new.head s p)) → Standing.Stands Shows table new
+      by (Ok x) refused unchanged inserted = in_order_stands stands position inserted
+      by (Err e) refused unchanged inserted = stands_still stands (keeps _ _ p refused) unchanged.1 position
+
+-- what is searched, in other words
+pub among_by : {L E H : Type 0} {Shows : Table E → H → List Place → Type 0} {table : L → Table E} {Does : L → L → List LinkStep → Type 0} {Refused : L → L → Place → Type 0} {T V : Type 0}
+    {old new : Site L H} {p : Place} {r : Result Unit (AlreadyLinked T)} {order other : V → Ordering} (objects : Objects V) → order ≡ other
+    → InsertsAmong Shows table Does Refused (compared order objects) old p r new → InsertsAmong Shows table Does Refused (compared other objects) old p r new
+among_by {Shows = Shows} {table} {Does} {Refused} {old = old} {new} {p} {r} objects same x = subst (λ o. InsertsAmong Shows table Does Refused (compared o objects) old p r new) same x
