@@ -13,7 +13,7 @@ use Rattle.ic_link_ops.specs.Sequences.{Cut, join, insert, IsAbsent, IsMember}
 use Rattle.ic_link_ops.specs.Tables.{Table, IsLinked, IsUnlinked, ChangesOnly}
 use Rattle.ic_link_ops.specs.RedBlackTree.{Node, Shows}
 use Rattle.ic_link_ops.proofs.Calling.{has_member}
-use Rattle.ic_link_ops.proofs.Positions.{stands_null, stands_on, stands_still, member_there}
+use Rattle.ic_link_ops.proofs.Positions.{stands_by_gap, stands_null, stands_on, stands_still, member_there}
 use Rattle.ic_link_ops.proofs.SequenceLemmas.{absent_without, split_member}
 use Rattle.ic_link_ops.proofs.ShownTrees.{shows_beside, free_absent}
 use Rattle.ic_rbtree.specs.declared.descent.Descent.{Descent}
@@ -96,6 +96,11 @@ module _ {L E H : Type 0} {Shows : Table E → H → List Place → Type 0} {tab
           → ((s : List Place) → ShowsAt Shows table old s → OnOk r (InsertsInOrder Shows at (table old.links) (table new.links) new.head s p)) → Standing.Stands Shows table new
       by (Ok x) refused unchanged inserted = in_order_stands stands position inserted
       by (Err e) refused unchanged inserted = stands_still stands (keeps _ _ p refused) unchanged.1 position
+
+-- a position on what was inserted
+pub inserted_stands : {L E H : Type 0} {Shows : Table E → H → List Place → Type 0} {table : L → Table E} {at : Place → Ordering} {old : Table E} {new : Site L H} {s : List Place} {p : Place} → new.position ≡ Some p
+    → InsertsInOrder Shows at old (table new.links) new.head s p → Standing.Stands Shows table new
+inserted_stands {p = p} is x = stands_by_gap (record { front = x.gap.front; back = p ∷ x.gap.back }) x.inserted.shows is
 
 -- what is searched, in other words
 pub among_by : {L E H : Type 0} {Shows : Table E → H → List Place → Type 0} {table : L → Table E} {Does : L → L → List LinkStep → Type 0} {Refused : L → L → Place → Type 0} {T V : Type 0}

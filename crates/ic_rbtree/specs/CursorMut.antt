@@ -29,6 +29,10 @@ module _ {A L : Type 0} where
   IsBorrowed tree links c =
       (c.tree.ghost_name ≡ tree.ghost_name) × (c.links.ghost_name ≡ links.ghost_name) × (c.tree.now ≡ tree.now) × (c.links.now ≡ links.now)
 
+  -- it edits this tree, with the same adapter, and this table
+  abbrev pub SameNames : MutBor (RBTree A) → MutBor L → CursorMut A L → Type 0
+  SameNames tree links c = (c.tree.ghost_name ≡ tree.ghost_name) × (c.links.ghost_name ≡ links.ghost_name) × (adapter_of c.tree.now ≡ adapter_of tree.now)
+
   -- it edits the same tree and the same table as before, and with the same adapter
   abbrev pub SameBorrows : CursorMut A L → CursorMut A L → Type 0
   SameBorrows old new =
