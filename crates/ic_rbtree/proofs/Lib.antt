@@ -27,3 +27,4 @@ pub mod Walking
 pub mod Gaps
 pub mod Sending
 pub mod InOrder
+pub mod Ranges

@@ -21,9 +21,11 @@ use Rattle.ic_link_ops.proofs.SequenceLemmas.{none_not}
 use Rattle.ic_rbtree.specs.declared.descent.Descent.{Descent}
 use Rattle.ic_rbtree.specs.declared.key_adapter.Bound.{Bound}
 use Rattle.ic_rbtree.specs.declared.key_adapter.Bound.TheVariants.{Included, Excluded, Unbounded}
-use Rattle.ic_rbtree.specs.Borders.{equal_at, at_most_at, if_passes, Finds, IsLowerBorder, IsUpperBorder}
-use Rattle.ic_rbtree.specs.Comparing.{goes_left, meets_lower, is_beyond}
+use Rattle.ic_rbtree.specs.Borders.{IsBorder, equal_at, at_most_at, if_passes, Finds, IsLowerBorder, IsUpperBorder}
+use Rattle.ic_rbtree.specs.Comparing.{goes_left, meets_lower, is_beyond, order_of}
 use Rattle.ic_rbtree.specs.Descents.{side_of, gap_in, SendsPast, passed, at_root, equal_there, EndsAt}
+use Rattle.ic_rbtree.specs.declared.entry.InsertCursor.{InsertCursor}
+use Rattle.ic_rbtree.specs.Entry.{IsVacantFor}
 use Rattle.ic_rbtree.specs.Height.{height}
 use Rattle.ic_rbtree.specs.Insertion.{IsHole}
 use Rattle.ic_rbtree.specs.Pieces.{Stands}
@@ -219,12 +221,12 @@ equal_kept at None true e result is = is
 equal_kept at None false e result is = is
 equal_kept at (Some p) x e result is = is ∙ ap (λ y. cond y (Some p) None) e
 
-not_ge : (o : Ordering) → is_lt o ≡ not (is_ge o)
+pub not_ge : (o : Ordering) → is_lt o ≡ not (is_ge o)
 not_ge Less = refl
 not_ge Equal = refl
 not_ge Greater = refl
 
-not_gt : (o : Ordering) → is_le o ≡ not (is_gt o)
+pub not_gt : (o : Ordering) → is_le o ≡ not (is_gt o)
 not_gt Less = refl
 not_gt Equal = refl
 not_gt Greater = refl
@@ -244,6 +246,13 @@ module _ {E : Type 0} (n : E → Node) where
         border = gap_border (at_most_at at) h.tree;
         answer = equal_kept at d.back d.equal x.equal_is result is ∙ ap (if_passes (equal_at at)) x.back_is;
       }
+
+      -- AN ENTRY is occupied where the member behind the gap compares equal,
+      pub occupies : EndsAt n v at Left h.tree d → d.equal ≡ true → {result : Option Place} → result ≡ d.back → Finds at s result × IsSome result
+      occupies x equal {result} is = (finds x (is ∙ ap (λ z. cond z d.back None) (sym equal)), subst IsSome (sym is) (some d.back (sym x.equal_is ∙ equal))) where
+        some : (o : Option Place) → equal_there at o ≡ true → IsSome o
+        some None e = e
+        some (Some p) e = refl
 
       -- the member in front of the gap, as an upper bound has it
       pub beyond_included : EndsAt n v at Right h.tree d → {result : Option Place} → result ≡ d.front → result ≡ last (gap_in (is_beyond (Included at)) h.tree).front
@@ -265,6 +274,38 @@ module _ {E : Type 0} (n : E → Node) where
 
   pub upper_border : {v : Table E} {root : Option Place} {s : List Place} (h : Shows n v root s) (b : Bound (Place → Ordering)) {result : Option Place} → result ≡ last (gap_in (is_beyond b) h.tree).front → IsUpperBorder b s result
   upper_border h b is = record { gap = gap_in (is_beyond b) h.tree; same = gap_join (is_beyond b) h.tree ∙ h.held.order; after = is; border = gap_border (is_beyond b) h.tree }
+
+-- and vacant else, at a gap in front of which all is smaller and behind which all is larger
+le_lt : (o : Ordering) → is_le o ≡ false → is_lt o ≡ false
+le_lt Less e = e
+le_lt Equal e = refl
+le_lt Greater e = refl
+
+lt_of : (o : Ordering) → is_le o ≡ true → is_eq o ≡ false → is_lt o ≡ true
+lt_of Less e k = refl
+lt_of Equal e k = sym k
+lt_of Greater e k = e
+
+module _ {E : Type 0} (n : E → Node) {A L : Type 0} where
+  pub vacant_for : {v : Table E} {root : Option Place} {s : List Place} (h : Shows n v root s) {at : Place → Ordering} {d : Descent} → EndsAt n v at Left h.tree d → d.equal ≡ false
+      → (c : InsertCursor A L) → c.parent ≡ d.parent → c.side ≡ d.side → IsVacantFor n at v s c
+  vacant_for {v} h {at} {d} x equal c parent_is side_is =
+      let gap : Cut = gap_in (at_most_at at) h.tree in
+      let border : IsBorder (at_most_at at) gap = gap_border (at_most_at at) h.tree in
+      record {
+        gap = gap;
+        same = gap_join (at_most_at at) h.tree ∙ h.held.order;
+        is_at = subst (λ o. IsHole n v o c.side gap) (sym parent_is) (subst (λ k. IsHole n v d.parent k gap) (sym side_is) x.hole);
+        smaller = border;
+        larger = record {
+          fails = λ q e. le_lt (at q) (border.fails q e);
+          passes = λ q e. lt_of (at q) (border.passes q e) (sym (ap (equal_there at) (x.back_is ∙ e)) ∙ sym x.equal_is ∙ equal);
+        };
+      }
+
+-- a search for the same key
+pub same_order : {A V K : Type 0} (cmp : K → K → Ordering) (key_of : A → V → K) {a b : A} {key other : K} → b ≡ a → other ≡ key → order_of cmp (key_of b) other ≡ order_of cmp (key_of a) key
+same_order cmp key_of {a} {b} {key} {other} adapter same = ap (λ z. order_of cmp (key_of z) other) adapter ∙ ap (order_of cmp (key_of a)) same
 
 -- a border of the same bound, under other words
 pub lower_same : {b other : Bound (Place → Ordering)} {s : List Place} {o k : Option Place} → b ≡ other → k ≡ o → IsLowerBorder b s o → IsLowerBorder other s k

@@ -35,7 +35,7 @@ up_to_last x (y ∷ w) back d =
     rw (is_end_off (last_or (Some y) w) x (last_not (Some y) w x (λ e. d.0.0 (sym (some_same e))) (absent_left x w back d.0.1)))
     (ap (λ (l : List Place). x ∷ l) (up_to_last y w back d.1))
 
-none_between : (s : List Place) → between None None s ≡ []
+pub none_between : (s : List Place) → between None None s ≡ []
 none_between [] = refl
 none_between (x ∷ s) = none_between s
 

@@ -2,6 +2,8 @@
 use Rattle.std.specs.Prelude.{◌≡◌, ℕ}
 use Rattle.ic_rbtree.specs.declared.key_adapter.Bound.{Bound}
 use Rattle.ic_rbtree.specs.declared.key_adapter.Bound.TheVariants.{Included, Excluded, Unbounded}
+use Rattle.std.specs.declared.cmp.Ordering.{Ordering}
+use Rattle.ic_rbtree.specs.Comparing.{order_of}
 use Rattle.ic_rbtree.specs.declared.probe.KeyProbe.{KeyProbe}
 
 module _ {A V K : Type 0} where
@@ -16,6 +18,10 @@ module _ {A V K : Type 0} where
   -- how many looks it has made
   abbrev pub looks_of : KeyProbe A V K → ℕ
   looks_of p = p.looks
+
+  -- how it compares
+  abbrev pub key_order : (K → K → Ordering) → (A → V → K) → KeyProbe A V K → V → Ordering
+  key_order cmp key_of p = order_of cmp (key_of (adapter_of p)) (key_of_probe p)
 
   -- a search within the bound has this adapter
   abbrev pub HasAdapter : A → Bound (KeyProbe A V K) → Type 0

@@ -29,11 +29,11 @@ pub struct Iter<'a, A: KeyAdapter, L, B: Allocator = Global>
 where
     A::Key: 'a,
 {
-    tree: &'a RBTree<A>,
-    links: &'a L,
-    objects: &'a Objects<A::Value, B>,
-    head: Option<Place>,
-    tail: Option<Place>,
+    pub(crate) tree: &'a RBTree<A>,
+    pub(crate) links: &'a L,
+    pub(crate) objects: &'a Objects<A::Value, B>,
+    pub(crate) head: Option<Place>,
+    pub(crate) tail: Option<Place>,
 }
 
 impl<A: KeyAdapter, L, B: Allocator> Drop for Iter<'_, A, L, B> {
@@ -109,6 +109,20 @@ impl<A: KeyAdapter, L, B: Allocator> Clone for Iter<'_, A, L, B> {
             head: self.head,
             tail: self.tail,
         })
+    }
+}
+
+impl<A: KeyAdapter, L: RBTreeOps, B: Allocator> Iter<'_, A, L, B> {
+    ghost use Rattle.ic_link_ops.specs.Sequences.{first};
+    ghost use Rattle.ic_rbtree.specs.Iter.{rest_of, CanWalk};
+
+    /// The place of the member that `next` would give, `None` when the walk is exhausted. O(1).
+    #[inline]
+    pub fn get_ptr(&self) -> Option<Place>
+        requires can_walk { CanWalk L.node L.table self.now }
+        ensures { result ≡ first (rest_of L.node L.table self.now) }
+    {
+        self.head
     }
 }
 

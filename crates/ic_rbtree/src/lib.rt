@@ -1,10 +1,10 @@
 //! The red-black tree: objects in order, which come and leave anywhere.
 //!
-//! So far the order is what cursors make it; no call compares keys.
+//! The order is what cursors make it, or that of keys, where objects come by the keyed calls alone.
 //!
 //! ```text
 //! let mut tree = RBTree::new(ByDeadline);
-//! tree.cursor_mut(&mut links).insert_before(object)?; // behind all others
+//! tree.insert(&mut links, &objects, object)?; // behind all with no greater key
 //! let first = tree.front_mut(&mut links).remove();
 //! ```
 #![tactic(auto)]
@@ -16,6 +16,7 @@ mod cursor_mut;
 mod cursor_owning;
 mod descent;
 mod edits;
+mod entry;
 mod find;
 mod insertion;
 mod into_iter;
@@ -24,6 +25,7 @@ pub mod key_adapter;
 mod linking;
 mod ordered;
 mod probe;
+mod range;
 mod readings;
 mod removal;
 mod search;
@@ -35,6 +37,7 @@ mod writers;
 pub use cursor::Cursor;
 pub use cursor_mut::CursorMut;
 pub use cursor_owning::CursorOwning;
+pub use entry::{Entry, InsertCursor};
 pub use ic_link_ops::Color;
 pub use ic_link_ops::rbtree::{Link, LinkOps, RBTreeOps};
 pub use into_iter::IntoIter;

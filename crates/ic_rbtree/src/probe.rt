@@ -9,8 +9,8 @@
 ghost use Rattle.std.specs.Prelude.{◌≡◌, ℕ, ◌+◌, ◌<◌};
 ghost use Rattle.std.specs.declared.cmp.Ordering.{Ordering};
 ghost use Rattle.ic_unsafe_ref.specs.Objects.{Objects};
-ghost use Rattle.ic_rbtree.specs.Comparing.{order_of, order_there, compared_within, HasRoomWithin};
-ghost use Rattle.ic_rbtree.specs.KeyProbe.{adapter_of, key_of_probe, looks_of, HasAdapter};
+ghost use Rattle.ic_rbtree.specs.Comparing.{order_there, compared_within, HasRoomWithin};
+ghost use Rattle.ic_rbtree.specs.KeyProbe.{adapter_of, key_of_probe, key_order, looks_of, HasAdapter};
 
 use crate::{Bound, KeyAdapter};
 use std::cmp::Ordering;
@@ -71,7 +71,7 @@ impl<'k, A: KeyAdapter> KeyProbe<'k, A> {
 }
 
 impl<A: KeyAdapter> Probe<A::Value> for KeyProbe<'_, A> {
-    ghost order = { λ p. order_of A.Key.cmp (A.key_of (adapter_of p)) (key_of_probe p) };
+    ghost order = { key_order A.Key.cmp A.key_of };
 
     ghost count = { looks_of };
 
@@ -89,7 +89,7 @@ pub(crate) fn probe_within<'k, A: KeyAdapter>(
     bound: Bound<&'k A::Key>,
 ) -> Bound<KeyProbe<'k, A>>
     ensures order { (objects : Objects A.Value)
-        → compared_within (λ p. order_of A.Key.cmp (A.key_of (adapter_of p)) (key_of_probe p)) objects result
+        → compared_within (key_order A.Key.cmp A.key_of) objects result
         ≡ compared_within (order_there A.Key.cmp (A.key_of adapter)) objects bound.entry }
     ensures adapter { HasAdapter adapter result }
     ensures room { HasRoomWithin looks_of result }

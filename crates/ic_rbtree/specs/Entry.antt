@@ -1,0 +1,55 @@
+-- What clauses see of an entry: a member with a key, or a gap where it would stand.
+use Rattle.std.specs.Prelude.{◌≡◌, ⊤, List}
+use Rattle.std.specs.declared.cmp.Ordering.{Ordering}
+use Rattle.std.specs.Borrow.{MutBor}
+use Rattle.ic_unsafe_ref.specs.declared.place.Place.{Place}
+use Rattle.ic_link_ops.specs.Sequences.{Cut, join}
+use Rattle.ic_link_ops.specs.Tables.{Table}
+use Rattle.ic_link_ops.specs.RedBlackTree.{Node, Shows}
+use Rattle.ic_rbtree.specs.declared.cursor_mut.CursorMut.{CursorMut}
+use Rattle.ic_rbtree.specs.declared.entry.Entry.{Entry}
+use Rattle.ic_rbtree.specs.declared.entry.Entry.TheVariants.{Occupied, Vacant}
+use Rattle.ic_rbtree.specs.declared.entry.InsertCursor.{InsertCursor}
+use Rattle.ic_rbtree.specs.declared.tree.RBTree.{RBTree}
+use Rattle.ic_rbtree.specs.Borders.{IsBorder, at_most_at, less_at}
+use Rattle.ic_rbtree.specs.Insertion.{IsHole}
+use Rattle.ic_rbtree.specs.Tree.{root_of}
+
+module _ {A L : Type 0} where
+  -- what holds of the cursor, if the entry is occupied, and of the gap, if it is vacant
+  abbrev pub IfOccupied : Entry A L → (CursorMut A L → Type 0) → Type 0
+  IfOccupied (Occupied c) P = P c
+  IfOccupied (Vacant v) P = ⊤
+
+  abbrev pub IfVacant : Entry A L → (InsertCursor A L → Type 0) → Type 0
+  IfVacant (Occupied c) P = ⊤
+  IfVacant (Vacant v) P = P v
+
+  -- the tree and the table that it edits
+  abbrev pub tree_of : InsertCursor A L → RBTree A
+  tree_of v = v.tree.now
+
+  abbrev pub links_of : InsertCursor A L → L
+  links_of v = v.links.now
+
+  -- it edits this tree and this table, which are as they were
+  abbrev pub IsBorrowed : MutBor (RBTree A) → MutBor L → InsertCursor A L → Type 0
+  IsBorrowed tree links v =
+      (v.tree.ghost_name ≡ tree.ghost_name) × (v.links.ghost_name ≡ links.ghost_name) × (v.tree.now ≡ tree.now) × (v.links.now ≡ links.now)
+
+  module _ {E : Type 0} (node : E → Node) where
+    -- THE GAP where it inserts
+    abbrev pub IsVacantAt : Table E → InsertCursor A L → Cut → Type 0
+    IsVacantAt t v gap = IsHole node t v.parent v.side gap
+
+    -- there is a gap of what is shown where it inserts
+    abbrev pub CanInsert : (L → Table E) → InsertCursor A L → Type 0
+    CanInsert table v = (gap : Cut) × Shows node (table (links_of v)) (root_of (tree_of v)) (join gap) × IsVacantAt (table (links_of v)) v gap
+
+    -- VACANT FOR WHAT IS SEARCHED: it inserts at a gap of s where the member in front is smaller, and the one behind larger
+    pub record IsVacantFor (at : Place → Ordering) (t : Table E) (s : List Place) (v : InsertCursor A L) : Type 0 where
+      pub gap : Cut
+      pub same : join gap ≡ s
+      pub is_at : IsVacantAt t v gap
+      pub smaller : IsBorder (at_most_at at) gap
+      pub larger : IsBorder (less_at at) gap

@@ -1,0 +1,37 @@
+-- The members between two bounds.
+use Rattle.std.specs.Prelude.{◌≡◌, Bool, true, false, Option, Some, List, [], ◌++◌}
+use Rattle.std.specs.declared.cmp.Ordering.{Ordering}
+use Rattle.std.specs.Ordering.{is_ge}
+use Rattle.std.specs.Option.{option_map}
+use Rattle.ic_unsafe_ref.specs.declared.place.Place.{Place}
+use Rattle.ic_unsafe_ref.specs.Objects.{Objects}
+use Rattle.ic_link_ops.specs.Positions.{object_there}
+use Rattle.ic_link_ops.specs.Sequences.{first, last}
+use Rattle.ic_rbtree.specs.declared.key_adapter.Bound.{Bound}
+use Rattle.ic_rbtree.specs.Borders.{IsLowerBorder, IsUpperBorder}
+
+-- w is the segment of s from one member to the other
+pub record IsSegment (s : List Place) (low high : Option Place) (w : List Place) : Type 0 where
+  pub front : List Place
+  pub back : List Place
+  pub same : front ++ (w ++ back) ≡ s
+  pub starts : low ≡ first w
+  pub ends : high ≡ last w
+
+-- there are two keys, and the second is not less than the first
+abbrev pub not_less : {K : Type 0} → (K → K → Ordering) → Option K → Option K → Bool
+not_less cmp (Some low) (Some high) = is_ge (cmp high low)
+not_less cmp _ _ = false
+
+-- two positions are on members, and the key at the second is not less than that at the first
+abbrev pub runs_up : {V K : Type 0} → (K → K → Ordering) → (V → K) → Objects V → Option Place → Option Place → Bool
+runs_up cmp key_of objects low high = not_less cmp (option_map key_of (object_there objects low)) (option_map key_of (object_there objects high))
+
+-- A RANGE: the segment of s from a lower border of the one bound to an upper border of the other, where these run up, and else nothing
+pub record IsRange (min max : Bound (Place → Ordering)) (runs : Option Place → Option Place → Bool) (s w : List Place) : Type 0 where
+  pub low : Option Place
+  pub high : Option Place
+  pub lower : IsLowerBorder min s low
+  pub upper : IsUpperBorder max s high
+  pub segment : runs low high ≡ true → IsSegment s low high w
+  pub nothing : runs low high ≡ false → w ≡ []
