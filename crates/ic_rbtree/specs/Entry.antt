@@ -1,8 +1,12 @@
 -- What clauses see of an entry: a member with a key, or a gap where it would stand.
-use Rattle.std.specs.Prelude.{◌≡◌, ⊤, List}
+use Rattle.std.specs.Prelude.{◌≡◌, ⊤, Some, Result, OnErr, IfOk, IfErr, List, [], ◌∷◌}
 use Rattle.std.specs.declared.cmp.Ordering.{Ordering}
 use Rattle.std.specs.Borrow.{MutBor}
 use Rattle.ic_unsafe_ref.specs.declared.place.Place.{Place}
+use Rattle.ic_link_ops.specs.declared.errors.AlreadyLinked.{AlreadyLinked}
+use Rattle.ic_link_ops.specs.Edits.{Inserts}
+use Rattle.ic_link_ops.specs.LinkSteps.{LinkStep, acquires}
+use Rattle.ic_link_ops.specs.Positions.{Stands}
 use Rattle.ic_link_ops.specs.Sequences.{Cut, join}
 use Rattle.ic_link_ops.specs.Tables.{Table}
 use Rattle.ic_link_ops.specs.RedBlackTree.{Node, Shows}
@@ -12,7 +16,9 @@ use Rattle.ic_rbtree.specs.declared.entry.Entry.TheVariants.{Occupied, Vacant}
 use Rattle.ic_rbtree.specs.declared.entry.InsertCursor.{InsertCursor}
 use Rattle.ic_rbtree.specs.declared.tree.RBTree.{RBTree}
 use Rattle.ic_rbtree.specs.Borders.{IsBorder, at_most_at, less_at}
+use Rattle.ic_rbtree.specs.CursorMut as editing
 use Rattle.ic_rbtree.specs.Insertion.{IsHole}
+use Rattle.ic_rbtree.specs.Ordered.{WasRefused}
 use Rattle.ic_rbtree.specs.Tree.{root_of}
 
 module _ {A L : Type 0} where
@@ -53,3 +59,15 @@ module _ {A L : Type 0} where
       pub is_at : IsVacantAt t v gap
       pub smaller : IsBorder (at_most_at at) gap
       pub larger : IsBorder (less_at at) gap
+
+  -- THE OBJECT IS INSERTED at the gap, and the cursor is on it; or its link is refused, and it comes back
+  module _ {E T : Type 0} (node : E → Node) (table : L → Table E) (Does : L → L → List LinkStep → Type 0) (Refused : L → L → Place → Type 0) where
+    pub record InsertsInto (v : InsertCursor A L) (object : Place) (result : Result (CursorMut A L) (AlreadyLinked T)) : Type 0 where
+      pub inserted : (gap : Cut) → Shows node (table (links_of v)) (root_of (tree_of v)) (join gap) → IsVacantAt node (table (links_of v)) v gap
+          → IfOk result (λ c. Inserts (Shows node) (table (links_of v)) (table (editing.links_of c)) (root_of (editing.tree_of c)) gap object)
+      pub acquired : IfOk result (λ c. Does (links_of v) (editing.links_of c) (acquires object ∷ []))
+      pub position : IfOk result (λ c. editing.position c ≡ Some object)
+      pub stands : IfOk result (λ c. Stands (Shows node) table (editing.site_of c))
+      pub borrows : IfOk result (editing.SameNames v.tree v.links)
+      pub refused : OnErr result (WasRefused Refused (links_of v) object)
+      pub unchanged : IfErr result (λ refused. refused.0 ≡ object)

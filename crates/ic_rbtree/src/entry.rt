@@ -4,20 +4,16 @@
 //! let cursor = tree.entry(&mut links, &objects, &5).or_insert_with(|| object)?;
 //! ```
 
-ghost use Rattle.std.specs.Prelude.{◌≡◌, true, Option, Some, IsSome, OnErr, IfOk, IfErr, List, [], ◌∷◌};
+ghost use Rattle.std.specs.Prelude.{◌≡◌, Ok, IsSome, List};
 ghost use Rattle.ic_unsafe_ref.specs.declared.place.Place.{Place};
-ghost use Rattle.ic_link_ops.specs.Edits.{Inserts};
-ghost use Rattle.ic_link_ops.specs.LinkSteps.{acquires};
 ghost use Rattle.ic_link_ops.specs.PlacedObjects.{ShowsPlaced};
 ghost use Rattle.ic_link_ops.specs.Positions.{Stands};
 ghost use Rattle.ic_link_ops.specs.RedBlackTree.{Shows};
-ghost use Rattle.ic_link_ops.specs.Sequences.{Cut, join};
 ghost use Rattle.ic_link_ops.specs.Tables.{IsCovered};
 ghost use Rattle.ic_rbtree.specs.Borders.{Finds};
 ghost use Rattle.ic_rbtree.specs.Comparing.{compared, order_of, HasRoom, Looks};
 ghost use Rattle.ic_rbtree.specs.CursorMut as editing;
-ghost use Rattle.ic_rbtree.specs.Entry.{IfOccupied, IfVacant, IsVacantAt, IsVacantFor, CanInsert, tree_of, links_of, IsBorrowed};
-ghost use Rattle.ic_rbtree.specs.Ordered.{WasRefused};
+ghost use Rattle.ic_rbtree.specs.Entry.{IfOccupied, IfVacant, IsVacantFor, CanInsert, InsertsInto, links_of, IsBorrowed};
 ghost use Rattle.ic_rbtree.specs.Tree.{root_of, adapter_of};
 
 use crate::descent::descend;
@@ -134,13 +130,7 @@ impl<'a, A: KeyAdapter, L: RBTreeOps> InsertCursor<'a, A, L> {
     ) -> Result<CursorMut<'a, A, L>, AlreadyLinked<A::Value>>
         requires covered { IsCovered (L.table (links_of self)) object }
         requires vacant { CanInsert L.node L.table self }
-        ensures inserted { (gap : Cut) → Shows L.node (L.table (links_of self.entry)) (root_of (tree_of self.entry)) (join gap)
-            → IsVacantAt L.node (L.table (links_of self.entry)) self.entry gap → IfOk result (λ c. Inserts (Shows L.node)
-            (L.table (links_of self.entry)) (L.table (editing.links_of c)) (root_of (editing.tree_of c)) gap object) }
-        ensures acquired { IfOk result (λ c. L.Does (links_of self.entry) (editing.links_of c) (acquires object ∷ [])) }
-        ensures position { IfOk result (λ c. editing.position c ≡ Some object) }
-        ensures object { IfErr result (λ refused. refused.0 ≡ object) }
-        ensures refused { OnErr result (WasRefused L.Refused (links_of self.entry) object) }
+        ensures { InsertsInto L.node L.table L.Does L.Refused self.entry object result }
     {
         let InsertCursor {
             tree,
@@ -157,5 +147,44 @@ impl<'a, A: KeyAdapter, L: RBTreeOps> InsertCursor<'a, A, L> {
             links,
             current,
         })
+    }
+}
+
+impl<'a, A: KeyAdapter, L: RBTreeOps> Entry<'a, A, L> {
+    /// The cursor on the member that has the key, or on the object, which is inserted where the key would stand.
+    ///
+    /// Where the entry is vacant, it asks that the object's place is covered; a refused object comes back, and nothing else has
+    /// changed. Where it is occupied, nothing is linked.
+    pub fn or_insert(
+        self,
+        object: UnsafeRef<A::Value>,
+    ) -> Result<CursorMut<'a, A, L>, AlreadyLinked<A::Value>>
+        requires covered { IfVacant self (λ v. IsCovered (L.table (links_of v)) object) }
+        requires vacant { IfVacant self (CanInsert L.node L.table) }
+        ensures occupied { IfOccupied self.entry (λ c. result ≡ Ok c) }
+        ensures vacant { IfVacant self.entry (λ v. InsertsInto L.node L.table L.Does L.Refused v object result) }
+    {
+        match self {
+            Entry::Occupied(cursor) => Ok(cursor),
+            Entry::Vacant(gap) => gap.insert(object),
+        }
+    }
+
+    /// The same with the object that `make` gives, which is called only where the entry is vacant.
+    pub fn or_insert_with<F: FnOnce() -> UnsafeRef<A::Value>>(
+        self,
+        make: F,
+    ) -> Result<CursorMut<'a, A, L>, AlreadyLinked<A::Value>>
+        requires callable { IfVacant self (λ v. F.pre make) }
+        requires covered { IfVacant self (λ v. (object : Place) → F.post make object → IsCovered (L.table (links_of v)) object) }
+        requires vacant { IfVacant self (CanInsert L.node L.table) }
+        ensures occupied { IfOccupied self.entry (λ c. result ≡ Ok c) }
+        ensures vacant { IfVacant self.entry (λ v. (object : Place) × F.post make object
+            × InsertsInto L.node L.table L.Does L.Refused v object result) }
+    {
+        match self {
+            Entry::Occupied(cursor) => Ok(cursor),
+            Entry::Vacant(gap) => gap.insert(make()),
+        }
     }
 }
