@@ -20,7 +20,7 @@ use Rattle.ic_rbtree.specs.Shortage.{wanted, color_above, IsNearlyRight}
 use Rattle.ic_rbtree.specs.Removal.{is_red, red_at}
 use Rattle.ic_rbtree.specs.Insertion.{color_below, are_across, RedAt, Eased, PairAt, Recolors, IsStraight, Lifts}
 use Rattle.ic_rbtree.proofs.Branches.{branch_across, top_branch, as_branch, order_plug, order_branch, order_rotated, side_far, side_tint, side_up}
-use Rattle.ic_rbtree.proofs.Turning.{below_linked, around_linked}
+use Rattle.ic_rbtree.proofs.Turning.{turn, below_linked, around_linked}
 use Rattle.ic_rbtree.proofs.Zipper.{go_up, go_down, go_across, go_top, painted_top, painted_above}
 use Rattle.ic_rbtree.proofs.Shapes.{recolored, settled, straightened, right_plug}
 use Rattle.ic_rbtree.proofs.Climbing.{side_found, depth_top}
@@ -179,12 +179,12 @@ module _ {E : Type 0} (n : E → Node) where
           ((ap (λ (y : Side). branch y Red t q b) bent ∙ branch_across k Red b q t) ∙ ap (λ (y : Tree). branch k Red b q y) x_open.2) joined
 
       pub bent_can_rotate : CanRotate n v root q k
-      bent_can_rotate = (base, frame k c g u ∷ fs, Red, b, Red, x_open.0, x, x_open.1, ps, bent_ready)
+      bent_can_rotate = (base, frame k c g u ∷ fs, turn Red b Red x_open.0 x x_open.1, ps, bent_ready)
 
       pub straight_then : {w : Table E} {new_root : Option Place} → Rotates n v w root new_root q k → IsStraight n base w new_root x g k s c u fs ps
       straight_then {w} {new_root} rot =
           let o = x_open in
-          let st = rot base (frame k c g u ∷ fs) Red b Red o.0 x o.1 ps bent_ready in
+          let st = rot base (frame k c g u ∷ fs) (turn Red b Red o.0 x o.1) ps bent_ready in
           let turn : branch d Red t q b ≡ branch k Red b q (branch k Red o.0 x o.1) = (ap (λ (y : Side). branch y Red t q b) bent ∙ branch_across k Red b q t) ∙ ap (λ (y : Tree). branch k Red b q y) o.2 in (
             o.1,
             branch k Red b q o.0,
@@ -243,12 +243,12 @@ module _ {E : Type 0} (n : E → Node) where
     pub lift_can_rotate : (j : Side) → j ≡ across k → (base : Table E) (b : Tree) (c : Color) (u : Tree) (fs : List Frame) (t : Tree) (ps : List Piece)
         → Stands n base v root (frame k Red upper b ∷ frame k c g u ∷ fs) t ps → CanRotate n v2 root g j
     lift_can_rotate j ej base b c u fs t ps h =
-        subst (λ (z : Side). CanRotate n v2 root g z) (sym ej) (base, fs, Red, u, Black, b, upper, t, ps, lift_ready base b c u fs t ps h)
+        subst (λ (z : Side). CanRotate n v2 root g z) (sym ej) (base, fs, turn Red u Black b upper t, ps, lift_ready base b c u fs t ps h)
 
     pub lifts : (w : Table E) (new_root : Option Place) (j : Side) → j ≡ across k → Rotates n v2 w root new_root g j → Lifts n v w root new_root upper g k
     lifts w new_root j ej rot' base b c u fs t ps h =
         let rot : Rotates n v2 w root new_root g (across k) = subst (λ (z : Side). Rotates n v2 w root new_root g z) ej rot' in
-        let st = rot base fs Red u Black b upper t ps (lift_ready base b c u fs t ps h) in
+        let st = rot base fs (turn Red u Black b upper t) ps (lift_ready base b c u fs t ps h) in
         subst (λ (z : Tree). Stands n base w new_root fs z ps)
         (branch_across k Black t upper (branch (across k) Red u g b) ∙ ap (λ (z : Tree). branch k Black t upper z) (branch_across k Red b g u)) st
 

@@ -18,7 +18,7 @@ use Rattle.ic_link_ops.proofs.ShownTrees.{holds_once}
 use Rattle.ic_link_ops.proofs.ShownTrees.{shows_beside}
 use Rattle.ic_rbtree.specs.Pieces.{Piece, loose, Stands, Shown}
 use Rattle.ic_rbtree.specs.Sides.{StandsAt, IsOutermost}
-use Rattle.ic_rbtree.specs.Taking.{only, IsLone, both_of, CanTakeOut, TakesOut, CanTakePlace, TakesPlace}
+use Rattle.ic_rbtree.specs.Taking.{Parts, only, IsLone, both_of, CanTakeOut, TakesOut, CanTakePlace, TakesPlace}
 use Rattle.ic_rbtree.proofs.Zipper.{go_down, go_top}
 use Rattle.ic_rbtree.proofs.Shapes.{right_plug}
 use Rattle.ic_rbtree.proofs.Shortening.{shape_open}
@@ -42,6 +42,9 @@ order_around fs c a p b front back ef eb =
 pub renamed : (fs : List Frame) (c : Color) (a : Tree) (p q : Place) (b : Tree) → IsRight (plug fs (fork c a p b)) → IsRight (plug fs (fork c a q b))
 renamed fs c a p q b r =
     let o = shape_open fs (fork c a p b) r in right_plug fs (fork c a q b) o.0 o.1 o.2 o.3 o.4
+
+abbrev pub parts : Color → Tree → Tree → Parts
+parts c a b = record { color = c; left = a; right = b }
 
 module _ {E : Type 0} (n : E → Node) where
   pub go_into : {base v : Table E} (root : Option Place) (fs : List Frame) (t : Tree) (ps : List Piece) → Stands n base v root [] (plug fs t) ps → Stands n base v root fs t ps
@@ -78,7 +81,7 @@ module _ {E : Type 0} (n : E → Node) where
       → Spot base w root1 front p back (loose z ∷ ps) → TakesPlace n w u root1 root2 p z → Shown n base u root2 (front ++ z ∷ back) (loose p ∷ ps)
   placed {base} {w} {u} {root1} {root2} {front} {p} {back} {ps} z x swapped = record {
     tree = plug x.fs (fork x.c x.a z x.b);
-    stands = go_top n root2 x.fs (fork x.c x.a z x.b) (loose p ∷ ps) (swapped base x.fs x.c x.a x.b ps x.stands);
+    stands = go_top n root2 x.fs (fork x.c x.a z x.b) (loose p ∷ ps) (swapped base x.fs (parts x.c x.a x.b) ps x.stands);
     order = order_around x.fs x.c x.a z x.b front back x.front_is x.back_is;
     shape = renamed x.fs x.c x.a p z x.b x.right;
   }
@@ -99,16 +102,16 @@ module _ {E : Type 0} (n : E → Node) where
         pick (fork c a q b) (fork k l r m) e = absurd (none_not r (sym e))
 
     pub lone_can : (o : Option Place) → o ≡ both_of (n (v.entry p)).left (n (v.entry p)).right → o ≡ None → CanTakeOut n v root p
-    lone_can o eo none = (base, x.fs, x.c, x.a, x.b, ps, x.stands, lone o eo none, x.right)
+    lone_can o eo none = (base, x.fs, parts x.c x.a x.b, ps, x.stands, lone o eo none, x.right)
 
     pub lone_taken : {w : Table E} {new_root : Option Place} (o : Option Place) → o ≡ both_of (n (v.entry p)).left (n (v.entry p)).right → o ≡ None
         → TakesOut n v w root new_root p → Shown n base w new_root (front ++ back) (loose p ∷ ps)
     lone_taken {w} {new_root} o eo none taken =
         let one = lone o eo none in
-        subst (λ (s : List Place). Shown n base w new_root s (loose p ∷ ps)) (parts x.fs x.a x.b one x.front_is x.back_is) (taken base x.fs x.c x.a x.b ps x.stands one x.right)
+        subst (λ (s : List Place). Shown n base w new_root s (loose p ∷ ps)) (joined x.fs x.a x.b one x.front_is x.back_is) (taken base x.fs (parts x.c x.a x.b) ps x.stands one x.right)
       where
-        parts : (fs : List Frame) (a b : Tree) → IsLone a b → before fs ++ in_order a ≡ front → in_order b ++ after fs ≡ back → before fs ++ (in_order (only a b) ++ after fs) ≡ front ++ back
-        parts fs a b one ef eb =
+        joined : (fs : List Frame) (a b : Tree) → IsLone a b → before fs ++ in_order a ≡ front → in_order b ++ after fs ≡ back → before fs ++ (in_order (only a b) ++ after fs) ≡ front ++ back
+        joined fs a b one ef eb =
             ap (λ (z : List Place). before fs ++ (z ++ after fs)) (order_only a b one)
             ∙ (ap (λ (z : List Place). before fs ++ z) (append_assoc (in_order a) (in_order b) (after fs))
             ∙ (sym (append_assoc (before fs) (in_order a) (in_order b ++ after fs)) ∙ (ap (λ (z : List Place). z ++ (in_order b ++ after fs)) ef ∙ ap (λ (z : List Place). front ++ z) eb)))
@@ -162,14 +165,14 @@ module _ {E : Type 0} (n : E → Node) where
             }
 
         pub next_can : CanTakeOut n v root z
-        next_can = (base, next.gs, next.k, leaf, next.m, ps, next.stands, inl refl, next.right)
+        next_can = (base, next.gs, parts next.k leaf next.m, ps, next.stands, inl refl, next.right)
 
         pub next_out : {w : Table E} {new_root : Option Place} → TakesOut n v w root new_root z → Shown n base w new_root (front ++ p ∷ (in_order next.m ++ after next.gs)) (loose z ∷ ps)
         next_out {w} {new_root} taken =
-            subst (λ (s : List Place). Shown n base w new_root s (loose z ∷ ps)) next.order (taken base next.gs next.k leaf next.m ps next.stands (inl refl) next.right)
+            subst (λ (s : List Place). Shown n base w new_root s (loose z ∷ ps)) next.order (taken base next.gs (parts next.k leaf next.m) ps next.stands (inl refl) next.right)
 
         pub place_can : {w : Table E} {new_root : Option Place} → TakesOut n v w root new_root z → CanTakePlace n w new_root p z
-        place_can taken = let y = spot front p (in_order next.m ++ after next.gs) (next_out taken) in (base, y.fs, y.c, y.a, y.b, ps, y.stands)
+        place_can taken = let y = spot front p (in_order next.m ++ after next.gs) (next_out taken) in (base, y.fs, parts y.c y.a y.b, ps, y.stands)
 
         pub place_taken : {w u : Table E} {root1 root2 : Option Place} → TakesOut n v w root root1 z → TakesPlace n w u root1 root2 p z → Shown n base u root2 (front ++ back) (loose p ∷ ps)
         place_taken {w} {u} {root1} {root2} taken swapped =
