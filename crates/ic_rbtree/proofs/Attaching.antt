@@ -127,7 +127,7 @@ module _ {E : Type 0} (n : E → Node) where
   pub attached_red : {base v v4 v5 : Table E} {root : Option Place} (parent : Option Place) (q : Place) (d : Side) (front back : List Place) (p : Place) {ps : List Piece}
       → ((qs : List Piece) → Held n base v (loose p ∷ qs) → Held n base v4 (cell Left p Red None None parent ∷ qs))
       → parent ≡ Some q → n (v5.entry q) ≡ with_child d (n (v4.entry q)) (Some p) → ChangesOnly v4 v5 q
-      → (x : Hole base v root d q front back (loose p ∷ ps)) → RedAt n base v5 root p (front ++ p ∷ back) (frame d x.c q x.b ∷ x.fs) (fork Red leaf p leaf) ps
+      → (x : Hole base v root d q front back (loose p ∷ ps)) → RedAt n v5 root p (record { base = base; sequence = front ++ p ∷ back; frames = frame d x.c q x.b ∷ x.fs; subtree = fork Red leaf p leaf; pieces = ps })
   attached_red {base} {v} {v4} {v5} {root} parent q d front back p {ps} writes is set only x =
       let gs : List Frame = frame d x.c q x.b ∷ x.fs in
       let h0 = regroup n (loose p ∷ around root gs None ∷ ps) x.stands (λ r. omega arith) (x.stands.are.1.1.0, (x.stands.are.0, x.stands.are.1.1.1)) in
