@@ -21,7 +21,7 @@ use Rattle.ic_rbtree.specs.Shortage.{wanted, color_above, IsNearlyRight}
 use Rattle.ic_rbtree.specs.Removal.{is_red, red_at}
 use Rattle.ic_rbtree.specs.Insertion.{color_below, are_across, RedPair, above_pair, blackened, RedAt, Eased, PairAt, Recolors, IsStraight, Lifts}
 use Rattle.ic_rbtree.proofs.Branches.{branch_across, top_branch, as_branch, order_plug, order_branch, order_rotated, side_far, side_tint, side_up}
-use Rattle.ic_rbtree.proofs.Turning.{turn, below_linked, around_linked}
+use Rattle.ic_rbtree.proofs.Turning.{turn, below_linked}
 use Rattle.ic_rbtree.proofs.Zipper.{go_up, go_down, go_across, go_top, painted_top, painted_above}
 use Rattle.ic_rbtree.proofs.Shapes.{recolored, settled, straightened, right_plug}
 use Rattle.ic_rbtree.proofs.Climbing.{side_found, depth_top}
@@ -57,9 +57,6 @@ module _ {E : Type 0} (n : E → Node) where
     red_parent : o ≡ above k.frames
     red_parent = eo ∙ top_parent n v.entry (above k.frames) k.subtree x h.stands.are.1.0 h.top_is
 
-    pub up_linked : (q : Place) → o ≡ Some q → (n (v.entry q)).linked ≡ true
-    up_linked q is = around_linked n v.entry k.frames (top k.subtree) q h.stands.are.0.0 (sym red_parent ∙ is)
-
     done_at : (color_above k.frames ≡ Red → top_color k.subtree ≡ Black) → IsMended n v root k
     done_at fits = record {
       tree = plug k.frames k.subtree;
@@ -67,13 +64,6 @@ module _ {E : Type 0} (n : E → Node) where
       order = h.order;
       shape = right_plug k.frames k.subtree h.nearly.pairs h.nearly.even h.nearly.pairs_around h.nearly.even_around fits;
     }
-
-    -- the root
-    pub done_root : o ≡ None → IsMended n v root k
-    done_root is = done_at (at k.frames h.nearly (sym red_parent ∙ is)) where
-      at : (fs : List Frame) → IsNearlyRight fs k.subtree → above fs ≡ None → color_above fs ≡ Red → top_color k.subtree ≡ Black
-      at [] nearly e red = nearly.painted
-      at (frame d c p b ∷ fs) nearly e red = absurd (none_not p (sym e))
 
     module _ (q : Place) (is : o ≡ Some q) (r : Bool) (er : r ≡ red_at n v (Some q)) where
       above_is : above k.frames ≡ Some q
