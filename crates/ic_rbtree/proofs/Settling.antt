@@ -15,7 +15,7 @@ use Rattle.ic_rbtree.specs.Pieces.{Piece, Stands}
 use Rattle.ic_rbtree.specs.Focus.{Focus, IsMended}
 use Rattle.ic_rbtree.specs.Steps.{Rotates, CanRotate}
 use Rattle.ic_rbtree.specs.Shortage.{IsShort}
-use Rattle.ic_rbtree.specs.Removal.{is_red, red_child, red_at, red_below, AreRead, ShortAt, Beside, Rises}
+use Rattle.ic_rbtree.specs.Removal.{is_red, red_child, red_at, red_below, AreRead, ShortAt, Beside, Leant, Rises}
 use Rattle.ic_rbtree.proofs.Branches.{branch_across, across_twice, top_branch, as_branch, branch_open, order_plug, order_branch, order_rotated, side_near, side_far, side_tint, side_linked}
 use Rattle.ic_rbtree.proofs.Turning.{turn, below_linked}
 use Rattle.ic_rbtree.proofs.Zipper.{go_up, go_down, go_across, go_top, painted_top, painted_above}
@@ -139,10 +139,10 @@ module _ {E : Type 0} (n : E → Node) where
     far_color o far r ek e er = er ∙ red_tells n v (Some w) o sib_open.1 (e ∙ (ap (λ (x : Side). child_on x (n (v.entry w))) ek ∙ far_is)) far_tree
 
     -- it leans already
-    pub leans_now : is_red (top_color sib_open.1) ≡ true → (a m : Tree) × (f : Place) × (o : Tree) × ShortAt n v root q d c (branch d Black a w (fork Red m f o)) k
+    pub leans_now : is_red (top_color sib_open.1) ≡ true → Leant n v root q d w c k
     leans_now red =
         let r = red_branch Left sib_open.1 red in
-        (sib_open.0, r.0, r.1, r.2, subst (λ (x : Tree). ShortAt n v root q d c (branch d Black sib_open.0 w x) k) r.3 opened)
+        record { near = sib_open.0; left = r.0; far = r.1; right = r.2; at = subst (λ (x : Tree). ShortAt n v root q d c (branch d Black sib_open.0 w x) k) r.3 opened }
 
     module _ (red : red_child sib ≡ true) (far : is_red (top_color sib_open.1) ≡ false) where
       pub near_red : (m : Tree) × (z : Place) × (o : Tree) × (sib_open.0 ≡ branch d Red m z o)
@@ -167,8 +167,7 @@ module _ {E : Type 0} (n : E → Node) where
           turn_can_rotate i e = subst (λ (x : Side). CanRotate n v2 root w x) (sym e)
               (k.base, frame (across d) c q k.subtree ∷ k.frames, turn Red sib_open.1 Black near_red.2 z near_red.0, k.pieces, ready)
 
-          pub leans_then : {y : Table E} {new_root : Option Place} (i : Side) → i ≡ across d → Rotates n v2 y root new_root w i
-              → (a m : Tree) × (f : Place) × (o : Tree) × ShortAt n y new_root q d c (branch d Black a z (fork Red m f o)) k
+          pub leans_then : {y : Table E} {new_root : Option Place} (i : Side) → i ≡ across d → Rotates n v2 y root new_root w i → Leant n y new_root q d z c k
           leans_then {y} {new_root} i e rot' =
               let rot : Rotates n v2 y root new_root w (across d) = subst (λ (x : Side). Rotates n v2 y root new_root w x) e rot' in
               let r = near_red in
@@ -182,59 +181,59 @@ module _ {E : Type 0} (n : E → Node) where
                 order = order_plug k.frames (branch d c k.subtree q low) (branch d c k.subtree q (branch d Black (branch d Red r.0 z r.2) w b))
                     (order_branch d c c k.subtree k.subtree q low (branch d Black (branch d Red r.0 z r.2) w b) refl order) ∙ near_open.order;
               } in
-              (r.0, f.0, w, f.1, subst (λ (x : Tree). ShortAt n y new_root q d c (branch d Black r.0 z x) k) f.2 whole)
+              record { near = r.0; left = f.0; far = w; right = f.1; at = subst (λ (x : Tree). ShortAt n y new_root q d c (branch d Black r.0 z x) k) f.2 whole }
             where
               turned_order : (d : Side) (m : Tree) (z : Place) (o : Tree) (w : Place) (b : Tree)
                   → in_order (branch d Black m z (branch d Red o w b)) ≡ in_order (branch d Black (branch d Red m z o) w b)
               turned_order d m z o w b = order_rotated d Black Red Red Black m z o w b
 
   -- A RED FAR CHILD: the sibling comes up
-  module _ {v : Table E} {root : Option Place} {q : Place} {d : Side} {c : Color} {k : Focus E} (a : Tree) (w : Place) (m : Tree) (f : Place) (o : Tree) (h : ShortAt n v root q d c (branch d Black a w (fork Red m f o)) k) where
-    tree_here : IsTree n v.entry (Some q) (branch d Black a w (fork Red m f o))
-    tree_here = sib_tree n h
+  module _ {v : Table E} {root : Option Place} {q : Place} {d : Side} {w : Place} {c : Color} {k : Focus E} (l : Leant n v root q d w c k) where
+    abbrev far_child : Color → Tree
+    far_child x = fork x l.left l.far l.right
+
+    tree_here : IsTree n v.entry (Some q) (branch d Black l.near w (far_child Red))
+    tree_here = sib_tree n l.at
 
     pub upper_linked : (n (v.entry w)).linked ≡ true
-    upper_linked = below_linked n v.entry (Some q) (branch d Black a w (fork Red m f o)) w tree_here (top_branch d Black a w (fork Red m f o))
+    upper_linked = below_linked n v.entry (Some q) (branch d Black l.near w (far_child Red)) w tree_here (top_branch d Black l.near w (far_child Red))
 
-    pub outer_some : (i : Side) (x : Option Place) → i ≡ across d → x ≡ child_on i (n (v.entry w)) → x ≡ Some f
-    outer_some i x ek e = e ∙ (ap (λ (y : Side). child_on y (n (v.entry w))) ek ∙ top_far v (Some q) d Black a w (fork Red m f o) tree_here)
+    pub outer_some : (i : Side) (x : Option Place) → i ≡ across d → x ≡ child_on i (n (v.entry w)) → x ≡ Some l.far
+    outer_some i x ek e = e ∙ (ap (λ (y : Side). child_on y (n (v.entry w))) ek ∙ top_far v (Some q) d Black l.near w (far_child Red) tree_here)
 
-    pub outer_linked : (n (v.entry f)).linked ≡ true
-    outer_linked = side_linked n v.entry Left f Red (top m) (top o) (Some w) (branch_open n v.entry (Some q) d Black a w (fork Red m f o) tree_here).2.0
+    pub outer_linked : (n (v.entry l.far)).linked ≡ true
+    outer_linked = side_linked n v.entry Left l.far Red (top l.left) (top l.right) (Some w) (branch_open n v.entry (Some q) d Black l.near w (far_child Red) tree_here).2.0
 
     pub color_here : (x : Color) → x ≡ (n (v.entry q)).color → x ≡ c
     color_here x e = e ∙ side_tint n v.entry d q c (top k.subtree) (Some w) (above k.frames)
-        (subst (λ (y : Option Place). IsAtSide n v.entry d q c (top k.subtree) y (above k.frames)) (top_branch d Black a w (fork Red m f o)) (parent_at n h))
+        (subst (λ (y : Option Place). IsAtSide n v.entry d q c (top k.subtree) y (above k.frames)) (top_branch d Black l.near w (far_child Red)) (parent_at n l.at))
 
-    module _ {v1 v2 v3 : Table E} (x : Color) (ex : x ≡ c) (g : Place) (eg : g ≡ f) (set1 : n (v1.entry w) ≡ record (n (v.entry w)) { color = x }) (only1 : ChangesOnly v v1 w)
+    module _ {v1 v2 v3 : Table E} (x : Color) (ex : x ≡ c) (g : Place) (eg : g ≡ l.far) (set1 : n (v1.entry w) ≡ record (n (v.entry w)) { color = x }) (only1 : ChangesOnly v v1 w)
         (set2 : n (v2.entry q) ≡ record (n (v1.entry q)) { color = Black }) (only2 : ChangesOnly v1 v2 q) (set3 : n (v3.entry g) ≡ record (n (v2.entry g)) { color = Black }) (only3 : ChangesOnly v2 v3 g) where
-      settle_ready : Stands n k.base v3 root k.frames (branch d Black k.subtree q (branch d c a w (fork Black m f o))) k.pieces
+      settle_ready : Stands n k.base v3 root k.frames (branch d Black k.subtree q (branch d c l.near w (far_child Black))) k.pieces
       settle_ready =
-          let F : Tree = fork Red m f o in
-          let F' : Tree = fork Black m f o in
           let up : List Frame = frame (across d) Black q k.subtree ∷ k.frames in
-          let h1 = go_across n root d c q (branch d Black a w F) k.frames k.subtree k.pieces h.stands in
-          let h2 = painted_top n root d Black c x a w w F (frame (across d) c q k.subtree ∷ k.frames) k.pieces refl ex set1 only1 h1 in
-          let h3 = painted_above n root (across d) c Black Black q q k.subtree k.frames (branch d c a w F) k.pieces refl refl set2 only2 h2 in
-          let h4 = go_across n root d c w F up a k.pieces (go_down n root d c w F up a k.pieces h3) in
-          let h5 = painted_top n root Left Red Black Black m f g o (frame (across d) c w a ∷ up) k.pieces eg refl set3 only3 h4 in
-          let h6 = subst (λ (y : Tree). Stands n k.base v3 root up y k.pieces) (branch_across d c a w F') (go_up n root (across d) c w a up F' k.pieces h5) in
-          subst (λ (y : Tree). Stands n k.base v3 root k.frames y k.pieces) (branch_across d Black k.subtree q (branch d c a w F')) (go_up n root (across d) Black q k.subtree k.frames (branch d c a w F') k.pieces h6)
+          let h1 = go_across n root d c q (branch d Black l.near w (far_child Red)) k.frames k.subtree k.pieces l.at.stands in
+          let h2 = painted_top n root d Black c x l.near w w (far_child Red) (frame (across d) c q k.subtree ∷ k.frames) k.pieces refl ex set1 only1 h1 in
+          let h3 = painted_above n root (across d) c Black Black q q k.subtree k.frames (branch d c l.near w (far_child Red)) k.pieces refl refl set2 only2 h2 in
+          let h4 = go_across n root d c w (far_child Red) up l.near k.pieces (go_down n root d c w (far_child Red) up l.near k.pieces h3) in
+          let h5 = painted_top n root Left Red Black Black l.left l.far g l.right (frame (across d) c w l.near ∷ up) k.pieces eg refl set3 only3 h4 in
+          let h6 = subst (λ (y : Tree). Stands n k.base v3 root up y k.pieces) (branch_across d c l.near w (far_child Black)) (go_up n root (across d) c w l.near up (far_child Black) k.pieces h5) in
+          subst (λ (y : Tree). Stands n k.base v3 root k.frames y k.pieces) (branch_across d Black k.subtree q (branch d c l.near w (far_child Black))) (go_up n root (across d) Black q k.subtree k.frames (branch d c l.near w (far_child Black)) k.pieces h6)
 
       pub settle_can_rotate : CanRotate n v3 root q d
-      settle_can_rotate = (k.base, k.frames, turn Black k.subtree c a w (fork Black m f o), k.pieces, settle_ready)
+      settle_can_rotate = (k.base, k.frames, turn Black k.subtree c l.near w (far_child Black), k.pieces, settle_ready)
 
       pub settles : {y : Table E} {new_root : Option Place} → Rotates n v3 y root new_root q d → IsMended n y new_root k
       settles {y} {new_root} rot =
-          let F' : Tree = fork Black m f o in
-          let all : Tree = branch d c (branch d Black k.subtree q a) w F' in
+          let all : Tree = branch d c (branch d Black k.subtree q l.near) w (far_child Black) in
           record {
             tree = plug k.frames all;
-            stands = go_top n new_root k.frames all k.pieces (rot k.base k.frames (turn Black k.subtree c a w F') k.pieces settle_ready);
-            order = order_plug k.frames all (branch d c k.subtree q (branch d Black a w (fork Red m f o)))
-                (sym (order_rotated d Black c Black c k.subtree q a w F')
-                ∙ order_branch d Black c k.subtree k.subtree q (branch d c a w F') (branch d Black a w (fork Red m f o)) refl (order_branch d c Black a a w F' (fork Red m f o) refl refl)) ∙ h.order;
-            shape = short_settled k.frames d c q a w Left m f o k.subtree h.short;
+            stands = go_top n new_root k.frames all k.pieces (rot k.base k.frames (turn Black k.subtree c l.near w (far_child Black)) k.pieces settle_ready);
+            order = order_plug k.frames all (branch d c k.subtree q (branch d Black l.near w (far_child Red)))
+                (sym (order_rotated d Black c Black c k.subtree q l.near w (far_child Black))
+                ∙ order_branch d Black c k.subtree k.subtree q (branch d c l.near w (far_child Black)) (branch d Black l.near w (far_child Red)) refl (order_branch d c Black l.near l.near w (far_child Black) (far_child Red) refl refl)) ∙ l.at.order;
+            shape = short_settled k.frames d c q l.near w Left l.left l.far l.right k.subtree l.at.short;
           }
 
   -- NO RED CHILD: the sibling fades

@@ -64,7 +64,7 @@ gap_open c fs a p b h r = let o = shape_open fs (fork c a p b) r in open_gap a b
   }
 
 module _ {E : Type 0} (n : E → Node) where
-  pub side_on : (v : Table E) (base : Table E) (root : Option Place) (fs : List Frame) (t : Tree) (ps : List Piece) (q : Place) (parent : Option Place) (d : Side)
+  side_on : (v : Table E) (base : Table E) (root : Option Place) (fs : List Frame) (t : Tree) (ps : List Piece) (q : Place) (parent : Option Place) (d : Side)
       → Stands n base v root fs t ps → top t ≡ Some q → parent ≡ above fs → IsSideBelow n v q parent d → IsOn d fs
   side_on v base root [] t ps q parent d h e up is = tt
   side_on v base root (frame k c p b ∷ fs) t ps q parent d h e up is = side_found n v base root k c p b fs t ps q d h e (is p up)
@@ -97,9 +97,6 @@ module _ {E : Type 0} (n : E → Node) where
       no_top leaf e = refl
       no_top (fork i a p b) e = absurd (none_not p (sym e))
 
-    pub child_linked : (q : Place) → child ≡ Some q → (n (v.entry q)).linked ≡ true
-    child_linked q e = below_linked n v.entry (above k.frames) k.subtree q h.stands.are.1.0 (sym h.child_is ∙ e)
-
     pub close_black : {w : Table E} → c ≡ Black → (q : Place) → child ≡ Some q → n (w.entry q) ≡ record (n (v.entry q)) { color = Black } → ChangesOnly v w q → IsMended n w root k
     close_black {w} e q is set only = at k.subtree h where
       at : (t : Tree) → Gap n v root c child parent d (record k { subtree = t }) → IsMended n w root k
@@ -116,12 +113,16 @@ module _ {E : Type 0} (n : E → Node) where
             shape = right_plug k.frames all (red_not_black, h.gap.pairs.1, h.gap.pairs.2) h.gap.even h.gap.pairs_around (subst (λ (m : ℕ). EvenAround k.frames m) level h.gap.even_around) (λ r. refl);
           }
 
+  -- the tree without the member
+  abbrev pub without : Table E → List Frame → Parts → List Piece → Focus E
+  without base fs x ps = record { base = base; sequence = before fs ++ (in_order (only x.left x.right) ++ after fs); frames = fs; subtree = only x.left x.right; pieces = ps }
+
   -- THE WRITES OF TAKING OUT
-  pub taken_out : {base v v1 v2 : Table E} (root new_root child parent : Option Place) (fs : List Frame) (y : Parts) (p : Place) (ps : List Piece)
-      → Stands n base v root fs (member p y) ps → IsLone y.left y.right → child ≡ or_else (n (v.entry p)).left (n (v.entry p)).right → parent ≡ (n (v.entry p)).parent
+  pub taken_out : {base v v1 v2 : Table E} (root new_root child parent : Option Place) (k : Color) (d : Side) (fs : List Frame) (y : Parts) (p : Place) (ps : List Piece)
+      → child ≡ or_else (n (v.entry p)).left (n (v.entry p)).right → parent ≡ (n (v.entry p)).parent → k ≡ (n (v.entry p)).color → IsSideBelow n v p parent d
       → Relinks n v v1 root new_root parent p child → Adopts n v1 v2 child parent
-      → Stands n base v2 new_root fs (only y.left y.right) (loose p ∷ ps) × (child ≡ top (only y.left y.right)) × (parent ≡ above fs)
-  taken_out {base} {v} {v1} {v2} root new_root child parent fs y p ps s lone ec ep f1 f2 =
+      → Stands n base v root fs (member p y) ps → IsLone y.left y.right → IsRight (plug fs (member p y)) → Gap n v2 new_root k child parent d (without base fs y (loose p ∷ ps))
+  taken_out {base} {v} {v1} {v2} root new_root child parent k d fs y p ps ec ep ek side f1 f2 s lone right =
       let record { color = c; left = a; right = b } = y in
       let h0 = open_at n root fs Left c a p b ps s in
       let at = h0.are.0 in
@@ -135,8 +136,14 @@ module _ {E : Type 0} (n : E → Node) where
       let h2 = f1 base fs (top x) (below (Some p) x ∷ loose p ∷ ps) up child_is out h1 in
       let h3 = regroup n (below (Some p) x ∷ around new_root fs (top x) ∷ loose p ∷ ps) h2 (λ q. omega arith) (h2.are.1.0, (h2.are.0, h2.are.1.1)) in
       let h4 = f2 base (Some p) (above fs) x (around new_root fs (top x) ∷ loose p ∷ ps) child_is up h3 in
-      let h5 = regroup n (around new_root fs (top x) ∷ below (above fs) x ∷ loose p ∷ ps) h4 (λ q. omega arith) (h4.are.1.0, (h4.are.0, h4.are.1.1)) in
-      (h5, child_is, up)
+      record {
+        stands = regroup n (around new_root fs (top x) ∷ below (above fs) x ∷ loose p ∷ ps) h4 (λ q. omega arith) (h4.are.1.0, (h4.are.0, h4.are.1.1));
+        child_is = child_is;
+        parent_is = up;
+        side_is = side_on v base root fs (fork c a p b) ps p parent d s refl up side;
+        gap = subst (λ (i : Color). IsGap i fs x) (sym (ek ∙ at.color)) (gap_open c fs a p b lone right);
+        order = in_order_parts fs x;
+      }
     where
       lone_tree : (a b : Tree) → IsLone a b → (P : Tree → Type 0) → P a → P b → P (only a b)
       lone_tree leaf b h P pa pb = pb
@@ -146,22 +153,6 @@ module _ {E : Type 0} (n : E → Node) where
       lone_times q leaf b h = omega arith
       lone_times q (fork c a p b) r (inl e) = cc
       lone_times q (fork c a p b) r (inr e) = omega (arith, ap (λ (t : Tree). times q t) e)
-
-  -- the tree without the member
-  abbrev pub without : Table E → List Frame → Parts → List Piece → Focus E
-  without base fs x ps = record { base = base; sequence = before fs ++ (in_order (only x.left x.right) ++ after fs); frames = fs; subtree = only x.left x.right; pieces = ps }
-
-  pub gap_made : {base v2 : Table E} (root child parent : Option Place) (d : Side) (fs : List Frame) (k : Color) (x : Parts) (p : Place) (ps : List Piece)
-      → k ≡ x.color → Stands n base v2 root fs (only x.left x.right) ps → child ≡ top (only x.left x.right) → parent ≡ above fs → IsOn d fs → IsLone x.left x.right → IsRight (plug fs (member p x))
-      → Gap n v2 root k child parent d (without base fs x ps)
-  gap_made root child parent d fs k x p ps ek s ec ep on lone right = record {
-    stands = s;
-    child_is = ec;
-    parent_is = ep;
-    side_is = on;
-    gap = subst (λ (c : Color). IsGap c fs (only x.left x.right)) (sym ek) (gap_open x.color fs x.left p x.right lone right);
-    order = in_order_parts fs (only x.left x.right);
-  }
 
   -- what is read where a member stands
   pub record Reads (v : Table E) (p : Place) : Type 0 where
@@ -185,9 +176,6 @@ module _ {E : Type 0} (n : E → Node) where
     pick : (x y : Option Place) → (x ≡ Some q → (n (v.entry q)).linked ≡ true) → (y ≡ Some q → (n (v.entry q)).linked ≡ true) → or_else x y ≡ Some q → (n (v.entry q)).linked ≡ true
     pick None y hx hy e = hy e
     pick (Some x) y hx hy e = hx e
-
-  pub reads_color : {base v : Table E} (root : Option Place) (fs : List Frame) (x : Parts) (p : Place) (ps : List Piece) → Stands n base v root fs (member p x) ps → (n (v.entry p)).color ≡ x.color
-  reads_color root fs x p ps h = h.are.1.0.0.color
 
   -- THE WRITES OF TAKING A PLACE
   pub taken_place : (v v1 v2 v3 v4 v5 v6 w : Table E) (root new_root left right parent : Option Place) (color : Color) (p new : Place)

@@ -81,11 +81,17 @@ module _ {E : Type 0} (n : E → Node) where
   abbrev pub IsBesideRed : Table E → Option Place → Place → Side → Place → Type 0
   IsBesideRed v root q d y = (c : Color) × (sibling : Tree) × (k : Focus E) × Beside v root q d y c sibling k × (red_child sibling ≡ true)
 
-  -- `upper` stands there in place of y, and its far child is red
+  -- the other child of q is `upper`, black, and its far child is red
+  pub record Leant (v : Table E) (root : Option Place) (q : Place) (d : Side) (upper : Place) (c : Color) (k : Focus E) : Type 0 where
+    pub near : Tree
+    pub left : Tree
+    pub far : Place
+    pub right : Tree
+    pub at : ShortAt v root q d c (branch d Black near upper (fork Red left far right)) k
+
   abbrev pub Leans : Table E → Table E → Option Place → Option Place → Side → Place → Place → Type 0
   Leans v w root new_root d y upper =
-      (q : Place) (c : Color) (sibling : Tree) (k : Focus E) → Beside v root q d y c sibling k → red_child sibling ≡ true
-      → (a : Tree) × (m : Tree) × (f : Place) × (o : Tree) × ShortAt w new_root q d c (branch d Black a upper (fork Red m f o)) k
+      (q : Place) (c : Color) (sibling : Tree) (k : Focus E) → Beside v root q d y c sibling k → red_child sibling ≡ true → Leant w new_root q d upper c k
 
   abbrev pub Settles : Table E → Table E → Option Place → Option Place → Place → Side → Place → Type 0
   Settles v w root new_root q d y =
