@@ -1,5 +1,5 @@
 -- A red sibling comes up.
-use Rattle.std.proofs.Common.{◌≡◌, Bool, true, false, ◌⊎◌, inl, inr, Option, Some, None, List, ◌∷◌, refl, sym, ap, ◌∙◌, subst, arith}
+use Rattle.std.proofs.Common.{◌≡◌, Bool, true, false, inl, inr, Option, Some, None, List, ◌∷◌, refl, sym, ap, ◌∙◌, subst, arith}
 use Rattle.std.specs.Option.{IsSome}
 use Rattle.ic_unsafe_ref.specs.declared.place.Place.{Place}
 use Rattle.ic_link_ops.specs.declared.color.Color.{Color}
@@ -14,7 +14,7 @@ use Rattle.ic_link_ops.proofs.SequenceLemmas.{none_not}
 use Rattle.ic_rbtree.specs.Pieces.{Piece, Stands}
 use Rattle.ic_rbtree.specs.Focus.{Focus}
 use Rattle.ic_rbtree.specs.Steps.{Rotates, CanRotate}
-use Rattle.ic_rbtree.specs.Removal.{is_red, red_at, ShortAt, Beside}
+use Rattle.ic_rbtree.specs.Removal.{is_red, red_at, ShortAt, Raised}
 use Rattle.ic_rbtree.proofs.Branches.{branch_across, as_branch, order_plug, order_rotated, side_far, side_linked}
 use Rattle.ic_rbtree.proofs.Turning.{turn, below_linked}
 use Rattle.ic_rbtree.proofs.Zipper.{go_up, go_down, go_across, painted_top, painted_above}
@@ -91,9 +91,14 @@ module _ {E : Type 0} (n : E → Node) where
       go_down n new_root d Red q a (frame d Black w b ∷ fs) t ps (go_down n new_root d Black w b fs (branch d Red t q a) ps h1)
 
   module _ {v : Table E} {root : Option Place} {w q : Place} {d : Side} {c : Color} {sib : Tree} {k : Focus E} (h : ShortAt n v root q d c sib k) (is : top sib ≡ Some w) where
-    pub not_raised : is_red (top_color sib) ≡ false
-        → (c' : Color) × (sib' : Tree) × (fs : List Frame) × Beside n v root q d w c' sib' (record k { frames = fs }) × ((c' ≡ Red) ⊎ (fs ≡ k.frames))
-    not_raised black = (c, sib, k.frames, record { at = h; top_is = is; black = black_is (top_color sib) black }, inr refl)
+    pub not_raised : is_red (top_color sib) ≡ false → Raised n v root q d w k
+    not_raised black = record {
+      color = c;
+      sibling = sib;
+      frames = k.frames;
+      beside = record { at = h; top_is = is; black = black_is (top_color sib) black };
+      red_or_same = inr refl;
+    }
 
     module _ (red : is_red (top_color sib) ≡ true) where
       pub sib_red : (a b : Tree) × (sib ≡ branch d Red a w b)
@@ -120,8 +125,11 @@ module _ {E : Type 0} (n : E → Node) where
                     (sym (order_rotated d c Red Red Black k.subtree q r.0 w r.1)) ∙ opened.order;
               }
 
-          pub raised : (y : Place) → top sib_red.0 ≡ Some y
-              → (c' : Color) × (sib' : Tree) × (fs : List Frame) × Beside n z new_root q d y c' sib' (record k { frames = fs }) × ((c' ≡ Red) ⊎ (fs ≡ k.frames))
-          raised y e =
-              let r = sib_red in
-              (Red, r.0, frame d Black w r.1 ∷ k.frames, record { at = lowered; top_is = e; black = (short_lowered k.frames d c q r.0 w r.1 k.subtree opened.short).1 }, inl refl)
+          pub raised : (y : Place) → top sib_red.0 ≡ Some y → Raised n z new_root q d y k
+          raised y e = let r = sib_red in record {
+            color = Red;
+            sibling = r.0;
+            frames = frame d Black w r.1 ∷ k.frames;
+            beside = record { at = lowered; top_is = e; black = (short_lowered k.frames d c q r.0 w r.1 k.subtree opened.short).1 };
+            red_or_same = inl refl;
+          }

@@ -62,11 +62,16 @@ module _ {E : Type 0} (n : E → Node) where
     pub top_is : top sibling ≡ Some y
     pub black : top_color sibling ≡ Black
 
-  -- the other child is black now: where the old one was red, it stands above, and q is red
+  -- the other child is y and black now: where the old one was red, it stands above, and q is red
+  pub record Raised (v : Table E) (root : Option Place) (q : Place) (d : Side) (y : Place) (k : Focus E) : Type 0 where
+    pub color : Color
+    pub sibling : Tree
+    pub frames : List Frame
+    pub beside : Beside v root q d y color sibling (record k { frames = frames })
+    pub red_or_same : (color ≡ Red) ⊎ (frames ≡ k.frames)
+
   abbrev pub Raises : Table E → Table E → Option Place → Option Place → Place → Side → Place → Type 0
-  Raises v w root new_root q d y =
-      (c : Color) (sibling : Tree) (k : Focus E) → ShortAt v root q d c sibling k
-      → (c' : Color) × (sibling' : Tree) × (fs : List Frame) × Beside w new_root q d y c' sibling' (record k { frames = fs }) × ((c' ≡ Red) ⊎ (fs ≡ k.frames))
+  Raises v w root new_root q d y = (c : Color) (sibling : Tree) (k : Focus E) → ShortAt v root q d c sibling k → Raised w new_root q d y k
 
   -- whether y has a red child
   abbrev pub red_below : Table E → Place → Bool

@@ -12,7 +12,7 @@ is_red-requires g c q e =
     ∙ sib_linked n c.requires.3 q (sib_top n c.requires.3 c.other-far.result c.child.result c.unwrap-sibling.result c.other-far.ensures c.child.ensures c.unwrap-sibling.ensures ∙ e)
 
 pub returns-then-not-is_red-clause-raised : goal.returns-then-not-is_red-clause-raised
-returns-then-not-is_red-clause-raised g c k sib x h =
+returns-then-not-is_red-clause-raised g c x sib k h =
     let n = g.L.RBTreeOps.node in
     let top = sib_top n h c.other-far.result c.child.result c.unwrap-sibling.result c.other-far.ensures c.child.ensures c.unwrap-sibling.ensures in
     not_raised n h top (sym (sib_color n h c.unwrap-sibling.result c.is_red.result top c.is_red.ensures) ∙ c.if-not-is_red.true)
@@ -41,7 +41,7 @@ unwrap-requires g c =
     c.other-far.result c.child-2.result c.other-far.ensures c.child-2.ensures
 
 pub returns-clause-raised : goal.returns-clause-raised
-returns-clause-raised g c k sib x h =
+returns-clause-raised g c x sib k h =
     let n = g.L.RBTreeOps.node in
     let top = sib_top n h c.other-far.result c.child.result c.unwrap-sibling.result c.other-far.ensures c.child.ensures c.unwrap-sibling.ensures in
     let red = sym (sib_color n h c.unwrap-sibling.result c.is_red.result top c.is_red.ensures) ∙ c.if-not-is_red.false in

@@ -44,9 +44,9 @@ rotate-requires g c =
     c.set_color.ensures.set c.set_color.ensures.frame c.set_color-2.ensures.set c.set_color-2.ensures.frame c.set_color-3.ensures.set c.set_color-3.ensures.frame
 
 pub returns-clause-settled : goal.returns-clause-settled
-returns-clause-settled g c k sib x h red =
+returns-clause-settled g c x sib k h red =
     let n = g.L.RBTreeOps.node in
-    let l = c.lean-upper.ensures.leant c.args.place k sib x h red in
+    let l = c.lean-upper.ensures.leant c.args.place x sib k h red in
     let f = some_same (sym c.unwrap-outer.ensures ∙ outer_some n l c.other-far.result c.child.result c.other-far.ensures c.child.ensures) in
     settles n l c.color-color.result (color_here n l c.color-color.result c.color-color.ensures) c.unwrap-outer.result f
     c.set_color.ensures.set c.set_color.ensures.frame c.set_color-2.ensures.set c.set_color-2.ensures.frame c.set_color-3.ensures.set c.set_color-3.ensures.frame c.rotate.ensures.rotated
