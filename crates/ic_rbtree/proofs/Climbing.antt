@@ -131,9 +131,7 @@ module _ {E : Type 0} (n : E → Node) where
         on (frame i c p b ∷ gs) tell st = side_found v k.base root i c p b gs k.subtree k.pieces q d st h.top_is (tell p refl)
 
   -- ONE TURN OF THE LOOP: the shortage at q has risen, and the loop stands at its parent
-  module _ {v w : Table E} {root new_root : Option Place} {d : Side} {parent : Option Place} (q : Place) (is : parent ≡ Some q)
-      (law : (p : Place) → (n (v.entry p)).linked ≡ true → IsCovered v p) (law' : (p : Place) → (n (w.entry p)).linked ≡ true → IsCovered w p)
-      (done : Bool) (step : Steps n v w root new_root q d done) (no : done ≡ false) where
+  module _ {v w : Table E} {root new_root : Option Place} {d : Side} {parent : Option Place} (q : Place) (is : parent ≡ Some q) (done : Bool) (step : Steps n v w root new_root q d done) (no : done ≡ false) where
     rise : (k : Focus E) → Short n v root parent d k
         → (gs : List Frame) × (u : Tree) × Rises n w new_root q (record k { frames = gs; subtree = u }) × (length k.frames ≡ suc (length gs))
     rise k h =
@@ -147,8 +145,9 @@ module _ {E : Type 0} (n : E → Node) where
       pub next_linked : CanMend n v root parent d → (p : Place) → o ≡ Some p → (n (w.entry p)).linked ≡ true
       next_linked (k, h) p e = rises_linked (rise k h).2 o eo p e
 
-      pub next_falls : CanMend n v root parent d → depth n w o < depth n v parent
-      next_falls (k, h) =
+      pub next_falls : ((p : Place) → (n (v.entry p)).linked ≡ true → IsCovered v p) → ((p : Place) → (n (w.entry p)).linked ≡ true → IsCovered w p)
+          → CanMend n v root parent d → depth n w o < depth n v parent
+      next_falls law law' (k, h) =
           let r = rise k h in
           let old : depth n v parent ≡ length k.frames = ap (λ (x : Option Place). depth n v x) h.parent_is ∙ depth_is law root k.frames k.subtree k.pieces h.stands in
           let new : depth n w o ≡ length r.0 = ap (λ (x : Option Place). depth n w x) (rises_parent r.2 o eo) ∙ depth_is law' new_root r.0 r.1 k.pieces r.2.stands in

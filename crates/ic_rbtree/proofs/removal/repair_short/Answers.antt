@@ -26,29 +26,25 @@ returns-clause-mended g c k h =
 pub parent-parent-requires : goal.parent-parent-requires
 parent-parent-requires g c = record {
   linked = sym (g.met.L.RBTreeOps.linked_alike _)
-      ∙ rise_linked g.L.RBTreeOps.node c.in-Some.place c.in-Some.is
-      (λ p e. g.met.L.LinkOps.linked_is_covered _ p (sym (g.met.L.RBTreeOps.linked_alike _) ∙ e)) (λ p e. g.met.L.LinkOps.linked_is_covered _ p (sym (g.met.L.RBTreeOps.linked_alike _) ∙ e))
-      c.mend.result c.mend.ensures.mended c.if-mend.false c.loop-parent.invariant.some;
+      ∙ rise_linked g.L.RBTreeOps.node c.in-Some.place c.in-Some.is c.mend.result c.mend.ensures.mended c.if-mend.false c.loop-parent.invariant.some;
 }
 
 pub side_of-side-requires : goal.side_of-side-requires
 side_of-side-requires g c =
     sym (g.met.L.RBTreeOps.linked_alike _)
-    ∙ next_linked g.L.RBTreeOps.node c.in-Some.place c.in-Some.is
-    (λ p e. g.met.L.LinkOps.linked_is_covered _ p (sym (g.met.L.RBTreeOps.linked_alike _) ∙ e)) (λ p e. g.met.L.LinkOps.linked_is_covered _ p (sym (g.met.L.RBTreeOps.linked_alike _) ∙ e))
-    c.mend.result c.mend.ensures.mended c.if-mend.false c.parent-parent.ensures c.loop-parent.invariant.some c.in-Some-parent.up c.in-Some-parent.is
+    ∙ next_linked g.L.RBTreeOps.node c.in-Some.place c.in-Some.is c.mend.result c.mend.ensures.mended c.if-mend.false c.parent-parent.ensures c.loop-parent.invariant.some c.in-Some-parent.up c.in-Some-parent.is
 
 pub loop-parent-smaller-in-Some-parent : goal.loop-parent-smaller-in-Some-parent
 loop-parent-smaller-in-Some-parent g c =
-    next_falls g.L.RBTreeOps.node c.in-Some.place c.in-Some.is
+    next_falls g.L.RBTreeOps.node c.in-Some.place c.in-Some.is c.mend.result c.mend.ensures.mended c.if-mend.false (sym c.in-Some-parent.is ∙ c.parent-parent.ensures)
     (λ p e. g.met.L.LinkOps.linked_is_covered _ p (sym (g.met.L.RBTreeOps.linked_alike _) ∙ e)) (λ p e. g.met.L.LinkOps.linked_is_covered _ p (sym (g.met.L.RBTreeOps.linked_alike _) ∙ e))
-    c.mend.result c.mend.ensures.mended c.if-mend.false (sym c.in-Some-parent.is ∙ c.parent-parent.ensures) c.loop-parent.invariant.some
+    c.loop-parent.invariant.some
 
 pub loop-parent-smaller : goal.loop-parent-smaller
 loop-parent-smaller g c =
-    next_falls g.L.RBTreeOps.node c.in-Some.place c.in-Some.is
+    next_falls g.L.RBTreeOps.node c.in-Some.place c.in-Some.is c.mend.result c.mend.ensures.mended c.if-mend.false c.parent-parent.ensures
     (λ p e. g.met.L.LinkOps.linked_is_covered _ p (sym (g.met.L.RBTreeOps.linked_alike _) ∙ e)) (λ p e. g.met.L.LinkOps.linked_is_covered _ p (sym (g.met.L.RBTreeOps.linked_alike _) ∙ e))
-    c.mend.result c.mend.ensures.mended c.if-mend.false c.parent-parent.ensures c.loop-parent.invariant.some
+    c.loop-parent.invariant.some
 
 pub loop-parent-preserved-in-Some-parent : goal.loop-parent-preserved-in-Some-parent
 loop-parent-preserved-in-Some-parent g c =
@@ -57,14 +53,10 @@ loop-parent-preserved-in-Some-parent g c =
     let up = sym c.in-Some-parent.is ∙ c.parent-parent.ensures in
     let tells : (p : Place) → Some c.in-Some-parent.up ≡ Some p → IsSideOf n w c.in-Some.place p c.side_of-side.result = λ p e. subst (λ (z : Place). IsSideOf n w c.in-Some.place z c.side_of-side.result) (some_same e) c.side_of-side.ensures in
     record {
-      some = next_some n c.in-Some.place c.in-Some.is
-          (λ p e. g.met.L.LinkOps.linked_is_covered _ p (sym (g.met.L.RBTreeOps.linked_alike _) ∙ e)) (λ p e. g.met.L.LinkOps.linked_is_covered _ p (sym (g.met.L.RBTreeOps.linked_alike _) ∙ e))
-          c.mend.result c.mend.ensures.mended c.if-mend.false up c.side_of-side.result tells c.loop-parent.invariant.some;
+      some = next_some n c.in-Some.place c.in-Some.is c.mend.result c.mend.ensures.mended c.if-mend.false up c.side_of-side.result tells c.loop-parent.invariant.some;
       each = λ k h.
           let i = c.loop-parent.invariant.each k h in
-          next_each n c.in-Some.place c.in-Some.is
-          (λ p e. g.met.L.LinkOps.linked_is_covered _ p (sym (g.met.L.RBTreeOps.linked_alike _) ∙ e)) (λ p e. g.met.L.LinkOps.linked_is_covered _ p (sym (g.met.L.RBTreeOps.linked_alike _) ∙ e))
-          c.mend.result c.mend.ensures.mended c.if-mend.false up c.side_of-side.result tells (record k { frames = i.0; subtree = i.1 }) i.2;
+          next_each n c.in-Some.place c.in-Some.is c.mend.result c.mend.ensures.mended c.if-mend.false up c.side_of-side.result tells (record k { frames = i.0; subtree = i.1 }) i.2;
       linked = λ q. c.mend.ensures.linked q ∙ c.loop-parent.invariant.linked q;
       no_step = λ start s d. c.mend.ensures.no_step start s (c.loop-parent.invariant.no_step start s d);
     }
@@ -76,14 +68,10 @@ loop-parent-preserved g c =
     let up = c.parent-parent.ensures in
     let tells : (p : Place) → c.parent-parent.result ≡ Some p → IsSideOf n w c.in-Some.place p c.loop-parent.side = λ p e. absurd (none_not p (sym c.in_default-parent.is ∙ e)) in
     record {
-      some = next_some n c.in-Some.place c.in-Some.is
-          (λ p e. g.met.L.LinkOps.linked_is_covered _ p (sym (g.met.L.RBTreeOps.linked_alike _) ∙ e)) (λ p e. g.met.L.LinkOps.linked_is_covered _ p (sym (g.met.L.RBTreeOps.linked_alike _) ∙ e))
-          c.mend.result c.mend.ensures.mended c.if-mend.false up c.loop-parent.side tells c.loop-parent.invariant.some;
+      some = next_some n c.in-Some.place c.in-Some.is c.mend.result c.mend.ensures.mended c.if-mend.false up c.loop-parent.side tells c.loop-parent.invariant.some;
       each = λ k h.
           let i = c.loop-parent.invariant.each k h in
-          next_each n c.in-Some.place c.in-Some.is
-          (λ p e. g.met.L.LinkOps.linked_is_covered _ p (sym (g.met.L.RBTreeOps.linked_alike _) ∙ e)) (λ p e. g.met.L.LinkOps.linked_is_covered _ p (sym (g.met.L.RBTreeOps.linked_alike _) ∙ e))
-          c.mend.result c.mend.ensures.mended c.if-mend.false up c.loop-parent.side tells (record k { frames = i.0; subtree = i.1 }) i.2;
+          next_each n c.in-Some.place c.in-Some.is c.mend.result c.mend.ensures.mended c.if-mend.false up c.loop-parent.side tells (record k { frames = i.0; subtree = i.1 }) i.2;
       linked = λ q. c.mend.ensures.linked q ∙ c.loop-parent.invariant.linked q;
       no_step = λ start s d. c.mend.ensures.no_step start s (c.loop-parent.invariant.no_step start s d);
     }
