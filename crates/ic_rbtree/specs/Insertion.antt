@@ -27,7 +27,7 @@ are_across Left Right = true
 are_across Right Left = true
 are_across Right Right = false
 
--- what stands around a red pair: the side of the lower one and its sibling, and the color of the parent above and its other subtree
+-- what stands around a red pair: the side of the lower one and its sibling, and above both a parent's color and other subtree
 pub record RedPair : Type 0 where
   pub low : Side
   pub sibling : Tree

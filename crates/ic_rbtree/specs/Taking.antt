@@ -50,7 +50,7 @@ module _ {E : Type 0} (n : E → Node) where
   abbrev pub IsSideBelow : Table E → Place → Option Place → Side → Type 0
   IsSideBelow v p parent d = (q : Place) → parent ≡ Some q → IsSideOf n v p q d
 
-  -- the same, where `child` hangs in the place of the member, on side d of `parent`
+  -- such a gap: `child`, the root of the subtree, hangs in the member's place on side d of `parent`
   pub record Gap (v : Table E) (root : Option Place) (c : Color) (child parent : Option Place) (d : Side) (k : Focus E) : Type 0 where
     pub stands : IsInFocus n v root k
     pub child_is : child ≡ top k.subtree
