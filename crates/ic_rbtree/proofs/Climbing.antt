@@ -53,7 +53,7 @@ module _ {E : Type 0} (n : E → Node) where
   pub depth_is : {base v : Table E} (law : (q : Place) → (n (v.entry q)).linked ≡ true → IsCovered v q) (root : Option Place) (fs : List Frame) (t : Tree) (ps : List Piece)
       → Stands n base v root fs t ps → depth n v (above fs) ≡ length fs
   depth_is {base} {v} law root fs t ps h =
-      let few : length (in_order (plug fs t)) ≤ v.extent.places = holds_length v law (stands_holds root (plug fs t) ps (go_top n root fs t ps h)) in
+      let few : length (in_order (plug fs t)) ≤ v.extent.places = holds_length v law (stands_holds root (plug fs t) ps (go_top n h)) in
       above_steps v fs (top t) v.extent.places h.are.0.0 (omega (arith, length_frames fs t))
 
   some_steps : (v : Table E) (k : ℕ) (p : Place) → 1 ≤ k → steps_up k (λ q. (n (v.entry q)).parent) (Some p) ≡ suc (steps_up (k - 1) (λ q. (n (v.entry q)).parent) ((n (v.entry p)).parent))
@@ -69,7 +69,7 @@ module _ {E : Type 0} (n : E → Node) where
   pub depth_top : {base v : Table E} (law : (q : Place) → (n (v.entry q)).linked ≡ true → IsCovered v q) (root : Option Place) (fs : List Frame) (t : Tree) (ps : List Piece) (p : Place)
       → Stands n base v root fs t ps → top t ≡ Some p → (depth n v (Some p) ≡ suc (length fs)) × (suc (length fs) ≤ v.extent.places)
   depth_top {base} {v} law root fs t ps p h e =
-      let few : length (in_order (plug fs t)) ≤ v.extent.places = holds_length v law (stands_holds root (plug fs t) ps (go_top n root fs t ps h)) in
+      let few : length (in_order (plug fs t)) ≤ v.extent.places = holds_length v law (stands_holds root (plug fs t) ps (go_top n h)) in
       let fits : suc (length fs) ≤ v.extent.places = omega (arith, length_frames fs t, top_length t p e) in
       let up : (n (v.entry p)).parent ≡ above fs = top_parent n v.entry (above fs) t p h.are.1.0 e in
       let rest : steps_up (v.extent.places - 1) (λ q. (n (v.entry q)).parent) (above fs) ≡ length fs = above_steps v fs (top t) (v.extent.places - 1) h.are.0.0 (omega arith) in

@@ -145,7 +145,7 @@ module _ {E : Type 0} (n : E → Node) where
           far = λ f.
               let there : top b ≡ Some p = sym (side_far n v.entry k r c (top u) (top b) (above rest) h.are.0.0.0) ∙ f in
               absurd (omega (arith, h.once p, times_top p u e, times_top p b there));
-          stands = go_up n root k c r b rest u ps h;
+          stands = go_up n h;
         })
 
   module _ {base v : Table E} {root : Option Place} {d : Side} {p q : Place} (fs gs : List Frame) (u : Tree) {ps : List Piece} (h : Up base v root d p fs ps gs u)

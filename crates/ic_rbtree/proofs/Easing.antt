@@ -60,7 +60,7 @@ module _ {E : Type 0} (n : E → Node) where
     done_at : (color_above k.frames ≡ Red → top_color k.subtree ≡ Black) → IsMended n v root k
     done_at fits = record {
       tree = plug k.frames k.subtree;
-      stands = go_top n root k.frames k.subtree k.pieces h.stands;
+      stands = go_top n h.stands;
       order = h.order;
       shape = right_plug k.frames k.subtree h.nearly.pairs h.nearly.even h.nearly.pairs_around h.nearly.even_around fits;
     }
@@ -101,7 +101,7 @@ module _ {E : Type 0} (n : E → Node) where
     grand_is = side_up n v.entry m.low q Red (top k.subtree) (top m.sibling) (Some g) h.red.stands.are.0.0.0
 
     joined : Stands n k.base v root (frame i m.color g m.uncle ∷ k.frames) (branch m.low Red k.subtree q m.sibling) k.pieces
-    joined = go_up n root m.low Red q m.sibling (frame i m.color g m.uncle ∷ k.frames) k.subtree k.pieces h.red.stands
+    joined = go_up n h.red.stands
 
     -- on which side of g the parent stands
     pair_side : (r : Side) → IsSideOf n v q g r → r ≡ i
@@ -202,7 +202,7 @@ module _ {E : Type 0} (n : E → Node) where
       let all : Tree = branch i Black t upper (branch i Red b g m.uncle) in
       record {
         tree = plug k.frames all;
-        stands = go_top n new_root k.frames all k.pieces (lifts (record m { sibling = b }) (record k { subtree = t }) h.red.stands);
+        stands = go_top n (lifts (record m { sibling = b }) (record k { subtree = t }) h.red.stands);
         order = order_plug k.frames all (branch i m.color (branch i Red t upper b) g m.uncle) (order_rotated i Black Red Red m.color t upper b g m.uncle) ∙ h.red.order;
         shape = settled k.frames i upper b m.color g m.uncle t h.red.nearly (black_is (top_color m.uncle) black);
       }
@@ -222,10 +222,10 @@ module _ {E : Type 0} (n : E → Node) where
         let low : Tree = branch m.low Black k.subtree q m.sibling in
         let up : List Frame = frame i m.color g U ∷ k.frames in
         let tint : x ≡ wanted k.frames = ex ∙ (ap color_below (side_up n v.entry i g m.color (Some q) (top U) (above k.frames) h.are.0.0.2.0) ∙ wanted_is k.frames) in
-        let h1 = go_up n root m.low Black q m.sibling up k.subtree k.pieces (painted_above n root m.low Red Black Black q q m.sibling up k.subtree k.pieces refl refl set1 only1 h) in
-        let h2 = go_across n root i m.color g U k.frames low k.pieces h1 in
+        let h1 = go_up n (painted_above n refl refl set1 only1 h) in
+        let h2 = go_across n h1 in
         let h3 = painted_top n root Left z Black Black a p y b (frame (across i) m.color g low ∷ k.frames) k.pieces (some_same (sym is)) refl set2 only2 h2 in
-        let h4 = go_up n root (across i) m.color g low k.frames U' k.pieces h3 in
+        let h4 = go_up n h3 in
         let h5 = subst (λ (t : Tree). Stands n k.base v2 root k.frames t k.pieces) (branch_across i m.color low g U') h4 in
         painted_top n root i m.color (wanted k.frames) x low g g U' k.frames k.pieces refl tint set3 only3 h5
 
@@ -236,8 +236,8 @@ module _ {E : Type 0} (n : E → Node) where
     lift_ready =
         let low : Tree = branch i Black k.subtree upper m.sibling in
         let up : List Frame = frame i m.color g m.uncle ∷ k.frames in
-        let h1 = go_up n root i Black upper m.sibling up k.subtree k.pieces (painted_above n root i Red Black Black upper upper m.sibling up k.subtree k.pieces refl refl set1 only1 h) in
-        let h2 = go_up n root i Red g m.uncle k.frames low k.pieces (painted_above n root i m.color Red Red g g m.uncle k.frames low k.pieces refl refl set2 only2 h1) in
+        let h1 = go_up n (painted_above n refl refl set1 only1 h) in
+        let h2 = go_up n (painted_above n refl refl set2 only2 h1) in
         subst (λ (z : Tree). Stands n k.base v2 root k.frames z k.pieces)
         (sym (branch_across i Red low g m.uncle) ∙ ap (λ (z : Tree). branch (across i) Red m.uncle g z) (sym (branch_across i Black k.subtree upper m.sibling))) h2
 

@@ -78,10 +78,10 @@ module _ {E : Type 0} (n : E → Node) where
         → n (v2.entry q) ≡ record (n (v1.entry q)) { color = Red } → ChangesOnly v1 v2 q
         → Stands n base v root (frame d c q (branch d Red a w b) ∷ fs) t ps → Stands n base v2 root fs (branch d Red t q (branch d Black a w b)) ps
     raise_ready set1 only1 set2 only2 h =
-        let h1 = go_across n root d c q (branch d Red a w b) fs t ps h in
+        let h1 = go_across n h in
         let h2 = painted_top n root d Red Black Black a w w b (frame (across d) c q t ∷ fs) ps refl refl set1 only1 h1 in
-        let h3 = painted_above n root (across d) c Red Red q q t fs (branch d Black a w b) ps refl refl set2 only2 h2 in
-        subst (λ (x : Tree). Stands n base v2 root fs x ps) (branch_across d Red t q (branch d Black a w b)) (go_up n root (across d) Red q t fs (branch d Black a w b) ps h3)
+        let h3 = painted_above n refl refl set2 only2 h2 in
+        subst (λ (x : Tree). Stands n base v2 root fs x ps) (branch_across d Red t q (branch d Black a w b)) (go_up n h3)
 
   raise_done : {base v2 z : Table E} (root new_root : Option Place) (w q : Place) (d : Side) (fs : List Frame) (a b t : Tree) (ps : List Piece)
       → Rotates n v2 z root new_root q d → Stands n base v2 root fs (branch d Red t q (branch d Black a w b)) ps

@@ -81,7 +81,7 @@ module _ {E : Type 0} (n : E → Node) where
       → Spot base w root1 front p back (loose z ∷ ps) → TakesPlace n w u root1 root2 p z → Shown n base u root2 (front ++ z ∷ back) (loose p ∷ ps)
   placed {base} {w} {u} {root1} {root2} {front} {p} {back} {ps} z x swapped = record {
     tree = plug x.fs (fork x.c x.a z x.b);
-    stands = go_top n root2 x.fs (fork x.c x.a z x.b) (loose p ∷ ps) (swapped base x.fs (parts x.c x.a x.b) ps x.stands);
+    stands = go_top n (swapped base x.fs (parts x.c x.a x.b) ps x.stands);
     order = order_around x.fs x.c x.a z x.b front back x.front_is x.back_is;
     shape = renamed x.fs x.c x.a p z x.b x.right;
   }
@@ -158,7 +158,7 @@ module _ {E : Type 0} (n : E → Node) where
               gs = l.gs;
               k = l.c;
               m = l.b;
-              stands = go_into root l.gs (fork l.c leaf z l.b) ps (subst (λ (t : Tree). Stands n base v root [] t ps) (sym l.same) (go_top n root (frame Right x.c p x.a ∷ x.fs) x.b ps right_stands));
+              stands = go_into root l.gs (fork l.c leaf z l.b) ps (subst (λ (t : Tree). Stands n base v root [] t ps) (sym l.same) (go_top n right_stands));
               right = subst (λ (t : Tree). IsRight t) (sym l.same) x.right;
               behind = cc;
               order = glued rest;

@@ -90,9 +90,9 @@ module _ {E : Type 0} (n : E → Node) where
         → Stands n base v2 root (frame (across d) c q t ∷ fs) (branch (across d) Red b w (branch (across d) Black o z m)) ps
     turn_ready set1 only1 set2 only2 h =
         let up : List Frame = frame (across d) c q t ∷ fs in
-        let h1 = go_down n root d Black w b up (branch d Red m z o) ps (go_across n root d c q (branch d Black (branch d Red m z o) w b) fs t ps h) in
+        let h1 = go_down n root d Black w b up (branch d Red m z o) ps (go_across n h) in
         let h2 = painted_top n root d Red Black Black m z z o (frame d Black w b ∷ up) ps refl refl set1 only1 h1 in
-        let h3 = go_up n root d Red w b up (branch d Black m z o) ps (painted_above n root d Black Red Red w w b up (branch d Black m z o) ps refl refl set2 only2 h2) in
+        let h3 = go_up n (painted_above n refl refl set2 only2 h2) in
         subst (λ (x : Tree). Stands n base v2 root up x ps)
         (sym (branch_across d Red (branch d Black m z o) w b) ∙ ap (λ (x : Tree). branch (across d) Red b w x) (sym (branch_across d Black m z o))) h3
 
@@ -105,7 +105,7 @@ module _ {E : Type 0} (n : E → Node) where
       let h1 = rot base up (turn Red b Black o z m) ps h in
       let back : branch (across d) Black (branch (across d) Red b w o) z m ≡ low =
       branch_across d Black m z (branch (across d) Red b w o) ∙ ap (λ (x : Tree). branch d Black m z x) (branch_across d Red o w b) in
-      let h2 = go_across n new_root (across d) c q t fs low ps (subst (λ (x : Tree). Stands n base y new_root up x ps) back h1) in
+      let h2 = go_across n (subst (λ (x : Tree). Stands n base y new_root up x ps) back h1) in
       subst (λ (k : Side). Stands n base y new_root (frame k c q low ∷ fs) t ps) (across_twice d) h2
 
   module _ {v : Table E} {root : Option Place} {q : Place} {d : Side} {w : Place} {c : Color} {sib : Tree} {k : Focus E} (h : Beside n v root q d w c sib k) where
@@ -213,13 +213,13 @@ module _ {E : Type 0} (n : E → Node) where
       settle_ready : Stands n k.base v3 root k.frames (branch d Black k.subtree q (branch d c l.near w (far_child Black))) k.pieces
       settle_ready =
           let up : List Frame = frame (across d) Black q k.subtree ∷ k.frames in
-          let h1 = go_across n root d c q (branch d Black l.near w (far_child Red)) k.frames k.subtree k.pieces l.at.stands in
+          let h1 = go_across n l.at.stands in
           let h2 = painted_top n root d Black c x l.near w w (far_child Red) (frame (across d) c q k.subtree ∷ k.frames) k.pieces refl ex set1 only1 h1 in
-          let h3 = painted_above n root (across d) c Black Black q q k.subtree k.frames (branch d c l.near w (far_child Red)) k.pieces refl refl set2 only2 h2 in
-          let h4 = go_across n root d c w (far_child Red) up l.near k.pieces (go_down n root d c w (far_child Red) up l.near k.pieces h3) in
+          let h3 = painted_above n refl refl set2 only2 h2 in
+          let h4 = go_across n (go_down n root d c w (far_child Red) up l.near k.pieces h3) in
           let h5 = painted_top n root Left Red Black Black l.left l.far g l.right (frame (across d) c w l.near ∷ up) k.pieces eg refl set3 only3 h4 in
-          let h6 = subst (λ (y : Tree). Stands n k.base v3 root up y k.pieces) (branch_across d c l.near w (far_child Black)) (go_up n root (across d) c w l.near up (far_child Black) k.pieces h5) in
-          subst (λ (y : Tree). Stands n k.base v3 root k.frames y k.pieces) (branch_across d Black k.subtree q (branch d c l.near w (far_child Black))) (go_up n root (across d) Black q k.subtree k.frames (branch d c l.near w (far_child Black)) k.pieces h6)
+          let h6 = subst (λ (y : Tree). Stands n k.base v3 root up y k.pieces) (branch_across d c l.near w (far_child Black)) (go_up n h5) in
+          subst (λ (y : Tree). Stands n k.base v3 root k.frames y k.pieces) (branch_across d Black k.subtree q (branch d c l.near w (far_child Black))) (go_up n h6)
 
       pub settle_can_rotate : CanRotate n v3 root q d
       settle_can_rotate = (k.base, k.frames, turn Black k.subtree c l.near w (far_child Black), k.pieces, settle_ready)
@@ -229,7 +229,7 @@ module _ {E : Type 0} (n : E → Node) where
           let all : Tree = branch d c (branch d Black k.subtree q l.near) w (far_child Black) in
           record {
             tree = plug k.frames all;
-            stands = go_top n new_root k.frames all k.pieces (rot k.base k.frames (turn Black k.subtree c l.near w (far_child Black)) k.pieces settle_ready);
+            stands = go_top n (rot k.base k.frames (turn Black k.subtree c l.near w (far_child Black)) k.pieces settle_ready);
             order = order_plug k.frames all (branch d c k.subtree q (branch d Black l.near w (far_child Red)))
                 (sym (order_rotated d Black c Black c k.subtree q l.near w (far_child Black))
                 ∙ order_branch d Black c k.subtree k.subtree q (branch d c l.near w (far_child Black)) (branch d Black l.near w (far_child Red)) refl (order_branch d c Black l.near l.near w (far_child Black) (far_child Red) refl refl)) ∙ l.at.order;
@@ -247,9 +247,9 @@ module _ {E : Type 0} (n : E → Node) where
       faded : Stands n k.base v1 root (frame d c q (branch d Red (sib_open h).0 w (sib_open h).1) ∷ k.frames) k.subtree k.pieces
       faded =
           let o = sib_open h in
-          let h1 = go_across n root d c q (branch d Black o.0 w o.1) k.frames k.subtree k.pieces (opened h).stands in
+          let h1 = go_across n (opened h).stands in
           let h2 = painted_top n root d Black Red Red o.0 w w o.1 (frame (across d) c q k.subtree ∷ k.frames) k.pieces refl refl set1 only1 h1 in
-          let h3 = go_across n root (across d) c q k.subtree k.frames (branch d Red o.0 w o.1) k.pieces h2 in
+          let h3 = go_across n h2 in
           subst (λ (x : Side). Stands n k.base v1 root (frame x c q (branch d Red o.0 w o.1) ∷ k.frames) k.subtree k.pieces) (across_twice d) h3
 
       pub color_then : (r : Bool) → r ≡ red_at n v1 (Some q) → r ≡ is_red c
@@ -269,7 +269,7 @@ module _ {E : Type 0} (n : E → Node) where
           let black : c ≡ Black = black_is c e in (
             branch d c k.subtree q (branch d Red o.0 w o.1),
             record {
-              stands = go_up n root d c q (branch d Red o.0 w o.1) k.frames k.subtree k.pieces faded;
+              stands = go_up n faded;
               top_is = top_branch d c k.subtree q (branch d Red o.0 w o.1);
               short = subst (λ (x : Color). IsShort k.frames (branch d x k.subtree q (branch d Red o.0 w o.1))) (sym black)
                   (short_up k.frames d q o.0 w o.1 k.subtree (subst (λ (x : Color). IsShort (frame d x q (branch d Black o.0 w o.1) ∷ k.frames) k.subtree) black (opened h).short) r.0 r.1);
@@ -285,7 +285,7 @@ module _ {E : Type 0} (n : E → Node) where
           let all : Tree = branch d Black k.subtree q (branch d Red o.0 w o.1) in
           record {
             tree = plug k.frames all;
-            stands = go_top n root k.frames all k.pieces (painted_top n root d c Black Black k.subtree q q (branch d Red o.0 w o.1) k.frames k.pieces refl refl set2 only2 (go_up n root d c q (branch d Red o.0 w o.1) k.frames k.subtree k.pieces faded));
+            stands = go_top n (painted_top n root d c Black Black k.subtree q q (branch d Red o.0 w o.1) k.frames k.pieces refl refl set2 only2 (go_up n faded));
             order = same_order Black;
             shape = short_ends k.frames d q o.0 w o.1 k.subtree (subst (λ (x : Color). IsShort (frame d x q (branch d Black o.0 w o.1) ∷ k.frames) k.subtree) red (opened h).short) r.0 r.1;
           }
