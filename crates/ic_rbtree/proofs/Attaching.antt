@@ -64,7 +64,7 @@ module _ {E : Type 0} (n : E → Node) where
           c = x.c;
           b = x.b;
           fs = x.fs;
-          stands = subst (λ (t : Tree). Stands n base v root (frame Left x.c q x.b ∷ x.fs) t ps) none (go_down n root Left x.c q x.b x.fs x.a ps x.stands);
+          stands = subst (λ (t : Tree). Stands n base v root (frame Left x.c q x.b ∷ x.fs) t ps) none (go_down n Left x.c q x.b x.a x.stands);
           right = subst (λ (t : Tree). IsRight (plug (frame Left x.c q x.b ∷ x.fs) t)) none x.right;
           front_is = sym (append-nil (before x.fs)) ∙ (ap (λ (t : Tree). before x.fs ++ in_order t) (sym none) ∙ x.front_is);
           back_is = ap (λ (s : List Place). q ∷ s) x.back_is ∙ sym r.1;
@@ -78,7 +78,7 @@ module _ {E : Type 0} (n : E → Node) where
           c = x.c;
           b = x.a;
           fs = x.fs;
-          stands = subst (λ (t : Tree). Stands n base v root (frame Right x.c q x.a ∷ x.fs) t ps) none (go_down n root Right x.c q x.a x.fs x.b ps x.stands);
+          stands = subst (λ (t : Tree). Stands n base v root (frame Right x.c q x.a ∷ x.fs) t ps) none (go_down n Right x.c q x.a x.b x.stands);
           right = subst (λ (t : Tree). IsRight (plug (frame Right x.c q x.a ∷ x.fs) t)) none x.right;
           front_is = sym (append_assoc (before x.fs) (in_order x.a) (q ∷ [])) ∙ (ap (λ (s : List Place). s ++ q ∷ []) x.front_is ∙ sym r.1);
           back_is = ap (λ (t : Tree). in_order t ++ after x.fs) (sym none) ∙ x.back_is;

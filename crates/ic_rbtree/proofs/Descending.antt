@@ -46,7 +46,7 @@ module _ {E : Type 0} (n : E → Node) where
         stands = s;
         linked = side_linked n v.entry d p (top_color t) (top k.0) (top k.1) (above fs) o.are.0;
         near = side_near n v.entry d p (top_color t) (top k.0) (top k.1) (above fs) o.are.0;
-        down = go_down n root d (top_color t) p k.1 fs k.0 ps s;
+        down = go_down n d (top_color t) p k.1 k.0 s;
       }
 
   -- A DESCENT to a side, from the subtree t below the frames fs: it has come to p, the root of u below gs

@@ -184,7 +184,7 @@ module _ {E : Type 0} (n : E → Node) where
             branch i Red m.sibling q o.0,
             record {
               red = record {
-                stands = go_down n new_root i Red x o.1 (grand ∷ k.frames) (branch i Red m.sibling q o.0) k.pieces st;
+                stands = go_down n i Red x o.1 (branch i Red m.sibling q o.0) st;
                 top_is = top_branch i Red m.sibling q o.0;
                 nearly = straightened k.frames i q m.sibling grand o.0 x o.1
                     (subst (λ (y : Tree). IsNearlyRight (frame (across i) Red q m.sibling ∷ grand ∷ k.frames) y) o.2
@@ -224,10 +224,10 @@ module _ {E : Type 0} (n : E → Node) where
         let tint : x ≡ wanted k.frames = ex ∙ (ap color_below (side_up n v.entry i g m.color (Some q) (top U) (above k.frames) h.are.0.0.2.0) ∙ wanted_is k.frames) in
         let h1 = go_up n (painted_above n refl refl set1 only1 h) in
         let h2 = go_across n h1 in
-        let h3 = painted_top n root Left z Black Black a p y b (frame (across i) m.color g low ∷ k.frames) k.pieces (some_same (sym is)) refl set2 only2 h2 in
+        let h3 = painted_top n Left z a p b (some_same (sym is)) refl set2 only2 h2 in
         let h4 = go_up n h3 in
         let h5 = subst (λ (t : Tree). Stands n k.base v2 root k.frames t k.pieces) (branch_across i m.color low g U') h4 in
-        painted_top n root i m.color (wanted k.frames) x low g g U' k.frames k.pieces refl tint set3 only3 h5
+        painted_top n i m.color low g U' refl tint set3 only3 h5
 
   module _ (v v1 v2 : Table E) (root : Option Place) (upper g : Place) (i : Side) (set1 : n (v1.entry upper) ≡ record (n (v.entry upper)) { color = Black }) (only1 : ChangesOnly v v1 upper)
       (set2 : n (v2.entry g) ≡ record (n (v1.entry g)) { color = Red }) (only2 : ChangesOnly v1 v2 g) (j : Side) (ej : j ≡ across i) (m : RedPair) (k : Focus E)

@@ -79,7 +79,7 @@ module _ {E : Type 0} (n : E → Node) where
         → Stands n base v root (frame d c q (branch d Red a w b) ∷ fs) t ps → Stands n base v2 root fs (branch d Red t q (branch d Black a w b)) ps
     raise_ready set1 only1 set2 only2 h =
         let h1 = go_across n h in
-        let h2 = painted_top n root d Red Black Black a w w b (frame (across d) c q t ∷ fs) ps refl refl set1 only1 h1 in
+        let h2 = painted_top n d Red a w b refl refl set1 only1 h1 in
         let h3 = painted_above n refl refl set2 only2 h2 in
         subst (λ (x : Tree). Stands n base v2 root fs x ps) (branch_across d Red t q (branch d Black a w b)) (go_up n h3)
 
@@ -88,7 +88,7 @@ module _ {E : Type 0} (n : E → Node) where
       → Stands n base z new_root (frame d Red q a ∷ frame d Black w b ∷ fs) t ps
   raise_done {base} {v2} {z} root new_root w q d fs a b t ps rot h =
       let h1 = rot base fs (turn Red t Black a w b) ps h in
-      go_down n new_root d Red q a (frame d Black w b ∷ fs) t ps (go_down n new_root d Black w b fs (branch d Red t q a) ps h1)
+      go_down n d Red q a t (go_down n d Black w b (branch d Red t q a) h1)
 
   module _ {v : Table E} {root : Option Place} {w q : Place} {d : Side} {c : Color} {sib : Tree} {k : Focus E} (h : ShortAt n v root q d c sib k) (is : top sib ≡ Some w) where
     pub not_raised : is_red (top_color sib) ≡ false → Raised n v root q d w k

@@ -49,7 +49,7 @@ parts c a b = record { color = c; left = a; right = b }
 module _ {E : Type 0} (n : E → Node) where
   pub go_into : {base v : Table E} (root : Option Place) (fs : List Frame) (t : Tree) (ps : List Piece) → Stands n base v root [] (plug fs t) ps → Stands n base v root fs t ps
   go_into root [] t ps h = h
-  go_into root (frame d c p b ∷ fs) t ps h = go_down n root d c p b fs t ps (go_into root fs (branch d c t p b) ps h)
+  go_into root (frame d c p b ∷ fs) t ps h = go_down n d c p b t (go_into root fs (branch d c t p b) ps h)
 
   -- FROM THE SEQUENCE to the member
   pub record Spot (base v : Table E) (root : Option Place) (front : List Place) (p : Place) (back : List Place) (ps : List Piece) : Type 0 where
@@ -127,7 +127,7 @@ module _ {E : Type 0} (n : E → Node) where
             pick (Some l) k e = e
 
       right_stands : Stands n base v root (frame Right x.c p x.a ∷ x.fs) x.b ps
-      right_stands = go_down n root Right x.c p x.a x.fs x.b ps x.stands
+      right_stands = go_down n Right x.c p x.a x.b x.stands
 
       pub right_can : StandsAt n v r
       right_can = (base, root, frame Right x.c p x.a ∷ x.fs, x.b, ps, right_stands, right_top)

@@ -90,8 +90,8 @@ module _ {E : Type 0} (n : E → Node) where
         → Stands n base v2 root (frame (across d) c q t ∷ fs) (branch (across d) Red b w (branch (across d) Black o z m)) ps
     turn_ready set1 only1 set2 only2 h =
         let up : List Frame = frame (across d) c q t ∷ fs in
-        let h1 = go_down n root d Black w b up (branch d Red m z o) ps (go_across n h) in
-        let h2 = painted_top n root d Red Black Black m z z o (frame d Black w b ∷ up) ps refl refl set1 only1 h1 in
+        let h1 = go_down n d Black w b (branch d Red m z o) (go_across n h) in
+        let h2 = painted_top n d Red m z o refl refl set1 only1 h1 in
         let h3 = go_up n (painted_above n refl refl set2 only2 h2) in
         subst (λ (x : Tree). Stands n base v2 root up x ps)
         (sym (branch_across d Red (branch d Black m z o) w b) ∙ ap (λ (x : Tree). branch (across d) Red b w x) (sym (branch_across d Black m z o))) h3
@@ -214,10 +214,10 @@ module _ {E : Type 0} (n : E → Node) where
       settle_ready =
           let up : List Frame = frame (across d) Black q k.subtree ∷ k.frames in
           let h1 = go_across n l.at.stands in
-          let h2 = painted_top n root d Black c x l.near w w (far_child Red) (frame (across d) c q k.subtree ∷ k.frames) k.pieces refl ex set1 only1 h1 in
+          let h2 = painted_top n d Black l.near w (far_child Red) refl ex set1 only1 h1 in
           let h3 = painted_above n refl refl set2 only2 h2 in
-          let h4 = go_across n (go_down n root d c w (far_child Red) up l.near k.pieces h3) in
-          let h5 = painted_top n root Left Red Black Black l.left l.far g l.right (frame (across d) c w l.near ∷ up) k.pieces eg refl set3 only3 h4 in
+          let h4 = go_across n (go_down n d c w (far_child Red) l.near h3) in
+          let h5 = painted_top n Left Red l.left l.far l.right eg refl set3 only3 h4 in
           let h6 = subst (λ (y : Tree). Stands n k.base v3 root up y k.pieces) (branch_across d c l.near w (far_child Black)) (go_up n h5) in
           subst (λ (y : Tree). Stands n k.base v3 root k.frames y k.pieces) (branch_across d Black k.subtree q (branch d c l.near w (far_child Black))) (go_up n h6)
 
@@ -248,7 +248,7 @@ module _ {E : Type 0} (n : E → Node) where
       faded =
           let o = sib_open h in
           let h1 = go_across n (opened h).stands in
-          let h2 = painted_top n root d Black Red Red o.0 w w o.1 (frame (across d) c q k.subtree ∷ k.frames) k.pieces refl refl set1 only1 h1 in
+          let h2 = painted_top n d Black o.0 w o.1 refl refl set1 only1 h1 in
           let h3 = go_across n h2 in
           subst (λ (x : Side). Stands n k.base v1 root (frame x c q (branch d Red o.0 w o.1) ∷ k.frames) k.subtree k.pieces) (across_twice d) h3
 
@@ -285,7 +285,7 @@ module _ {E : Type 0} (n : E → Node) where
           let all : Tree = branch d Black k.subtree q (branch d Red o.0 w o.1) in
           record {
             tree = plug k.frames all;
-            stands = go_top n (painted_top n root d c Black Black k.subtree q q (branch d Red o.0 w o.1) k.frames k.pieces refl refl set2 only2 (go_up n faded));
+            stands = go_top n (painted_top n d c k.subtree q (branch d Red o.0 w o.1) refl refl set2 only2 (go_up n faded));
             order = same_order Black;
             shape = short_ends k.frames d q o.0 w o.1 k.subtree (subst (λ (x : Color). IsShort (frame d x q (branch d Black o.0 w o.1) ∷ k.frames) k.subtree) red (opened h).short) r.0 r.1;
           }

@@ -108,7 +108,7 @@ module _ {E : Type 0} (n : E → Node) where
           let level : weight c + blacks (fork i a p b) ≡ blacks all = omega (arith, ap weight e, none, old) in
           record {
             tree = plug k.frames all;
-            stands = go_top n (painted_top n root Left i Black Black a p q b k.frames k.pieces (some_same (sym is ∙ h.child_is)) refl set only h.stands);
+            stands = go_top n (painted_top n Left i a p b (some_same (sym is ∙ h.child_is)) refl set only h.stands);
             order = order_plug k.frames all (fork i a p b) refl ∙ h.order;
             shape = right_plug k.frames all (red_not_black, h.gap.pairs.1, h.gap.pairs.2) h.gap.even h.gap.pairs_around (subst (λ (m : ℕ). EvenAround k.frames m) level h.gap.even_around) (λ r. refl);
           }
