@@ -220,7 +220,6 @@ module _ {E : Type 0} (n : E → Node) where
         let U : Tree = fork z a p b in
         let U' : Tree = fork Black a p b in
         let low : Tree = branch m.low Black k.subtree q m.sibling in
-        let up : List Frame = frame i m.color g U ∷ k.frames in
         let tint : x ≡ wanted k.frames = ex ∙ (ap color_below (side_up n v.entry i g m.color (Some q) (top U) (above k.frames) h.are.0.0.2.0) ∙ wanted_is k.frames) in
         let h1 = go_up n (painted_above n refl refl set1 only1 h) in
         let h2 = go_across n h1 in
@@ -235,7 +234,6 @@ module _ {E : Type 0} (n : E → Node) where
     lift_ready : Stands n k.base v2 root k.frames (branch (across i) Red m.uncle g (branch (across i) Black m.sibling upper k.subtree)) k.pieces
     lift_ready =
         let low : Tree = branch i Black k.subtree upper m.sibling in
-        let up : List Frame = frame i m.color g m.uncle ∷ k.frames in
         let h1 = go_up n (painted_above n refl refl set1 only1 h) in
         let h2 = go_up n (painted_above n refl refl set2 only2 h1) in
         subst (λ (z : Tree). Stands n k.base v2 root k.frames z k.pieces)

@@ -1,5 +1,5 @@
 -- A red sibling comes up.
-use Rattle.std.proofs.Common.{◌≡◌, Bool, true, false, inl, inr, Option, Some, None, List, ◌∷◌, refl, sym, ap, ◌∙◌, subst, arith}
+use Rattle.std.proofs.Common.{◌≡◌, Bool, true, false, inl, inr, Option, Some, None, ◌∷◌, refl, sym, ap, ◌∙◌, subst, arith}
 use Rattle.std.specs.Option.{IsSome}
 use Rattle.ic_unsafe_ref.specs.declared.place.Place.{Place}
 use Rattle.ic_link_ops.specs.declared.color.Color.{Color}
@@ -9,9 +9,9 @@ use Rattle.ic_link_ops.specs.Tables.{Table, ChangesOnly}
 use Rattle.ic_link_ops.specs.Trees.{Tree, leaf, fork, top}
 use Rattle.ic_link_ops.specs.Shape.{top_color, blacks}
 use Rattle.ic_link_ops.specs.RedBlackTree.{Node, IsTree}
-use Rattle.ic_link_ops.specs.Frames.{Frame, frame, branch, above, IsAtSide, across, child_on}
+use Rattle.ic_link_ops.specs.Frames.{frame, branch, above, IsAtSide, across, child_on}
 use Rattle.ic_link_ops.proofs.SequenceLemmas.{none_not}
-use Rattle.ic_rbtree.specs.Pieces.{Piece, Stands}
+use Rattle.ic_rbtree.specs.Pieces.{Stands}
 use Rattle.ic_rbtree.specs.Focus.{Focus}
 use Rattle.ic_rbtree.specs.Steps.{Rotates, CanRotate}
 use Rattle.ic_rbtree.specs.Removal.{is_red, red_at, ShortAt, Raised}
@@ -72,24 +72,6 @@ module _ {E : Type 0} (n : E → Node) where
     pub sib_color : (w : Place) (b : Bool) → top sib ≡ Some w → b ≡ red_at n v (Some w) → b ≡ is_red (top_color sib)
     sib_color w b e eb = eb ∙ red_tells v (Some q) (Some w) sib (sym e) sib_tree
 
-  -- the two colors, and the rotation
-  module _ {base v v1 v2 : Table E} (root : Option Place) (w q : Place) (d : Side) (fs : List Frame) (c : Color) (a b t : Tree) (ps : List Piece) where
-    pub raise_ready : n (v1.entry w) ≡ record (n (v.entry w)) { color = Black } → ChangesOnly v v1 w
-        → n (v2.entry q) ≡ record (n (v1.entry q)) { color = Red } → ChangesOnly v1 v2 q
-        → Stands n base v root (frame d c q (branch d Red a w b) ∷ fs) t ps → Stands n base v2 root fs (branch d Red t q (branch d Black a w b)) ps
-    raise_ready set1 only1 set2 only2 h =
-        let h1 = go_across n h in
-        let h2 = painted_top n d Red a w b refl refl set1 only1 h1 in
-        let h3 = painted_above n refl refl set2 only2 h2 in
-        subst (λ (x : Tree). Stands n base v2 root fs x ps) (branch_across d Red t q (branch d Black a w b)) (go_up n h3)
-
-  raise_done : {base v2 z : Table E} (root new_root : Option Place) (w q : Place) (d : Side) (fs : List Frame) (a b t : Tree) (ps : List Piece)
-      → Rotates n v2 z root new_root q d → Stands n base v2 root fs (branch d Red t q (branch d Black a w b)) ps
-      → Stands n base z new_root (frame d Red q a ∷ frame d Black w b ∷ fs) t ps
-  raise_done {base} {v2} {z} root new_root w q d fs a b t ps rot h =
-      let h1 = rot base fs (turn Red t Black a w b) ps h in
-      go_down n d Red q a t (go_down n d Black w b (branch d Red t q a) h1)
-
   module _ {v : Table E} {root : Option Place} {w q : Place} {d : Side} {c : Color} {sib : Tree} {k : Focus E} (h : ShortAt n v root q d c sib k) (is : top sib ≡ Some w) where
     pub not_raised : is_red (top_color sib) ≡ false → Raised n v root q d w k
     not_raised black = record {
@@ -107,9 +89,13 @@ module _ {E : Type 0} (n : E → Node) where
       opened : ShortAt n v root q d c (branch d Red sib_red.0 w sib_red.1) k
       opened = subst (λ (x : Tree). ShortAt n v root q d c x k) sib_red.2 h
 
+      -- the two colors, and the rotation
       module _ {v1 v2 : Table E} (set1 : n (v1.entry w) ≡ record (n (v.entry w)) { color = Black }) (only1 : ChangesOnly v v1 w) (set2 : n (v2.entry q) ≡ record (n (v1.entry q)) { color = Red }) (only2 : ChangesOnly v1 v2 q) where
         ready : Stands n k.base v2 root k.frames (branch d Red k.subtree q (branch d Black sib_red.0 w sib_red.1)) k.pieces
-        ready = raise_ready root w q d k.frames c sib_red.0 sib_red.1 k.subtree k.pieces set1 only1 set2 only2 opened.stands
+        ready =
+            let r = sib_red in
+            let h1 = painted_top n d Red r.0 w r.1 refl refl set1 only1 (go_across n opened.stands) in
+            subst (λ (x : Tree). Stands n k.base v2 root k.frames x k.pieces) (branch_across d Red k.subtree q (branch d Black r.0 w r.1)) (go_up n (painted_above n refl refl set2 only2 h1))
 
         pub raise_can_rotate : CanRotate n v2 root q d
         raise_can_rotate = (k.base, k.frames, turn Red k.subtree Black sib_red.0 w sib_red.1, k.pieces, ready)
@@ -119,7 +105,8 @@ module _ {E : Type 0} (n : E → Node) where
           lowered =
               let r = sib_red in
               record {
-                stands = raise_done root new_root w q d k.frames r.0 r.1 k.subtree k.pieces rot ready;
+                stands = go_down n d Red q r.0 k.subtree
+                    (go_down n d Black w r.1 (branch d Red k.subtree q r.0) (rot k.base k.frames (turn Red k.subtree Black r.0 w r.1) k.pieces ready));
                 short = (short_lowered k.frames d c q r.0 w r.1 k.subtree opened.short).0;
                 order = order_plug k.frames (branch d Black (branch d Red k.subtree q r.0) w r.1) (branch d c k.subtree q (branch d Red r.0 w r.1))
                     (sym (order_rotated d c Red Red Black k.subtree q r.0 w r.1)) ∙ opened.order;

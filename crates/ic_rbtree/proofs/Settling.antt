@@ -11,7 +11,7 @@ use Rattle.ic_link_ops.specs.Shape.{top_color}
 use Rattle.ic_link_ops.specs.RedBlackTree.{Node, IsTree}
 use Rattle.ic_link_ops.specs.Frames.{Frame, frame, branch, plug, above, IsAtSide, across, child_on}
 use Rattle.ic_link_ops.proofs.SequenceLemmas.{none_not, some_same}
-use Rattle.ic_rbtree.specs.Pieces.{Piece, Stands}
+use Rattle.ic_rbtree.specs.Pieces.{Stands}
 use Rattle.ic_rbtree.specs.Focus.{Focus, IsMended}
 use Rattle.ic_rbtree.specs.Steps.{Rotates, CanRotate}
 use Rattle.ic_rbtree.specs.Shortage.{IsShort}
@@ -82,32 +82,6 @@ module _ {E : Type 0} (n : E → Node) where
       ∙ (ap (λ (x : Bool). x || red_at n v (n (v.entry p)).right) (red_tells n v (Some p) (n (v.entry p)).left a h.0.left h.1)
       ∙ ap (λ (x : Bool). is_red (top_color a) || x) (red_tells n v (Some p) (n (v.entry p)).right b h.0.right h.2))
 
-  -- THE NEAR CHILD COMES UP
-  module _ {base v v1 v2 : Table E} (root : Option Place) (z w q : Place) (d : Side) (fs : List Frame) (c : Color) (m o b t : Tree) (ps : List Piece) where
-    pub turn_ready : n (v1.entry z) ≡ record (n (v.entry z)) { color = Black } → ChangesOnly v v1 z
-        → n (v2.entry w) ≡ record (n (v1.entry w)) { color = Red } → ChangesOnly v1 v2 w
-        → Stands n base v root (frame d c q (branch d Black (branch d Red m z o) w b) ∷ fs) t ps
-        → Stands n base v2 root (frame (across d) c q t ∷ fs) (branch (across d) Red b w (branch (across d) Black o z m)) ps
-    turn_ready set1 only1 set2 only2 h =
-        let up : List Frame = frame (across d) c q t ∷ fs in
-        let h1 = go_down n d Black w b (branch d Red m z o) (go_across n h) in
-        let h2 = painted_top n d Red m z o refl refl set1 only1 h1 in
-        let h3 = go_up n (painted_above n refl refl set2 only2 h2) in
-        subst (λ (x : Tree). Stands n base v2 root up x ps)
-        (sym (branch_across d Red (branch d Black m z o) w b) ∙ ap (λ (x : Tree). branch (across d) Red b w x) (sym (branch_across d Black m z o))) h3
-
-  turn_done : {base v2 y : Table E} (root new_root : Option Place) (z w q : Place) (d : Side) (fs : List Frame) (c : Color) (m o b t : Tree) (ps : List Piece)
-      → Rotates n v2 y root new_root w (across d) → Stands n base v2 root (frame (across d) c q t ∷ fs) (branch (across d) Red b w (branch (across d) Black o z m)) ps
-      → Stands n base y new_root (frame d c q (branch d Black m z (branch d Red o w b)) ∷ fs) t ps
-  turn_done {base} {v2} {y} root new_root z w q d fs c m o b t ps rot h =
-      let up : List Frame = frame (across d) c q t ∷ fs in
-      let low : Tree = branch d Black m z (branch d Red o w b) in
-      let h1 = rot base up (turn Red b Black o z m) ps h in
-      let back : branch (across d) Black (branch (across d) Red b w o) z m ≡ low =
-      branch_across d Black m z (branch (across d) Red b w o) ∙ ap (λ (x : Tree). branch d Black m z x) (branch_across d Red o w b) in
-      let h2 = go_across n (subst (λ (x : Tree). Stands n base y new_root up x ps) back h1) in
-      subst (λ (k : Side). Stands n base y new_root (frame k c q low ∷ fs) t ps) (across_twice d) h2
-
   module _ {v : Table E} {root : Option Place} {q : Place} {d : Side} {w : Place} {c : Color} {sib : Tree} {k : Focus E} (h : Beside n v root q d w c sib k) where
     -- the sibling, opened
     pub sib_open : (a b : Tree) × (sib ≡ branch d Black a w b)
@@ -154,6 +128,7 @@ module _ {E : Type 0} (n : E → Node) where
       pub near_linked : (o : Option Place) (z : Place) → o ≡ child_on d (n (v.entry w)) → o ≡ Some z → (n (v.entry z)).linked ≡ true
       near_linked o z e is = below_linked n v.entry (Some w) sib_open.0 z near_tree (sym near_is ∙ (sym e ∙ is))
 
+      -- the near child comes up
       module _ (z : Place) (is : near_red.1 ≡ z) where
         near_open : ShortAt n v root q d c (branch d Black (branch d Red near_red.0 z near_red.2) w sib_open.1) k
         near_open = subst (λ (x : Tree). ShortAt n v root q d c (branch d Black x w sib_open.1) k)
@@ -161,7 +136,13 @@ module _ {E : Type 0} (n : E → Node) where
 
         module _ {v1 v2 : Table E} (set1 : n (v1.entry z) ≡ record (n (v.entry z)) { color = Black }) (only1 : ChangesOnly v v1 z) (set2 : n (v2.entry w) ≡ record (n (v1.entry w)) { color = Red }) (only2 : ChangesOnly v1 v2 w) where
           ready : Stands n k.base v2 root (frame (across d) c q k.subtree ∷ k.frames) (branch (across d) Red sib_open.1 w (branch (across d) Black near_red.2 z near_red.0)) k.pieces
-          ready = turn_ready root z w q d k.frames c near_red.0 near_red.2 sib_open.1 k.subtree k.pieces set1 only1 set2 only2 near_open.stands
+          ready =
+              let r = near_red in
+              let b = sib_open.1 in
+              let h1 = painted_top n d Red r.0 z r.2 refl refl set1 only1 (go_down n d Black w b (branch d Red r.0 z r.2) (go_across n near_open.stands)) in
+              subst (λ (x : Tree). Stands n k.base v2 root (frame (across d) c q k.subtree ∷ k.frames) x k.pieces)
+              (sym (branch_across d Red (branch d Black r.0 z r.2) w b) ∙ ap (λ (x : Tree). branch (across d) Red b w x) (sym (branch_across d Black r.0 z r.2)))
+              (go_up n (painted_above n refl refl set2 only2 h1))
 
           pub turn_can_rotate : (i : Side) → i ≡ across d → CanRotate n v2 root w i
           turn_can_rotate i e = subst (λ (x : Side). CanRotate n v2 root w x) (sym e)
@@ -174,18 +155,18 @@ module _ {E : Type 0} (n : E → Node) where
               let b = sib_open.1 in
               let f = as_fork d Red r.2 w b in
               let low : Tree = branch d Black r.0 z (branch d Red r.2 w b) in
-              let order : in_order low ≡ in_order (branch d Black (branch d Red r.0 z r.2) w b) = turned_order d r.0 z r.2 w b in
+              let order : in_order low ≡ in_order (branch d Black (branch d Red r.0 z r.2) w b) = order_rotated d Black Red Red Black r.0 z r.2 w b in
+              let up : List Frame = frame (across d) c q k.subtree ∷ k.frames in
+              let back : branch (across d) Black (branch (across d) Red b w r.2) z r.0 ≡ low =
+              branch_across d Black r.0 z (branch (across d) Red b w r.2) ∙ ap (λ (x : Tree). branch d Black r.0 z x) (branch_across d Red r.2 w b) in
+              let h1 = go_across n (subst (λ (x : Tree). Stands n k.base y new_root up x k.pieces) back (rot k.base up (turn Red b Black r.2 z r.0) k.pieces ready)) in
               let whole : ShortAt n y new_root q d c low k = record {
-                stands = turn_done root new_root z w q d k.frames c r.0 r.2 b k.subtree k.pieces rot ready;
+                stands = subst (λ (x : Side). Stands n k.base y new_root (frame x c q low ∷ k.frames) k.subtree k.pieces) (across_twice d) h1;
                 short = short_turned k.frames d c q r.0 z r.2 w b k.subtree near_open.short (black_is (top_color b) far);
                 order = order_plug k.frames (branch d c k.subtree q low) (branch d c k.subtree q (branch d Black (branch d Red r.0 z r.2) w b))
                     (order_branch d c c k.subtree k.subtree q low (branch d Black (branch d Red r.0 z r.2) w b) refl order) ∙ near_open.order;
               } in
               record { near = r.0; left = f.0; far = w; right = f.1; at = subst (λ (x : Tree). ShortAt n y new_root q d c (branch d Black r.0 z x) k) f.2 whole }
-            where
-              turned_order : (d : Side) (m : Tree) (z : Place) (o : Tree) (w : Place) (b : Tree)
-                  → in_order (branch d Black m z (branch d Red o w b)) ≡ in_order (branch d Black (branch d Red m z o) w b)
-              turned_order d m z o w b = order_rotated d Black Red Red Black m z o w b
 
   -- A RED FAR CHILD: the sibling comes up
   module _ {v : Table E} {root : Option Place} {q : Place} {d : Side} {w : Place} {c : Color} {k : Focus E} (l : Leant n v root q d w c k) where
