@@ -64,7 +64,7 @@ module _ {E : Type 0} (n : E → Node) where
           c = x.c;
           b = x.b;
           fs = x.fs;
-          stands = subst (λ (t : Tree). Stands n base v root (frame Left x.c q x.b ∷ x.fs) t ps) none (go_down n root Left x.c q x.b x.fs x.a ps x.stands);
+          stands = subst (λ (t : Tree). Stands n base v root (frame Left x.c q x.b ∷ x.fs) t ps) none (go_down n Left x.c q x.b x.a x.stands);
           right = subst (λ (t : Tree). IsRight (plug (frame Left x.c q x.b ∷ x.fs) t)) none x.right;
           front_is = sym (append-nil (before x.fs)) ∙ (ap (λ (t : Tree). before x.fs ++ in_order t) (sym none) ∙ x.front_is);
           back_is = ap (λ (s : List Place). q ∷ s) x.back_is ∙ sym r.1;
@@ -78,7 +78,7 @@ module _ {E : Type 0} (n : E → Node) where
           c = x.c;
           b = x.a;
           fs = x.fs;
-          stands = subst (λ (t : Tree). Stands n base v root (frame Right x.c q x.a ∷ x.fs) t ps) none (go_down n root Right x.c q x.a x.fs x.b ps x.stands);
+          stands = subst (λ (t : Tree). Stands n base v root (frame Right x.c q x.a ∷ x.fs) t ps) none (go_down n Right x.c q x.a x.b x.stands);
           right = subst (λ (t : Tree). IsRight (plug (frame Right x.c q x.a ∷ x.fs) t)) none x.right;
           front_is = sym (append_assoc (before x.fs) (in_order x.a) (q ∷ [])) ∙ (ap (λ (s : List Place). s ++ q ∷ []) x.front_is ∙ sym r.1);
           back_is = ap (λ (t : Tree). in_order t ++ after x.fs) (sym none) ∙ x.back_is;
@@ -127,7 +127,7 @@ module _ {E : Type 0} (n : E → Node) where
   pub attached_red : {base v v4 v5 : Table E} {root : Option Place} (parent : Option Place) (q : Place) (d : Side) (front back : List Place) (p : Place) {ps : List Piece}
       → ((qs : List Piece) → Held n base v (loose p ∷ qs) → Held n base v4 (cell Left p Red None None parent ∷ qs))
       → parent ≡ Some q → n (v5.entry q) ≡ with_child d (n (v4.entry q)) (Some p) → ChangesOnly v4 v5 q
-      → (x : Hole base v root d q front back (loose p ∷ ps)) → RedAt n base v5 root p (front ++ p ∷ back) (frame d x.c q x.b ∷ x.fs) (fork Red leaf p leaf) ps
+      → (x : Hole base v root d q front back (loose p ∷ ps)) → RedAt n v5 root p (record { base = base; sequence = front ++ p ∷ back; frames = frame d x.c q x.b ∷ x.fs; subtree = fork Red leaf p leaf; pieces = ps })
   attached_red {base} {v} {v4} {v5} {root} parent q d front back p {ps} writes is set only x =
       let gs : List Frame = frame d x.c q x.b ∷ x.fs in
       let h0 = regroup n (loose p ∷ around root gs None ∷ ps) x.stands (λ r. omega arith) (x.stands.are.1.1.0, (x.stands.are.0, x.stands.are.1.1.1)) in

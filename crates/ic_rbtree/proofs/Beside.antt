@@ -54,7 +54,7 @@ module _ {E : Type 0} (n : E → Node) where
 
       below_stands : (d : Side) → Stands n v v root (frame d x.c p (choose (across d) x.a x.b) ∷ x.fs) (choose d x.a x.b) []
       below_stands d =
-          go_down n root d x.c p (choose (across d) x.a x.b) x.fs (choose d x.a x.b) []
+          go_down n d x.c p (choose (across d) x.a x.b) (choose d x.a x.b)
           (subst (λ t. Stands n v v root x.fs t []) (fork_branch d x.c x.a p x.b) x.stands)
 
       pub below_can : (d : Side) {q : Place} → child_on d (n (v.entry p)) ≡ Some q → StandsAt n v q

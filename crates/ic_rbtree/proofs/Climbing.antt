@@ -13,7 +13,8 @@ use Rattle.ic_link_ops.proofs.Times.{times_order, times_distinct}
 use Rattle.ic_link_ops.proofs.Trees.{top_parent}
 use Rattle.ic_link_ops.proofs.ShownTrees.{holds_length}
 use Rattle.ic_rbtree.specs.Climb.{steps_up, depth}
-use Rattle.ic_rbtree.specs.Pieces.{Piece, Stands, Shown}
+use Rattle.ic_rbtree.specs.Pieces.{Piece, Stands}
+use Rattle.ic_rbtree.specs.Focus.{Focus, IsMended}
 use Rattle.ic_rbtree.specs.Steps.{IsSideOf}
 use Rattle.ic_rbtree.specs.Removal.{IsOn, Short, ShortAt, CanMend, Rises, Steps}
 use Rattle.ic_rbtree.proofs.Branches.{side_near, side_far, side_up}
@@ -52,7 +53,7 @@ module _ {E : Type 0} (n : E → Node) where
   pub depth_is : {base v : Table E} (law : (q : Place) → (n (v.entry q)).linked ≡ true → IsCovered v q) (root : Option Place) (fs : List Frame) (t : Tree) (ps : List Piece)
       → Stands n base v root fs t ps → depth n v (above fs) ≡ length fs
   depth_is {base} {v} law root fs t ps h =
-      let few : length (in_order (plug fs t)) ≤ v.extent.places = holds_length v law (stands_holds root (plug fs t) ps (go_top n root fs t ps h)) in
+      let few : length (in_order (plug fs t)) ≤ v.extent.places = holds_length v law (stands_holds root (plug fs t) ps (go_top n h)) in
       above_steps v fs (top t) v.extent.places h.are.0.0 (omega (arith, length_frames fs t))
 
   some_steps : (v : Table E) (k : ℕ) (p : Place) → 1 ≤ k → steps_up k (λ q. (n (v.entry q)).parent) (Some p) ≡ suc (steps_up (k - 1) (λ q. (n (v.entry q)).parent) ((n (v.entry p)).parent))
@@ -68,7 +69,7 @@ module _ {E : Type 0} (n : E → Node) where
   pub depth_top : {base v : Table E} (law : (q : Place) → (n (v.entry q)).linked ≡ true → IsCovered v q) (root : Option Place) (fs : List Frame) (t : Tree) (ps : List Piece) (p : Place)
       → Stands n base v root fs t ps → top t ≡ Some p → (depth n v (Some p) ≡ suc (length fs)) × (suc (length fs) ≤ v.extent.places)
   depth_top {base} {v} law root fs t ps p h e =
-      let few : length (in_order (plug fs t)) ≤ v.extent.places = holds_length v law (stands_holds root (plug fs t) ps (go_top n root fs t ps h)) in
+      let few : length (in_order (plug fs t)) ≤ v.extent.places = holds_length v law (stands_holds root (plug fs t) ps (go_top n h)) in
       let fits : suc (length fs) ≤ v.extent.places = omega (arith, length_frames fs t, top_length t p e) in
       let up : (n (v.entry p)).parent ≡ above fs = top_parent n v.entry (above fs) t p h.are.1.0 e in
       let rest : steps_up (v.extent.places - 1) (λ q. (n (v.entry q)).parent) (above fs) ≡ length fs = above_steps v fs (top t) (v.extent.places - 1) h.are.0.0 (omega arith) in
@@ -84,70 +85,77 @@ module _ {E : Type 0} (n : E → Node) where
       let m : top b ≡ Some q = sym (side_far n v.entry Right p c (top t) (top b) (above fs) h.are.0.0.0) ∙ is in
       absurd (omega (arith, h.once q, times_top q b m, times_top q t e))
 
-  module _ {base v : Table E} {root : Option Place} {s : List Place} {ps : List Piece} where
+  module _ {v : Table E} {root : Option Place} where
     -- below a member
-    pub short_at : {d : Side} {parent : Option Place} (q : Place) (fs : List Frame) (t : Tree) → parent ≡ Some q → Short n base v root parent d s fs t ps
-        → (c : Color) × (sib : Tree) × (gs : List Frame) × ShortAt n base v root q d s c sib gs t ps × (length fs ≡ suc (length gs))
-    short_at q [] t e h = absurd (none_not q (sym h.parent_is ∙ e))
-    short_at {d} q (frame k c p b ∷ fs) t e h =
-        let same : p ≡ q = some_same (sym h.parent_is ∙ e) in
-        let side : k ≡ d = sym h.side_is in
-        let at : ShortAt n base v root p k s c b fs t ps = record { stands = h.stands; short = h.short; order = h.order } in
-        (c, b, fs, subst (λ (x : Place). ShortAt n base v root x d s c b fs t ps) same (subst (λ (x : Side). ShortAt n base v root p x s c b fs t ps) side at), refl)
+    pub short_at : {d : Side} {parent : Option Place} (q : Place) (k : Focus E) → parent ≡ Some q → Short n v root parent d k
+        → (c : Color) × (sibling : Tree) × (gs : List Frame) × ShortAt n v root q d c sibling (record k { frames = gs }) × (length k.frames ≡ suc (length gs))
+    short_at {d} {parent} q k e h = at k.frames h where
+      at : (fs : List Frame) → Short n v root parent d (record k { frames = fs })
+          → (c : Color) × (sibling : Tree) × (gs : List Frame) × ShortAt n v root q d c sibling (record k { frames = gs }) × (length fs ≡ suc (length gs))
+      at [] h = absurd (none_not q (sym h.parent_is ∙ e))
+      at (frame i c p b ∷ fs) h =
+          let here : ShortAt n v root p i c b (record k { frames = fs }) = record { stands = h.stands; short = h.short; order = h.order } in (
+            c,
+            b,
+            fs,
+            subst (λ (x : Place). ShortAt n v root x d c b (record k { frames = fs })) (some_same (sym h.parent_is ∙ e))
+                (subst (λ (x : Side). ShortAt n v root p x c b (record k { frames = fs })) (sym h.side_is) here),
+            refl,
+          )
 
     -- the root is reached
-    pub short_ended : {d : Side} {parent : Option Place} (fs : List Frame) (t : Tree) → parent ≡ None → Short n base v root parent d s fs t ps → Shown n base v root s ps
-    short_ended [] t e h = record { tree = t; stands = h.stands; order = h.order; shape = short_root t h.short }
-    short_ended (frame k c p b ∷ fs) t e h = absurd (none_not p (sym e ∙ h.parent_is))
+    pub short_ended : {d : Side} {parent : Option Place} (k : Focus E) → parent ≡ None → Short n v root parent d k → IsMended n v root k
+    short_ended {d} {parent} k e h = at k.frames h where
+      at : (fs : List Frame) → Short n v root parent d (record k { frames = fs }) → IsMended n v root k
+      at [] h = record { tree = k.subtree; stands = h.stands; order = h.order; shape = short_root k.subtree h.short }
+      at (frame i c p b ∷ fs) h = absurd (none_not p (sym e ∙ h.parent_is))
 
     -- one member up
-    pub rises_parent : {q : Place} (fs : List Frame) (t : Tree) → Rises n base v root q s fs t ps → (n (v.entry q)).parent ≡ above fs
-    rises_parent {q} fs t h = top_parent n v.entry (above fs) t q h.stands.are.1.0 h.top_is
+    module _ {q : Place} {k : Focus E} (h : Rises n v root q k) (o : Option Place) (eo : o ≡ (n (v.entry q)).parent) where
+      pub rises_parent : o ≡ above k.frames
+      rises_parent = eo ∙ top_parent n v.entry (above k.frames) k.subtree q h.stands.are.1.0 h.top_is
 
-    pub rises_linked : {q : Place} (fs : List Frame) (t : Tree) → Rises n base v root q s fs t ps → (o : Option Place) → o ≡ (n (v.entry q)).parent → (p : Place) → o ≡ Some p → (n (v.entry p)).linked ≡ true
-    rises_linked {q} fs t h o eo p is = around_linked n v.entry fs (top t) p h.stands.are.0.0 (sym (eo ∙ rises_parent fs t h) ∙ is)
+      pub rises_linked : (p : Place) → o ≡ Some p → (n (v.entry p)).linked ≡ true
+      rises_linked p is = around_linked n v.entry k.frames (top k.subtree) p h.stands.are.0.0 (sym rises_parent ∙ is)
 
-    pub rises_on : {q : Place} (fs : List Frame) (t : Tree) (o : Option Place) (d : Side) → o ≡ (n (v.entry q)).parent
-        → ((p : Place) → o ≡ Some p → IsSideOf n v q p d) → Rises n base v root q s fs t ps → Short n base v root o d s fs t ps
-    rises_on {q} fs t o d eo side h = record {
-      stands = h.stands;
-      parent_is = eo ∙ rises_parent fs t h;
-      side_is = on fs (λ p e. side p (eo ∙ rises_parent fs t h ∙ e)) h.stands;
-      short = h.short;
-      order = h.order;
-    } where
-      on : (gs : List Frame) → ((p : Place) → above gs ≡ Some p → IsSideOf n v q p d) → Stands n base v root gs t ps → IsOn d gs
-      on [] tell st = tt
-      on (frame k c p b ∷ gs) tell st = side_found v base root k c p b gs t ps q d st h.top_is (tell p refl)
+      pub rises_on : (d : Side) → ((p : Place) → o ≡ Some p → IsSideOf n v q p d) → Short n v root o d k
+      rises_on d side = record {
+        stands = h.stands;
+        parent_is = rises_parent;
+        side_is = on k.frames (λ p e. side p (rises_parent ∙ e)) h.stands;
+        short = h.short;
+        order = h.order;
+      } where
+        on : (gs : List Frame) → ((p : Place) → above gs ≡ Some p → IsSideOf n v q p d) → Stands n k.base v root gs k.subtree k.pieces → IsOn d gs
+        on [] tell st = tt
+        on (frame i c p b ∷ gs) tell st = side_found v k.base root i c p b gs k.subtree k.pieces q d st h.top_is (tell p refl)
 
   -- ONE TURN OF THE LOOP: the shortage at q has risen, and the loop stands at its parent
-  module _ {v w : Table E} {root new_root : Option Place} {d : Side} {parent : Option Place} (q : Place) (is : parent ≡ Some q)
-      (law : (p : Place) → (n (v.entry p)).linked ≡ true → IsCovered v p) (law' : (p : Place) → (n (w.entry p)).linked ≡ true → IsCovered w p)
-      (done : Bool) (step : Steps n v w root new_root q d done) (no : done ≡ false) where
-    pub rise : {base : Table E} {s : List Place} {ps : List Piece} (fs : List Frame) (t : Tree) → Short n base v root parent d s fs t ps
-        → (gs : List Frame) × (u : Tree) × Rises n base w new_root q s gs u ps × (length fs ≡ suc (length gs))
-    rise {base} {s} {ps} fs t h =
-        let a = short_at q fs t is h in
-        let r = (step base s a.0 a.1 a.2 t ps a.3).1 no in (a.2, r.0, r.1, a.4)
+  module _ {v w : Table E} {root new_root : Option Place} {d : Side} {parent : Option Place} (q : Place) (is : parent ≡ Some q) (done : Bool) (step : Steps n v w root new_root q d done) (no : done ≡ false) where
+    rise : (k : Focus E) → Short n v root parent d k
+        → (gs : List Frame) × (u : Tree) × Rises n w new_root q (record k { frames = gs; subtree = u }) × (length k.frames ≡ suc (length gs))
+    rise k h =
+        let a = short_at q k is h in
+        let r = (step a.0 a.1 (record k { frames = a.2 }) a.3).1 no in (a.2, r.0, r.1, a.4)
 
     pub rise_linked : CanMend n v root parent d → (n (w.entry q)).linked ≡ true
-    rise_linked (base, s, fs, t, ps, h) = let r = rise fs t h in below_linked n w.entry (above r.0) r.1 q r.2.stands.are.1.0 r.2.top_is
+    rise_linked (k, h) = let r = rise k h in below_linked n w.entry (above r.0) r.1 q r.2.stands.are.1.0 r.2.top_is
 
     module _ {o : Option Place} (eo : o ≡ (n (w.entry q)).parent) where
       pub next_linked : CanMend n v root parent d → (p : Place) → o ≡ Some p → (n (w.entry p)).linked ≡ true
-      next_linked (base, s, fs, t, ps, h) p e = let r = rise fs t h in rises_linked r.0 r.1 r.2 o eo p e
+      next_linked (k, h) p e = rises_linked (rise k h).2 o eo p e
 
-      pub next_falls : CanMend n v root parent d → depth n w o < depth n v parent
-      next_falls (base, s, fs, t, ps, h) =
-          let r = rise fs t h in
-          let old : depth n v parent ≡ length fs = ap (λ (x : Option Place). depth n v x) h.parent_is ∙ depth_is law root fs t ps h.stands in
-          let new : depth n w o ≡ length r.0 = ap (λ (x : Option Place). depth n w x) (eo ∙ rises_parent r.0 r.1 r.2) ∙ depth_is law' new_root r.0 r.1 ps r.2.stands in
+      pub next_falls : ((p : Place) → (n (v.entry p)).linked ≡ true → IsCovered v p) → ((p : Place) → (n (w.entry p)).linked ≡ true → IsCovered w p)
+          → CanMend n v root parent d → depth n w o < depth n v parent
+      next_falls law law' (k, h) =
+          let r = rise k h in
+          let old : depth n v parent ≡ length k.frames = ap (λ (x : Option Place). depth n v x) h.parent_is ∙ depth_is law root k.frames k.subtree k.pieces h.stands in
+          let new : depth n w o ≡ length r.0 = ap (λ (x : Option Place). depth n w x) (rises_parent r.2 o eo) ∙ depth_is law' new_root r.0 r.1 k.pieces r.2.stands in
           omega (arith, old, new, r.3)
 
-      module _ (k : Side) (tells : (p : Place) → o ≡ Some p → IsSideOf n w q p k) where
-        pub next_each : {base : Table E} {s : List Place} {ps : List Piece} (fs : List Frame) (t : Tree) → Short n base v root parent d s fs t ps
-            → (gs : List Frame) × (u : Tree) × Short n base w new_root o k s gs u ps
-        next_each fs t h = let r = rise fs t h in (r.0, r.1, rises_on r.0 r.1 o k eo tells r.2)
+      module _ (i : Side) (tells : (p : Place) → o ≡ Some p → IsSideOf n w q p i) where
+        pub next_each : (k : Focus E) → Short n v root parent d k → (gs : List Frame) × (u : Tree) × Short n w new_root o i (record k { frames = gs; subtree = u })
+        next_each k h = let r = rise k h in (r.0, r.1, rises_on r.2 o eo i tells)
 
-        pub next_some : CanMend n v root parent d → CanMend n w new_root o k
-        next_some (base, s, fs, t, ps, h) = let r = next_each fs t h in (base, s, r.0, r.1, ps, r.2)
+        pub next_some : CanMend n v root parent d → CanMend n w new_root o i
+        next_some (k, h) = let r = next_each k h in (record k { frames = r.0; subtree = r.1 }, r.2)

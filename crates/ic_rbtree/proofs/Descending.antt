@@ -46,7 +46,7 @@ module _ {E : Type 0} (n : E → Node) where
         stands = s;
         linked = side_linked n v.entry d p (top_color t) (top k.0) (top k.1) (above fs) o.are.0;
         near = side_near n v.entry d p (top_color t) (top k.0) (top k.1) (above fs) o.are.0;
-        down = go_down n root d (top_color t) p k.1 fs k.0 ps s;
+        down = go_down n d (top_color t) p k.1 k.0 s;
       }
 
   -- A DESCENT to a side, from the subtree t below the frames fs: it has come to p, the root of u below gs
@@ -145,7 +145,7 @@ module _ {E : Type 0} (n : E → Node) where
           far = λ f.
               let there : top b ≡ Some p = sym (side_far n v.entry k r c (top u) (top b) (above rest) h.are.0.0.0) ∙ f in
               absurd (omega (arith, h.once p, times_top p u e, times_top p b there));
-          stands = go_up n root k c r b rest u ps h;
+          stands = go_up n h;
         })
 
   module _ {base v : Table E} {root : Option Place} {d : Side} {p q : Place} (fs gs : List Frame) (u : Tree) {ps : List Piece} (h : Up base v root d p fs ps gs u)

@@ -202,7 +202,7 @@ module _ {E : Type 0} (n : E → Node) where
       off_next next is = is v (topmost x.fs (top x.b)) x.fs x.b (loose p ∷ []) off ec ep x.bare ∙ ap (end_on d) x.rest
 
       off_whole : Stands n v v2 (topmost x.fs (top x.b)) [] (plug x.fs x.b) (loose p ∷ [])
-      off_whole = go_top n (topmost x.fs (top x.b)) x.fs x.b (loose p ∷ []) off
+      off_whole = go_top n off
 
       pub off_holds : {v3 : Table E} → ChangesOnly v2 v3 p → Holds n v3 (plug x.fs x.b) (others_on d w)
       off_holds {v3} only =

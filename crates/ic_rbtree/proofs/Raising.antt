@@ -1,22 +1,22 @@
 -- A red sibling comes up.
-use Rattle.std.proofs.Common.{◌≡◌, Bool, true, false, ◌⊎◌, inl, inr, Option, Some, None, List, ◌∷◌, refl, sym, ap, ◌∙◌, subst, arith}
+use Rattle.std.proofs.Common.{◌≡◌, Bool, true, false, inl, inr, Option, Some, None, ◌∷◌, refl, sym, ap, ◌∙◌, subst, arith}
 use Rattle.std.specs.Option.{IsSome}
 use Rattle.ic_unsafe_ref.specs.declared.place.Place.{Place}
 use Rattle.ic_link_ops.specs.declared.color.Color.{Color}
 use Rattle.ic_link_ops.specs.declared.color.Color.TheVariants.{Red, Black}
 use Rattle.ic_link_ops.specs.declared.side.Side.{Side}
 use Rattle.ic_link_ops.specs.Tables.{Table, ChangesOnly}
-use Rattle.ic_link_ops.specs.Trees.{Tree, leaf, fork, top, in_order}
+use Rattle.ic_link_ops.specs.Trees.{Tree, leaf, fork, top}
 use Rattle.ic_link_ops.specs.Shape.{top_color, blacks}
 use Rattle.ic_link_ops.specs.RedBlackTree.{Node, IsTree}
-use Rattle.ic_link_ops.specs.Frames.{Frame, frame, branch, above, IsAtSide, across, child_on}
+use Rattle.ic_link_ops.specs.Frames.{frame, branch, above, IsAtSide, across, child_on}
 use Rattle.ic_link_ops.proofs.SequenceLemmas.{none_not}
-use Rattle.ic_rbtree.specs.Pieces.{Piece, Stands}
+use Rattle.ic_rbtree.specs.Pieces.{Stands}
+use Rattle.ic_rbtree.specs.Focus.{Focus}
 use Rattle.ic_rbtree.specs.Steps.{Rotates, CanRotate}
-use Rattle.ic_rbtree.specs.Shortage.{IsShort}
-use Rattle.ic_rbtree.specs.Removal.{is_red, red_at, ShortAt, Beside}
+use Rattle.ic_rbtree.specs.Removal.{is_red, red_at, ShortAt, Raised}
 use Rattle.ic_rbtree.proofs.Branches.{branch_across, as_branch, order_plug, order_rotated, side_far, side_linked}
-use Rattle.ic_rbtree.proofs.Turning.{below_linked}
+use Rattle.ic_rbtree.proofs.Turning.{turn, below_linked}
 use Rattle.ic_rbtree.proofs.Zipper.{go_up, go_down, go_across, painted_top, painted_above}
 use Rattle.ic_rbtree.proofs.Shortening.{not_leaf, short_lowered}
 
@@ -42,86 +42,81 @@ module _ {E : Type 0} (n : E → Node) where
   red_tells v up o leaf e h = ap (λ (x : Option Place). red_at n v x) e
   red_tells v up o (fork c a p b) e h = ap (λ (x : Option Place). red_at n v x) e ∙ ap is_red h.0.color
 
-  module _ {base v : Table E} {root : Option Place} {q : Place} {d : Side} {s : List Place} {c : Color} {sib : Tree} {fs : List Frame} {t : Tree} {ps : List Piece} (h : ShortAt n base v root q d s c sib fs t ps) where
-    pub parent_at : IsAtSide n v.entry d q c (top t) (top sib) (above fs)
+  module _ {v : Table E} {root : Option Place} {q : Place} {d : Side} {c : Color} {sib : Tree} {k : Focus E} (h : ShortAt n v root q d c sib k) where
+    pub parent_at : IsAtSide n v.entry d q c (top k.subtree) (top sib) (above k.frames)
     parent_at = h.stands.are.0.0.0
 
     pub parent_linked : (n (v.entry q)).linked ≡ true
-    parent_linked = side_linked n v.entry d q c (top t) (top sib) (above fs) parent_at
+    parent_linked = side_linked n v.entry d q c (top k.subtree) (top sib) (above k.frames) parent_at
 
     pub sib_tree : IsTree n v.entry (Some q) sib
     sib_tree = h.stands.are.0.0.1
 
     pub sib_read : child_on (across d) (n (v.entry q)) ≡ top sib
-    sib_read = side_far n v.entry d q c (top t) (top sib) (above fs) parent_at
+    sib_read = side_far n v.entry d q c (top k.subtree) (top sib) (above k.frames) parent_at
 
     pub sib_some : (w : Place) × (top sib ≡ Some w)
-    sib_some = not_leaf_top sib (not_leaf sib (blacks t) (omega (arith, h.short.even_around.0)))
+    sib_some = not_leaf_top sib (not_leaf sib (blacks k.subtree) (omega (arith, h.short.even_around.0)))
 
     -- the sibling that was read
     pub sib_top : (far : Side) (o : Option Place) (w : Place) → far ≡ across d → o ≡ child_on far (n (v.entry q)) → o ≡ Some w → top sib ≡ Some w
-    sib_top far o w ef eo is = sym sib_read ∙ (ap (λ (k : Side). child_on k (n (v.entry q))) (sym ef) ∙ (sym eo ∙ is))
+    sib_top far o w ef eo is = sym sib_read ∙ (ap (λ (x : Side). child_on x (n (v.entry q))) (sym ef) ∙ (sym eo ∙ is))
 
     pub sib_linked : (w : Place) → top sib ≡ Some w → (n (v.entry w)).linked ≡ true
     sib_linked w e = below_linked n v.entry (Some q) sib w sib_tree e
 
     pub sib_read_some : (far : Side) (o : Option Place) → far ≡ across d → o ≡ child_on far (n (v.entry q)) → IsSome o
-    sib_read_some far o ef eo = some_is o sib_some.0 (eo ∙ (ap (λ (k : Side). child_on k (n (v.entry q))) ef ∙ (sib_read ∙ sib_some.1)))
+    sib_read_some far o ef eo = some_is o sib_some.0 (eo ∙ (ap (λ (x : Side). child_on x (n (v.entry q))) ef ∙ (sib_read ∙ sib_some.1)))
 
     -- its color that was read
     pub sib_color : (w : Place) (b : Bool) → top sib ≡ Some w → b ≡ red_at n v (Some w) → b ≡ is_red (top_color sib)
     sib_color w b e eb = eb ∙ red_tells v (Some q) (Some w) sib (sym e) sib_tree
 
-  -- the two colors, and the rotation
-  module _ {base v v1 v2 : Table E} (root : Option Place) (w q : Place) (d : Side) (fs : List Frame) (c : Color) (a b t : Tree) (ps : List Piece) where
-    pub raise_ready : n (v1.entry w) ≡ record (n (v.entry w)) { color = Black } → ChangesOnly v v1 w
-        → n (v2.entry q) ≡ record (n (v1.entry q)) { color = Red } → ChangesOnly v1 v2 q
-        → Stands n base v root (frame d c q (branch d Red a w b) ∷ fs) t ps → Stands n base v2 root fs (branch d Red t q (branch d Black a w b)) ps
-    raise_ready set1 only1 set2 only2 h =
-        let h1 = go_across n root d c q (branch d Red a w b) fs t ps h in
-        let h2 = painted_top n root d Red Black Black a w w b (frame (across d) c q t ∷ fs) ps refl refl set1 only1 h1 in
-        let h3 = painted_above n root (across d) c Red Red q q t fs (branch d Black a w b) ps refl refl set2 only2 h2 in
-        subst (λ (x : Tree). Stands n base v2 root fs x ps) (branch_across d Red t q (branch d Black a w b)) (go_up n root (across d) Red q t fs (branch d Black a w b) ps h3)
-
-  raise_done : {base v2 z : Table E} (root new_root : Option Place) (w q : Place) (d : Side) (fs : List Frame) (a b t : Tree) (ps : List Piece)
-      → Rotates n v2 z root new_root q d → Stands n base v2 root fs (branch d Red t q (branch d Black a w b)) ps
-      → Stands n base z new_root (frame d Red q a ∷ frame d Black w b ∷ fs) t ps
-  raise_done {base} {v2} {z} root new_root w q d fs a b t ps rot h =
-      let h1 = rot base fs Red t Black a w b ps h in
-      go_down n new_root d Red q a (frame d Black w b ∷ fs) t ps (go_down n new_root d Black w b fs (branch d Red t q a) ps h1)
-
-  module _ {base v : Table E} {root : Option Place} {w q : Place} {d : Side} {s : List Place} {c : Color} {sib : Tree} {fs : List Frame} {t : Tree} {ps : List Piece} (h : ShortAt n base v root q d s c sib fs t ps) (is : top sib ≡ Some w) where
-    pub not_raised : is_red (top_color sib) ≡ false → (c' : Color) × (sib' : Tree) × (fs' : List Frame) × Beside n base v root q d w s c' sib' fs' t ps × ((c' ≡ Red) ⊎ (fs' ≡ fs))
-    not_raised black = (c, sib, fs, record { at = h; top_is = is; black = black_is (top_color sib) black }, inr refl)
+  module _ {v : Table E} {root : Option Place} {w q : Place} {d : Side} {c : Color} {sib : Tree} {k : Focus E} (h : ShortAt n v root q d c sib k) (is : top sib ≡ Some w) where
+    pub not_raised : is_red (top_color sib) ≡ false → Raised n v root q d w k
+    not_raised black = record {
+      color = c;
+      sibling = sib;
+      frames = k.frames;
+      beside = record { at = h; top_is = is; black = black_is (top_color sib) black };
+      red_or_same = inr refl;
+    }
 
     module _ (red : is_red (top_color sib) ≡ true) where
       pub sib_red : (a b : Tree) × (sib ≡ branch d Red a w b)
-      sib_red = let o = as_branch d sib w is in (o.0, o.1, o.2 ∙ ap (λ (k : Color). branch d k o.0 w o.1) (red_is (top_color sib) red))
+      sib_red = let o = as_branch d sib w is in (o.0, o.1, o.2 ∙ ap (λ (x : Color). branch d x o.0 w o.1) (red_is (top_color sib) red))
 
-      opened : Stands n base v root (frame d c q (branch d Red sib_red.0 w sib_red.1) ∷ fs) t ps
-      opened = subst (λ (x : Tree). Stands n base v root (frame d c q x ∷ fs) t ps) sib_red.2 h.stands
+      opened : ShortAt n v root q d c (branch d Red sib_red.0 w sib_red.1) k
+      opened = subst (λ (x : Tree). ShortAt n v root q d c x k) sib_red.2 h
 
+      -- the two colors, and the rotation
       module _ {v1 v2 : Table E} (set1 : n (v1.entry w) ≡ record (n (v.entry w)) { color = Black }) (only1 : ChangesOnly v v1 w) (set2 : n (v2.entry q) ≡ record (n (v1.entry q)) { color = Red }) (only2 : ChangesOnly v1 v2 q) where
-        ready : Stands n base v2 root fs (branch d Red t q (branch d Black sib_red.0 w sib_red.1)) ps
-        ready = raise_ready root w q d fs c sib_red.0 sib_red.1 t ps set1 only1 set2 only2 opened
+        ready : Stands n k.base v2 root k.frames (branch d Red k.subtree q (branch d Black sib_red.0 w sib_red.1)) k.pieces
+        ready =
+            let r = sib_red in
+            let h1 = painted_top n d Red r.0 w r.1 refl refl set1 only1 (go_across n opened.stands) in
+            subst (λ (x : Tree). Stands n k.base v2 root k.frames x k.pieces) (branch_across d Red k.subtree q (branch d Black r.0 w r.1)) (go_up n (painted_above n refl refl set2 only2 h1))
 
         pub raise_can_rotate : CanRotate n v2 root q d
-        raise_can_rotate = (base, fs, Red, t, Black, sib_red.0, w, sib_red.1, ps, ready)
+        raise_can_rotate = (k.base, k.frames, turn Red k.subtree Black sib_red.0 w sib_red.1, k.pieces, ready)
 
         module _ {z : Table E} {new_root : Option Place} (rot : Rotates n v2 z root new_root q d) where
-          pub lowered : ShortAt n base z new_root q d s Red sib_red.0 (frame d Black w sib_red.1 ∷ fs) t ps
+          pub lowered : ShortAt n z new_root q d Red sib_red.0 (record k { frames = frame d Black w sib_red.1 ∷ k.frames })
           lowered =
               let r = sib_red in
-              let low = short_lowered fs d c q r.0 w r.1 t (subst (λ (x : Tree). IsShort (frame d c q x ∷ fs) t) r.2 h.short) in
               record {
-                stands = raise_done root new_root w q d fs r.0 r.1 t ps rot ready;
-                short = low.0;
-                order = order_plug fs (branch d Black (branch d Red t q r.0) w r.1) (branch d c t q sib)
-                    (sym (order_rotated d c Red Red Black t q r.0 w r.1) ∙ ap (λ (x : Tree). in_order (branch d c t q x)) (sym r.2)) ∙ h.order;
+                stands = go_down n d Red q r.0 k.subtree
+                    (go_down n d Black w r.1 (branch d Red k.subtree q r.0) (rot k.base k.frames (turn Red k.subtree Black r.0 w r.1) k.pieces ready));
+                short = (short_lowered k.frames d c q r.0 w r.1 k.subtree opened.short).0;
+                order = order_plug k.frames (branch d Black (branch d Red k.subtree q r.0) w r.1) (branch d c k.subtree q (branch d Red r.0 w r.1))
+                    (sym (order_rotated d c Red Red Black k.subtree q r.0 w r.1)) ∙ opened.order;
               }
 
-          pub raised : (y : Place) → top sib_red.0 ≡ Some y → (c' : Color) × (sib' : Tree) × (fs' : List Frame) × Beside n base z new_root q d y s c' sib' fs' t ps × ((c' ≡ Red) ⊎ (fs' ≡ fs))
-          raised y e =
-              let r = sib_red in
-              let low = short_lowered fs d c q r.0 w r.1 t (subst (λ (x : Tree). IsShort (frame d c q x ∷ fs) t) r.2 h.short) in
-              (Red, r.0, frame d Black w r.1 ∷ fs, record { at = lowered; top_is = e; black = low.1 }, inl refl)
+          pub raised : (y : Place) → top sib_red.0 ≡ Some y → Raised n z new_root q d y k
+          raised y e = let r = sib_red in record {
+            color = Red;
+            sibling = r.0;
+            frames = frame d Black w r.1 ∷ k.frames;
+            beside = record { at = lowered; top_is = e; black = (short_lowered k.frames d c q r.0 w r.1 k.subtree opened.short).1 };
+            red_or_same = inl refl;
+          }

@@ -18,7 +18,7 @@ use Rattle.ic_link_ops.proofs.ShownTrees.{holds_once}
 use Rattle.ic_link_ops.proofs.ShownTrees.{shows_beside}
 use Rattle.ic_rbtree.specs.Pieces.{Piece, loose, Stands, Shown}
 use Rattle.ic_rbtree.specs.Sides.{StandsAt, IsOutermost}
-use Rattle.ic_rbtree.specs.Taking.{only, IsLone, both_of, CanTakeOut, TakesOut, CanTakePlace, TakesPlace}
+use Rattle.ic_rbtree.specs.Taking.{Parts, only, IsLone, both_of, CanTakeOut, TakesOut, CanTakePlace, TakesPlace}
 use Rattle.ic_rbtree.proofs.Zipper.{go_down, go_top}
 use Rattle.ic_rbtree.proofs.Shapes.{right_plug}
 use Rattle.ic_rbtree.proofs.Shortening.{shape_open}
@@ -43,10 +43,13 @@ pub renamed : (fs : List Frame) (c : Color) (a : Tree) (p q : Place) (b : Tree) 
 renamed fs c a p q b r =
     let o = shape_open fs (fork c a p b) r in right_plug fs (fork c a q b) o.0 o.1 o.2 o.3 o.4
 
+abbrev pub parts : Color → Tree → Tree → Parts
+parts c a b = record { color = c; left = a; right = b }
+
 module _ {E : Type 0} (n : E → Node) where
   pub go_into : {base v : Table E} (root : Option Place) (fs : List Frame) (t : Tree) (ps : List Piece) → Stands n base v root [] (plug fs t) ps → Stands n base v root fs t ps
   go_into root [] t ps h = h
-  go_into root (frame d c p b ∷ fs) t ps h = go_down n root d c p b fs t ps (go_into root fs (branch d c t p b) ps h)
+  go_into root (frame d c p b ∷ fs) t ps h = go_down n d c p b t (go_into root fs (branch d c t p b) ps h)
 
   -- FROM THE SEQUENCE to the member
   pub record Spot (base v : Table E) (root : Option Place) (front : List Place) (p : Place) (back : List Place) (ps : List Piece) : Type 0 where
@@ -78,7 +81,7 @@ module _ {E : Type 0} (n : E → Node) where
       → Spot base w root1 front p back (loose z ∷ ps) → TakesPlace n w u root1 root2 p z → Shown n base u root2 (front ++ z ∷ back) (loose p ∷ ps)
   placed {base} {w} {u} {root1} {root2} {front} {p} {back} {ps} z x swapped = record {
     tree = plug x.fs (fork x.c x.a z x.b);
-    stands = go_top n root2 x.fs (fork x.c x.a z x.b) (loose p ∷ ps) (swapped base x.fs x.c x.a x.b ps x.stands);
+    stands = go_top n (swapped base x.fs (parts x.c x.a x.b) ps x.stands);
     order = order_around x.fs x.c x.a z x.b front back x.front_is x.back_is;
     shape = renamed x.fs x.c x.a p z x.b x.right;
   }
@@ -99,16 +102,16 @@ module _ {E : Type 0} (n : E → Node) where
         pick (fork c a q b) (fork k l r m) e = absurd (none_not r (sym e))
 
     pub lone_can : (o : Option Place) → o ≡ both_of (n (v.entry p)).left (n (v.entry p)).right → o ≡ None → CanTakeOut n v root p
-    lone_can o eo none = (base, x.fs, x.c, x.a, x.b, ps, x.stands, lone o eo none, x.right)
+    lone_can o eo none = (base, x.fs, parts x.c x.a x.b, ps, x.stands, lone o eo none, x.right)
 
     pub lone_taken : {w : Table E} {new_root : Option Place} (o : Option Place) → o ≡ both_of (n (v.entry p)).left (n (v.entry p)).right → o ≡ None
         → TakesOut n v w root new_root p → Shown n base w new_root (front ++ back) (loose p ∷ ps)
     lone_taken {w} {new_root} o eo none taken =
         let one = lone o eo none in
-        subst (λ (s : List Place). Shown n base w new_root s (loose p ∷ ps)) (parts x.fs x.a x.b one x.front_is x.back_is) (taken base x.fs x.c x.a x.b ps x.stands one x.right)
+        subst (λ (s : List Place). Shown n base w new_root s (loose p ∷ ps)) (joined x.fs x.a x.b one x.front_is x.back_is) (taken base x.fs (parts x.c x.a x.b) ps x.stands one x.right)
       where
-        parts : (fs : List Frame) (a b : Tree) → IsLone a b → before fs ++ in_order a ≡ front → in_order b ++ after fs ≡ back → before fs ++ (in_order (only a b) ++ after fs) ≡ front ++ back
-        parts fs a b one ef eb =
+        joined : (fs : List Frame) (a b : Tree) → IsLone a b → before fs ++ in_order a ≡ front → in_order b ++ after fs ≡ back → before fs ++ (in_order (only a b) ++ after fs) ≡ front ++ back
+        joined fs a b one ef eb =
             ap (λ (z : List Place). before fs ++ (z ++ after fs)) (order_only a b one)
             ∙ (ap (λ (z : List Place). before fs ++ z) (append_assoc (in_order a) (in_order b) (after fs))
             ∙ (sym (append_assoc (before fs) (in_order a) (in_order b ++ after fs)) ∙ (ap (λ (z : List Place). z ++ (in_order b ++ after fs)) ef ∙ ap (λ (z : List Place). front ++ z) eb)))
@@ -124,7 +127,7 @@ module _ {E : Type 0} (n : E → Node) where
             pick (Some l) k e = e
 
       right_stands : Stands n base v root (frame Right x.c p x.a ∷ x.fs) x.b ps
-      right_stands = go_down n root Right x.c p x.a x.fs x.b ps x.stands
+      right_stands = go_down n Right x.c p x.a x.b x.stands
 
       pub right_can : StandsAt n v r
       right_can = (base, root, frame Right x.c p x.a ∷ x.fs, x.b, ps, right_stands, right_top)
@@ -155,21 +158,21 @@ module _ {E : Type 0} (n : E → Node) where
               gs = l.gs;
               k = l.c;
               m = l.b;
-              stands = go_into root l.gs (fork l.c leaf z l.b) ps (subst (λ (t : Tree). Stands n base v root [] t ps) (sym l.same) (go_top n root (frame Right x.c p x.a ∷ x.fs) x.b ps right_stands));
+              stands = go_into root l.gs (fork l.c leaf z l.b) ps (subst (λ (t : Tree). Stands n base v root [] t ps) (sym l.same) (go_top n right_stands));
               right = subst (λ (t : Tree). IsRight t) (sym l.same) x.right;
               behind = cc;
               order = glued rest;
             }
 
         pub next_can : CanTakeOut n v root z
-        next_can = (base, next.gs, next.k, leaf, next.m, ps, next.stands, inl refl, next.right)
+        next_can = (base, next.gs, parts next.k leaf next.m, ps, next.stands, inl refl, next.right)
 
         pub next_out : {w : Table E} {new_root : Option Place} → TakesOut n v w root new_root z → Shown n base w new_root (front ++ p ∷ (in_order next.m ++ after next.gs)) (loose z ∷ ps)
         next_out {w} {new_root} taken =
-            subst (λ (s : List Place). Shown n base w new_root s (loose z ∷ ps)) next.order (taken base next.gs next.k leaf next.m ps next.stands (inl refl) next.right)
+            subst (λ (s : List Place). Shown n base w new_root s (loose z ∷ ps)) next.order (taken base next.gs (parts next.k leaf next.m) ps next.stands (inl refl) next.right)
 
         pub place_can : {w : Table E} {new_root : Option Place} → TakesOut n v w root new_root z → CanTakePlace n w new_root p z
-        place_can taken = let y = spot front p (in_order next.m ++ after next.gs) (next_out taken) in (base, y.fs, y.c, y.a, y.b, ps, y.stands)
+        place_can taken = let y = spot front p (in_order next.m ++ after next.gs) (next_out taken) in (base, y.fs, parts y.c y.a y.b, ps, y.stands)
 
         pub place_taken : {w u : Table E} {root1 root2 : Option Place} → TakesOut n v w root root1 z → TakesPlace n w u root1 root2 p z → Shown n base u root2 (front ++ back) (loose p ∷ ps)
         place_taken {w} {u} {root1} {root2} taken swapped =

@@ -10,7 +10,7 @@ use Rattle.ic_link_ops.proofs.Times.{one_at_other, apart, times_order, absent_ti
 use Rattle.ic_link_ops.proofs.ShownTrees.{shows_beside}
 use Rattle.ic_rbtree.specs.Pieces.{loose, Shown}
 use Rattle.ic_rbtree.specs.Taking.{CanTakePlace, TakesPlace}
-use Rattle.ic_rbtree.proofs.Removing.{placed, Spot, spot, shows_of, loose_absent, front_shown}
+use Rattle.ic_rbtree.proofs.Removing.{parts, placed, Spot, spot, shows_of, loose_absent, front_shown}
 use Rattle.ic_rbtree.proofs.Attaching.{acquired_shown}
 
 module _ {E : Type 0} (n : E → Node) where
@@ -23,7 +23,7 @@ module _ {E : Type 0} (n : E → Node) where
       (f.0, f.1, spot n gap.front p f.0 (subst (λ (x : List Place). Shown n v v root (gap.front ++ x) (loose new ∷ [])) f.1 s))
 
   pub place_ready : {v : Table E} {root : Option Place} {front : List Place} {p new : Place} {back : List Place} → Spot n v v root front p back (loose new ∷ []) → CanTakePlace n v root p new
-  place_ready {v} x = (v, x.fs, x.c, x.a, x.b, [], x.stands)
+  place_ready {v} x = (v, x.fs, parts x.c x.a x.b, [], x.stands)
 
   pub replaces : (old v w z : Table E) (root new_root : Option Place) (p new : Place) (gap : Cut) (rest : List Place)
       → gap.back ≡ p ∷ rest → ChangesOnly old v new → Spot n v v root gap.front p rest (loose new ∷ []) → TakesPlace n v w root new_root p new

@@ -11,12 +11,13 @@ use Rattle.ic_link_ops.specs.Shape.{top_color}
 use Rattle.ic_link_ops.specs.RedBlackTree.{Node, IsTree}
 use Rattle.ic_link_ops.specs.Frames.{Frame, frame, branch, plug, above, IsAtSide, across, child_on}
 use Rattle.ic_link_ops.proofs.SequenceLemmas.{none_not, some_same}
-use Rattle.ic_rbtree.specs.Pieces.{Piece, Stands, Shown}
+use Rattle.ic_rbtree.specs.Pieces.{Stands}
+use Rattle.ic_rbtree.specs.Focus.{Focus, IsMended}
 use Rattle.ic_rbtree.specs.Steps.{Rotates, CanRotate}
 use Rattle.ic_rbtree.specs.Shortage.{IsShort}
-use Rattle.ic_rbtree.specs.Removal.{is_red, red_child, red_at, red_below, AreRead, ShortAt, Beside, Rises}
+use Rattle.ic_rbtree.specs.Removal.{is_red, red_child, red_at, red_below, AreRead, ShortAt, Beside, Leant, Rises}
 use Rattle.ic_rbtree.proofs.Branches.{branch_across, across_twice, top_branch, as_branch, branch_open, order_plug, order_branch, order_rotated, side_near, side_far, side_tint, side_linked}
-use Rattle.ic_rbtree.proofs.Turning.{below_linked}
+use Rattle.ic_rbtree.proofs.Turning.{turn, below_linked}
 use Rattle.ic_rbtree.proofs.Zipper.{go_up, go_down, go_across, go_top, painted_top, painted_above}
 use Rattle.ic_rbtree.proofs.Shortening.{short_turned, short_settled, short_up, short_ends}
 use Rattle.ic_rbtree.proofs.Raising.{red_is, black_is, red_tells, parent_at, sib_tree}
@@ -81,39 +82,13 @@ module _ {E : Type 0} (n : E → Node) where
       ∙ (ap (λ (x : Bool). x || red_at n v (n (v.entry p)).right) (red_tells n v (Some p) (n (v.entry p)).left a h.0.left h.1)
       ∙ ap (λ (x : Bool). is_red (top_color a) || x) (red_tells n v (Some p) (n (v.entry p)).right b h.0.right h.2))
 
-  -- THE NEAR CHILD COMES UP
-  module _ {base v v1 v2 : Table E} (root : Option Place) (z w q : Place) (d : Side) (fs : List Frame) (c : Color) (m o b t : Tree) (ps : List Piece) where
-    pub turn_ready : n (v1.entry z) ≡ record (n (v.entry z)) { color = Black } → ChangesOnly v v1 z
-        → n (v2.entry w) ≡ record (n (v1.entry w)) { color = Red } → ChangesOnly v1 v2 w
-        → Stands n base v root (frame d c q (branch d Black (branch d Red m z o) w b) ∷ fs) t ps
-        → Stands n base v2 root (frame (across d) c q t ∷ fs) (branch (across d) Red b w (branch (across d) Black o z m)) ps
-    turn_ready set1 only1 set2 only2 h =
-        let up : List Frame = frame (across d) c q t ∷ fs in
-        let h1 = go_down n root d Black w b up (branch d Red m z o) ps (go_across n root d c q (branch d Black (branch d Red m z o) w b) fs t ps h) in
-        let h2 = painted_top n root d Red Black Black m z z o (frame d Black w b ∷ up) ps refl refl set1 only1 h1 in
-        let h3 = go_up n root d Red w b up (branch d Black m z o) ps (painted_above n root d Black Red Red w w b up (branch d Black m z o) ps refl refl set2 only2 h2) in
-        subst (λ (x : Tree). Stands n base v2 root up x ps)
-        (sym (branch_across d Red (branch d Black m z o) w b) ∙ ap (λ (x : Tree). branch (across d) Red b w x) (sym (branch_across d Black m z o))) h3
-
-  turn_done : {base v2 y : Table E} (root new_root : Option Place) (z w q : Place) (d : Side) (fs : List Frame) (c : Color) (m o b t : Tree) (ps : List Piece)
-      → Rotates n v2 y root new_root w (across d) → Stands n base v2 root (frame (across d) c q t ∷ fs) (branch (across d) Red b w (branch (across d) Black o z m)) ps
-      → Stands n base y new_root (frame d c q (branch d Black m z (branch d Red o w b)) ∷ fs) t ps
-  turn_done {base} {v2} {y} root new_root z w q d fs c m o b t ps rot h =
-      let up : List Frame = frame (across d) c q t ∷ fs in
-      let low : Tree = branch d Black m z (branch d Red o w b) in
-      let h1 = rot base up Red b Black o z m ps h in
-      let back : branch (across d) Black (branch (across d) Red b w o) z m ≡ low =
-      branch_across d Black m z (branch (across d) Red b w o) ∙ ap (λ (x : Tree). branch d Black m z x) (branch_across d Red o w b) in
-      let h2 = go_across n new_root (across d) c q t fs low ps (subst (λ (x : Tree). Stands n base y new_root up x ps) back h1) in
-      subst (λ (k : Side). Stands n base y new_root (frame k c q low ∷ fs) t ps) (across_twice d) h2
-
-  module _ {base v : Table E} {root : Option Place} {q : Place} {d : Side} {w : Place} {s : List Place} {c : Color} {sib : Tree} {fs : List Frame} {t : Tree} {ps : List Piece} (h : Beside n base v root q d w s c sib fs t ps) where
+  module _ {v : Table E} {root : Option Place} {q : Place} {d : Side} {w : Place} {c : Color} {sib : Tree} {k : Focus E} (h : Beside n v root q d w c sib k) where
     -- the sibling, opened
     pub sib_open : (a b : Tree) × (sib ≡ branch d Black a w b)
-    sib_open = let o = as_branch d sib w h.top_is in (o.0, o.1, o.2 ∙ ap (λ (k : Color). branch d k o.0 w o.1) h.black)
+    sib_open = let o = as_branch d sib w h.top_is in (o.0, o.1, o.2 ∙ ap (λ (x : Color). branch d x o.0 w o.1) h.black)
 
-    pub opened : ShortAt n base v root q d s c (branch d Black sib_open.0 w sib_open.1) fs t ps
-    opened = subst (λ (x : Tree). ShortAt n base v root q d s c x fs t ps) sib_open.2 h.at
+    pub opened : ShortAt n v root q d c (branch d Black sib_open.0 w sib_open.1) k
+    opened = subst (λ (x : Tree). ShortAt n v root q d c x k) sib_open.2 h.at
 
     pub sib_read : AreRead n v w
     sib_read = are_read v (Some q) sib w (sib_tree n h.at) h.top_is
@@ -134,14 +109,14 @@ module _ {E : Type 0} (n : E → Node) where
     far_tree = (branch_open n v.entry (Some q) d Black sib_open.0 w sib_open.1 (sib_tree n opened)).2
 
     -- what the color of its far child tells
-    pub far_color : (o : Option Place) (k : Side) (r : Bool) → k ≡ across d → o ≡ child_on k (n (v.entry w)) → r ≡ red_at n v o → r ≡ is_red (top_color sib_open.1)
-    far_color o k r ek e er = er ∙ red_tells n v (Some w) o sib_open.1 (e ∙ (ap (λ (x : Side). child_on x (n (v.entry w))) ek ∙ far_is)) far_tree
+    pub far_color : (o : Option Place) (far : Side) (r : Bool) → far ≡ across d → o ≡ child_on far (n (v.entry w)) → r ≡ red_at n v o → r ≡ is_red (top_color sib_open.1)
+    far_color o far r ek e er = er ∙ red_tells n v (Some w) o sib_open.1 (e ∙ (ap (λ (x : Side). child_on x (n (v.entry w))) ek ∙ far_is)) far_tree
 
     -- it leans already
-    pub leans_now : is_red (top_color sib_open.1) ≡ true → (a m : Tree) × (f : Place) × (o : Tree) × ShortAt n base v root q d s c (branch d Black a w (fork Red m f o)) fs t ps
+    pub leans_now : is_red (top_color sib_open.1) ≡ true → Leant n v root q d w c k
     leans_now red =
         let r = red_branch Left sib_open.1 red in
-        (sib_open.0, r.0, r.1, r.2, subst (λ (x : Tree). ShortAt n base v root q d s c (branch d Black sib_open.0 w x) fs t ps) r.3 opened)
+        record { near = sib_open.0; left = r.0; far = r.1; right = r.2; at = subst (λ (x : Tree). ShortAt n v root q d c (branch d Black sib_open.0 w x) k) r.3 opened }
 
     module _ (red : red_child sib ≡ true) (far : is_red (top_color sib_open.1) ≡ false) where
       pub near_red : (m : Tree) × (z : Place) × (o : Tree) × (sib_open.0 ≡ branch d Red m z o)
@@ -153,146 +128,151 @@ module _ {E : Type 0} (n : E → Node) where
       pub near_linked : (o : Option Place) (z : Place) → o ≡ child_on d (n (v.entry w)) → o ≡ Some z → (n (v.entry z)).linked ≡ true
       near_linked o z e is = below_linked n v.entry (Some w) sib_open.0 z near_tree (sym near_is ∙ (sym e ∙ is))
 
+      -- the near child comes up
       module _ (z : Place) (is : near_red.1 ≡ z) where
-        near_open : ShortAt n base v root q d s c (branch d Black (branch d Red near_red.0 z near_red.2) w sib_open.1) fs t ps
-        near_open = subst (λ (x : Tree). ShortAt n base v root q d s c (branch d Black x w sib_open.1) fs t ps)
+        near_open : ShortAt n v root q d c (branch d Black (branch d Red near_red.0 z near_red.2) w sib_open.1) k
+        near_open = subst (λ (x : Tree). ShortAt n v root q d c (branch d Black x w sib_open.1) k)
             (near_red.3 ∙ ap (λ (x : Place). branch d Red near_red.0 x near_red.2) is) opened
 
         module _ {v1 v2 : Table E} (set1 : n (v1.entry z) ≡ record (n (v.entry z)) { color = Black }) (only1 : ChangesOnly v v1 z) (set2 : n (v2.entry w) ≡ record (n (v1.entry w)) { color = Red }) (only2 : ChangesOnly v1 v2 w) where
-          ready : Stands n base v2 root (frame (across d) c q t ∷ fs) (branch (across d) Red sib_open.1 w (branch (across d) Black near_red.2 z near_red.0)) ps
-          ready = turn_ready root z w q d fs c near_red.0 near_red.2 sib_open.1 t ps set1 only1 set2 only2 near_open.stands
+          ready : Stands n k.base v2 root (frame (across d) c q k.subtree ∷ k.frames) (branch (across d) Red sib_open.1 w (branch (across d) Black near_red.2 z near_red.0)) k.pieces
+          ready =
+              let r = near_red in
+              let b = sib_open.1 in
+              let h1 = painted_top n d Red r.0 z r.2 refl refl set1 only1 (go_down n d Black w b (branch d Red r.0 z r.2) (go_across n near_open.stands)) in
+              subst (λ (x : Tree). Stands n k.base v2 root (frame (across d) c q k.subtree ∷ k.frames) x k.pieces)
+              (sym (branch_across d Red (branch d Black r.0 z r.2) w b) ∙ ap (λ (x : Tree). branch (across d) Red b w x) (sym (branch_across d Black r.0 z r.2)))
+              (go_up n (painted_above n refl refl set2 only2 h1))
 
-          pub turn_can_rotate : (k : Side) → k ≡ across d → CanRotate n v2 root w k
-          turn_can_rotate k e = subst (λ (x : Side). CanRotate n v2 root w x) (sym e)
-              (base, frame (across d) c q t ∷ fs, Red, sib_open.1, Black, near_red.2, z, near_red.0, ps, ready)
+          pub turn_can_rotate : (i : Side) → i ≡ across d → CanRotate n v2 root w i
+          turn_can_rotate i e = subst (λ (x : Side). CanRotate n v2 root w x) (sym e)
+              (k.base, frame (across d) c q k.subtree ∷ k.frames, turn Red sib_open.1 Black near_red.2 z near_red.0, k.pieces, ready)
 
-          pub leans_then : {y : Table E} {new_root : Option Place} (k : Side) → k ≡ across d → Rotates n v2 y root new_root w k
-              → (a m : Tree) × (f : Place) × (o : Tree) × ShortAt n base y new_root q d s c (branch d Black a z (fork Red m f o)) fs t ps
-          leans_then {y} {new_root} k e rot' =
+          pub leans_then : {y : Table E} {new_root : Option Place} (i : Side) → i ≡ across d → Rotates n v2 y root new_root w i → Leant n y new_root q d z c k
+          leans_then {y} {new_root} i e rot' =
               let rot : Rotates n v2 y root new_root w (across d) = subst (λ (x : Side). Rotates n v2 y root new_root w x) e rot' in
               let r = near_red in
               let b = sib_open.1 in
               let f = as_fork d Red r.2 w b in
               let low : Tree = branch d Black r.0 z (branch d Red r.2 w b) in
-              let order : in_order low ≡ in_order (branch d Black (branch d Red r.0 z r.2) w b) = turned_order d r.0 z r.2 w b in
-              let whole : ShortAt n base y new_root q d s c low fs t ps = record {
-                stands = turn_done root new_root z w q d fs c r.0 r.2 b t ps rot ready;
-                short = short_turned fs d c q r.0 z r.2 w b t near_open.short (black_is (top_color b) far);
-                order = order_plug fs (branch d c t q low) (branch d c t q (branch d Black (branch d Red r.0 z r.2) w b))
-                    (order_branch d c c t t q low (branch d Black (branch d Red r.0 z r.2) w b) refl order) ∙ near_open.order;
+              let order : in_order low ≡ in_order (branch d Black (branch d Red r.0 z r.2) w b) = order_rotated d Black Red Red Black r.0 z r.2 w b in
+              let up : List Frame = frame (across d) c q k.subtree ∷ k.frames in
+              let back : branch (across d) Black (branch (across d) Red b w r.2) z r.0 ≡ low =
+              branch_across d Black r.0 z (branch (across d) Red b w r.2) ∙ ap (λ (x : Tree). branch d Black r.0 z x) (branch_across d Red r.2 w b) in
+              let h1 = go_across n (subst (λ (x : Tree). Stands n k.base y new_root up x k.pieces) back (rot k.base up (turn Red b Black r.2 z r.0) k.pieces ready)) in
+              let whole : ShortAt n y new_root q d c low k = record {
+                stands = subst (λ (x : Side). Stands n k.base y new_root (frame x c q low ∷ k.frames) k.subtree k.pieces) (across_twice d) h1;
+                short = short_turned k.frames d c q r.0 z r.2 w b k.subtree near_open.short (black_is (top_color b) far);
+                order = order_plug k.frames (branch d c k.subtree q low) (branch d c k.subtree q (branch d Black (branch d Red r.0 z r.2) w b))
+                    (order_branch d c c k.subtree k.subtree q low (branch d Black (branch d Red r.0 z r.2) w b) refl order) ∙ near_open.order;
               } in
-              (r.0, f.0, w, f.1, subst (λ (x : Tree). ShortAt n base y new_root q d s c (branch d Black r.0 z x) fs t ps) f.2 whole)
-            where
-              turned_order : (d : Side) (m : Tree) (z : Place) (o : Tree) (w : Place) (b : Tree)
-                  → in_order (branch d Black m z (branch d Red o w b)) ≡ in_order (branch d Black (branch d Red m z o) w b)
-              turned_order d m z o w b = order_rotated d Black Red Red Black m z o w b
+              record { near = r.0; left = f.0; far = w; right = f.1; at = subst (λ (x : Tree). ShortAt n y new_root q d c (branch d Black r.0 z x) k) f.2 whole }
 
   -- A RED FAR CHILD: the sibling comes up
-  module _ {base v : Table E} {root : Option Place} {q : Place} {d : Side} {s : List Place} {c : Color} {fs : List Frame} {t : Tree} {ps : List Piece} (a : Tree) (w : Place) (m : Tree) (f : Place) (o : Tree) (h : ShortAt n base v root q d s c (branch d Black a w (fork Red m f o)) fs t ps) where
-    tree_here : IsTree n v.entry (Some q) (branch d Black a w (fork Red m f o))
-    tree_here = sib_tree n h
+  module _ {v : Table E} {root : Option Place} {q : Place} {d : Side} {w : Place} {c : Color} {k : Focus E} (l : Leant n v root q d w c k) where
+    abbrev far_child : Color → Tree
+    far_child x = fork x l.left l.far l.right
+
+    tree_here : IsTree n v.entry (Some q) (branch d Black l.near w (far_child Red))
+    tree_here = sib_tree n l.at
 
     pub upper_linked : (n (v.entry w)).linked ≡ true
-    upper_linked = below_linked n v.entry (Some q) (branch d Black a w (fork Red m f o)) w tree_here (top_branch d Black a w (fork Red m f o))
+    upper_linked = below_linked n v.entry (Some q) (branch d Black l.near w (far_child Red)) w tree_here (top_branch d Black l.near w (far_child Red))
 
-    pub outer_some : (k : Side) (x : Option Place) → k ≡ across d → x ≡ child_on k (n (v.entry w)) → x ≡ Some f
-    outer_some k x ek e = e ∙ (ap (λ (y : Side). child_on y (n (v.entry w))) ek ∙ top_far v (Some q) d Black a w (fork Red m f o) tree_here)
+    pub outer_some : (i : Side) (x : Option Place) → i ≡ across d → x ≡ child_on i (n (v.entry w)) → x ≡ Some l.far
+    outer_some i x ek e = e ∙ (ap (λ (y : Side). child_on y (n (v.entry w))) ek ∙ top_far v (Some q) d Black l.near w (far_child Red) tree_here)
 
-    pub outer_linked : (n (v.entry f)).linked ≡ true
-    outer_linked = side_linked n v.entry Left f Red (top m) (top o) (Some w) (branch_open n v.entry (Some q) d Black a w (fork Red m f o) tree_here).2.0
+    pub outer_linked : (n (v.entry l.far)).linked ≡ true
+    outer_linked = side_linked n v.entry Left l.far Red (top l.left) (top l.right) (Some w) (branch_open n v.entry (Some q) d Black l.near w (far_child Red) tree_here).2.0
 
     pub color_here : (x : Color) → x ≡ (n (v.entry q)).color → x ≡ c
-    color_here x e = e ∙ side_tint n v.entry d q c (top t) (Some w) (above fs)
-        (subst (λ (y : Option Place). IsAtSide n v.entry d q c (top t) y (above fs)) (top_branch d Black a w (fork Red m f o)) (parent_at n h))
+    color_here x e = e ∙ side_tint n v.entry d q c (top k.subtree) (Some w) (above k.frames)
+        (subst (λ (y : Option Place). IsAtSide n v.entry d q c (top k.subtree) y (above k.frames)) (top_branch d Black l.near w (far_child Red)) (parent_at n l.at))
 
-    module _ {v1 v2 v3 : Table E} (x : Color) (ex : x ≡ c) (g : Place) (eg : g ≡ f) (set1 : n (v1.entry w) ≡ record (n (v.entry w)) { color = x }) (only1 : ChangesOnly v v1 w)
+    module _ {v1 v2 v3 : Table E} (x : Color) (ex : x ≡ c) (g : Place) (eg : g ≡ l.far) (set1 : n (v1.entry w) ≡ record (n (v.entry w)) { color = x }) (only1 : ChangesOnly v v1 w)
         (set2 : n (v2.entry q) ≡ record (n (v1.entry q)) { color = Black }) (only2 : ChangesOnly v1 v2 q) (set3 : n (v3.entry g) ≡ record (n (v2.entry g)) { color = Black }) (only3 : ChangesOnly v2 v3 g) where
-      settle_ready : Stands n base v3 root fs (branch d Black t q (branch d c a w (fork Black m f o))) ps
+      settle_ready : Stands n k.base v3 root k.frames (branch d Black k.subtree q (branch d c l.near w (far_child Black))) k.pieces
       settle_ready =
-          let F : Tree = fork Red m f o in
-          let F' : Tree = fork Black m f o in
-          let up : List Frame = frame (across d) Black q t ∷ fs in
-          let h1 = go_across n root d c q (branch d Black a w F) fs t ps h.stands in
-          let h2 = painted_top n root d Black c x a w w F (frame (across d) c q t ∷ fs) ps refl ex set1 only1 h1 in
-          let h3 = painted_above n root (across d) c Black Black q q t fs (branch d c a w F) ps refl refl set2 only2 h2 in
-          let h4 = go_across n root d c w F up a ps (go_down n root d c w F up a ps h3) in
-          let h5 = painted_top n root Left Red Black Black m f g o (frame (across d) c w a ∷ up) ps eg refl set3 only3 h4 in
-          let h6 = subst (λ (y : Tree). Stands n base v3 root up y ps) (branch_across d c a w F') (go_up n root (across d) c w a up F' ps h5) in
-          subst (λ (y : Tree). Stands n base v3 root fs y ps) (branch_across d Black t q (branch d c a w F')) (go_up n root (across d) Black q t fs (branch d c a w F') ps h6)
+          let up : List Frame = frame (across d) Black q k.subtree ∷ k.frames in
+          let h1 = go_across n l.at.stands in
+          let h2 = painted_top n d Black l.near w (far_child Red) refl ex set1 only1 h1 in
+          let h3 = painted_above n refl refl set2 only2 h2 in
+          let h4 = go_across n (go_down n d c w (far_child Red) l.near h3) in
+          let h5 = painted_top n Left Red l.left l.far l.right eg refl set3 only3 h4 in
+          let h6 = subst (λ (y : Tree). Stands n k.base v3 root up y k.pieces) (branch_across d c l.near w (far_child Black)) (go_up n h5) in
+          subst (λ (y : Tree). Stands n k.base v3 root k.frames y k.pieces) (branch_across d Black k.subtree q (branch d c l.near w (far_child Black))) (go_up n h6)
 
       pub settle_can_rotate : CanRotate n v3 root q d
-      settle_can_rotate = (base, fs, Black, t, c, a, w, fork Black m f o, ps, settle_ready)
+      settle_can_rotate = (k.base, k.frames, turn Black k.subtree c l.near w (far_child Black), k.pieces, settle_ready)
 
-      pub settles : {y : Table E} {new_root : Option Place} → Rotates n v3 y root new_root q d → Shown n base y new_root s ps
+      pub settles : {y : Table E} {new_root : Option Place} → Rotates n v3 y root new_root q d → IsMended n y new_root k
       settles {y} {new_root} rot =
-          let F' : Tree = fork Black m f o in
-          let all : Tree = branch d c (branch d Black t q a) w F' in
+          let all : Tree = branch d c (branch d Black k.subtree q l.near) w (far_child Black) in
           record {
-            tree = plug fs all;
-            stands = go_top n new_root fs all ps (rot base fs Black t c a w F' ps settle_ready);
-            order = order_plug fs all (branch d c t q (branch d Black a w (fork Red m f o)))
-                (sym (order_rotated d Black c Black c t q a w F')
-                ∙ order_branch d Black c t t q (branch d c a w F') (branch d Black a w (fork Red m f o)) refl (order_branch d c Black a a w F' (fork Red m f o) refl refl)) ∙ h.order;
-            shape = short_settled fs d c q a w Left m f o t h.short;
+            tree = plug k.frames all;
+            stands = go_top n (rot k.base k.frames (turn Black k.subtree c l.near w (far_child Black)) k.pieces settle_ready);
+            order = order_plug k.frames all (branch d c k.subtree q (branch d Black l.near w (far_child Red)))
+                (sym (order_rotated d Black c Black c k.subtree q l.near w (far_child Black))
+                ∙ order_branch d Black c k.subtree k.subtree q (branch d c l.near w (far_child Black)) (branch d Black l.near w (far_child Red)) refl (order_branch d c Black l.near l.near w (far_child Black) (far_child Red) refl refl)) ∙ l.at.order;
+            shape = short_settled k.frames d c q l.near w Left l.left l.far l.right k.subtree l.at.short;
           }
 
   -- NO RED CHILD: the sibling fades
-  module _ {base v : Table E} {root : Option Place} {q : Place} {d : Side} {w : Place} {s : List Place} {c : Color} {sib : Tree} {fs : List Frame} {t : Tree} {ps : List Piece} (h : Beside n base v root q d w s c sib fs t ps) (none : red_child sib ≡ false) where
+  module _ {v : Table E} {root : Option Place} {q : Place} {d : Side} {w : Place} {c : Color} {sib : Tree} {k : Focus E} (h : Beside n v root q d w c sib k) (none : red_child sib ≡ false) where
     blacks_here : (top_color (sib_open h).0 ≡ Black) × (top_color (sib_open h).1 ≡ Black)
     blacks_here =
         let o = sib_open h in
         let r = none_red d Black o.0 w o.1 (ap red_child (sym o.2) ∙ none) in (black_is (top_color o.0) r.0, black_is (top_color o.1) r.1)
 
     module _ {v1 : Table E} (set1 : n (v1.entry w) ≡ record (n (v.entry w)) { color = Red }) (only1 : ChangesOnly v v1 w) where
-      faded : Stands n base v1 root (frame d c q (branch d Red (sib_open h).0 w (sib_open h).1) ∷ fs) t ps
+      faded : Stands n k.base v1 root (frame d c q (branch d Red (sib_open h).0 w (sib_open h).1) ∷ k.frames) k.subtree k.pieces
       faded =
           let o = sib_open h in
-          let h1 = go_across n root d c q (branch d Black o.0 w o.1) fs t ps (opened h).stands in
-          let h2 = painted_top n root d Black Red Red o.0 w w o.1 (frame (across d) c q t ∷ fs) ps refl refl set1 only1 h1 in
-          let h3 = go_across n root (across d) c q t fs (branch d Red o.0 w o.1) ps h2 in
-          subst (λ (k : Side). Stands n base v1 root (frame k c q (branch d Red o.0 w o.1) ∷ fs) t ps) (across_twice d) h3
+          let h1 = go_across n (opened h).stands in
+          let h2 = painted_top n d Black o.0 w o.1 refl refl set1 only1 h1 in
+          let h3 = go_across n h2 in
+          subst (λ (x : Side). Stands n k.base v1 root (frame x c q (branch d Red o.0 w o.1) ∷ k.frames) k.subtree k.pieces) (across_twice d) h3
 
       pub color_then : (r : Bool) → r ≡ red_at n v1 (Some q) → r ≡ is_red c
       color_then r e = let o = sib_open h in
-          e ∙ ap is_red (side_tint n v1.entry d q c (top t) (top (branch d Red o.0 w o.1)) (above fs) faded.are.0.0.0)
+          e ∙ ap is_red (side_tint n v1.entry d q c (top k.subtree) (top (branch d Red o.0 w o.1)) (above k.frames) faded.are.0.0.0)
 
-      same_order : (k : Color) → in_order (plug fs (branch d k t q (branch d Red (sib_open h).0 w (sib_open h).1))) ≡ s
-      same_order k =
+      same_order : (x : Color) → in_order (plug k.frames (branch d x k.subtree q (branch d Red (sib_open h).0 w (sib_open h).1))) ≡ k.sequence
+      same_order x =
           let o = sib_open h in
-          order_plug fs (branch d k t q (branch d Red o.0 w o.1)) (branch d c t q (branch d Black o.0 w o.1))
-          (order_branch d k c t t q (branch d Red o.0 w o.1) (branch d Black o.0 w o.1) refl (order_branch d Red Black o.0 o.0 w o.1 o.1 refl refl)) ∙ (opened h).order
+          order_plug k.frames (branch d x k.subtree q (branch d Red o.0 w o.1)) (branch d c k.subtree q (branch d Black o.0 w o.1))
+          (order_branch d x c k.subtree k.subtree q (branch d Red o.0 w o.1) (branch d Black o.0 w o.1) refl (order_branch d Red Black o.0 o.0 w o.1 o.1 refl refl)) ∙ (opened h).order
 
-      pub fades_on : is_red c ≡ false → (t' : Tree) × Rises n base v1 root q s fs t' ps
+      pub fades_on : is_red c ≡ false → (t' : Tree) × Rises n v1 root q (record k { subtree = t' })
       fades_on e =
           let o = sib_open h in
           let r = blacks_here in
           let black : c ≡ Black = black_is c e in (
-            branch d c t q (branch d Red o.0 w o.1),
+            branch d c k.subtree q (branch d Red o.0 w o.1),
             record {
-              stands = go_up n root d c q (branch d Red o.0 w o.1) fs t ps faded;
-              top_is = top_branch d c t q (branch d Red o.0 w o.1);
-              short = subst (λ (k : Color). IsShort fs (branch d k t q (branch d Red o.0 w o.1))) (sym black)
-                  (short_up fs d q o.0 w o.1 t (subst (λ (k : Color). IsShort (frame d k q (branch d Black o.0 w o.1) ∷ fs) t) black (opened h).short) r.0 r.1);
+              stands = go_up n faded;
+              top_is = top_branch d c k.subtree q (branch d Red o.0 w o.1);
+              short = subst (λ (x : Color). IsShort k.frames (branch d x k.subtree q (branch d Red o.0 w o.1))) (sym black)
+                  (short_up k.frames d q o.0 w o.1 k.subtree (subst (λ (x : Color). IsShort (frame d x q (branch d Black o.0 w o.1) ∷ k.frames) k.subtree) black (opened h).short) r.0 r.1);
               order = same_order c;
             },
           )
 
-      pub fades_out : {v2 : Table E} → is_red c ≡ true → n (v2.entry q) ≡ record (n (v1.entry q)) { color = Black } → ChangesOnly v1 v2 q → Shown n base v2 root s ps
+      pub fades_out : {v2 : Table E} → is_red c ≡ true → n (v2.entry q) ≡ record (n (v1.entry q)) { color = Black } → ChangesOnly v1 v2 q → IsMended n v2 root k
       fades_out {v2} e set2 only2 =
           let o = sib_open h in
           let r = blacks_here in
           let red : c ≡ Red = red_is c e in
-          let all : Tree = branch d Black t q (branch d Red o.0 w o.1) in
+          let all : Tree = branch d Black k.subtree q (branch d Red o.0 w o.1) in
           record {
-            tree = plug fs all;
-            stands = go_top n root fs all ps (painted_top n root d c Black Black t q q (branch d Red o.0 w o.1) fs ps refl refl set2 only2 (go_up n root d c q (branch d Red o.0 w o.1) fs t ps faded));
+            tree = plug k.frames all;
+            stands = go_top n (painted_top n d c k.subtree q (branch d Red o.0 w o.1) refl refl set2 only2 (go_up n faded));
             order = same_order Black;
-            shape = short_ends fs d q o.0 w o.1 t (subst (λ (k : Color). IsShort (frame d k q (branch d Black o.0 w o.1) ∷ fs) t) red (opened h).short) r.0 r.1;
+            shape = short_ends k.frames d q o.0 w o.1 k.subtree (subst (λ (x : Color). IsShort (frame d x q (branch d Black o.0 w o.1) ∷ k.frames) k.subtree) red (opened h).short) r.0 r.1;
           }
 
   -- where nothing was raised, the shortage rises to the old frames
-  pub risen : {base w : Table E} {root : Option Place} {q : Place} {s : List Place} {c : Color} {fs fs' : List Frame} {ps : List Piece} (done : Bool)
-      → done ≡ is_red c → done ≡ false → (c ≡ Red) ⊎ (fs' ≡ fs) → (t' : Tree) × Rises n base w root q s fs' t' ps → (t' : Tree) × Rises n base w root q s fs t' ps
-  risen {base} {w} {root} {q} {s} {c} {fs} {fs'} {ps} done e k (inl red) r = let m : true ≡ false = sym (ap is_red red) ∙ (sym e ∙ k) in cc
-  risen {base} {w} {root} {q} {s} {c} {fs} {fs'} {ps} done e k (inr same) r =
-      subst (λ (x : List Frame). (t' : Tree) × Rises n base w root q s x t' ps) same r
+  pub risen : {w : Table E} {root : Option Place} {q : Place} {c : Color} (k : Focus E) {fs : List Frame} (done : Bool) → done ≡ is_red c → done ≡ false → (c ≡ Red) ⊎ (fs ≡ k.frames)
+      → (t : Tree) × Rises n w root q (record k { frames = fs; subtree = t }) → (t : Tree) × Rises n w root q (record k { subtree = t })
+  risen k done e off (inl red) r = let m : true ≡ false = sym (ap is_red red) ∙ (sym e ∙ off) in cc
+  risen {w} {root} {q} k done e off (inr same) r = subst (λ (x : List Frame). (t : Tree) × Rises n w root q (record k { frames = x; subtree = t })) same r

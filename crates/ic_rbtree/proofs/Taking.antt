@@ -14,11 +14,12 @@ use Rattle.ic_link_ops.proofs.SequenceLemmas.{none_not, some_same}
 use Rattle.ic_link_ops.proofs.Frames.{in_order_parts}
 use Rattle.ic_link_ops.specs.Times.{times, times_around}
 use Rattle.ic_link_ops.proofs.Times.{one_at_self}
-use Rattle.ic_rbtree.specs.Pieces.{Piece, cell, loose, below, around, Stands, Shown}
+use Rattle.ic_rbtree.specs.Pieces.{Piece, cell, loose, below, around, Stands}
+use Rattle.ic_rbtree.specs.Focus.{Focus, IsMended}
 use Rattle.ic_rbtree.specs.Steps.{Adopts, Relinks}
 use Rattle.ic_rbtree.specs.Shortage.{EvenAround, PairsAround}
 use Rattle.ic_rbtree.specs.Removal.{IsOn, Short}
-use Rattle.ic_rbtree.specs.Taking.{or_else, only, IsLone, IsGap, Gap, IsSideBelow}
+use Rattle.ic_rbtree.specs.Taking.{or_else, Parts, member, only, IsLone, IsGap, Gap, IsSideBelow, TakesPlace}
 use Rattle.ic_rbtree.proofs.Branches.{order_plug, side_loose}
 use Rattle.ic_rbtree.proofs.Pieces.{regroup, set_near, set_far, set_up, set_tint}
 use Rattle.ic_rbtree.proofs.Turning.{open_at, close_at, below_linked, around_linked}
@@ -63,64 +64,66 @@ gap_open c fs a p b h r = let o = shape_open fs (fork c a p b) r in open_gap a b
   }
 
 module _ {E : Type 0} (n : E → Node) where
-  pub side_on : (v : Table E) (base : Table E) (root : Option Place) (fs : List Frame) (t : Tree) (ps : List Piece) (q : Place) (parent : Option Place) (d : Side)
+  side_on : (v : Table E) (base : Table E) (root : Option Place) (fs : List Frame) (t : Tree) (ps : List Piece) (q : Place) (parent : Option Place) (d : Side)
       → Stands n base v root fs t ps → top t ≡ Some q → parent ≡ above fs → IsSideBelow n v q parent d → IsOn d fs
   side_on v base root [] t ps q parent d h e up is = tt
   side_on v base root (frame k c p b ∷ fs) t ps q parent d h e up is = side_found n v base root k c p b fs t ps q d h e (is p up)
 
   -- the ways in which a gap is closed
-  module _ {base v : Table E} {root child parent : Option Place} {d : Side} {s : List Place} (c : Color) (fs : List Frame) (x : Tree) {ps : List Piece} (h : Gap n base v root c child parent d s fs x ps) where
-    pub close_red : c ≡ Red → Shown n base v root s ps
+  module _ {v : Table E} {root child parent : Option Place} {d : Side} {c : Color} {k : Focus E} (h : Gap n v root c child parent d k) where
+    pub close_red : c ≡ Red → IsMended n v root k
     close_red e = record {
-      tree = plug fs x;
-      stands = go_top n root fs x ps h.stands;
+      tree = plug k.frames k.subtree;
+      stands = go_top n h.stands;
       order = h.order;
-      shape = right_plug fs x h.gap.pairs h.gap.even h.gap.pairs_around (let k : weight c + blacks x ≡ blacks x = omega (arith, ap weight e) in subst (λ (m : ℕ). EvenAround fs m) k h.gap.even_around) (λ i. h.gap.red e);
+      shape = right_plug k.frames k.subtree h.gap.pairs h.gap.even h.gap.pairs_around (let level : weight c + blacks k.subtree ≡ blacks k.subtree = omega (arith, ap weight e) in subst (λ (m : ℕ). EvenAround k.frames m) level h.gap.even_around) (λ i. h.gap.red e);
     }
 
-    pub close_short : c ≡ Black → child ≡ None → Short n base v root parent d s fs x ps
+    pub close_short : c ≡ Black → child ≡ None → Short n v root parent d k
     close_short e i = record {
       stands = h.stands;
       parent_is = h.parent_is;
       side_is = h.side_is;
       short = record {
-        black = no_top x (sym h.child_is ∙ i);
+        black = no_top k.subtree (sym h.child_is ∙ i);
         pairs = h.gap.pairs;
         even = h.gap.even;
         pairs_around = h.gap.pairs_around;
-        even_around = subst (λ (k : Color). EvenAround fs (weight k + blacks x)) e h.gap.even_around;
+        even_around = subst (λ (i : Color). EvenAround k.frames (weight i + blacks k.subtree)) e h.gap.even_around;
       };
       order = h.order;
     } where
       no_top : (t : Tree) → top t ≡ None → top_color t ≡ Black
       no_top leaf e = refl
-      no_top (fork k a p b) e = absurd (none_not p (sym e))
+      no_top (fork i a p b) e = absurd (none_not p (sym e))
 
-    pub child_linked : (q : Place) → child ≡ Some q → (n (v.entry q)).linked ≡ true
-    child_linked q e = below_linked n v.entry (above fs) x q h.stands.are.1.0 (sym h.child_is ∙ e)
+    pub close_black : {w : Table E} → c ≡ Black → (q : Place) → child ≡ Some q → n (w.entry q) ≡ record (n (v.entry q)) { color = Black } → ChangesOnly v w q → IsMended n w root k
+    close_black {w} e q is set only = at k.subtree h where
+      at : (t : Tree) → Gap n v root c child parent d (record k { subtree = t }) → IsMended n w root k
+      at leaf h = absurd (none_not q (sym h.child_is ∙ is))
+      at (fork i a p b) h =
+          let all : Tree = fork Black a p b in
+          let none : blacks a ≡ 0 = omega (arith, h.gap.none) in
+          let old : blacks (fork i a p b) ≡ 0 = h.gap.none in
+          let level : weight c + blacks (fork i a p b) ≡ blacks all = omega (arith, ap weight e, none, old) in
+          record {
+            tree = plug k.frames all;
+            stands = go_top n (painted_top n Left i a p b (some_same (sym is ∙ h.child_is)) refl set only h.stands);
+            order = order_plug k.frames all (fork i a p b) refl ∙ h.order;
+            shape = right_plug k.frames all (red_not_black, h.gap.pairs.1, h.gap.pairs.2) h.gap.even h.gap.pairs_around (subst (λ (m : ℕ). EvenAround k.frames m) level h.gap.even_around) (λ r. refl);
+          }
 
-  pub close_black : {base v w : Table E} {root child parent : Option Place} {d : Side} {s : List Place} (c : Color) (fs : List Frame) (x : Tree) {ps : List Piece}
-      → Gap n base v root c child parent d s fs x ps → c ≡ Black → (q : Place) → child ≡ Some q → n (w.entry q) ≡ record (n (v.entry q)) { color = Black } → ChangesOnly v w q
-      → Shown n base w root s ps
-  close_black c fs leaf h e q i set only = absurd (none_not q (sym h.child_is ∙ i))
-  close_black {base} {v} {w} {root} {child} {parent} {d} {s} c fs (fork k a p b) {ps} h e q i set only =
-      let all : Tree = fork Black a p b in
-      let none : blacks a ≡ 0 = omega (arith, h.gap.none) in
-      let old : blacks (fork k a p b) ≡ 0 = h.gap.none in
-      let level : weight c + blacks (fork k a p b) ≡ blacks all = omega (arith, ap weight e, none, old) in
-      record {
-        tree = plug fs all;
-        stands = go_top n root fs all ps (painted_top n root Left k Black Black a p q b fs ps (some_same (sym i ∙ h.child_is)) refl set only h.stands);
-        order = order_plug fs all (fork k a p b) refl ∙ h.order;
-        shape = right_plug fs all (red_not_black, h.gap.pairs.1, h.gap.pairs.2) h.gap.even h.gap.pairs_around (subst (λ (m : ℕ). EvenAround fs m) level h.gap.even_around) (λ r. refl);
-      }
+  -- the tree without the member
+  abbrev pub without : Table E → List Frame → Parts → List Piece → Focus E
+  without base fs x ps = record { base = base; sequence = before fs ++ (in_order (only x.left x.right) ++ after fs); frames = fs; subtree = only x.left x.right; pieces = ps }
 
   -- THE WRITES OF TAKING OUT
-  pub taken_out : {base v v1 v2 : Table E} (root new_root child parent : Option Place) (fs : List Frame) (c : Color) (a : Tree) (p : Place) (b : Tree) (ps : List Piece)
-      → Stands n base v root fs (fork c a p b) ps → IsLone a b → child ≡ or_else (n (v.entry p)).left (n (v.entry p)).right → parent ≡ (n (v.entry p)).parent
+  pub taken_out : {base v v1 v2 : Table E} (root new_root child parent : Option Place) (k : Color) (d : Side) (fs : List Frame) (y : Parts) (p : Place) (ps : List Piece)
+      → child ≡ or_else (n (v.entry p)).left (n (v.entry p)).right → parent ≡ (n (v.entry p)).parent → k ≡ (n (v.entry p)).color → IsSideBelow n v p parent d
       → Relinks n v v1 root new_root parent p child → Adopts n v1 v2 child parent
-      → Stands n base v2 new_root fs (only a b) (loose p ∷ ps) × (child ≡ top (only a b)) × (parent ≡ above fs)
-  taken_out {base} {v} {v1} {v2} root new_root child parent fs c a p b ps s lone ec ep f1 f2 =
+      → Stands n base v root fs (member p y) ps → IsLone y.left y.right → IsRight (plug fs (member p y)) → Gap n v2 new_root k child parent d (without base fs y (loose p ∷ ps))
+  taken_out {base} {v} {v1} {v2} root new_root child parent k d fs y p ps ec ep ek side f1 f2 s lone right =
+      let record { color = c; left = a; right = b } = y in
       let h0 = open_at n root fs Left c a p b ps s in
       let at = h0.are.0 in
       let child_is : child ≡ top (only a b) = ec ∙ (ap (λ (x : Option Place). or_else x (n (v.entry p)).right) at.left ∙ (ap (λ (x : Option Place). or_else (top a) x) at.right ∙ top_only a b)) in
@@ -133,8 +136,14 @@ module _ {E : Type 0} (n : E → Node) where
       let h2 = f1 base fs (top x) (below (Some p) x ∷ loose p ∷ ps) up child_is out h1 in
       let h3 = regroup n (below (Some p) x ∷ around new_root fs (top x) ∷ loose p ∷ ps) h2 (λ q. omega arith) (h2.are.1.0, (h2.are.0, h2.are.1.1)) in
       let h4 = f2 base (Some p) (above fs) x (around new_root fs (top x) ∷ loose p ∷ ps) child_is up h3 in
-      let h5 = regroup n (around new_root fs (top x) ∷ below (above fs) x ∷ loose p ∷ ps) h4 (λ q. omega arith) (h4.are.1.0, (h4.are.0, h4.are.1.1)) in
-      (h5, child_is, up)
+      record {
+        stands = regroup n (around new_root fs (top x) ∷ below (above fs) x ∷ loose p ∷ ps) h4 (λ q. omega arith) (h4.are.1.0, (h4.are.0, h4.are.1.1));
+        child_is = child_is;
+        parent_is = up;
+        side_is = side_on v base root fs (fork c a p b) ps p parent d s refl up side;
+        gap = subst (λ (i : Color). IsGap i fs x) (sym (ek ∙ at.color)) (gap_open c fs a p b lone right);
+        order = in_order_parts fs x;
+      }
     where
       lone_tree : (a b : Tree) → IsLone a b → (P : Tree → Type 0) → P a → P b → P (only a b)
       lone_tree leaf b h P pa pb = pb
@@ -145,18 +154,6 @@ module _ {E : Type 0} (n : E → Node) where
       lone_times q (fork c a p b) r (inl e) = cc
       lone_times q (fork c a p b) r (inr e) = omega (arith, ap (λ (t : Tree). times q t) e)
 
-  pub gap_made : {base v2 : Table E} (root child parent : Option Place) (d : Side) (fs : List Frame) (k c : Color) (a : Tree) (p : Place) (b : Tree) (ps : List Piece)
-      → k ≡ c → Stands n base v2 root fs (only a b) ps → child ≡ top (only a b) → parent ≡ above fs → IsOn d fs → IsLone a b → IsRight (plug fs (fork c a p b))
-      → Gap n base v2 root k child parent d (before fs ++ (in_order (only a b) ++ after fs)) fs (only a b) ps
-  gap_made root child parent d fs k c a p b ps ek s ec ep on lone right = record {
-    stands = s;
-    child_is = ec;
-    parent_is = ep;
-    side_is = on;
-    gap = subst (λ (x : Color). IsGap x fs (only a b)) (sym ek) (gap_open c fs a p b lone right);
-    order = in_order_parts fs (only a b);
-  }
-
   -- what is read where a member stands
   pub record Reads (v : Table E) (p : Place) : Type 0 where
     pub here : (n (v.entry p)).linked ≡ true
@@ -164,13 +161,13 @@ module _ {E : Type 0} (n : E → Node) where
     pub right : (q : Place) → (n (v.entry p)).right ≡ Some q → (n (v.entry q)).linked ≡ true
     pub parent : (q : Place) → (n (v.entry p)).parent ≡ Some q → (n (v.entry q)).linked ≡ true
 
-  pub reads : {base v : Table E} (root : Option Place) (fs : List Frame) (c : Color) (a : Tree) (p : Place) (b : Tree) (ps : List Piece) → Stands n base v root fs (fork c a p b) ps → Reads v p
-  reads {base} {v} root fs c a p b ps h =
+  pub reads : {base v : Table E} (root : Option Place) (fs : List Frame) (x : Parts) (p : Place) (ps : List Piece) → Stands n base v root fs (member p x) ps → Reads v p
+  reads {base} {v} root fs x p ps h =
       let at = h.are.1.0.0 in
       record {
         here = at.linked;
-        left = λ q e. below_linked n v.entry (Some p) a q h.are.1.0.1 (sym at.left ∙ e);
-        right = λ q e. below_linked n v.entry (Some p) b q h.are.1.0.2 (sym at.right ∙ e);
+        left = λ q e. below_linked n v.entry (Some p) x.left q h.are.1.0.1 (sym at.left ∙ e);
+        right = λ q e. below_linked n v.entry (Some p) x.right q h.are.1.0.2 (sym at.right ∙ e);
         parent = λ q e. around_linked n v.entry fs (Some p) q h.are.0.0 (sym at.parent ∙ e);
       }
 
@@ -180,9 +177,6 @@ module _ {E : Type 0} (n : E → Node) where
     pick None y hx hy e = hy e
     pick (Some x) y hx hy e = hx e
 
-  pub reads_color : {base v : Table E} (root : Option Place) (fs : List Frame) (c : Color) (a : Tree) (p : Place) (b : Tree) (ps : List Piece) → Stands n base v root fs (fork c a p b) ps → (n (v.entry p)).color ≡ c
-  reads_color root fs c a p b ps h = h.are.1.0.0.color
-
   -- THE WRITES OF TAKING A PLACE
   pub taken_place : (v v1 v2 v3 v4 v5 v6 w : Table E) (root new_root left right parent : Option Place) (color : Color) (p new : Place)
       → parent ≡ (n (v.entry p)).parent → left ≡ (n (v.entry p)).left → right ≡ (n (v.entry p)).right → color ≡ (n (v.entry p)).color
@@ -191,9 +185,9 @@ module _ {E : Type 0} (n : E → Node) where
       → n (v5.entry new) ≡ with_child Right (n (v4.entry new)) right → ChangesOnly v4 v5 new
       → n (v6.entry new) ≡ record (n (v5.entry new)) { parent = parent } → ChangesOnly v5 v6 new
       → n (w.entry new) ≡ record (n (v6.entry new)) { color = color } → ChangesOnly v6 w new
-      → (base : Table E) (fs : List Frame) (c : Color) (a b : Tree) (ps : List Piece)
-      → Stands n base v root fs (fork c a p b) (loose new ∷ ps) → Stands n base w new_root fs (fork c a new b) (loose p ∷ ps)
-  taken_place v v1 v2 v3 v4 v5 v6 w root new_root left right parent color p new up el er ec f1 f2 f3 set4 only4 set5 only5 set6 only6 set7 only7 base fs c a b ps s =
+      → TakesPlace n v w root new_root p new
+  taken_place v v1 v2 v3 v4 v5 v6 w root new_root left right parent color p new up el er ec f1 f2 f3 set4 only4 set5 only5 set6 only6 set7 only7 base fs x ps s =
+      let record { color = c; left = a; right = b } = x in
       let h0 = open_at n root fs Left c a p b (loose new ∷ ps) s in
       let at = h0.are.0 in
       let eu : parent ≡ above fs = up ∙ at.parent in

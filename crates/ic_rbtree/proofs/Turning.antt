@@ -15,9 +15,13 @@ use Rattle.ic_link_ops.proofs.SequenceLemmas.{none_not, some_same}
 use Rattle.ic_link_ops.specs.Times.{one_at, times, times_around}
 use Rattle.ic_link_ops.proofs.Times.{one_at_self, times_branch}
 use Rattle.ic_rbtree.specs.Pieces.{Piece, cell, below, around, Held, Stands}
-use Rattle.ic_rbtree.specs.Steps.{Adopts, Relinks, Rotates, CanRotate, IsSideOf}
+use Rattle.ic_rbtree.specs.Steps.{Turn, Adopts, Relinks, Rotates, CanRotate, IsSideOf}
 use Rattle.ic_rbtree.proofs.Branches.{top_branch, branch_open, branch_close, side_near, side_far, side_up, side_linked}
 use Rattle.ic_rbtree.proofs.Pieces.{regroup, set_near, set_far, set_up}
+
+-- a turn by its parts
+abbrev pub turn : Color → Tree → Color → Tree → Place → Tree → Turn
+turn c a k b y e = record { color = c; near = a; upper_color = k; inner = b; upper = y; outer = e }
 
 pub times_top : (p : Place) (t : Tree) → top t ≡ Some p → 1 ≤ times p t
 times_top p leaf e = absurd (none_not p e)
@@ -134,7 +138,8 @@ module _ {E : Type 0} (n : E → Node) where
     pub up_linked : (q : Place) → up ≡ Some q → (n (v.entry q)).linked ≡ true
 
   pub turn_reads : (v : Table E) (root : Option Place) (p : Place) (d : Side) → CanRotate n v root p d → TurnReads v p d
-  turn_reads v root p d (base, fs, c, a, k, b, y, e, ps, s) =
+  turn_reads v root p d (base, fs, t, ps, s) =
+      let record { color = c; near = a; upper_color = k; inner = b; upper = y; outer = e } = t in
       let h = open_at root fs d c a p (branch d k b y e) ps s in
       let o = branch_open n v.entry (Some p) d k b y e h.are.1.1.0 in
       record {
@@ -158,7 +163,8 @@ module _ {E : Type 0} (n : E → Node) where
       → n (v5.entry z) ≡ with_child d (n (v4.entry z)) (Some p) → ChangesOnly v4 v5 z
       → n (v6.entry p) ≡ record (n (v5.entry p)) { parent = Some z } → ChangesOnly v5 v6 p
       → Rotates n v v6 root new_root p d
-  rotates v v1 v2 v3 v4 v5 v6 root new_root upper inner parent z p d far ef is ru ri rp set1 only1 f2 set3 only3 f4 set5 only5 set6 only6 base fs c a k b y e ps s =
+  rotates v v1 v2 v3 v4 v5 v6 root new_root upper inner parent z p d far ef is ru ri rp set1 only1 f2 set3 only3 f4 set5 only5 set6 only6 base fs t ps s =
+      let record { color = c; near = a; upper_color = k; inner = b; upper = y; outer = e } = t in
       let h0' = open_at root fs d c a p (branch d k b y e) ps s in
       let A : Piece = below (Some p) a in
       let R : Piece = around root fs (Some p) in

@@ -7,12 +7,13 @@ use Rattle.ic_link_ops.specs.declared.side.Side.{Side}
 use Rattle.ic_link_ops.specs.declared.side.Side.TheVariants.{Left, Right}
 use Rattle.ic_link_ops.specs.Sequences.{Cut}
 use Rattle.ic_link_ops.specs.Tables.{Table}
-use Rattle.ic_link_ops.specs.Trees.{Tree, fork, top, in_order}
+use Rattle.ic_link_ops.specs.Trees.{Tree, leaf, fork, top, in_order}
 use Rattle.ic_link_ops.specs.RedBlackTree.{Node}
 use Rattle.ic_link_ops.specs.Frames.{Frame, frame, branch, plug, child_on}
 use Rattle.ic_rbtree.specs.Sides.{IsBeside}
 use Rattle.ic_rbtree.specs.Pieces.{Piece, loose, Stands, Shown}
 use Rattle.ic_rbtree.specs.Shortage.{wanted, IsNearlyRight}
+use Rattle.ic_rbtree.specs.Focus.{Focus, IsInFocus, IsMended}
 
 -- red below a parent, and black at the root
 abbrev pub color_below : Option Place → Color
@@ -26,77 +27,81 @@ are_across Left Right = true
 are_across Right Left = true
 are_across Right Right = false
 
+-- what stands around a red pair: the side of the lower one and its sibling, and above both a parent's color and other subtree
+pub record RedPair : Type 0 where
+  pub low : Side
+  pub sibling : Tree
+  pub color : Color
+  pub uncle : Tree
+
+-- the frames above the lower one, where q is the upper one and stands on side i of g
+abbrev pub above_pair : Place → Place → Side → RedPair → List Frame → List Frame
+above_pair q g i m fs = frame m.low Red q m.sibling ∷ frame i m.color g m.uncle ∷ fs
+
+-- the same tree with a black root
+abbrev pub blackened : Tree → Tree
+blackened leaf = leaf
+blackened (fork c a p b) = fork Black a p b
+
 module _ {E : Type 0} (n : E → Node) where
-  -- THE LOOP'S INVARIANT: all is right, but that x is red and may stand below a red member
-  pub record RedAt (base v : Table E) (root : Option Place) (x : Place) (s : List Place) (fs : List Frame) (t : Tree) (ps : List Piece) : Type 0 where
-    pub stands : Stands n base v root fs t ps
-    pub top_is : top t ≡ Some x
-    pub nearly : IsNearlyRight fs t
-    pub order : in_order (plug fs t) ≡ s
+  -- THE LOOP'S INVARIANT: all is right, but that x, the subtree's root, is red and may stand below a red member
+  pub record RedAt (v : Table E) (root : Option Place) (x : Place) (k : Focus E) : Type 0 where
+    pub stands : IsInFocus n v root k
+    pub top_is : top k.subtree ≡ Some x
+    pub nearly : IsNearlyRight k.frames k.subtree
+    pub order : in_order (plug k.frames k.subtree) ≡ k.sequence
 
   abbrev pub CanEase : Table E → Option Place → Place → Type 0
-  CanEase v root x = (base : Table E) × (s : List Place) × (fs : List Frame) × (t : Tree) × (ps : List Piece) × RedAt base v root x s fs t ps
+  CanEase v root x = (k : Focus E) × RedAt v root x k
 
-  -- all is right, or the same stands further up
-  abbrev pub Eased : Table E → Table E → Option Place → List Place → ℕ → List Piece → Option Place → Type 0
-  Eased base w root s m ps None = Shown n base w root s ps
-  Eased base w root s m ps (Some g) = (fs : List Frame) × (t : Tree) × RedAt base w root g s fs t ps × (length fs < m)
+  -- all is right, or the same stands further up, below fewer than m frames
+  abbrev pub Eased : Table E → Option Place → Focus E → ℕ → Option Place → Type 0
+  Eased w root k m None = IsMended n w root k
+  Eased w root k m (Some g) = (fs : List Frame) × (t : Tree) × RedAt w root g (record k { frames = fs; subtree = t }) × (length fs < m)
 
   abbrev pub Eases : Table E → Table E → Option Place → Option Place → Place → Option Place → Type 0
-  Eases v w root new_root x result =
-      (base : Table E) (s : List Place) (fs : List Frame) (t : Tree) (ps : List Piece) → RedAt base v root x s fs t ps
-      → Eased base w new_root s (length fs) ps result
+  Eases v w root new_root x result = (k : Focus E) → RedAt v root x k → Eased w new_root k (length k.frames) result
 
   abbrev pub Repairs : Table E → Table E → Option Place → Option Place → Place → Type 0
-  Repairs v w root new_root x =
-      (base : Table E) (s : List Place) (fs : List Frame) (t : Tree) (ps : List Piece) → RedAt base v root x s fs t ps → Shown n base w new_root s ps
+  Repairs v w root new_root x = (k : Focus E) → RedAt v root x k → IsMended n w new_root k
 
-  -- the red parent q of x, and its parent g, on side k of which q stands
-  abbrev pub PairAt : Table E → Table E → Option Place → Place → Place → Place → Side → List Place → Side → Tree → Color → Tree → List Frame → Tree → List Piece → Type 0
-  PairAt base v root x q g k s d b c u fs t ps = RedAt base v root x s (frame d Red q b ∷ frame k c g u ∷ fs) t ps
+  -- the red parent q of x, and its parent g, on side i of which q stands; the frames are those above g
+  pub record PairAt (v : Table E) (root : Option Place) (x q g : Place) (i : Side) (m : RedPair) (k : Focus E) : Type 0 where
+    pub red : RedAt v root x (record k { frames = above_pair q g i m k.frames })
 
   abbrev pub IsPair : Table E → Option Place → Place → Place → Place → Type 0
-  IsPair v root x q g =
-      (base : Table E) × (k : Side) × (s : List Place) × (d : Side) × (b : Tree) × (c : Color) × (u : Tree) × (fs : List Frame) × (t : Tree) × (ps : List Piece)
-      × PairAt base v root x q g k s d b c u fs t ps
+  IsPair v root x q g = (i : Side) × (m : RedPair) × (k : Focus E) × PairAt v root x q g i m k
 
   abbrev pub EasesPair : Table E → Table E → Option Place → Option Place → Place → Place → Place → Option Place → Type 0
   EasesPair v w root new_root x q g result =
-      (base : Table E) (k : Side) (s : List Place) (d : Side) (b : Tree) (c : Color) (u : Tree) (fs : List Frame) (t : Tree) (ps : List Piece)
-      → PairAt base v root x q g k s d b c u fs t ps → Eased base w new_root s (length fs + 2) ps result
+      (i : Side) (m : RedPair) (k : Focus E) → PairAt v root x q g i m k → Eased w new_root k (length k.frames + 2) result
 
   -- both children of g turn black, and g red, unless it is the root
   abbrev pub Recolors : Table E → Table E → Place → Place → Place → Type 0
   Recolors v w q y g =
-      (base : Table E) (root : Option Place) (d : Side) (b : Tree) (k : Side) (c : Color) (m o : Tree) (fs : List Frame) (t : Tree) (ps : List Piece)
-      → Stands n base v root (frame d Red q b ∷ frame k c g (fork Red m y o) ∷ fs) t ps
-      → Stands n base w root fs (branch k (wanted fs) (branch d Black t q b) g (fork Black m y o)) ps
+      (root : Option Place) (i : Side) (m : RedPair) (k : Focus E) → top m.uncle ≡ Some y
+      → Stands n k.base v root (above_pair q g i m k.frames) k.subtree k.pieces
+      → Stands n k.base w root k.frames (branch i (wanted k.frames) (branch m.low Black k.subtree q m.sibling) g (blackened m.uncle)) k.pieces
 
   abbrev pub CanStraighten : Table E → Option Place → Place → Place → Side → Type 0
-  CanStraighten v root x q k =
-      (base : Table E) × (g : Place) × (s : List Place) × (d : Side) × (b : Tree) × (c : Color) × (u : Tree) × (fs : List Frame) × (t : Tree) × (ps : List Piece)
-      × PairAt base v root x q g k s d b c u fs t ps
+  CanStraighten v root x q i = (g : Place) × (m : RedPair) × (k : Focus E) × PairAt v root x q g i m k
 
-  -- a straight pair: upper and what is below it stand on the same side
-  abbrev pub IsStraight : Table E → Table E → Option Place → Place → Place → Side → List Place → Color → Tree → List Frame → List Piece → Type 0
-  IsStraight base w root upper g k s c u fs ps =
-      (b : Tree) × (t : Tree) × Stands n base w root (frame k Red upper b ∷ frame k c g u ∷ fs) t ps
-      × IsNearlyRight (frame k Red upper b ∷ frame k c g u ∷ fs) t × (in_order (plug (frame k Red upper b ∷ frame k c g u ∷ fs) t) ≡ s)
+  -- a straight pair below g: `upper` and what is red below it stand on the same side
+  abbrev pub IsStraight : Table E → Option Place → Place → Place → Side → RedPair → Focus E → Type 0
+  IsStraight w root upper g i m k =
+      (x : Place) × (b : Tree) × (t : Tree) × PairAt w root x upper g i (record m { low = i; sibling = b }) (record k { subtree = t })
 
   abbrev pub Straightens : Table E → Table E → Option Place → Option Place → Place → Place → Side → Place → Type 0
-  Straightens v w root new_root x q k upper =
-      (base : Table E) (g : Place) (s : List Place) (d : Side) (b : Tree) (c : Color) (u : Tree) (fs : List Frame) (t : Tree) (ps : List Piece)
-      → PairAt base v root x q g k s d b c u fs t ps → IsStraight base w new_root upper g k s c u fs ps
+  Straightens v w root new_root x q i upper =
+      (g : Place) (m : RedPair) (k : Focus E) → PairAt v root x q g i m k → IsStraight w new_root upper g i m k
 
   abbrev pub CanLift : Table E → Option Place → Place → Place → Side → Type 0
-  CanLift v root upper g k =
-      (base : Table E) × (s : List Place) × (c : Color) × (u : Tree) × (fs : List Frame) × (ps : List Piece) × IsStraight base v root upper g k s c u fs ps
+  CanLift v root upper g i = (m : RedPair) × (k : Focus E) × IsStraight v root upper g i m k
 
   abbrev pub Lifts : Table E → Table E → Option Place → Option Place → Place → Place → Side → Type 0
-  Lifts v w root new_root upper g k =
-      (base : Table E) (b : Tree) (c : Color) (u : Tree) (fs : List Frame) (t : Tree) (ps : List Piece)
-      → Stands n base v root (frame k Red upper b ∷ frame k c g u ∷ fs) t ps
-      → Stands n base w new_root fs (branch k Black t upper (branch k Red b g u)) ps
+  Lifts v w root new_root upper g i =
+      (m : RedPair) (k : Focus E) → Stands n k.base v root (above_pair upper g i (record m { low = i }) k.frames) k.subtree k.pieces
+      → Stands n k.base w new_root k.frames (branch i Black k.subtree upper (branch i Red m.sibling g m.uncle)) k.pieces
 
   -- THE HOLE: on side d of q, which has no child there, is this gap; without q the tree is empty
   abbrev pub IsHole : Table E → Option Place → Side → Cut → Type 0

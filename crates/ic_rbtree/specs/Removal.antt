@@ -9,8 +9,9 @@ use Rattle.ic_link_ops.specs.Trees.{Tree, leaf, fork, top, in_order}
 use Rattle.ic_link_ops.specs.Shape.{top_color}
 use Rattle.ic_link_ops.specs.RedBlackTree.{Node}
 use Rattle.ic_link_ops.specs.Frames.{Frame, frame, branch, plug, above}
-use Rattle.ic_rbtree.specs.Pieces.{Piece, Stands, Shown}
+use Rattle.ic_rbtree.specs.Pieces.{Stands}
 use Rattle.ic_rbtree.specs.Shortage.{IsShort}
+use Rattle.ic_rbtree.specs.Focus.{Focus, IsInFocus, IsMended}
 
 abbrev pub is_red : Color → Bool
 is_red Red = true
@@ -32,46 +33,45 @@ module _ {E : Type 0} (n : E → Node) where
   red_at v None = false
   red_at v (Some p) = is_red (n (v.entry p)).color
 
-  -- THE LOOP'S INVARIANT: the subtree t on side d of `parent` is one black short, and else all is right. Without a parent t is the tree
-  pub record Short (base v : Table E) (root parent : Option Place) (d : Side) (s : List Place) (fs : List Frame) (t : Tree) (ps : List Piece) : Type 0 where
-    pub stands : Stands n base v root fs t ps
-    pub parent_is : parent ≡ above fs
-    pub side_is : IsOn d fs
-    pub short : IsShort fs t
-    pub order : in_order (plug fs t) ≡ s
+  -- THE LOOP'S INVARIANT: the subtree, on side d of `parent`, is one black short, and else all is right. Without a parent it is the tree
+  pub record Short (v : Table E) (root parent : Option Place) (d : Side) (k : Focus E) : Type 0 where
+    pub stands : IsInFocus n v root k
+    pub parent_is : parent ≡ above k.frames
+    pub side_is : IsOn d k.frames
+    pub short : IsShort k.frames k.subtree
+    pub order : in_order (plug k.frames k.subtree) ≡ k.sequence
 
   abbrev pub CanMend : Table E → Option Place → Option Place → Side → Type 0
-  CanMend v root parent d =
-      (base : Table E) × (s : List Place) × (fs : List Frame) × (t : Tree) × (ps : List Piece) × Short base v root parent d s fs t ps
+  CanMend v root parent d = (k : Focus E) × Short v root parent d k
 
   abbrev pub Mends : Table E → Table E → Option Place → Option Place → Option Place → Side → Type 0
-  Mends v w root new_root parent d =
-      (base : Table E) (s : List Place) (fs : List Frame) (t : Tree) (ps : List Piece) → Short base v root parent d s fs t ps
-      → Shown n base w new_root s ps
+  Mends v w root new_root parent d = (k : Focus E) → Short v root parent d k → IsMended n w new_root k
 
-  -- the same below a member q, with its color and its other subtree
-  pub record ShortAt (base v : Table E) (root : Option Place) (q : Place) (d : Side) (s : List Place) (c : Color) (sib : Tree) (fs : List Frame) (t : Tree) (ps : List Piece) : Type 0 where
-    pub stands : Stands n base v root (frame d c q sib ∷ fs) t ps
-    pub short : IsShort (frame d c q sib ∷ fs) t
-    pub order : in_order (plug (frame d c q sib ∷ fs) t) ≡ s
+  -- the same below a member q with the color c and another subtree; the frames are those above q
+  pub record ShortAt (v : Table E) (root : Option Place) (q : Place) (d : Side) (c : Color) (sibling : Tree) (k : Focus E) : Type 0 where
+    pub stands : Stands n k.base v root (frame d c q sibling ∷ k.frames) k.subtree k.pieces
+    pub short : IsShort (frame d c q sibling ∷ k.frames) k.subtree
+    pub order : in_order (plug (frame d c q sibling ∷ k.frames) k.subtree) ≡ k.sequence
 
   abbrev pub CanMendAt : Table E → Option Place → Place → Side → Type 0
-  CanMendAt v root q d =
-      (base : Table E) × (s : List Place) × (c : Color) × (sib : Tree) × (fs : List Frame) × (t : Tree) × (ps : List Piece)
-      × ShortAt base v root q d s c sib fs t ps
+  CanMendAt v root q d = (c : Color) × (sibling : Tree) × (k : Focus E) × ShortAt v root q d c sibling k
 
   -- and y is its other child, and black
-  pub record Beside (base v : Table E) (root : Option Place) (q : Place) (d : Side) (y : Place) (s : List Place) (c : Color) (sib : Tree) (fs : List Frame) (t : Tree) (ps : List Piece) : Type 0 where
-    pub at : ShortAt base v root q d s c sib fs t ps
-    pub top_is : top sib ≡ Some y
-    pub black : top_color sib ≡ Black
+  pub record Beside (v : Table E) (root : Option Place) (q : Place) (d : Side) (y : Place) (c : Color) (sibling : Tree) (k : Focus E) : Type 0 where
+    pub at : ShortAt v root q d c sibling k
+    pub top_is : top sibling ≡ Some y
+    pub black : top_color sibling ≡ Black
 
-  -- the other child is black now: where the old one was red, it stands above, and q is red
+  -- the other child is y and black now: where the old one was red, it stands above, and q is red
+  pub record Raised (v : Table E) (root : Option Place) (q : Place) (d : Side) (y : Place) (k : Focus E) : Type 0 where
+    pub color : Color
+    pub sibling : Tree
+    pub frames : List Frame
+    pub beside : Beside v root q d y color sibling (record k { frames = frames })
+    pub red_or_same : (color ≡ Red) ⊎ (frames ≡ k.frames)
+
   abbrev pub Raises : Table E → Table E → Option Place → Option Place → Place → Side → Place → Type 0
-  Raises v w root new_root q d y =
-      (base : Table E) (s : List Place) (c : Color) (sib : Tree) (fs : List Frame) (t : Tree) (ps : List Piece)
-      → ShortAt base v root q d s c sib fs t ps
-      → (c' : Color) × (sib' : Tree) × (fs' : List Frame) × Beside base w new_root q d y s c' sib' fs' t ps × ((c' ≡ Red) ⊎ (fs' ≡ fs))
+  Raises v w root new_root q d y = (c : Color) (sibling : Tree) (k : Focus E) → ShortAt v root q d c sibling k → Raised w new_root q d y k
 
   -- whether y has a red child
   abbrev pub red_below : Table E → Place → Bool
@@ -84,39 +84,39 @@ module _ {E : Type 0} (n : E → Node) where
     pub right : (q : Place) → (n (v.entry y)).right ≡ Some q → (n (v.entry q)).linked ≡ true
 
   abbrev pub IsBesideRed : Table E → Option Place → Place → Side → Place → Type 0
-  IsBesideRed v root q d y =
-      (base : Table E) × (s : List Place) × (c : Color) × (sib : Tree) × (fs : List Frame) × (t : Tree) × (ps : List Piece)
-      × Beside base v root q d y s c sib fs t ps × (red_child sib ≡ true)
+  IsBesideRed v root q d y = (c : Color) × (sibling : Tree) × (k : Focus E) × Beside v root q d y c sibling k × (red_child sibling ≡ true)
 
-  -- `upper` stands there in place of y, and its far child is red
+  -- the other child of q is `upper`, black, and its far child is red
+  pub record Leant (v : Table E) (root : Option Place) (q : Place) (d : Side) (upper : Place) (c : Color) (k : Focus E) : Type 0 where
+    pub near : Tree
+    pub left : Tree
+    pub far : Place
+    pub right : Tree
+    pub at : ShortAt v root q d c (branch d Black near upper (fork Red left far right)) k
+
   abbrev pub Leans : Table E → Table E → Option Place → Option Place → Side → Place → Place → Type 0
   Leans v w root new_root d y upper =
-      (base : Table E) (q : Place) (s : List Place) (c : Color) (sib : Tree) (fs : List Frame) (t : Tree) (ps : List Piece)
-      → Beside base v root q d y s c sib fs t ps → red_child sib ≡ true
-      → (a : Tree) × (m : Tree) × (f : Place) × (o : Tree) × ShortAt base w new_root q d s c (branch d Black a upper (fork Red m f o)) fs t ps
+      (q : Place) (c : Color) (sibling : Tree) (k : Focus E) → Beside v root q d y c sibling k → red_child sibling ≡ true → Leant w new_root q d upper c k
 
   abbrev pub Settles : Table E → Table E → Option Place → Option Place → Place → Side → Place → Type 0
   Settles v w root new_root q d y =
-      (base : Table E) (s : List Place) (c : Color) (sib : Tree) (fs : List Frame) (t : Tree) (ps : List Piece)
-      → Beside base v root q d y s c sib fs t ps → red_child sib ≡ true → Shown n base w new_root s ps
+      (c : Color) (sibling : Tree) (k : Focus E) → Beside v root q d y c sibling k → red_child sibling ≡ true → IsMended n w new_root k
 
-  -- the subtree with the root q is one black short
-  pub record Rises (base w : Table E) (root : Option Place) (q : Place) (s : List Place) (fs : List Frame) (t : Tree) (ps : List Piece) : Type 0 where
-    pub stands : Stands n base w root fs t ps
-    pub top_is : top t ≡ Some q
-    pub short : IsShort fs t
-    pub order : in_order (plug fs t) ≡ s
+  -- the subtree has the root q and is one black short
+  pub record Rises (w : Table E) (root : Option Place) (q : Place) (k : Focus E) : Type 0 where
+    pub stands : IsInFocus n w root k
+    pub top_is : top k.subtree ≡ Some q
+    pub short : IsShort k.frames k.subtree
+    pub order : in_order (plug k.frames k.subtree) ≡ k.sequence
 
   -- y turns red. A red q turns black, and all is right; else the shortage rises
   abbrev pub Fades : Table E → Table E → Place → Place → Bool → Type 0
   Fades v w q y done =
-      (base : Table E) (root : Option Place) (d : Side) (s : List Place) (c : Color) (sib : Tree) (fs : List Frame) (t : Tree) (ps : List Piece)
-      → Beside base v root q d y s c sib fs t ps → red_child sib ≡ false
-      → (done ≡ is_red c) × (done ≡ true → Shown n base w root s ps) × (done ≡ false → (t' : Tree) × Rises base w root q s fs t' ps)
+      (root : Option Place) (d : Side) (c : Color) (sibling : Tree) (k : Focus E) → Beside v root q d y c sibling k → red_child sibling ≡ false
+      → (done ≡ is_red c) × (done ≡ true → IsMended n w root k) × (done ≡ false → (t : Tree) × Rises w root q (record k { subtree = t }))
 
   -- one step of the loop
   abbrev pub Steps : Table E → Table E → Option Place → Option Place → Place → Side → Bool → Type 0
   Steps v w root new_root q d done =
-      (base : Table E) (s : List Place) (c : Color) (sib : Tree) (fs : List Frame) (t : Tree) (ps : List Piece)
-      → ShortAt base v root q d s c sib fs t ps
-      → (done ≡ true → Shown n base w new_root s ps) × (done ≡ false → (t' : Tree) × Rises base w new_root q s fs t' ps)
+      (c : Color) (sibling : Tree) (k : Focus E) → ShortAt v root q d c sibling k
+      → (done ≡ true → IsMended n w new_root k) × (done ≡ false → (t : Tree) × Rises w new_root q (record k { subtree = t }))

@@ -16,6 +16,22 @@ use Rattle.ic_rbtree.specs.Pieces.{Piece, below, around, Held, Stands}
 abbrev pub TakesNoStep : {L : Type 0} → (L → L → List LinkStep → Type 0) → L → L → Type 0
 TakesNoStep {L} Does old new = (start : L) (s : List LinkStep) → Does start old s → Does start new s
 
+-- what a rotation of a member moves: its color and its near subtree, its far child `upper` and that one's color, and the subtrees of `upper`
+pub record Turn : Type 0 where
+  pub color : Color
+  pub near : Tree
+  pub upper_color : Color
+  pub inner : Tree
+  pub upper : Place
+  pub outer : Tree
+
+-- the subtree before the member goes down on this side, and after it
+abbrev pub unturned : Side → Place → Turn → Tree
+unturned d p x = branch d x.color x.near p (branch d x.upper_color x.inner x.upper x.outer)
+
+abbrev pub turned : Side → Place → Turn → Tree
+turned d p x = branch d x.upper_color (branch d x.color x.near p x.inner) x.upper x.outer
+
 module _ {E : Type 0} (n : E → Node) where
   -- the side of its parent on which a place stands
   abbrev pub IsSideOf : Table E → Place → Place → Side → Type 0
@@ -37,11 +53,7 @@ module _ {E : Type 0} (n : E → Node) where
   -- the place goes down on this side, and its child on the other side comes up
   abbrev pub Rotates : Table E → Table E → Option Place → Option Place → Place → Side → Type 0
   Rotates v w old_root new_root p d =
-      (base : Table E) (fs : List Frame) (c : Color) (a : Tree) (k : Color) (b : Tree) (y : Place) (e : Tree) (ps : List Piece)
-      → Stands n base v old_root fs (branch d c a p (branch d k b y e)) ps
-      → Stands n base w new_root fs (branch d k (branch d c a p b) y e) ps
+      (base : Table E) (fs : List Frame) (x : Turn) (ps : List Piece) → Stands n base v old_root fs (unturned d p x) ps → Stands n base w new_root fs (turned d p x) ps
 
   abbrev pub CanRotate : Table E → Option Place → Place → Side → Type 0
-  CanRotate v root p d =
-      (base : Table E) × (fs : List Frame) × (c : Color) × (a : Tree) × (k : Color) × (b : Tree) × (y : Place) × (e : Tree) × (ps : List Piece)
-      × Stands n base v root fs (branch d c a p (branch d k b y e)) ps
+  CanRotate v root p d = (base : Table E) × (fs : List Frame) × (x : Turn) × (ps : List Piece) × Stands n base v root fs (unturned d p x) ps

@@ -10,6 +10,7 @@ use Rattle.ic_link_ops.specs.Shape.{top_color, weight, blacks, IsEven, NoRedPair
 use Rattle.ic_link_ops.specs.RedBlackTree.{Node}
 use Rattle.ic_link_ops.specs.Frames.{Frame, plug, above, before, after}
 use Rattle.ic_rbtree.specs.Pieces.{Piece, loose, Stands, Shown}
+use Rattle.ic_rbtree.specs.Focus.{Focus, IsInFocus, IsMended}
 use Rattle.ic_rbtree.specs.Shortage.{EvenAround, PairsAround}
 use Rattle.ic_rbtree.specs.Removal.{IsOn}
 use Rattle.ic_rbtree.specs.Steps.{IsSideOf}
@@ -18,6 +19,15 @@ use Rattle.ic_rbtree.specs.Steps.{IsSideOf}
 abbrev pub or_else : Option Place → Option Place → Option Place
 or_else None b = b
 or_else (Some x) b = Some x
+
+-- what stands below a member, and its color
+pub record Parts : Type 0 where
+  pub color : Color
+  pub left : Tree
+  pub right : Tree
+
+abbrev pub member : Place → Parts → Tree
+member p x = fork x.color x.left p x.right
 
 -- the subtree of a member that has one at most
 abbrev pub only : Tree → Tree → Tree
@@ -40,44 +50,39 @@ module _ {E : Type 0} (n : E → Node) where
   abbrev pub IsSideBelow : Table E → Place → Option Place → Side → Type 0
   IsSideBelow v p parent d = (q : Place) → parent ≡ Some q → IsSideOf n v p q d
 
-  pub record Gap (base v : Table E) (root : Option Place) (c : Color) (child parent : Option Place) (d : Side) (s : List Place) (fs : List Frame) (x : Tree) (ps : List Piece) : Type 0 where
-    pub stands : Stands n base v root fs x ps
-    pub child_is : child ≡ top x
-    pub parent_is : parent ≡ above fs
-    pub side_is : IsOn d fs
-    pub gap : IsGap c fs x
-    pub order : in_order (plug fs x) ≡ s
+  -- such a gap: `child`, the root of the subtree, hangs in the member's place on side d of `parent`
+  pub record Gap (v : Table E) (root : Option Place) (c : Color) (child parent : Option Place) (d : Side) (k : Focus E) : Type 0 where
+    pub stands : IsInFocus n v root k
+    pub child_is : child ≡ top k.subtree
+    pub parent_is : parent ≡ above k.frames
+    pub side_is : IsOn d k.frames
+    pub gap : IsGap c k.frames k.subtree
+    pub order : in_order (plug k.frames k.subtree) ≡ k.sequence
 
   abbrev pub CanClose : Table E → Option Place → Color → Option Place → Option Place → Side → Type 0
-  CanClose v root c child parent d =
-      (base : Table E) × (s : List Place) × (fs : List Frame) × (x : Tree) × (ps : List Piece) × Gap base v root c child parent d s fs x ps
+  CanClose v root c child parent d = (k : Focus E) × Gap v root c child parent d k
 
   abbrev pub Closes : Table E → Table E → Option Place → Option Place → Color → Option Place → Option Place → Side → Type 0
-  Closes v w root new_root c child parent d =
-      (base : Table E) (s : List Place) (fs : List Frame) (x : Tree) (ps : List Piece) → Gap base v root c child parent d s fs x ps → Shown n base w new_root s ps
+  Closes v w root new_root c child parent d = (k : Focus E) → Gap v root c child parent d k → IsMended n w new_root k
 
   abbrev pub CanTakeOut : Table E → Option Place → Place → Type 0
   CanTakeOut v root p =
-      (base : Table E) × (fs : List Frame) × (c : Color) × (a : Tree) × (b : Tree) × (ps : List Piece)
-      × Stands n base v root fs (fork c a p b) ps × IsLone a b × IsRight (plug fs (fork c a p b))
+      (base : Table E) × (fs : List Frame) × (x : Parts) × (ps : List Piece) × Stands n base v root fs (member p x) ps × IsLone x.left x.right × IsRight (plug fs (member p x))
 
   -- a member with one child at most is taken out: the tree is right without it, and it is on its own
   abbrev pub TakesOut : Table E → Table E → Option Place → Option Place → Place → Type 0
   TakesOut v w root new_root p =
-      (base : Table E) (fs : List Frame) (c : Color) (a : Tree) (b : Tree) (ps : List Piece)
-      → Stands n base v root fs (fork c a p b) ps → IsLone a b → IsRight (plug fs (fork c a p b))
-      → Shown n base w new_root (before fs ++ (in_order (only a b) ++ after fs)) (loose p ∷ ps)
+      (base : Table E) (fs : List Frame) (x : Parts) (ps : List Piece) → Stands n base v root fs (member p x) ps → IsLone x.left x.right → IsRight (plug fs (member p x))
+      → Shown n base w new_root (before fs ++ (in_order (only x.left x.right) ++ after fs)) (loose p ∷ ps)
 
   abbrev pub CanTakePlace : Table E → Option Place → Place → Place → Type 0
-  CanTakePlace v root p new =
-      (base : Table E) × (fs : List Frame) × (c : Color) × (a : Tree) × (b : Tree) × (ps : List Piece)
-      × Stands n base v root fs (fork c a p b) (loose new ∷ ps)
+  CanTakePlace v root p new = (base : Table E) × (fs : List Frame) × (x : Parts) × (ps : List Piece) × Stands n base v root fs (member p x) (loose new ∷ ps)
 
   -- IN PLACE OF a member stands `new`, in its color, and the member is on its own
   abbrev pub TakesPlace : Table E → Table E → Option Place → Option Place → Place → Place → Type 0
   TakesPlace v w root new_root p new =
-      (base : Table E) (fs : List Frame) (c : Color) (a : Tree) (b : Tree) (ps : List Piece)
-      → Stands n base v root fs (fork c a p b) (loose new ∷ ps) → Stands n base w new_root fs (fork c a new b) (loose p ∷ ps)
+      (base : Table E) (fs : List Frame) (x : Parts) (ps : List Piece)
+      → Stands n base v root fs (member p x) (loose new ∷ ps) → Stands n base w new_root fs (member new x) (loose p ∷ ps)
 
 -- the second of two, if both are there
 abbrev pub both_of : Option Place → Option Place → Option Place

@@ -1,8 +1,6 @@
 use Rattle.std.proofs.Common.{◌∷◌, ◌++◌, Option, sym, ◌∙◌, subst}
 use Rattle.ic_unsafe_ref.specs.declared.place.Place.{Place}
 use Rattle.ic_link_ops.specs.declared.color.Color.TheVariants.{Red, Black}
-use Rattle.ic_link_ops.specs.Trees.{leaf, fork}
-use Rattle.ic_link_ops.specs.Frames.{frame}
 use Rattle.ic_rbtree.specs.Pieces.{Shown}
 use Rattle.ic_rbtree.proofs.Attaching.{hole, hole_linked, leaf_written, attached_first, attached_red}
 use Rattle.ic_rbtree.proofs.insertion.attach.Goals as goal
@@ -22,11 +20,7 @@ repair_red-requires g c =
     let q = c.in-Some.parent in
     let p = c.args.place in
     let x = hole n c.args.parent q c.args.side r.1 c.in-Some.is r.3 r.4 in (
-      r.0,
-      r.1.front ++ p ∷ r.1.back,
-      frame c.args.side x.c q x.b ∷ x.fs,
-      fork Red leaf p leaf,
-      r.2,
+      _,
       attached_red n c.args.parent q c.args.side r.1.front r.1.back p
           (λ qs h. leaf_written n p c.args.parent Red c.set_child.ensures.set c.set_child.ensures.frame c.set_child-2.ensures.set c.set_child-2.ensures.frame c.set_parent.ensures.set c.set_parent.ensures.frame c.set_color-in-Some.ensures.set c.set_color-in-Some.ensures.frame h)
           c.in-Some.is c.set_child-in-Some.ensures.set c.set_child-in-Some.ensures.frame x,
@@ -46,7 +40,7 @@ returns-in-Some-clause-attached g c base gap ps shown at =
     let q = c.in-Some.parent in
     let p = c.args.place in
     let x = hole n c.args.parent q c.args.side gap c.in-Some.is shown at in
-    c.repair_red.ensures.repaired base (gap.front ++ p ∷ gap.back) (frame c.args.side x.c q x.b ∷ x.fs) (fork Red leaf p leaf) ps
+    c.repair_red.ensures.repaired _
     (attached_red n c.args.parent q c.args.side gap.front gap.back p
     (λ qs h. leaf_written n p c.args.parent Red c.set_child.ensures.set c.set_child.ensures.frame c.set_child-2.ensures.set c.set_child-2.ensures.frame c.set_parent.ensures.set c.set_parent.ensures.frame c.set_color-in-Some.ensures.set c.set_color-in-Some.ensures.frame h)
     c.in-Some.is c.set_child-in-Some.ensures.set c.set_child-in-Some.ensures.frame x)

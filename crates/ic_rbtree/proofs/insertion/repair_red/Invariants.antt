@@ -1,11 +1,10 @@
 use Rattle.std.proofs.Common.{List, Some}
-use Rattle.ic_unsafe_ref.specs.declared.place.Place.{Place}
-use Rattle.ic_link_ops.specs.Tables.{Table, KeepsLinked}
+use Rattle.ic_link_ops.specs.Tables.{KeepsLinked}
 use Rattle.ic_link_ops.specs.Trees.{Tree}
 use Rattle.ic_link_ops.specs.Frames.{Frame}
 use Rattle.ic_rbtree.specs.Climb.{depth}
 use Rattle.ic_rbtree.specs.Steps.{TakesNoStep}
-use Rattle.ic_rbtree.specs.Pieces.{Piece}
+use Rattle.ic_rbtree.specs.Focus.{Focus}
 use Rattle.ic_rbtree.specs.Insertion.{CanEase, RedAt}
 use Rattle.ic_rbtree.proofs.insertion.repair_red.Given as goal
 
@@ -16,8 +15,7 @@ invariant-loop-upper g l =
     let now = g.L.LinkOps.table l.links in
     record {
       some : CanEase n now l.root l.place;
-      each : (base : Table g.row.L-Entry.Denot) (s : List Place) (fs : List Frame) (t : Tree) (ps : List Piece) → RedAt n base old l.fn.root l.fn.place s fs t ps
-          → (gs : List Frame) × (u : Tree) × RedAt n base now l.root l.place s gs u ps;
+      each : (k : Focus g.row.L-Entry.Denot) → RedAt n old l.fn.root l.fn.place k → (gs : List Frame) × (u : Tree) × RedAt n now l.root l.place (record k { frames = gs; subtree = u });
       linked : KeepsLinked g.L.LinkOps.linked old now;
       no_step : TakesNoStep g.L.LinkOps.Does l.fn.links l.links;
     }

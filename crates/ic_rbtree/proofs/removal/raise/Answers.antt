@@ -3,16 +3,16 @@ use Rattle.ic_rbtree.proofs.Raising.{sib_read_some, sib_top, sib_linked, sib_col
 use Rattle.ic_rbtree.proofs.removal.raise.Goals as goal
 
 pub unwrap-sibling-requires : goal.unwrap-sibling-requires
-unwrap-sibling-requires g c = sib_read_some g.L.RBTreeOps.node c.requires.7 c.other-far.result c.child.result c.other-far.ensures c.child.ensures
+unwrap-sibling-requires g c = sib_read_some g.L.RBTreeOps.node c.requires.3 c.other-far.result c.child.result c.other-far.ensures c.child.ensures
 
 pub is_red-requires : goal.is_red-requires
 is_red-requires g c q e =
     let n = g.L.RBTreeOps.node in
     sym (g.met.L.RBTreeOps.linked_alike ((g.L.LinkOps.table c.args.links.now).entry q))
-    ∙ sib_linked n c.requires.7 q (sib_top n c.requires.7 c.other-far.result c.child.result c.unwrap-sibling.result c.other-far.ensures c.child.ensures c.unwrap-sibling.ensures ∙ e)
+    ∙ sib_linked n c.requires.3 q (sib_top n c.requires.3 c.other-far.result c.child.result c.unwrap-sibling.result c.other-far.ensures c.child.ensures c.unwrap-sibling.ensures ∙ e)
 
 pub returns-then-not-is_red-clause-raised : goal.returns-then-not-is_red-clause-raised
-returns-then-not-is_red-clause-raised g c base s k sib fs t ps h =
+returns-then-not-is_red-clause-raised g c x sib k h =
     let n = g.L.RBTreeOps.node in
     let top = sib_top n h c.other-far.result c.child.result c.unwrap-sibling.result c.other-far.ensures c.child.ensures c.unwrap-sibling.ensures in
     not_raised n h top (sym (sib_color n h c.unwrap-sibling.result c.is_red.result top c.is_red.ensures) ∙ c.if-not-is_red.true)
@@ -21,12 +21,12 @@ pub set_color-requires : goal.set_color-requires
 set_color-requires g c =
     let n = g.L.RBTreeOps.node in
     sym (g.met.L.RBTreeOps.linked_alike ((g.L.LinkOps.table c.args.links.now).entry c.unwrap-sibling.result))
-    ∙ sib_linked n c.requires.7 c.unwrap-sibling.result (sib_top n c.requires.7 c.other-far.result c.child.result c.unwrap-sibling.result c.other-far.ensures c.child.ensures c.unwrap-sibling.ensures)
+    ∙ sib_linked n c.requires.3 c.unwrap-sibling.result (sib_top n c.requires.3 c.other-far.result c.child.result c.unwrap-sibling.result c.other-far.ensures c.child.ensures c.unwrap-sibling.ensures)
 
 pub rotate-requires : goal.rotate-requires
 rotate-requires g c =
     let n = g.L.RBTreeOps.node in
-    let h = c.requires.7 in
+    let h = c.requires.3 in
     let top = sib_top n h c.other-far.result c.child.result c.unwrap-sibling.result c.other-far.ensures c.child.ensures c.unwrap-sibling.ensures in
     let red = sym (sib_color n h c.unwrap-sibling.result c.is_red.result top c.is_red.ensures) ∙ c.if-not-is_red.false in
     raise_can_rotate n h top red c.set_color.ensures.set c.set_color.ensures.frame c.set_color-2.ensures.set c.set_color-2.ensures.frame
@@ -34,14 +34,14 @@ rotate-requires g c =
 pub unwrap-requires : goal.unwrap-requires
 unwrap-requires g c =
     let n = g.L.RBTreeOps.node in
-    let h = c.requires.7 in
+    let h = c.requires.3 in
     let top = sib_top n h c.other-far.result c.child.result c.unwrap-sibling.result c.other-far.ensures c.child.ensures c.unwrap-sibling.ensures in
     let red = sym (sib_color n h c.unwrap-sibling.result c.is_red.result top c.is_red.ensures) ∙ c.if-not-is_red.false in
     sib_read_some n (lowered n h top red c.set_color.ensures.set c.set_color.ensures.frame c.set_color-2.ensures.set c.set_color-2.ensures.frame c.rotate.ensures.rotated)
     c.other-far.result c.child-2.result c.other-far.ensures c.child-2.ensures
 
 pub returns-clause-raised : goal.returns-clause-raised
-returns-clause-raised g c base s k sib fs t ps h =
+returns-clause-raised g c x sib k h =
     let n = g.L.RBTreeOps.node in
     let top = sib_top n h c.other-far.result c.child.result c.unwrap-sibling.result c.other-far.ensures c.child.ensures c.unwrap-sibling.ensures in
     let red = sym (sib_color n h c.unwrap-sibling.result c.is_red.result top c.is_red.ensures) ∙ c.if-not-is_red.false in

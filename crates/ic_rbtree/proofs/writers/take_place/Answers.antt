@@ -8,7 +8,7 @@ adopt-requires-2 g c q e =
     let n = g.L.RBTreeOps.node in
     let r = c.requires in
     c.adopt.ensures.linked q ∙ (c.relink.ensures.linked q ∙ (sym (g.met.L.RBTreeOps.linked_alike _)
-    ∙ (reads n c.args.root.now r.1 r.2 r.3 c.args.place r.4 (loose c.args.new ∷ r.5) r.6).right q (sym c.right-right.ensures ∙ e)))
+    ∙ (reads n c.args.root.now r.1 r.2 c.args.place (loose c.args.new ∷ r.3) r.4).right q (sym c.right-right.ensures ∙ e)))
 
 pub returns-clause-taken : goal.returns-clause-taken
 returns-clause-taken g c =

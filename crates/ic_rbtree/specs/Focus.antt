@@ -1,0 +1,25 @@
+-- A tree with one of its subtrees in focus.
+use Rattle.std.specs.Prelude.{Option, List}
+use Rattle.ic_unsafe_ref.specs.declared.place.Place.{Place}
+use Rattle.ic_link_ops.specs.Tables.{Table}
+use Rattle.ic_link_ops.specs.Trees.{Tree}
+use Rattle.ic_link_ops.specs.RedBlackTree.{Node}
+use Rattle.ic_link_ops.specs.Frames.{Frame}
+use Rattle.ic_rbtree.specs.Pieces.{Piece, Stands, Shown}
+
+-- what the table was, the tree's members in order, the frames above the subtree, the subtree, and the pieces beside the tree
+pub record Focus (E : Type 0) : Type 0 where
+  pub base : Table E
+  pub sequence : List Place
+  pub frames : List Frame
+  pub subtree : Tree
+  pub pieces : List Piece
+
+module _ {E : Type 0} (n : E → Node) where
+  -- the subtree stands there
+  abbrev pub IsInFocus : Table E → Option Place → Focus E → Type 0
+  IsInFocus v root k = Stands n k.base v root k.frames k.subtree k.pieces
+
+  -- all is right: a tree of the right shape with that sequence stands there
+  abbrev pub IsMended : Table E → Option Place → Focus E → Type 0
+  IsMended v root k = Shown n k.base v root k.sequence k.pieces
