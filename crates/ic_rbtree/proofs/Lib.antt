@@ -28,3 +28,4 @@ pub mod Gaps
 pub mod Sending
 pub mod InOrder
 pub mod Ranges
+pub mod KeyLaws

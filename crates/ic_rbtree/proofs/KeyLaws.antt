@@ -1,0 +1,232 @@
+-- For callers: in a sorted sequence the borders are the ends of filters.
+use Rattle.std.proofs.Common.{◌≡◌, ◌≢◌, Bool, true, false, not, cond, Option, Some, None, List, [], ◌∷◌, ◌++◌, map, IsSome, refl, sym, ap, ◌∙◌, subst, append_assoc, append-nil, true≢false}
+use Rattle.std.specs.Cmp.{IsTotalOrder, alike_right, upto}
+use Rattle.std.specs.List.{AllByRecursion, filter, cons_option}
+use Rattle.std.specs.declared.cmp.Ordering.{Ordering}
+use Rattle.std.specs.declared.cmp.Ordering.TheVariants.{Less, Equal, Greater}
+use Rattle.std.specs.Ordering.{is_eq, is_lt, is_le, is_gt}
+use Rattle.ic_unsafe_ref.specs.declared.place.Place.{Place}
+use Rattle.ic_unsafe_ref.specs.Objects.{Objects, object_at}
+use Rattle.ic_link_ops.specs.PlacedObjects.{ArePlaced, values_at}
+use Rattle.ic_link_ops.specs.Tables.{Table}
+use Rattle.ic_link_ops.specs.Sequences.{first, last}
+use Rattle.ic_link_ops.proofs.SequenceLemmas.{none_not}
+use Rattle.ic_rbtree.specs.declared.key_adapter.Bound.{Bound}
+use Rattle.ic_rbtree.specs.Borders.{IsLowerBorder, IsUpperBorder, Finds, IsSorted, IsSortedFor, equal_at, at_most_at, less_at, if_passes}
+use Rattle.ic_rbtree.specs.Comparing.{answer_at, compared, order_of, meets_lower, meets_upper, is_beyond}
+use Rattle.ic_rbtree.specs.Ordered.{InsertsInOrder}
+
+-- a test cuts the sequence: it fails in front of a gap, and passes behind
+pub record Cuts (test : Place → Bool) (s : List Place) : Type 0 where
+  pub front : List Place
+  pub back : List Place
+  pub same : front ++ back ≡ s
+  pub fail : AllByRecursion (λ p. test p ≡ false) front
+  pub pass : AllByRecursion (λ p. test p ≡ true) back
+
+pub all_both : (P : Place → Type 0) (s t : List Place) → AllByRecursion P s → AllByRecursion P t → AllByRecursion P (s ++ t)
+all_both P [] t hs ht = ht
+all_both P (p ∷ s) t hs ht = (hs.0, all_both P s t hs.1 ht)
+
+pub all_map : {P Q : Place → Type 0} → ((p : Place) → P p → Q p) → (s : List Place) → AllByRecursion P s → AllByRecursion Q s
+all_map f [] h = tt
+all_map f (p ∷ s) h = (f p h.0, all_map f s h.1)
+
+-- the last of what starts a sequence is one of it
+last_all : {P : Place → Type 0} (p : Place) (x y : List Place) → AllByRecursion P (p ∷ x ++ y) → (q : Place) × (last (p ∷ x) ≡ Some q) × P q
+last_all p [] y h = (p, refl, h.0)
+last_all p (z ∷ x) y h = last_all z x y h.1
+
+tail_last : (p : Place) (x : List Place) (q : Place) → last x ≡ Some q → last (p ∷ x) ≡ Some q
+tail_last p [] q e = absurd (none_not q e)
+tail_last p (z ∷ x) q e = e
+
+cons_head : (p q : Place) (s t : List Place) → p ∷ s ≡ q ∷ t → (p ≡ q) × (s ≡ t)
+cons_head p q s t e = (ap (λ l. head_or p l) e, ap tail_of e) where
+  head_or : Place → List Place → Place
+  head_or d [] = d
+  head_or d (x ∷ l) = x
+
+  tail_of : List Place → List Place
+  tail_of [] = []
+  tail_of (x ∷ l) = l
+
+-- THE BORDER of such a test is the gap where it cuts
+one_border : (test : Place → Bool) (f b x y : List Place) → f ++ b ≡ x ++ y → AllByRecursion (λ p. test p ≡ false) f → AllByRecursion (λ p. test p ≡ true) b
+    → ((q : Place) → last x ≡ Some q → test q ≡ false) → ((q : Place) → first y ≡ Some q → test q ≡ true) → (x ≡ f) × (y ≡ b)
+one_border test [] b [] y e hf hb fails passes = (refl, sym e)
+one_border test [] b (p ∷ x) y e hf hb fails passes =
+    let k = last_all p x y (subst (AllByRecursion (λ q. test q ≡ true)) e hb) in absurd (true≢false (sym k.2 ∙ fails k.0 k.1))
+one_border test (a ∷ f) b [] y e hf hb fails passes = absurd (true≢false (sym (passes a (ap first (sym e))) ∙ hf.0))
+one_border test (a ∷ f) b (p ∷ x) y e hf hb fails passes =
+    let k = cons_head a p (f ++ b) (x ++ y) e in
+    let r = one_border test f b x y k.1 hf.1 hb (λ q last_is. fails q (tail_last p x q last_is)) passes in
+    (sym (ap (λ z. z ∷ x) k.0) ∙ ap (λ z. a ∷ z) r.0, r.1)
+
+-- what passes, and what fails
+filter_pass : (test : Place → Bool) (s : List Place) → AllByRecursion (λ p. test p ≡ true) s → filter test s ≡ s
+filter_pass test [] h = refl
+filter_pass test (p ∷ s) h = ap (λ x. cond x (p ∷ filter test s) (filter test s)) h.0 ∙ ap (λ t. p ∷ t) (filter_pass test s h.1)
+
+filter_fail : (test : Place → Bool) (s t : List Place) → AllByRecursion (λ p. test p ≡ false) s → filter test (s ++ t) ≡ filter test t
+filter_fail test [] t h = refl
+filter_fail test (p ∷ s) t h = ap (λ x. cond x (p ∷ filter test (s ++ t)) (filter test (s ++ t))) h.0 ∙ filter_fail test s t h.1
+
+filter_front : (test : Place → Bool) (s t : List Place) → AllByRecursion (λ p. test p ≡ true) s → AllByRecursion (λ p. test p ≡ false) t → filter test (s ++ t) ≡ s
+filter_front test [] t hs ht = ap (filter test) (sym (append-nil t)) ∙ filter_fail test t [] ht
+filter_front test (p ∷ s) t hs ht = ap (λ x. cond x (p ∷ filter test (s ++ t)) (filter test (s ++ t))) hs.0 ∙ ap (λ l. p ∷ l) (filter_front test s t hs.1 ht)
+
+-- A LOWER BORDER in what its bound cuts is the first of the members that meet it
+pub lower_is : {b : Bound (Place → Ordering)} {s : List Place} {o : Option Place} → Cuts (meets_lower b) s → IsLowerBorder b s o → o ≡ first (filter (meets_lower b) s)
+lower_is {b} {s} {o} k x =
+    let r = one_border (meets_lower b) k.front k.back x.gap.front x.gap.back (k.same ∙ sym x.same) k.fail k.pass x.border.fails x.border.passes in
+    x.before ∙ ap first r.1 ∙ sym (ap first (ap (filter (meets_lower b)) (sym k.same) ∙ filter_fail (meets_lower b) k.front k.back k.fail ∙ filter_pass (meets_lower b) k.back k.pass))
+
+not_true : (x : Bool) → not x ≡ true → x ≡ false
+not_true true e = sym e
+not_true false e = refl
+
+not_false : (x : Bool) → not x ≡ false → x ≡ true
+not_false true e = refl
+not_false false e = sym e
+
+-- and an upper border the last of them
+pub upper_is : {b : Bound (Place → Ordering)} {s : List Place} {o : Option Place} → Cuts (is_beyond b) s → IsUpperBorder b s o → o ≡ last (filter (meets_upper b) s)
+upper_is {b} {s} {o} k x =
+    let r = one_border (is_beyond b) k.front k.back x.gap.front x.gap.back (k.same ∙ sym x.same) k.fail k.pass x.border.fails x.border.passes in
+    x.after ∙ ap last r.0 ∙ sym (ap last (ap (filter (meets_upper b)) (sym k.same)
+    ∙ filter_front (meets_upper b) k.front k.back (all_map (λ p h. not_false (meets_upper b p) h) k.front k.fail) (all_map (λ p h. not_true (meets_upper b p) h) k.back k.pass)))
+
+-- IN A SEQUENCE SORTED for what is searched, it cuts by both tests
+module _ {at : Place → Ordering} {s : List Place} (sorted : IsSortedFor at s) where
+  abbrev pub cuts_at_most : Cuts (at_most_at at) s
+  cuts_at_most = record {
+    front = sorted.smaller;
+    back = sorted.equal ++ sorted.larger;
+    same = sorted.same;
+    fail = all_map (λ p h. ap is_le h) sorted.smaller sorted.is_greater;
+    pass = all_both (λ p. at_most_at at p ≡ true) sorted.equal sorted.larger (all_map (λ p h. ap is_le h) sorted.equal sorted.is_equal) (all_map (λ p h. ap is_le h) sorted.larger sorted.is_less);
+  }
+
+  abbrev pub cuts_less : Cuts (less_at at) s
+  cuts_less = record {
+    front = sorted.smaller ++ sorted.equal;
+    back = sorted.larger;
+    same = append_assoc sorted.smaller sorted.equal sorted.larger ∙ sorted.same;
+    fail = all_both (λ p. less_at at p ≡ false) sorted.smaller sorted.equal (all_map (λ p h. ap is_lt h) sorted.smaller sorted.is_greater) (all_map (λ p h. ap is_lt h) sorted.equal sorted.is_equal);
+    pass = all_map (λ p h. ap is_lt h) sorted.larger sorted.is_less;
+  }
+
+  -- THE FIRST EQUAL member is found
+  pub found_is : {o : Option Place} → Finds at s o → o ≡ first (filter (equal_at at) s)
+  found_is x =
+      let k = cuts_at_most in
+      let r = one_border (at_most_at at) k.front k.back x.gap.front x.gap.back (k.same ∙ sym x.same) k.fail k.pass x.border.fails x.border.passes in
+      x.answer ∙ ap (λ t. if_passes (equal_at at) (first t)) r.1 ∙ by sorted.equal sorted.larger sorted.is_equal sorted.is_less
+      ∙ sym (ap first (ap (filter (equal_at at)) (sym sorted.same) ∙ filter_fail (equal_at at) sorted.smaller (sorted.equal ++ sorted.larger) (all_map (λ p h. ap is_eq h) sorted.smaller sorted.is_greater)
+      ∙ filter_front (equal_at at) sorted.equal sorted.larger (all_map (λ p h. ap is_eq h) sorted.equal sorted.is_equal) (all_map (λ p h. ap is_eq h) sorted.larger sorted.is_less)))
+    where
+      by : (equal larger : List Place) → AllByRecursion (λ p. at p ≡ Equal) equal → AllByRecursion (λ p. at p ≡ Less) larger → if_passes (equal_at at) (first (equal ++ larger)) ≡ first equal
+      by [] [] he hl = refl
+      by [] (p ∷ larger) he hl = ap (λ o. cond (is_eq o) (Some p) None) hl.0
+      by (p ∷ equal) larger he hl = ap (λ o. cond (is_eq o) (Some p) None) he.0
+
+  -- INSERTED IN ORDER behind all that are not greater: members with the same key stand in the order of their insertion
+  pub in_order_is : {E H : Type 0} {Shows : Table E → H → List Place → Type 0} {old new : Table E} {head : H} {p : Place} → InsertsInOrder Shows at old new head s p
+      → Shows new head (filter (λ q. not (less_at at q)) s ++ p ∷ filter (less_at at) s)
+  in_order_is {Shows = Shows} {new = new} {head} {p} x =
+      let k = cuts_less in
+      let r = one_border (less_at at) k.front k.back x.gap.front x.gap.back (k.same ∙ sym x.same) k.fail k.pass x.border.fails x.border.passes in
+      let front : x.gap.front ≡ filter (λ q. not (less_at at q)) s =
+      r.0 ∙ sym (ap (filter (λ q. not (less_at at q))) (sym k.same) ∙ filter_front (λ q. not (less_at at q)) k.front k.back (all_map (λ q h. ap not h) k.front k.fail) (all_map (λ q h. ap not h) k.back k.pass)) in
+      let back : x.gap.back ≡ filter (less_at at) s = r.1 ∙ sym (ap (filter (less_at at)) (sym k.same) ∙ filter_fail (less_at at) k.front k.back k.fail ∙ filter_pass (less_at at) k.back k.pass) in
+      subst (λ t. Shows new head (t ++ p ∷ filter (less_at at) s)) front (subst (λ t. Shows new head (x.gap.front ++ p ∷ t)) back x.inserted.shows)
+
+-- A SORTED SEQUENCE is sorted for every key
+module _ {V K : Type 0} {cmp : K → K → Ordering} (total : IsTotalOrder cmp) (key_of : V → K) (objects : Objects V) where
+  keys_more : (p : Place) (s : List Place) {v : V} → object_at objects p ≡ Some v → map key_of (values_at objects (p ∷ s)) ≡ key_of v ∷ map key_of (values_at objects s)
+  keys_more p s is = ap (λ o. map key_of (cons_option o (values_at objects s))) is
+
+  value_there : (o : Option V) → IsSome o → (v : V) × (o ≡ Some v)
+  value_there None e = absurd (true≢false (sym e))
+  value_there (Some v) e = (v, refl)
+
+  not_greater : (o : Ordering) → o ≢ Greater → is_gt o ≡ false
+  not_greater Less h = refl
+  not_greater Equal h = refl
+  not_greater Greater h = absurd (h refl)
+
+  -- no key behind a member's is less
+  follows : (k l : K) → is_gt (cmp k l) ≡ false → (o : Option V) → is_gt (answer_at (order_of cmp key_of l) o) ≡ false → is_gt (answer_at (order_of cmp key_of k) o) ≡ false
+  follows k l h None e = refl
+  follows k l h (Some v) e = upto total k l (key_of v) h e
+
+  none_less : (k : K) (s : List Place) → ArePlaced objects s → IsSorted cmp (k ∷ map key_of (values_at objects s)) → AllByRecursion (λ p. is_gt (compared (order_of cmp key_of k) objects p) ≡ false) s
+  none_less k [] placed sorted = tt
+  none_less k (p ∷ s) placed sorted =
+      let v = value_there (object_at objects p) placed.0 in
+      let all : IsSorted cmp (k ∷ key_of v.0 ∷ map key_of (values_at objects s)) = subst (λ l. IsSorted cmp (k ∷ l)) (keys_more p s v.1) sorted in
+      let here : is_gt (cmp k (key_of v.0)) ≡ false = not_greater (cmp k (key_of v.0)) all.0 in (
+        ap (λ o. is_gt (answer_at (order_of cmp key_of k) o)) v.1 ∙ here,
+        all_map (λ q h. follows k (key_of v.0) here (object_at objects q) h) s (none_less (key_of v.0) s placed.1 all.1),
+      )
+
+  -- what stands behind a member that is not less than the key
+  less_on : (k l : K) → cmp k l ≡ Less → (o : Option V) → is_gt (answer_at (order_of cmp key_of l) o) ≡ false → answer_at (order_of cmp key_of k) o ≡ Less
+  less_on k l h None e = refl
+  less_on k l h (Some v) e = by (cmp l (key_of v)) refl e where
+    by : (r : Ordering) → cmp l (key_of v) ≡ r → is_gt r ≡ false → cmp k (key_of v) ≡ Less
+    by Less is e = total.trans k l (key_of v) h is
+    by Equal is e = sym (alike_right total l (key_of v) k is) ∙ h
+    by Greater is e = absurd (true≢false e)
+
+  level_on : (k l : K) → cmp k l ≡ Equal → (o : Option V) → is_gt (answer_at (order_of cmp key_of l) o) ≡ false → is_gt (answer_at (order_of cmp key_of k) o) ≡ false
+  level_on k l h None e = refl
+  level_on k l h (Some v) e = ap is_gt (total.congr k l (key_of v) h) ∙ e
+
+  pub sorted_for : (k : K) (s : List Place) → ArePlaced objects s → IsSorted cmp (map key_of (values_at objects s)) → IsSortedFor (compared (order_of cmp key_of k) objects) s
+  sorted_for k [] placed sorted = record { smaller = []; equal = []; larger = []; same = refl; is_greater = tt; is_equal = tt; is_less = tt }
+  sorted_for k (p ∷ s) placed sorted =
+      let v = value_there (object_at objects p) placed.0 in
+      let all : IsSorted cmp (key_of v.0 ∷ map key_of (values_at objects s)) = subst (IsSorted cmp) (keys_more p s v.1) sorted in
+      by (cmp k (key_of v.0)) (ap (answer_at (order_of cmp key_of k)) v.1) refl (none_less (key_of v.0) s placed.1 all) (sorted_for k s placed.1 (sorted_tail (key_of v.0) (map key_of (values_at objects s)) all))
+    where
+      sorted_tail : (l : K) (keys : List K) → IsSorted cmp (l ∷ keys) → IsSorted cmp keys
+      sorted_tail l [] h = tt
+      sorted_tail l (m ∷ keys) h = h.1
+
+      by : {l : K} (r : Ordering) → compared (order_of cmp key_of k) objects p ≡ cmp k l → cmp k l ≡ r → AllByRecursion (λ q. is_gt (compared (order_of cmp key_of l) objects q) ≡ false) s
+          → IsSortedFor (compared (order_of cmp key_of k) objects) s → IsSortedFor (compared (order_of cmp key_of k) objects) (p ∷ s)
+      by Greater here is rest x = record {
+        smaller = p ∷ x.smaller;
+        equal = x.equal;
+        larger = x.larger;
+        same = ap (λ t. p ∷ t) x.same;
+        is_greater = (here ∙ is, x.is_greater);
+        is_equal = x.is_equal;
+        is_less = x.is_less;
+      }
+      by {l} Less here is rest x = record {
+        smaller = [];
+        equal = [];
+        larger = p ∷ s;
+        same = refl;
+        is_greater = tt;
+        is_equal = tt;
+        is_less = (here ∙ is, all_map (λ q h. less_on k l is (object_at objects q) h) s rest);
+      }
+      by {l} Equal here is rest x = level x.smaller x.equal x.larger x.same x.is_greater x.is_equal x.is_less (all_map (λ q h. level_on k l is (object_at objects q) h) s rest) where
+        level : (smaller equal larger : List Place) → smaller ++ (equal ++ larger) ≡ s → AllByRecursion (λ q. compared (order_of cmp key_of k) objects q ≡ Greater) smaller
+            → AllByRecursion (λ q. compared (order_of cmp key_of k) objects q ≡ Equal) equal → AllByRecursion (λ q. compared (order_of cmp key_of k) objects q ≡ Less) larger
+            → AllByRecursion (λ q. is_gt (compared (order_of cmp key_of k) objects q) ≡ false) s → IsSortedFor (compared (order_of cmp key_of k) objects) (p ∷ s)
+        level [] equal larger same hs he hl none = record {
+          smaller = [];
+          equal = p ∷ equal;
+          larger = larger;
+          same = ap (λ t. p ∷ t) same;
+          is_greater = tt;
+          is_equal = (here ∙ is, he);
+          is_less = hl;
+        }
+        level (q ∷ smaller) equal larger same hs he hl none =
+            let first_not = subst (AllByRecursion (λ z. is_gt (compared (order_of cmp key_of k) objects z) ≡ false)) (sym same) none in absurd (true≢false (sym (ap is_gt hs.0) ∙ first_not.0))
