@@ -2,6 +2,7 @@
 
 use crate::answers::{answered, number, value};
 use crate::cursors::{By, borrowing, edit, end, owning, reading, told, told_by_mut};
+use crate::keyed::{Search, insert_by_cursor, probed, seek};
 use crate::shape::{blacks_below, root_above, write_below, write_linked};
 use crate::values::OwnKey;
 use crate::walks::{are_placed, is_walked, write_objects, write_taken, write_walk};
@@ -194,13 +195,51 @@ impl Field {
 
     /// The objects that these calls of a walk give, if one stands at each place.
     pub(crate) fn walk(&self, calls: &[&str]) -> Answer {
-        if are_placed(&self.links, &self.objects) {
+        if are_placed(&self.tree, &self.links, &self.objects) {
             let mut text = String::new(self.alloc);
             let walk = self.tree.iter(&self.links, &self.objects);
             let written = write_objects(&mut text, walk, calls);
             return answered(written, text);
         }
         Answer::Refused("not placed")
+    }
+
+    /// Moves the cursor where the search leads, and answers by how many looks a probe comes there too.
+    pub(crate) fn search(&mut self, search: Search) -> Answer {
+        if !are_placed(&self.tree, &self.links, &self.objects) {
+            return Answer::Refused("not placed");
+        }
+        let (at, looks) = probed(&self.tree, &self.links, &self.objects, &search);
+        self.at = seek(
+            self.by,
+            &mut self.tree,
+            &mut self.links,
+            &self.objects,
+            &search,
+        );
+        if self.at == at {
+            Answer::Number(looks)
+        } else {
+            Answer::Refused("elsewhere")
+        }
+    }
+
+    /// Inserts the object where its key belongs, by the cursor, if it is placed and its place is covered.
+    pub(crate) fn insert_by_cursor(&mut self, place: Place) -> Answer {
+        if place.index() >= self.links.covers() {
+            return Answer::Refused("beyond");
+        }
+        if !are_placed(&self.tree, &self.links, &self.objects) {
+            return Answer::Refused("not placed");
+        }
+        insert_by_cursor(
+            self.by,
+            &mut self.tree,
+            &mut self.links,
+            &self.objects,
+            &mut self.at,
+            place,
+        )
     }
 
     /// Whether the place is a member.

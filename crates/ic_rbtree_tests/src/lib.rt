@@ -8,6 +8,10 @@ mod cursors;
 #[cfg(test)]
 mod field;
 #[cfg(test)]
+mod keyed;
+#[cfg(test)]
+mod keyed_runs;
+#[cfg(test)]
 mod orders;
 #[cfg(test)]
 mod played;

@@ -2,6 +2,7 @@
 
 use crate::cursors::By;
 use crate::field::Field;
+use crate::keyed_runs::KEYED_RUNS;
 use crate::orders::all_are_right;
 use crate::runs::RUNS;
 use std::test::Fail;
@@ -9,7 +10,7 @@ use test_support::rows::play;
 
 #[test]
 fn worked_rows(rt: HostRuntime) -> Result<(), Fail> {
-    for run in RUNS {
+    for run in RUNS.iter().chain(KEYED_RUNS) {
         for by in [By::Ref, By::Mut, By::Owning] {
             let mut field = Field::new(rt.alloc(), by, 8)?;
             play(rt.alloc(), &mut field, run)?;
