@@ -2,8 +2,9 @@
 
 use crate::answers::{answered, number, value};
 use crate::cursors::{By, borrowing, edit, end, owning, reading, told, told_by_mut};
-use crate::keyed::{Search, insert_by_cursor, probed, seek};
+use crate::keyed::{Search, insert, insert_by_cursor, probed, seek};
 use crate::shape::{blacks_below, root_above, write_below, write_linked};
+use crate::sorted::{Sorted, all_lead};
 use crate::values::OwnKey;
 use crate::walks::{are_placed, is_walked, write_objects, write_taken, write_walk};
 use ic_link_ops::rbtree::LinkOps;
@@ -58,11 +59,16 @@ impl Field {
         })
     }
 
+    /// Places the object that the word says, and answers where it stands.
+    pub(crate) fn place_word(&mut self, word: &str) -> Answer {
+        match word.parse() {
+            Ok(value) => self.place(value),
+            Err(_) => Answer::Refused("no number"),
+        }
+    }
+
     /// Places an object, and answers where it stands.
-    pub(crate) fn place(&mut self, word: &str) -> Answer {
-        let Ok(value) = word.parse() else {
-            return Answer::Refused("no number");
-        };
+    pub(crate) fn place(&mut self, value: u64) -> Answer {
         let Some(next) = self.objects.next_place() else {
             return Answer::Refused("full");
         };
@@ -224,22 +230,28 @@ impl Field {
         }
     }
 
-    /// Inserts the object where its key belongs, by the cursor, if it is placed and its place is covered.
-    pub(crate) fn insert_by_cursor(&mut self, place: Place) -> Answer {
+    /// Inserts the object where its key belongs, by the call of that name, if it is placed and its place is covered.
+    pub(crate) fn insert(&mut self, name: &str, place: Place) -> Answer {
         if place.index() >= self.links.covers() {
             return Answer::Refused("beyond");
         }
         if !are_placed(&self.tree, &self.links, &self.objects) {
             return Answer::Refused("not placed");
         }
-        insert_by_cursor(
-            self.by,
-            &mut self.tree,
-            &mut self.links,
-            &self.objects,
-            &mut self.at,
-            place,
-        )
+        let by = self.by;
+        let (tree, links, objects) = (&mut self.tree, &mut self.links, &self.objects);
+        if name == "insert" {
+            return insert(by, tree, links, objects, &mut self.at, place);
+        }
+        insert_by_cursor(by, tree, links, objects, &mut self.at, place)
+    }
+
+    /// The shape of which that place is a member, as the links have it.
+    pub(crate) fn shape(&self, place: Place) -> Answer {
+        let mut text = String::new(self.alloc);
+        let root = root_above(&self.links, Some(place));
+        let written = write_below(&mut text, &self.links, root, self.links.covers());
+        answered(written, text)
     }
 
     /// Whether the place is a member.
@@ -311,6 +323,12 @@ impl Field {
         let root = root_above(&self.links, first);
         blacks_below(&self.links, root, None, true, self.links.covers()).is_some()
             && is_walked(&self.tree, &self.links, plain)
+    }
+
+    /// Whether each search leads where it is to lead among those members, which are sorted.
+    pub(crate) fn leads(&self, sorted: &Sorted) -> bool {
+        are_placed(&self.tree, &self.links, &self.objects)
+            && all_lead(&self.tree, &self.links, &self.objects, sorted)
     }
 
     /// Where the cursor is.

@@ -8,11 +8,11 @@ pub(crate) const KEYED_RUNS: &[Run] = &[
     Run {
         name: "seven rising keys",
         rows: "
-        place 1 2 3 4 5 6 7 9          | 7
-        insert_by_cursor 0 1 2 3 4 5 6 | ok | 0 1 2 3 4 5 6 ; 1b(0b,3r(2b,5b(4r,6r)))
-        find 7                         | 4  | 0 1 2 3 4 5 (6) ; 1b(0b,3r(2b,5b(4r,6r)))
-        find 1                         | 2  | (0) 1 2 3 4 5 6 ; 1b(0b,3r(2b,5b(4r,6r)))
-        remove                         | 0  | (1) 2 3 4 5 6 ; 3b(1b(-,2r),5b(4r,6r))
+        place 1 2 3 4 5 6 7 9 | 7
+        insert 0 1 2 3 4 5 6  | ok | 0 1 2 3 4 5 (6) ; 1b(0b,3r(2b,5b(4r,6r)))
+        find 7                | 4  | 0 1 2 3 4 5 (6) ; 1b(0b,3r(2b,5b(4r,6r)))
+        find 1                | 2  | (0) 1 2 3 4 5 6 ; 1b(0b,3r(2b,5b(4r,6r)))
+        remove                | 0  | (1) 2 3 4 5 6 ; 3b(1b(-,2r),5b(4r,6r))
         ",
     },
     Run {
@@ -29,7 +29,7 @@ pub(crate) const KEYED_RUNS: &[Run] = &[
         name: "equal keys",
         rows: "
         place 5 3 5 8 0 0 0 0    | 7
-        insert_by_cursor 0 1 2 3 | ok | 1 0 2 3 ; 0b(1b,2b(-,3r))
+        insert 0 1 2 3           | ok | 1 0 2 (3) ; 0b(1b,2b(-,3r))
         lower_bound Included 5   | 2  | 1 (0) 2 3 ; 0b(1b,2b(-,3r))
         upper_bound Included 5   | 3  | 1 0 (2) 3 ; 0b(1b,2b(-,3r))
         lower_bound Excluded 5   | 3  | 1 0 2 (3) ; 0b(1b,2b(-,3r))
@@ -53,9 +53,9 @@ pub(crate) const KEYED_RUNS: &[Run] = &[
     Run {
         name: "the first of equal keys is found",
         rows: "
-        place 5 5 5 0 0 0 0 0  | 7
-        insert_by_cursor 0 1 2 | ok | 0 1 2 ; 1b(0r,2r)
-        find 5                 | 2  | (0) 1 2 ; 1b(0r,2r)
+        place 5 5 5 0 0 0 0 0 | 7
+        insert 0 1 2          | ok | 0 1 (2) ; 1b(0r,2r)
+        find 5                | 2  | (0) 1 2 ; 1b(0r,2r)
         ",
     },
     Run {
@@ -80,6 +80,24 @@ pub(crate) const KEYED_RUNS: &[Run] = &[
         insert_by_cursor 0     | linked
         insert_by_cursor 8     | beyond
         linked                 | 0 1 2 3
+        ",
+    },
+    Run {
+        name: "a tree inserts by key and answers a cursor on it",
+        rows: "
+        insert 0              | not placed
+        place 1 3 2 2 0 0 0 0 | 7
+        insert 0              | ok     | (0) ; 0b
+        insert 1              | ok     | 0 (1) ; 0b(-,1r)
+        insert 2              | ok     | 0 (2) 1 ; 2b(0r,1r)
+        insert 3              | ok     | 0 2 (3) 1 ; 2b(0b,1b(3r,-))
+        insert 8              | beyond
+        linked                | 0 1 2 3
+        insert 2              | linked | ; -
+        linked                | 0 1 2 3
+        shape 2               | 2b(0b,1b(3r,-))
+        insert 0              | linked
+        shape 0               | 2b(0b,1b(3r,-))
         ",
     },
     Run {

@@ -20,6 +20,8 @@ mod runs;
 #[cfg(test)]
 mod shape;
 #[cfg(test)]
+mod sorted;
+#[cfg(test)]
 mod tests;
 #[cfg(test)]
 mod values;

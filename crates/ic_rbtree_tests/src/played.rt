@@ -41,10 +41,11 @@ impl Field {
     // A call that is given this word.
     fn call_with(&mut self, name: &str, word: &str) -> Answer {
         match (name, place(word)) {
-            ("place", _) => self.place(word),
+            ("place", _) => self.place_word(word),
             ("key", Some(place)) => self.key(place.index() as u64),
             ("on", Some(place)) => self.on(place),
-            ("insert_by_cursor", Some(place)) => self.insert_by_cursor(place),
+            ("insert" | "insert_by_cursor", Some(place)) => self.insert(name, place),
+            ("shape", Some(place)) => self.shape(place),
             ("contains", Some(place)) => self.contains(place),
             (name, Some(place)) => self.edit(name, Some(place)),
             _ => Answer::Refused("no such place"),
