@@ -2,13 +2,13 @@
 
 use crate::answers::{answered, number, value};
 use crate::cursors::{By, borrowing, edit, end, owning, reading, told, told_by_mut};
-use crate::keyed::{Search, insert, insert_by_cursor, probed, seek};
+use crate::keyed::{Search, insert, insert_by_cursor, probed, range, seek};
 use crate::shape::{blacks_below, root_above, write_below, write_linked};
 use crate::sorted::{Sorted, all_lead};
 use crate::values::OwnKey;
-use crate::walks::{are_placed, is_walked, write_objects, write_taken, write_walk};
+use crate::walks::{are_placed, is_walked, write_objects, write_range, write_taken, write_walk};
 use ic_link_ops::rbtree::LinkOps;
-use ic_rbtree::{KeyAdapter, RBTree};
+use ic_rbtree::{Bound, KeyAdapter, RBTree};
 use ic_unsafe_ref::{Objects, Place, UnsafeRef};
 use std::alloc::Global;
 use std::fmt::{self, Write};
@@ -228,6 +228,17 @@ impl Field {
         } else {
             Answer::Refused("elsewhere")
         }
+    }
+
+    /// The members between two bounds, and their objects.
+    pub(crate) fn range(&self, min: &Bound<u64>, max: &Bound<u64>) -> Answer {
+        if !are_placed(&self.tree, &self.links, &self.objects) {
+            return Answer::Refused("not placed");
+        }
+        let mut text = String::new(self.alloc);
+        let walk = range(self.by, &self.tree, &self.links, &self.objects, min, max);
+        let written = write_range(&mut text, walk, self.links.covers());
+        answered(written, text)
     }
 
     /// Inserts the object where its key belongs, by the call of that name, if it is placed and its place is covered.

@@ -7,7 +7,8 @@ ghost use Rattle.ic_link_ops.specs.Positions.{site, Stands};
 ghost use Rattle.ic_link_ops.specs.RedBlackTree.{Shows};
 ghost use Rattle.ic_link_ops.specs.Tables.{IsCovered};
 ghost use Rattle.ic_rbtree.specs.Comparing.{HasRoom, HasRoomWithin};
-ghost use Rattle.ic_rbtree.specs.KeyProbe.{looks_of};
+ghost use Rattle.ic_rbtree.specs.Iter.{CanWalk};
+ghost use Rattle.ic_rbtree.specs.KeyProbe.{looks_of, HasAdapter};
 ghost use Rattle.ic_rbtree.specs.Tree.{root_of};
 ghost use Rattle.ic_rbtree.specs.Cursor as reads;
 ghost use Rattle.ic_rbtree.specs.CursorMut as lent;
@@ -17,7 +18,7 @@ use crate::answers::{inserted, refused};
 use crate::cursors::{By, borrowing, owning};
 use crate::values::OwnKey;
 use ic_link_ops::AlreadyLinked;
-use ic_rbtree::{Bound, Cursor, CursorMut, CursorOwning, KeyProbe, RBTree, RBTreeOps};
+use ic_rbtree::{Bound, Cursor, CursorMut, CursorOwning, Iter, KeyProbe, RBTree, RBTreeOps};
 use ic_unsafe_ref::{Objects, Place, UnsafeRef};
 use test_support::rows::Answer;
 
@@ -42,12 +43,13 @@ fn by_reference(bound: &Bound<u64>) -> Bound<&u64> {
 }
 
 // The same bound, of a search for its key that has made no look.
-fn probing(bound: &Bound<u64>) -> Bound<KeyProbe<'_, OwnKey>>
-    ensures { HasRoomWithin looks_of result }
+fn probing(adapter: OwnKey, bound: &Bound<u64>) -> Bound<KeyProbe<'_, OwnKey>>
+    ensures room { HasRoomWithin looks_of result }
+    ensures adapter { HasAdapter adapter result }
 {
     match bound {
-        Bound::Included(key) => Bound::Included(KeyProbe::new(OwnKey, key)),
-        Bound::Excluded(key) => Bound::Excluded(KeyProbe::new(OwnKey, key)),
+        Bound::Included(key) => Bound::Included(KeyProbe::new(adapter, key)),
+        Bound::Excluded(key) => Bound::Excluded(KeyProbe::new(adapter, key)),
         Bound::Unbounded => Bound::Unbounded,
     }
 }
@@ -77,16 +79,36 @@ pub(crate) fn probed<L: RBTreeOps>(
             (at, probe.looks())
         }
         Search::Lower(bound) => {
-            let mut probe = probing(bound);
+            let mut probe = probing(OwnKey, bound);
             let at = tree.lower_bound_by(links, objects, &mut probe).get_ptr();
             (at, looks(&probe))
         }
         Search::Upper(bound) => {
-            let mut probe = probing(bound);
+            let mut probe = probing(OwnKey, bound);
             let at = tree.upper_bound_by(links, objects, &mut probe).get_ptr();
             (at, looks(&probe))
         }
     }
+}
+
+/// A walk between two bounds, by keys or by probes.
+pub(crate) fn range<'a, L: RBTreeOps>(
+    by: By,
+    tree: &'a RBTree<OwnKey>,
+    links: &'a L,
+    objects: &'a Objects<u64>,
+    min: &Bound<u64>,
+    max: &Bound<u64>,
+) -> Iter<'a, OwnKey, L>
+    requires placed { ShowsPlaced (Shows L.node (L.table links.now) (root_of tree.now)) objects.now }
+    ensures can { CanWalk L.node L.table result }
+{
+    if let By::Ref = by {
+        return tree.range(links, objects, by_reference(min), by_reference(max));
+    }
+    let adapter = tree.adapter();
+    let (mut min, mut max) = (probing(adapter, min), probing(adapter, max));
+    tree.range_by(links, objects, &mut min, &mut max)
 }
 
 // A cursor that reads, where the search leads.

@@ -61,6 +61,17 @@ impl Field {
         answer
     }
 
+    // A call that is given these two bounds.
+    fn call_range(&self, words: &[&str]) -> Answer {
+        let Some((min, rest)) = bound(words) else {
+            return Answer::Refused("no bound");
+        };
+        match bound(rest) {
+            Some((max, _)) => self.range(&min, &max),
+            None => Answer::Refused("no bound"),
+        }
+    }
+
     // A call that is given nothing.
     fn call_alone(&mut self, name: &str) -> Answer {
         match name {
@@ -94,6 +105,7 @@ impl Played for Field {
         }
         match *name {
             "walk" => self.walk(rest),
+            "range" => self.call_range(rest),
             "take_and_drop" => self.take_off(rest, false),
             "take_and_finish" => self.take_off(rest, true),
             name if rest.is_empty() => self.call_alone(name),

@@ -2,13 +2,14 @@
 
 ghost use Rattle.ic_link_ops.specs.PlacedObjects.{ShowsPlaced};
 ghost use Rattle.ic_link_ops.specs.RedBlackTree.{Shows};
+ghost use Rattle.ic_rbtree.specs.Iter.{CanWalk};
 ghost use Rattle.ic_rbtree.specs.Tree.{root_of};
 
 use crate::cursors::By;
 use crate::field::Field;
 use crate::keyed::{Search, probed};
 use crate::values::OwnKey;
-use ic_rbtree::{Bound, RBTree, RBTreeOps};
+use ic_rbtree::{Bound, Iter, RBTree, RBTreeOps};
 use ic_unsafe_ref::{Objects, Place};
 use std::alloc::{AllocError, Global};
 use std::test::Fail;
@@ -22,6 +23,9 @@ const TOP: u64 = 4003;
 
 // The most looks of a search: 2^19 <= (MEMBERS + 1)^2 < 2^20.
 const MOST_LOOKS: u64 = 19;
+
+// Ranges reach less far than this.
+const WIDTH: u64 = 40;
 
 /// In which order the keys come.
 #[derive(Clone, Copy, Debug)]
@@ -70,9 +74,15 @@ impl Sorted {
         self.places.len()
     }
 
+    // How many members have a lesser key, of which so many are known, and how many no greater one.
+    fn numbers(&self, known: usize, key: u64) -> (usize, usize) {
+        let less = self.first_at_least(known, key);
+        (less, self.first_at_least(less, key.saturating_add(1)))
+    }
+
     // Puts the place in behind the members whose keys are not greater.
     fn insert(&mut self, place: Place) -> Result<(), AllocError> {
-        let gap = self.first_at_least(0, self.order.key(place).saturating_add(1));
+        let (_, gap) = self.numbers(0, self.order.key(place));
         if gap > self.places.len() {
             return Ok(());
         }
@@ -85,18 +95,18 @@ impl Sorted {
     }
 }
 
-// Whether each search for the key leads where it is to lead: `less` members have a lesser key, and `most` no greater one.
+// Whether each search for the key leads where it is to lead: so many members have a lesser key, and so many no greater one.
 fn lead<L: RBTreeOps>(
     tree: &RBTree<OwnKey>,
     links: &L,
     objects: &Objects<u64>,
     sorted: &Sorted,
     key: u64,
-    less: usize,
-    most: usize,
+    numbers: (usize, usize),
 ) -> bool
     requires placed { ShowsPlaced (Shows L.node (L.table links.now) (root_of tree.now)) objects.now }
 {
+    let (less, most) = numbers;
     let equal = if less < most {
         sorted.places.get(less)
     } else {
@@ -118,7 +128,25 @@ fn lead<L: RBTreeOps>(
     true
 }
 
-/// Whether each search leads where it is to lead among those members, for each key and for others between them.
+// Whether the walk gives the members between those of these numbers.
+fn gives<L: RBTreeOps>(
+    mut walk: Iter<'_, OwnKey, L>,
+    sorted: &Sorted,
+    from: usize,
+    to: usize,
+) -> bool
+    requires can { CanWalk L.node L.table walk }
+{
+    for number in from..to {
+        if walk.get_ptr() != sorted.places.get(number) || walk.next().is_none() {
+            return false;
+        }
+    }
+    walk.get_ptr().is_none() && walk.next().is_none()
+}
+
+/// Whether each search leads where it is to lead among those members, and each range has its members, for each key and for
+/// others between them.
 pub(crate) fn all_lead<L: RBTreeOps>(
     tree: &RBTree<OwnKey>,
     links: &L,
@@ -129,9 +157,21 @@ pub(crate) fn all_lead<L: RBTreeOps>(
 {
     let mut less = 0;
     for key in 0..TOP {
-        less = sorted.first_at_least(less, key);
-        let most = sorted.first_at_least(less, key + 1);
-        if !lead(tree, links, objects, sorted, key, less, most) {
+        let from = sorted.numbers(less, key);
+        less = from.0;
+        let far = key + key % WIDTH;
+        let to = sorted.numbers(less, far);
+        let (min, max) = (Bound::Included(&key), Bound::Excluded(&far));
+        let (above, upto) = (Bound::Excluded(&key), Bound::Included(&far));
+        if !lead(tree, links, objects, sorted, key, from)
+            || !gives(tree.range(links, objects, min, max), sorted, from.0, to.0)
+            || !gives(
+                tree.range(links, objects, above, upto),
+                sorted,
+                from.1,
+                to.1,
+            )
+        {
             return false;
         }
     }

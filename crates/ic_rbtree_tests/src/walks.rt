@@ -137,6 +137,27 @@ pub(crate) fn write_objects<L: RBTreeOps>(
     Ok(())
 }
 
+/// Writes the places that the walk is at, and the objects that it gives there: `3:8` for the object 8 at 3.
+pub(crate) fn write_range<L: RBTreeOps>(
+    text: &mut String,
+    mut walk: Iter<'_, OwnKey, L>,
+    most: usize,
+) -> fmt::Result
+    requires can { CanWalk L.node L.table walk }
+{
+    for _ in 0..=most {
+        match (walk.get_ptr(), walk.next()) {
+            (Some(place), Some(object)) => {
+                let index = place.index();
+                write!(text, "{index}:{object} ")?;
+            }
+            (None, None) => break,
+            _ => write!(text, "otherwise ")?,
+        }
+    }
+    Ok(())
+}
+
 // Takes off the first of the rest, or the last.
 fn take_end<L: RBTreeOps>(
     rest: &mut IntoIter<'_, OwnKey, L>,
