@@ -26,6 +26,14 @@ pub(crate) fn inserted(given: Result<(), AlreadyLinked<u64>>) -> Answer {
     }
 }
 
+/// A refusal of an object that is linked, which no probe is to look for.
+pub(crate) fn refused(looks: u64) -> Answer {
+    if looks > 0 {
+        return Answer::Refused("looked");
+    }
+    Answer::Refused("linked")
+}
+
 /// What was replaced.
 pub(crate) fn replaced(given: Result<UnsafeRef<u64>, ReplaceError<u64>>) -> Answer {
     match &given {

@@ -2,11 +2,13 @@
 
 use crate::answers::{answered, number, value};
 use crate::cursors::{By, borrowing, edit, end, owning, reading, told, told_by_mut};
+use crate::keyed::{Search, insert, insert_by_cursor, probed, range, seek};
 use crate::shape::{blacks_below, root_above, write_below, write_linked};
+use crate::sorted::{Sorted, all_lead};
 use crate::values::OwnKey;
-use crate::walks::{are_placed, is_walked, write_objects, write_taken, write_walk};
+use crate::walks::{are_placed, is_walked, write_objects, write_range, write_taken, write_walk};
 use ic_link_ops::rbtree::LinkOps;
-use ic_rbtree::{KeyAdapter, RBTree};
+use ic_rbtree::{Bound, KeyAdapter, RBTree};
 use ic_unsafe_ref::{Objects, Place, UnsafeRef};
 use std::alloc::Global;
 use std::fmt::{self, Write};
@@ -57,11 +59,16 @@ impl Field {
         })
     }
 
+    /// Places the object that the word says, and answers where it stands.
+    pub(crate) fn place_word(&mut self, word: &str) -> Answer {
+        match word.parse() {
+            Ok(value) => self.place(value),
+            Err(_) => Answer::Refused("no number"),
+        }
+    }
+
     /// Places an object, and answers where it stands.
-    pub(crate) fn place(&mut self, word: &str) -> Answer {
-        let Ok(value) = word.parse() else {
-            return Answer::Refused("no number");
-        };
+    pub(crate) fn place(&mut self, value: u64) -> Answer {
         let Some(next) = self.objects.next_place() else {
             return Answer::Refused("full");
         };
@@ -194,13 +201,68 @@ impl Field {
 
     /// The objects that these calls of a walk give, if one stands at each place.
     pub(crate) fn walk(&self, calls: &[&str]) -> Answer {
-        if are_placed(&self.links, &self.objects) {
+        if are_placed(&self.tree, &self.links, &self.objects) {
             let mut text = String::new(self.alloc);
             let walk = self.tree.iter(&self.links, &self.objects);
             let written = write_objects(&mut text, walk, calls);
             return answered(written, text);
         }
         Answer::Refused("not placed")
+    }
+
+    /// Moves the cursor where the search leads, and answers by how many looks a probe comes there too.
+    pub(crate) fn search(&mut self, search: Search) -> Answer {
+        if !are_placed(&self.tree, &self.links, &self.objects) {
+            return Answer::Refused("not placed");
+        }
+        let (at, looks) = probed(&self.tree, &self.links, &self.objects, &search);
+        self.at = seek(
+            self.by,
+            &mut self.tree,
+            &mut self.links,
+            &self.objects,
+            &search,
+        );
+        if self.at == at {
+            Answer::Number(looks)
+        } else {
+            Answer::Refused("elsewhere")
+        }
+    }
+
+    /// The members between two bounds, and their objects.
+    pub(crate) fn range(&self, min: &Bound<u64>, max: &Bound<u64>) -> Answer {
+        if !are_placed(&self.tree, &self.links, &self.objects) {
+            return Answer::Refused("not placed");
+        }
+        let mut text = String::new(self.alloc);
+        let walk = range(self.by, &self.tree, &self.links, &self.objects, min, max);
+        let written = write_range(&mut text, walk, self.links.covers());
+        answered(written, text)
+    }
+
+    /// Inserts the object where its key belongs, by the call of that name, if it is placed and its place is covered.
+    pub(crate) fn insert(&mut self, name: &str, place: Place) -> Answer {
+        if place.index() >= self.links.covers() {
+            return Answer::Refused("beyond");
+        }
+        if !are_placed(&self.tree, &self.links, &self.objects) {
+            return Answer::Refused("not placed");
+        }
+        let by = self.by;
+        let (tree, links, objects) = (&mut self.tree, &mut self.links, &self.objects);
+        if name == "insert" {
+            return insert(by, tree, links, objects, &mut self.at, place);
+        }
+        insert_by_cursor(by, tree, links, objects, &mut self.at, place)
+    }
+
+    /// The shape of which that place is a member, as the links have it.
+    pub(crate) fn shape(&self, place: Place) -> Answer {
+        let mut text = String::new(self.alloc);
+        let root = root_above(&self.links, Some(place));
+        let written = write_below(&mut text, &self.links, root, self.links.covers());
+        answered(written, text)
     }
 
     /// Whether the place is a member.
@@ -272,6 +334,12 @@ impl Field {
         let root = root_above(&self.links, first);
         blacks_below(&self.links, root, None, true, self.links.covers()).is_some()
             && is_walked(&self.tree, &self.links, plain)
+    }
+
+    /// Whether each search leads where it is to lead among those members, which are sorted.
+    pub(crate) fn leads(&self, sorted: &Sorted) -> bool {
+        are_placed(&self.tree, &self.links, &self.objects)
+            && all_lead(&self.tree, &self.links, &self.objects, sorted)
     }
 
     /// Where the cursor is.

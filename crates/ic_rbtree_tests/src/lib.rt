@@ -8,6 +8,10 @@ mod cursors;
 #[cfg(test)]
 mod field;
 #[cfg(test)]
+mod keyed;
+#[cfg(test)]
+mod keyed_runs;
+#[cfg(test)]
 mod orders;
 #[cfg(test)]
 mod played;
@@ -15,6 +19,8 @@ mod played;
 mod runs;
 #[cfg(test)]
 mod shape;
+#[cfg(test)]
+mod sorted;
 #[cfg(test)]
 mod tests;
 #[cfg(test)]

@@ -1,10 +1,12 @@
 //! What walks from null to null come by.
 
-ghost use Rattle.std.specs.Prelude.{◌≡◌, IsTrue, true};
+ghost use Rattle.std.specs.Prelude.{◌≡◌, true};
+ghost use Rattle.std.specs.Bool.{OnTrue};
 ghost use Rattle.ic_unsafe_ref.specs.declared.place.Place.{Place};
 ghost use Rattle.ic_unsafe_ref.specs.Objects.{is_placed};
+ghost use Rattle.ic_link_ops.specs.PlacedObjects.{ShowsPlaced};
 ghost use Rattle.ic_link_ops.specs.PlainTables.{table};
-ghost use Rattle.ic_link_ops.specs.RedBlackTree.{ShowsSome};
+ghost use Rattle.ic_link_ops.specs.RedBlackTree.{Shows, ShowsSome};
 ghost use Rattle.ic_link_ops.specs.Tables.{IsCovered};
 ghost use Rattle.ic_link_ops.specs.ThreeWords.{no_words, node_of};
 ghost use Rattle.ic_rbtree.specs.IntoIter.{CanTake};
@@ -80,9 +82,9 @@ pub(crate) fn is_walked<L: RBTreeOps>(
     true
 }
 
-/// Whether an object stands at each place that is covered.
-pub(crate) fn are_placed(links: &LinkOps, objects: &Objects<u64>) -> bool
-    ensures placed { IsTrue result → (q : Place) → IsCovered (table no_words links.now) q → is_placed objects.now q ≡ true }
+// Whether an object stands at each place that is covered.
+fn is_full(links: &LinkOps, objects: &Objects<u64>) -> bool
+    ensures placed { OnTrue result ((q : Place) → IsCovered (table no_words links.now) q → is_placed objects.now q ≡ true) }
 {
     for index in 0..links.covers() {
         let Some(place) = Place::new(index) else {
@@ -93,6 +95,16 @@ pub(crate) fn are_placed(links: &LinkOps, objects: &Objects<u64>) -> bool
         }
     }
     true
+}
+
+/// Whether an object stands at each place that is covered, so at each member.
+pub(crate) fn are_placed(tree: &RBTree<OwnKey>, links: &LinkOps, objects: &Objects<u64>) -> bool
+    requires shown { ShowsSome node_of (table no_words links.now) (root_of tree.now) }
+    ensures placed { OnTrue result ((q : Place) → IsCovered (table no_words links.now) q → is_placed objects.now q ≡ true) }
+    ensures members { OnTrue result (ShowsPlaced (Shows node_of (table no_words links.now) (root_of tree.now)) objects.now) }
+{
+    let _ = tree;
+    is_full(links, objects)
 }
 
 // Writes what a walk gave.
@@ -120,6 +132,27 @@ pub(crate) fn write_objects<L: RBTreeOps>(
                 let mut copy = walk.clone()?;
                 write_given(text, copy.next())?;
             }
+        }
+    }
+    Ok(())
+}
+
+/// Writes the places that the walk is at, and the objects that it gives there: `3:8` for the object 8 at 3.
+pub(crate) fn write_range<L: RBTreeOps>(
+    text: &mut String,
+    mut walk: Iter<'_, OwnKey, L>,
+    most: usize,
+) -> fmt::Result
+    requires can { CanWalk L.node L.table walk }
+{
+    for _ in 0..=most {
+        match (walk.get_ptr(), walk.next()) {
+            (Some(place), Some(object)) => {
+                let index = place.index();
+                write!(text, "{index}:{object} ")?;
+            }
+            (None, None) => break,
+            _ => write!(text, "otherwise ")?,
         }
     }
     Ok(())
