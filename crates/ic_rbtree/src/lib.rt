@@ -26,6 +26,7 @@ mod linking;
 mod ordered;
 mod probe;
 mod range;
+pub mod rbtree_keys;
 mod readings;
 mod removal;
 mod search;

@@ -8,8 +8,9 @@
 //! | `singly_linked_list` | the singly linked list |
 //! | `xor_linked_list` | the XOR list: both neighbours in one word |
 //! | `atomic` | claims on places, which threads share |
-//! | `rbtree` | the red-black tree, so far without the calls that compare keys |
-//! | `key_adapter` | where the key of an object stands |
+//! | `rbtree` | the red-black tree, in an order that cursors or keys make |
+//! | `key_adapter` | where the key of an object stands, and bounds of keys |
+//! | `rbtree_keys` | searches in a tree, which count their looks |
 //! | `world` | objects, fields and collections whose calls test every condition themselves |
 #![tactic(auto)]
 
@@ -23,8 +24,8 @@ pub use ic_link_ops::xor_linked_list::Link as XorLinkedListLink;
 pub use ic_linked_list as linked_list;
 pub use ic_linked_list::LinkedList;
 pub use ic_rbtree as rbtree;
-pub use ic_rbtree::key_adapter::KeyAdapter;
-pub use ic_rbtree::{RBTree, key_adapter};
+pub use ic_rbtree::key_adapter::{Bound, KeyAdapter};
+pub use ic_rbtree::{RBTree, key_adapter, rbtree_keys};
 pub use ic_singly_linked_list as singly_linked_list;
 pub use ic_singly_linked_list::SinglyLinkedList;
 pub use ic_unsafe_ref as unsafe_ref;
