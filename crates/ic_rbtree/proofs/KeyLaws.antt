@@ -33,7 +33,7 @@ all_map f [] h = tt
 all_map f (p ∷ s) h = (f p h.0, all_map f s h.1)
 
 -- the last of what starts a sequence is one of it
-last_all : {P : Place → Type 0} (p : Place) (x y : List Place) → AllByRecursion P (p ∷ x ++ y) → (q : Place) × (last (p ∷ x) ≡ Some q) × P q
+pub last_all : {P : Place → Type 0} (p : Place) (x y : List Place) → AllByRecursion P (p ∷ x ++ y) → (q : Place) × (last (p ∷ x) ≡ Some q) × P q
 last_all p [] y h = (p, refl, h.0)
 last_all p (z ∷ x) y h = last_all z x y h.1
 
@@ -41,7 +41,7 @@ tail_last : (p : Place) (x : List Place) (q : Place) → last x ≡ Some q → l
 tail_last p [] q e = absurd (none_not q e)
 tail_last p (z ∷ x) q e = e
 
-cons_head : (p q : Place) (s t : List Place) → p ∷ s ≡ q ∷ t → (p ≡ q) × (s ≡ t)
+pub cons_head : (p q : Place) (s t : List Place) → p ∷ s ≡ q ∷ t → (p ≡ q) × (s ≡ t)
 cons_head p q s t e = (ap (λ l. head_or p l) e, ap tail_of e) where
   head_or : Place → List Place → Place
   head_or d [] = d
@@ -52,7 +52,7 @@ cons_head p q s t e = (ap (λ l. head_or p l) e, ap tail_of e) where
   tail_of (x ∷ l) = l
 
 -- THE BORDER of such a test is the gap where it cuts
-one_border : (test : Place → Bool) (f b x y : List Place) → f ++ b ≡ x ++ y → AllByRecursion (λ p. test p ≡ false) f → AllByRecursion (λ p. test p ≡ true) b
+pub one_border : (test : Place → Bool) (f b x y : List Place) → f ++ b ≡ x ++ y → AllByRecursion (λ p. test p ≡ false) f → AllByRecursion (λ p. test p ≡ true) b
     → ((q : Place) → last x ≡ Some q → test q ≡ false) → ((q : Place) → first y ≡ Some q → test q ≡ true) → (x ≡ f) × (y ≡ b)
 one_border test [] b [] y e hf hb fails passes = (refl, sym e)
 one_border test [] b (p ∷ x) y e hf hb fails passes =
@@ -68,11 +68,11 @@ filter_pass : (test : Place → Bool) (s : List Place) → AllByRecursion (λ p.
 filter_pass test [] h = refl
 filter_pass test (p ∷ s) h = ap (λ x. cond x (p ∷ filter test s) (filter test s)) h.0 ∙ ap (λ t. p ∷ t) (filter_pass test s h.1)
 
-filter_fail : (test : Place → Bool) (s t : List Place) → AllByRecursion (λ p. test p ≡ false) s → filter test (s ++ t) ≡ filter test t
+pub filter_fail : (test : Place → Bool) (s t : List Place) → AllByRecursion (λ p. test p ≡ false) s → filter test (s ++ t) ≡ filter test t
 filter_fail test [] t h = refl
 filter_fail test (p ∷ s) t h = ap (λ x. cond x (p ∷ filter test (s ++ t)) (filter test (s ++ t))) h.0 ∙ filter_fail test s t h.1
 
-filter_front : (test : Place → Bool) (s t : List Place) → AllByRecursion (λ p. test p ≡ true) s → AllByRecursion (λ p. test p ≡ false) t → filter test (s ++ t) ≡ s
+pub filter_front : (test : Place → Bool) (s t : List Place) → AllByRecursion (λ p. test p ≡ true) s → AllByRecursion (λ p. test p ≡ false) t → filter test (s ++ t) ≡ s
 filter_front test [] t hs ht = ap (filter test) (sym (append-nil t)) ∙ filter_fail test t [] ht
 filter_front test (p ∷ s) t hs ht = ap (λ x. cond x (p ∷ filter test (s ++ t)) (filter test (s ++ t))) hs.0 ∙ ap (λ l. p ∷ l) (filter_front test s t hs.1 ht)
 
@@ -82,11 +82,11 @@ lower_is {b} {s} {o} k x =
     let r = one_border (meets_lower b) k.front k.back x.gap.front x.gap.back (k.same ∙ sym x.same) k.fail k.pass x.border.fails x.border.passes in
     x.before ∙ ap first r.1 ∙ sym (ap first (ap (filter (meets_lower b)) (sym k.same) ∙ filter_fail (meets_lower b) k.front k.back k.fail ∙ filter_pass (meets_lower b) k.back k.pass))
 
-not_true : (x : Bool) → not x ≡ true → x ≡ false
+pub not_true : (x : Bool) → not x ≡ true → x ≡ false
 not_true true e = sym e
 not_true false e = refl
 
-not_false : (x : Bool) → not x ≡ false → x ≡ true
+pub not_false : (x : Bool) → not x ≡ false → x ≡ true
 not_false true e = refl
 not_false false e = sym e
 
@@ -144,10 +144,10 @@ module _ {at : Place → Ordering} {s : List Place} (sorted : IsSortedFor at s) 
 
 -- A SORTED SEQUENCE is sorted for every key
 module _ {V K : Type 0} {cmp : K → K → Ordering} (total : IsTotalOrder cmp) (key_of : V → K) (objects : Objects V) where
-  keys_more : (p : Place) (s : List Place) {v : V} → object_at objects p ≡ Some v → map key_of (values_at objects (p ∷ s)) ≡ key_of v ∷ map key_of (values_at objects s)
+  pub keys_more : (p : Place) (s : List Place) {v : V} → object_at objects p ≡ Some v → map key_of (values_at objects (p ∷ s)) ≡ key_of v ∷ map key_of (values_at objects s)
   keys_more p s is = ap (λ o. map key_of (cons_option o (values_at objects s))) is
 
-  value_there : (o : Option V) → IsSome o → (v : V) × (o ≡ Some v)
+  pub value_there : (o : Option V) → IsSome o → (v : V) × (o ≡ Some v)
   value_there None e = absurd (true≢false (sym e))
   value_there (Some v) e = (v, refl)
 
@@ -161,7 +161,7 @@ module _ {V K : Type 0} {cmp : K → K → Ordering} (total : IsTotalOrder cmp) 
   follows k l h None e = refl
   follows k l h (Some v) e = upto total k l (key_of v) h e
 
-  none_less : (k : K) (s : List Place) → ArePlaced objects s → IsSorted cmp (k ∷ map key_of (values_at objects s)) → AllByRecursion (λ p. is_gt (compared (order_of cmp key_of k) objects p) ≡ false) s
+  pub none_less : (k : K) (s : List Place) → ArePlaced objects s → IsSorted cmp (k ∷ map key_of (values_at objects s)) → AllByRecursion (λ p. is_gt (compared (order_of cmp key_of k) objects p) ≡ false) s
   none_less k [] placed sorted = tt
   none_less k (p ∷ s) placed sorted =
       let v = value_there (object_at objects p) placed.0 in
@@ -184,6 +184,10 @@ module _ {V K : Type 0} {cmp : K → K → Ordering} (total : IsTotalOrder cmp) 
   level_on k l h None e = refl
   level_on k l h (Some v) e = ap is_gt (total.congr k l (key_of v) h) ∙ e
 
+  pub sorted_tail : (l : K) (keys : List K) → IsSorted cmp (l ∷ keys) → IsSorted cmp keys
+  sorted_tail l [] h = tt
+  sorted_tail l (m ∷ keys) h = h.1
+
   pub sorted_for : (k : K) (s : List Place) → ArePlaced objects s → IsSorted cmp (map key_of (values_at objects s)) → IsSortedFor (compared (order_of cmp key_of k) objects) s
   sorted_for k [] placed sorted = record { smaller = []; equal = []; larger = []; same = refl; is_greater = tt; is_equal = tt; is_less = tt }
   sorted_for k (p ∷ s) placed sorted =
@@ -191,10 +195,6 @@ module _ {V K : Type 0} {cmp : K → K → Ordering} (total : IsTotalOrder cmp) 
       let all : IsSorted cmp (key_of v.0 ∷ map key_of (values_at objects s)) = subst (IsSorted cmp) (keys_more p s v.1) sorted in
       by (cmp k (key_of v.0)) (ap (answer_at (order_of cmp key_of k)) v.1) refl (none_less (key_of v.0) s placed.1 all) (sorted_for k s placed.1 (sorted_tail (key_of v.0) (map key_of (values_at objects s)) all))
     where
-      sorted_tail : (l : K) (keys : List K) → IsSorted cmp (l ∷ keys) → IsSorted cmp keys
-      sorted_tail l [] h = tt
-      sorted_tail l (m ∷ keys) h = h.1
-
       by : {l : K} (r : Ordering) → compared (order_of cmp key_of k) objects p ≡ cmp k l → cmp k l ≡ r → AllByRecursion (λ q. is_gt (compared (order_of cmp key_of l) objects q) ≡ false) s
           → IsSortedFor (compared (order_of cmp key_of k) objects) s → IsSortedFor (compared (order_of cmp key_of k) objects) (p ∷ s)
       by Greater here is rest x = record {

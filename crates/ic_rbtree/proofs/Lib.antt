@@ -29,3 +29,4 @@ pub mod Sending
 pub mod InOrder
 pub mod Ranges
 pub mod KeyLaws
+pub mod RangeLaws

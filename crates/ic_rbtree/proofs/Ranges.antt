@@ -134,7 +134,7 @@ module _ {K : Type 0} {cmp : K → K → Ordering} (total : IsTotalOrder cmp) wh
       pub last_is : object_at objects j ≡ Some v
       pub up : cmp (key_of adapter v) (key_of adapter u) ≡ Less → ⊥
 
-    ends : (low high : Option Place) → runs_up cmp (key_of adapter) objects low high ≡ true → Ends low high
+    pub ends : (low high : Option Place) → runs_up cmp (key_of adapter) objects low high ≡ true → Ends low high
     ends None high h = absurd (true≢false (sym h))
     ends (Some i) None h = by (object_at objects i) h where
       by : (o : Option V) → not_less cmp (option_map (key_of adapter) o) None ≡ true → Ends (Some i) None

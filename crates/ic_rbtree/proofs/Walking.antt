@@ -43,7 +43,7 @@ first_off : (x : Place) (front w back : List Place) → IsAbsent x (front ++ (w 
 first_off x front [] back out e = none_not x e
 first_off x front (y ∷ w) back out e = (absent_right x front (y ∷ w ++ back) out).0 (sym (some_same e))
 
-between_ends : (front w back : List Place) → IsDistinct (front ++ (w ++ back)) → between (first w) (last w) (front ++ (w ++ back)) ≡ w
+pub between_ends : (front w back : List Place) → IsDistinct (front ++ (w ++ back)) → between (first w) (last w) (front ++ (w ++ back)) ≡ w
 between_ends [] [] back d = none_between back
 between_ends [] (x ∷ w) back d = rw (is_end_there {p = x} refl) (up_to_last x w back d)
 between_ends (x ∷ front) w back d = rw (is_end_off (first w) x (first_off x front w back d.0)) (between_ends front w back d.1)
