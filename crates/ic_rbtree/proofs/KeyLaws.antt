@@ -4,15 +4,15 @@ use Rattle.std.specs.Cmp.{IsTotalOrder, alike_right, upto}
 use Rattle.std.specs.List.{AllByRecursion, filter, cons_option}
 use Rattle.std.specs.declared.cmp.Ordering.{Ordering}
 use Rattle.std.specs.declared.cmp.Ordering.TheVariants.{Less, Equal, Greater}
-use Rattle.std.specs.Ordering.{is_eq, is_lt, is_le, is_gt}
+use Rattle.std.specs.Ordering.{is_eq, is_lt, is_le, is_gt, ordering_reverse}
 use Rattle.ic_unsafe_ref.specs.declared.place.Place.{Place}
 use Rattle.ic_unsafe_ref.specs.Objects.{Objects, object_at}
 use Rattle.ic_link_ops.specs.PlacedObjects.{ArePlaced, values_at}
 use Rattle.ic_link_ops.specs.Tables.{Table}
-use Rattle.ic_link_ops.specs.Sequences.{first, last}
+use Rattle.ic_link_ops.specs.Sequences.{Cut, join, insert, first, last}
 use Rattle.ic_link_ops.proofs.SequenceLemmas.{none_not}
 use Rattle.ic_rbtree.specs.declared.key_adapter.Bound.{Bound}
-use Rattle.ic_rbtree.specs.Borders.{IsLowerBorder, IsUpperBorder, Finds, IsSorted, IsSortedFor, equal_at, at_most_at, less_at, if_passes}
+use Rattle.ic_rbtree.specs.Borders.{IsBorder, IsLowerBorder, IsUpperBorder, Finds, IsSorted, IsSortedFor, equal_at, at_most_at, less_at, if_passes}
 use Rattle.ic_rbtree.specs.Comparing.{answer_at, compared, order_of, meets_lower, meets_upper, is_beyond}
 use Rattle.ic_rbtree.specs.Ordered.{InsertsInOrder}
 
@@ -230,3 +230,42 @@ module _ {V K : Type 0} {cmp : K → K → Ordering} (total : IsTotalOrder cmp) 
         }
         level (q ∷ smaller) equal larger same hs he hl none =
             let first_not = subst (AllByRecursion (λ z. is_gt (compared (order_of cmp key_of k) objects z) ≡ false)) (sym same) none in absurd (true≢false (sym (ap is_gt hs.0) ∙ first_not.0))
+
+  -- AN INSERT IN ORDER keeps a sorted sequence sorted
+  two : (k l : K) (q : Place) (s : List Place) {v : V} → object_at objects q ≡ Some v → key_of v ≡ l → cmp k l ≢ Greater → IsSorted cmp (map key_of (values_at objects (q ∷ s))) → IsSorted cmp (k ∷ map key_of (values_at objects (q ∷ s)))
+  two k l q s {v} is same h sorted =
+      subst (λ t. IsSorted cmp (k ∷ t)) (sym (keys_more q s is)) (subst (λ z. cmp k z ≢ Greater) (sym same) h, subst (IsSorted cmp) (keys_more q s is) sorted)
+
+  less_not_greater : (o : Ordering) → is_lt o ≡ true → o ≢ Greater
+  less_not_greater o e g = true≢false (sym e ∙ ap is_lt g)
+
+  turned_not_greater : (k l : K) → is_lt (cmp k l) ≡ false → cmp l k ≢ Greater
+  turned_not_greater k l e g = true≢false (sym (ap is_lt (total.antisymm k l ∙ ap ordering_reverse g)) ∙ e)
+
+  module _ (p : Place) {v : V} (is : object_at objects p ≡ Some v) where
+    stays : (front back : List Place) → ArePlaced objects (front ++ back) → IsSorted cmp (map key_of (values_at objects (front ++ back)))
+        → ((q : Place) → last front ≡ Some q → less_at (compared (order_of cmp key_of (key_of v)) objects) q ≡ false) → ((q : Place) → first back ≡ Some q → less_at (compared (order_of cmp key_of (key_of v)) objects) q ≡ true)
+        → IsSorted cmp (map key_of (values_at objects (front ++ p ∷ back)))
+    stays [] [] placed sorted fails passes = subst (IsSorted cmp) (sym (keys_more p [] is)) tt
+    stays [] (q ∷ back) placed sorted fails passes =
+        let u = value_there (object_at objects q) placed.0 in
+        let less : is_lt (cmp (key_of v) (key_of u.0)) ≡ true = sym (ap (λ o. is_lt (answer_at (order_of cmp key_of (key_of v)) o)) u.1) ∙ passes q refl in
+        subst (IsSorted cmp) (sym (keys_more p (q ∷ back) is)) (two (key_of v) (key_of u.0) q back u.1 refl (less_not_greater (cmp (key_of v) (key_of u.0)) less) sorted)
+    stays (q ∷ []) back placed sorted fails passes =
+        let u = value_there (object_at objects q) placed.0 in
+        let less : is_lt (cmp (key_of v) (key_of u.0)) ≡ false = sym (ap (λ o. is_lt (answer_at (order_of cmp key_of (key_of v)) o)) u.1) ∙ fails q refl in
+        let tail = sorted_tail (key_of u.0) (map key_of (values_at objects back)) (subst (IsSorted cmp) (keys_more q back u.1) sorted) in
+        subst (IsSorted cmp) (sym (keys_more q (p ∷ back) u.1))
+        (two (key_of u.0) (key_of v) p back is refl (turned_not_greater (key_of v) (key_of u.0) less) (stays [] back placed.1 tail (λ z e. absurd (none_not z e)) passes))
+    stays (q ∷ r ∷ front) back placed sorted fails passes =
+        let u = value_there (object_at objects q) placed.0 in
+        let w = value_there (object_at objects r) placed.1.0 in
+        let all : IsSorted cmp (key_of u.0 ∷ map key_of (values_at objects (r ∷ front ++ back))) = subst (IsSorted cmp) (keys_more q (r ∷ front ++ back) u.1) sorted in
+        let both : IsSorted cmp (key_of u.0 ∷ key_of w.0 ∷ map key_of (values_at objects (front ++ back))) = subst (λ t. IsSorted cmp (key_of u.0 ∷ t)) (keys_more r (front ++ back) w.1) all in
+        subst (IsSorted cmp) (sym (keys_more q (r ∷ front ++ p ∷ back) u.1))
+        (two (key_of u.0) (key_of w.0) r (front ++ p ∷ back) w.1 refl both.0
+        (stays (r ∷ front) back placed.1 (sorted_tail (key_of u.0) (map key_of (values_at objects (r ∷ front ++ back))) all) (λ z e. fails z e) passes))
+
+    pub stays_sorted : (gap : Cut) → ArePlaced objects (join gap) → IsSorted cmp (map key_of (values_at objects (join gap))) → IsBorder (less_at (compared (order_of cmp key_of (key_of v)) objects)) gap
+        → IsSorted cmp (map key_of (values_at objects (insert gap p)))
+    stays_sorted gap placed sorted border = stays gap.front gap.back placed sorted border.fails border.passes
