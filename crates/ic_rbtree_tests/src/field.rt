@@ -2,7 +2,8 @@
 
 use crate::answers::{answered, number, value};
 use crate::cursors::{By, borrowing, edit, end, owning, reading, told, told_by_mut};
-use crate::keyed::{Search, insert, insert_by_cursor, probed, range, seek};
+use crate::inserts::{insert, insert_by_cursor};
+use crate::keyed::{Search, probed, range, seek};
 use crate::shape::{blacks_below, root_above, write_below, write_linked};
 use crate::sorted::{Sorted, all_lead};
 use crate::values::OwnKey;
@@ -241,8 +242,9 @@ impl Field {
         answered(written, text)
     }
 
-    /// Inserts the object where its key belongs, by the call of that name, if it is placed and its place is covered.
-    pub(crate) fn insert(&mut self, name: &str, place: Place) -> Answer {
+    /// Inserts the object where its key belongs, by the call of that name, or at the entry of a key, if it is placed and its
+    /// place is covered.
+    pub(crate) fn insert(&mut self, name: &str, entry: Option<u64>, place: Place) -> Answer {
         if place.index() >= self.links.covers() {
             return Answer::Refused("beyond");
         }
@@ -251,10 +253,10 @@ impl Field {
         }
         let by = self.by;
         let (tree, links, objects) = (&mut self.tree, &mut self.links, &self.objects);
-        if name == "insert" {
-            return insert(by, tree, links, objects, &mut self.at, place);
+        if name == "insert_by_cursor" {
+            return insert_by_cursor(by, tree, links, objects, &mut self.at, place);
         }
-        insert_by_cursor(by, tree, links, objects, &mut self.at, place)
+        insert(by, tree, links, objects, &mut self.at, entry, place)
     }
 
     /// The shape of which that place is a member, as the links have it.

@@ -1,12 +1,10 @@
-//! Calls by keys: searches by a probe and by each cursor, and inserts in order.
+//! Searches by keys: by a probe and by each cursor, and the walk between two bounds.
 
-ghost use Rattle.std.specs.Prelude.{◌≡◌, true, IfOk};
-ghost use Rattle.ic_unsafe_ref.specs.Objects.{is_placed};
+ghost use Rattle.std.specs.Prelude.{◌≡◌};
 ghost use Rattle.ic_link_ops.specs.PlacedObjects.{ShowsPlaced};
 ghost use Rattle.ic_link_ops.specs.Positions.{site, Stands};
 ghost use Rattle.ic_link_ops.specs.RedBlackTree.{Shows};
-ghost use Rattle.ic_link_ops.specs.Tables.{IsCovered};
-ghost use Rattle.ic_rbtree.specs.Comparing.{HasRoom, HasRoomWithin};
+ghost use Rattle.ic_rbtree.specs.Comparing.{HasRoomWithin};
 ghost use Rattle.ic_rbtree.specs.Iter.{CanWalk};
 ghost use Rattle.ic_rbtree.specs.KeyProbe.{looks_of, HasAdapter};
 ghost use Rattle.ic_rbtree.specs.Tree.{root_of};
@@ -14,13 +12,10 @@ ghost use Rattle.ic_rbtree.specs.Cursor as reads;
 ghost use Rattle.ic_rbtree.specs.CursorMut as lent;
 ghost use Rattle.ic_rbtree.specs.CursorOwning as owned;
 
-use crate::answers::{inserted, refused};
-use crate::cursors::{By, borrowing, owning};
+use crate::cursors::By;
 use crate::values::OwnKey;
-use ic_link_ops::AlreadyLinked;
 use ic_rbtree::{Bound, Cursor, CursorMut, CursorOwning, Iter, KeyProbe, RBTree, RBTreeOps};
-use ic_unsafe_ref::{Objects, Place, UnsafeRef};
-use test_support::rows::Answer;
+use ic_unsafe_ref::{Objects, Place};
 
 /// What is searched.
 #[derive(Clone, Copy)]
@@ -187,89 +182,4 @@ pub(crate) fn seek<L: RBTreeOps>(
             at
         }
     }
-}
-
-/// Inserts the object where its key belongs, by such a cursor at that position.
-pub(crate) fn insert_by_cursor<L: RBTreeOps>(
-    by: By,
-    tree: &mut RBTree<OwnKey>,
-    links: &mut L,
-    objects: &Objects<u64>,
-    at: &mut Option<Place>,
-    place: Place,
-) -> Answer
-    requires placed { ShowsPlaced (Shows L.node (L.table links.old) (root_of tree.old)) objects.now }
-    requires stands { Stands (Shows L.node) L.table (site links.old (root_of tree.old) at.old) }
-    requires covered { IsCovered (L.table links.old) place }
-    requires object { is_placed objects.now place ≡ true }
-    ensures stands { Stands (Shows L.node) L.table (site links.new (root_of tree.new) at.new) }
-{
-    match by {
-        By::Owning => {
-            let whole = tree.take();
-            let mut cursor = owning(whole, &*links, *at);
-            let answer = inserted(cursor.insert(links, objects, UnsafeRef::new(place)));
-            *at = cursor.get_ptr();
-            *tree = cursor.into_inner();
-            answer
-        }
-        _ => {
-            let mut cursor = borrowing(tree, links, *at);
-            let answer = inserted(cursor.insert(objects, UnsafeRef::new(place)));
-            *at = cursor.get_ptr();
-            answer
-        }
-    }
-}
-
-// Inserts the object where its key belongs, or where the probe's order wants it.
-fn put<'a, L: RBTreeOps>(
-    by: By,
-    tree: &'a mut RBTree<OwnKey>,
-    links: &'a mut L,
-    objects: &Objects<u64>,
-    probe: &mut KeyProbe<'_, OwnKey>,
-    object: UnsafeRef<u64>,
-) -> Result<CursorMut<'a, OwnKey, L>, AlreadyLinked<u64>>
-    requires placed { ShowsPlaced (Shows L.node (L.table links.old) (root_of tree.old)) objects.now }
-    requires room { HasRoom (looks_of probe.old) }
-    requires covered { IsCovered (L.table links.old) object }
-    requires object { is_placed objects.now object ≡ true }
-    ensures stands { IfOk result (λ c. Stands (Shows L.node) L.table (lent.site_of c)) }
-    ensures borrows { IfOk result (lent.SameNames tree.entry links.entry) }
-{
-    match by {
-        By::Ref => tree.insert(links, objects, object),
-        _ => tree.insert_by(links, objects, probe, object),
-    }
-}
-
-/// Inserts the object where its key belongs, by a call of the tree, and moves to it.
-///
-/// A clause says nothing of how a refusal leaves the two borrows, so the tree is emptied then.
-#[tactic(auto, using(crate::proofs::Fixture::none_stands))]
-pub(crate) fn insert<L: RBTreeOps>(
-    by: By,
-    tree: &mut RBTree<OwnKey>,
-    links: &mut L,
-    objects: &Objects<u64>,
-    at: &mut Option<Place>,
-    place: Place,
-) -> Answer
-    requires placed { ShowsPlaced (Shows L.node (L.table links.old) (root_of tree.old)) objects.now }
-    requires covered { IsCovered (L.table links.old) place }
-    requires object { is_placed objects.now place ≡ true }
-    ensures stands { Stands (Shows L.node) L.table (site links.new (root_of tree.new) at.new) }
-{
-    let key = *objects.get(place).unwrap();
-    let mut probe = KeyProbe::new(OwnKey, &key);
-    let given = put(by, tree, links, objects, &mut probe, UnsafeRef::new(place));
-    if let Ok(cursor) = &given {
-        *at = cursor.get_ptr();
-        return Answer::Done;
-    }
-    drop(given);
-    *at = None;
-    *tree = RBTree::default();
-    refused(probe.looks())
 }

@@ -82,13 +82,14 @@ pub(crate) const KEYED_RUNS: &[Run] = &[
     Run {
         name: "searches of keys that are not sorted",
         rows: "
-        place 3 1 2 7 5 8 0 0       | 7
+        place 3 1 2 7 5 8 5 0       | 7
         insert_before 0 1 2         | ok  | 0 1 2 ; 1b(0r,2r)
         lower_bound Included 2      | 2   | 0 1 (2) ; 1b(0r,2r)
         range Included 1 Included 2 |
         clear                       | yes | ; -
         insert_before 3 4 5         | ok  | 3 4 5 ; 4b(3r,5r)
         find 5                      | 2   | 3 4 5 ; 4b(3r,5r)
+        entry 5 6                   | ok  | (6) 3 4 5 ; 4b(3b(6r,-),5b)
         ",
     },
     Run {
@@ -120,6 +121,35 @@ pub(crate) const KEYED_RUNS: &[Run] = &[
         shape 2               | 2b(0b,1b(3r,-))
         insert 0              | linked
         shape 0               | 2b(0b,1b(3r,-))
+        ",
+    },
+    Run {
+        name: "a vacant entry takes an object of another key",
+        rows: "
+        place 1 3 9 0 0 0 0 0 | 7
+        insert 0 1            | ok | 0 (1) ; 0b(-,1r)
+        entry 2 2             | ok | 0 (2) 1 ; 2b(0r,1r)
+        backward              | 1 (2) 0
+        ",
+    },
+    Run {
+        name: "an occupied entry",
+        rows: "
+        entry 1 0             | not placed
+        place 1 3 9 3 0 0 0 0 | 7
+        insert 0 1            | ok     | 0 (1) ; 0b(-,1r)
+        front                 | ok     | (0) 1 ; 0b(-,1r)
+        entry 3 2             | ok     | 0 (1) ; 0b(-,1r)
+        linked                | 0 1
+        entry 1 1             | ok     | (0) 1 ; 0b(-,1r)
+        insert 3              | ok     | 0 1 (3) ; 1b(0r,3r)
+        entry 3 2             | ok     | 0 (1) 3 ; 1b(0r,3r)
+        entry 2 8             | beyond
+        linked                | 0 1 3
+        entry 2 1             | linked | ; -
+        shape 1               | 1b(0r,3r)
+        linked                | 0 1 3
+        entry 2 2             | ok     | (2) ; 2b
         ",
     },
     Run {

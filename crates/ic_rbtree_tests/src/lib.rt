@@ -8,6 +8,8 @@ mod cursors;
 #[cfg(test)]
 mod field;
 #[cfg(test)]
+mod inserts;
+#[cfg(test)]
 mod keyed;
 #[cfg(test)]
 mod keyed_runs;

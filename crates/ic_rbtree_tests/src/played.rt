@@ -44,7 +44,7 @@ impl Field {
             ("place", _) => self.place_word(word),
             ("key", Some(place)) => self.key(place.index() as u64),
             ("on", Some(place)) => self.on(place),
-            ("insert" | "insert_by_cursor", Some(place)) => self.insert(name, place),
+            ("insert" | "insert_by_cursor", Some(place)) => self.insert(name, None, place),
             ("shape", Some(place)) => self.shape(place),
             ("contains", Some(place)) => self.contains(place),
             (name, Some(place)) => self.edit(name, Some(place)),
@@ -59,6 +59,17 @@ impl Field {
             answer = self.call_with(name, word);
         }
         answer
+    }
+
+    // A call that is given a key and a place.
+    fn call_entry(&mut self, words: &[&str]) -> Answer {
+        let [key, at] = words else {
+            return Answer::Refused("no key and place");
+        };
+        match (key.parse(), place(at)) {
+            (Ok(key), Some(place)) => self.insert("entry", Some(key), place),
+            _ => Answer::Refused("no key and place"),
+        }
     }
 
     // A call that is given these two bounds.
@@ -106,6 +117,7 @@ impl Played for Field {
         match *name {
             "walk" => self.walk(rest),
             "range" => self.call_range(rest),
+            "entry" => self.call_entry(rest),
             "take_and_drop" => self.take_off(rest, false),
             "take_and_finish" => self.take_off(rest, true),
             name if rest.is_empty() => self.call_alone(name),

@@ -192,7 +192,7 @@ fn is_right(alloc: Global, order: Order) -> Result<bool, Fail> {
     }
     for index in 0..MEMBERS {
         if let Some(place) = Place::new(index) {
-            let _ = field.insert("insert", place);
+            let _ = field.insert("insert", None, place);
             sorted.insert(place)?;
         }
     }
