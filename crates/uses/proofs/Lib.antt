@@ -6,3 +6,6 @@ pub mod Outcomes
 pub mod PutBack
 pub mod RaceLemmas
 pub mod Retaining
+pub mod SortedKeys
+pub mod TakenOff
+pub mod TakingDue

@@ -6,3 +6,5 @@ pub mod Notes
 pub mod RecordedTables
 pub mod Race
 pub mod Retain
+pub mod SortedObjects
+pub mod Timers

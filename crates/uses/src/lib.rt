@@ -14,3 +14,4 @@ pub mod queue;
 pub mod race;
 pub mod recorded_table;
 pub mod retain;
+pub mod timer_queue;

@@ -5,3 +5,5 @@
 mod free_list;
 #[cfg(test)]
 mod tests;
+#[cfg(test)]
+mod timer_queue;
