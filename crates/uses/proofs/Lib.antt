@@ -6,3 +6,7 @@ pub mod Outcomes
 pub mod PutBack
 pub mod RaceLemmas
 pub mod Retaining
+pub mod Locating
+pub mod SortedKeys
+pub mod TakenOff
+pub mod TakingDue

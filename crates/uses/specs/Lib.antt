@@ -5,4 +5,7 @@ pub mod Jobs
 pub mod Notes
 pub mod RecordedTables
 pub mod Race
+pub mod Regions
 pub mod Retain
+pub mod SortedObjects
+pub mod Timers

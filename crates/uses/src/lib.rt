@@ -13,4 +13,6 @@ pub mod pairs;
 pub mod queue;
 pub mod race;
 pub mod recorded_table;
+pub mod region_map;
 pub mod retain;
+pub mod timer_queue;

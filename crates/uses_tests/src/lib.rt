@@ -4,4 +4,8 @@
 #[cfg(test)]
 mod free_list;
 #[cfg(test)]
+mod region_map;
+#[cfg(test)]
 mod tests;
+#[cfg(test)]
+mod timer_queue;

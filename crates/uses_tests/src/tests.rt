@@ -24,7 +24,7 @@ use uses::retain::retain;
 use uses::{borrowed_table, deal, jobs, lru, pairs, queue};
 
 // Asserts that these places were found. The one assert of the tests.
-fn same(rt: &impl Abort, found: &[Option<Place>], wanted: &[usize]) {
+pub(crate) fn same(rt: &impl Abort, found: &[Option<Place>], wanted: &[usize]) {
     let indices = wanted.iter().map(|index| Place::new(*index));
     assert!(rt; found.iter().copied().eq(indices));
 }

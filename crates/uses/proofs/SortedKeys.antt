@@ -1,0 +1,146 @@
+-- Sequences whose objects stand by their keys: with one more, and with one less.
+use Rattle.std.proofs.Common.{◌≡◌, ◌≢◌, ℕ, ◌≤◌, Bool, true, false, cond, ltb, eqb, Option, Some, None, IsSome, Result, Ok, Err, List, [], ◌∷◌, ◌++◌, drop, refl, sym, ap, ◌∙◌, subst, arith, ltb-true, ltb-false, eqb-true, true≢false}
+use Rattle.std.proofs.lemmas.Bool.{eqb-false}
+use Rattle.std.specs.List.{AllByRecursion}
+use Rattle.std.specs.Ordering.{nat_cmp, is_lt}
+use Rattle.std.specs.declared.cmp.Ordering.TheVariants.{Less, Equal, Greater}
+use Rattle.ic_unsafe_ref.specs.declared.place.Place.{Place}
+use Rattle.ic_unsafe_ref.specs.Objects.{Objects, object_at}
+use Rattle.ic_link_ops.specs.declared.errors.AlreadyLinked.{AlreadyLinked}
+use Rattle.ic_link_ops.specs.Sequences.{join, first, last}
+use Rattle.ic_link_ops.specs.PlacedObjects.{ArePlaced}
+use Rattle.ic_link_ops.specs.Tables.{Table}
+use Rattle.ic_link_ops.specs.RedBlackTree as Trees
+use Rattle.ic_link_ops.specs.RedBlackTree.{Node}
+use Rattle.ic_link_ops.specs.LinkSteps.{LinkStep}
+use Rattle.ic_link_ops.specs.EditsAt.{RemovesThere}
+use Rattle.ic_link_ops.specs.Positions.{Site, ShowsAt, Stands}
+use Rattle.ic_link_ops.proofs.Positions.{gap_there}
+use Rattle.ic_link_ops.proofs.SequenceLemmas.{first_is}
+use Rattle.ic_link_ops.proofs.ShownTrees.{shows_nothing}
+use Rattle.ic_rbtree.specs.Borders.{IsSorted}
+use Rattle.ic_rbtree.specs.Comparing.{answer_at}
+use Rattle.ic_rbtree.specs.Ordered.{InsertsInOrder, InsertsAmong}
+use Rattle.uses.specs.SortedObjects.{key_or, key_at, keys_at, against, ShowsSorted}
+
+-- `not greater`, as numbers have it
+up_by : (k l : ℕ) (a b : Bool) → ltb k l ≡ a → eqb k l ≡ b → cond a Less (cond b Equal Greater) ≢ Greater → k ≤ l
+up_by k l true b p q h = let x = ltb-true k l p in omega arith
+up_by k l false true p q h = let x = eqb-true k l q in omega arith
+up_by k l false false p q h = absurd (h refl)
+
+pub up_is : (k l : ℕ) → nat_cmp k l ≢ Greater → k ≤ l
+up_is k l h = up_by k l (ltb k l) (eqb k l) refl refl h
+
+is_up_by : (k l : ℕ) (a b : Bool) → ltb k l ≡ a → eqb k l ≡ b → k ≤ l → cond a Less (cond b Equal Greater) ≢ Greater
+is_up_by k l true b p q h = λ e. cc
+is_up_by k l false true p q h = λ e. cc
+is_up_by k l false false p q h = let x : l ≤ k = ltb-false k l p in let y = eqb-false k l q in absurd (y (omega arith))
+
+is_up : (k l : ℕ) → k ≤ l → nat_cmp k l ≢ Greater
+is_up k l h = is_up_by k l (ltb k l) (eqb k l) refl refl h
+
+-- a comparison, as numbers have it
+less_is : (k l : ℕ) (a b : Bool) → ltb k l ≡ a → eqb k l ≡ b → is_lt (cond a Less (cond b Equal Greater)) ≡ true → k ≤ l
+less_is k l true b p q h = let x = ltb-true k l p in omega arith
+less_is k l false true p q h = cc
+less_is k l false false p q h = cc
+
+not_less_is : (k l : ℕ) (a b : Bool) → ltb k l ≡ a → eqb k l ≡ b → is_lt (cond a Less (cond b Equal Greater)) ≡ false → l ≤ k
+not_less_is k l true b p q h = cc
+not_less_is k l false b p q h = ltb-false k l p
+
+module _ {T : Type 0} (key : T → ℕ) (objects : Objects T) where
+  -- NOTHING IS SORTED: what a table shows for a new tree
+  pub new_is_sorted : {E : Type 0} {n : E → Node} {t : Table E} {root : Option Place} → root ≡ None → ShowsSorted key (Trees.Shows n t root) objects
+  new_is_sorted {n = n} {t} e = record { placed = record { members = []; shown = rw e (shows_nothing {n = n} t); placed = tt }; sorted = tt }
+
+  -- between placed objects it is one of their keys
+  of_keys : (a b : Option T) → IsSome a → IsSome b → answer_at (λ v. answer_at (λ own. nat_cmp (key own) (key v)) a) b ≡ nat_cmp (key_or key a) (key_or key b)
+  of_keys (Some x) (Some y) h k = refl
+  of_keys None b h k = absurd (true≢false (sym h))
+  of_keys (Some x) None h k = absurd (true≢false (sym k))
+
+  module _ (p q : Place) (here : IsSome (object_at objects p)) (there : IsSome (object_at objects q)) where
+    after : is_lt (against key objects p q) ≡ true → key_at key objects p ≤ key_at key objects q
+    after h = less_is (key_at key objects p) (key_at key objects q) _ _ refl refl (sym (ap is_lt (of_keys (object_at objects p) (object_at objects q) here there)) ∙ h)
+
+    before : is_lt (against key objects p q) ≡ false → key_at key objects q ≤ key_at key objects p
+    before h = not_less_is (key_at key objects p) (key_at key objects q) _ _ refl refl (sym (ap is_lt (of_keys (object_at objects p) (object_at objects q) here there)) ∙ h)
+
+  -- ONE MORE, where the one in front has no greater key, and the one behind a greater
+  put : (p : Place) → IsSome (object_at objects p) → (front back : List Place) → ArePlaced objects (front ++ back)
+      → ((q : Place) → last front ≡ Some q → is_lt (against key objects p q) ≡ false) → ((q : Place) → first back ≡ Some q → is_lt (against key objects p q) ≡ true)
+      → IsSorted nat_cmp (keys_at key objects (front ++ back)) → IsSorted nat_cmp (keys_at key objects (front ++ p ∷ back))
+  put p here [] [] placed fails passes sorted = tt
+  put p here [] (b ∷ back) placed fails passes sorted = (is_up _ _ (after p b here placed.0 (passes b refl)), sorted)
+  put p here (f ∷ []) back placed fails passes sorted =
+      (is_up _ _ (before p f here placed.0 (fails f refl)), put p here [] back placed.1 (λ q e. cc) passes (tail f back sorted))
+    where
+      tail : (f : Place) (s : List Place) → IsSorted nat_cmp (keys_at key objects (f ∷ s)) → IsSorted nat_cmp (keys_at key objects s)
+      tail f [] h = tt
+      tail f (x ∷ s) h = h.1
+  put p here (f ∷ g ∷ front) back placed fails passes sorted = (sorted.0, put p here (g ∷ front) back placed.1 fails passes sorted.1)
+
+  -- ONE LESS
+  skip : (p q : Place) (s : List Place) → IsSorted nat_cmp (keys_at key objects (p ∷ q ∷ s)) → IsSorted nat_cmp (keys_at key objects (p ∷ s))
+  skip p q [] h = tt
+  skip p q (r ∷ s) h =
+      let x = up_is (key_at key objects p) (key_at key objects q) h.0 in
+      let y = up_is (key_at key objects q) (key_at key objects r) h.1.0 in
+      (is_up (key_at key objects p) (key_at key objects r) (omega arith), h.1.1)
+
+  sorted_without : (front : List Place) (p : Place) (back : List Place) → IsSorted nat_cmp (keys_at key objects (front ++ p ∷ back)) → IsSorted nat_cmp (keys_at key objects (front ++ back))
+  sorted_without [] p [] h = tt
+  sorted_without [] p (x ∷ back) h = h.1
+  sorted_without (f ∷ []) p back h = skip f p back h
+  sorted_without (f ∷ g ∷ front) p back h = (h.0, sorted_without (g ∷ front) p back h.1)
+
+  -- THE FIRST HAS THE LEAST KEY
+  pub first_is_least : (p : Place) (s : List Place) → IsSorted nat_cmp (keys_at key objects (p ∷ s)) → AllByRecursion (λ q. key_at key objects p ≤ key_at key objects q) s
+  first_is_least p [] h = tt
+  first_is_least p (q ∷ s) h = (up_is _ _ h.0, first_is_least p s (skip p q s h))
+
+  -- as for the placed ones
+  placed_with : (front : List Place) (p : Place) (back : List Place) → IsSome (object_at objects p) → ArePlaced objects (front ++ back) → ArePlaced objects (front ++ p ∷ back)
+  placed_with [] p back here h = (here, h)
+  placed_with (f ∷ front) p back here h = (h.0, placed_with front p back here h.1)
+
+  placed_without : (front : List Place) (p : Place) (back : List Place) → ArePlaced objects (front ++ p ∷ back) → ArePlaced objects (front ++ back)
+  placed_without [] p back h = h.1
+  placed_without (f ∷ front) p back h = (h.0, placed_without front p back h.1)
+
+  inserted : {E H : Type 0} (Shows : Table E → H → List Place → Type 0) (old new : Table E) (head new_head : H) {p : Place} → IsSome (object_at objects p)
+      → (q : ShowsSorted key (Shows old head) objects) → InsertsInOrder Shows (against key objects p) old new new_head q.placed.members p → ShowsSorted key (Shows new new_head) objects
+  inserted Shows old new head new_head {p} here q x =
+      let placed : ArePlaced objects (join x.gap) = subst (ArePlaced objects) (sym x.same) q.placed.placed in
+      let sorted : IsSorted nat_cmp (keys_at key objects (join x.gap)) = subst (λ s. IsSorted nat_cmp (keys_at key objects s)) (sym x.same) q.sorted in
+      record {
+        placed = record { members = x.gap.front ++ p ∷ x.gap.back; shown = x.inserted.shows; placed = placed_with x.gap.front p x.gap.back here placed };
+        sorted = put p here x.gap.front x.gap.back placed x.border.fails x.border.passes sorted;
+      }
+
+  module _ {L E H : Type 0} {Shows : Table E → H → List Place → Type 0} {table : L → Table E} {Does : L → L → List LinkStep → Type 0} {old new : Site L H} where
+    -- WHAT IS SHOWN STAYS SORTED when an object is put in where its key belongs, or is refused,
+    pub sorted_among : {Refused : L → L → Place → Type 0} → ((a b : L) (q : Place) → Refused a b q → table b ≡ table a) → {X : Type 0} {p : Place} → IsSome (object_at objects p)
+        → ShowsSorted key (ShowsAt Shows table old) objects → (r : Result Unit (AlreadyLinked X)) → InsertsAmong Shows table Does Refused (against key objects p) old p r new
+        → ShowsSorted key (ShowsAt Shows table new) objects
+    sorted_among keeps here q (Ok a) x = inserted Shows (table old.links) (table new.links) old.head new.head here q (x.inserted q.placed.members q.placed.shown)
+    sorted_among keeps here q (Err e) x = record {
+      placed = record { members = q.placed.members; shown = rw (keeps _ _ _ x.refused, x.unchanged.1) q.placed.shown; placed = q.placed.placed };
+      sorted = q.sorted;
+    }
+
+    -- and when a member is taken off
+    pub sorted_taken : ((s u : List Place) → ShowsAt Shows table old s → ShowsAt Shows table old u → s ≡ u) → Stands Shows table old → (r : Option Place)
+        → RemovesThere Shows table Does old r new → ShowsSorted key (ShowsAt Shows table old) objects → ShowsSorted key (ShowsAt Shows table new) objects
+    sorted_taken one stands None off q = subst (λ (z : Site L H). ShowsSorted key (ShowsAt Shows table z) objects) (sym off.null) q
+    sorted_taken one stands (Some p) off q =
+        let k = gap_there stands in
+        let front = k.0.front in
+        let back = drop 1 k.0.back in
+        let same : q.placed.members ≡ front ++ p ∷ back = one q.placed.members (join k.0) q.placed.shown k.1 ∙ ap (λ (s : List Place). front ++ s) (first_is k.0.back (off.answer ∙ k.2)) in
+        record {
+          placed = record { members = front ++ back; shown = (off.removed k.0 k.1 k.2).shows; placed = placed_without front p back (subst (ArePlaced objects) same q.placed.placed) };
+          sorted = sorted_without front p back (subst (λ s. IsSorted nat_cmp (keys_at key objects s)) same q.sorted);
+        }

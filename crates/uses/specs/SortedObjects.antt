@@ -1,0 +1,35 @@
+-- Objects at the members of a sequence, in the order of a number that each has as its key.
+use Rattle.std.specs.Prelude.{ℕ, Option, None, Some, List, map}
+use Rattle.std.specs.Ordering.{nat_cmp}
+use Rattle.std.specs.declared.cmp.Ordering.{Ordering}
+use Rattle.ic_unsafe_ref.specs.declared.place.Place.{Place}
+use Rattle.ic_unsafe_ref.specs.Objects.{Objects, object_at}
+use Rattle.ic_link_ops.specs.PlacedObjects.{ShowsPlaced}
+use Rattle.ic_rbtree.specs.Borders.{IsSorted}
+use Rattle.ic_rbtree.specs.Comparing.{compared, own_order}
+
+module _ {T : Type 0} (key : T → ℕ) where
+  -- the key of an object, 0 of none
+  abbrev pub key_or : Option T → ℕ
+  key_or None = 0
+  key_or (Some object) = key object
+
+  -- the key of the object at a place, and of those at the members of s
+  abbrev pub key_at : Objects T → Place → ℕ
+  key_at objects p = key_or (object_at objects p)
+
+  abbrev pub keys_at : Objects T → List Place → List ℕ
+  keys_at objects s = map (key_at objects) s
+
+  -- how the key of one object stands to that of the object at each place: `Less` where it is less
+  abbrev pub against : Objects T → Place → Place → Ordering
+  against objects p = compared (own_order nat_cmp key objects p) objects
+
+  -- a sequence is shown, an object stands at each of its members, and from one to the next their keys never fall
+  pub record ShowsSorted (shows : List Place → Type 0) (objects : Objects T) : Type 0 where
+    pub placed : ShowsPlaced shows objects
+    pub sorted : IsSorted nat_cmp (keys_at objects placed.members)
+
+  -- whatever objects there are: where they stood in the order of their keys, they do
+  abbrev pub StaysSorted : (List Place → Type 0) → (List Place → Type 0) → Type 0
+  StaysSorted old new = (objects : Objects T) → ShowsSorted old objects → ShowsSorted new objects

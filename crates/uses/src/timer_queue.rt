@@ -1,0 +1,129 @@
+//! A queue of timers: the one with the earliest deadline is taken first, and of equal ones the one that was scheduled first.
+//!
+//! ```text
+//! let mut timers = RBTree::new(ByDeadline);
+//! timer_queue::schedule(&mut timers, &mut links, &objects, timer)?;
+//! let due = timer_queue::take_due(&mut timers, &mut links, &objects, now); // that timer, if its deadline is at most `now`
+//! timer_queue::cancel(&mut timers, &mut links, other);
+//! ```
+
+ghost use Rattle.std.specs.Prelude.{◌≡◌, ◌++◌, ◌∷◌, [], ◌≤◌, ◌<◌, true, List, OnOk, OnErr, OnSome, IfErr, IfSome, IfNone};
+ghost use Rattle.std.specs.List.{AllByRecursion};
+ghost use Rattle.ic_unsafe_ref.specs.declared.place.Place.{Place};
+ghost use Rattle.ic_unsafe_ref.specs.Objects.{is_placed};
+ghost use Rattle.ic_link_ops.specs.Sequences.{first, at_front};
+ghost use Rattle.ic_link_ops.specs.Tables.{IsCovered, KeepsBeside};
+ghost use Rattle.ic_link_ops.specs.LinkSteps.{acquires, releases};
+ghost use Rattle.ic_link_ops.specs.Edits.{Removes};
+ghost use Rattle.ic_link_ops.specs.Positions.{HasMember};
+ghost use Rattle.ic_link_ops.specs.RedBlackTree.{Shows};
+ghost use Rattle.ic_rbtree.specs.Tree.{root_of};
+ghost use Rattle.ic_rbtree.specs.Borders.{if_passes};
+ghost use Rattle.ic_rbtree.specs.Ordered.{InsertsInOrder};
+ghost use Rattle.uses.specs.SortedObjects.{against, ShowsSorted, StaysSorted};
+ghost use Rattle.uses.specs.Timers.{deadline, deadline_at, is_due};
+
+use ic_link_ops::rbtree::RBTreeOps;
+use ic_link_ops::{AlreadyLinked, LinkOps};
+use ic_rbtree::{KeyAdapter, RBTree};
+use ic_unsafe_ref::{Objects, UnsafeRef};
+use std::alloc::Allocator;
+
+/// What waits for a deadline.
+#[derive(Copy, Clone, PartialEq, Eq, Debug)]
+pub struct Timer {
+    /// The time from which it is due.
+    pub deadline: u64,
+    /// What is to be done then, as the caller numbers it.
+    pub task: u64,
+}
+
+/// Timers stand by their deadlines.
+#[derive(Copy, Clone)]
+pub struct ByDeadline;
+
+impl KeyAdapter for ByDeadline {
+    type Value = Timer;
+
+    type Key = u64;
+
+    ghost key_of = { λ a timer. timer.deadline };
+
+    #[inline]
+    fn get_key<'v>(&self, timer: &'v Timer) -> &'v u64 {
+        &timer.deadline
+    }
+}
+
+/// Puts a timer into the queue, behind all with its deadline or an earlier one, unless its link is refused. O(log n), and it
+/// takes no memory.
+///
+/// It asks that the timer is placed and its place covered, and that the timers in the queue are placed. A refused timer comes
+/// back, and the queue is as it was.
+pub fn schedule<L: RBTreeOps, B: Allocator>(
+    timers: &mut RBTree<ByDeadline>,
+    links: &mut L,
+    objects: &Objects<Timer, B>,
+    timer: UnsafeRef<Timer>,
+) -> Result<(), AlreadyLinked<Timer>>
+    requires covered { IsCovered (L.table links.old) timer }
+    requires object { is_placed objects.now timer ≡ true }
+    requires queue { ShowsSorted deadline (Shows L.node (L.table links.old) (root_of timers.old)) objects.now }
+    ensures queue { ShowsSorted deadline (Shows L.node (L.table links.new) (root_of timers.new)) objects.now }
+    ensures scheduled { (s : List Place) → Shows L.node (L.table links.old) (root_of timers.old) s
+        → OnOk result (InsertsInOrder (Shows L.node) (against deadline objects.now timer) (L.table links.old) (L.table links.new)
+        (root_of timers.new) s timer) }
+    ensures acquired { OnOk result (L.Does links.old links.new (acquires timer ∷ [])) }
+    ensures refused { OnErr result (L.Refused links.old links.new timer) }
+    ensures unchanged { IfErr result (λ refused. (refused.0 ≡ timer) × (timers.new ≡ timers.old)) }
+{
+    timers.cursor_mut(links).insert(objects, timer)
+}
+
+/// Takes the first timer off if its deadline is at most `now`, and answers `None` otherwise. O(log n).
+///
+/// It asks that the timers in the queue are placed. That timer is unlinked then, and stays placed. Where the answer is `None`
+/// the queue is empty or its first timer waits still, and nothing has changed.
+pub fn take_due<L: RBTreeOps, B: Allocator>(
+    timers: &mut RBTree<ByDeadline>,
+    links: &mut L,
+    objects: &Objects<Timer, B>,
+    now: u64,
+) -> Option<UnsafeRef<Timer>>
+    requires queue { ShowsSorted deadline (Shows L.node (L.table links.old) (root_of timers.old)) objects.now }
+    ensures queue { ShowsSorted deadline (Shows L.node (L.table links.new) (root_of timers.new)) objects.now }
+    ensures due { (s : List Place) → Shows L.node (L.table links.old) (root_of timers.old) s
+        → result ≡ if_passes (is_due objects.now now) (first s) }
+    ensures earliest { (s : List Place) → Shows L.node (L.table links.old) (root_of timers.old) s
+        → IfSome result (λ timer. AllByRecursion (λ p. deadline_at objects.now timer ≤ deadline_at objects.now p) s) }
+    ensures none_due { (s : List Place) → Shows L.node (L.table links.old) (root_of timers.old) s
+        → IfNone result (AllByRecursion (λ p. now < deadline_at objects.now p) s) }
+    ensures taken { (s : List Place) → Shows L.node (L.table links.old) (root_of timers.old) s
+        → OnSome result (Removes (Shows L.node) (L.table links.old) (L.table links.new) (root_of timers.new) (at_front s)) }
+    ensures released { IfSome result (λ timer. L.Does links.old links.new (releases timer ∷ [])) }
+    ensures unchanged { IfNone result ((timers.new ≡ timers.old) × (links.new ≡ links.old)) }
+{
+    let mut cursor = timers.front_mut(links);
+    let earliest = cursor.get(objects)?;
+    if earliest.deadline > now {
+        return None;
+    }
+    cursor.remove()
+}
+
+/// Takes a timer off before it is due: all others stay, in their order. O(log n), and it takes no memory.
+///
+/// It asks that the timer is in the queue, and is never refused. The timer is unlinked then, and stays placed.
+pub fn cancel<L: RBTreeOps>(timers: &mut RBTree<ByDeadline>, links: &mut L, timer: UnsafeRef<Timer>)
+    requires member { HasMember (Shows L.node (L.table links.old) (root_of timers.old)) timer }
+    ensures queue { StaysSorted deadline (Shows L.node (L.table links.old) (root_of timers.old))
+        (Shows L.node (L.table links.new) (root_of timers.new)) }
+    ensures cancelled { (front back : List Place)
+        → Shows L.node (L.table links.old) (root_of timers.old) (front ++ timer ∷ back)
+        → Shows L.node (L.table links.new) (root_of timers.new) (front ++ back) }
+    ensures released { L.Does links.old links.new (releases timer ∷ []) }
+    ensures frame { (s : List Place) → Shows L.node (L.table links.old) (root_of timers.old) s
+        → KeepsBeside (L.table links.old) (L.table links.new) s }
+{
+    timers.cursor_mut_from_ptr(links, timer).remove();
+}

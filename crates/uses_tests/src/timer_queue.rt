@@ -1,0 +1,108 @@
+//! Timers that are scheduled in a mixed order: the earliest is taken first, and of equal ones the one scheduled first.
+
+ghost use Rattle.std.specs.Prelude.{OnOk};
+ghost use Rattle.ic_rbtree.specs.PlainTrees.{PlainShows};
+ghost use Rattle.ic_rbtree.specs.Tree.{root_of};
+ghost use Rattle.uses.specs.SortedObjects.{ShowsSorted};
+ghost use Rattle.uses.specs.Timers.{deadline};
+
+use crate::tests::same;
+use ic_link_ops::AlreadyLinked;
+use ic_link_ops::rbtree::LinkOps;
+use ic_rbtree::RBTree;
+use ic_unsafe_ref::{Objects, Place, UnsafeRef};
+use std::process::Abort;
+use std::test::Fail;
+use uses::timer_queue::{ByDeadline, Timer, cancel, schedule, take_due};
+
+// Places a timer for each deadline, one behind the other.
+fn place_each(rt: &impl Abort, objects: &mut Objects<Timer>, deadlines: &[u64]) {
+    for deadline in deadlines {
+        let _next = objects.next_place().expect(rt, "a vacant place");
+        let timer = Timer {
+            deadline: *deadline,
+            task: 0,
+        };
+        let _timer = UnsafeRef::from_box(objects, timer).expect(rt, "memory for a timer");
+    }
+}
+
+// Schedules the timers at these places, in this order.
+fn schedule_each(
+    rt: &impl Abort,
+    timers: &mut RBTree<ByDeadline>,
+    links: &mut LinkOps,
+    objects: &Objects<Timer>,
+    order: &[usize],
+) -> Result<(), AlreadyLinked<Timer>>
+    requires queue { ShowsSorted deadline (PlainShows links.old (root_of timers.old)) objects.now }
+    ensures queue { ShowsSorted deadline (PlainShows links.new (root_of timers.new)) objects.now }
+{
+    for index in order {
+        let place = Place::new(*index).expect(rt, "the index of a place");
+        assert!(rt; objects.is_placed(place) && place.index() < links.covers());
+        schedule(timers, links, objects, UnsafeRef::new(place))?;
+    }
+    Ok(())
+}
+
+// The timers that are due at each of these times, one after the other.
+fn take_four(
+    timers: &mut RBTree<ByDeadline>,
+    links: &mut LinkOps,
+    objects: &Objects<Timer>,
+    times: [u64; 4],
+) -> [Option<Place>; 4]
+    requires queue { ShowsSorted deadline (PlainShows links.old (root_of timers.old)) objects.now }
+    ensures queue { ShowsSorted deadline (PlainShows links.new (root_of timers.new)) objects.now }
+{
+    let one = take_due(timers, links, objects, times[0]);
+    let two = take_due(timers, links, objects, times[1]);
+    let three = take_due(timers, links, objects, times[2]);
+    let four = take_due(timers, links, objects, times[3]);
+    [one, two, three, four].map(|timer| timer.map(|timer| timer.place()))
+}
+
+// Cancels the timer at a place, if it is in the queue: whether it was.
+fn cancel_there(
+    timers: &mut RBTree<ByDeadline>,
+    links: &mut LinkOps,
+    objects: &Objects<Timer>,
+    place: Place,
+) -> bool
+    requires queue { ShowsSorted deadline (PlainShows links.old (root_of timers.old)) objects.now }
+    ensures queue { ShowsSorted deadline (PlainShows links.new (root_of timers.new)) objects.now }
+{
+    if place.index() >= links.covers() || !timers.contains(links, place) {
+        return false;
+    }
+    cancel(timers, links, UnsafeRef::new(place));
+    true
+}
+
+#[test]
+fn the_earliest_timer_is_taken_first(rt: HostRuntime) -> Result<(), Fail> {
+    let mut links = LinkOps::new(rt.alloc());
+    links.cover(5)?;
+    let mut objects = Objects::new(rt.alloc());
+    place_each(&rt, &mut objects, &[30, 10, 20, 10, 20]);
+    let mut timers = RBTree::new(ByDeadline);
+    // they stand as 1, 3, 4, 2, 0: of the two at 20 the last place is scheduled first
+    schedule_each(&rt, &mut timers, &mut links, &objects, &[4, 1, 0, 3, 2])?;
+    let again = schedule_each(&rt, &mut timers, &mut links, &objects, &[3]);
+    same(&rt, &[again.err().map(|refused| refused.0.place())], &[3]);
+    let found = take_four(&mut timers, &mut links, &objects, [9, 10, 10, 19]);
+    same(&rt, &found, &[Place::COUNT, 1, 3, Place::COUNT]); // there is no place with that index
+    let place = Place::new(4).expect(&rt, "the index of a place");
+    let was = cancel_there(&mut timers, &mut links, &objects, place);
+    let is = cancel_there(&mut timers, &mut links, &objects, place);
+    assert!(rt; was && !is);
+    let found = take_four(
+        &mut timers,
+        &mut links,
+        &objects,
+        [29, 29, u64::MAX, u64::MAX],
+    );
+    same(&rt, &found, &[2, Place::COUNT, 0, Place::COUNT]);
+    Ok(())
+}
