@@ -1,16 +1,18 @@
-//! Figures for the lists, and for the order of a cache.
+//! Figures for the lists, for the order of a cache, and for the tree and its keys.
 //!
 //! Where each kind of work ended goes to standard output, the nanoseconds of one operation to standard error, as a table: a
 //! row for each number of members, and for each kind of work a column over the table that is handed in and one over a lent
-//! table. All work but `pop_front` and `iter`, which take each member once, is done the given number of times.
+//! table. All work but `pop_front`, `iter`, and removals and inserts of all members, is done the given number of times.
 //!
 //! ```text
 //! rt run -- 100001
 //! ```
 #![tactic(auto)]
 
+ghost use Rattle.std.specs.Prelude.{◌≤◌};
 ghost use Rattle.ic_link_ops.specs.DoublyEntries.{PlainShowsSome};
 
+mod keyed;
 mod loops;
 mod measured;
 mod objects;
@@ -19,9 +21,12 @@ mod order;
 mod trees;
 
 use ic_link_ops::linked_list::LinkOps;
-use ic_link_ops::{rbtree, singly_linked_list, xor_linked_list};
+use ic_link_ops::rbtree::RBTreeOps;
+use ic_link_ops::{LentTable, rbtree, singly_linked_list, xor_linked_list};
 use ic_linked_list::LinkedList;
+use ic_rbtree::RBTree;
 use ic_unsafe_ref::{Objects, Place, UnsafeRef};
+use keyed::{find, find_all, find_all_above, insert_all, place_all, turn_all};
 use loops::put;
 use measured::{
     add, add_lent, split, split_lent, touch, touch_lent, turn, turn_lent, walk, walk_lent,
@@ -32,7 +37,7 @@ use std::alloc::Global;
 use std::rt::Clock;
 use std::time::Instant;
 use std::{env, io};
-use trees::{filled_tree, take_off_all, turn_tree, walk_tree};
+use trees::{ByValue, filled_tree, take_off_all, turn_tree, walk_tree};
 
 // How far apart in the table the neighbours in a cache's order stand, so that no two share a line of memory.
 const STRIDE: usize = 7919;
@@ -275,6 +280,66 @@ fn one_sum(rt: &(impl Print + Eprint + Clock), alloc: Global, members: u64) -> i
     cell(rt, nanos, members)
 }
 
+// Objects that go into a tree by their keys: inserts of all of them, and then searches and pairs of a removal and an insert, so many
+// of each.
+fn by_keys<L: RBTreeOps>(
+    rt: &(impl Print + Eprint + Clock),
+    links: &mut L,
+    objects: &Objects<u64>,
+    members: u64,
+    times: u64,
+) -> io::Result<()>
+    requires covered { members ≤ (L.table links.old).extent.places }
+{
+    let mut tree = RBTree::new(ByValue);
+    let start = Instant::now(rt)?;
+    insert_all(&mut tree, links, objects, members as usize);
+    let end = find(&tree, links, objects, members / 2);
+    report(rt, "keyed: insert", end, start, members)?;
+
+    let start = Instant::now(rt)?;
+    let end = find_all(&tree, links, objects, members, times);
+    report(rt, "keyed: find", end, start, times)?;
+
+    let start = Instant::now(rt)?;
+    let end = find_all_above(&tree, links, objects, members, times);
+    report(rt, "keyed: lower_bound", end, start, times)?;
+
+    let start = Instant::now(rt)?;
+    let end = turn_all(&mut tree, links, objects, members, times);
+    report(rt, "keyed: find, remove and insert", end, start, times)
+}
+
+// The same over links that are lent.
+fn by_keys_lent(
+    rt: &(impl Print + Eprint + Clock),
+    links: &mut [rbtree::Link],
+    objects: &Objects<u64>,
+    times: u64,
+) -> io::Result<()> {
+    let mut links = LentTable::new(links);
+    let members = links.covers();
+    by_keys(rt, &mut links, objects, members as u64, times)
+}
+
+// One tree of so many objects by their keys, over a lent table.
+fn one_keyed_tree(
+    rt: &(impl Print + Eprint + Clock),
+    alloc: Global,
+    members: u64,
+    times: u64,
+) -> io::Result<()> {
+    let mut objects = Objects::new(alloc);
+    let mut links = rbtree::LinkOps::new(alloc);
+    if links.cover(members as usize).is_err() {
+        return eprintln!(rt; "no memory for {members} members");
+    }
+    place_all(&mut objects, members, STRIDE as u64);
+    println!(rt; "{members} keys")?;
+    eprint!(rt; "| {members} ")?;
+    by_keys_lent(rt, links.lend(), &objects, times)
+}
+
 fn main(rt: HostRuntime) -> io::Result<()> {
     let words: Vec<String> = env::args(&rt)?.collect(rt.alloc())?;
     let times = number(words.get(1), 100_001);
@@ -295,5 +360,12 @@ fn main(rt: HostRuntime) -> io::Result<()> {
     eprintln!(rt; "| tree: pair | step | remove at random, with the test that it is a member |")?;
     eprintln!(rt; "|---|---|---|")?;
     tree(&rt, rt.alloc(), 20_000, times)?;
-    eprintln!(rt; "|")
+    eprintln!(rt; "|")?;
+    eprintln!(rt; "| keys, lent | insert | find | lower_bound | find, remove and insert |")?;
+    eprintln!(rt; "|---|---|---|---|---|")?;
+    for members in [1_000, 20_000, 1_000_000] {
+        one_keyed_tree(&rt, rt.alloc(), members, times)?;
+        eprintln!(rt; "|")?;
+    }
+    Ok(())
 }

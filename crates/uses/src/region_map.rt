@@ -67,8 +67,8 @@ impl KeyAdapter for ByStart {
 /// Puts a region into the map, behind all that start where it does or below, unless its link is refused. O(log n), and it
 /// takes no memory.
 ///
-/// It asks that the region is placed and its place covered, and that the regions in the map are placed. A refused region comes
-/// back, and the map is as it was.
+/// It asks that the region is placed and its place covered, and that the regions in the map are placed and stand in the order
+/// of their starts, as each call here leaves them. A refused region comes back, and the map is as it was.
 pub fn add<L: RBTreeOps, B: Allocator>(
     regions: &mut RBTree<ByStart>,
     links: &mut L,
@@ -92,7 +92,8 @@ pub fn add<L: RBTreeOps, B: Allocator>(
 /// The region that the address lies in: the last that starts at the address or below, if it is so long, and `None`
 /// otherwise. O(log n): at most 66 looks.
 ///
-/// It asks that the regions in the map are placed.
+/// It asks that the regions in the map are placed and stand in the order of their starts. A region of no length that starts
+/// between a region's start and the address hides that one.
 pub fn region_at<L: RBTreeOps, B: Allocator>(
     regions: &RBTree<ByStart>,
     links: &L,
@@ -112,8 +113,8 @@ pub fn region_at<L: RBTreeOps, B: Allocator>(
 
 /// Takes the region off that the address lies in, and answers it: the one that [`region_at`] answers, or `None`. O(log n).
 ///
-/// It asks that the regions in the map are placed. That region is unlinked then, and stays placed. Where the answer is `None`
-/// nothing has changed.
+/// It asks what [`region_at`] asks. The region is unlinked then, and stays placed. Where the answer is `None` nothing has
+/// changed.
 pub fn remove_region<L: RBTreeOps, B: Allocator>(
     regions: &mut RBTree<ByStart>,
     links: &mut L,

@@ -58,8 +58,8 @@ impl KeyAdapter for ByDeadline {
 /// Puts a timer into the queue, behind all with its deadline or an earlier one, unless its link is refused. O(log n), and it
 /// takes no memory.
 ///
-/// It asks that the timer is placed and its place covered, and that the timers in the queue are placed. A refused timer comes
-/// back, and the queue is as it was.
+/// It asks that the timer is placed and its place covered, and that the timers in the queue are placed and stand in the order
+/// of their deadlines, as each call here leaves them. A refused timer comes back, and the queue is as it was.
 pub fn schedule<L: RBTreeOps, B: Allocator>(
     timers: &mut RBTree<ByDeadline>,
     links: &mut L,
@@ -82,8 +82,8 @@ pub fn schedule<L: RBTreeOps, B: Allocator>(
 
 /// Takes the first timer off if its deadline is at most `now`, and answers `None` otherwise. O(log n).
 ///
-/// It asks that the timers in the queue are placed. That timer is unlinked then, and stays placed. Where the answer is `None`
-/// the queue is empty or its first timer waits still, and nothing has changed.
+/// It asks that the timers in the queue are placed and stand in the order of their deadlines. The timer is unlinked then, and
+/// stays placed; none in the queue was due before it. Where the answer is `None` all wait still, and nothing has changed.
 pub fn take_due<L: RBTreeOps, B: Allocator>(
     timers: &mut RBTree<ByDeadline>,
     links: &mut L,

@@ -1,0 +1,27 @@
+use Rattle.std.proofs.Common.{rules, subst, ◌∙◌, Option, IfSome}
+use Rattle.ic_unsafe_ref.specs.declared.place.Place.{Place}
+use Rattle.ic_link_ops.specs.Positions.{ShowsAt}
+use Rattle.ic_link_ops.specs.RedBlackTree.{Shows}
+use Rattle.ic_link_ops.specs.Tables.{IsCovered}
+use Rattle.ic_link_ops.proofs.Calling.{removed_covered}
+use Rattle.ic_link_ops.proofs.ShownTrees.{one_sequence}
+use Rattle.ic_rbtree.specs.CursorMut.{site_of}
+use Rattle.uses.specs.SortedObjects.{ShowsSorted}
+use Rattle.uses.proofs.SortedKeys.{sorted_taken}
+use Rattle.bench.proofs.keyed.remove.Goals as goal
+
+pub returns-clause-sorted : goal.returns-clause-sorted
+returns-clause-sorted g c objects q =
+    let e = c.cursor_mut_from_ptr.ensures in
+    let at : ShowsSorted (λ v. v) (ShowsAt (Shows g.L.RBTreeOps.node) g.L.LinkOps.table (site_of c.cursor_mut_from_ptr.result)) objects = rw (e.borrows.3, e.borrows.2) q in
+    let after = sorted_taken (λ v. v) objects (λ s u shown other. one_sequence shown other) e.stands c.remove.result c.remove.ensures.removed at in
+    let shown = after.placed.shown in
+    record { placed = record { members = after.placed.members; shown = search rules; placed = after.placed.placed }; sorted = after.sorted }
+
+pub returns-clause-covered : goal.returns-clause-covered
+returns-clause-covered g c =
+    let e = c.cursor_mut_from_ptr.ensures in
+    let r = c.remove.ensures.removed in
+    let all = removed_covered g.L.LinkOps.linked g.met.L.LinkOps.does_replay g.met.L.LinkOps.linked_is_covered c.remove.result e.stands r in
+    let one = subst (λ (o : Option Place). IfSome o (λ p. IsCovered (g.L.LinkOps.table (site_of c.remove.new.self).links) p)) (r.answer ∙ e.position) all in
+    search rules
