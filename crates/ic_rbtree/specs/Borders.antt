@@ -44,7 +44,8 @@ module _ (at : Place → Ordering) where
   abbrev pub less_at : Place → Bool
   less_at p = is_lt (at p)
 
-  -- FOUND: a gap with no member right in front that is not less than what is searched, and the member behind it, if that is equal
+  -- FOUND: at a gap with no member right in front that is not less than what is searched, and none right behind that is, the member
+  -- behind it, if that is equal
   pub record Finds (s : List Place) (position : Option Place) : Type 0 where
     pub gap : Cut
     pub same : join gap ≡ s

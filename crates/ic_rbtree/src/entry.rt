@@ -122,8 +122,8 @@ impl<A: KeyAdapter> RBTree<A> {
 impl<'a, A: KeyAdapter, L: RBTreeOps> InsertCursor<'a, A, L> {
     /// Inserts the object at the gap, whatever its key is, unless its link is refused. The cursor that it answers is on the object.
     ///
-    /// It asks that the object's place is covered. A refused object comes back, and nothing else has changed. O(log n): no look,
-    /// and the repair.
+    /// It asks that the object's place is covered. A refused object comes back, and nothing else has changed (a caller that has to
+    /// prove that of what both borrows end as inserts by a cursor). O(log n): no look, and the repair.
     pub fn insert(
         self,
         object: UnsafeRef<A::Value>,
@@ -154,7 +154,7 @@ impl<'a, A: KeyAdapter, L: RBTreeOps> Entry<'a, A, L> {
     /// The cursor on the member that has the key, or on the object, which is inserted where the key would stand.
     ///
     /// Where the entry is vacant, it asks that the object's place is covered; a refused object comes back, and nothing else has
-    /// changed. Where it is occupied, nothing is linked.
+    /// changed, as `InsertCursor::insert` has it. Where it is occupied, nothing is linked.
     pub fn or_insert(
         self,
         object: UnsafeRef<A::Value>,

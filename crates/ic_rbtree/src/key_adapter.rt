@@ -38,10 +38,10 @@ pub trait KeyAdapter: Copy {
 /// ```
 #[derive(Copy, Clone, PartialEq, Eq, Hash, Debug)]
 pub enum Bound<T> {
-    /// Up to this key, and with it.
+    /// This key is the end, and within.
     Included(T),
-    /// Up to this key, and without it.
+    /// This key is the end, and not within.
     Excluded(T),
-    /// All keys.
+    /// There is no end on this side.
     Unbounded,
 }
