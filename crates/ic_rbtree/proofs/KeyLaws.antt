@@ -1,5 +1,6 @@
 -- For callers: in a sorted sequence the borders are the ends of filters.
 use Rattle.std.proofs.Common.{◌≡◌, ◌≢◌, Bool, true, false, not, cond, Option, Some, None, List, [], ◌∷◌, ◌++◌, map, IsSome, refl, sym, ap, ◌∙◌, subst, append_assoc, append-nil, true≢false}
+use Rattle.std.proofs.lemmas.Bool.{not-true, not-false}
 use Rattle.std.specs.Cmp.{IsTotalOrder, alike_right, upto}
 use Rattle.std.specs.List.{AllByRecursion, filter, cons_option}
 use Rattle.std.specs.declared.cmp.Ordering.{Ordering}
@@ -82,20 +83,12 @@ lower_is {b} {s} {o} k x =
     let r = one_border (meets_lower b) k.front k.back x.gap.front x.gap.back (k.same ∙ sym x.same) k.fail k.pass x.border.fails x.border.passes in
     x.before ∙ ap first r.1 ∙ sym (ap first (ap (filter (meets_lower b)) (sym k.same) ∙ filter_fail (meets_lower b) k.front k.back k.fail ∙ filter_pass (meets_lower b) k.back k.pass))
 
-pub not_true : (x : Bool) → not x ≡ true → x ≡ false
-not_true true e = sym e
-not_true false e = refl
-
-pub not_false : (x : Bool) → not x ≡ false → x ≡ true
-not_false true e = refl
-not_false false e = sym e
-
 -- and an upper border the last of them
 pub upper_is : {b : Bound (Place → Ordering)} {s : List Place} {o : Option Place} → Cuts (is_beyond b) s → IsUpperBorder b s o → o ≡ last (filter (meets_upper b) s)
 upper_is {b} {s} {o} k x =
     let r = one_border (is_beyond b) k.front k.back x.gap.front x.gap.back (k.same ∙ sym x.same) k.fail k.pass x.border.fails x.border.passes in
     x.after ∙ ap last r.0 ∙ sym (ap last (ap (filter (meets_upper b)) (sym k.same)
-    ∙ filter_front (meets_upper b) k.front k.back (all_map (λ p h. not_false (meets_upper b p) h) k.front k.fail) (all_map (λ p h. not_true (meets_upper b p) h) k.back k.pass)))
+    ∙ filter_front (meets_upper b) k.front k.back (all_map (λ p h. not-false (meets_upper b p) h) k.front k.fail) (all_map (λ p h. not-true (meets_upper b p) h) k.back k.pass)))
 
 -- IN A SEQUENCE SORTED for what is searched, it cuts by both tests
 module _ {at : Place → Ordering} {s : List Place} (sorted : IsSortedFor at s) where

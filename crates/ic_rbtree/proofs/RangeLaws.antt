@@ -1,5 +1,6 @@
 -- For callers: in a sorted sequence a range is the filter by both bounds.
 use Rattle.std.proofs.Common.{◌≡◌, ◌⊎◌, Bool, true, false, ◌&&◌, Option, Some, None, IsSome, List, [], ◌∷◌, ◌++◌, map, refl, sym, ap, ◌∙◌, subst, append-nil, inl, inr, true≢false}
+use Rattle.std.proofs.lemmas.Bool.{not-true, not-false}
 use Rattle.std.specs.Cmp.{IsTotalOrder, tied_itself}
 use Rattle.std.specs.List.{AllByRecursion, filter}
 use Rattle.std.specs.Option.{option_map}
@@ -16,7 +17,7 @@ use Rattle.ic_rbtree.specs.Borders.{IsSorted}
 use Rattle.ic_rbtree.specs.Comparing.{answer_at, compared, order_of, meets_lower, meets_upper, is_beyond}
 use Rattle.ic_rbtree.specs.Members.{between}
 use Rattle.ic_rbtree.specs.Ranges.{not_less, runs_up, IsSegment, IsRange}
-use Rattle.ic_rbtree.proofs.KeyLaws.{keys_more, value_there, none_less, sorted_tail, Cuts, all_map, cons_head, one_border, filter_fail, filter_front, last_all, not_true, not_false}
+use Rattle.ic_rbtree.proofs.KeyLaws.{keys_more, value_there, none_less, sorted_tail, Cuts, all_map, cons_head, one_border, filter_fail, filter_front, last_all}
 use Rattle.ic_rbtree.proofs.Ranges.{Rises, ends}
 use Rattle.ic_rbtree.proofs.Walking.{between_ends}
 
@@ -130,7 +131,7 @@ module _ {A V K : Type 0} {cmp : K → K → Ordering} (total : IsTotalOrder cmp
     last_one P (p ∷ t) q h e = let r = last_all {P = P} p t [] (subst (λ z. AllByRecursion P (p ∷ z)) (sym (append-nil t)) h) in subst P (some_same (sym r.1 ∙ e)) r.2
 
     beyond_fails : (t : List Place) → AllByRecursion (λ p. is_beyond c p ≡ true) t → AllByRecursion (λ p. test p ≡ false) t
-    beyond_fails t h = fails_right (meets_lower b) (meets_upper c) t (all_map (λ p e. not_true (meets_upper c p) e) t h)
+    beyond_fails t h = fails_right (meets_lower b) (meets_upper c) t (all_map (λ p e. not-true (meets_upper c p) e) t h)
 
     by : ((y : Place) × (u : List Place) × (l.front ≡ k.front ++ y ∷ u) × (k.back ≡ y ∷ u ++ l.back)) ⊎ ((v : List Place) × (k.front ≡ l.front ++ v) × (l.back ≡ v ++ k.back)) → w ≡ filter test s
     by (inl r) =
@@ -141,7 +142,7 @@ module _ {A V K : Type 0} {cmp : K → K → Ordering} (total : IsTotalOrder cmp
         ap (λ o. runs_up cmp (key_of adapter) objects o x.high) starts ∙ ap (λ o. runs_up cmp (key_of adapter) objects (Some r.0) o) ends_at
         ∙ climbs k.front r.0 r.1 l.back (subst (ArePlaced objects) (sym same) placed) (subst (λ z. IsSorted cmp (map (key_of adapter) (values_at objects z))) (sym same) sorted) in
         let low_pass = all_front (λ p. meets_lower b p ≡ true) (r.0 ∷ r.1) l.back (subst (AllByRecursion (λ p. meets_lower b p ≡ true)) r.3 k.pass) in
-        let high_pass = all_map (λ p e. not_false (meets_upper c p) e) (r.0 ∷ r.1) (all_back (λ p. is_beyond c p ≡ false) k.front (r.0 ∷ r.1) (subst (AllByRecursion (λ p. is_beyond c p ≡ false)) r.2 l.fail)) in
+        let high_pass = all_map (λ p e. not-false (meets_upper c p) e) (r.0 ∷ r.1) (all_back (λ p. is_beyond c p ≡ false) k.front (r.0 ∷ r.1) (subst (AllByRecursion (λ p. is_beyond c p ≡ false)) r.2 l.fail)) in
         one_segment k.front (r.0 ∷ r.1) l.back w distinct same starts ends_at (x.segment runs)
         ∙ sym (ap (filter test) (sym same)
         ∙ filter_middle test k.front (r.0 ∷ r.1) l.back (fails_left (meets_lower b) (meets_upper c) k.front k.fail) (passes_both (meets_lower b) (meets_upper c) (r.0 ∷ r.1) low_pass high_pass) (beyond_fails l.back l.pass))

@@ -16,8 +16,8 @@ ghost use Rattle.ic_rbtree.specs.Tree.{root_of, adapter_of};
 
 use crate::probe::probe_within;
 use crate::{Bound, Cursor, CursorMut, CursorOwning, KeyAdapter, Probe, RBTree};
+use ic_link_ops::LinkOps;
 use ic_link_ops::rbtree::RBTreeOps;
-use ic_link_ops::{End, LinkOps};
 use ic_unsafe_ref::Objects;
 use std::alloc::Allocator;
 
@@ -51,7 +51,7 @@ impl<A: KeyAdapter> RBTree<A> {
         Cursor {
             tree: self,
             links,
-            current: End::of(self.lower(links, objects, bound)),
+            current: self.lower(links, objects, bound),
         }
     }
 
@@ -89,11 +89,11 @@ impl<A: KeyAdapter> RBTree<A> {
             (order_there A.Key.cmp (A.key_of (adapter_of self.old))) objects.now bound.entry) s (editing.position result) }
         ensures stands { Stands (Shows L.node) L.table (editing.site_of result) }
     {
-        let found = self.lower(&*links, objects, &mut probe_within(self.adapter, bound));
+        let current = self.lower(&*links, objects, &mut probe_within(self.adapter, bound));
         CursorMut {
             tree: self,
             links,
-            current: End::of(found),
+            current,
         }
     }
 
@@ -112,10 +112,10 @@ impl<A: KeyAdapter> RBTree<A> {
             (order_there A.Key.cmp (A.key_of (adapter_of self))) objects.now bound.entry) s (owning.position result) }
         ensures stands { Stands (Shows L.node) L.table (owning.site_of links.now result) }
     {
-        let found = self.lower(links, objects, &mut probe_within(self.adapter, bound));
+        let current = self.lower(links, objects, &mut probe_within(self.adapter, bound));
         CursorOwning {
             tree: self,
-            current: End::of(found),
+            current,
         }
     }
 
@@ -144,7 +144,7 @@ impl<A: KeyAdapter> RBTree<A> {
         Cursor {
             tree: self,
             links,
-            current: End::of(self.upper(links, objects, bound)),
+            current: self.upper(links, objects, bound),
         }
     }
 
@@ -182,11 +182,11 @@ impl<A: KeyAdapter> RBTree<A> {
             (order_there A.Key.cmp (A.key_of (adapter_of self.old))) objects.now bound.entry) s (editing.position result) }
         ensures stands { Stands (Shows L.node) L.table (editing.site_of result) }
     {
-        let found = self.upper(&*links, objects, &mut probe_within(self.adapter, bound));
+        let current = self.upper(&*links, objects, &mut probe_within(self.adapter, bound));
         CursorMut {
             tree: self,
             links,
-            current: End::of(found),
+            current,
         }
     }
 
@@ -205,10 +205,10 @@ impl<A: KeyAdapter> RBTree<A> {
             (order_there A.Key.cmp (A.key_of (adapter_of self))) objects.now bound.entry) s (owning.position result) }
         ensures stands { Stands (Shows L.node) L.table (owning.site_of links.now result) }
     {
-        let found = self.upper(links, objects, &mut probe_within(self.adapter, bound));
+        let current = self.upper(links, objects, &mut probe_within(self.adapter, bound));
         CursorOwning {
             tree: self,
-            current: End::of(found),
+            current,
         }
     }
 }

@@ -109,7 +109,6 @@ pub(crate) fn descend<L: RBTreeOps, V, P: Probe<V>, B: Allocator>(
         let order = compare_at(objects, probe, place);
         let left = goes_left(order, equals);
         descent.pass(place, left, order.is_eq());
-        // each way reads its own child: a choice between two reads would cost more
         at = if left {
             links.left(place)
         } else {

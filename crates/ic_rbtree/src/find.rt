@@ -14,8 +14,8 @@ ghost use Rattle.ic_rbtree.specs.Borders.{Finds};
 ghost use Rattle.ic_rbtree.specs.Tree.{root_of, adapter_of};
 
 use crate::{Cursor, CursorMut, CursorOwning, KeyAdapter, KeyProbe, Probe, RBTree};
+use ic_link_ops::LinkOps;
 use ic_link_ops::rbtree::RBTreeOps;
-use ic_link_ops::{End, LinkOps};
 use ic_unsafe_ref::Objects;
 use std::alloc::Allocator;
 
@@ -49,7 +49,7 @@ impl<A: KeyAdapter> RBTree<A> {
         Cursor {
             tree: self,
             links,
-            current: End::of(self.first_equal(links, objects, probe)),
+            current: self.first_equal(links, objects, probe),
         }
     }
 
@@ -86,11 +86,11 @@ impl<A: KeyAdapter> RBTree<A> {
             (editing.position result) }
         ensures stands { Stands (Shows L.node) L.table (editing.site_of result) }
     {
-        let found = self.first_equal(&*links, objects, &mut KeyProbe::new(self.adapter, key));
+        let current = self.first_equal(&*links, objects, &mut KeyProbe::new(self.adapter, key));
         CursorMut {
             tree: self,
             links,
-            current: End::of(found),
+            current,
         }
     }
 
@@ -109,10 +109,10 @@ impl<A: KeyAdapter> RBTree<A> {
             (owning.position result) }
         ensures stands { Stands (Shows L.node) L.table (owning.site_of links.now result) }
     {
-        let found = self.first_equal(links, objects, &mut KeyProbe::new(self.adapter, key));
+        let current = self.first_equal(links, objects, &mut KeyProbe::new(self.adapter, key));
         CursorOwning {
             tree: self,
-            current: End::of(found),
+            current,
         }
     }
 }

@@ -61,25 +61,25 @@ pub(crate) fn insert_in_order<L: RBTreeOps, V, P: Probe<V>, B: Allocator>(
     root: &mut End,
     objects: &Objects<V, B>,
     probe: &mut P,
-    place: Place,
+    object: Place,
 ) -> bool
-    requires covered { IsCovered (L.table links.old) place }
+    requires covered { IsCovered (L.table links.old) object }
     requires placed { ShowsPlaced (Shows L.node (L.table links.old) root.old) objects.now }
     requires room { HasRoom (P.count probe.old) }
     ensures inserted { (s : List Place) → Shows L.node (L.table links.old) root.old s → OnTrue result
         (InsertsInOrder (Shows L.node) (compared (P.order probe.old) objects.now) (L.table links.old) (L.table links.new)
-        root.new s place) }
-    ensures acquired { OnTrue result (L.Does links.old links.new (acquires place ∷ [])) }
+        root.new s object) }
+    ensures acquired { OnTrue result (L.Does links.old links.new (acquires object ∷ [])) }
     ensures looks { (s : List Place) → Shows L.node (L.table links.old) root.old s
         → OnTrue result (Looks P.order P.count probe.old probe.new s) }
-    ensures refused { OnFalse result (L.Refused links.old links.new place) }
+    ensures refused { OnFalse result (L.Refused links.old links.new object) }
     ensures unchanged { OnFalse result ((root.new ≡ root.old) × (probe.new ≡ probe.old)) }
 {
-    if !links.acquire_link(place) {
+    if !links.acquire_link(object) {
         return false;
     }
     let hole = descend(&*links, root.get(), objects, probe, Side::Right);
-    attach(links, root, hole.parent.get(), hole.side, place);
+    attach(links, root, hole.parent.get(), hole.side, object);
     true
 }
 

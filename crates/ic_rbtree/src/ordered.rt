@@ -118,10 +118,6 @@ impl<A: KeyAdapter> RBTree<A> {
             current,
         })
     }
-}
-
-impl<A: KeyAdapter> RBTree<A> {
-    ghost use Rattle.ic_rbtree.specs.CursorMut.{tree_of, links_of, position, site_of, SameNames};
 
     /// Inserts the object where its own key belongs, behind members with the same key, unless its link is refused: `insert_by`
     /// with a `KeyProbe`. It asks that the object is placed, too. The cursor that it answers is on the object. O(log n).

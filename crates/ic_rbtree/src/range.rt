@@ -79,8 +79,8 @@ impl<A: KeyAdapter> RBTree<A> {
         ensures max_looks { (s : List Place) → Shows L.node (L.table links.now) (root_of self.now) s
             → LooksWithin (key_order A.Key.cmp A.key_of) looks_of max.old max.new s }
     {
-        let low = self.lower(links, objects, min);
-        let high = self.upper(links, objects, max);
+        let low = self.lower(links, objects, min).get();
+        let high = self.upper(links, objects, max).get();
         if !self.runs_up(objects, low, high) {
             return Iter {
                 tree: self,

@@ -13,8 +13,8 @@ ghost use Rattle.ic_rbtree.specs.Tree.{root_of};
 use crate::descent::descend;
 use crate::{Bound, KeyAdapter, Probe, RBTree};
 use ic_link_ops::rbtree::RBTreeOps;
-use ic_link_ops::{LinkOps, Side};
-use ic_unsafe_ref::{Objects, Place};
+use ic_link_ops::{End, LinkOps, Side};
+use ic_unsafe_ref::Objects;
 use std::alloc::Allocator;
 
 impl<A: KeyAdapter> RBTree<A> {
@@ -25,7 +25,7 @@ impl<A: KeyAdapter> RBTree<A> {
         links: &L,
         objects: &Objects<A::Value, B>,
         probe: &mut P,
-    ) -> Option<Place>
+    ) -> End
         requires placed { ShowsPlaced (Shows L.node (L.table links.now) (root_of self.now)) objects.now }
         requires room { HasRoom (P.count probe.old) }
         ensures found { (s : List Place) → Shows L.node (L.table links.now) (root_of self.now) s
@@ -34,11 +34,10 @@ impl<A: KeyAdapter> RBTree<A> {
             → Looks P.order P.count probe.old probe.new s }
     {
         let descent = descend(links, self.root.get(), objects, probe, Side::Left);
-        if descent.equal {
-            descent.back.get()
-        } else {
-            None
+        if !descent.equal {
+            return End::of(None);
         }
+        descent.back
     }
 
     // The member behind the gap to which the bound sends from below: one that meets it.
@@ -48,7 +47,7 @@ impl<A: KeyAdapter> RBTree<A> {
         links: &L,
         objects: &Objects<A::Value, B>,
         bound: &mut Bound<P>,
-    ) -> Option<Place>
+    ) -> End
         requires placed { ShowsPlaced (Shows L.node (L.table links.now) (root_of self.now)) objects.now }
         requires room { HasRoomWithin P.count bound.old }
         ensures border { (s : List Place) → Shows L.node (L.table links.now) (root_of self.now) s
@@ -59,13 +58,13 @@ impl<A: KeyAdapter> RBTree<A> {
             → LooksWithin P.order P.count bound.old bound.new s }
     {
         match bound {
-            Bound::Included(probe) => descend(links, self.root.get(), objects, probe, Side::Left)
-                .back
-                .get(),
-            Bound::Excluded(probe) => descend(links, self.root.get(), objects, probe, Side::Right)
-                .back
-                .get(),
-            Bound::Unbounded => self.first(links),
+            Bound::Included(probe) => {
+                descend(links, self.root.get(), objects, probe, Side::Left).back
+            }
+            Bound::Excluded(probe) => {
+                descend(links, self.root.get(), objects, probe, Side::Right).back
+            }
+            Bound::Unbounded => End::of(self.first(links)),
         }
     }
 
@@ -76,7 +75,7 @@ impl<A: KeyAdapter> RBTree<A> {
         links: &L,
         objects: &Objects<A::Value, B>,
         bound: &mut Bound<P>,
-    ) -> Option<Place>
+    ) -> End
         requires placed { ShowsPlaced (Shows L.node (L.table links.now) (root_of self.now)) objects.now }
         requires room { HasRoomWithin P.count bound.old }
         ensures border { (s : List Place) → Shows L.node (L.table links.now) (root_of self.now) s
@@ -87,13 +86,13 @@ impl<A: KeyAdapter> RBTree<A> {
             → LooksWithin P.order P.count bound.old bound.new s }
     {
         match bound {
-            Bound::Included(probe) => descend(links, self.root.get(), objects, probe, Side::Right)
-                .front
-                .get(),
-            Bound::Excluded(probe) => descend(links, self.root.get(), objects, probe, Side::Left)
-                .front
-                .get(),
-            Bound::Unbounded => self.last(links),
+            Bound::Included(probe) => {
+                descend(links, self.root.get(), objects, probe, Side::Right).front
+            }
+            Bound::Excluded(probe) => {
+                descend(links, self.root.get(), objects, probe, Side::Left).front
+            }
+            Bound::Unbounded => End::of(self.last(links)),
         }
     }
 }
