@@ -1,3 +1,4 @@
+pub mod AllDue
 pub mod CutShown
 pub mod Dealing
 pub mod Draining

@@ -4,16 +4,17 @@
 //! let mut timers = RBTree::new(ByDeadline);
 //! timer_queue::schedule(&mut timers, &mut links, &objects, timer)?;
 //! let due = timer_queue::take_due(&mut timers, &mut links, &objects, now); // that timer, if its deadline is at most `now`
+//! timer_queue::take_all_due(&mut timers, &mut links, &objects, now, &mut expired)?; // and all others that are due
 //! timer_queue::cancel(&mut timers, &mut links, other);
 //! ```
 
-ghost use Rattle.std.specs.Prelude.{◌≡◌, ◌++◌, ◌∷◌, [], ◌≤◌, ◌<◌, true, List, OnOk, OnErr, OnSome, IfErr, IfSome, IfNone};
+ghost use Rattle.std.specs.Prelude.{◌≡◌, ◌++◌, ◌∷◌, [], ◌≤◌, ◌<◌, true, List, OnOk, OnErr, OnSome, IfErr, IfSome, IfNone, vec_len, vec_capacity};
 ghost use Rattle.std.specs.List.{AllByRecursion};
 ghost use Rattle.ic_unsafe_ref.specs.declared.place.Place.{Place};
 ghost use Rattle.ic_unsafe_ref.specs.Objects.{is_placed};
 ghost use Rattle.ic_link_ops.specs.Sequences.{first, at_front};
 ghost use Rattle.ic_link_ops.specs.Tables.{IsCovered, KeepsBeside};
-ghost use Rattle.ic_link_ops.specs.LinkSteps.{acquires, releases};
+ghost use Rattle.ic_link_ops.specs.LinkSteps.{acquires, releases, releases_each};
 ghost use Rattle.ic_link_ops.specs.Edits.{Removes};
 ghost use Rattle.ic_link_ops.specs.Positions.{HasMember};
 ghost use Rattle.ic_link_ops.specs.RedBlackTree.{Shows};
@@ -21,13 +22,13 @@ ghost use Rattle.ic_rbtree.specs.Tree.{root_of};
 ghost use Rattle.ic_rbtree.specs.Borders.{if_passes};
 ghost use Rattle.ic_rbtree.specs.Ordered.{InsertsInOrder};
 ghost use Rattle.uses.specs.SortedObjects.{against, ShowsSorted, StaysSorted};
-ghost use Rattle.uses.specs.Timers.{deadline, deadline_at, is_due};
+ghost use Rattle.uses.specs.Timers.{deadline, deadline_at, is_due, handed_back, StandsFirst};
 
 use ic_link_ops::rbtree::RBTreeOps;
 use ic_link_ops::{AlreadyLinked, LinkOps};
 use ic_rbtree::{KeyAdapter, RBTree};
 use ic_unsafe_ref::{Objects, UnsafeRef};
-use std::alloc::Allocator;
+use std::alloc::{AllocFailed, Allocator};
 
 /// What waits for a deadline.
 #[derive(Copy, Clone, PartialEq, Eq, Debug)]
@@ -109,6 +110,35 @@ pub fn take_due<L: RBTreeOps, B: Allocator>(
         return None;
     }
     cursor.remove()
+}
+
+/// Takes all timers off that are due at `now`, the earliest first, and puts them behind those in `due`. O(k log n) for k of them.
+///
+/// It asks that the timers in the queue are placed and stand in the order of their deadlines. What was taken is unlinked then,
+/// and stays placed. It takes memory for `due` alone, and none where that has room. Where it has none left and can't grow, the
+/// timer that it had no room for comes back, unlinked as those in `due`, and the others wait still.
+pub fn take_all_due<L: RBTreeOps, B: Allocator, C: Allocator>(
+    timers: &mut RBTree<ByDeadline>,
+    links: &mut L,
+    objects: &Objects<Timer, B>,
+    now: u64,
+    due: &mut Vec<UnsafeRef<Timer>, C>,
+) -> Result<(), AllocFailed<UnsafeRef<Timer>>>
+    requires queue { ShowsSorted deadline (Shows L.node (L.table links.old) (root_of timers.old)) objects.now }
+    ensures queue { ShowsSorted deadline (Shows L.node (L.table links.new) (root_of timers.new)) objects.now }
+    ensures taken { (s : List Place) → Shows L.node (L.table links.old) (root_of timers.old) s → (taken rest : List Place)
+        × StandsFirst objects.now now taken rest s × (due.new.items ++ handed_back result ≡ due.old.items ++ taken)
+        × Shows L.node (L.table links.new) (root_of timers.new) rest × L.Does links.old links.new (releases_each taken) }
+    ensures none_due { (s : List Place) → Shows L.node (L.table links.new) (root_of timers.new) s
+        → OnOk result (AllByRecursion (λ p. now < deadline_at objects.now p) s) }
+    ensures full { OnErr result (vec_capacity due.old ≤ vec_len due.new) }
+    ensures frame { (s : List Place) → Shows L.node (L.table links.old) (root_of timers.old) s
+        → KeepsBeside (L.table links.old) (L.table links.new) s }
+{
+    while let Some(timer) = take_due(timers, links, objects, now) {
+        due.push(timer)?;
+    }
+    Ok(())
 }
 
 /// Takes a timer off before it is due: all others stay, in their order. O(log n), and it takes no memory.

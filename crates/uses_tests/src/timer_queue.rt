@@ -11,9 +11,11 @@ use ic_link_ops::AlreadyLinked;
 use ic_link_ops::rbtree::LinkOps;
 use ic_rbtree::RBTree;
 use ic_unsafe_ref::{Objects, Place, UnsafeRef};
+use std::alloc::Allocator;
 use std::process::Abort;
 use std::test::Fail;
-use uses::timer_queue::{ByDeadline, Timer, cancel, schedule, take_due};
+use test_support::rationed::Rationed;
+use uses::timer_queue::{ByDeadline, Timer, cancel, schedule, take_all_due, take_due};
 
 // Places a timer for each deadline, one behind the other.
 fn place_each(rt: &impl Abort, objects: &mut Objects<Timer>, deadlines: &[u64]) {
@@ -63,6 +65,26 @@ fn take_four(
     [one, two, three, four].map(|timer| timer.map(|timer| timer.place()))
 }
 
+// Takes all timers that are due at a time, and answers the one that there was no room for.
+fn take_all<A: Allocator>(
+    timers: &mut RBTree<ByDeadline>,
+    links: &mut LinkOps,
+    objects: &Objects<Timer>,
+    now: u64,
+    due: &mut Vec<UnsafeRef<Timer>, A>,
+) -> Option<Place>
+    requires queue { ShowsSorted deadline (PlainShows links.old (root_of timers.old)) objects.now }
+    ensures queue { ShowsSorted deadline (PlainShows links.new (root_of timers.new)) objects.now }
+{
+    let outcome = take_all_due(timers, links, objects, now, due);
+    outcome.err().map(|refused| refused.value.place())
+}
+
+// The first four places of those.
+fn first_four<A: Allocator>(due: &Vec<UnsafeRef<Timer>, A>) -> [Option<Place>; 4] {
+    [0, 1, 2, 3].map(|index| due.get(index).map(|timer| timer.place()))
+}
+
 // Cancels the timer at a place, if it is in the queue: whether it was.
 fn cancel_there(
     timers: &mut RBTree<ByDeadline>,
@@ -96,13 +118,14 @@ fn the_earliest_timer_is_taken_first(rt: HostRuntime) -> Result<(), Fail> {
     let place = Place::new(4).expect(&rt, "the index of a place");
     let was = cancel_there(&mut timers, &mut links, &objects, place);
     let is = cancel_there(&mut timers, &mut links, &objects, place);
-    assert!(rt; was && !is);
-    let found = take_four(
-        &mut timers,
-        &mut links,
-        &objects,
-        [29, 29, u64::MAX, u64::MAX],
-    );
-    same(&rt, &found, &[2, Place::COUNT, 0, Place::COUNT]);
+    schedule_each(&rt, &mut timers, &mut links, &objects, &[3, 1])?; // they stand as 3, 1, 2, 0
+    let mut due = Vec::new(rt.alloc());
+    let all_fit = take_all(&mut timers, &mut links, &objects, 29, &mut due);
+    same(&rt, &first_four(&due), &[3, 1, 2, Place::COUNT]);
+    let no_memory = Rationed::new(rt.alloc(), 0);
+    let mut none = Vec::new(&no_memory);
+    let back = take_all(&mut timers, &mut links, &objects, u64::MAX, &mut none);
+    same(&rt, &[all_fit, back], &[Place::COUNT, 0]);
+    assert!(rt; was && !is && none.is_empty() && timers.is_empty());
     Ok(())
 }

@@ -1,0 +1,93 @@
+-- Timers that are due are taken off a queue, one after another.
+use Rattle.std.proofs.Common.{◌≡◌, ℕ, ◌≤◌, ◌<◌, Bool, true, false, cond, Option, Some, None, List, [], ◌∷◌, ◌++◌, length, drop, refl, sym, ap, ◌∙◌, subst, arith, append_assoc, append-nil, leb-true, true≢false}
+use Rattle.std.specs.List.{AllByRecursion}
+use Rattle.ic_unsafe_ref.specs.declared.place.Place.{Place}
+use Rattle.ic_unsafe_ref.specs.Objects.{Objects, object_at}
+use Rattle.ic_link_ops.specs.Sequences.{IsAbsent, first, at_front}
+use Rattle.ic_link_ops.specs.Tables.{Table, KeepsBeside, IsCovered}
+use Rattle.ic_link_ops.specs.LinkSteps.{LinkStep, releases, releases_each}
+use Rattle.ic_link_ops.specs.Edits.{Removes}
+use Rattle.ic_link_ops.specs.RedBlackTree.{Node, Shows}
+use Rattle.ic_link_ops.proofs.Covering.{frames_join}
+use Rattle.ic_link_ops.proofs.SequenceLemmas.{absent_right, first_is, none_not, some_same}
+use Rattle.ic_link_ops.proofs.StepLemmas.{releases_append}
+use Rattle.ic_rbtree.specs.Borders.{if_passes}
+use Rattle.ic_rbtree.specs.Members.{members}
+use Rattle.ic_rbtree.proofs.Members.{members_shown}
+use Rattle.uses.specs.SortedObjects.{key_or}
+use Rattle.uses.specs.Timers.{deadline, deadline_at, due, is_due, StandsFirst}
+use Rattle.uses.specs.declared.timer_queue.Timer.{Timer}
+
+-- what passes a test is there, and passes it
+passed : (test : Place → Bool) (o : Option Place) (p : Place) → Some p ≡ if_passes test o → (Some p ≡ o) × test p ≡ true
+passed test None p e = absurd (none_not p (sym e))
+passed test (Some q) p e = by (test q) refl where
+  by : (b : Bool) → test q ≡ b → (Some p ≡ Some q) × test p ≡ true
+  by true is = let same = e ∙ ap (λ b. cond b (Some q) None) is in (same, ap test (some_same same) ∙ is)
+  by false is = absurd (none_not p (sym (e ∙ ap (λ b. cond b (Some q) None) is)))
+
+due_is : (now : ℕ) (o : Option Timer) → due now o ≡ true → key_or deadline o ≤ now
+due_is now None e = absurd (true≢false (sym e))
+due_is now (Some timer) e = leb-true (deadline timer) now e
+
+one_more : (P : Place → Type 0) (s : List Place) (p : Place) → AllByRecursion P s → P p → AllByRecursion P (s ++ p ∷ [])
+one_more P [] p all here = (here, tt)
+one_more P (x ∷ s) p all here = (all.0, one_more P s p all.1 here)
+
+module _ {L E : Type 0} (n : E → Node) (table : L → Table E) (Does : L → L → List LinkStep → Type 0) (objects : Objects Timer) (now : ℕ) where
+  -- SOME THAT ARE DUE were taken off the front of s, which `start` showed, and stand behind `items` now; the rest is shown
+  pub record Takes (start : L) (s items : List Place) (links : L) (root : Option Place) (held : List Place) : Type 0 where
+    pub taken : List Place
+    pub rest : List Place
+    pub stood : StandsFirst objects now taken rest s
+    pub held_is : held ≡ items ++ taken
+    pub shown : Shows n (table links) root rest
+    pub steps : Does start links (releases_each taken)
+    pub frame : KeepsBeside (table start) (table links) s
+
+module _ {L E : Type 0} {n : E → Node} {table : L → Table E} {Does : L → L → List LinkStep → Type 0} {objects : Objects Timer} {now : ℕ} {start : L} {s items : List Place} where
+  -- at first none were taken,
+  pub takes_none : {root : Option Place} → Does start start [] → Shows n (table start) root s → Takes n table Does objects now start s items start root items
+  takes_none nothing shown = record {
+    taken = [];
+    rest = s;
+    stood = record { same = refl; are_due = tt };
+    held_is = sym (append-nil items);
+    shown = shown;
+    steps = nothing;
+    frame = record { extent = refl; others = λ q out. refl };
+  }
+
+  module _ {links : L} {root : Option Place} {held : List Place} (k : Takes n table Does objects now start s items links root held) {p : Place} (is : Some p ≡ if_passes (is_due objects now) (first k.rest)) where
+    -- the first of the rest is due,
+    pub next_due : k.rest ≡ p ∷ drop 1 k.rest
+    next_due = first_is k.rest (passed (is_due objects now) (first k.rest) p is).0
+
+    -- and is taken too
+    pub takes_one : ((a b c : L) (u v : List LinkStep) → Does a b u → Does b c v → Does a c (u ++ v)) → {new : L} {new_root : Option Place} {new_held : List Place}
+        → new_held ≡ held ++ p ∷ [] → Removes (Shows n) (table links) (table new) new_root (at_front k.rest) → Does links new (releases p ∷ []) → Takes n table Does objects now start s items new new_root new_held
+    takes_one on {new} held_is removes step =
+        let here : deadline_at objects p ≤ now = due_is now (object_at objects p) (passed (is_due objects now) (first k.rest) p is).1 in
+        record {
+          taken = k.taken ++ p ∷ [];
+          rest = drop 1 k.rest;
+          stood = record {
+            same = append_assoc k.taken (p ∷ []) (drop 1 k.rest) ∙ ap (λ (x : List Place). k.taken ++ x) (sym next_due) ∙ k.stood.same;
+            are_due = one_more (λ q. deadline_at objects q ≤ now) k.taken p k.stood.are_due here;
+          };
+          held_is = held_is ∙ ap (λ (x : List Place). x ++ p ∷ []) k.held_is ∙ append_assoc items k.taken (p ∷ []);
+          shown = removes.shows;
+          steps = subst (Does start new) (sym (releases_append k.taken (p ∷ []))) (on start links new _ _ k.steps step);
+          frame = frames_join k.frame removes.frame (λ q out. absent_right q k.taken k.rest (subst (IsAbsent q) (sym k.stood.same) out));
+        }
+
+    -- so that fewer are left
+    pub fewer : ((l : L) (q : Place) → (n ((table l).entry q)).linked ≡ true → IsCovered (table l) q) → {new : L} {new_root : Option Place}
+        → Removes (Shows n) (table links) (table new) new_root (at_front k.rest) → length (members n (table new) new_root) < length (members n (table links) root)
+    fewer covered {new} {new_root} removes =
+        omega (
+          arith,
+          ap length (members_shown n (table new) (covered new) new_root (drop 1 k.rest) removes.shows),
+          ap length (members_shown n (table links) (covered links) root k.rest k.shown),
+          ap length next_due,
+        )

@@ -1,0 +1,72 @@
+use Rattle.std.proofs.Common.{◌∙◌, refl, sym, ap, arith, List, ◌++◌, append-nil, subst}
+use Rattle.ic_unsafe_ref.specs.declared.place.Place.{Place}
+use Rattle.ic_link_ops.proofs.ShownTrees.{one_sequence}
+use Rattle.uses.specs.Timers.{handed_back, StandsFirst}
+use Rattle.uses.proofs.Outcomes.{on_err, room_refused}
+use Rattle.uses.proofs.AllDue.{takes_none, takes_one, fewer}
+use Rattle.uses.proofs.timer_queue.take_all_due.Goals as goal
+
+pub loop-timer-init : goal.loop-timer-init
+loop-timer-init g c =
+    let p = c.requires.queue.placed in
+    record { queue = c.requires.queue; shown = (p.members, p.shown); takes = takes_none (g.met.L.LinkOps.does_nothing _) p.shown; room = omega arith }
+
+pub take_due-requires : goal.take_due-requires
+take_due-requires g c = record { queue = c.loop-timer.invariant.queue }
+
+pub loop-timer-smaller : goal.loop-timer-smaller
+loop-timer-smaller g c =
+    let k = c.loop-timer.invariant.takes in
+    let e = c.in-Some.ensures in
+    fewer k (e.due k.rest k.shown) (λ l q h. g.met.L.LinkOps.linked_is_covered l q (sym (g.met.L.RBTreeOps.linked_alike _) ∙ h)) (e.taken k.rest k.shown)
+
+pub loop-timer-preserved : goal.loop-timer-preserved
+loop-timer-preserved g c =
+    let i = c.loop-timer.invariant in
+    let k = i.takes in
+    let e = c.in-Some.ensures in
+    record {
+      queue = c.take_due.ensures.queue;
+      shown = i.shown;
+      takes = takes_one k (e.due k.rest k.shown) g.met.L.LinkOps.does_on {new_held = c.push.new.self.items} c.in_ok-push.ensures.items (e.taken k.rest k.shown) e.released;
+      room = omega (arith, i.room, c.push.ensures.capacity);
+    }
+
+pub returns-in_err-push-clause-taken : goal.returns-in_err-push-clause-taken
+returns-in_err-push-clause-taken g c s shown =
+    let i = c.loop-timer.invariant in
+    let k = i.takes in
+    let e = c.in-Some.ensures in
+    let t = takes_one k (e.due k.rest k.shown) g.met.L.LinkOps.does_on refl (e.taken k.rest k.shown) e.released in
+    let back = room_refused c.from_residual.result c.from_residual.ensures.1 c.in_err-push.ensures.value_returned in
+    let held = ap (λ (x : List Place). x ++ handed_back c.from_residual.result) c.in_err-push.ensures.items ∙ ap (λ (x : List Place). c.loop-timer.due.items ++ x) back ∙ t.held_is in
+    let stood = subst (StandsFirst c.args.objects.now c.args.now t.taken t.rest) (one_sequence i.shown.1 shown) t.stood in
+    (t.taken, t.rest, stood, held, t.shown, t.steps)
+
+pub returns-in_err-push-clause-full : goal.returns-in_err-push-clause-full
+returns-in_err-push-clause-full g c = on_err c.from_residual.result (omega (arith, c.loop-timer.invariant.room, c.in_err-push.ensures.full, c.in_err-push.ensures.len))
+
+pub returns-in_err-push-clause-frame : goal.returns-in_err-push-clause-frame
+returns-in_err-push-clause-frame g c s shown =
+    let i = c.loop-timer.invariant in
+    let k = i.takes in
+    let e = c.in-Some.ensures in
+    let frame = (takes_one k (e.due k.rest k.shown) g.met.L.LinkOps.does_on refl (e.taken k.rest k.shown) e.released).frame in
+    rw (one_sequence i.shown.1 shown) at frame
+
+pub returns-clause-taken : goal.returns-clause-taken
+returns-clause-taken g c s shown =
+    let i = c.loop-timer.invariant in
+    let k = i.takes in
+    let e = c.in_default.ensures.unchanged in
+    let held = append-nil c.loop-timer.due.items ∙ k.held_is in
+    let stood = subst (StandsFirst c.args.objects.now c.args.now k.taken k.rest) (one_sequence i.shown.1 shown) k.stood in
+    let left = rw (← e.0, ← e.1) at k.shown in
+    let steps = rw (← e.1) at k.steps in
+    (k.taken, k.rest, stood, held, left, steps)
+
+pub returns-clause-frame : goal.returns-clause-frame
+returns-clause-frame g c s shown =
+    let i = c.loop-timer.invariant in
+    let frame = i.takes.frame in
+    rw (one_sequence i.shown.1 shown, ← c.in_default.ensures.unchanged.1) at frame

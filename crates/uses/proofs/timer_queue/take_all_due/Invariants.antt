@@ -1,0 +1,20 @@
+use Rattle.std.proofs.Common.{◌≤◌, List, length, vec_capacity}
+use Rattle.ic_unsafe_ref.specs.declared.place.Place.{Place}
+use Rattle.ic_link_ops.specs.RedBlackTree.{Shows}
+use Rattle.ic_rbtree.specs.Members.{members}
+use Rattle.ic_rbtree.specs.Tree.{root_of}
+use Rattle.uses.specs.SortedObjects.{ShowsSorted}
+use Rattle.uses.specs.Timers.{deadline}
+use Rattle.uses.proofs.AllDue.{Takes}
+use Rattle.uses.proofs.timer_queue.take_all_due.Given as goal
+
+abbrev pub invariant-loop-timer : goal.invariant-loop-timer
+invariant-loop-timer g l = record {
+  queue : ShowsSorted deadline (Shows g.L.RBTreeOps.node (g.L.LinkOps.table l.links) (root_of l.timers)) l.objects;
+  shown : (s : List Place) × Shows g.L.RBTreeOps.node (g.L.LinkOps.table l.fn.links) (root_of l.fn.timers) s;
+  takes : Takes g.L.RBTreeOps.node g.L.LinkOps.table g.L.LinkOps.Does l.objects l.now l.fn.links shown.0 l.fn.due.items l.links (root_of l.timers) l.due.items;
+  room : vec_capacity l.fn.due ≤ vec_capacity l.due;
+}
+
+abbrev pub decreases-loop-timer : goal.decreases-loop-timer
+decreases-loop-timer g l = length (members g.L.RBTreeOps.node (g.L.LinkOps.table l.links) (root_of l.timers))
