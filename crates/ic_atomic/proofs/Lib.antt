@@ -1,3 +1,5 @@
+pub mod GatheredPlaces
+pub mod AtomicTables
 pub mod Lists
 pub mod LastChangeLemmas
 pub mod RecordLemmas

@@ -17,12 +17,22 @@
 //! [`Core`] is the same as a plain value of one thread: what it answers is what the claims answer to the same steps.
 #![tactic(auto)]
 
+mod atomic_link_ops;
 mod claims;
+mod gathering;
 mod hand;
+pub mod linked_list;
 mod machine;
+mod plain_link_ops;
+pub mod rbtree;
 mod rule;
+pub mod singly_linked_list;
 mod step;
+pub mod xor_linked_list;
 
+pub use atomic_link_ops::AtomicLinkOps;
 pub use claims::{Claims, ClaimsError, Holder};
+pub use gathering::{Gate, gather};
 pub use machine::Core;
+pub use plain_link_ops::PlainLinkOps;
 pub use step::{Event, Record, Step};

@@ -1,10 +1,12 @@
-//! Worked rows of the claims and of their plain value, and claims by several threads.
+//! Worked rows of the claims and of their plain value, claims by several threads, and links over claims.
 #![tactic(auto)]
 
 #[cfg(test)]
 mod cores;
 #[cfg(test)]
 mod hands;
+#[cfg(test)]
+mod links;
 #[cfg(test)]
 mod makings;
 #[cfg(test)]

@@ -1,0 +1,43 @@
+-- What clauses see of a table whose places are claimed.
+use Rattle.std.specs.Prelude.{◌≡◌, List, [], ◌∷◌, ◌++◌, map}
+use Rattle.ic_unsafe_ref.specs.declared.place.Place.{Place}
+use Rattle.ic_link_ops.specs.declared.link_ops.LinkOps.{Ghosts}
+use Rattle.ic_link_ops.specs.LinkSteps.{LinkStep, acquires, releases}
+use Rattle.ic_atomic.specs.declared.step.Step.TheVariants.{Claim, Release}
+use Rattle.ic_atomic.specs.declared.step.Event.{Event}
+use Rattle.ic_atomic.specs.declared.claims.Claims.{Claims}
+use Rattle.ic_atomic.specs.declared.claims.Holder.{Holder}
+use Rattle.ic_atomic.specs.declared.atomic_link_ops.AtomicLinkOps.{AtomicLinkOps}
+use Rattle.ic_atomic.specs.Holders.{record_of}
+use Rattle.ic_atomic.specs.Records.{event}
+
+-- the step of its holder by which a table links a place, or unlinks it
+abbrev pub step_of : LinkStep → Event
+step_of (acquires p) = event (Claim p) 0
+step_of (releases p) = event (Release p) 1
+
+module _ {L A E : Type 0} {g : Ghosts L E} where
+  -- the claims, the holder with the record of its steps, and the table in which it keeps what it holds
+  abbrev pub claims_of : AtomicLinkOps L A E g → Claims A
+  claims_of t = t.claims.now
+
+  abbrev pub holder_of : AtomicLinkOps L A E g → Holder
+  holder_of t = t.holder
+
+  abbrev pub record_in : AtomicLinkOps L A E g → List Event
+  record_in t = record_of t.holder
+
+  abbrev pub links_of : AtomicLinkOps L A E g → L
+  links_of t = t.links
+
+  -- THE RECORD GAINS a claim that found 0 for each link, and a release for each that is given up, in this order, and nothing else
+  pub record Gains (Does : L → L → List LinkStep → Type 0) (old new : AtomicLinkOps L A E g) (steps : List LinkStep) : Type 0 where
+    pub claims : claims_of new ≡ claims_of old
+    pub gained : record_in new ≡ record_in old ++ map step_of steps
+    pub did : Does (links_of old) (links_of new) steps
+
+  -- THE LINK WAS REFUSED: the record gains a claim that found 1, and nothing else has changed
+  pub record Fails (old new : AtomicLinkOps L A E g) (p : Place) : Type 0 where
+    pub claims : claims_of new ≡ claims_of old
+    pub gained : record_in new ≡ record_in old ++ event (Claim p) 1 ∷ []
+    pub links : links_of new ≡ links_of old

@@ -1,0 +1,18 @@
+-- Claims of several places by one holder, and which of them it got.
+use Rattle.std.specs.Prelude.{Bool, if◌then◌else◌, List, [], ◌∷◌}
+use Rattle.ic_unsafe_ref.specs.declared.place.Place.{Place}
+use Rattle.ic_atomic.specs.declared.step.Step.TheVariants.{Claim}
+use Rattle.ic_atomic.specs.declared.step.Event.{Event}
+use Rattle.ic_atomic.specs.Records.{event}
+
+-- one claim of each place, in order: those that it got found 0, and the others 1
+abbrev pub claims_of_each : List Place → List Bool → List Event
+claims_of_each [] got = []
+claims_of_each (p ∷ ps) [] = []
+claims_of_each (p ∷ ps) (b ∷ got) = event (Claim p) (if b then 0 else 1) ∷ claims_of_each ps got
+
+-- the places that it got
+abbrev pub chosen : List Place → List Bool → List Place
+chosen [] got = []
+chosen (p ∷ ps) [] = []
+chosen (p ∷ ps) (b ∷ got) = if b then p ∷ chosen ps got else chosen ps got

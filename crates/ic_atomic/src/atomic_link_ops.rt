@@ -1,0 +1,177 @@
+//! Tables of links whose places are claimed: for objects that threads share.
+//!
+//! ```text
+//! let mut links = linked_list::AtomicLinkOps::new(&claims, holder, table);
+//! list.push_back(&mut links, object)?; // Err where any party holds the object's place
+//! links.holds(place) // whether this party does
+//! let (holder, table) = links.into_parts();
+//! ```
+
+ghost use Rattle.std.specs.Prelude.{◌≡◌, ◌≤◌, List, [], ◌∷◌, ◌++◌, true, false, if◌then◌else◌};
+ghost use Rattle.ic_unsafe_ref.specs.declared.place.Place.{Place};
+ghost use Rattle.ic_link_ops.specs.Tables.{IsCovered, IsUnlinked, ChangesOnly};
+ghost use Rattle.ic_link_ops.specs.LinkSteps.{releases};
+ghost use Rattle.ic_atomic.specs.Records.{event, holds};
+ghost use Rattle.ic_atomic.specs.Holders.{places_of, holders_of, IsSeatOf, hand_of, hand_with, record_of, IsOf};
+
+use crate::claims::{Claims, Holder};
+use crate::plain_link_ops::PlainLinkOps;
+use ic_link_ops::LinkOps;
+use ic_unsafe_ref::Place;
+use std::alloc::{Allocator, Global};
+
+/// A table whose linked places are those that its holder holds.
+///
+/// It refuses a link exactly if some holder, living or dropped, holds the place. Each link is one claim of its holder, and
+/// each that is given up one release; what it keeps at a place nobody else reads or writes, so that no call waits. A table
+/// that is dropped leaves its places held.
+#[derive(Drop)]
+pub struct AtomicLinkOps<'c, L: PlainLinkOps, A: Allocator = Global> {
+    claims: &'c Claims<A>,
+    holder: Holder,
+    pub(crate) links: L,
+    ghost table: { IsSeatOf claims.now holder.seat },
+    ghost hand: { hand_of holder.seat ≡ hand_with claims.now (record_of holder ∷ []) },
+    ghost covered: { (L.LinkOps.table links).extent.places ≤ places_of claims.now },
+    ghost held: { (p : Place) → L.LinkOps.linked ((L.LinkOps.table links).entry p) ≡ holds p (record_of holder) },
+}
+
+impl<'c, L: PlainLinkOps, A: Allocator> AtomicLinkOps<'c, L, A> {
+    ghost use Rattle.ic_atomic.specs.AtomicLinks.{claims_of, holder_of, record_in, links_of, Gains};
+    ghost use Rattle.ic_atomic.specs.OneList.{AtOneMoment};
+    ghost use Rattle.ic_atomic.specs.declared.step.Step.TheVariants.{Look};
+
+    /// The table, as one whose places its holder claims.
+    ///
+    /// It asks that the holder was made with the claims and holds nothing, and that the table links nothing and covers no
+    /// more than the claims' places. O(1).
+    pub fn new(claims: &'c Claims<A>, holder: Holder, links: L) -> AtomicLinkOps<'c, L, A>
+        requires made { IsOf claims.now holder }
+        requires covered { (L.table links).extent.places ≤ places_of claims.now }
+        requires holds_nothing { (p : Place) → holds p (record_of holder) ≡ false }
+        requires links_nothing { (p : Place) → IsUnlinked L.linked (L.table links) p }
+        ensures claims { claims_of result ≡ claims.now }
+        ensures holder { holder_of result ≡ holder }
+        ensures links { links_of result ≡ links }
+    {
+        AtomicLinkOps {
+            claims,
+            holder,
+            links,
+        }
+    }
+
+    /// How many places are covered: those with a smaller index.
+    #[inline]
+    pub fn covers(&self) -> usize
+        ensures { result ≡ (L.table (links_of self.now)).extent.places }
+    {
+        self.links.covers()
+    }
+
+    /// Whether this table's holder holds `place`: whether it is linked here. It asks that the place is covered. O(1).
+    #[inline]
+    pub fn holds(&self, place: Place) -> bool
+        requires covered { IsCovered (L.table (links_of self.now)) place }
+        ensures linked { result ≡ L.linked ((L.table (links_of self.now)).entry place) }
+        ensures held { result ≡ holds place (record_in self.now) }
+    {
+        self.links.is_linked(place)
+    }
+
+    /// Whether anybody holds `place`, this holder or another, living or dropped: a look of the holder.
+    ///
+    /// It asks that the place is covered. The answer may be out of date when it comes, unless this holder holds the place.
+    /// One load, O(1), which waits for nobody.
+    #[inline]
+    pub fn is_linked(&mut self, place: Place) -> bool
+        requires covered { IsCovered (L.table (links_of self.old)) place }
+        ensures step { record_in self.new ≡ record_in self.old ++ event (Look place) (if result then 1 else 0) ∷ [] }
+        ensures moment { AtOneMoment (holders_of (claims_of self.old)) (Look place) (if result then 1 else 0)
+            (record_in self.old) (record_in self.new) }
+        ensures claims { claims_of self.new ≡ claims_of self.old }
+        ensures links { links_of self.new ≡ links_of self.old }
+    {
+        let AtomicLinkOps {
+            claims,
+            holder,
+            links: _,
+        } = self;
+        claims.look(holder, place)
+    }
+
+    /// Unlinks `place`, which this holder holds, and gives it up: by one release.
+    ///
+    /// It asks that the holder holds the place. Every other entry stays, so each collection of which the place is no member
+    /// keeps its sequence. O(1).
+    #[inline]
+    pub fn force_unlink(&mut self, place: Place)
+        requires held { holds place (record_in self.old) ≡ true }
+        ensures released { Gains L.Does self.old self.new (releases place ∷ []) }
+        ensures frame { ChangesOnly (L.table (links_of self.old)) (L.table (links_of self.new)) place }
+    {
+        self.release_link(place);
+    }
+
+    /// The holder, with its record, and the table, as they are: what the holder holds is linked in the table still. O(1).
+    pub fn into_parts(self) -> (Holder, L)
+        ensures made { IsOf (claims_of self.entry) result.0 }
+        ensures holder { result.0 ≡ holder_of self.entry }
+        ensures links { result.1 ≡ links_of self.entry }
+        ensures held { (p : Place) → L.linked ((L.table result.1).entry p) ≡ holds p (record_of result.0) }
+    {
+        let AtomicLinkOps {
+            claims: _,
+            holder,
+            links,
+        } = self;
+        (holder, links)
+    }
+}
+
+impl<L: PlainLinkOps, A: Allocator> LinkOps for AtomicLinkOps<'_, L, A> {
+    ghost use Rattle.std.proofs.Common.{ap};
+    ghost use Rattle.ic_atomic.specs.AtomicLinks.{links_of, Gains, Fails};
+    ghost use Rattle.ic_atomic.specs.AtomicLinkLaws.{gains_nothing, gains_on};
+
+    type Entry = L::Entry;
+
+    ghost table = { λ t. L.table (links_of t) };
+
+    ghost linked = { L.linked };
+
+    ghost Does = { Gains L.Does };
+
+    ghost Refused = { Fails };
+
+    #[inline]
+    fn acquire_link(&mut self, place: Place) -> bool {
+        let AtomicLinkOps {
+            claims,
+            holder,
+            links,
+        } = self;
+        claims.claim(holder, place) && links.acquire_link(place)
+    }
+
+    #[inline]
+    fn release_link(&mut self, place: Place) {
+        let AtomicLinkOps {
+            claims,
+            holder,
+            links,
+        } = self;
+        links.release_link(place);
+        claims.release(holder, place);
+    }
+
+    ghost linked_is_covered = { λ t p h. L.linked_is_covered (links_of t) p h };
+
+    ghost does_nothing = { λ t. gains_nothing L.Does t (L.does_nothing (links_of t)) };
+
+    ghost does_on = { λ a b c s t h k. gains_on L.Does L.does_on a b c s t h k };
+
+    ghost does_replay = { λ old new s h. L.does_replay (links_of old) (links_of new) s h.did };
+
+    ghost refused_keeps = { λ old new p h. ap L.table h.links };
+}

@@ -1,0 +1,65 @@
+//! Places that several parties are offered, each of which one of them gets.
+//!
+//! ```text
+//! // in each thread, with links and a list of its own
+//! let got = gather(1, &offered, &mut list, &mut links, &gate); // how many of the offered objects are in its list
+//! ```
+
+ghost use Rattle.std.specs.Prelude.{◌≡◌, ◌++◌, List, Bool, length, All};
+ghost use Rattle.ic_unsafe_ref.specs.declared.place.Place.{Place};
+ghost use Rattle.ic_link_ops.specs.LinkedList.{Shows, ShowsSome};
+ghost use Rattle.ic_link_ops.specs.Tables.{IsCovered, KeepsBeside};
+ghost use Rattle.ic_atomic.specs.AtomicLinks.{claims_of, record_in, links_of};
+ghost use Rattle.ic_atomic.specs.Gathering.{claims_of_each, chosen};
+
+use crate::AtomicLinkOps;
+use crate::plain_link_ops::PlainLinkOps;
+use ic_link_ops::linked_list::LinkedListOps;
+use ic_linked_list::LinkedList;
+use ic_unsafe_ref::UnsafeRef;
+use std::alloc::Allocator;
+
+/// What is told how far a worker has come, and may hold it up there.
+pub trait Gate {
+    /// The worker of this number has had so many answers.
+    fn passed(&self, worker: usize, answered: usize);
+}
+
+/// Puts each offered object whose place nobody holds at the back of this party's list, and answers how many it put there.
+///
+/// It asks that the offered places are covered, and that the table shows a sequence for the list. It claims each place once,
+/// in the order in which they are offered; what some party holds already, also this one, stays where it is. The gate is told
+/// 0 before the first claim, and i after the i-th. O(offered), no memory, and it waits for nobody but the gate.
+pub fn gather<T, L: PlainLinkOps + LinkedListOps, A: Allocator, G: Gate>(
+    worker: usize,
+    offered: &[UnsafeRef<T>],
+    list: &mut LinkedList<T>,
+    links: &mut AtomicLinkOps<'_, L, A>,
+    gate: &G,
+) -> usize
+    requires covered { All (IsCovered (L.table (links_of links.old))) offered.now }
+    requires shown { ShowsSome L.neighbors (L.table (links_of links.old)) list.old }
+    ensures gathered { (got : List Bool) × (length got ≡ length offered.now)
+        × (record_in links.new ≡ record_in links.old ++ claims_of_each offered.now got)
+        × (result ≡ length (chosen offered.now got))
+        × ((s : List Place) → Shows L.neighbors (L.table (links_of links.old)) list.old s
+        → Shows L.neighbors (L.table (links_of links.new)) list.new (s ++ chosen offered.now got)) }
+    ensures claims { claims_of links.new ≡ claims_of links.old }
+    ensures frame { (s : List Place) → Shows L.neighbors (L.table (links_of links.old)) list.old s
+        → KeepsBeside (L.table (links_of links.old)) (L.table (links_of links.new)) (offered.now ++ s) }
+{
+    gate.passed(worker, 0);
+    let mut pushed = 0;
+    let mut answered = 0;
+    for object in offered {
+        if list
+            .push_back(links, UnsafeRef::new(object.place()))
+            .is_ok()
+        {
+            pushed += 1;
+        }
+        answered += 1;
+        gate.passed(worker, answered);
+    }
+    pushed
+}
