@@ -9,9 +9,11 @@
 //! ```
 #![tactic(auto)]
 
-ghost use Rattle.std.specs.Prelude.{◌≤◌};
+ghost use Rattle.std.specs.Prelude.{◌≡◌, ◌≤◌, [], IfSome};
+ghost use Rattle.ic_atomic.specs.Holders.{record_of, IsOf};
 ghost use Rattle.ic_link_ops.specs.DoublyEntries.{PlainShowsSome};
 
+mod claimed;
 mod keyed;
 mod loops;
 mod measured;
@@ -20,6 +22,9 @@ mod one_word;
 mod order;
 mod trees;
 
+use claimed::{claim_and_release, exchange_and_store, fill_claimed, turn_claimed};
+use ic_atomic::linked_list::AtomicLinkOps;
+use ic_atomic::{Claims, Holder};
 use ic_link_ops::linked_list::LinkOps;
 use ic_link_ops::rbtree::RBTreeOps;
 use ic_link_ops::{LentTable, rbtree, singly_linked_list, xor_linked_list};
@@ -35,6 +40,7 @@ use objects::fill_placed;
 use one_word::{filled_singly, filled_xor, turn_singly, turn_xor, walk_singly, walk_xor};
 use std::alloc::Global;
 use std::rt::Clock;
+use std::sync::atomic::AtomicU64;
 use std::time::Instant;
 use std::{env, io};
 use trees::{ByValue, filled_tree, take_off_all, turn_tree, walk_tree};
@@ -340,6 +346,76 @@ fn one_keyed_tree(
     by_keys_lent(rt, links.lend(), &objects, times)
 }
 
+// Pairs of a claim and a release, and the same steps on bare words, so many of each.
+fn claims_alone(
+    rt: &(impl Print + Eprint + Clock),
+    alloc: Global,
+    claims: &Claims,
+    holder: &mut Holder,
+    times: u64,
+) -> io::Result<()>
+    requires made { IsOf claims.now holder.old }
+{
+    let start = Instant::now(rt)?;
+    let end = claim_and_release(claims, holder, times as usize);
+    report(rt, "claim and release", end, start, times)?;
+
+    let mut words = Vec::new(alloc);
+    for _word in 0..1_000 {
+        if words.push(AtomicU64::new(0)).is_err() {
+            return eprintln!(rt; "no memory for the words");
+        }
+    }
+    let start = Instant::now(rt)?;
+    let end = exchange_and_store(&words, times as usize);
+    report(rt, "the same on bare words", end, start, times)
+}
+
+// Pairs of a pop and a push over a plain table, and over one whose places are claimed, so many of each.
+fn claimed_list(
+    rt: &(impl Print + Eprint + Clock),
+    alloc: Global,
+    claims: &Claims,
+    holder: Holder,
+    times: u64,
+) -> io::Result<()>
+    requires made { IsOf claims.now holder }
+    requires fresh { record_of holder ≡ [] }
+{
+    let (mut plain, mut table) = (LinkOps::new(alloc), LinkOps::new(alloc));
+    let members = claims.places();
+    if plain.cover(members).is_err() || table.cover(members).is_err() {
+        return eprintln!(rt; "no memory for {members} members");
+    }
+    let mut list = LinkedList::new();
+    fill(&mut list, &mut plain, members, 1);
+    let start = Instant::now(rt)?;
+    turn(&mut list, &mut plain, times);
+    let end = list.front(&plain).get_ptr();
+    report(rt, "push_back and pop_front", end, start, times)?;
+
+    let mut links = AtomicLinkOps::new(claims, holder, table);
+    let mut list = LinkedList::new();
+    fill_claimed(&mut list, &mut links, members);
+    let start = Instant::now(rt)?;
+    turn_claimed(&mut list, &mut links, times);
+    let end = list.front(&links).get_ptr();
+    report(rt, "the same, claimed", end, start, times)
+}
+
+// Claims of a thousand places, and a list over them.
+fn over_claims(rt: &(impl Print + Eprint + Clock), alloc: Global, times: u64) -> io::Result<()> {
+    let Ok((claims, mut holders)) = Claims::new(alloc, 1_000, 2) else {
+        return eprintln!(rt; "no memory for the claims");
+    };
+    let (Some(mut first), Some(second)) = (holders.pop(), holders.pop()) else {
+        return eprintln!(rt; "no holders");
+    };
+    println!(rt; "1000 places")?;
+    claims_alone(rt, alloc, &claims, &mut first, times)?;
+    claimed_list(rt, alloc, &claims, second, times)
+}
+
 fn main(rt: HostRuntime) -> io::Result<()> {
     let words: Vec<String> = env::args(&rt)?.collect(rt.alloc())?;
     let times = number(words.get(1), 100_001);
@@ -367,5 +443,9 @@ fn main(rt: HostRuntime) -> io::Result<()> {
         one_keyed_tree(&rt, rt.alloc(), members, times)?;
         eprintln!(rt; "|")?;
     }
+    eprintln!(rt; "| claim and release | bare words | pair | pair, claimed |")?;
+    eprintln!(rt; "|---|---|---|---|")?;
+    over_claims(&rt, rt.alloc(), times)?;
+    eprintln!(rt; "|")?;
     Ok(())
 }

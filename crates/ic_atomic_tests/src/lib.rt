@@ -6,9 +6,13 @@ mod cores;
 #[cfg(test)]
 mod hands;
 #[cfg(test)]
+mod kinds;
+#[cfg(test)]
 mod links;
 #[cfg(test)]
 mod makings;
+#[cfg(test)]
+mod parties;
 #[cfg(test)]
 mod runs;
 #[cfg(test)]

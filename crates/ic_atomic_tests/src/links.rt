@@ -26,7 +26,7 @@ impl Gate for Open {
 }
 
 // The last of these holders, none of which has made a step.
-fn next_holder(claims: &Claims, holders: &mut Vec<Holder>) -> Option<Holder>
+pub(crate) fn next_holder(claims: &Claims, holders: &mut Vec<Holder>) -> Option<Holder>
     requires fresh { All (λ h. IsOf claims.now h × (record_of h ≡ [])) holders.old.items }
     ensures fresh { All (λ h. IsOf claims.now h × (record_of h ≡ [])) holders.new.items }
     ensures holder { IfSome result (λ h. IsOf claims.now h × (record_of h ≡ [])) }

@@ -7,6 +7,8 @@ use std::env;
 use std::io::{self, BufReader, BufWriter, ErrorKind};
 use std::process::ExitCode;
 use std::rt::Env;
+use std::sync::Wait;
+use std::thread::Threads;
 
 /// The arguments after the program's name. Where one is not UTF-8, a single empty word stands for them all.
 fn arguments(rt: &(impl Env + AllocGlobal)) -> io::Result<Vec<String>> {
@@ -20,7 +22,10 @@ fn arguments(rt: &(impl Env + AllocGlobal)) -> io::Result<Vec<String>> {
 }
 
 /// Runs the program over the standard streams, and answers its status.
-fn run(rt: &(impl Env + Input + Print + AllocGlobal), alloc: Global) -> io::Result<u8> {
+fn run(
+    rt: &(impl Env + Input + Print + AllocGlobal + Threads + Wait + Sync),
+    alloc: Global,
+) -> io::Result<u8> {
     let words = arguments(rt)?;
     let mut reader = BufReader::new(alloc, rt.reader())?;
     let mut writer = BufWriter::new(alloc, io::writer(rt))?;

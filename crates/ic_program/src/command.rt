@@ -72,7 +72,7 @@ fn index(word: &str) -> Option<usize>
 
 // The value of 1 to 20 decimal digits, where it is below 2^64.
 #[tactic(auto, using(crate::proofs::Digits::all_are_digits))]
-fn number(word: &str) -> Option<u64>
+pub(crate) fn number(word: &str) -> Option<u64>
     ensures valid { IsSome result ↔ IsNumber word.now }
     ensures value { IfSome result (λ number. number ≡ digits_value 10 word.now) }
 {

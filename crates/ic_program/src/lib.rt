@@ -10,6 +10,8 @@
 
 mod command;
 mod program;
+mod workers;
 
 pub use command::{MOST_WORDS, from_words, words_of};
-pub use program::{FAULT, OwnKey, answer, run_program};
+pub use program::{FAULT, OwnKey, answer, run_lines, run_program};
+pub use workers::{Workers, workers_of};

@@ -1,16 +1,19 @@
 //! The program, over any reader and any writer.
 
-ghost use Rattle.std.specs.Prelude.{◌≡◌, ◌≢◌, ◌⊎◌, ◌<◌, IfOk, OnOk, codes, length};
+ghost use Rattle.std.specs.Prelude.{◌≡◌, ◌≢◌, ◌⊎◌, ◌<◌, IfOk, Ok, OnOk, codes, length};
 ghost use Rattle.std.specs.Io.KnownBytes.{Appends};
 ghost use Rattle.ic_world.specs.Step.{Step, reply_of};
 ghost use Rattle.ic_world.specs.Answers.{reply_in};
 ghost use Rattle.ic_program.specs.Line.{IsTextOf};
 
 use crate::command;
+use crate::workers::{run_workers, workers_of};
 use ic_rbtree::KeyAdapter;
 use ic_world::{Answer, Command, Refusal, World};
 use std::alloc::Allocator;
 use std::io::{self, BufRead, ErrorKind, Write};
+use std::sync::Wait;
+use std::thread::Threads;
 
 /// The status after a fault of reading or writing, input that is not UTF-8, or want of memory.
 pub const FAULT: u8 = 3;
@@ -40,36 +43,65 @@ impl KeyAdapter for OwnKey {
     }
 }
 
+/// Runs the program. `words` are its arguments, and `rt` is what main is handed.
+///
+/// Without arguments it runs the calls that `reader` gives, as [`run_lines`]. With `workers W N`, W from 1 to 64 and N at most
+/// 1,000,000, so many threads share the first N places out: for each it writes which places it got, and then how many places two of
+/// them got. Any other arguments are answered by `bad arguments`.
+///
+/// The answer is the program's status: 0 at the end, 2 at a line that is no command and at bad arguments, 3 at a fault of reading or
+/// writing, input that is not UTF-8, or want of memory outside the world.
+pub fn run_program<
+    S: Threads + Wait + Sync,
+    M: Allocator + Copy + Send + Sync,
+    R: BufRead,
+    W: Write,
+>(rt: &S, alloc: M, words: &[String], reader: &mut R, writer: &mut W) -> u8
+    ensures status { (result ≡ 0) ⊎ (result ≡ 2) ⊎ (result ≡ FAULT) }
+    ensures arguments { 0 < length words.now → length words.now ≢ 3 → result ≢ FAULT → (result ≡ 2)
+        × Appends (W.contents writer.old) (W.contents writer.new) (codes "bad arguments\n") }
+{
+    if words.is_empty() {
+        return run_lines(alloc, reader, writer);
+    }
+    let ending = match workers_of(words) {
+        Some(asked) => match run_workers(rt, alloc, asked, writer) {
+            Ok(()) => Ok(Ending::Finished),
+            Err(fault) => Err(fault),
+        },
+        None => refuse_arguments(writer),
+    };
+    let flushed = writer.flush();
+    status_of(ending, flushed)
+}
+
 /// Runs the calls that `reader` gives, one a line, on a new world, and writes the answer to each on a line of its own.
-/// `words` are the program's arguments, of which there may be none. `_rt` is what main is handed: nothing here asks the
-/// runtime for anything yet.
 ///
 /// The answer is the program's status:
 ///
 /// - 0 at the end of the input.
-/// - 2 at a line that is no command, which is answered by its number, and at arguments. What was answered before is
-///   written, and nothing more is read.
+/// - 2 at a line that is no command, which is answered by its number. What was answered before is written, and nothing more is
+///   read.
 /// - 3 at a fault of reading or writing, input that is not UTF-8, or want of memory outside the world. What was answered
 ///   before is written, as far as the writer takes it.
 ///
 /// O(1) beside each call of the world, and the bytes read and written.
-pub fn run_program<S, M: Allocator + Copy, R: BufRead, W: Write>(
-    _rt: &S,
+pub fn run_lines<M: Allocator + Copy, R: BufRead, W: Write>(
     alloc: M,
-    words: &[String],
     reader: &mut R,
     writer: &mut W,
 ) -> u8
-    ensures status { (result ≡ 0) ⊎ (result ≡ 2) ⊎ (result ≡ FAULT) }
-    ensures arguments { 0 < length words.now → result ≢ FAULT → (result ≡ 2)
-        × Appends (W.contents writer.old) (W.contents writer.new) (codes "bad arguments\n") }
+    ensures { (result ≡ 0) ⊎ (result ≡ 2) ⊎ (result ≡ FAULT) }
 {
-    let ending = if words.is_empty() {
-        answer_lines(alloc, reader, writer)
-    } else {
-        refuse_arguments(writer)
-    };
+    let ending = answer_lines(alloc, reader, writer);
     let flushed = writer.flush();
+    status_of(ending, flushed)
+}
+
+// The status of a run that ended so, and whose writer was flushed then.
+fn status_of(ending: io::Result<Ending>, flushed: io::Result<()>) -> u8
+    ensures { (result ≡ FAULT) ⊎ ((ending ≡ Ok Ending.Finished) × (result ≡ 0)) ⊎ ((ending ≡ Ok Ending.NotUnderstood) × (result ≡ 2)) }
+{
     match (ending, flushed) {
         (Ok(ending), Ok(())) => ending as u8,
         _ => FAULT,

@@ -125,7 +125,7 @@ const MALFORMED: [&str; 24] = [
 // Runs the inputs, each on a new world.
 fn run_each(rt: &impl Abort, alloc: Global, rows: &[(&str, &str)]) -> Result<(), Fail> {
     for &(input, wanted) in rows {
-        let found = run(alloc, alloc, &[], &mut input.as_bytes())?;
+        let found = run(alloc, alloc, &mut input.as_bytes())?;
         same(rt, found.as_str(), wanted);
     }
     Ok(())

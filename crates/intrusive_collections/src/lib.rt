@@ -7,12 +7,17 @@
 //! | `linked_list` | the doubly linked list |
 //! | `singly_linked_list` | the singly linked list |
 //! | `xor_linked_list` | the XOR list: both neighbours in one word |
-//! | `atomic` | claims on places, which threads share |
+//! | `atomic` | claims on places, which threads share, and tables of links over them: `linked_list::AtomicLinkOps` and its three kin |
 //! | `rbtree` | the red-black tree, in an order that cursors or keys make |
 //! | `key_adapter` | where the key of an object stands, and bounds of keys |
 //! | `rbtree_keys` | searches in a tree, which count their looks |
 //! | `world` | objects, fields and collections whose calls test every condition themselves |
 #![tactic(auto)]
+
+pub mod linked_list;
+pub mod rbtree;
+pub mod singly_linked_list;
+pub mod xor_linked_list;
 
 pub use ic_atomic as atomic;
 pub use ic_link_ops as link_ops;
@@ -21,15 +26,11 @@ pub use ic_link_ops::linked_list::Link as LinkedListLink;
 pub use ic_link_ops::rbtree::Link as RBTreeLink;
 pub use ic_link_ops::singly_linked_list::Link as SinglyLinkedListLink;
 pub use ic_link_ops::xor_linked_list::Link as XorLinkedListLink;
-pub use ic_linked_list as linked_list;
 pub use ic_linked_list::LinkedList;
-pub use ic_rbtree as rbtree;
 pub use ic_rbtree::key_adapter::{Bound, KeyAdapter};
 pub use ic_rbtree::{RBTree, key_adapter, rbtree_keys};
-pub use ic_singly_linked_list as singly_linked_list;
 pub use ic_singly_linked_list::SinglyLinkedList;
 pub use ic_unsafe_ref as unsafe_ref;
 pub use ic_unsafe_ref::UnsafeRef;
 pub use ic_world as world;
-pub use ic_xor_linked_list as xor_linked_list;
 pub use ic_xor_linked_list::XorLinkedList;

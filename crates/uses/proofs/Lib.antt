@@ -11,3 +11,4 @@ pub mod Locating
 pub mod SortedKeys
 pub mod TakenOff
 pub mod TakingDue
+pub mod Pool

@@ -5,6 +5,7 @@ pub mod Jobs
 pub mod Notes
 pub mod RecordedTables
 pub mod Race
+pub mod Pool
 pub mod Regions
 pub mod Retain
 pub mod SortedObjects

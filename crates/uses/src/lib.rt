@@ -15,4 +15,5 @@ pub mod race;
 pub mod recorded_table;
 pub mod region_map;
 pub mod retain;
+pub mod shared_pool;
 pub mod timer_queue;

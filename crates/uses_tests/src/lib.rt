@@ -6,6 +6,8 @@ mod free_list;
 #[cfg(test)]
 mod region_map;
 #[cfg(test)]
+mod shared_pool;
+#[cfg(test)]
 mod tests;
 #[cfg(test)]
 mod timer_queue;

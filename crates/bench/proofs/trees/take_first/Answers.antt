@@ -1,11 +1,10 @@
 use Rattle.std.proofs.Common.{rules}
-use Rattle.ic_link_ops.specs.Positions.{Stands, site}
+use Rattle.ic_link_ops.specs.Positions.{Stands}
 use Rattle.ic_link_ops.specs.RedBlackTree.{Shows}
 use Rattle.ic_rbtree.specs.CursorMut.{site_of}
 use Rattle.ic_link_ops.proofs.Positions.{stands_first}
 use Rattle.ic_link_ops.proofs.Calling.{removed_covered}
 use Rattle.bench.proofs.trees.take_first.Goals as goal
-use Rattle.bench.proofs.trees.take_first.Given.{Over}
 
 pub remove-requires : goal.remove-requires
 remove-requires g c =

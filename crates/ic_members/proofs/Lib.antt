@@ -1,0 +1,10 @@
+pub mod AllKinds
+pub mod Standing
+pub mod Moving
+pub mod Editing
+pub mod Parting
+pub mod Wholes
+pub mod Reading
+pub mod KeyedSearches
+pub mod KeyedEdits
+pub mod KeyedWalks

@@ -1,0 +1,18 @@
+use Rattle.std.proofs.Common.{sym}
+use Rattle.ic_members.proofs.AllKinds.{lawful}
+use Rattle.ic_members.proofs.KeyedEdits.{held_after, cursor_there, puts_and_moves}
+use Rattle.ic_members.proofs.members.Members.cursor_insert.Goals as goal
+
+pub stand_at-requires-clause-held : goal.stand_at-requires-clause-held
+stand_at-requires-clause-held g c = held_after (lawful c.put_in_order-looks.new.links) c.put_in_order-looks.ensures.inserted.2.1
+
+pub stand_at-requires-clause-member : goal.stand_at-requires-clause-member
+stand_at-requires-clause-member g c =
+    let put = c.put_in_order-looks.ensures.inserted in
+    cursor_there (lawful c.put_in_order-looks.new.links) put.2.1 c.cursor-position.result (sym c.cursor-position.ensures) put.1 c.requires.held
+
+pub returns-clause-inserted : goal.returns-clause-inserted
+returns-clause-inserted g c =
+    let put = c.put_in_order-looks.ensures.inserted in
+    let moved = rw c.cursor-position.ensures at c.stand_at.ensures in
+    (put.0, put.1, (put.2.0, puts_and_moves (lawful c.put_in_order-looks.new.links) put.2.1 moved))

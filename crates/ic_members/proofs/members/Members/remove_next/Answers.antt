@@ -1,0 +1,10 @@
+use Rattle.ic_members.proofs.Standing.{gap_after_cursor}
+use Rattle.ic_members.proofs.Moving.{singly_turned}
+use Rattle.ic_members.proofs.Editing.{takes_next}
+use Rattle.ic_members.proofs.members.Members.remove_next.Goals as goal
+
+pub returns-in-Singly-clause-taken : goal.returns-in-Singly-clause-taken
+returns-in-Singly-clause-taken g c =
+    let held = rw c.in-Singly.is at c.requires.held in
+    let e = c.remove_next.ensures in
+    rw (c.in-Singly.is, c.place_of.ensures) (takes_next e (singly_turned e.stands) held (gap_after_cursor _ held))

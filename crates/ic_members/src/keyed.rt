@@ -1,0 +1,493 @@
+//! Keyed calls of a collection that is a tree.
+//!
+//! ```text
+//! let looks = tree.insert(&mut field, &objects, adapter, place);
+//! tree.find(&field, &objects, adapter, &5) // the first member of key 5, and how many objects were compared
+//! ```
+
+ghost use Rattle.std.specs.Prelude.{◌≡◌, List, ◌++◌, Option, Some, None, true, false, IfOk, IfSome, IfNone};
+ghost use Rattle.ic_unsafe_ref.specs.declared.place.Place.{Place};
+ghost use Rattle.ic_unsafe_ref.specs.Objects.{Objects as Placed, is_placed};
+ghost use Rattle.ic_link_ops.specs.Sequences.{Cut, join, IsBefore};
+ghost use Rattle.ic_link_ops.specs.Edits.{Inserts};
+ghost use Rattle.ic_link_ops.specs.Tables.{IsCovered, IsLinked, IsUnlinked, LinksAlso};
+ghost use Rattle.ic_link_ops.specs.PlacedObjects.{ArePlaced, ShowsPlaced};
+ghost use Rattle.ic_link_ops.specs.Positions.{HasMember};
+ghost use Rattle.ic_link_ops.specs.RedBlackTree.{Shows};
+ghost use Rattle.ic_rbtree.specs.Borders.{Finds, IsBorder, IsLowerBorder, IsUpperBorder, less_at, at_most_at};
+ghost use Rattle.ic_rbtree.specs.Comparing.{compared, compared_within, order_of, own_order, HasRoom, Looks};
+ghost use Rattle.ic_rbtree.specs.CursorMut as editing;
+ghost use Rattle.ic_rbtree.specs.CursorOwning as owning;
+ghost use Rattle.ic_rbtree.specs.Entry as gaps;
+ghost use Rattle.ic_rbtree.specs.Iter.{rest_of, CanWalk};
+ghost use Rattle.ic_rbtree.specs.KeyProbe.{key_order, looks_of, HasAdapter};
+ghost use Rattle.ic_rbtree.specs.Ranges.{runs_up, IsRange};
+ghost use Rattle.ic_rbtree.specs.Tree.{root_of, adapter_of};
+ghost use Rattle.ic_fields.specs.Entries.{is_linked, node};
+ghost use Rattle.ic_fields.specs.Fields.{look};
+ghost use Rattle.ic_fields.specs.TreeTables as tree_table;
+ghost use Rattle.ic_members.specs.Edits.{AtGap};
+ghost use Rattle.ic_members.specs.Keyed.{FewLooks, looks_within, HasNoLooks, IsVacantFor};
+
+use crate::Members;
+use ic_fields::{Field, TreeTable, TwoWay};
+use ic_link_ops::rbtree::RBTreeOps;
+use ic_rbtree::{
+    Bound, CursorMut, CursorOwning, Entry, InsertCursor, Iter, KeyAdapter, KeyProbe, RBTree,
+};
+use ic_unsafe_ref::{Objects, Place, UnsafeRef};
+use std::alloc::{AllocError, Allocator};
+use std::mem;
+
+// The bound, of a search for its key that has made no look.
+#[inline]
+fn probe_for<'k, A: KeyAdapter>(adapter: A, bound: &'k Bound<A::Key>) -> Bound<KeyProbe<'k, A>>
+    ensures order { (objects : Placed A.Value) → compared_within (key_order A.Key.cmp A.key_of) objects result
+        ≡ compared_within (order_of A.Key.cmp (A.key_of adapter)) objects bound.now }
+    ensures adapter { HasAdapter adapter result }
+    ensures none { HasNoLooks result }
+{
+    match bound {
+        Bound::Included(key) => Bound::Included(KeyProbe::new(adapter, key)),
+        Bound::Excluded(key) => Bound::Excluded(KeyProbe::new(adapter, key)),
+        Bound::Unbounded => Bound::Unbounded,
+    }
+}
+
+// How many looks the search within a bound has made.
+#[inline]
+fn looks_in<A: KeyAdapter>(bound: &Bound<KeyProbe<'_, A>>) -> u64
+    ensures { result ≡ looks_within bound.now }
+{
+    match bound {
+        Bound::Included(probe) => probe.looks(),
+        Bound::Excluded(probe) => probe.looks(),
+        Bound::Unbounded => 0,
+    }
+}
+
+// A walk over the members between two bounds, and the looks of both descents.
+fn walk_between<'a, A: KeyAdapter, L: RBTreeOps, B: Allocator>(
+    tree: &'a RBTree<A>,
+    links: &'a L,
+    objects: &'a Objects<A::Value, B>,
+    min: &Bound<A::Key>,
+    max: &Bound<A::Key>,
+) -> (Iter<'a, A, L, B>, u64, u64)
+    requires placed { ShowsPlaced (Shows L.node (L.table links.now) (root_of tree.now)) objects.now }
+    ensures range { (s : List Place) → Shows L.node (L.table links.now) (root_of tree.now) s
+        → IsRange (compared_within (order_of A.Key.cmp (A.key_of (adapter_of tree.now))) objects.now min.now)
+        (compared_within (order_of A.Key.cmp (A.key_of (adapter_of tree.now))) objects.now max.now)
+        (runs_up A.Key.cmp (A.key_of (adapter_of tree.now)) objects.now) s (rest_of L.node L.table result.0) }
+    ensures can_walk { CanWalk L.node L.table result.0 }
+    ensures looks { (s : List Place) → Shows L.node (L.table links.now) (root_of tree.now) s
+        → FewLooks result.1 s × FewLooks result.2 s }
+{
+    let adapter = tree.adapter();
+    let mut from = probe_for(adapter, min);
+    let mut to = probe_for(adapter, max);
+    let walk = tree.range_by(links, objects, &mut from, &mut to);
+    (walk, looks_in(&from), looks_in(&to))
+}
+
+// The places of the members that a walk has left, which stand side by side in the tree, in memory of `alloc`.
+fn list_walk<A: KeyAdapter, L: RBTreeOps, B: Allocator, N: Allocator>(
+    alloc: N,
+    tree: &RBTree<A>,
+    links: &L,
+    mut walk: Iter<'_, A, L, B>,
+) -> Result<Vec<Place, N>, AllocError>
+    requires can_walk { CanWalk L.node L.table walk }
+    requires shown { (front back : List Place) × Shows L.node (L.table links.now) (root_of tree.now)
+        (front ++ (rest_of L.node L.table walk ++ back)) }
+    ensures { IfOk result (λ places. places.items ≡ rest_of L.node L.table walk.entry) }
+{
+    let mut places = Vec::new(alloc);
+    let Some(first) = walk.get_ptr() else {
+        return Ok(places);
+    };
+    let mut cursor = tree.cursor_from_ptr(links, UnsafeRef::new(first));
+    while let Some(_) = walk.next() {
+        places.push(cursor.get_ptr().unwrap())?;
+        cursor.move_next();
+    }
+    Ok(places)
+}
+
+impl<A: KeyAdapter> Members<A> {
+    ghost use Rattle.ic_members.specs.Members.{kind_in, adapter_in, cursor_in, members_in, is_tree, Held};
+    ghost use Rattle.ic_members.specs.Edits.{Moves, Puts};
+    ghost use Rattle.ic_members.specs.Keyed.{PutsInOrder, PutsAtKey};
+
+    /// Puts the cursor on the first member of this key, null if there is none, and answers it with the looks of the descent.
+    ///
+    /// It asks that this is a tree, and that an object stands at each member. O(log n).
+    pub fn find<M: Allocator, B: Allocator>(
+        &mut self,
+        links: &Field<M>,
+        objects: &Objects<A::Value, B>,
+        adapter: A,
+        key: &A::Key,
+    ) -> (Option<Place>, u64)
+        requires held { Held (look links.now) self.old }
+        requires can { is_tree (kind_in self.old) ≡ true }
+        requires placed { ArePlaced objects.now (members_in (look links.now) self.old) }
+        ensures found { Finds (compared (order_of A.Key.cmp (A.key_of adapter) key.now) objects.now)
+            (members_in (look links.now) self.old) result.0 }
+        ensures looks { FewLooks result.1 (members_in (look links.now) self.old) }
+        ensures moved { Moves (look links.now) self.old self.new result.0 }
+    {
+        let mut probe = KeyProbe::new(adapter, key);
+        let position = match (&*self, links) {
+            (Members::Tree(cursor), Field::TwoWay(TwoWay::Tree(links))) => {
+                cursor.tree().find_by(links, objects, &mut probe).get_ptr()
+            }
+            _ => None,
+        };
+        self.stand_at(links, position);
+        (position, probe.looks())
+    }
+
+    // Puts the cursor on a member of a tree, or to null.
+    #[inline]
+    fn stand_at<M: Allocator>(&mut self, links: &Field<M>, position: Option<Place>)
+        requires held { Held (look links.now) self.old }
+        requires can { is_tree (kind_in self.old) ≡ true }
+        requires member { IfSome position (λ p. AtGap (members_in (look links.now) self.old) (λ gap. IsBefore gap (Some p))) }
+        ensures { Moves (look links.now) self.old self.new position }
+    {
+        match position {
+            None => self.go_null(),
+            Some(place) => self.stand_on(links, None, place),
+        }
+    }
+
+    /// Puts the cursor on the first member whose key meets the bound, null if there is none, and answers it with the looks of
+    /// the descent: none for `Unbounded`.
+    ///
+    /// It asks that this is a tree, and that an object stands at each member. In a tree that isn't sorted the cursor is on a
+    /// border. O(log n).
+    pub fn lower_bound<M: Allocator, B: Allocator>(
+        &mut self,
+        links: &Field<M>,
+        objects: &Objects<A::Value, B>,
+        adapter: A,
+        bound: &Bound<A::Key>,
+    ) -> (Option<Place>, u64)
+        requires held { Held (look links.now) self.old }
+        requires can { is_tree (kind_in self.old) ≡ true }
+        requires placed { ArePlaced objects.now (members_in (look links.now) self.old) }
+        ensures border { IsLowerBorder (compared_within (order_of A.Key.cmp (A.key_of adapter)) objects.now bound.now)
+            (members_in (look links.now) self.old) result.0 }
+        ensures looks { FewLooks result.1 (members_in (look links.now) self.old) }
+        ensures moved { Moves (look links.now) self.old self.new result.0 }
+    {
+        let mut probe = probe_for(adapter, bound);
+        let position = match (&*self, links) {
+            (Members::Tree(cursor), Field::TwoWay(TwoWay::Tree(links))) => {
+                cursor
+                    .tree()
+                    .lower_bound_by(links, objects, &mut probe)
+                    .get_ptr()
+            }
+            _ => None,
+        };
+        self.stand_at(links, position);
+        (position, looks_in(&probe))
+    }
+
+    /// Puts the cursor on the last member whose key meets the bound, null if there is none, and answers it with the looks of
+    /// the descent: none for `Unbounded`.
+    ///
+    /// It asks that this is a tree, and that an object stands at each member. In a tree that isn't sorted the cursor is on a
+    /// border. O(log n).
+    #[tactic(auto, using(crate::proofs::KeyedSearches::upper_member))]
+    pub fn upper_bound<M: Allocator, B: Allocator>(
+        &mut self,
+        links: &Field<M>,
+        objects: &Objects<A::Value, B>,
+        adapter: A,
+        bound: &Bound<A::Key>,
+    ) -> (Option<Place>, u64)
+        requires held { Held (look links.now) self.old }
+        requires can { is_tree (kind_in self.old) ≡ true }
+        requires placed { ArePlaced objects.now (members_in (look links.now) self.old) }
+        ensures border { IsUpperBorder (compared_within (order_of A.Key.cmp (A.key_of adapter)) objects.now bound.now)
+            (members_in (look links.now) self.old) result.0 }
+        ensures looks { FewLooks result.1 (members_in (look links.now) self.old) }
+        ensures moved { Moves (look links.now) self.old self.new result.0 }
+    {
+        let mut probe = probe_for(adapter, bound);
+        let position = match (&*self, links) {
+            (Members::Tree(cursor), Field::TwoWay(TwoWay::Tree(links))) => {
+                cursor
+                    .tree()
+                    .upper_bound_by(links, objects, &mut probe)
+                    .get_ptr()
+            }
+            _ => None,
+        };
+        self.stand_at(links, position);
+        (position, looks_in(&probe))
+    }
+
+    /// The members between two bounds, in memory of `alloc`, and the looks of both descents.
+    ///
+    /// It asks that this is a tree with that adapter, and that an object stands at each member. O(log n + answer).
+    pub fn range<'a, M: Allocator, B: Allocator, N: Allocator>(
+        &'a self,
+        alloc: N,
+        links: &'a Field<M>,
+        objects: &'a Objects<A::Value, B>,
+        adapter: A,
+        min: &Bound<A::Key>,
+        max: &Bound<A::Key>,
+    ) -> Result<(Vec<Place, N>, u64, u64), AllocError>
+        requires held { Held (look links.now) self.now }
+        requires adapter { adapter_in self.now ≡ Some adapter }
+        requires placed { ArePlaced objects.now (members_in (look links.now) self.now) }
+        ensures range { IfOk result (λ answer. IsRange (compared_within (order_of A.Key.cmp (A.key_of adapter)) objects.now min.now)
+            (compared_within (order_of A.Key.cmp (A.key_of adapter)) objects.now max.now) (runs_up A.Key.cmp (A.key_of adapter) objects.now)
+            (members_in (look links.now) self.now) answer.0.items) }
+        ensures looks { IfOk result (λ answer. FewLooks answer.1 (members_in (look links.now) self.now)
+            × FewLooks answer.2 (members_in (look links.now) self.now)) }
+    {
+        match self {
+            Members::Tree(cursor) => match links {
+                Field::TwoWay(TwoWay::Tree(links)) => {
+                    let (walk, from, to) = walk_between(cursor.tree(), links, objects, min, max);
+                    let places = list_walk(alloc, cursor.tree(), links, walk)?;
+                    Ok((places, from, to))
+                }
+                Field::TwoWay(TwoWay::Doubly(_)) | Field::Singly(_) | Field::Xor(_) => Ok((
+                    Vec::new(alloc),
+                    0,
+                    0,
+                )),
+            },
+            Members::Singly(_) | Members::Doubly(_) | Members::Xor(_) => Ok((
+                Vec::new(alloc),
+                0,
+                0,
+            )),
+        }
+    }
+
+    // Puts the object where its own key belongs, behind members with the same key, with the cursor at null. Answers the looks.
+    fn put_in_order<M: Allocator, B: Allocator>(
+        &mut self,
+        links: &mut Field<M>,
+        objects: &Objects<A::Value, B>,
+        adapter: A,
+        object: Place,
+    ) -> u64
+        requires held { Held (look links.old) self.old }
+        requires can { is_tree (kind_in self.old) ≡ true }
+        requires placed { ArePlaced objects.now (members_in (look links.old) self.old) }
+        requires object { is_placed objects.now object ≡ true }
+        requires covered { IsCovered (look links.old) object }
+        requires unlinked { IsUnlinked is_linked (look links.old) object }
+        ensures inserted { PutsInOrder (compared (own_order A.Key.cmp (A.key_of adapter) objects.now object) objects.now)
+            (look links.old) (look links.new) self.old self.new object None }
+        ensures looks { FewLooks result (members_in (look links.old) self.old) }
+    {
+        match self {
+            Members::Tree(cursor) => match links {
+                Field::TwoWay(TwoWay::Tree(links)) => {
+                    let value = objects.get(object).unwrap(); // proved: it is placed
+                    let mut probe = KeyProbe::new(adapter, adapter.get_key(value));
+                    let empty = RBTree::new(cursor.tree().adapter()).cursor_owning();
+                    let mut tree = mem::replace(cursor, empty).into_inner();
+                    let object = UnsafeRef::new(object);
+                    tree.insert_by(links, objects, &mut probe, object).unwrap(); // proved: it is not linked
+                    *cursor = tree.cursor_owning();
+                    probe.looks()
+                }
+                Field::TwoWay(TwoWay::Doubly(_)) | Field::Singly(_) | Field::Xor(_) => 0,
+            },
+            Members::Singly(_) | Members::Doubly(_) | Members::Xor(_) => 0,
+        }
+    }
+
+    /// Puts the object where its own key belongs, behind members with the same key, and the cursor on it. Answers the looks of the
+    /// descent.
+    ///
+    /// It asks that this is a tree, that an object stands at each member and at the place, and that the place is covered and
+    /// unlinked. O(log n).
+    #[inline]
+    pub fn insert<M: Allocator, B: Allocator>(
+        &mut self,
+        links: &mut Field<M>,
+        objects: &Objects<A::Value, B>,
+        adapter: A,
+        object: Place,
+    ) -> u64
+        requires held { Held (look links.old) self.old }
+        requires can { is_tree (kind_in self.old) ≡ true }
+        requires placed { ArePlaced objects.now (members_in (look links.old) self.old) }
+        requires object { is_placed objects.now object ≡ true }
+        requires covered { IsCovered (look links.old) object }
+        requires unlinked { IsUnlinked is_linked (look links.old) object }
+        ensures inserted { PutsInOrder (compared (own_order A.Key.cmp (A.key_of adapter) objects.now object) objects.now)
+            (look links.old) (look links.new) self.old self.new object (Some object) }
+        ensures looks { FewLooks result (members_in (look links.old) self.old) }
+    {
+        let looks = self.put_in_order(links, objects, adapter, object);
+        self.stand_at(links, Some(object));
+        looks
+    }
+
+    /// The same, but the cursor stays.
+    #[inline]
+    pub fn cursor_insert<M: Allocator, B: Allocator>(
+        &mut self,
+        links: &mut Field<M>,
+        objects: &Objects<A::Value, B>,
+        adapter: A,
+        object: Place,
+    ) -> u64
+        requires held { Held (look links.old) self.old }
+        requires can { is_tree (kind_in self.old) ≡ true }
+        requires placed { ArePlaced objects.now (members_in (look links.old) self.old) }
+        requires object { is_placed objects.now object ≡ true }
+        requires covered { IsCovered (look links.old) object }
+        requires unlinked { IsUnlinked is_linked (look links.old) object }
+        ensures inserted { PutsInOrder (compared (own_order A.Key.cmp (A.key_of adapter) objects.now object) objects.now)
+            (look links.old) (look links.new) self.old self.new object (cursor_in self.old) }
+        ensures looks { FewLooks result (members_in (look links.old) self.old) }
+    {
+        let position = self.cursor();
+        let looks = self.put_in_order(links, objects, adapter, object);
+        self.stand_at(links, position);
+        looks
+    }
+
+    /// Puts the cursor on the first member with this key, or puts the object into the gap where the key would stand and the cursor
+    /// on it. Answers whether a member had the key, the member, and the looks of the descent; `None` where none had it and the
+    /// object is linked, and then nothing has changed.
+    ///
+    /// It asks that this is a tree, that an object stands at each member, and that the object's place is covered. O(log n).
+    pub fn entry<M: Allocator, B: Allocator>(
+        &mut self,
+        links: &mut Field<M>,
+        objects: &Objects<A::Value, B>,
+        adapter: A,
+        key: &A::Key,
+        object: Place,
+    ) -> Option<(bool, Place, u64)>
+        requires held { Held (look links.old) self.old }
+        requires can { is_tree (kind_in self.old) ≡ true }
+        requires placed { ArePlaced objects.now (members_in (look links.old) self.old) }
+        requires covered { IsCovered (look links.old) object }
+        ensures occupied { IfSome result (λ e. e.0 ≡ true → Finds (compared (order_of A.Key.cmp (A.key_of adapter) key.now) objects.now)
+            (members_in (look links.old) self.old) (Some e.1) × (links.new ≡ links.old)
+            × Moves (look links.old) self.old self.new (Some e.1)) }
+        ensures vacant { IfSome result (λ e. e.0 ≡ false → (e.1 ≡ object)
+            × PutsAtKey (compared (order_of A.Key.cmp (A.key_of adapter) key.now) objects.now)
+            (look links.old) (look links.new) self.old self.new object (Some object)) }
+        ensures looks { IfSome result (λ e. FewLooks e.2 (members_in (look links.old) self.old)) }
+        ensures refused { IfNone result (IsLinked is_linked (look links.old) object
+            × AtGap (members_in (look links.old) self.old) (IsVacantFor (compared (order_of A.Key.cmp (A.key_of adapter) key.now) objects.now))
+            × (self.new ≡ self.old) × (links.new ≡ links.old)) }
+    {
+        match self {
+            Members::Tree(cursor) => match links {
+                Field::TwoWay(TwoWay::Tree(links)) => {
+                    let mut probe = KeyProbe::new(adapter, key);
+                    let position = cursor.get_ptr();
+                    let empty = RBTree::new(cursor.tree().adapter()).cursor_owning();
+                    let mut tree = mem::replace(cursor, empty).into_inner();
+                    match put_at_key(&mut tree, links, objects, &mut probe, object) {
+                        None => {
+                            *cursor = cursor_at(tree, links, position);
+                            None
+                        }
+                        Some((occupied, place)) => {
+                            *cursor = tree.cursor_owning_from_ptr(links, UnsafeRef::new(place));
+                            Some((occupied, place, probe.looks()))
+                        }
+                    }
+                }
+                Field::TwoWay(TwoWay::Doubly(_)) | Field::Singly(_) | Field::Xor(_) => None,
+            },
+            Members::Singly(_) | Members::Doubly(_) | Members::Xor(_) => None,
+        }
+    }
+}
+
+// A cursor that keeps the tree, on a member or at null.
+#[inline]
+fn cursor_at<A: KeyAdapter, L: RBTreeOps>(
+    tree: RBTree<A>,
+    links: &L,
+    position: Option<Place>,
+) -> CursorOwning<A>
+    requires member { IfSome position (HasMember (Shows L.node (L.table links.now) (root_of tree))) }
+    ensures tree { owning.tree_of result ≡ tree }
+    ensures position { owning.position result ≡ position }
+{
+    match position {
+        None => tree.cursor_owning(),
+        Some(place) => tree.cursor_owning_from_ptr(links, UnsafeRef::new(place)),
+    }
+}
+
+// Puts an unlinked object into the gap. The cursor that it answers is on the object.
+fn put_into<'a, A: KeyAdapter, M: Allocator>(
+    gap: InsertCursor<'a, A, TreeTable<M>>,
+    object: Place,
+) -> CursorMut<'a, A, TreeTable<M>>
+    requires covered { IsCovered (tree_table.look (gaps.links_of gap)) object }
+    requires vacant { gaps.CanInsert node tree_table.look gap }
+    requires unlinked { IsUnlinked is_linked (tree_table.look (gaps.links_of gap)) object }
+    ensures inserted { (at : Cut) → Shows node (tree_table.look (gaps.links_of gap.entry)) (root_of (gaps.tree_of gap.entry)) (join at)
+        → gaps.IsVacantAt node (tree_table.look (gaps.links_of gap.entry)) gap.entry at
+        → Inserts (Shows node) (tree_table.look (gaps.links_of gap.entry)) (tree_table.look (editing.links_of result))
+        (root_of (editing.tree_of result)) at object }
+    ensures linked { LinksAlso is_linked (tree_table.look (gaps.links_of gap.entry)) (tree_table.look (editing.links_of result)) object }
+    ensures member { HasMember (Shows node (tree_table.look (editing.links_of result)) (root_of (editing.tree_of result))) object }
+    ensures borrows { editing.SameNames gap.entry.tree gap.entry.links result }
+{
+    gap.insert(UnsafeRef::new(object)).unwrap() // proved: it is not linked
+}
+
+// The first member that compares equal, or the object, which goes into the gap where the search ended; `None` where it is linked.
+fn put_at_key<A: KeyAdapter, M: Allocator, B: Allocator>(
+    tree: &mut RBTree<A>,
+    links: &mut TreeTable<M>,
+    objects: &Objects<A::Value, B>,
+    probe: &mut KeyProbe<'_, A>,
+    object: Place,
+) -> Option<(bool, Place)>
+    requires placed { ShowsPlaced (Shows node (tree_table.look links.old) (root_of tree.old)) objects.now }
+    requires room { HasRoom (looks_of probe.old) }
+    requires covered { IsCovered (tree_table.look links.old) object }
+    ensures found { (s : List Place) → Shows node (tree_table.look links.old) (root_of tree.old) s → IfSome result (λ e. e.0 ≡ true
+        → Finds (compared (key_order A.Key.cmp A.key_of probe.old) objects.now) s (Some e.1)) }
+    ensures stays { IfSome result (λ e. e.0 ≡ true → (tree.new ≡ tree.old) × (links.new ≡ links.old)) }
+    ensures member { IfSome result (λ e. HasMember (Shows node (tree_table.look links.new) (root_of tree.new)) e.1) }
+    ensures put { (s : List Place) → Shows node (tree_table.look links.old) (root_of tree.old) s → IfSome result (λ e. e.0 ≡ false
+        → AtGap s (λ gap. IsVacantFor (compared (key_order A.Key.cmp A.key_of probe.old) objects.now) gap
+        × Inserts (Shows node) (tree_table.look links.old) (tree_table.look links.new) (root_of tree.new) gap object)) }
+    ensures links { IfSome result (λ e. e.0 ≡ false → (e.1 ≡ object)
+        × LinksAlso is_linked (tree_table.look links.old) (tree_table.look links.new) object
+        × (adapter_of tree.new ≡ adapter_of tree.old)) }
+    ensures refused { (s : List Place) → Shows node (tree_table.look links.old) (root_of tree.old) s → IfNone result
+        (AtGap s (IsVacantFor (compared (key_order A.Key.cmp A.key_of probe.old) objects.now))) }
+    ensures unchanged { IfNone result (IsLinked is_linked (tree_table.look links.old) object
+        × (tree.new ≡ tree.old) × (links.new ≡ links.old)) }
+    ensures looks { (s : List Place) → Shows node (tree_table.look links.old) (root_of tree.old) s
+        → Looks (key_order A.Key.cmp A.key_of) looks_of probe.old probe.new s }
+{
+    let linked = links.0.is_linked(object);
+    match tree.entry_by(links, objects, probe) {
+        Entry::Occupied(found) => Some((true, found.get_ptr().unwrap())),
+        Entry::Vacant(gap) => {
+            if linked {
+                return None;
+            }
+            put_into(gap, object);
+            Some((false, object))
+        }
+    }
+}

@@ -1,0 +1,81 @@
+//! Workers that share the first places out: which words ask for them, and what is printed.
+//!
+//! ```text
+//! workers_of(&words) // Some of 4 workers and 1000 places, for the words `workers 4 1000`
+//! ```
+
+ghost use Rattle.std.specs.Prelude.{◌≡◌, ◌≢◌, ◌≤◌, IfSome, length};
+
+use crate::command::number;
+use ic_atomic::Gate;
+use ic_workers::{doubles, fan_out};
+use std::alloc::Allocator;
+use std::io::{self, ErrorKind, Write};
+use std::sync::Wait;
+use std::thread::Threads;
+
+// The most workers, and the most places, that the program takes.
+const MOST_WORKERS: u64 = 64;
+
+const MOST_PLACES: u64 = 1_000_000;
+
+/// How many workers share out how many places.
+#[derive(Clone, Copy, PartialEq, Eq, Debug)]
+pub struct Workers {
+    /// From 1 to 64.
+    pub workers: usize,
+    /// At most 1,000,000.
+    pub places: usize,
+}
+
+/// What the words `workers W N` ask for. `None`: the words are others, or a number is none or not within its bounds.
+pub fn workers_of(words: &[String]) -> Option<Workers>
+    ensures bounds { IfSome result (λ asked. (1 ≤ asked.workers) × (asked.workers ≤ 64) × (asked.places ≤ 1000000)) }
+    ensures three { IfSome result (λ asked. length words.now ≡ 3) }
+{
+    let [name, workers, places] = words else {
+        return None;
+    };
+    if name.as_str() != "workers" {
+        return None;
+    }
+    let workers = number(workers)?;
+    let places = number(places)?;
+    if workers < 1 || workers > MOST_WORKERS || places > MOST_PLACES {
+        return None;
+    }
+    Some(Workers {
+        workers: workers as usize,
+        places: places as usize,
+    })
+}
+
+// Lets every worker pass.
+struct Open;
+
+impl Gate for Open {
+    fn passed(&self, worker: usize, answered: usize) {
+        let _ = (worker, answered);
+    }
+}
+
+/// Lets the workers share the places out, each in a thread of its own, and writes which places each got, and how many places stand
+/// in two of their lists: none, by the contract of `fan_out`.
+pub(crate) fn run_workers<S: Threads + Wait + Sync, M: Allocator + Copy + Send + Sync, W: Write>(
+    rt: &S,
+    alloc: M,
+    asked: Workers,
+    writer: &mut W,
+) -> io::Result<()> {
+    let Ok(lists) = fan_out(rt, alloc, asked.workers, asked.places, &Open) else {
+        return Err(io::Error::from(ErrorKind::OutOfMemory));
+    };
+    for (before, list) in lists.iter().enumerate() {
+        write!(writer, "worker {} items", before + 1)?;
+        for place in list {
+            write!(writer, " {}", place.index())?;
+        }
+        writeln!(writer)?;
+    }
+    writeln!(writer, "doubles {}", doubles(asked.places, &lists))
+}

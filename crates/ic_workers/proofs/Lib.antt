@@ -1,0 +1,5 @@
+pub mod OnlyClaims
+pub mod Rows
+pub mod Searching
+pub mod TakenPlaces
+pub mod Walking

@@ -1,0 +1,32 @@
+-- A walk over a list, from its front.
+use Rattle.std.proofs.Common.{◌≡◌, ◌++◌, [], ◌∷◌, Option, Some, List, drop, sym, ap, ◌∙◌, append_assoc}
+use Rattle.ic_unsafe_ref.specs.declared.place.Place.{Place}
+use Rattle.ic_link_ops.specs.Sequences.{Cut, join, first, IsAfter, IsBefore}
+use Rattle.ic_link_ops.proofs.SequenceLemmas.{first_is, last_of_push}
+
+-- these members of s have been seen, and the position is on the first that has not
+pub record Seen (seen : List Place) (position : Option Place) (s : List Place) : Type 0 where
+  pub rest : List Place
+  pub is : s ≡ seen ++ rest
+  pub at : position ≡ first rest
+
+-- a move sees one more
+pub seen_more : {seen : List Place} {position new_position : Option Place} {s : List Place} (k : Seen seen position s) (p : Place) → Some p ≡ position
+    → ((gap : Cut) → s ≡ join gap → IsAfter gap position → IsBefore gap new_position) → Seen (seen ++ p ∷ []) new_position s
+seen_more {seen} {s} k p here leads =
+    let parts : k.rest ≡ p ∷ drop 1 k.rest = first_is k.rest (here ∙ k.at) in
+    let whole : s ≡ (seen ++ p ∷ []) ++ drop 1 k.rest = k.is ∙ (ap (λ (l : List Place). seen ++ l) parts ∙ sym (append_assoc seen (p ∷ []) (drop 1 k.rest))) in
+    record {
+      rest = drop 1 k.rest;
+      is = whole;
+      at = leads (record { front = seen ++ p ∷ []; back = drop 1 k.rest }) whole (sym here ∙ sym (last_of_push seen p));
+    }
+
+-- and one fewer is left
+pub seen_less : {seen : List Place} {p : Place} {position new_position : Option Place} {s : List Place} (k : Seen seen position s) (m : Seen (seen ++ p ∷ []) new_position s)
+    → k.rest ≡ p ∷ m.rest
+seen_less {seen} {p} k m = append_same seen k.rest (p ∷ m.rest) (sym k.is ∙ (m.is ∙ append_assoc seen (p ∷ []) m.rest))
+  where
+    append_same : (s t u : List Place) → s ++ t ≡ s ++ u → t ≡ u
+    append_same [] t u e = e
+    append_same (x ∷ s) t u e = append_same s t u (ap (drop 1) e)

@@ -1,0 +1,15 @@
+use Rattle.std.proofs.Common.{◌≡◌, ◌≤◌, ◌-◌, false, length, take, drop}
+use Rattle.ic_workers.specs.SharedOut.{has}
+use Rattle.ic_workers.proofs.doubled.stands_in.Given as goal
+
+-- it does not stand in front of `low`, nor from `high` on
+abbrev pub invariant-loop-low : goal.invariant-loop-low
+invariant-loop-low l = record {
+  order : l.low ≤ l.high;
+  inside : l.high ≤ length l.list;
+  front : has (take l.low l.list) l.index ≡ false;
+  back : has (drop l.high l.list) l.index ≡ false;
+}
+
+abbrev pub decreases-loop-low : goal.decreases-loop-low
+decreases-loop-low l = l.high - l.low

@@ -1,0 +1,3 @@
+pub mod SharedOut
+pub mod Parties
+pub mod Doubles

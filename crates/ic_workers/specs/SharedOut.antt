@@ -1,0 +1,33 @@
+-- Places that are shared out: each stands in one of several lists.
+use Rattle.std.specs.Prelude.{◌≡◌, ℕ, ◌+◌, ◌<◌, ◌≤◌, ◌==◌, ◌||◌, Bool, true, false, List, [], ◌∷◌, map, length, slice_index_or, Vec, All}
+use Rattle.ic_unsafe_ref.specs.declared.place.Place.{Place}
+use Rattle.ic_unsafe_ref.specs.Places.{index_of}
+
+-- whether the place with that index stands in the list
+abbrev pub has : List Place → ℕ → Bool
+has [] i = false
+has (p ∷ s) i = (i == index_of p) || has s i
+
+-- the list rises: each index is larger than the one in front of it, and all are from `low` on and below `high`
+abbrev pub Rises : ℕ → ℕ → List Place → Type 0
+Rises low high [] = Unit {0}
+Rises low high (p ∷ s) = (low ≤ index_of p) × (index_of p < high) × Rises (index_of p + 1) high s
+
+-- the places in several lists
+abbrev pub places_in : {A : Type 0} → List (Vec Place A) → List (List Place)
+places_in lists = map (λ list. list.items) lists
+
+-- the list of that number, counted from 0, and empty where there is none
+abbrev pub list_at : List (List Place) → ℕ → List Place
+list_at lists i = slice_index_or lists i []
+
+-- THE FIRST PLACES ARE SHARED OUT among so many workers
+pub record SharedOut (workers places : ℕ) (lists : List (List Place)) : Type 0 where
+  -- There is one list for each worker,
+  pub each : length lists ≡ workers
+  -- which rises, and has none but the first places.
+  pub rises : All (Rises 0 places) lists
+  -- No place stands in two of them,
+  pub apart : (i k n : ℕ) → has (list_at lists i) n ≡ true → has (list_at lists k) n ≡ true → i ≡ k
+  -- and, if there is a worker, each stands in one.
+  pub all : 0 < workers → (n : ℕ) → n < places → (i : ℕ) × (has (list_at lists i) n ≡ true)

@@ -1,0 +1,60 @@
+//! Places that stand in several lists.
+
+ghost use Rattle.std.specs.Prelude.{◌≡◌, ℕ, All};
+ghost use Rattle.ic_workers.specs.SharedOut.{has, Rises, places_in};
+ghost use Rattle.ic_workers.specs.Doubles.{times, doubles_below};
+
+use ic_unsafe_ref::Place;
+use std::alloc::Allocator;
+
+// Whether the place with that index stands in the list, which rises. It halves what is left.
+fn stands_in(list: &[Place], index: usize) -> bool
+    requires { (high : ℕ) × Rises 0 high list.now }
+    ensures { result ≡ has list.now index }
+{
+    let mut low = 0;
+    let mut high = list.len();
+    while low < high {
+        let middle = low + (high - low) / 2;
+        let found = list[middle].index();
+        if found == index {
+            return true;
+        }
+        if found < index {
+            low = middle + 1;
+        } else {
+            high = middle;
+        }
+    }
+    false
+}
+
+// In how many of the lists it stands.
+fn lists_with<A: Allocator>(lists: &[Vec<Place, A>], index: usize) -> usize
+    requires { (high : ℕ) × All (Rises 0 high) (places_in lists.now) }
+    ensures { result ≡ times (places_in lists.now) index }
+{
+    let mut count = 0;
+    for list in lists {
+        if stands_in(list, index) {
+            count += 1;
+        }
+    }
+    count
+}
+
+/// How many of the first `places` places stand in more than one of the lists.
+///
+/// It asks that each list rises, as those of [`fan_out`](crate::fan_out) do. O(places * lists * log(places)), and no memory.
+pub fn doubles<A: Allocator>(places: usize, lists: &[Vec<Place, A>]) -> usize
+    requires rises { All (Rises 0 places) (places_in lists.now) }
+    ensures { result ≡ doubles_below places (places_in lists.now) }
+{
+    let mut found = 0;
+    for index in 0..places {
+        if lists_with(lists, index) > 1 {
+            found += 1;
+        }
+    }
+    found
+}

@@ -1,0 +1,14 @@
+//! Workers, each in a thread of its own, which are all offered the same places, and get each place once between them.
+//!
+//! ```text
+//! let lists = fan_out(&rt, rt.alloc(), 4, 1000, &gate)?; // a list of places for each of 4 workers
+//! doubles(1000, &lists) // 0: no place stands in two of them
+//! ```
+#![tactic(auto)]
+
+mod doubled;
+mod party;
+mod sharing;
+
+pub use doubled::doubles;
+pub use sharing::fan_out;

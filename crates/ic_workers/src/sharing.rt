@@ -1,0 +1,161 @@
+//! Threads that are all offered the same places.
+
+ghost use Rattle.std.specs.Prelude.{◌≡◌, ◌<◌, ◌≤◌, ◌↔◌, [], All, IfOk, Err, vec_len, length};
+ghost use Rattle.std.specs.List.{AllZip};
+ghost use Rattle.ic_atomic.specs.Holders.{places_of, holders_of, record_of, IsOf};
+ghost use Rattle.ic_atomic.specs.AtomicLinks.{claims_of};
+ghost use Rattle.ic_workers.specs.SharedOut.{SharedOut, places_in};
+ghost use Rattle.ic_workers.specs.Parties.{IsRow, IsReady, HasGathered, HasTaken};
+
+use crate::party::{ClaimedAll, Gathered, Offer, Party};
+use ic_atomic::{Claims, ClaimsError, Gate, Holder};
+use ic_unsafe_ref::{Place, UnsafeRef};
+use std::alloc::{AllocError, Allocator};
+use std::snapshot::Snapshot;
+use std::sync::Wait;
+use std::thread;
+use std::thread::Threads;
+
+// The first places, in order.
+fn first_places<A: Allocator>(alloc: A, count: usize) -> Result<Vec<UnsafeRef<()>, A>, AllocError>
+    requires { count ≤ 4294967296 }
+    ensures row { IfOk result (λ places. IsRow 0 places.items) }
+    ensures len { IfOk result (λ places. vec_len places ≡ count) }
+{
+    let mut places = Vec::new(alloc);
+    for index in 0..count {
+        if let Some(place) = Place::new(index) {
+            places.push(UnsafeRef::new(place))?;
+        }
+    }
+    Ok(places)
+}
+
+// A party for each holder, numbered from 1.
+fn parties<'c, A: Allocator + Copy, G: Gate>(
+    alloc: A,
+    offer: &Offer<'c, A, G>,
+    holders: Vec<Holder, A>,
+) -> Result<Vec<Party<'c, A, G>, A>, AllocError>
+    requires fresh { All (λ h. IsOf offer.now.claims.now h × (record_of h ≡ [])) holders.items }
+    requires row { IsRow 0 offer.now.offered.now }
+    requires long { length offer.now.offered.now ≡ places_of offer.now.claims.now }
+    ensures ready { IfOk result (λ parties. All (IsReady offer.now.claims.now) parties.items) }
+    ensures len { IfOk result (λ parties. vec_len parties ≡ vec_len holders) }
+{
+    let mut parties = Vec::new(alloc);
+    for holder in holders {
+        let number = parties.len() + 1;
+        parties.push(Party::new(alloc, offer, holder, number)?)?;
+    }
+    Ok(parties)
+}
+
+// Lets each party work in a thread of its own, and answers them when all are done.
+fn in_threads<R: Threads + Wait + Sync, A: Allocator + Copy + Send + Sync, G: Gate + Sync>(
+    rt: &R,
+    alloc: A,
+    claims: &Claims<A>,
+    parties: Vec<Party<'_, A, G>, A>,
+) -> Result<Vec<Gathered<A>, A>, AllocError>
+    requires { All (IsReady claims.now) parties.items }
+    ensures gathered { IfOk result (λ done. All (HasGathered claims.now) done.items) }
+    ensures len { IfOk result (λ done. vec_len done ≡ vec_len parties.entry) }
+{
+    thread::scope(
+        thread::scope_env(),
+        rt,
+        |scope| -> Result<Vec<Gathered<A>, A>, AllocError>
+            requires { All (IsReady claims.now) parties.items }
+            ensures { IfOk result (λ done. All (HasGathered claims.entry.now) done.items × (vec_len done ≡ vec_len parties.entry)) }
+        {
+            let mut threads = Vec::new(alloc);
+            for party in parties {
+                let promise = ClaimedAll(Snapshot::of(claims));
+                let thread = scope.spawn_with(
+                    promise,
+                    move || -> Gathered<A>
+                        requires { IsReady (claims_of party.links) party }
+                        ensures { HasGathered (claims_of party.entry.links) result }
+                    { party.work() },
+                )?;
+                threads.push(thread)?;
+            }
+            Ok(thread::join_promised(rt, threads)?)
+        },
+    )
+}
+
+// The holders, and the places in their lists.
+fn take_apart<A: Allocator + Copy>(
+    alloc: A,
+    claims: &Claims<A>,
+    done: Vec<Gathered<A>, A>,
+) -> Result<(Vec<Holder, A>, Vec<Vec<Place, A>, A>), AllocError>
+    requires { All (HasGathered claims.now) done.items }
+    ensures taken { IfOk result (λ parts. AllZip (HasTaken claims.now) parts.0.items (places_in parts.1.items)) }
+    ensures len { IfOk result (λ parts. vec_len parts.1 ≡ vec_len done) }
+{
+    let _ = claims;
+    let mut holders = Vec::new(alloc);
+    let mut lists = Vec::new(alloc);
+    for gathered in done {
+        let (holder, places) = gathered.into_places(alloc)?;
+        holders.push(holder)?;
+        lists.push(places)?;
+    }
+    Ok((holders, lists))
+}
+
+// The lists of all holders of the claims.
+fn fan_out_over<R: Threads + Wait + Sync, A: Allocator + Copy + Send + Sync, G: Gate + Sync>(
+    rt: &R,
+    alloc: A,
+    claims: &Claims<A>,
+    holders: Vec<Holder, A>,
+    gate: &G,
+) -> Result<Vec<Vec<Place, A>, A>, AllocError>
+    requires fresh { All (λ h. IsOf claims.now h × (record_of h ≡ [])) holders.items }
+    requires all { vec_len holders ≡ holders_of claims.now }
+    requires small { places_of claims.now ≤ 4294967296 }
+    ensures { IfOk result (λ lists. SharedOut (holders_of claims.now) (places_of claims.now) (places_in lists.items)) }
+{
+    let offered = first_places(alloc, claims.places())?;
+    let offer = Offer {
+        claims,
+        offered: &offered,
+        gate,
+    };
+    let parties = parties(alloc, &offer, holders)?;
+    let done = in_threads(rt, alloc, claims, parties)?;
+    let (mut holders, lists) = take_apart(alloc, claims, done)?;
+    claims.audit(&mut holders);
+    Ok(lists)
+}
+
+/// Offers the first `places` places to so many workers, each in a thread of its own with links and a list of its own, and
+/// answers the lists, that of the first worker first.
+///
+/// Each worker claims each place, in rising order, and puts those that it gets at the back of its list. The workers are
+/// counted from 1; the gate is told how far each is, as by [`gather`](ic_atomic::gather). Which worker gets which place is
+/// left open: each gets a rising list, and each place stands in just one of them.
+///
+/// It is refused above 4,294,967,296 places, and where no memory is found or a thread cannot be started, which is
+/// `OutOfMemory` too; workers that have begun then come to their end first. It waits for all its threads. All memory is
+/// found before the first thread is started, but for that of the lists at the end. O(workers * places).
+pub fn fan_out<R: Threads + Wait + Sync, A: Allocator + Copy + Send + Sync, G: Gate + Sync>(
+    rt: &R,
+    alloc: A,
+    workers: usize,
+    places: usize,
+    gate: &G,
+) -> Result<Vec<Vec<Place, A>, A>, ClaimsError>
+    ensures too_many { (result ≡ Err ClaimsError.TooManyPlaces) ↔ (4294967296 < places) }
+    ensures shared { IfOk result (λ lists. SharedOut workers places (places_in lists.items)) }
+{
+    let (claims, holders) = Claims::new(alloc, places, workers)?;
+    match fan_out_over(rt, alloc, &claims, holders, gate) {
+        Ok(lists) => Ok(lists),
+        Err(AllocError) => Err(ClaimsError::OutOfMemory),
+    }
+}

@@ -1,0 +1,7 @@
+//! The red-black tree, with tables whose places are claimed.
+
+pub use ic_atomic::rbtree::AtomicLinkOps;
+pub use ic_rbtree::{
+    Bound, Color, Cursor, CursorMut, CursorOwning, Entry, InsertCursor, IntoIter, Iter, KeyAdapter,
+    KeyProbe, Link, LinkOps, Probe, RBTree, RBTreeOps, key_adapter, rbtree_keys,
+};

@@ -1,0 +1,37 @@
+-- A pool that threads share: what taking an object out adds to a holder's record.
+use Rattle.std.specs.Prelude.{◌≡◌, ℕ, ◌+◌, ◌<◌, List, [], ◌∷◌, ◌++◌, map, length}
+use Rattle.ic_unsafe_ref.specs.declared.place.Place.{Place}
+use Rattle.ic_unsafe_ref.specs.Places.{index_of}
+use Rattle.ic_atomic.specs.declared.step.Step.TheVariants.{Claim}
+use Rattle.ic_atomic.specs.declared.step.Event.{Event}
+use Rattle.ic_atomic.specs.Records.{event, HoldsAlso, HoldsTheSame}
+
+-- one claim of each of these places, which found 1
+abbrev pub refusals : List Place → List Event
+refusals [] = []
+refusals (p ∷ ps) = event (Claim p) 1 ∷ refusals ps
+
+-- the places have these indices: the first `from`, and each other one more than the one in front of it
+abbrev pub IsRow : ℕ → List Place → Type 0
+IsRow from [] = Unit {0}
+IsRow from (p ∷ ps) = (index_of p ≡ from) × IsRow (from + 1) ps
+
+-- so many first places were claimed, each once and in order, and each was refused
+pub record WereRefused (count : ℕ) (old new : List Event) : Type 0 where
+  pub tried : List Place
+  pub row : IsRow 0 tried
+  pub count_is : length tried ≡ count
+  pub gained : new ≡ old ++ refusals tried
+
+-- THE PLACE WAS TAKEN OUT: all in front of it were refused, it was had, and the holder holds that one more
+pub record TakesOut (places : ℕ) (old new : List Event) (place : Place) : Type 0 where
+  pub inside : index_of place < places
+  pub refused : List Event
+  pub before : WereRefused (index_of place) old refused
+  pub had : new ≡ refused ++ event (Claim place) 0 ∷ []
+  pub held : HoldsAlso old new place
+
+-- NOTHING WAS TAKEN OUT: each place was refused, and the holder holds what it held
+pub record TakesNone (places : ℕ) (old new : List Event) : Type 0 where
+  pub refused : WereRefused places old new
+  pub held : HoldsTheSame old new

@@ -1,0 +1,55 @@
+//! A pool of objects that threads share: each thread takes an object out, and gives it back, with no lock.
+//!
+//! ```text
+//! if let Some(place) = shared_pool::take(&claims, &mut holder) {
+//!     // the object at that place is this thread's alone
+//!     shared_pool::give_back(&claims, &mut holder, place);
+//! }
+//! ```
+
+ghost use Rattle.std.specs.Prelude.{◌≡◌, ◌++◌, ◌∷◌, [], ◌<◌, ◌≤◌, true, IfSome, IfNone};
+ghost use Rattle.ic_unsafe_ref.specs.Places.{index_of};
+ghost use Rattle.ic_atomic.specs.declared.step.Step.TheVariants.{Release};
+ghost use Rattle.ic_atomic.specs.Records.{event, holds, GivesUp};
+ghost use Rattle.ic_atomic.specs.Holders.{places_of, record_of, IsOf};
+ghost use Rattle.uses.specs.Pool.{TakesOut, TakesNone};
+
+use ic_atomic::{Claims, Holder};
+use ic_unsafe_ref::Place;
+
+/// Takes an object out of the pool: the first of its places that nobody holds as this holder comes by. `None`: somebody held
+/// each of them as it was tried.
+///
+/// The pool is the claims' places. It asks that these are no more than places can be, and that the holder was made with the
+/// claims. Nobody else takes that object out until this holder gives it back. One claim a place that is tried: O(places), no
+/// memory, and it waits for nobody.
+pub fn take(claims: &Claims, holder: &mut Holder) -> Option<Place>
+    requires small { places_of claims.now ≤ 4294967296 }
+    requires made { IsOf claims.now holder.old }
+    ensures made { IsOf claims.now holder.new }
+    ensures taken { IfSome result (λ place. TakesOut (places_of claims.now) (record_of holder.old) (record_of holder.new) place) }
+    ensures none { IfNone result (TakesNone (places_of claims.now) (record_of holder.old) (record_of holder.new)) }
+{
+    for index in 0..claims.places() {
+        if let Some(place) = Place::new(index) {
+            if claims.claim(holder, place) {
+                return Some(place);
+            }
+        }
+    }
+    None
+}
+
+/// Gives an object back, which any thread may take out then.
+///
+/// It asks that this holder has taken it out. One release, O(1), no memory.
+pub fn give_back(claims: &Claims, holder: &mut Holder, place: Place)
+    requires place { index_of place < places_of claims.now }
+    requires made { IsOf claims.now holder.old }
+    requires taken { holds place (record_of holder.old) ≡ true }
+    ensures made { IsOf claims.now holder.new }
+    ensures given { GivesUp (record_of holder.old) (record_of holder.new) place }
+    ensures step { record_of holder.new ≡ record_of holder.old ++ event (Release place) 1 ∷ [] }
+{
+    claims.release(holder, place);
+}
