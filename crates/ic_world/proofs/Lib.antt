@@ -1,7 +1,6 @@
 pub mod Linked
-pub mod Readings
-pub mod Walked
 pub mod Steps
+pub mod Readings
 pub mod Edits
-pub mod Growth
-pub mod Calls
+pub mod Opened
+pub mod Turned

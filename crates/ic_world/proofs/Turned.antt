@@ -1,0 +1,91 @@
+-- What a call of one collection leaves to the world, from what the collection's own call gives, whatever the kind.
+use Rattle.std.proofs.Common.{◌≡◌, ◌⊎◌, inl, inr, true, false, Option, Some, None, List, [], ◌∷◌, ◌++◌, refl, sym, ap, ◌∙◌, subst, drop}
+use Rattle.std.proofs.lemmas.Bool.{cases_eq}
+use Rattle.std.specs.Ordering.{nat_cmp}
+use Rattle.std.specs.FinSet as set
+use Rattle.ic_unsafe_ref.specs.declared.place.Place.{Place}
+use Rattle.ic_unsafe_ref.specs.Places.{index_of}
+use Rattle.ic_unsafe_ref.proofs.PlaceLemmas.{same_index}
+use Rattle.ic_link_ops.specs.Sequences.{Cut, join, insert, remove, IsAbsent}
+use Rattle.ic_link_ops.specs.Tables.{Table, IsUnlinked}
+use Rattle.ic_link_ops.proofs.SequenceLemmas.{absent_both, absent_left, absent_right}
+use Rattle.ic_link_ops.proofs.StepLemmas.{released_stay, each_unlinked}
+use Rattle.ic_fields.specs.declared.entry.Entry.{Entry}
+use Rattle.ic_fields.specs.Entries.{is_linked}
+use Rattle.ic_members.specs.declared.members.Members.{Members}
+use Rattle.ic_members.specs.Members.{kind_in, cursor_in, members_in, Held}
+use Rattle.ic_members.specs.Edits.{Leaves, Moves, Puts, Takes, Empties}
+use Rattle.ic_members.proofs.AllKinds.{IsLawful, one_sequence, held_of}
+use Rattle.ic_world.specs.LinkedSets.{linked_in}
+use Rattle.ic_world.specs.State.{State, put, taken, moved, cleared}
+use Rattle.ic_world.specs.Turns.{Each, Turns, state_of}
+use Rattle.ic_world.proofs.Linked.{absent_or, linked_gains, linked_loses, linked_unlinks}
+
+-- a collection with these members now, on a table in which only covered places are linked
+abbrev after_call : {A V K : Type 0} → Members A V K → List Place → Option Place → set.FinSet nat_cmp → State
+after_call m s cursor linked = record { kind = kind_in m; members = s; cursor = cursor; linked = linked }
+
+module _ {A V K : Type 0} {old new : Table Entry} {m m' : Members A V K} (law : IsLawful old) (law' : IsLawful new) where
+  -- WHAT A CALL LEAVES, by what is newly linked, what it leaves of the collection, and the linked set after it
+  pub turns_by : {names s : List Place} {cursor : Option Place} {linked : set.FinSet nat_cmp} {Accepts : State → State → Type 0} (fresh : List Place)
+      → (fresh ≡ []) ⊎ (fresh ≡ names) → Each (IsUnlinked is_linked old) fresh
+      → ((q : Place) → IsAbsent q fresh → is_linked (new.entry q) ≡ true → is_linked (old.entry q) ≡ true)
+      → (e : Leaves old new m m' s cursor (fresh ++ members_in old m)) → ((q : Place) → IsAbsent q (fresh ++ members_in old m) → IsAbsent q s)
+      → linked_in new ≡ linked → (state_of new m' ≡ after_call m s cursor linked → Accepts (state_of old m) (state_of new m')) → Turns names Accepts old new m m'
+  turns_by {s = s} fresh named free only e within is accepts =
+      let shown = one_sequence new law' m' s e.kept.shown in record {
+        fresh = fresh;
+        named = named;
+        free = free;
+        only = only;
+        frame = e.frame;
+        within = λ q out. subst (IsAbsent q) (sym shown) (within q out);
+        held = held_of law' m' s e.kept;
+        alike = e.alike;
+        accepts = accepts (λ i. record { kind = e.alike.kind i; members = shown i; cursor = e.cursor_is i; linked = is i });
+      }
+
+  -- p is put into the gap
+  pub turns_put : {cursor : Option Place} {Accepts : State → State → Type 0} (gap : Cut) (p : Place) → join gap ≡ members_in old m → (e : Puts old new m m' gap p cursor)
+      → (state_of new m' ≡ put (state_of old m) gap p cursor → Accepts (state_of old m) (state_of new m')) → Turns (p ∷ []) Accepts old new m m'
+  turns_put gap p cut e accepts =
+      let absent : (q : Place) → IsAbsent q (p ∷ join gap) → IsAbsent q (insert gap p) =
+      λ q out. absent_both q gap.front (p ∷ gap.back) (absent_left q gap.front gap.back out.1) (out.0, absent_right q gap.front gap.back out.1) in
+      turns_by (p ∷ []) (inr refl) (e.links.was, tt) (λ q out h. sym (e.links.others q out.0) ∙ h) e.leaves
+      (λ q out. absent q (subst (λ s. IsAbsent q (p ∷ s)) (sym cut) out)) (linked_gains old new law law' p e.links.is e.links.others) accepts
+
+  -- p, the member behind the gap, is taken out
+  pub turns_out : {cursor : Option Place} {Accepts : State → State → Type 0} (gap : Cut) (p : Place) → join gap ≡ members_in old m → (e : Takes old new m m' gap p cursor)
+      → (state_of new m' ≡ taken (state_of old m) gap p cursor → Accepts (state_of old m) (state_of new m')) → Turns [] Accepts old new m m'
+  turns_out gap p cut e accepts =
+      let still : (q : Place) → is_linked (new.entry q) ≡ true → is_linked (old.entry q) ≡ true = λ q h. elim (cases_eq (index_of q) (index_of p)) [
+        | inl same ↦ let no : is_linked (new.entry q) ≡ false = rw (same_index q p same) e.links.is in absurd cc
+        | inr other ↦ sym (e.links.others q (λ x. other (ap index_of x))) ∙ h
+      ] in
+      let absent : (q : Place) → IsAbsent q (join gap) → IsAbsent q (remove gap) =
+      λ q out. absent_both q gap.front (drop 1 gap.back) (absent_left q gap.front gap.back out) (absent_drop q gap.back (absent_right q gap.front gap.back out)) in
+      turns_by [] (inl refl) tt (λ q out h. still q h) e.leaves
+      (λ q out. absent q (subst (IsAbsent q) (sym cut) out)) (linked_loses old new law law' p e.links.is e.links.others) accepts
+    where
+      absent_drop : (q : Place) (t : List Place) → IsAbsent q t → IsAbsent q (drop 1 t)
+      absent_drop q [] h = tt
+      absent_drop q (x ∷ t) h = h.1
+
+  -- all members are taken out
+  pub turns_clear : {Accepts : State → State → Type 0} → (e : Empties old new m m')
+      → (state_of new m' ≡ cleared (state_of old m) → Accepts (state_of old m) (state_of new m')) → Turns [] Accepts old new m m'
+  turns_clear e accepts =
+      let gone = λ q there. each_unlinked (members_in old m) old new q e.links there in
+      let same = λ q out. released_stay (members_in old m) old new q e.links out in
+      turns_by [] (inl refl) tt (λ q out h. elim (absent_or (members_in old m) q) [
+        | inl out ↦ sym (same q out) ∙ h
+        | inr there ↦ absurd (let no = gone q there in let both : true ≡ false = sym h ∙ no in cc)
+      ]) e.leaves (λ q out. tt) (linked_unlinks old new law law' (members_in old m) gone same) accepts
+
+-- the cursor alone has moved
+pub turns_still : {A V K : Type 0} {t : Table Entry} {m m' : Members A V K} {cursor : Option Place} {Accepts : State → State → Type 0} → IsLawful t → (e : Moves t m m' cursor)
+    → (state_of t m' ≡ moved (state_of t m) cursor → Accepts (state_of t m) (state_of t m')) → Turns [] Accepts t t m m'
+turns_still {t = t'} {m = m'} law e accepts =
+    turns_by law law [] (inl refl) tt (λ q out h. h)
+    (record { kept = e.kept; alike = e.alike; cursor_is = e.cursor_is; frame = record { extent = refl; others = λ q out. refl } })
+    (λ q out. out) refl accepts
