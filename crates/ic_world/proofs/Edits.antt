@@ -133,7 +133,7 @@ module _ {A V K : Type 0} where
     field_after : (linked : _) → linked_in t ≡ linked → field_in t ≡ record { kind = (field_of (family_of adapter objects ts cs) k.field).kind; linked = linked }
     field_after linked is =
         let at_f : field_of (family_of adapter objects ts cs) k.field ≡ field_in (table ts k.field) = get_or-map field_in ts k.field no_table _ in_ts in
-        let kinds : kind_of t ≡ (field_of (family_of adapter objects ts cs) k.field).kind = ap (λ x. kind_with x.kind) e.frame.extent ∙ ap (λ (x : LinkField). x.kind) (sym at_f) in
+        let kinds : kind_of t ≡ (field_of (family_of adapter objects ts cs) k.field).kind = ap (λ x. kind_with x.identity) e.frame.extent ∙ ap (λ (x : LinkField). x.kind) (sym at_f) in
         λ i. record { kind = kinds i; linked = is i }
 
     -- THE FAMILY after an edit
@@ -147,7 +147,7 @@ module _ {A V K : Type 0} where
     pub unlinked_family : linked_in t ≡ linked_in (table ts k.field)
         → family_of adapter objects (set ts k.field t) (set cs c (Some (after k m))) ≡ with_collection (family_of adapter objects ts cs) c (Some (seen_as (after k m) members))
     unlinked_family is =
-        let kinds : kind_of t ≡ kind_of (table ts k.field) = ap (λ x. kind_with x.kind) e.frame.extent in
+        let kinds : kind_of t ≡ kind_of (table ts k.field) = ap (λ x. kind_with x.identity) e.frame.extent in
         let one : field_in t ≡ field_in (table ts k.field) = λ i. record { kind = kinds i; linked = is i } in
         let fields = map-set field_in ts k.field t ∙ ap (set (map field_in ts) k.field) one ∙ sym (map-set field_in ts k.field (table ts k.field)) ∙ ap (map field_in) (set-get_or ts k.field no_table) in
         λ i. record { adapter = adapter; objects = (family_of adapter objects ts cs).objects; fields = fields i; collections = collections_after i }

@@ -8,8 +8,9 @@ use Rattle.ic_fields.specs.declared.entry.Entry.{Entry}
 use Rattle.ic_fields.specs.declared.field.Field.{Field}
 use Rattle.ic_fields.specs.Fields.{look}
 use Rattle.ic_world.specs.declared.collection.Collection.{Collection}
-use Rattle.ic_members.specs.Members.{Keeps}
-use Rattle.ic_world.specs.Tables.{table, no_table, field_in, linked_in, sequence, seen_as, shown_as, at, family_of, IsWhole}
+use Rattle.ic_members.specs.Members.{Held}
+use Rattle.ic_world.specs.Tables.{table, no_table, field_in, sequence, seen_as, shown_as, at, family_of, IsWhole}
+use Rattle.ic_world.specs.LinkedSets.{linked_in}
 use Rattle.ic_world.specs.Step.{collection, field_of, linked_of}
 
 -- what a read of the vector of tables found
@@ -26,7 +27,7 @@ module _ {A V K : Type 0} where
     pub is : at cs c ≡ Some k
     pub field : k.field < length (map look tables)
     pub read : table (map look tables) k.field ≡ look now
-    pub kept : Keeps (look now) k.members (sequence (map look tables) k)
+    pub held : Held (look now) k.members
     pub table_back : set tables k.field now ≡ tables
     pub list_back : set cs c (Some k) ≡ cs
 
@@ -41,12 +42,12 @@ module _ {A V K : Type 0} where
       let at_c = found_at cs c h e l collection is in
       let field = whole.in_field c k at_c in
       let read = table_read tables k.field now (rw length-map at field) links in
-      let P : Table Entry → Type 0 = λ t. Keeps t k.members (sequence (map look tables) k) in
+      let P : Table Entry → Type 0 = λ t. Held t k.members in
       record {
         is = at_c;
         field = field;
         read = read;
-        kept = subst P read (whole.held c k at_c);
+        held = subst P read (whole.held c k at_c);
         table_back = set_back tables k.field now links;
         list_back = set_back cs c (Some k) (rw is at collection);
       }

@@ -1,0 +1,195 @@
+-- A CALL OF ONE COLLECTION, for the world: what the collection's call gives is lifted once, for all calls.
+use Rattle.std.proofs.Common.{◌≡◌, ℕ, ◌⊎◌, inl, inr, true, false, List, [], ◌∷◌, ◌++◌, map, set, get_or, Option, Some, None, Bool, refl, sym, ap, ◌∙◌, subst, arith, Result, Ok, Err, OnErr, IfOk, ◌&&◌}
+use Rattle.std.proofs.lemmas.Bool.{cases_eq}
+use Rattle.std.proofs.lemmas.List.{map-set}
+use Rattle.std.specs.List.{list_all, AllByRecursion}
+use Rattle.std.specs.declared.cmp.Ordering.{Ordering}
+use Rattle.ic_unsafe_ref.specs.declared.place.Place.{Place}
+use Rattle.ic_unsafe_ref.specs.Places.{index_of}
+use Rattle.ic_unsafe_ref.specs.Objects.{Objects, object_at}
+use Rattle.ic_unsafe_ref.specs.Objects.{is_placed as place_is_placed}
+use Rattle.ic_unsafe_ref.proofs.PlaceLemmas.{same_index}
+use Rattle.ic_link_ops.specs.Sequences.{IsAbsent, IsDisjoint}
+use Rattle.ic_link_ops.specs.Tables.{Table, IsCovered, IsUnlinked}
+use Rattle.ic_link_ops.specs.PlacedObjects.{ArePlaced}
+use Rattle.ic_link_ops.proofs.SequenceLemmas.{disjoint_cons}
+use Rattle.ic_fields.specs.declared.entry.Entry.{Entry}
+use Rattle.ic_fields.specs.declared.field.Field.{Field}
+use Rattle.ic_fields.specs.Fields.{look}
+use Rattle.ic_fields.specs.Entries.{is_linked}
+use Rattle.ic_members.specs.Members.{kind_in, cursor_in, members_in, Held}
+use Rattle.ic_members.specs.declared.members.Members.{Members}
+use Rattle.ic_members.proofs.AllKinds.{unlinked_absent}
+use Rattle.ic_world.specs.declared.collection.Collection.{Collection}
+use Rattle.ic_world.specs.declared.call.Refusal.{Refusal}
+use Rattle.ic_world.specs.declared.call.Refusal.TheVariants.{NoSuchObject, AlreadyLinked}
+use Rattle.ic_world.specs.declared.insertion.Insertion.TheVariants.{Insert, CursorInsert}
+use Rattle.ic_world.specs.declared.search.Search.TheVariants.{Find, LowerBound, UpperBound}
+use Rattle.ic_world.specs.Family.{Family}
+use Rattle.ic_world.specs.State.{State, Reply, refused, found, looked, entry, reply_of, asks}
+use Rattle.ic_world.specs.Calls.{Call, edit, seek, pick, swap, search, insertion, enter, names, refusal_of, Replies}
+use Rattle.ic_world.specs.Turns.{Each, Turns, Ran, refusal_in, state_of}
+use Rattle.ic_world.specs.Tables.{table, sequence, seen_as, at, family_of, IsWhole, HasObject}
+use Rattle.ic_world.specs.Seen.{Sees}
+use Rattle.ic_world.specs.Step.{StepOn, AcceptsOn, refusal_on, state_in, is_placed, objects_of, asks_collection}
+use Rattle.ic_world.proofs.Readings.{Found, collection_is, linked_at, set_back}
+use Rattle.ic_world.proofs.Edits.{Edit, after, lawful, edited_family, edited_whole}
+
+-- a place is not among some, or has what each of them has
+each_or : (P : Place → Type 0) (s : List Place) (q : Place) → Each P s → IsAbsent q s ⊎ P q
+each_or P [] q h = inl tt
+each_or P (x ∷ s) q h =
+    elim (cases_eq (index_of q) (index_of x)) [
+      | inl e ↦ inr (subst P (sym (same_index q x e)) h.0)
+      | inr d ↦ elim (each_or P s q h.1) [
+        | inl out ↦ inl ((λ e. d (ap index_of e)), out)
+        | inr has ↦ inr has
+      ]
+    ]
+
+each_map : (P Q : Place → Type 0) → ((p : Place) → P p → Q p) → (s : List Place) → Each P s → Each Q s
+each_map P Q f [] h = tt
+each_map P Q f (x ∷ s) h = (f x h.0, each_map P Q f s h.1)
+
+each_named : (P : Place → Type 0) (fresh named : List Place) → (fresh ≡ []) ⊎ (fresh ≡ named) → Each P named → Each P fresh
+each_named P fresh named (inl e) h = subst (Each P) (sym e) tt
+each_named P fresh named (inr e) h = subst (Each P) (sym e) h
+
+-- what a call answers is told by the values alone
+module _ {V K : Type 0} (cmp : K → K → Ordering) (key_of : V → K) (objects other : Objects V) (same : other.values ≡ objects.values) where
+  replies_of : (call : Call K) (s : State) (reply : Reply) (t : State) → Replies cmp key_of objects call s reply t → Replies cmp key_of other call s reply t
+  replies_of (edit call) s reply t h = h
+  replies_of (seek call) s reply t h = h
+  replies_of (pick call) s reply t h = h
+  replies_of (swap call) s reply t h = h
+  replies_of (search (Find key)) s (found p n) t h = rw same h
+  replies_of (search (LowerBound bound)) s (found p n) t h = rw same h
+  replies_of (search (UpperBound bound)) s (found p n) t h = rw same h
+  replies_of (insertion (Insert p)) s (looked n) t h = rw same h
+  replies_of (insertion (CursorInsert p)) s (looked n) t h = rw same h
+  replies_of (enter key p) s (entry true q n) t h = rw same h
+  replies_of (enter key p) s (entry false q n) t h = rw same h
+  replies_of (enter key p) s (refused AlreadyLinked) t h = rw same h
+  replies_of _ s _ t h = absurd h
+
+module _ {A V K : Type 0} {adapter : A} {objects : Objects V} {room : ℕ} {ts : List (Table Entry)} {cs : List (Option (Collection A V K))} (whole : IsWhole adapter objects room ts cs)
+    (c : ℕ) (k : Collection A V K) (is : at cs c ≡ Some k) where
+  -- the state of the collection, as the world has it
+  pub same_state : state_in (family_of adapter objects ts cs) (seen_as k (sequence ts k)) ≡ state_of (table ts k.field) k.members
+  same_state = λ i. record { kind = kind_in k.members; members = sequence ts k; cursor = cursor_in k.members; linked = linked_at adapter objects ts cs k.field (whole.in_field c k is) i }
+
+  -- an object stands at each member
+  pub placed_members : (s : List Place) → ((q : Place) → (IsAbsent q s → ⊥) → is_linked ((table ts k.field).entry q) ≡ true) → ArePlaced objects s
+  placed_members [] h = tt
+  placed_members (x ∷ s) h = (whole.placed k.field x (h x (λ out. out.0 refl)), placed_members s (λ q there. h q (λ out. there out.1)))
+
+  module _ {named : List Place} {Accepts : State → State → Type 0} {new : Table Entry} {m : Members A V K} (turns : Turns named Accepts (table ts k.field) new k.members m)
+      (has : Each (λ p. HasObject objects (index_of p)) named) where
+    turn_edit : Edit adapter objects ts cs c k new m (members_in new m) (turns.fresh ++ sequence ts k)
+    turn_edit = record {
+      was = is;
+      kept = turns.held;
+      alike = turns.alike;
+      frame = turns.frame;
+      placed = λ q h. elim (each_or (λ p. HasObject objects (index_of p)) turns.fresh q (each_named (λ p. HasObject objects (index_of p)) turns.fresh named turns.named has)) [
+        | inl out ↦ whole.placed k.field q (turns.only q out h)
+        | inr there ↦ there
+      ];
+      within = turns.within;
+      beside = λ d l n is_l same. apart l (λ p free. unlinked_absent (table ts l.field) l.members (sequence ts l) (whole.held d l is_l).shown
+          (subst (λ f. IsUnlinked is_linked (table ts f) p) (sym same) free)) (whole.apart d c l k n is_l is same) turns.fresh turns.free;
+    }
+      where
+        apart : (l : Collection A V K) → ((p : Place) → IsUnlinked is_linked (table ts k.field) p → IsAbsent p (sequence ts l)) → IsDisjoint (sequence ts l) (sequence ts k)
+            → (fresh : List Place) → Each (IsUnlinked is_linked (table ts k.field)) fresh → IsDisjoint (sequence ts l) (fresh ++ sequence ts k)
+        apart l absent rest [] free = rest
+        apart l absent rest (p ∷ s) free = disjoint_cons p (sequence ts l) (s ++ sequence ts k) (absent p free.0) (apart l absent rest s free.1)
+
+    pub turn_whole : IsWhole adapter objects room (set ts k.field new) (set cs c (Some (after k m)))
+    turn_whole = edited_whole whole turn_edit
+
+module _ {A V K M : Type 0} {adapter : A} {objects : Objects V} {room : ℕ} {tables : List (Field M)} {cs : List (Option (Collection A V K))} (whole : IsWhole adapter objects room (map look tables) cs)
+    {c : ℕ} {k : Collection A V K} {now : Field M} (at_k : Found tables cs c k now) where
+  abbrev ts : List (Table Entry)
+  ts = map look tables
+
+  -- what the call of the collection asks
+  pub placed_by : ArePlaced objects (members_in (look now) k.members)
+  placed_by = subst (λ t. ArePlaced objects (members_in t k.members)) at_k.read (placed_members whole c k at_k.is (sequence ts k) (λ q there. linked q there (is_linked ((table ts k.field).entry q)) refl))
+    where
+      linked : (q : Place) → (IsAbsent q (sequence ts k) → ⊥) → (b : Bool) → is_linked ((table ts k.field).entry q) ≡ b → is_linked ((table ts k.field).entry q) ≡ true
+      linked q there true e = e
+      linked q there false e = absurd (there (unlinked_absent (table ts k.field) k.members (sequence ts k) (whole.held c k at_k.is).shown e))
+
+  -- what a call that only reads finds
+  pub sees_by : {old : Family A V} → family_of adapter objects ts cs ≡ old → Sees old c (look now) k.members
+  sees_by view = subst (λ w. Sees w c (look now) k.members) view (record {
+    s = seen_as k (sequence ts k);
+    is = collection_is adapter objects ts cs c k at_k.is;
+    state = same_state whole c k at_k.is ∙ ap (λ t. state_of t k.members) at_k.read;
+    held = at_k.held;
+    adapted = whole.adapted c k at_k.is;
+    placed = placed_by;
+  })
+
+  pub placed_each : (s : List Place) → list_all (place_is_placed objects) s ≡ true → Each (λ p. HasObject objects (index_of p)) s
+  placed_each [] e = tt
+  placed_each (p ∷ s) e = (both_left (place_is_placed objects p) _ e, placed_each s (both_right (place_is_placed objects p) _ e))
+    where
+      both_left : (a b : Bool) → (a && b) ≡ true → a ≡ true
+      both_left true b e = refl
+      both_left false b e = cc
+
+      both_right : (a b : Bool) → (a && b) ≡ true → b ≡ true
+      both_right true b e = e
+      both_right false b e = cc
+
+  pub room_for : (s : List Place) → list_all (place_is_placed objects) s ≡ true → Each (IsCovered (look now)) s
+  room_for s e = each_map (λ p. HasObject objects (index_of p)) (IsCovered (look now)) (λ p has. let a = whole.within (index_of p) has in let b = rw at_k.read at (whole.covered k.field at_k.field) in omega (arith, a, b)) s (placed_each s e)
+
+  module _ (cmp : K → K → Ordering) (key_of : A → V → K) (call : Call K) (placed : list_all (place_is_placed objects) (names call) ≡ true) {R : Type 0} (accepted : R → Reply) (r : Result R Refusal) (nf : Field M) (m : Members A V K)
+      (ran : Ran (names call) (refusal_of call) (λ a s t. Replies cmp (key_of adapter) objects call s (accepted a) t) now nf k.members m r) where
+    -- THE INVARIANT and THE STEP, by the result
+    pub whole_by : IsWhole adapter objects room (map look (set tables k.field nf)) (set cs c (Some (after k m)))
+    whole_by = by r ran.turned ran.unchanged
+      where
+        by : (r : Result R Refusal) → IfOk r (λ a. Turns (names call) (λ s t. Replies cmp (key_of adapter) objects call s (accepted a) t) (look now) (look nf) k.members m) → OnErr r ((nf ≡ now) × (m ≡ k.members))
+            → IsWhole adapter objects room (map look (set tables k.field nf)) (set cs c (Some (after k m)))
+        by (Ok a) turned same = rw map-set (turn_whole whole c k at_k.is {named = names call} {Accepts = λ s t. Replies cmp (key_of adapter) objects call s (accepted a) t} (rw at_k.read turned) (placed_each (names call) placed))
+        by (Err x) turned same = rw (same.0, same.1, at_k.table_back, at_k.list_back) whole
+
+    pub step_by : {old : Family A V} → family_of adapter objects ts cs ≡ old
+        → StepOn cmp key_of old c call (reply_of accepted r) (family_of adapter objects (map look (set tables k.field nf)) (set cs c (Some (after k m))))
+    step_by view =
+        let tests : refusal_on (family_of adapter objects ts cs) c call ≡ refusal_in r = ap (λ o. asks_collection o (λ s. asks (list_all (is_placed (family_of adapter objects ts cs)) (names call)) NoSuchObject (refusal_of call (state_in (family_of adapter objects ts cs) s)))) (collection_is adapter objects ts cs c k at_k.is)
+        ∙ ap (λ b. asks b NoSuchObject (refusal_of call (state_in (family_of adapter objects ts cs) (seen_as k (sequence ts k))))) placed
+        ∙ ap (refusal_of call) (same_state whole c k at_k.is ∙ ap (λ t. state_of t k.members) at_k.read) ∙ sym ran.tested in
+        subst (λ w. StepOn cmp key_of w c call (reply_of accepted r) (family_of adapter objects (map look (set tables k.field nf)) (set cs c (Some (after k m))))) view (by r ran.turned ran.unchanged tests)
+      where
+        by : (r : Result R Refusal) → IfOk r (λ a. Turns (names call) (λ s t. Replies cmp (key_of adapter) objects call s (accepted a) t) (look now) (look nf) k.members m) → OnErr r ((nf ≡ now) × (m ≡ k.members))
+            → refusal_on (family_of adapter objects ts cs) c call ≡ refusal_in r
+            → StepOn cmp key_of (family_of adapter objects ts cs) c call (reply_of accepted r) (family_of adapter objects (map look (set tables k.field nf)) (set cs c (Some (after k m))))
+        by (Ok a) turned same e =
+            let Accepts : State → State → Type 0 = λ s t. Replies cmp (key_of adapter) objects call s (accepted a) t in
+            let here : Turns (names call) Accepts (table ts k.field) (look nf) k.members m = rw at_k.read turned in
+            let edit = turn_edit whole c k at_k.is {named = names call} {Accepts = Accepts} here (placed_each (names call) placed) in
+            rw (e, map-set) (
+              seen_as k (sequence ts k),
+              state_of (look nf) m,
+              collection_is adapter objects ts cs c k at_k.is,
+              replies_of cmp (key_of adapter) objects (objects_of (family_of adapter objects ts cs)) refl call _ (accepted a) _ (subst (λ s. Accepts s (state_of (look nf) m)) (sym (same_state whole c k at_k.is)) here.accepts),
+              edited_family whole edit _ refl,
+            )
+        by (Err x) turned same e = rw (e, same.0, same.1, at_k.table_back, at_k.list_back) (refl, refl)
+
+-- an object that the call names is not placed, and the collection is as it was read
+pub step_unplaced : {A V K : Type 0} (cmp : K → K → Ordering) (key_of : A → V → K) (adapter : A) (objects : Objects V) (ts : List (Table Entry)) (cs : List (Option (Collection A V K))) (c : ℕ) (k : Collection A V K)
+    {o : Option (Collection A V K)} (call : Call K) {old : Family A V} → family_of adapter objects ts cs ≡ old
+    → at cs c ≡ Some k → o ≡ get_or cs c o → o ≡ Some k → list_all (place_is_placed objects) (names call) ≡ false
+    → StepOn cmp key_of old c call (refused NoSuchObject) (family_of adapter objects ts (set cs c (Some k)))
+step_unplaced cmp key_of adapter objects us cs c k {o} call {old} view is read there lacks =
+    let back = set_back cs c (Some k) (rw there at read) in
+    let e : refusal_on (family_of adapter objects us cs) c call ≡ Some NoSuchObject =
+    ap (λ o. asks_collection o (λ s. asks (list_all (is_placed (family_of adapter objects us cs)) (names call)) NoSuchObject (refusal_of call (state_in (family_of adapter objects us cs) s)))) (collection_is adapter objects us cs c k is)
+    ∙ ap (λ b. asks b NoSuchObject (refusal_of call (state_in (family_of adapter objects us cs) (seen_as k (sequence us k))))) lacks in
+    rw (← view, e, back) (refl, refl)
