@@ -5,3 +5,4 @@ pub mod Edits
 pub mod Opened
 pub mod Turned
 pub mod Calls
+pub mod Growth

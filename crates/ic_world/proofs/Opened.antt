@@ -28,7 +28,7 @@ use Rattle.ic_world.proofs.Edits.{lawful}
 use Rattle.ic_world.proofs.Readings.{field_at}
 use Rattle.ic_world.proofs.Steps.{step_accepted, step_refused, field_there, passes, fails}
 
-disjoint_none : (s : List Place) → IsDisjoint s []
+pub disjoint_none : (s : List Place) → IsDisjoint s []
 disjoint_none [] = tt
 disjoint_none (x ∷ s) = (tt, disjoint_none s)
 
@@ -116,7 +116,7 @@ module _ {A V K : Type 0} (cmp : K → K → Ordering) (key_of : A → V → K) 
         (rw length-map number, λ i. record { adapter = adapter; objects = objects.values; fields = (family_of adapter objects ts cs).fields; collections = all i })
 
 -- A world with nothing in it
-pub empty_whole : {A V K : Type 0} (adapter : A) (objects : Objects V) → objects.values ≡ map_of.empty → IsWhole adapter objects 0 [] []
+pub empty_whole : {A V K : Type 0} (adapter : A) (objects : Objects V) → objects.values ≡ map_of.empty → IsWhole {K = K} adapter objects 0 [] []
 empty_whole adapter objects none = record {
   within = λ i has. let lacks : map_of.get objects.values i ≡ None = ap (λ m. map_of.get m i) none ∙ get-empty nat_cmp i in let h = rw lacks at has in cc;
   covered = λ f h. absurd (omega (arith, h));

@@ -1,0 +1,171 @@
+-- Tables that cover more places, and a field more: the family stays what it is.
+use Rattle.std.proofs.Common.{◌≡◌, ◌≢◌, ℕ, zero, suc, ◌<◌, ◌≤◌, inl, inr, Bool, true, false, List, [], ◌∷◌, ◌++◌, length, map, get_or, set, Option, Some, None, refl, sym, ap, ◌∙◌, subst, arith, length-append, max, Result, Ok, Err, OnOk, OnErr}
+use Rattle.std.proofs.lemmas.Bool.{cases_eq}
+use Rattle.std.proofs.lemmas.List.{get_or_past, map-append, length-map, length-set, get_or-set_same, get_or-set_other, ext_get_or, get_or_append_left, get_or_push}
+use Rattle.std.proofs.Math.ListN.{get_or-map as map_at}
+use Rattle.std.specs.FinSet as set_of
+use Rattle.ic_unsafe_ref.specs.declared.place.Place.{Place}
+use Rattle.ic_unsafe_ref.specs.Objects.{Objects}
+use Rattle.ic_link_ops.specs.Sequences.{IsDisjoint}
+use Rattle.ic_link_ops.specs.Tables.{Table, Extent, IsCovered}
+use Rattle.ic_link_ops.proofs.SequenceLemmas.{disjoint_sym}
+use Rattle.ic_fields.specs.declared.entry.Entry.{Entry}
+use Rattle.ic_fields.specs.declared.field.Field.{Field}
+use Rattle.ic_fields.specs.declared.kind.Kind.{Kind}
+use Rattle.ic_fields.specs.Fields.{look}
+use Rattle.ic_fields.specs.Kinds.{kind_with}
+use Rattle.ic_fields.specs.Entries.{is_linked, kind_of}
+use Rattle.ic_members.specs.Members.{Keeps}
+use Rattle.ic_members.proofs.AllKinds.{lawful as lawful_field}
+use Rattle.ic_members.proofs.AllKinds.{IsLawful, one_sequence, shown_frame}
+use Rattle.ic_world.specs.declared.collection.Collection.{Collection}
+use Rattle.ic_world.specs.Family.{Family, Sequence, LinkField}
+use Rattle.ic_world.specs.LinkedSets.{linked_in}
+use Rattle.ic_world.specs.Tables.{table, no_table, field_in, sequence, seen_as, shown_as, at, family_of, IsWhole}
+use Rattle.ic_world.specs.Growth.{Grown}
+use Rattle.ic_world.proofs.Linked.{side, linked_empty, linked_same}
+use Rattle.ic_world.proofs.Edits.{lawful}
+use Rattle.ic_world.proofs.Opened.{disjoint_none}
+
+pub grown_none : (ts : List (Table Entry)) → Grown ts ts
+grown_none ts = record { count = refl; longer = λ f. omega arith; identity = λ f. refl; entries = λ f q. refl }
+
+-- one of them grows
+pub grown_more : (ts us : List (Table Entry)) (f : ℕ) (t : Table Entry) → Grown ts us → f < length us → (table us f).extent.places ≤ t.extent.places
+    → t.extent.identity ≡ (table us f).extent.identity → ((q : Place) → t.entry q ≡ (table us f).entry q) → Grown ts (set us f t)
+grown_more ts us f t so within longer identity same = record {
+  count = length-set us f t ∙ so.count;
+  longer = λ g. elim (cases_eq g f) [
+    | inl e ↦ let here = ap (λ (u : Table Entry). u.extent.places) (get_or-set_same us f t no_table within) in let old = so.longer f in rw e (omega (arith, here, old, longer))
+    | inr d ↦ let there = ap (λ (u : Table Entry). u.extent.places) (get_or-set_other us f g t no_table d) in let old = so.longer g in omega (arith, there, old)
+  ];
+  identity = λ g. elim (cases_eq g f) [
+    | inl e ↦ rw (e, get_or-set_same us f t no_table within) (identity ∙ so.identity f)
+    | inr d ↦ rw (get_or-set_other us f g t no_table d) (so.identity g)
+  ];
+  entries = λ g q. elim (cases_eq g f) [
+    | inl e ↦ rw (e, get_or-set_same us f t no_table within) (same q ∙ so.entries f q)
+    | inr d ↦ rw (get_or-set_other us f g t no_table d) (so.entries g q)
+  ];
+}
+
+-- a table that was asked to cover n places covers no fewer than before
+pub covers_more : {A E : Type 0} (r : Result A E) (old new : Extent) (n : ℕ) → OnOk r (new.places ≡ max old.places n) → OnErr r (new ≡ old) → old.places ≤ new.places
+covers_more (Ok a) old new n ok err = omega (arith, ok)
+covers_more (Err e) old new n ok err = let same = ap (λ (x : Extent). x.places) err in omega (arith, same)
+
+module _ {A V K : Type 0} (adapter : A) (objects : Objects V) (ts us : List (Table Entry)) (cs : List (Option (Collection A V K))) {room : ℕ} (whole : IsWhole adapter objects room ts cs) (grown : Grown ts us) where
+  grown_lawful : (f : ℕ) → IsLawful (table us f)
+  grown_lawful f q h = let a = lawful whole f q (rw (grown.entries f q) at h) in let b = grown.longer f in omega (arith, a, b)
+
+  grown_kept : (c : ℕ) (k : Collection A V K) → at cs c ≡ Some k → Keeps (table us k.field) k.members (sequence ts k)
+  grown_kept c k is =
+      let old = whole.held c k is in record {
+        carried = rw (grown.identity k.field) old.carried;
+        shown = shown_frame (table ts k.field) (table us k.field) k.members (sequence ts k) [] old.shown (disjoint_none (sequence ts k)) (λ q out. grown.entries k.field q);
+        stands = old.stands;
+      }
+
+  grown_sequence : (c : ℕ) (k : Collection A V K) → at cs c ≡ Some k → sequence us k ≡ sequence ts k
+  grown_sequence c k is = one_sequence (table us k.field) (grown_lawful k.field) k.members (sequence ts k) (grown_kept c k is).shown
+
+  alike : (c : ℕ) (o : Option (Collection A V K)) → at cs c ≡ o → shown_as us o ≡ shown_as ts o
+  alike c None is = refl
+  alike c (Some k) is = ap (λ (s : List Place). let r : Option Sequence = Some (seen_as k s) in r) (grown_sequence c k is)
+
+  pub grown_collections : map (shown_as us) cs ≡ map (shown_as ts) cs
+  grown_collections =
+      ext_get_or None (map (shown_as us) cs) (map (shown_as ts) cs) (length-map cs (shown_as us) ∙ sym (length-map cs (shown_as ts))) (λ c h.
+      map_at (shown_as us) cs c None ∙ alike c (at cs c) refl ∙ sym (map_at (shown_as ts) cs c None))
+
+  grown_field : (f : ℕ) → field_in (table us f) ≡ field_in (table ts f)
+  grown_field f =
+      let kinds : kind_of (table us f) ≡ kind_of (table ts f) = ap kind_with (grown.identity f) in
+      let links = linked_same (table ts f) (table us f) (lawful whole f) (grown_lawful f) (λ q. ap is_linked (grown.entries f q)) in
+      λ i. record { kind = kinds i; linked = links i }
+
+  -- THE SAME FAMILY, with longer tables
+  pub grown_family : family_of adapter objects us cs ≡ family_of adapter objects ts cs
+  grown_family =
+      let fields : map field_in us ≡ map field_in ts =
+      ext_get_or (field_in no_table) (map field_in us) (map field_in ts) (length-map us field_in ∙ grown.count ∙ sym (length-map ts field_in)) (λ f h.
+      map_at field_in us f no_table ∙ grown_field f ∙ sym (map_at field_in ts f no_table)) in
+      λ i. record { adapter = adapter; objects = objects.values; fields = fields i; collections = grown_collections i }
+
+  -- and the invariant, where each table covers what the objects need
+  pub grown_whole : (more : ℕ) → room ≤ more → ((f : ℕ) → f < length us → more ≤ (table us f).extent.places) → IsWhole adapter objects more us cs
+  grown_whole more reach covered = record {
+    within = λ i has. let h = whole.within i has in omega (arith, h, reach);
+    covered = covered;
+    placed = λ f q h. whole.placed f q (rw (grown.entries f q) at h);
+    in_field = λ c k is. let old = whole.in_field c k is in let longer = grown.count in omega (arith, old, longer);
+    held = λ c k is. subst (Keeps (table us k.field) k.members) (sym (grown_sequence c k is)) (grown_kept c k is);
+    adapted = whole.adapted;
+    apart = λ a b x y n is_x is_y same. rw (grown_sequence a x is_x, grown_sequence b y is_y) (whole.apart a b x y n is_x is_y same);
+  }
+
+  -- which they did before
+  pub still_covered : (f : ℕ) → f < length us → room ≤ (table us f).extent.places
+  still_covered f within = let n = grown.count in let old = whole.covered f (omega (arith, within, n)) in let longer = grown.longer f in omega (arith, old, longer)
+
+-- in a table that covered no place when it was made nothing is linked, and growing keeps it so
+pub nothing_linked : {M : Type 0} (links : Field M) (t : Table Entry) → (look links).extent.places ≡ 0 → ((q : Place) → t.entry q ≡ (look links).entry q) → (q : Place) → is_linked (t.entry q) ≡ false
+nothing_linked links t covers same q = by (is_linked (t.entry q)) refl
+  where
+    by : (b : Bool) → is_linked (t.entry q) ≡ b → is_linked (t.entry q) ≡ false
+    by true e = let h : IsCovered (look links) q = lawful_field links q (rw (same q) at e) in absurd (omega (arith, h, covers))
+    by false e = e
+
+-- A FIELD more, of which no place is linked
+module _ {A V K : Type 0} {adapter : A} {objects : Objects V} {room : ℕ} {ts : List (Table Entry)} {cs : List (Option (Collection A V K))} (whole : IsWhole adapter objects room ts cs) (t : Table Entry)
+    (none : (q : Place) → is_linked (t.entry q) ≡ false) where
+  abbrev more : List (Table Entry)
+  more = ts ++ t ∷ []
+
+  in_old : (f : ℕ) → f < length ts → table more f ≡ table ts f
+  in_old f h = get_or_append_left ts (t ∷ []) no_table f h
+
+  last : (f : ℕ) → length ts ≤ f → f < length more → table more f ≡ t
+  last f past within = get_or_push ts t no_table f (let n = length-append ts (t ∷ []) in omega (arith, within, past, n))
+
+  same_sequence : (c : ℕ) (k : Collection A V K) → at cs c ≡ Some k → sequence more k ≡ sequence ts k
+  same_sequence c k is = rw (in_old k.field (whole.in_field c k is)) refl
+
+  alike_still : (c : ℕ) (o : Option (Collection A V K)) → at cs c ≡ o → shown_as more o ≡ shown_as ts o
+  alike_still c None is = refl
+  alike_still c (Some k) is = ap (λ (s : List Place). let r : Option Sequence = Some (seen_as k s) in r) (same_sequence c k is)
+
+  pub field_family : (kind : Kind) → kind_of t ≡ kind
+      → family_of adapter objects more cs ≡ record (family_of adapter objects ts cs) { fields = (family_of adapter objects ts cs).fields ++ record { kind = kind; linked = set_of.empty } ∷ [] }
+  field_family kind is =
+      let law : IsLawful t = λ q h. let no = none q in absurd (let both : true ≡ false = sym h ∙ no in cc) in
+      let empty : linked_in t ≡ set_of.empty = linked_same no_table t (λ q h. cc) law (λ q. none q) ∙ linked_empty in
+      let new : field_in t ≡ record { kind = kind; linked = set_of.empty } = λ i. record { kind = is i; linked = empty i } in
+      let fields = map-append field_in ts (t ∷ []) ∙ ap (λ x. map field_in ts ++ x ∷ []) new in
+      let collections =
+      ext_get_or None (map (shown_as more) cs) (map (shown_as ts) cs) (length-map cs (shown_as more) ∙ sym (length-map cs (shown_as ts))) (λ c h.
+      map_at (shown_as more) cs c None ∙ alike_still c (at cs c) refl ∙ sym (map_at (shown_as ts) cs c None)) in
+      λ i. record { adapter = adapter; objects = objects.values; fields = fields i; collections = collections i }
+
+  pub field_whole : room ≤ t.extent.places → IsWhole adapter objects room more cs
+  field_whole reach = record {
+    within = whole.within;
+    covered = λ f h. elim (side (length ts) f) [
+      | inl past ↦ rw (last f past h) reach
+      | inr old ↦ rw (in_old f old) (whole.covered f old)
+    ];
+    placed = λ f q h. elim (side (length ts) f) [
+      | inl past ↦ absurd (let both : true ≡ false = sym h ∙ unlinked f q past in cc)
+      | inr old ↦ whole.placed f q (rw (in_old f old) at h)
+    ];
+    in_field = λ c k is. let old = whole.in_field c k is in let n = length-append ts (t ∷ []) in omega (arith, old, n);
+    held = λ c k is. rw (in_old k.field (whole.in_field c k is)) (whole.held c k is);
+    adapted = whole.adapted;
+    apart = λ a b x y n is_x is_y same. rw (same_sequence a x is_x, same_sequence b y is_y) (whole.apart a b x y n is_x is_y same);
+  }
+    where
+      unlinked : (f : ℕ) (q : Place) → length ts ≤ f → is_linked ((table more f).entry q) ≡ false
+      unlinked f q past = elim (side (length more) f) [
+        | inl beyond ↦ rw (get_or_past more f no_table beyond) refl
+        | inr within ↦ rw (last f past within) (none q)
+      ]
