@@ -1,14 +1,16 @@
 -- Tables that cover more places, and a field more: the family stays what it is.
 use Rattle.std.proofs.Common.{◌≡◌, ◌≢◌, ℕ, zero, suc, ◌<◌, ◌≤◌, inl, inr, Bool, true, false, List, [], ◌∷◌, ◌++◌, length, map, get_or, set, Option, Some, None, refl, sym, ap, ◌∙◌, subst, arith, length-append, max, Result, Ok, Err, OnOk, OnErr}
 use Rattle.std.proofs.lemmas.Bool.{cases_eq}
-use Rattle.std.proofs.lemmas.List.{get_or_past, map-append, length-map, length-set, get_or-set_same, get_or-set_other, ext_get_or, get_or_append_left, get_or_push}
+use Rattle.std.proofs.lemmas.List.{get_or_past, map-append, map-set, length-map, length-set, get_or-set_same, get_or-set_other, ext_get_or, get_or_append_left, get_or_push}
 use Rattle.std.proofs.Math.ListN.{get_or-map as map_at}
 use Rattle.std.specs.FinSet as set_of
 use Rattle.ic_unsafe_ref.specs.declared.place.Place.{Place}
+use Rattle.ic_unsafe_ref.specs.Places.{index_of}
 use Rattle.ic_unsafe_ref.specs.Objects.{Objects}
-use Rattle.ic_link_ops.specs.Sequences.{IsDisjoint}
-use Rattle.ic_link_ops.specs.Tables.{Table, Extent, IsCovered}
-use Rattle.ic_link_ops.proofs.SequenceLemmas.{disjoint_sym}
+use Rattle.ic_unsafe_ref.proofs.PlaceLemmas.{same_index}
+use Rattle.ic_link_ops.specs.Sequences.{IsAbsent, IsDisjoint}
+use Rattle.ic_link_ops.specs.Tables.{Table, Extent, IsCovered, IsUnlinked, ChangesOnly, KeepsBeside}
+use Rattle.ic_link_ops.proofs.SequenceLemmas.{disjoint_cons}
 use Rattle.ic_fields.specs.declared.entry.Entry.{Entry}
 use Rattle.ic_fields.specs.declared.field.Field.{Field}
 use Rattle.ic_fields.specs.declared.kind.Kind.{Kind}
@@ -17,13 +19,15 @@ use Rattle.ic_fields.specs.Kinds.{kind_with}
 use Rattle.ic_fields.specs.Entries.{is_linked, kind_of}
 use Rattle.ic_members.specs.Members.{Keeps}
 use Rattle.ic_members.proofs.AllKinds.{lawful as lawful_field}
-use Rattle.ic_members.proofs.AllKinds.{IsLawful, one_sequence, shown_frame}
+use Rattle.ic_members.proofs.AllKinds.{IsLawful, one_sequence, shown_frame, keeps_frame}
 use Rattle.ic_world.specs.declared.collection.Collection.{Collection}
 use Rattle.ic_world.specs.Family.{Family, Sequence, LinkField}
 use Rattle.ic_world.specs.LinkedSets.{linked_in}
-use Rattle.ic_world.specs.Tables.{table, no_table, field_in, sequence, seen_as, shown_as, at, family_of, IsWhole}
+use Rattle.ic_world.specs.Tables.{table, no_table, field_in, sequence, seen_as, shown_as, at, family_of, IsWhole, HasObject}
+use Rattle.ic_world.specs.Step.{with_linked, linked_of, field_of}
+use Rattle.ic_world.proofs.Readings.{field_at}
 use Rattle.ic_world.specs.Growth.{Grown}
-use Rattle.ic_world.proofs.Linked.{side, linked_empty, linked_same}
+use Rattle.ic_world.proofs.Linked.{side, linked_empty, linked_same, linked_loses}
 use Rattle.ic_world.proofs.Edits.{lawful}
 use Rattle.ic_world.proofs.Opened.{disjoint_none}
 
@@ -54,6 +58,33 @@ pub covers_more : {A E : Type 0} (r : Result A E) (old new : Extent) (n : ℕ) �
 covers_more (Ok a) old new n ok err = omega (arith, ok)
 covers_more (Err e) old new n ok err = let same = ap (λ (x : Extent). x.places) err in omega (arith, same)
 
+-- OTHER TABLES that keep each collection: its sequence is the same
+module _ {A V K : Type 0} {adapter : A} {objects : Objects V} {room : ℕ} {ts : List (Table Entry)} {cs : List (Option (Collection A V K))} (whole : IsWhole adapter objects room ts cs) (us : List (Table Entry))
+    (law : (f : ℕ) → IsLawful (table us f)) (kept : (c : ℕ) (k : Collection A V K) → at cs c ≡ Some k → Keeps (table us k.field) k.members (sequence ts k)) where
+  kept_sequence : (c : ℕ) (k : Collection A V K) → at cs c ≡ Some k → sequence us k ≡ sequence ts k
+  kept_sequence c k is = one_sequence (table us k.field) (law k.field) k.members (sequence ts k) (kept c k is).shown
+
+  alike : (c : ℕ) (o : Option (Collection A V K)) → at cs c ≡ o → shown_as us o ≡ shown_as ts o
+  alike c None is = refl
+  alike c (Some k) is = ap (λ (s : List Place). let r : Option Sequence = Some (seen_as k s) in r) (kept_sequence c k is)
+
+  pub kept_collections : map (shown_as us) cs ≡ map (shown_as ts) cs
+  kept_collections =
+      ext_get_or None (map (shown_as us) cs) (map (shown_as ts) cs) (length-map cs (shown_as us) ∙ sym (length-map cs (shown_as ts))) (λ c h.
+      map_at (shown_as us) cs c None ∙ alike c (at cs c) refl ∙ sym (map_at (shown_as ts) cs c None))
+
+  pub kept_whole : (more : ℕ) → room ≤ more → length ts ≤ length us → ((f : ℕ) → f < length us → more ≤ (table us f).extent.places)
+      → ((f : ℕ) (q : Place) → is_linked ((table us f).entry q) ≡ true → HasObject objects (index_of q)) → IsWhole adapter objects more us cs
+  kept_whole more reach longer covered placed = record {
+    within = λ i has. let h = whole.within i has in omega (arith, h, reach);
+    covered = covered;
+    placed = placed;
+    in_field = λ c k is. let old = whole.in_field c k is in omega (arith, old, longer);
+    held = λ c k is. subst (Keeps (table us k.field) k.members) (sym (kept_sequence c k is)) (kept c k is);
+    adapted = whole.adapted;
+    apart = λ a b x y n is_x is_y same. rw (kept_sequence a x is_x, kept_sequence b y is_y) (whole.apart a b x y n is_x is_y same);
+  }
+
 module _ {A V K : Type 0} (adapter : A) (objects : Objects V) (ts us : List (Table Entry)) (cs : List (Option (Collection A V K))) {room : ℕ} (whole : IsWhole adapter objects room ts cs) (grown : Grown ts us) where
   grown_lawful : (f : ℕ) → IsLawful (table us f)
   grown_lawful f q h = let a = lawful whole f q (rw (grown.entries f q) at h) in let b = grown.longer f in omega (arith, a, b)
@@ -65,18 +96,6 @@ module _ {A V K : Type 0} (adapter : A) (objects : Objects V) (ts us : List (Tab
         shown = shown_frame (table ts k.field) (table us k.field) k.members (sequence ts k) [] old.shown (disjoint_none (sequence ts k)) (λ q out. grown.entries k.field q);
         stands = old.stands;
       }
-
-  grown_sequence : (c : ℕ) (k : Collection A V K) → at cs c ≡ Some k → sequence us k ≡ sequence ts k
-  grown_sequence c k is = one_sequence (table us k.field) (grown_lawful k.field) k.members (sequence ts k) (grown_kept c k is).shown
-
-  alike : (c : ℕ) (o : Option (Collection A V K)) → at cs c ≡ o → shown_as us o ≡ shown_as ts o
-  alike c None is = refl
-  alike c (Some k) is = ap (λ (s : List Place). let r : Option Sequence = Some (seen_as k s) in r) (grown_sequence c k is)
-
-  pub grown_collections : map (shown_as us) cs ≡ map (shown_as ts) cs
-  grown_collections =
-      ext_get_or None (map (shown_as us) cs) (map (shown_as ts) cs) (length-map cs (shown_as us) ∙ sym (length-map cs (shown_as ts))) (λ c h.
-      map_at (shown_as us) cs c None ∙ alike c (at cs c) refl ∙ sym (map_at (shown_as ts) cs c None))
 
   grown_field : (f : ℕ) → field_in (table us f) ≡ field_in (table ts f)
   grown_field f =
@@ -90,19 +109,13 @@ module _ {A V K : Type 0} (adapter : A) (objects : Objects V) (ts us : List (Tab
       let fields : map field_in us ≡ map field_in ts =
       ext_get_or (field_in no_table) (map field_in us) (map field_in ts) (length-map us field_in ∙ grown.count ∙ sym (length-map ts field_in)) (λ f h.
       map_at field_in us f no_table ∙ grown_field f ∙ sym (map_at field_in ts f no_table)) in
-      λ i. record { adapter = adapter; objects = objects.values; fields = fields i; collections = grown_collections i }
+      let collections = kept_collections whole us grown_lawful grown_kept in
+      λ i. record { adapter = adapter; objects = objects.values; fields = fields i; collections = collections i }
 
   -- and the invariant, where each table covers what the objects need
   pub grown_whole : (more : ℕ) → room ≤ more → ((f : ℕ) → f < length us → more ≤ (table us f).extent.places) → IsWhole adapter objects more us cs
-  grown_whole more reach covered = record {
-    within = λ i has. let h = whole.within i has in omega (arith, h, reach);
-    covered = covered;
-    placed = λ f q h. whole.placed f q (rw (grown.entries f q) at h);
-    in_field = λ c k is. let old = whole.in_field c k is in let longer = grown.count in omega (arith, old, longer);
-    held = λ c k is. subst (Keeps (table us k.field) k.members) (sym (grown_sequence c k is)) (grown_kept c k is);
-    adapted = whole.adapted;
-    apart = λ a b x y n is_x is_y same. rw (grown_sequence a x is_x, grown_sequence b y is_y) (whole.apart a b x y n is_x is_y same);
-  }
+  grown_whole more reach covered =
+      kept_whole whole us grown_lawful grown_kept more reach (let n = grown.count in omega (arith, n)) covered (λ f q h. whole.placed f q (rw (grown.entries f q) at h))
 
   -- which they did before
   pub still_covered : (f : ℕ) → f < length us → room ≤ (table us f).extent.places
@@ -128,12 +141,22 @@ module _ {A V K : Type 0} {adapter : A} {objects : Objects V} {room : ℕ} {ts :
   last : (f : ℕ) → length ts ≤ f → f < length more → table more f ≡ t
   last f past within = get_or_push ts t no_table f (let n = length-append ts (t ∷ []) in omega (arith, within, past, n))
 
-  same_sequence : (c : ℕ) (k : Collection A V K) → at cs c ≡ Some k → sequence more k ≡ sequence ts k
-  same_sequence c k is = rw (in_old k.field (whole.in_field c k is)) refl
+  -- past the old ones nothing is linked
+  unlinked : (f : ℕ) (q : Place) → length ts ≤ f → is_linked ((table more f).entry q) ≡ false
+  unlinked f q past = elim (side (length more) f) [
+    | inl beyond ↦ rw (get_or_past more f no_table beyond) refl
+    | inr within ↦ rw (last f past within) (none q)
+  ]
 
-  alike_still : (c : ℕ) (o : Option (Collection A V K)) → at cs c ≡ o → shown_as more o ≡ shown_as ts o
-  alike_still c None is = refl
-  alike_still c (Some k) is = ap (λ (s : List Place). let r : Option Sequence = Some (seen_as k s) in r) (same_sequence c k is)
+  -- the tables are lawful and keep each collection
+  law : (f : ℕ) → IsLawful (table more f)
+  law f q h = elim (side (length ts) f) [
+    | inl past ↦ absurd (let both : true ≡ false = sym h ∙ unlinked f q past in cc)
+    | inr old ↦ rw (in_old f old) (lawful whole f q (rw (in_old f old) at h))
+  ]
+
+  kept : (c : ℕ) (k : Collection A V K) → at cs c ≡ Some k → Keeps (table more k.field) k.members (sequence ts k)
+  kept c k is = rw (in_old k.field (whole.in_field c k is)) (whole.held c k is)
 
   pub field_family : (kind : Kind) → kind_of t ≡ kind
       → family_of adapter objects more cs ≡ record (family_of adapter objects ts cs) { fields = (family_of adapter objects ts cs).fields ++ record { kind = kind; linked = set_of.empty } ∷ [] }
@@ -142,30 +165,73 @@ module _ {A V K : Type 0} {adapter : A} {objects : Objects V} {room : ℕ} {ts :
       let empty : linked_in t ≡ set_of.empty = linked_same no_table t (λ q h. cc) law (λ q. none q) ∙ linked_empty in
       let new : field_in t ≡ record { kind = kind; linked = set_of.empty } = λ i. record { kind = is i; linked = empty i } in
       let fields = map-append field_in ts (t ∷ []) ∙ ap (λ x. map field_in ts ++ x ∷ []) new in
-      let collections =
-      ext_get_or None (map (shown_as more) cs) (map (shown_as ts) cs) (length-map cs (shown_as more) ∙ sym (length-map cs (shown_as ts))) (λ c h.
-      map_at (shown_as more) cs c None ∙ alike_still c (at cs c) refl ∙ sym (map_at (shown_as ts) cs c None)) in
+      let collections = kept_collections whole more law kept in
       λ i. record { adapter = adapter; objects = objects.values; fields = fields i; collections = collections i }
 
   pub field_whole : room ≤ t.extent.places → IsWhole adapter objects room more cs
-  field_whole reach = record {
-    within = whole.within;
-    covered = λ f h. elim (side (length ts) f) [
-      | inl past ↦ rw (last f past h) reach
-      | inr old ↦ rw (in_old f old) (whole.covered f old)
-    ];
-    placed = λ f q h. elim (side (length ts) f) [
-      | inl past ↦ absurd (let both : true ≡ false = sym h ∙ unlinked f q past in cc)
-      | inr old ↦ whole.placed f q (rw (in_old f old) at h)
-    ];
-    in_field = λ c k is. let old = whole.in_field c k is in let n = length-append ts (t ∷ []) in omega (arith, old, n);
-    held = λ c k is. rw (in_old k.field (whole.in_field c k is)) (whole.held c k is);
-    adapted = whole.adapted;
-    apart = λ a b x y n is_x is_y same. rw (same_sequence a x is_x, same_sequence b y is_y) (whole.apart a b x y n is_x is_y same);
-  }
-    where
-      unlinked : (f : ℕ) (q : Place) → length ts ≤ f → is_linked ((table more f).entry q) ≡ false
-      unlinked f q past = elim (side (length more) f) [
-        | inl beyond ↦ rw (get_or_past more f no_table beyond) refl
-        | inr within ↦ rw (last f past within) (none q)
-      ]
+  field_whole reach =
+      kept_whole whole more law kept room (omega arith) (let n = length-append ts (t ∷ []) in omega (arith, n)) (λ f h. elim (side (length ts) f) [
+        | inl past ↦ rw (last f past h) reach
+        | inr old ↦ rw (in_old f old) (whole.covered f old)
+      ]) (λ f q h. elim (side (length ts) f) [
+        | inl past ↦ absurd (let both : true ≡ false = sym h ∙ unlinked f q past in cc)
+        | inr old ↦ whole.placed f q (rw (in_old f old) at h)
+      ])
+
+-- A PLACE LESS LINKED in the table of field f, that of no member of a collection there
+module _ {A V K : Type 0} {adapter : A} {objects : Objects V} {room : ℕ} {ts : List (Table Entry)} {cs : List (Option (Collection A V K))} (whole : IsWhole adapter objects room ts cs) (f : ℕ) (within : f < length ts)
+    (t : Table Entry) (p : Place) (free : IsUnlinked is_linked t p) (frame : ChangesOnly (table ts f) t p)
+    (none : (c : ℕ) (k : Collection A V K) → at cs c ≡ Some k → k.field ≡ f → IsAbsent p (sequence ts k)) where
+  abbrev us : List (Table Entry)
+  us = set ts f t
+
+  here : table us f ≡ t
+  here = get_or-set_same ts f t no_table within
+
+  there : (g : ℕ) → g ≢ f → table us g ≡ table ts g
+  there g d = get_or-set_other ts f g t no_table d
+
+  fewer : (q : Place) → is_linked (t.entry q) ≡ true → is_linked ((table ts f).entry q) ≡ true
+  fewer q h = elim (cases_eq (index_of q) (index_of p)) [
+    | inl e ↦ absurd (let no : is_linked (t.entry q) ≡ false = rw (same_index q p e) free in let both : true ≡ false = sym h ∙ no in cc)
+    | inr d ↦ ap is_linked (sym (frame.others q (λ x. d (ap index_of x)))) ∙ h
+  ]
+
+  law_here : IsLawful t
+  law_here q h = let a = lawful whole f q (fewer q h) in let e = ap (λ (x : Extent). x.places) frame.extent in omega (arith, a, e)
+
+  law_all : (g : ℕ) → IsLawful (table us g)
+  law_all g = elim (cases_eq g f) [
+    | inl same ↦ rw (same, here) law_here
+    | inr other ↦ rw (there g other) (lawful whole g)
+  ]
+
+  kept_all : (c : ℕ) (k : Collection A V K) → at cs c ≡ Some k → Keeps (table us k.field) k.members (sequence ts k)
+  kept_all c k is = elim (cases_eq k.field f) [
+    | inl same ↦
+        let was : Keeps (table ts f) k.members (sequence ts k) = subst (λ g. Keeps (table ts g) k.members (sequence ts k)) same (whole.held c k is) in
+        let beside : KeepsBeside (table ts f) t (p ∷ []) = record { extent = frame.extent; others = λ q out. frame.others q out.0 } in
+        let now : Keeps t k.members (sequence ts k) = keeps_frame k.members (sequence ts k) (p ∷ []) was (disjoint_cons p (sequence ts k) [] (none c k is same) (disjoint_none (sequence ts k))) beside in
+        subst (λ g. Keeps (table us g) k.members (sequence ts k)) (sym same) (subst (λ u. Keeps u k.members (sequence ts k)) (sym here) now)
+    | inr other ↦ subst (λ u. Keeps u k.members (sequence ts k)) (sym (there k.field other)) (whole.held c k is)
+  ]
+
+  pub freed_whole : IsWhole adapter objects room us cs
+  freed_whole =
+      kept_whole whole us law_all kept_all room (omega arith) (let n = length-set ts f t in omega (arith, n)) (λ g h. elim (cases_eq g f) [
+        | inl same ↦ rw (same, here, frame.extent) (whole.covered f within)
+        | inr other ↦ rw (there g other) (whole.covered g (rw length-set at h))
+      ]) (λ g q h. elim (cases_eq g f) [
+        | inl same ↦ whole.placed f q (fewer q (rw (same, here) at h))
+        | inr other ↦ whole.placed g q (rw (there g other) at h)
+      ])
+
+  pub freed_family : family_of adapter objects us cs ≡ with_linked (family_of adapter objects ts cs) f (set_of.remove (linked_of (family_of adapter objects ts cs) f) (index_of p))
+  freed_family =
+      let at_f = field_at adapter objects ts cs f within in
+      let kinds : kind_of t ≡ (field_of (family_of adapter objects ts cs) f).kind = ap (λ (x : Extent). kind_with x.identity) frame.extent ∙ ap (λ (x : LinkField). x.kind) (sym at_f) in
+      let links = linked_loses (table ts f) t (lawful whole f) law_here p free (λ q d. ap is_linked (frame.others q d)) ∙ ap (λ (x : LinkField). set_of.remove x.linked (index_of p)) (sym at_f) in
+      let field : field_in t ≡ record { kind = (field_of (family_of adapter objects ts cs) f).kind; linked = set_of.remove (linked_of (family_of adapter objects ts cs) f) (index_of p) } = λ i. record { kind = kinds i; linked = links i } in
+      let fields = map-set field_in ts f t ∙ ap (set (map field_in ts) f) field in
+      let collections = kept_collections whole us law_all kept_all in
+      λ i. record { adapter = adapter; objects = objects.values; fields = fields i; collections = collections i }

@@ -6,3 +6,7 @@ pub mod Opened
 pub mod Turned
 pub mod Calls
 pub mod Growth
+pub mod ObjectChanges
+pub mod HandedOut
+pub mod Splices
+pub mod CanSplice

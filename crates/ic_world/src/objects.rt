@@ -5,13 +5,15 @@
 //! world.remove_object(first)? // 10, unless it is linked in some field
 //! ```
 
-ghost use Rattle.std.specs.Prelude.{◌≡◌, ◌<◌, ◌≤◌, ℕ, length, Some, IfOk, IfErr, OnOk, is_some, true, map as map_list};
+ghost use Rattle.std.specs.Prelude.{◌≡◌, ◌<◌, ◌≤◌, ℕ, length, Some, IfOk, IfErr, OnOk, map as map_list};
 ghost use Rattle.std.specs.List.{list_any};
 ghost use Rattle.std.specs.FinMap as map;
 ghost use Rattle.std.specs.FinSet as set;
 ghost use Rattle.ic_unsafe_ref.specs.Places.{index_of};
 ghost use Rattle.ic_fields.specs.Fields.{look};
-ghost use Rattle.ic_world.specs.Tables.{table};
+ghost use Rattle.ic_link_ops.specs.Tables.{IsCovered};
+ghost use Rattle.ic_world.specs.Family.{LinkField};
+ghost use Rattle.ic_world.specs.Tables.{table, field_in};
 ghost use Rattle.ic_world.specs.Growth.{Grown};
 
 use crate::World;
@@ -35,8 +37,21 @@ fn cover_all<M: Allocator>(tables: &mut [Field<M>], count: usize) -> Result<(), 
     Ok(())
 }
 
+// Whether the object, which each table covers, is linked in one of them.
+fn is_linked_in_any<M: Allocator>(tables: &[Field<M>], object: Place) -> bool
+    requires covered { (f : ℕ) → f < length tables.now → IsCovered (table (map_list look tables.now) f) object }
+    ensures { result ≡ list_any (λ (x : LinkField). set.contains x.linked (index_of object)) (map_list field_in (map_list look tables.now)) }
+{
+    for f in 0..tables.len() {
+        if tables[f].is_linked(object) {
+            return true;
+        }
+    }
+    false
+}
+
 impl<A: KeyAdapter, M: Allocator + Copy> World<A, M> {
-    ghost use Rattle.ic_world.specs.Step.{Step, is_linked_somewhere};
+    ghost use Rattle.ic_world.specs.Step.{Step};
     ghost use Rattle.ic_world.specs.State.{reply_of, reply_of_value, object, done};
 
     /// Places a value where no object stands, with room for it in each field first, and answers the place.
@@ -60,19 +75,6 @@ impl<A: KeyAdapter, M: Allocator + Copy> World<A, M> {
         }
     }
 
-    // Whether the object, which is placed, is linked in some field.
-    fn is_linked_somewhere(&self, object: Place) -> bool
-        requires placed { is_some (map.get self.now.objects (index_of object)) ≡ true }
-        ensures { result ≡ is_linked_somewhere self.now object }
-    {
-        for links in &self.fields {
-            if links.is_linked(object) {
-                return true;
-            }
-        }
-        false
-    }
-
     /// Takes an object out that is linked in no field, and answers its value.
     ///
     /// Refused: `NoSuchObject`, `StillLinked`. O(fields). It takes no memory.
@@ -83,7 +85,7 @@ impl<A: KeyAdapter, M: Allocator + Copy> World<A, M> {
         if !self.objects.is_placed(object) {
             return Err(Refusal::NoSuchObject);
         }
-        if self.is_linked_somewhere(object) {
+        if is_linked_in_any(&self.fields, object) {
             return Err(Refusal::StillLinked);
         }
         Ok(UnsafeRef::new(object).into_box(&mut self.objects))

@@ -1,0 +1,16 @@
+use Rattle.std.proofs.Common.{rules, ◌≡◌, true, ℕ, ◌+◌, ◌-◌, ◌*◌, ◌<◌, ◌≤◌, length, ◌/◌, ◌%◌, Bool, false, nat_eq, nat_lt, List, [], ◌∷◌, ◌++◌, slice_index_or, slice_set, bit_and, bit_or, Fits, w8, w32, w64, Bor, MutBor}
+use Rattle.ic_world.specs.Step.{Step, is_placed, is_member_in, has_field}
+use Rattle.ic_world.specs.State.{reply_of, field, done, linked}
+use Rattle.ic_world.proofs.world.World.force_unlink.Goals as goal
+
+-- src/fields.rt:84:9
+pub force_unlink-requires : goal.force_unlink-requires
+force_unlink-requires g c = ?
+
+-- src/fields.rt:72:5
+pub invariant_of-self : goal.invariant_of-self
+invariant_of-self g c = ?
+
+-- src/fields.rt:72:5
+pub returns : goal.returns
+returns g c = ?
