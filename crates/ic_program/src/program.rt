@@ -5,9 +5,10 @@ ghost use Rattle.std.specs.Io.KnownBytes.{Appends};
 ghost use Rattle.ic_world.specs.Step.{Step, reply_of};
 ghost use Rattle.ic_world.specs.Answers.{reply_in};
 ghost use Rattle.ic_program.specs.Line.{IsTextOf};
+ghost use Rattle.ic_program.specs.Arguments.{AskFor};
 
 use crate::command;
-use crate::workers::{run_workers, workers_of};
+use crate::workers::{Workers, run_workers, workers_of};
 use ic_rbtree::KeyAdapter;
 use ic_world::{Answer, Command, Refusal, World};
 use std::alloc::Allocator;
@@ -58,8 +59,9 @@ pub fn run_program<
     W: Write,
 >(rt: &S, alloc: M, words: &[String], reader: &mut R, writer: &mut W) -> u8
     ensures status { (result ≡ 0) ⊎ (result ≡ 2) ⊎ (result ≡ FAULT) }
-    ensures arguments { 0 < length words.now → length words.now ≢ 3 → result ≢ FAULT → (result ≡ 2)
+    ensures arguments { 0 < length words.now → ((asked : Workers) → AskFor words.now asked → ⊥) → result ≢ FAULT → (result ≡ 2)
         × Appends (W.contents writer.old) (W.contents writer.new) (codes "bad arguments\n") }
+    ensures workers { (asked : Workers) → AskFor words.now asked → result ≢ 2 }
 {
     if words.is_empty() {
         return run_lines(alloc, reader, writer);
