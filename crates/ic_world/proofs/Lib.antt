@@ -10,3 +10,6 @@ pub mod ObjectChanges
 pub mod HandedOut
 pub mod Splices
 pub mod CanSplice
+pub mod FieldCalls
+pub mod Disposed
+pub mod Shown

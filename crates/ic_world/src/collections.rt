@@ -51,9 +51,13 @@ impl<A: KeyAdapter, M: Allocator + Copy> World<A, M> {
     pub fn dispose(&mut self, collection: usize) -> Result<(), Refusal>
         ensures { Step A.Key.cmp A.key_of self.old (Command.Dispose collection) (reply_of (λ _. done) result) self.new }
     {
-        self.call(collection, &Edit::Clear)?;
-        self.collections[collection] = None;
-        Ok(())
+        match self.call(collection, &Edit::Clear) {
+            Err(refusal) => Err(refusal),
+            Ok(()) => {
+                self.collections[collection] = None;
+                Ok(())
+            }
+        }
     }
 
     /// Takes all members of a collection into a new one of the same field and kind, and answers its number. Both cursors are null.

@@ -56,8 +56,8 @@ impl<A: KeyAdapter, M: Allocator + Copy> World<A, M> {
         requires there { has_field self.now field ≡ true }
         ensures { result ≡ is_member_in self.now field object }
     {
-        for collection in &self.collections {
-            if let Some(found) = collection {
+        for c in 0..self.collections.len() {
+            if let Some(found) = &self.collections[c] {
                 if found.field == field && found.members.contains(&self.fields[field], object) {
                     return true;
                 }

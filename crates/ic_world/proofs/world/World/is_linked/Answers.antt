@@ -1,12 +1,18 @@
-use Rattle.std.proofs.Common.{rules, ◌≡◌, true, ℕ, ◌+◌, ◌-◌, ◌*◌, ◌<◌, ◌≤◌, length, ◌/◌, ◌%◌, Bool, false, nat_eq, nat_lt, List, [], ◌∷◌, ◌++◌, slice_index_or, slice_set, bit_and, bit_or, Fits, w8, w32, w64, Bor, MutBor}
-use Rattle.ic_world.specs.Step.{Step, is_placed, is_member_in, has_field}
-use Rattle.ic_world.specs.State.{reply_of, field, done, linked}
+use Rattle.std.proofs.Common.{◌∙◌, ◌<◌, sym, refl, subst, map, arith, length}
+use Rattle.std.proofs.lemmas.List.{length-map}
+use Rattle.ic_fields.specs.Fields.{look}
+use Rattle.ic_world.proofs.FieldCalls.{covers_object, is_linked_step}
 use Rattle.ic_world.proofs.world.World.is_linked.Goals as goal
 
--- src/fields.rt:50:12
 pub is_linked-requires : goal.is_linked-requires
-is_linked-requires g c = ?
+is_linked-requires g c =
+    let fields = c.self.inside.fields in
+    let within : c.args.field < length fields.items = omega (arith, fields.ok.0, c.len.ensures, c.if-field-len.false) in
+    record { covered = covers_object fields.items c.self.invariant c.args.field c.index.result.now c.args.object within c.index.ensures (sym c.is_placed.ensures ∙ c.if-not-is_placed.false) }
 
--- src/fields.rt:41:5
 pub returns : goal.returns
-returns g c = ?
+returns g c =
+    let fields = c.self.inside.fields in
+    let within : c.args.field < length fields.items = omega (arith, fields.ok.0, c.len.ensures, c.if-field-len.false) in
+    rw (← c.self.view_is)
+    (is_linked_step fields.items c.self.invariant g.A.Key.Ord.cmp g.A.KeyAdapter.key_of c.args.field c.index.result.now c.args.object within c.index.ensures (sym c.is_placed.ensures ∙ c.if-not-is_placed.false) c.is_linked.result c.is_linked.ensures)
