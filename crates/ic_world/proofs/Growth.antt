@@ -161,8 +161,8 @@ module _ {A V K : Type 0} {adapter : A} {objects : Objects V} {room : ℕ} {ts :
   pub field_family : (kind : Kind) → kind_of t ≡ kind
       → family_of adapter objects more cs ≡ record (family_of adapter objects ts cs) { fields = (family_of adapter objects ts cs).fields ++ record { kind = kind; linked = set_of.empty } ∷ [] }
   field_family kind is =
-      let law : IsLawful t = λ q h. let no = none q in absurd (let both : true ≡ false = sym h ∙ no in cc) in
-      let empty : linked_in t ≡ set_of.empty = linked_same no_table t (λ q h. cc) law (λ q. none q) ∙ linked_empty in
+      let lawful_t : IsLawful t = λ q h. let no = none q in absurd (let both : true ≡ false = sym h ∙ no in cc) in
+      let empty : linked_in t ≡ set_of.empty = linked_same no_table t (λ q h. cc) lawful_t (λ q. none q) ∙ linked_empty in
       let new : field_in t ≡ record { kind = kind; linked = set_of.empty } = λ i. record { kind = is i; linked = empty i } in
       let fields = map-append field_in ts (t ∷ []) ∙ ap (λ x. map field_in ts ++ x ∷ []) new in
       let collections = kept_collections whole more law kept in

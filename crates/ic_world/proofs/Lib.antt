@@ -12,4 +12,3 @@ pub mod Splices
 pub mod CanSplice
 pub mod FieldCalls
 pub mod Disposed
-pub mod Shown
