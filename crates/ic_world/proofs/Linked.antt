@@ -11,7 +11,7 @@ use Rattle.ic_unsafe_ref.specs.Places.{index_of}
 use Rattle.ic_unsafe_ref.proofs.PlaceLemmas.{index_small, place_with, same_index, place_at_word, index_at}
 use Rattle.ic_unsafe_ref.specs.Places.{place_at}
 use Rattle.ic_link_ops.specs.Sequences.{IsAbsent}
-use Rattle.ic_link_ops.specs.Tables.{Table}
+use Rattle.ic_link_ops.specs.Tables.{Table, IsCovered}
 use Rattle.ic_fields.specs.declared.entry.Entry.{Entry}
 use Rattle.ic_fields.specs.Entries.{is_linked}
 use Rattle.ic_members.proofs.AllKinds.{IsLawful}
@@ -23,7 +23,7 @@ use Rattle.ic_world.specs.Tables.{no_table}
 linked_index_is : (t : Table Entry) (p : Place) → linked_index t (index_of p) ≡ is_linked (t.entry p)
 linked_index_is t p = ap (linked_there t) (place_at_word (Some p))
 
-linked_index_past : (t : Table Entry) (i : ℕ) → 4294967296 ≤ i → (o : Option Place) → place_at (2 * (i + 1)) ≡ o → linked_there t o ≡ false
+linked_index_past : (t : Table Entry) (i : ℕ) → 8589934591 ≤ i → (o : Option Place) → place_at (2 * (i + 1)) ≡ o → linked_there t o ≡ false
 linked_index_past t i h None e = refl
 linked_index_past t i h (Some p) e = absurd (omega (arith, h, index_at i p e, index_small p))
 
@@ -78,7 +78,7 @@ in_linked t law p =
     ]
 
 -- and no other index is in it
-beyond : (t : Table Entry) (i : ℕ) → 4294967296 ≤ i → set.contains (linked_in t) i ≡ false
+beyond : (t : Table Entry) (i : ℕ) → 8589934591 ≤ i → set.contains (linked_in t) i ≡ false
 unfolding linked_in
 beyond t i h =
     let n = t.extent.places in
@@ -90,10 +90,10 @@ beyond t i h =
 
 -- a set is the linked set of t, if it has the linked places and no other index
 is_linked_set : (t : Table Entry) → IsLawful t → (s : set.FinSet nat_cmp) → ((p : Place) → set.contains s (index_of p) ≡ is_linked (t.entry p))
-    → ((i : ℕ) → 4294967296 ≤ i → set.contains s i ≡ false) → linked_in t ≡ s
+    → ((i : ℕ) → 8589934591 ≤ i → set.contains s i ≡ false) → linked_in t ≡ s
 is_linked_set t law s within past =
     same_set nat_cmp_total nat_cmp-IsAntisymmetric _ _ (λ i.
-    elim (side 4294967296 i) [
+    elim (side 8589934591 i) [
       | inl h ↦ beyond t i h ∙ sym (past i h)
       | inr h ↦
           let p = place_with i h in
@@ -182,6 +182,11 @@ linked_unlinks old new law law' s now same =
           | inr d ↦ step s x (index_of q) d ∙ gone s q (λ out. there ((λ e. d (ap index_of e)), out))
         ]
 
-    past : (s : List Place) (i : ℕ) → 4294967296 ≤ i → set.contains (unlinked (linked_in old) s) i ≡ false
+    past : (s : List Place) (i : ℕ) → 8589934591 ≤ i → set.contains (unlinked (linked_in old) s) i ≡ false
     past [] i h = beyond old i h
     past (x ∷ s) i h = step s x i (λ e. omega (arith, e, h, index_small x)) ∙ past s i h
+
+-- the same for a place that is covered, whatever the table
+pub in_linked_covered : (t : Table Entry) (p : Place) → IsCovered t p → set.contains (linked_in t) (index_of p) ≡ is_linked (t.entry p)
+unfolding linked_in
+in_linked_covered t p covered = contains-from_list_nat (linked_below t t.extent.places) (index_of p) ∙ below t t.extent.places (index_of p) covered ∙ linked_index_is t p
