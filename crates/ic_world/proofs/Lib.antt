@@ -4,3 +4,4 @@ pub mod Readings
 pub mod Edits
 pub mod Opened
 pub mod Turned
+pub mod Tested
