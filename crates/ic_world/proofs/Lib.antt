@@ -12,3 +12,4 @@ pub mod Splices
 pub mod CanSplice
 pub mod FieldCalls
 pub mod Disposed
+pub mod Tested

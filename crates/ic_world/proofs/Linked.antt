@@ -11,7 +11,7 @@ use Rattle.ic_unsafe_ref.specs.Places.{index_of}
 use Rattle.ic_unsafe_ref.proofs.PlaceLemmas.{index_small, place_with, same_index, place_at_word, index_at}
 use Rattle.ic_unsafe_ref.specs.Places.{place_at}
 use Rattle.ic_link_ops.specs.Sequences.{IsAbsent}
-use Rattle.ic_link_ops.specs.Tables.{Table}
+use Rattle.ic_link_ops.specs.Tables.{Table, IsCovered}
 use Rattle.ic_fields.specs.declared.entry.Entry.{Entry}
 use Rattle.ic_fields.specs.Entries.{is_linked}
 use Rattle.ic_members.proofs.AllKinds.{IsLawful}
@@ -185,3 +185,8 @@ linked_unlinks old new law law' s now same =
     past : (s : List Place) (i : ℕ) → 8589934591 ≤ i → set.contains (unlinked (linked_in old) s) i ≡ false
     past [] i h = beyond old i h
     past (x ∷ s) i h = step s x i (λ e. omega (arith, e, h, index_small x)) ∙ past s i h
+
+-- the same for a place that is covered, whatever the table
+pub in_linked_covered : (t : Table Entry) (p : Place) → IsCovered t p → set.contains (linked_in t) (index_of p) ≡ is_linked (t.entry p)
+unfolding linked_in
+in_linked_covered t p covered = contains-from_list_nat (linked_below t t.extent.places) (index_of p) ∙ below t t.extent.places (index_of p) covered ∙ linked_index_is t p

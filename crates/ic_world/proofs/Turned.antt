@@ -1,23 +1,23 @@
 -- What a call of one collection leaves to the world, from what the collection's own call gives, whatever the kind.
-use Rattle.std.proofs.Common.{◌≡◌, ◌⊎◌, inl, inr, true, false, Option, Some, None, List, [], ◌∷◌, ◌++◌, refl, sym, ap, ◌∙◌, subst, drop}
+use Rattle.std.proofs.Common.{◌≡◌, ◌⊎◌, inl, inr, true, false, Option, Some, None, List, [], ◌∷◌, ◌++◌, refl, sym, ap, ◌∙◌, subst, drop, append-nil}
 use Rattle.std.proofs.lemmas.Bool.{cases_eq}
 use Rattle.std.specs.Ordering.{nat_cmp}
 use Rattle.std.specs.FinSet as set
 use Rattle.ic_unsafe_ref.specs.declared.place.Place.{Place}
 use Rattle.ic_unsafe_ref.specs.Places.{index_of}
 use Rattle.ic_unsafe_ref.proofs.PlaceLemmas.{same_index}
-use Rattle.ic_link_ops.specs.Sequences.{Cut, join, insert, remove, IsAbsent}
-use Rattle.ic_link_ops.specs.Tables.{Table, IsUnlinked}
-use Rattle.ic_link_ops.proofs.SequenceLemmas.{absent_both, absent_left, absent_right}
+use Rattle.ic_link_ops.specs.Sequences.{Cut, join, insert, remove, at_front, at_back, first, last, IsAfter, IsBefore, IsAbsent}
+use Rattle.ic_link_ops.specs.Tables.{Table, IsUnlinked, KeepsBeside}
+use Rattle.ic_link_ops.proofs.SequenceLemmas.{absent_both, absent_left, absent_right, last_some}
 use Rattle.ic_link_ops.proofs.StepLemmas.{released_stay, each_unlinked}
 use Rattle.ic_fields.specs.declared.entry.Entry.{Entry}
 use Rattle.ic_fields.specs.Entries.{is_linked}
 use Rattle.ic_members.specs.declared.members.Members.{Members}
-use Rattle.ic_members.specs.Members.{kind_in, cursor_in, members_in, Held}
+use Rattle.ic_members.specs.Members.{kind_in, cursor_in, members_in, Keeps, Held, Alike}
 use Rattle.ic_members.specs.Edits.{Leaves, Moves, Puts, Takes, Empties}
 use Rattle.ic_members.proofs.AllKinds.{IsLawful, one_sequence, held_of}
 use Rattle.ic_world.specs.LinkedSets.{linked_in}
-use Rattle.ic_world.specs.State.{State, put, taken, moved, cleared}
+use Rattle.ic_world.specs.State.{State, put, taken, moved, having, cleared}
 use Rattle.ic_world.specs.Turns.{Each, Turns, state_of}
 use Rattle.ic_world.proofs.Linked.{absent_or, linked_gains, linked_loses, linked_unlinks}
 
@@ -75,8 +75,8 @@ module _ {A V K : Type 0} {old new : Table Entry} {m m' : Members A V K} (law : 
   pub turns_clear : {Accepts : State → State → Type 0} → (e : Empties old new m m')
       → (state_of new m' ≡ cleared (state_of old m) → Accepts (state_of old m) (state_of new m')) → Turns [] Accepts old new m m'
   turns_clear e accepts =
-      let gone = λ q there. each_unlinked (members_in old m) old new q e.links there in
-      let same = λ q out. released_stay (members_in old m) old new q e.links out in
+      let gone : (q : Place) → (IsAbsent q (members_in old m) → ⊥) → is_linked (new.entry q) ≡ false = λ q there. each_unlinked is_linked (members_in old m) old new q e.links there in
+      let same : (q : Place) → IsAbsent q (members_in old m) → is_linked (new.entry q) ≡ is_linked (old.entry q) = λ q out. released_stay is_linked (members_in old m) old new q e.links out in
       turns_by [] (inl refl) tt (λ q out h. elim (absent_or (members_in old m) q) [
         | inl out ↦ sym (same q out) ∙ h
         | inr there ↦ absurd (let no = gone q there in let both : true ≡ false = sym h ∙ no in cc)
@@ -89,3 +89,92 @@ turns_still {t = t'} {m = m'} law e accepts =
     turns_by law law [] (inl refl) tt (λ q out h. h)
     (record { kept = e.kept; alike = e.alike; cursor_is = e.cursor_is; frame = record { extent = refl; others = λ q out. refl } })
     (λ q out. out) refl accepts
+
+-- the gap after a cursor that is at null, and the one before it
+pub front_is : (gap : Cut) {cursor : Option Place} {s : List Place} → join gap ≡ s → IsAfter gap cursor → cursor ≡ None → gap ≡ at_front s
+front_is gap cut is null =
+    let empty = none_in gap.front (sym null ∙ is) in
+    let whole : gap.back ≡ _ = sym (ap (λ f. f ++ gap.back) empty) ∙ cut in λ i. record { front = empty i; back = whole i }
+  where
+    none_in : (s : List Place) → None ≡ last s → s ≡ []
+    none_in [] e = refl
+    none_in (x ∷ s) e = absurd (last_some x s (sym e))
+
+pub back_is : (gap : Cut) {cursor : Option Place} {s : List Place} → join gap ≡ s → IsBefore gap cursor → cursor ≡ None → gap ≡ at_back s
+back_is gap cut is null =
+    let empty = none_in gap.back (sym null ∙ is) in
+    let whole : gap.front ≡ _ = sym (append-nil gap.front) ∙ sym (ap (λ b. gap.front ++ b) empty) ∙ cut in λ i. record { front = whole i; back = empty i }
+  where
+    none_in : (s : List Place) → None ≡ first s → s ≡ []
+    none_in [] e = refl
+    none_in (x ∷ s) e = cc
+
+module _ {A V K : Type 0} where
+  -- the collection, with its cursor at null
+  pub nulled : {t : Table Entry} {m m' : Members A V K} → Held t m → ((t : Table Entry) (s : List Place) → Keeps t m s → Keeps t m' s) → Alike m m' → cursor_in m' ≡ None
+      → Moves t m m' None
+  nulled {t} {m} held kept alike null = record { kept = kept t (members_in t m) held; alike = alike; cursor_is = null }
+
+  module _ {t : Table Entry} (law : IsLawful t) {m m1 : Members A V K} {cursor : Option Place} (e : Moves t m m1 cursor) where
+    pub still_members : members_in t m1 ≡ members_in t m
+    still_members = one_sequence t law m1 (members_in t m) e.kept.shown
+
+    pub still_held : Held t m1
+    still_held = held_of law m1 (members_in t m) e.kept
+
+    pub state_moved : state_of t m1 ≡ moved (state_of t m) cursor
+    state_moved = λ i. record { kind = e.alike.kind i; members = still_members i; cursor = e.cursor_is i; linked = linked_in t }
+
+    -- two moves are one
+    pub moves_on : {m2 : Members A V K} {next : Option Place} → Moves t m1 m2 next → Moves t m m2 next
+    moves_on {m2 = m2'} d = record {
+      kept = subst (Keeps t m2') still_members d.kept;
+      alike = record { kind = d.alike.kind ∙ e.alike.kind; adapter = d.alike.adapter ∙ e.alike.adapter };
+      cursor_is = d.cursor_is;
+    }
+
+    -- A MOVE AND THEN A CALL are one call
+    pub turns_moved : {t' : Table Entry} {m2 : Members A V K} {names : List Place} {Accepts : State → State → Type 0} (Then : State → State → Type 0) → Turns names Then t t' m1 m2
+        → (Then (moved (state_of t m) cursor) (state_of t' m2) → Accepts (state_of t m) (state_of t' m2)) → Turns names Accepts t t' m m2
+    turns_moved {t' = t2} {m2 = m2'} Then d accepts = record {
+      fresh = d.fresh;
+      named = d.named;
+      free = d.free;
+      only = d.only;
+      frame = subst (λ s. KeepsBeside t t2 (d.fresh ++ s)) still_members d.frame;
+      within = λ q out. d.within q (subst (λ s. IsAbsent q (d.fresh ++ s)) (sym still_members) out);
+      held = d.held;
+      alike = record { kind = d.alike.kind ∙ e.alike.kind; adapter = d.alike.adapter ∙ e.alike.adapter };
+      accepts = accepts (subst (λ s. Then s (state_of t2 m2')) state_moved d.accepts);
+    }
+
+  -- A CALL AND THEN A MOVE are one call
+  pub turns_then : {t t' : Table Entry} {m m1 m2 : Members A V K} {cursor : Option Place} {names : List Place} {Accepts : State → State → Type 0} (law' : IsLawful t')
+      (First : State → State → Type 0) → Turns names First t t' m m1 → (e : Moves t' m1 m2 cursor)
+      → (First (state_of t m) (state_of t' m1) → state_of t' m2 ≡ moved (state_of t' m1) cursor → Accepts (state_of t m) (state_of t' m2)) → Turns names Accepts t t' m m2
+  turns_then law' First d e accepts = record {
+    fresh = d.fresh;
+    named = d.named;
+    free = d.free;
+    only = d.only;
+    frame = d.frame;
+    within = λ q out. subst (IsAbsent q) (sym (still_members law' e)) (d.within q out);
+    held = still_held law' e;
+    alike = record { kind = e.alike.kind ∙ d.alike.kind; adapter = e.alike.adapter ∙ d.alike.adapter };
+    accepts = accepts d.accepts (state_moved law' e);
+  }
+
+  -- p is put into the gap that the cursor shows once it is at null
+  pub turns_put_null : {t t' : Table Entry} {m m1 m2 : Members A V K} {Accepts : State → State → Type 0} (law : IsLawful t) (law' : IsLawful t') (e : Moves t m m1 None) (gap : Cut) (p : Place)
+      → join gap ≡ members_in t m1 → Puts t t' m1 m2 gap p (cursor_in m1)
+      → (join gap ≡ members_in t m → state_of t' m2 ≡ put (state_of t m) gap p None → Accepts (state_of t m) (state_of t' m2)) → Turns (p ∷ []) Accepts t t' m m2
+  turns_put_null law law' e gap p cut puts accepts =
+      turns_moved law e (λ s u. u ≡ put s gap p s.cursor) (turns_put law law' gap p cut puts (λ same. same)) (accepts (cut ∙ still_members law e))
+
+  -- the table stays, and keeps other members for the collection
+  pub turns_kept : {t : Table Entry} {m m' : Members A V K} {cursor : Option Place} {Accepts : State → State → Type 0} (law : IsLawful t) (s : List Place) → Keeps t m' s → Alike m m'
+      → cursor_in m' ≡ cursor → ((q : Place) → IsAbsent q (members_in t m) → IsAbsent q s) → (state_of t m' ≡ having (state_of t m) s cursor → Accepts (state_of t m) (state_of t m'))
+      → Turns [] Accepts t t m m'
+  turns_kept law s kept alike cursor_is within accepts =
+      turns_by law law [] (inl refl) tt (λ q out h. h)
+      (record { kept = kept; alike = alike; cursor_is = cursor_is; frame = record { extent = refl; others = λ q out. refl } }) within refl accepts
