@@ -1,3 +1,4 @@
+pub mod Parted
 pub mod Linked
 pub mod Steps
 pub mod Readings
