@@ -1,3 +1,4 @@
+pub mod Keyed
 pub mod Parted
 pub mod Linked
 pub mod Steps
