@@ -31,22 +31,9 @@ use Rattle.ic_world.specs.Turns.{Turns, Ran, state_of}
 use Rattle.ic_world.proofs.Linked.{in_linked}
 use Rattle.ic_world.proofs.Turned.{turns_by, turns_put}
 
--- a test of one thing
-pub alone : {A : Type 0} (test : A → Bool) (x : A) → list_all test (x ∷ []) ≡ true → test x ≡ true
-alone test x h = by (test x) h
-  where
-    by : (b : Bool) → (b && true) ≡ true → b ≡ true
-    by true e = refl
-    by false e = e
-
 -- the test of the kind was made of this collection
 pub kind_tested : {k kind : Kind} {b answer : Bool} → k ≡ kind → b ≡ is_tree k → b ≡ answer → is_tree kind ≡ answer
 kind_tested e is tested = ap is_tree (sym e) ∙ sym is ∙ tested
-
--- an insert in order asks for a tree first
-pub insertion_kind : (call : Insertion) (s : State) → is_tree s.kind ≡ false → Some WrongKind ≡ insertion_refusal call s
-insertion_kind (Insert p) s e = rw e refl
-insertion_kind (CursorInsert p) s e = rw e refl
 
 -- the cursor alone has moved, in a call that names what it may
 still : {A V K M : Type 0} (links : Field M) {m m' : Members A V K} {names : List Place} {cursor : Option Place} {Accepts : State → State → Type 0} → (e : Moves (look links) m m' cursor)
@@ -58,15 +45,6 @@ still links {m' = m'} e accepts =
     (λ q out. out) refl accepts
 
 module _ {A V K M : Type 0} {links : Field M} {m : Members A V K} where
-  -- A REFUSAL changes nothing
-  pub refused : {R : Type 0} {names : List Place} {refusal : State → Option Refusal} {accepts : R → State → State → Type 0} (r : Refusal)
-      → Some r ≡ refusal (state_of (look links) m) → Ran names refusal accepts links links m m (Err r)
-  refused r tested = record { tested = tested; turned = tt; unchanged = (refl, refl) }
-
-  pub refused_kind : {R : Type 0} {names : List Place} {accepts : R → State → State → Type 0} → is_tree (kind_in m) ≡ false
-      → Ran names keyed_refusal accepts links links m m (Err WrongKind)
-  refused_kind e = refused WrongKind (rw e refl)
-
   -- A SEARCH
   pub searched : {R : Type 0} {names : List Place} {m' : Members A V K} {cursor : Option Place} {accepts : R → State → State → Type 0} (answer : R) → is_tree (kind_in m) ≡ true
       → Moves (look links) m m' cursor
@@ -75,21 +53,16 @@ module _ {A V K M : Type 0} {links : Field M} {m : Members A V K} where
   searched answer tree e accepts = record { tested = rw tree refl; turned = still links e accepts; unchanged = tt }
 
   -- AN INSERT IN ORDER
-  pub inserted : {R : Type 0} {links' : Field M} {m' : Members A V K} {cursor : Option Place} {accepts : R → State → State → Type 0} (at : Place → Ordering) (p : Place) (answer : R)
-      → is_tree (kind_in m) ≡ true → set.contains (linked_in (look links)) (index_of p) ≡ false → PutsInOrder at (look links) (look links') m m' p cursor
+  pub inserted : {R : Type 0} {links' : Field M} {m' : Members A V K} {cursor : Option Place} {accepts : R → State → State → Type 0} {b : Bool} (at : Place → Ordering) (p : Place) (answer : R)
+      → is_tree (kind_in m) ≡ true → b ≡ set.contains (linked_in (look links)) (index_of p) → b ≡ false → PutsInOrder at (look links) (look links') m m' p cursor
       → ((gap : Cut) → join gap ≡ members_in (look links) m → IsBorder (less_at at) gap → state_of (look links') m' ≡ put (state_of (look links) m) gap p cursor
           → accepts answer (state_of (look links) m) (state_of (look links') m'))
       → Ran (p ∷ []) (λ s. asks (is_tree s.kind) WrongKind (asks_unlinked s p)) accepts links links' m m' (Ok answer)
-  inserted {links'} at p answer tree free e accepts = record {
-    tested = rw (tree, free) refl;
+  inserted {links'} at p answer tree is free e accepts = record {
+    tested = rw (tree, sym is ∙ free) refl;
     turned = turns_put (lawful links) (lawful links') e.0 p e.1 e.2.1 (accepts e.0 e.1 e.2.0);
     unchanged = tt;
   }
-
-  pub refused_linked : {R : Type 0} {names : List Place} {accepts : R → State → State → Type 0} (p : Place) → is_tree (kind_in m) ≡ true
-      → set.contains (linked_in (look links)) (index_of p) ≡ true
-      → Ran names (λ s. asks (is_tree s.kind) WrongKind (asks_unlinked s p)) accepts links links m m (Err AlreadyLinked)
-  refused_linked p tree linked = refused AlreadyLinked (rw (tree, linked) refl)
 
 -- AN ENTRY
 module _ {V K : Type 0} (cmp : K → K → Ordering) (key_of : V → K) (objects : Objects V) (key : K) (p : Place) where
