@@ -1,3 +1,5 @@
+pub mod Keyed
+pub mod Parted
 pub mod Linked
 pub mod Steps
 pub mod Readings
