@@ -12,12 +12,14 @@ use Rattle.ic_fields.specs.declared.kind.Kind.{Kind}
 use Rattle.ic_fields.specs.Kinds.{number_of, kind_with}
 use Rattle.ic_fields.specs.Fields.{look}
 use Rattle.ic_members.specs.declared.members.Members.{Members}
-use Rattle.ic_members.specs.Members.{Held, kind_in, cursor_in, members_in}
+use Rattle.ic_members.specs.Members.{Keeps, Held, kind_in, cursor_in, members_in}
+use Rattle.ic_members.proofs.AllKinds.{lawful as lawful_field}
+use Rattle.ic_members.proofs.AllKinds.{one_sequence, held_of}
 use Rattle.ic_members.specs.Edits.{AtGap, PutsAll}
 use Rattle.ic_world.specs.declared.collection.Collection.{Collection}
 use Rattle.ic_world.specs.declared.call.Refusal.{Refusal}
 use Rattle.ic_world.specs.declared.call.Refusal.TheVariants.{WrongKind, SameCollection, OtherField}
-use Rattle.ic_world.specs.Family.{kind_again}
+use Rattle.ic_world.specs.Family.{Family, kind_again}
 use Rattle.ic_world.specs.Splices.{IsBesideOf, can_splice}
 use Rattle.ic_world.specs.State.{asks, done}
 use Rattle.ic_world.specs.Tables.{table, sequence, seen_as, at, family_of, IsWhole}
@@ -101,11 +103,14 @@ module _ {A V K : Type 0} where
     pub can_be_spliced : refusal_of_splice (family_of adapter objects ts cs) has c d ≡ None → CanSplice has cs c d
     can_be_spliced none = by (at cs c) (at cs d) none refl refl
 
+-- what stands at the first number after the given one was emptied, stood there before
+pub still_is : {A V K : Type 0} {has : Kind → Bool} {cs : List (Option (Collection A V K))} {c d : ℕ} {k : Collection A V K} (s : CanSplice has cs c d) (o : Option (Collection A V K)) → at (set cs d o) c ≡ Some k → at cs c ≡ Some k
+still_is {cs = cs} {c = c} {d = d} s o is = sym (get_or-set_other cs d c o None s.fit.differ) ∙ is
+
 -- what the splice of the members asks, of the table that was read
 module _ {A V K M : Type 0} {adapter : A} {objects : Objects V} {room : ℕ} (tables : List (Field M)) {cs : List (Option (Collection A V K))} (whole : IsWhole adapter objects room (map look tables) cs)
-    {before : Bool} {c d : ℕ} {k l : Collection A V K} (is_k : at cs c ≡ Some k) (is_l : at cs d ≡ Some l) (fit : Fit (can_splice before) c d k l) (now : Field M) (links : now ≡ get_or tables k.field now)
-    (taken emptied : Members A V K) (e : Emptied l.members emptied) (same : (t : Table Entry) → Held t l.members → members_in t taken ≡ members_in t l.members) where
-  pub in_tables : k.field < length tables
+    (c : ℕ) {k : Collection A V K} (is_k : at cs c ≡ Some k) (now : Field M) (links : now ≡ get_or tables k.field now) where
+  in_tables : k.field < length tables
   in_tables = rw length-map at (whole.in_field c k is_k)
 
   pub read : table (map look tables) k.field ≡ look now
@@ -114,37 +119,54 @@ module _ {A V K M : Type 0} {adapter : A} {objects : Objects V} {room : ℕ} (ta
   pub held_k : Held (look now) k.members
   held_k = subst (λ t. Held t k.members) read (whole.held c k is_k)
 
-  pub held_l : Held (look now) l.members
-  held_l = subst (λ t. Held t l.members) (ap (table (map look tables)) (sym fit.fields) ∙ read) (whole.held d l is_l)
+module _ {A V K M : Type 0} {adapter : A} {objects : Objects V} {room : ℕ} (tables : List (Field M)) {cs : List (Option (Collection A V K))} (whole : IsWhole adapter objects room (map look tables) cs)
+    {has : Kind → Bool} {c d : ℕ} {k l : Collection A V K} (is_k : at cs c ≡ Some k) (is_l : at cs d ≡ Some l) (fit : Fit has c d k l) (now : Field M) (links : now ≡ get_or tables k.field now)
+    (taken : Members A V K) (same : (t : Table Entry) (s : List Place) → Keeps t l.members s → Keeps t taken s) where
+  read_now : table (map look tables) k.field ≡ look now
+  read_now = read tables whole c is_k now links
+
+  kept_l : Keeps (look now) l.members (sequence (map look tables) l)
+  kept_l = subst (λ t. Keeps t l.members (sequence (map look tables) l)) (ap (table (map look tables)) (sym fit.fields) ∙ read_now) (whole.held d l is_l)
 
   pub taken_is : members_in (look now) taken ≡ sequence (map look tables) l
-  taken_is = same (look now) held_l ∙ ap (λ t. members_in t l.members) (sym read ∙ ap (table (map look tables)) fit.fields)
+  taken_is = one_sequence (look now) (lawful_field now) taken (sequence (map look tables) l) (same (look now) (sequence (map look tables) l) kept_l).shown
 
   pub k_is : members_in (look now) k.members ≡ sequence (map look tables) k
-  k_is = ap (λ t. members_in t k.members) (sym read)
+  k_is = ap (λ t. members_in t k.members) (sym read_now)
+
+  pub held_taken : Held (look now) taken
+  held_taken = held_of (lawful_field now) taken (sequence (map look tables) l) (same (look now) (sequence (map look tables) l) kept_l)
 
   pub apart_taken : IsDisjoint (members_in (look now) taken) (members_in (look now) k.members)
   apart_taken = rw (taken_is, k_is) (whole.apart d c l k (λ x. fit.differ (sym x)) is_l is_k (sym fit.fields))
 
-  module _ (nf : Field M) (m : Members A V K)
-      (puts : AtGap (members_in (look now) k.members) (λ gap. IsBesideOf before gap (cursor_in k.members) × PutsAll (look now) (look nf) k.members m gap (members_in (look now) taken))) where
-    put : PutsAll (table (map look tables) k.field) (look nf) k.members m puts.0 (sequence (map look tables) l)
-    put = subst (PutsAll (table (map look tables) k.field) (look nf) k.members m puts.0) taken_is (subst (λ t. PutsAll t (look nf) k.members m puts.0 (members_in (look now) taken)) (sym read) puts.2.1)
+-- THE SPLICE by its parts
+module _ {A V K M : Type 0} {adapter : A} {objects : Objects V} {room : ℕ} (tables : List (Field M)) {cs : List (Option (Collection A V K))} (whole : IsWhole adapter objects room (map look tables) cs)
+    (before : Bool) {c d : ℕ} {k l : Collection A V K} (is_k : at cs c ≡ Some k) (is_l : at cs d ≡ Some l) (fit : Fit (can_splice before) c d k l) (now : Field M) (links : now ≡ get_or tables k.field now)
+    (taken : Members A V K) (same : (t : Table Entry) (s : List Place) → Keeps t l.members s → Keeps t taken s) (emptied : Members A V K) (e : Emptied l.members emptied) (nf : Field M) (m : Members A V K)
+    (puts : AtGap (members_in (look now) k.members) (λ gap. IsBesideOf before gap (cursor_in k.members) × PutsAll (look now) (look nf) k.members m gap (members_in (look now) taken))) where
+  cut : join puts.0 ≡ sequence (map look tables) k
+  cut = puts.1 ∙ k_is tables whole is_k is_l fit now links taken same
 
-    pub spliced_whole : IsWhole adapter objects room (map look (set tables k.field nf)) (set (set cs d (Some (after l emptied))) c (Some (after k m)))
-    spliced_whole = rw map-set (splice_whole whole c d k l is_k is_l fit.differ fit.fields (look nf) m emptied e puts.0 (puts.1 ∙ k_is) put)
+  put : PutsAll (table (map look tables) k.field) (look nf) k.members m puts.0 (sequence (map look tables) l)
+  put =
+      subst (PutsAll (table (map look tables) k.field) (look nf) k.members m puts.0) (taken_is tables whole is_k is_l fit now links taken same)
+      (subst (λ t. PutsAll t (look nf) k.members m puts.0 (members_in (look now) taken)) (sym (read tables whole c is_k now links)) puts.2.1)
 
-    pub spliced_step : refusal_of_splice (family_of adapter objects (map look tables) cs) (can_splice before) c d ≡ None
-        → StepSplice (IsBesideOf before) (can_splice before) (family_of adapter objects (map look tables) cs) c d done
-        (family_of adapter objects (map look (set tables k.field nf)) (set (set cs d (Some (after l emptied))) c (Some (after k m))))
-    spliced_step none =
-        rw (none, map-set) (
-          seen_as k (sequence (map look tables) k),
-          puts.0,
-          collection_is adapter objects (map look tables) cs c k is_k,
-          puts.1 ∙ k_is,
-          seen_as l (sequence (map look tables) l),
-          collection_is adapter objects (map look tables) cs d l is_l,
-          puts.2.0,
-          splice_family whole c d k l is_k is_l fit.differ fit.fields (look nf) m emptied e puts.0 (puts.1 ∙ k_is) put,
-        )
+  pub spliced_whole : IsWhole adapter objects room (map look (set tables k.field nf)) (set (set cs d (Some (after l emptied))) c (Some (after k m)))
+  spliced_whole = rw map-set (splice_whole whole c d k l is_k is_l fit.differ fit.fields (look nf) m emptied e puts.0 cut put)
+
+  pub spliced_step : {old : Family A V} → family_of adapter objects (map look tables) cs ≡ old → refusal_of_splice (family_of adapter objects (map look tables) cs) (can_splice before) c d ≡ None
+      → StepSplice (IsBesideOf before) (can_splice before) old c d done (family_of adapter objects (map look (set tables k.field nf)) (set (set cs d (Some (after l emptied))) c (Some (after k m))))
+  spliced_step view none =
+      subst (λ w. StepSplice (IsBesideOf before) (can_splice before) w c d done (family_of adapter objects (map look (set tables k.field nf)) (set (set cs d (Some (after l emptied))) c (Some (after k m))))) view
+      (rw (none, map-set) (
+        seen_as k (sequence (map look tables) k),
+        puts.0,
+        collection_is adapter objects (map look tables) cs c k is_k,
+        cut,
+        seen_as l (sequence (map look tables) l),
+        collection_is adapter objects (map look tables) cs d l is_l,
+        puts.2.0,
+        splice_family whole c d k l is_k is_l fit.differ fit.fields (look nf) m emptied e puts.0 cut put,
+      ))

@@ -60,11 +60,11 @@ module _ {A V K : Type 0} (cmp : K → K → Ordering) (key_of : A → V → K) 
       by : (o : Option Sequence) → collection old c ≡ o → StepOn cmp key_of old c (edit Clear) (refused r) mid → Step cmp key_of old (Dispose c) (refused r) mid
       by None e h = rw e (rw e at h)
       by (Some s) e h =
-          let a = taken_step (refusal_on old c (edit Clear)) (AcceptsOn cmp key_of old c (edit Clear)) old (refused r) mid (ap (λ o. asks_collection o (λ _. None)) e) h in
+          let a = taken_step (refusal_on {K = K} old c (edit Clear)) (AcceptsOn {K = K} cmp key_of old c (edit Clear)) old (refused r) mid (ap (λ o. asks_collection o (λ _. None)) e) h in
           absurd a.3
 
   accepted : (s : Sequence) → collection old c ≡ Some s → StepOn cmp key_of old c (edit Clear) done mid → AcceptsOn cmp key_of old c (edit Clear) done mid
-  accepted s e h = taken_step (refusal_on old c (edit Clear)) (AcceptsOn cmp key_of old c (edit Clear)) old done mid (ap (λ o. asks_collection o (λ _. None)) e) h
+  accepted s e h = taken_step (refusal_on {K = K} old c (edit Clear)) (AcceptsOn {K = K} cmp key_of old c (edit Clear)) old done mid (ap (λ o. asks_collection o (λ _. None)) e) h
 
   cleared_there : StepOn cmp key_of old c (edit Clear) done mid → AcceptsOn cmp key_of old c (edit Clear) done mid
   cleared_there step = by (collection old c) refl step
