@@ -140,11 +140,15 @@ module _ {A V K M : Type 0} {adapter : A} {objects : Objects V} {room : ℕ} (ta
   pub apart_taken : IsDisjoint (members_in (look now) taken) (members_in (look now) k.members)
   apart_taken = rw (taken_is, k_is) (whole.apart d c l k (λ x. fit.differ (sym x)) is_l is_k (sym fit.fields))
 
+-- all of `taken` is put at the gap beside the cursor, on the side that is told
+abbrev pub beside_at : {A V K : Type 0} → (t : Table Entry) (m taken : Members A V K) (t' : Table Entry) (m' : Members A V K) → Bool → Type 0
+beside_at t m taken t' m' before = AtGap (members_in t m) (λ gap. IsBesideOf before gap (cursor_in m) × PutsAll t t' m m' gap (members_in t taken))
+
 -- THE SPLICE by its parts
 module _ {A V K M : Type 0} {adapter : A} {objects : Objects V} {room : ℕ} (tables : List (Field M)) {cs : List (Option (Collection A V K))} (whole : IsWhole adapter objects room (map look tables) cs)
     (before : Bool) {c d : ℕ} {k l : Collection A V K} (is_k : at cs c ≡ Some k) (is_l : at cs d ≡ Some l) (fit : Fit (can_splice before) c d k l) (now : Field M) (links : now ≡ get_or tables k.field now)
     (taken : Members A V K) (same : (t : Table Entry) (s : List Place) → Keeps t l.members s → Keeps t taken s) (emptied : Members A V K) (e : Emptied l.members emptied) (nf : Field M) (m : Members A V K)
-    (puts : AtGap (members_in (look now) k.members) (λ gap. IsBesideOf before gap (cursor_in k.members) × PutsAll (look now) (look nf) k.members m gap (members_in (look now) taken))) where
+    (puts : beside_at (look now) k.members taken (look nf) m before) where
   cut : join puts.0 ≡ sequence (map look tables) k
   cut = puts.1 ∙ k_is tables whole is_k is_l fit now links taken same
 

@@ -6,9 +6,10 @@ use Rattle.ic_world.specs.Splices.{IsBesideOf, can_splice}
 use Rattle.ic_world.specs.State.{done}
 use Rattle.ic_world.specs.Tables.{family_of}
 use Rattle.ic_world.specs.Step.{StepSplice, refusal_of_splice}
-use Rattle.ic_world.proofs.CanSplice.{can_be_spliced, these, in_list, found_is, none_there, still_there, still_is, held_k, held_taken, apart_taken, spliced_whole, spliced_step}
+use Rattle.ic_world.proofs.CanSplice.{can_be_spliced, these, in_list, found_is, none_there, still_there, still_is, beside_at, held_k, held_taken, apart_taken, spliced_whole, spliced_step}
 use Rattle.ic_world.proofs.Splices.{Emptied}
 use Rattle.ic_world.proofs.world.World.splice.Goals as goal
+use Rattle.ic_world.proofs.world.World.splice.Goals.{then-before, else-before}
 
 pub index_mut-requires : goal.index_mut-requires
 index_mut-requires g c =
@@ -264,7 +265,12 @@ invariant_of-self-in-Some-index_mut-2 g c =
     let is_k = still_is s rest (found_is _ c.args.collection (still_there rest s) c.index_mut-2.ensures.value c.in-Some-index_mut-2.is) in
     let fit = these s is_k is_l in
     let e : Emptied l.members c.take-taken.new.self = record { kept = c.take-taken.ensures.empty; alike = c.take-taken.ensures.empty_alike; null = c.take-taken.ensures.empty_null } in
-    ?
+    let now = c.index_mut-links.result.now in
+    let P = beside_at (look now) k.members c.take-taken.result in
+    elim c.if-before.branch [
+      | then-before w ↦ rw w.self-inside-is (spliced_whole fields c.self.invariant c.args.before is_k is_l fit now c.index_mut-links.ensures.value c.take-taken.result c.take-taken.ensures.whole c.take-taken.new.self e w.splice_before.new.links w.splice_before.new.self (subst (P (look w.splice_before.new.links) w.splice_before.new.self) (sym w.if-before.true) w.splice_before.ensures))
+      | else-before w ↦ rw w.self-inside-is (spliced_whole fields c.self.invariant c.args.before is_k is_l fit now c.index_mut-links.ensures.value c.take-taken.result c.take-taken.ensures.whole c.take-taken.new.self e w.splice_after.new.links w.splice_after.new.self (subst (P (look w.splice_after.new.links) w.splice_after.new.self) (sym w.if-before.false) w.splice_after.ensures))
+    ]
 
 pub returns-after-before : goal.returns-after-before
 returns-after-before g c =
@@ -279,4 +285,9 @@ returns-after-before g c =
     let is_k = still_is s rest (found_is _ c.args.collection (still_there rest s) c.index_mut-2.ensures.value c.in-Some-index_mut-2.is) in
     let fit = these s is_k is_l in
     let e : Emptied l.members c.take-taken.new.self = record { kept = c.take-taken.ensures.empty; alike = c.take-taken.ensures.empty_alike; null = c.take-taken.ensures.empty_null } in
-    ?
+    let now = c.index_mut-links.result.now in
+    let P = beside_at (look now) k.members c.take-taken.result in
+    elim c.if-before.branch [
+      | then-before w ↦ rw w.self-inside-is (spliced_step fields c.self.invariant c.args.before is_k is_l fit now c.index_mut-links.ensures.value c.take-taken.result c.take-taken.ensures.whole c.take-taken.new.self e w.splice_before.new.links w.splice_before.new.self (subst (P (look w.splice_before.new.links) w.splice_before.new.self) (sym w.if-before.true) w.splice_before.ensures) c.self.view_is none)
+      | else-before w ↦ rw w.self-inside-is (spliced_step fields c.self.invariant c.args.before is_k is_l fit now c.index_mut-links.ensures.value c.take-taken.result c.take-taken.ensures.whole c.take-taken.new.self e w.splice_after.new.links w.splice_after.new.self (subst (P (look w.splice_after.new.links) w.splice_after.new.self) (sym w.if-before.false) w.splice_after.ensures) c.self.view_is none)
+    ]
