@@ -1,5 +1,5 @@
 use Rattle.std.proofs.Common.{◌≡◌, ◌≢◌, ◌<◌, ◌||◌, ◌+◌, ◌∙◌, true, false, sym, ap, subst, map, length, get_or, take, None, Some, arith}
-use Rattle.std.proofs.lemmas.List.{length-map}
+use Rattle.std.proofs.lemmas.List.{length-map, get_or_default}
 use Rattle.std.proofs.lemmas.List.Folds.{list_any_at, list_any_more}
 use Rattle.std.specs.List.{list_any}
 use Rattle.ic_fields.specs.Fields.{look}
@@ -50,6 +50,6 @@ loop-c-preserved g c =
                 here_is fields cs.items c.self.invariant f p i w.in-Some.found v.index-then-found-field.result.now is v.if-found-field.true v.index-then-found-field.ensures v.contains.result v.contains.ensures ∙ v.if-contains.false
             | else-found-field-via-else-found-field v ↦ other_is fields cs.items c.self.invariant f p i w.in-Some.found is v.if-found-field.false
           ]
-      | in_default w ↦ ?
+      | in_default w ↦ none_is fields cs.items c.self.invariant f p i (get_or_default cs.items i None c.index.result.now (omega (arith, c.loop-c-test.true, c.len-c-end.ensures, cs.ok.0)) ∙ sym c.index.ensures ∙ w.in_default.is)
     ] in
     record { none = subst (λ ys. list_any (has_member_in f p) (take (i + 1) ys) ≡ false) same (list_any_more (has_member_in f p) xs i None within ∙ ap (λ b. b || has_member_in f p (get_or xs i None)) before ∙ last) }
