@@ -5,3 +5,6 @@ pub mod Edits
 pub mod Opened
 pub mod Turned
 pub mod Tested
+pub mod Ends
+pub mod Picked
+pub mod Neighbors
