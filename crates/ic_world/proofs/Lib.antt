@@ -8,3 +8,4 @@ pub mod Tested
 pub mod Ends
 pub mod Picked
 pub mod Neighbors
+pub mod Seeking

@@ -1,5 +1,5 @@
 -- What the tests on members and their neighbours answer, by a gap beside the member.
-use Rattle.std.proofs.Common.{◌≡◌, ◌≢◌, Bool, true, false, cond, Option, Some, None, List, [], ◌∷◌, ◌++◌, refl, sym, ap, ◌∙◌, subst, drop, append_assoc, eq-eqb, ne_eqb}
+use Rattle.std.proofs.Common.{◌≡◌, ◌≢◌, ◌↔◌, IsTrue, inl, inr, Bool, true, false, cond, Option, Some, None, List, [], ◌∷◌, ◌++◌, refl, sym, ap, ◌∙◌, subst, drop, append_assoc, eq-eqb, ne_eqb}
 use Rattle.ic_unsafe_ref.specs.declared.place.Place.{Place}
 use Rattle.ic_unsafe_ref.specs.Places.{index_of}
 use Rattle.ic_unsafe_ref.proofs.PlaceLemmas.{same_index}
@@ -7,6 +7,7 @@ use Rattle.ic_link_ops.specs.Sequences.{Cut, join, first, last, last_or, but_las
 use Rattle.ic_link_ops.proofs.SequenceLemmas.{absent_left, distinct_left, distinct_middle, first_is, split_last, member_split}
 use Rattle.ic_world.specs.Among.{same_place, is_among, before_or, before_of, behind_of, next_of}
 use Rattle.ic_world.proofs.Ends.{front_is}
+use Rattle.ic_world.proofs.Linked.{absent_or}
 
 same_here : (p : Place) → same_place p p ≡ true
 same_here p = eq-eqb (index_of p) (index_of p) refl
@@ -61,3 +62,14 @@ next_gap gap (Some p) {s} distinct cut is =
     let all : s ≡ but_last gap.front ++ p ∷ gap.back = here ∙ append_assoc (but_last gap.front) (p ∷ []) gap.back in
     let out = absent_left p (but_last gap.front) gap.back (distinct_middle (but_last gap.front) gap.back p (subst IsDistinct all distinct)) in
     ap (λ t. behind_of t p) all ∙ behind_at (but_last gap.front) gap.back p out
+
+-- whether it is found that p is a member
+pub contains_tells : (s : List Place) (p : Place) (b : Bool) → IsTrue b ↔ IsMember p s → is_among p s ≡ b
+contains_tells s p b tells = elim (absent_or s p) [
+  | inl out ↦ not_among s p out ∙ sym (off b (λ h. tells.0 h out))
+  | inr there ↦ let gap = member_gap s p there in among_gap gap.0 gap.1 gap.2 ∙ sym (tells.1 there)
+]
+  where
+    off : (b : Bool) → (b ≡ true → ⊥) → b ≡ false
+    off true h = absurd (h refl)
+    off false h = refl

@@ -98,8 +98,8 @@ module _ {A V K : Type 0} {old new : Table Entry} {m m' : Members A V K} (law : 
       ]) e.leaves (λ q out. tt) (linked_unlinks old new law law' (members_in old m) gone same) accepts
 
 -- the cursor alone has moved
-pub turns_still : {A V K : Type 0} {t : Table Entry} {m m' : Members A V K} {cursor : Option Place} {Accepts : State → State → Type 0} → IsLawful t → (e : Moves t m m' cursor)
-    → (state_of t m' ≡ moved (state_of t m) cursor → Accepts (state_of t m) (state_of t m')) → Turns [] Accepts t t m m'
+pub turns_still : {A V K : Type 0} {t : Table Entry} {m m' : Members A V K} {cursor : Option Place} {names : List Place} {Accepts : State → State → Type 0} → IsLawful t → (e : Moves t m m' cursor)
+    → (state_of t m' ≡ moved (state_of t m) cursor → Accepts (state_of t m) (state_of t m')) → Turns names Accepts t t m m'
 turns_still {t = t'} {m = m'} law e accepts =
     turns_by law law [] (inl refl) tt (λ q out h. h)
     (record { kept = e.kept; alike = e.alike; cursor_is = e.cursor_is; frame = record { extent = refl; others = λ q out. refl } })
