@@ -15,3 +15,7 @@ pub mod CanSplice
 pub mod FieldCalls
 pub mod Disposed
 pub mod Tested
+pub mod Ends
+pub mod Picked
+pub mod Neighbors
+pub mod Seeking

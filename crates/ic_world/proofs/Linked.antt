@@ -11,7 +11,7 @@ use Rattle.ic_unsafe_ref.specs.Places.{index_of}
 use Rattle.ic_unsafe_ref.proofs.PlaceLemmas.{index_small, place_with, same_index, place_at_word, index_at}
 use Rattle.ic_unsafe_ref.specs.Places.{place_at}
 use Rattle.ic_link_ops.specs.Sequences.{IsAbsent}
-use Rattle.ic_link_ops.specs.Tables.{Table, IsCovered}
+use Rattle.ic_link_ops.specs.Tables.{Table, with_extent, IsCovered, LinksAlso, Unlinks}
 use Rattle.ic_fields.specs.declared.entry.Entry.{Entry}
 use Rattle.ic_fields.specs.Entries.{is_linked}
 use Rattle.ic_members.proofs.AllKinds.{IsLawful}
@@ -190,3 +190,15 @@ linked_unlinks old new law law' s now same =
 pub in_linked_covered : (t : Table Entry) (p : Place) → IsCovered t p → set.contains (linked_in t) (index_of p) ≡ is_linked (t.entry p)
 unfolding linked_in
 in_linked_covered t p covered = contains-from_list_nat (linked_below t t.extent.places) (index_of p) ∙ below t t.extent.places (index_of p) covered ∙ linked_index_is t p
+
+-- p is linked, and then `out` is linked no more
+pub linked_swaps : (old mid new : Table Entry) → IsLawful old → IsLawful new → (p out : Place) → IsCovered old p → LinksAlso is_linked old mid p → Unlinks is_linked mid new out
+    → linked_in new ≡ set.remove (set.insert (linked_in old) (index_of p)) (index_of out)
+linked_swaps old mid new law law' p out covered gains loses =
+    let between = with_extent old.extent mid in
+    let law_between : IsLawful between = λ q h. elim (cases_eq (index_of q) (index_of p)) [
+      | inl e ↦ omega (arith, e, covered)
+      | inr d ↦ law q (sym (gains.others q (λ e. d (ap index_of e))) ∙ h)
+    ] in
+    linked_loses between new law_between law' out loses.is loses.others
+    ∙ ap (λ s. set.remove s (index_of out)) (linked_gains old between law law_between p gains.is gains.others)

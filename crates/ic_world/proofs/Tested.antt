@@ -28,3 +28,12 @@ unlinked t p covered e = sym (in_linked_covered t p covered) ∙ off (set.contai
     off : (b : Bool) → None ≡ asks (not b) AlreadyLinked None → b ≡ false
     off true e = cc
     off false e = refl
+
+-- the tests go on after one that holds, and stop at one that doesn't
+pub goes_on : {o : Option Refusal} (b : Bool) (r : Refusal) (rest : Option Refusal) → b ≡ true → o ≡ rest → o ≡ asks b r rest
+goes_on true r rest e h = h
+goes_on false r rest e h = cc
+
+pub stops : (b : Bool) (r : Refusal) (rest : Option Refusal) → b ≡ false → Some r ≡ asks b r rest
+stops true r rest e = cc
+stops false r rest e = refl

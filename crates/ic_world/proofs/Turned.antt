@@ -1,25 +1,29 @@
 -- What a call of one collection leaves to the world, from what the collection's own call gives, whatever the kind.
-use Rattle.std.proofs.Common.{◌≡◌, ◌⊎◌, inl, inr, true, false, Option, Some, None, List, [], ◌∷◌, ◌++◌, refl, sym, ap, ◌∙◌, subst, drop, append-nil}
+use Rattle.std.proofs.Common.{◌≡◌, ◌≢◌, ◌⊎◌, inl, inr, true, false, Option, Some, None, List, [], ◌∷◌, ◌++◌, refl, sym, ap, ◌∙◌, subst, drop}
 use Rattle.std.proofs.lemmas.Bool.{cases_eq}
 use Rattle.std.specs.Ordering.{nat_cmp}
 use Rattle.std.specs.FinSet as set
 use Rattle.ic_unsafe_ref.specs.declared.place.Place.{Place}
 use Rattle.ic_unsafe_ref.specs.Places.{index_of}
 use Rattle.ic_unsafe_ref.proofs.PlaceLemmas.{same_index}
-use Rattle.ic_link_ops.specs.Sequences.{Cut, join, insert, remove, at_front, at_back, first, last, IsAfter, IsBefore, IsAbsent}
-use Rattle.ic_link_ops.specs.Tables.{Table, IsUnlinked, KeepsBeside}
-use Rattle.ic_link_ops.proofs.SequenceLemmas.{absent_both, absent_left, absent_right, last_some}
+use Rattle.ic_link_ops.specs.Sequences.{Cut, join, insert, remove, replace, IsAbsent}
+use Rattle.ic_link_ops.specs.Tables.{Table, IsCovered, IsUnlinked, KeepsBeside}
+use Rattle.ic_link_ops.proofs.SequenceLemmas.{absent_both, absent_left, absent_right}
 use Rattle.ic_link_ops.proofs.StepLemmas.{released_stay, each_unlinked}
 use Rattle.ic_fields.specs.declared.entry.Entry.{Entry}
 use Rattle.ic_fields.specs.Entries.{is_linked}
 use Rattle.ic_members.specs.declared.members.Members.{Members}
 use Rattle.ic_members.specs.Members.{kind_in, cursor_in, members_in, Keeps, Held, Alike}
-use Rattle.ic_members.specs.Edits.{Leaves, Moves, Puts, Takes, Empties}
+use Rattle.ic_members.specs.Edits.{Leaves, Moves, Puts, Takes, Swaps, Empties}
 use Rattle.ic_members.proofs.AllKinds.{IsLawful, one_sequence, held_of}
 use Rattle.ic_world.specs.LinkedSets.{linked_in}
-use Rattle.ic_world.specs.State.{State, put, taken, moved, having, cleared}
+use Rattle.ic_world.specs.State.{State, put, taken, swapped, moved, having, cleared}
 use Rattle.ic_world.specs.Turns.{Each, Turns, state_of}
-use Rattle.ic_world.proofs.Linked.{absent_or, linked_gains, linked_loses, linked_unlinks}
+use Rattle.ic_world.proofs.Linked.{absent_or, linked_gains, linked_loses, linked_swaps, linked_unlinks}
+
+absent_drop : (q : Place) (t : List Place) → IsAbsent q t → IsAbsent q (drop 1 t)
+absent_drop q [] h = tt
+absent_drop q (x ∷ t) h = h.1
 
 -- a collection with these members now, on a table in which only covered places are linked
 abbrev after_call : {A V K : Type 0} → Members A V K → List Place → Option Place → set.FinSet nat_cmp → State
@@ -66,10 +70,21 @@ module _ {A V K : Type 0} {old new : Table Entry} {m m' : Members A V K} (law : 
       λ q out. absent_both q gap.front (drop 1 gap.back) (absent_left q gap.front gap.back out) (absent_drop q gap.back (absent_right q gap.front gap.back out)) in
       turns_by [] (inl refl) tt (λ q out h. still q h) e.leaves
       (λ q out. absent q (subst (IsAbsent q) (sym cut) out)) (linked_loses old new law law' p e.links.is e.links.others) accepts
-    where
-      absent_drop : (q : Place) (t : List Place) → IsAbsent q t → IsAbsent q (drop 1 t)
-      absent_drop q [] h = tt
-      absent_drop q (x ∷ t) h = h.1
+
+  -- p takes the place of `out`, the member behind the gap
+  pub turns_swap : {cursor : Option Place} {Accepts : State → State → Type 0} (gap : Cut) (p out : Place) → IsCovered old p → join gap ≡ members_in old m → (e : Swaps old new m m' gap p out cursor)
+      → (state_of new m' ≡ swapped (state_of old m) gap p out cursor → Accepts (state_of old m) (state_of new m')) → Turns (p ∷ []) Accepts old new m m'
+  turns_swap gap p out covered cut e accepts =
+      let gains = e.links.1 in
+      let loses = e.links.2 in
+      let only : (q : Place) → q ≢ p → is_linked (new.entry q) ≡ true → is_linked (old.entry q) ≡ true = λ q n h. elim (cases_eq (index_of q) (index_of out)) [
+        | inl same ↦ let no : is_linked (new.entry q) ≡ false = rw (same_index q out same) loses.is in absurd cc
+        | inr other ↦ sym (gains.others q n) ∙ sym (loses.others q (λ x. other (ap index_of x))) ∙ h
+      ] in
+      let absent : (q : Place) → IsAbsent q (p ∷ join gap) → IsAbsent q (replace gap p) =
+      λ q far. absent_both q gap.front (p ∷ drop 1 gap.back) (absent_left q gap.front gap.back far.1) (far.0, absent_drop q gap.back (absent_right q gap.front gap.back far.1)) in
+      turns_by (p ∷ []) (inr refl) (gains.was, tt) (λ q far h. only q far.0 h) e.leaves
+      (λ q far. absent q (subst (λ s. IsAbsent q (p ∷ s)) (sym cut) far)) (linked_swaps old e.links.0 new law law' p out covered gains loses) accepts
 
   -- all members are taken out
   pub turns_clear : {Accepts : State → State → Type 0} → (e : Empties old new m m')
@@ -83,31 +98,12 @@ module _ {A V K : Type 0} {old new : Table Entry} {m m' : Members A V K} (law : 
       ]) e.leaves (λ q out. tt) (linked_unlinks old new law law' (members_in old m) gone same) accepts
 
 -- the cursor alone has moved
-pub turns_still : {A V K : Type 0} {t : Table Entry} {m m' : Members A V K} {cursor : Option Place} {Accepts : State → State → Type 0} → IsLawful t → (e : Moves t m m' cursor)
-    → (state_of t m' ≡ moved (state_of t m) cursor → Accepts (state_of t m) (state_of t m')) → Turns [] Accepts t t m m'
+pub turns_still : {A V K : Type 0} {t : Table Entry} {m m' : Members A V K} {cursor : Option Place} {names : List Place} {Accepts : State → State → Type 0} → IsLawful t → (e : Moves t m m' cursor)
+    → (state_of t m' ≡ moved (state_of t m) cursor → Accepts (state_of t m) (state_of t m')) → Turns names Accepts t t m m'
 turns_still {t = t'} {m = m'} law e accepts =
     turns_by law law [] (inl refl) tt (λ q out h. h)
     (record { kept = e.kept; alike = e.alike; cursor_is = e.cursor_is; frame = record { extent = refl; others = λ q out. refl } })
     (λ q out. out) refl accepts
-
--- the gap after a cursor that is at null, and the one before it
-pub front_is : (gap : Cut) {cursor : Option Place} {s : List Place} → join gap ≡ s → IsAfter gap cursor → cursor ≡ None → gap ≡ at_front s
-front_is gap cut is null =
-    let empty = none_in gap.front (sym null ∙ is) in
-    let whole : gap.back ≡ _ = sym (ap (λ f. f ++ gap.back) empty) ∙ cut in λ i. record { front = empty i; back = whole i }
-  where
-    none_in : (s : List Place) → None ≡ last s → s ≡ []
-    none_in [] e = refl
-    none_in (x ∷ s) e = absurd (last_some x s (sym e))
-
-pub back_is : (gap : Cut) {cursor : Option Place} {s : List Place} → join gap ≡ s → IsBefore gap cursor → cursor ≡ None → gap ≡ at_back s
-back_is gap cut is null =
-    let empty = none_in gap.back (sym null ∙ is) in
-    let whole : gap.front ≡ _ = sym (append-nil gap.front) ∙ sym (ap (λ b. gap.front ++ b) empty) ∙ cut in λ i. record { front = whole i; back = empty i }
-  where
-    none_in : (s : List Place) → None ≡ first s → s ≡ []
-    none_in [] e = refl
-    none_in (x ∷ s) e = cc
 
 module _ {A V K : Type 0} where
   -- the collection, with its cursor at null
@@ -178,3 +174,13 @@ module _ {A V K : Type 0} where
   turns_kept law s kept alike cursor_is within accepts =
       turns_by law law [] (inl refl) tt (λ q out h. h)
       (record { kept = kept; alike = alike; cursor_is = cursor_is; frame = record { extent = refl; others = λ q out. refl } }) within refl accepts
+
+  -- the member p behind a gap goes out, between a move of the cursor and one to null
+  pub turns_out_between : {t t' : Table Entry} {m m1 m2 m3 : Members A V K} {cursor next : Option Place} {Accepts : State → State → Type 0} (law : IsLawful t) (law' : IsLawful t')
+      (e : Moves t m m1 cursor) (gap : Cut) (p : Place) → join gap ≡ members_in t m1 → Takes t t' m1 m2 gap p next → Moves t' m2 m3 None
+      → (join gap ≡ members_in t m → state_of t' m3 ≡ taken (state_of t m) gap p None → Accepts (state_of t m) (state_of t' m3)) → Turns [] Accepts t t' m m3
+  turns_out_between {t} {t'} {m} {m1} {m2} {next = next'} law law' e gap p cut takes null accepts =
+      let First : State → State → Type 0 = λ s u. u ≡ taken s gap p next' in
+      let taking : Turns [] First t t' m1 m2 = turns_out law law' gap p cut takes (λ same. same) in
+      let out : Turns [] First t t' m m2 = turns_moved law e First taking (λ same. same) in
+      turns_then law' First out null (λ was now. accepts (cut ∙ still_members law e) (now ∙ ap (λ s. moved s None) was))

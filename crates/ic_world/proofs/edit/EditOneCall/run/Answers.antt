@@ -9,7 +9,8 @@ use Rattle.ic_world.specs.State.{asks_unlinked, put}
 use Rattle.ic_world.specs.Turns.{state_of, Each}
 use Rattle.ic_world.specs.ListCalls.{edit_names, edit_refusal}
 use Rattle.ic_world.proofs.Tested.{rest_holds, unlinked}
-use Rattle.ic_world.proofs.Turned.{front_is, back_is, nulled, turns_put, turns_put_null, turns_clear, turns_still, turns_kept}
+use Rattle.ic_world.proofs.Ends.{front_is, back_is}
+use Rattle.ic_world.proofs.Turned.{nulled, turns_put, turns_put_null, turns_clear, turns_still, turns_kept}
 use Rattle.ic_world.proofs.edit.EditOneCall.run.Goals as goal
 
 pub insert_after-requires-clause-unlinked : goal.insert_after-requires-clause-unlinked
