@@ -4,7 +4,7 @@ use Rattle.ic_unsafe_ref.specs.declared.place.Place.{Place}
 use Rattle.ic_unsafe_ref.specs.Places.{index_of}
 use Rattle.ic_unsafe_ref.proofs.PlaceLemmas.{same_index}
 use Rattle.ic_link_ops.specs.Sequences.{Cut, join, first, last, last_or, but_last, IsAfter, IsBefore, IsAbsent, IsMember, IsDistinct}
-use Rattle.ic_link_ops.proofs.SequenceLemmas.{absent_left, distinct_left, distinct_middle, first_is, split_last, member_split}
+use Rattle.ic_link_ops.proofs.SequenceLemmas.{absent_left, distinct_middle, first_is, split_last, member_split}
 use Rattle.ic_world.specs.Among.{same_place, is_among, before_or, before_of, behind_of, next_of}
 use Rattle.ic_world.proofs.Ends.{front_is}
 use Rattle.ic_world.proofs.Linked.{absent_or}

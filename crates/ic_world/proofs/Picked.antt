@@ -1,7 +1,7 @@
 -- What a call that answers an object or none leaves to the world, from what the collection's own calls give.
-use Rattle.std.proofs.Common.{◌≡◌, Option, Some, None, IfSome, IfNone, List, [], ◌∷◌, refl, sym, ap, ◌∙◌, subst, drop}
+use Rattle.std.proofs.Common.{◌≡◌, Option, Some, None, IfSome, IfNone, [], refl, sym, ap, ◌∙◌, subst, drop}
 use Rattle.ic_unsafe_ref.specs.declared.place.Place.{Place}
-use Rattle.ic_link_ops.specs.Sequences.{Cut, join, first, last, IsAfter, IsBefore, at_front, at_back}
+use Rattle.ic_link_ops.specs.Sequences.{first, last, IsAfter, IsBefore}
 use Rattle.ic_fields.specs.declared.field.Field.{Field}
 use Rattle.ic_fields.specs.Fields.{look}
 use Rattle.ic_members.specs.declared.members.Members.{Members}

@@ -1,5 +1,5 @@
 -- A seek is a call that writes no table.
-use Rattle.std.proofs.Common.{◌≡◌, Bool, true, Some, Result, Ok, Err, refl}
+use Rattle.std.proofs.Common.{◌≡◌, true, Some, Result, Ok, Err, refl}
 use Rattle.ic_fields.specs.declared.kind.Kind.{Kind}
 use Rattle.ic_fields.specs.declared.kind.Kind.TheVariants as kind
 use Rattle.ic_fields.specs.declared.field.Field.{Field}

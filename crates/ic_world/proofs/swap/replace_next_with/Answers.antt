@@ -1,6 +1,6 @@
 use Rattle.std.proofs.Common.{◌≡◌, ◌∙◌, Option, None, refl, sym, ap, not, is_some}
 use Rattle.ic_unsafe_ref.specs.declared.place.Place.{Place}
-use Rattle.ic_link_ops.specs.Sequences.{join, first, IsAfter}
+use Rattle.ic_link_ops.specs.Sequences.{first, IsAfter}
 use Rattle.ic_fields.specs.declared.field.Field.{Field}
 use Rattle.ic_fields.specs.Fields.{look}
 use Rattle.ic_members.specs.declared.members.Members.{Members}

@@ -1,13 +1,11 @@
-use Rattle.std.proofs.Common.{◌≡◌, ◌∙◌, sym, ap, refl, true, false, None, [], ◌∷◌}
-use Rattle.ic_link_ops.specs.Tables.{IsCovered}
+use Rattle.std.proofs.Common.{◌∙◌, ap, None, []}
 use Rattle.ic_link_ops.proofs.SequenceLemmas.{absent_reverse}
 use Rattle.ic_fields.specs.Fields.{look}
-use Rattle.ic_members.specs.Members.{members_in, has_before, is_list, is_two_way_list}
+use Rattle.ic_members.specs.Members.{has_before, is_list, is_two_way_list}
 use Rattle.ic_members.proofs.AllKinds.{lawful}
 use Rattle.ic_world.specs.declared.call.Refusal.TheVariants.{WrongKind}
 use Rattle.ic_world.specs.State.{asks_unlinked, put}
-use Rattle.ic_world.specs.Turns.{state_of, Each}
-use Rattle.ic_world.specs.ListCalls.{edit_names, edit_refusal}
+use Rattle.ic_world.specs.Turns.{state_of}
 use Rattle.ic_world.proofs.Tested.{rest_holds, unlinked}
 use Rattle.ic_world.proofs.Ends.{front_is, back_is}
 use Rattle.ic_world.proofs.Turned.{nulled, turns_put, turns_put_null, turns_clear, turns_still, turns_kept}
