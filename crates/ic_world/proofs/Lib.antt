@@ -1,3 +1,4 @@
+pub mod Ranged
 pub mod Keyed
 pub mod Parted
 pub mod Linked
