@@ -1,3 +1,4 @@
+pub mod Runs
 pub mod Ranged
 pub mod Keyed
 pub mod Parted
