@@ -56,7 +56,7 @@ module _ {A V K M : Type 0} {links : Field M} {m : Members A V K} where
   pub inserted : {R : Type 0} {links' : Field M} {m' : Members A V K} {cursor : Option Place} {accepts : R → State → State → Type 0} {b : Bool} (at : Place → Ordering) (p : Place) (answer : R)
       → is_tree (kind_in m) ≡ true → b ≡ set.contains (linked_in (look links)) (index_of p) → b ≡ false → PutsInOrder at (look links) (look links') m m' p cursor
       → ((gap : Cut) → join gap ≡ members_in (look links) m → IsBorder (less_at at) gap → state_of (look links') m' ≡ put (state_of (look links) m) gap p cursor
-          → accepts answer (state_of (look links) m) (state_of (look links') m'))
+      → accepts answer (state_of (look links) m) (state_of (look links') m'))
       → Ran (p ∷ []) (λ s. asks (is_tree s.kind) WrongKind (asks_unlinked s p)) accepts links links' m m' (Ok answer)
   inserted {links'} at p answer tree is free e accepts = record {
     tested = rw (tree, sym is ∙ free) refl;

@@ -18,7 +18,7 @@ other_there x p n = ne_eqb (index_of x) (index_of p) (λ e. n (sym (same_index x
 -- in a sequence where p stands, and none in front of it is p
 among_at : (f b : List Place) (p : Place) → is_among p (f ++ p ∷ b) ≡ true
 among_at [] b p = rw (same_here p) refl
-among_at (x ∷ f) b p = elim (same_place x p) as (λ c. cond c true (is_among p (f ++ p ∷ b)) ≡ true) [ | true ↦ refl | false ↦ among_at f b p ]
+among_at (x ∷ f) b p = elim (same_place x p) as (λ c. cond c true (is_among p (f ++ p ∷ b)) ≡ true) [ true ↦ refl | false ↦ among_at f b p ]
 
 before_at : (f b : List Place) (p : Place) (o : Option Place) → IsAbsent p f → before_or o (f ++ p ∷ b) p ≡ last_or o f
 before_at [] b p o out = rw (same_here p) refl

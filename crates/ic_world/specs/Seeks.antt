@@ -8,7 +8,6 @@ use Rattle.ic_world.specs.declared.call.Refusal.{Refusal}
 use Rattle.ic_world.specs.declared.seek.Seek.{Seek}
 use Rattle.ic_world.specs.ListCalls.{seek_refusal}
 use Rattle.ic_world.specs.Turns.{refusal_in, state_of}
-
 -- the place that a seek puts the cursor on
 use Rattle.std.specs.Prelude.{Some}
 use Rattle.ic_unsafe_ref.specs.declared.place.Place.{Place}

@@ -203,7 +203,11 @@ impl<M: Allocator> fmt::Display for Answer<M> {
             Answer::Items(places) => write_items(f, places),
             Answer::Linked(true) => write!(f, "linked"),
             Answer::Linked(false) => write!(f, "unlinked"),
-            Answer::Found(Some(place), looks) => write!(f, "object {} looks {looks}", place.index()),
+            Answer::Found(Some(place), looks) => write!(
+                f,
+                "object {} looks {looks}",
+                place.index()
+            ),
             Answer::Found(None, looks) => write!(f, "none looks {looks}"),
             Answer::Looked(looks) => write!(f, "ok looks {looks}"),
             Answer::Range(places, first, second) => {

@@ -147,7 +147,11 @@ impl<A: KeyAdapter, M: Allocator + Copy> World<A, M> {
         let Some((given_field, given_kind)) = self.seen(given) else {
             return Some(Refusal::NoSuchCollection);
         };
-        let has = if before { is_two_way_list(kind) } else { is_list(kind) };
+        let has = if before {
+            is_two_way_list(kind)
+        } else {
+            is_list(kind)
+        };
         if !has || !same_kind(kind, given_kind) {
             return Some(Refusal::WrongKind);
         }

@@ -43,7 +43,11 @@ pub enum Edit {
 impl Edit {
     // The first refusal of the call.
     #[inline]
-    fn refusal<A: KeyAdapter, M: Allocator>(self, members: &Members<A>, links: &Field<M>) -> Option<Refusal>
+    fn refusal<A: KeyAdapter, M: Allocator>(
+        self,
+        members: &Members<A>,
+        links: &Field<M>,
+    ) -> Option<Refusal>
         requires covered { Each (IsCovered (look links.now)) (edit_names self) }
         ensures { result ≡ edit_refusal self (state_of (look links.now) members.now) }
     {

@@ -36,7 +36,11 @@ where
     /// Puts the cursor on the first member that meets the bound, to null if there is none, and answers it with the looks. O(log n).
     ///
     /// Refused: `NoSuchCollection`, `WrongKind` of a list.
-    pub fn lower_bound(&mut self, collection: usize, bound: Bound<A::Key>) -> Result<(Option<Place>, u64), Refusal>
+    pub fn lower_bound(
+        &mut self,
+        collection: usize,
+        bound: Bound<A::Key>,
+    ) -> Result<(Option<Place>, u64), Refusal>
         ensures { Step A.Key.cmp A.key_of self.old (Command.LowerBound collection bound) (reply_of (λ answer. found answer.0 answer.1) result) self.new }
     {
         self.call(collection, &Search::LowerBound(bound))
@@ -45,7 +49,11 @@ where
     /// Puts the cursor on the last member that meets the bound, to null if there is none, and answers it with the looks. O(log n).
     ///
     /// Refused: `NoSuchCollection`, `WrongKind` of a list.
-    pub fn upper_bound(&mut self, collection: usize, bound: Bound<A::Key>) -> Result<(Option<Place>, u64), Refusal>
+    pub fn upper_bound(
+        &mut self,
+        collection: usize,
+        bound: Bound<A::Key>,
+    ) -> Result<(Option<Place>, u64), Refusal>
         ensures { Step A.Key.cmp A.key_of self.old (Command.UpperBound collection bound) (reply_of (λ answer. found answer.0 answer.1) result) self.new }
     {
         self.call(collection, &Search::UpperBound(bound))
@@ -73,7 +81,12 @@ where
     /// its own key is, and the cursor on it. Answers whether a member had the key, which one the cursor is on, and the looks. O(log n).
     ///
     /// Refused: `NoSuchCollection`, `NoSuchObject`, `WrongKind` of a list; and `AlreadyLinked` where no member has the key.
-    pub fn entry(&mut self, collection: usize, key: A::Key, object: Place) -> Result<(bool, Place, u64), Refusal>
+    pub fn entry(
+        &mut self,
+        collection: usize,
+        key: A::Key,
+        object: Place,
+    ) -> Result<(bool, Place, u64), Refusal>
         ensures { Step A.Key.cmp A.key_of self.old (Command.Entry collection key object) (reply_of (λ e. entry e.0 e.1 e.2) result) self.new }
     {
         match self.call(collection, &EntryAt { key, object }) {

@@ -110,7 +110,12 @@ impl<A: KeyAdapter, M: Allocator + Copy> World<A, M> {
     /// Puts the cursor of an XOR list on a member, with the one in front of it, `None` at the front. O(members).
     ///
     /// Refused: `NoSuchCollection`, `NoSuchObject` of either object, `WrongKind` of the other kinds, `NotAMember`, `NotANeighbour`.
-    pub fn seek_with_prev(&mut self, collection: usize, object: Place, prev: Option<Place>) -> Result<(), Refusal>
+    pub fn seek_with_prev(
+        &mut self,
+        collection: usize,
+        object: Place,
+        prev: Option<Place>,
+    ) -> Result<(), Refusal>
         ensures { Step A.Key.cmp A.key_of self.old (Command.SeekWithPrev collection object prev) (reply_of (λ _. done) result) self.new }
     {
         self.call(collection, &Seek::WithPrev(object, prev))
@@ -119,7 +124,12 @@ impl<A: KeyAdapter, M: Allocator + Copy> World<A, M> {
     /// Puts the cursor of an XOR list on a member, with the one behind it, `None` at the back. O(members).
     ///
     /// Refused: `NoSuchCollection`, `NoSuchObject` of either object, `WrongKind` of the other kinds, `NotAMember`, `NotANeighbour`.
-    pub fn seek_with_next(&mut self, collection: usize, object: Place, next: Option<Place>) -> Result<(), Refusal>
+    pub fn seek_with_next(
+        &mut self,
+        collection: usize,
+        object: Place,
+        next: Option<Place>,
+    ) -> Result<(), Refusal>
         ensures { Step A.Key.cmp A.key_of self.old (Command.SeekWithNext collection object next) (reply_of (λ _. done) result) self.new }
     {
         self.call(collection, &Seek::WithNext(object, next))

@@ -95,7 +95,11 @@ impl<A: KeyAdapter, M: Allocator + Copy> World<A, M> {
     ///
     /// Refused: `NoSuchObject`, and the value comes back then. It takes no memory. Where the key changes, trees of the object may
     /// be sorted no more.
-    pub fn set_value(&mut self, object: Place, value: A::Value) -> Result<A::Value, (Refusal, A::Value)>
+    pub fn set_value(
+        &mut self,
+        object: Place,
+        value: A::Value,
+    ) -> Result<A::Value, (Refusal, A::Value)>
         ensures step { Step A.Key.cmp A.key_of self.old (Command.SetValue object value) (reply_of_value (λ _. done) result) self.new }
         ensures value { IfOk result (λ old. map.get self.old.objects (index_of object) ≡ Some old) }
         ensures handed_back { IfErr result (λ refused. refused.1 ≡ value) }

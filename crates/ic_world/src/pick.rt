@@ -43,7 +43,11 @@ pub enum Pick {
 impl Pick {
     // The first refusal of the call.
     #[inline]
-    fn refusal<A: KeyAdapter, M: Allocator>(self, members: &Members<A>, links: &Field<M>) -> Option<Refusal>
+    fn refusal<A: KeyAdapter, M: Allocator>(
+        self,
+        members: &Members<A>,
+        links: &Field<M>,
+    ) -> Option<Refusal>
         ensures { result ≡ pick_refusal self (state_of (look links.now) members.now) }
     {
         let _ = links;
@@ -108,7 +112,10 @@ impl<A: KeyAdapter> OneCall<A> for Pick {
 
 // Takes the first member out of a list, and moves the cursor to null.
 #[inline]
-fn pop_front<A: KeyAdapter, M: Allocator>(members: &mut Members<A>, links: &mut Field<M>) -> Option<Place>
+fn pop_front<A: KeyAdapter, M: Allocator>(
+    members: &mut Members<A>,
+    links: &mut Field<M>,
+) -> Option<Place>
     requires held { Held (look links.old) members.old }
     requires can { kinds.is_list (kind_in members.old) ≡ true }
     ensures { Picks Pick.PopFront (look links.old) (look links.new) members.old result members.new }
@@ -125,7 +132,10 @@ fn pop_front<A: KeyAdapter, M: Allocator>(members: &mut Members<A>, links: &mut 
 
 // Takes the last member out of a doubly linked or an XOR list, and moves the cursor to null.
 #[inline]
-fn pop_back<A: KeyAdapter, M: Allocator>(members: &mut Members<A>, links: &mut Field<M>) -> Option<Place>
+fn pop_back<A: KeyAdapter, M: Allocator>(
+    members: &mut Members<A>,
+    links: &mut Field<M>,
+) -> Option<Place>
     requires held { Held (look links.old) members.old }
     requires can { kinds.is_two_way_list (kind_in members.old) ≡ true }
     ensures { Picks Pick.PopBack (look links.old) (look links.new) members.old result members.new }

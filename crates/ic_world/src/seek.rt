@@ -58,8 +58,10 @@ impl<A: KeyAdapter> OneCall<A> for Seek {
     fn is_placed<M: Allocator>(&self, objects: &Objects<A::Value, M>) -> bool {
         match *self {
             Seek::On(object) => objects.is_placed(object),
-            Seek::WithPrev(object, prev) => objects.is_placed(object) && is_placed_if_any(objects, prev),
-            Seek::WithNext(object, next) => objects.is_placed(object) && is_placed_if_any(objects, next),
+            Seek::WithPrev(object, prev) => objects.is_placed(object)
+                && is_placed_if_any(objects, prev),
+            Seek::WithNext(object, next) => objects.is_placed(object)
+                && is_placed_if_any(objects, next),
         }
     }
 
@@ -81,7 +83,11 @@ impl<A: KeyAdapter> OneCall<A> for Seek {
 }
 
 // Puts the cursor on the object. No table is written.
-fn seek_on<A: KeyAdapter, M: Allocator>(members: &mut Members<A>, links: &Field<M>, object: Place) -> Result<(), Refusal>
+fn seek_on<A: KeyAdapter, M: Allocator>(
+    members: &mut Members<A>,
+    links: &Field<M>,
+    object: Place,
+) -> Result<(), Refusal>
     requires held { Held (look links.now) members.old }
     requires covered { IsCovered (look links.now) object }
     ensures { Sought (Seek.On object) (look links.now) members.old result members.new }

@@ -78,7 +78,11 @@ impl<A: KeyAdapter, M: Allocator + Copy> World<A, M> {
     }
 
     // Does a call of one collection.
-    pub(crate) fn call<C: OneCall<A>>(&mut self, collection: usize, call: &C) -> Result<C::Answer, Refusal>
+    pub(crate) fn call<C: OneCall<A>>(
+        &mut self,
+        collection: usize,
+        call: &C,
+    ) -> Result<C::Answer, Refusal>
         ensures { StepOn A.Key.cmp A.key_of self.old collection (C.call call.now) (reply_of C.reply result) self.new }
     {
         if collection >= self.collections.len() {

@@ -4,7 +4,6 @@ use Rattle.ic_fields.specs.Fields.{look}
 use Rattle.ic_world.specs.Tables.{family_of}
 use Rattle.ic_world.proofs.Readings.{found, found_at}
 use Rattle.ic_world.proofs.Steps.{from_ok, if_ok}
-
 use Rattle.ic_world.proofs.HandedOut.{refused_whole, refused_step, handed_whole, handed_step, had_room}
 use Rattle.ic_world.proofs.world.World.hand_out.Goals as goal
 
