@@ -13,6 +13,8 @@ mod keys;
 #[cfg(test)]
 mod program_runs;
 #[cfg(test)]
+mod sessions;
+#[cfg(test)]
 mod texts;
 #[cfg(test)]
 mod world_runs;
