@@ -185,7 +185,9 @@ where
             × Runs A.Key.cmp A.key_of self.old commands.now (map_list reply_in given) self.new) }
         ensures refused { OnErr result ((self.new ≡ self.old) × (answers.new.items ≡ answers.old.items)) }
     {
-        answers.try_reserve(commands.len())?;
+        if let Err(error) = answers.try_reserve(commands.len()) {
+            return Err(error);
+        }
         for command in commands {
             let answer = self.answer(*command);
             let _ = answers.push(answer);
