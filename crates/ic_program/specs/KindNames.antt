@@ -1,11 +1,10 @@
--- The kinds, by their names.
-use Rattle.std.specs.Prelude.{ℕ, List, Option, Some, None, cond, codes}
-use Rattle.std.specs.List.{list_eq}
+-- The names of the kinds.
+use Rattle.std.specs.Prelude.{ℕ, List, codes}
 use Rattle.ic_fields.specs.declared.kind.Kind.{Kind}
 use Rattle.ic_fields.specs.declared.kind.Kind.TheVariants.{Singly, Doubly, Xor, Tree}
 
--- the kind whose name is this word, if it is one's
-abbrev pub kind_named : List ℕ → Option Kind
-kind_named word =
-    cond (list_eq word (codes "singly")) (Some Singly)
-    (cond (list_eq word (codes "doubly")) (Some Doubly) (cond (list_eq word (codes "xor")) (Some Xor) (cond (list_eq word (codes "tree")) (Some Tree) None)))
+abbrev pub name_of : Kind → List ℕ
+name_of Singly = codes "singly"
+name_of Doubly = codes "doubly"
+name_of Xor = codes "xor"
+name_of Tree = codes "tree"

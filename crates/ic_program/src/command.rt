@@ -1,12 +1,13 @@
 //! A line's words, and the command that they are.
 
-ghost use Rattle.std.specs.Prelude.{◌≡◌, ◌<◌, ◌↔◌, ◌^◌, IsSome, IfSome};
+ghost use Rattle.std.specs.Prelude.{◌≡◌, ◌≢◌, ◌<◌, ◌↔◌, ◌^◌, IsSome, IfSome, IfNone};
 ghost use Rattle.std.specs.Char.{is_ascii_digit};
 ghost use Rattle.std.specs.List.{list_all};
 ghost use Rattle.std.specs.Str.Parse.{digits_value};
 ghost use Rattle.ic_unsafe_ref.specs.Places.{index_of};
 ghost use Rattle.ic_program.specs.Number.{IsNumber};
-ghost use Rattle.ic_program.specs.KindNames.{kind_named};
+ghost use Rattle.ic_fields.specs.declared.kind.Kind.{Kind};
+ghost use Rattle.ic_program.specs.KindNames.{name_of};
 
 use arrayvec::ArrayVec;
 use ic_unsafe_ref::Place;
@@ -121,7 +122,8 @@ fn with_three(name: &str, first: &str, second: &str, third: &str) -> Option<Comm
 
 // The kind of that name.
 fn kind(word: &str) -> Option<Kind>
-    ensures { result ≡ kind_named word.now }
+    ensures named { IfSome result (λ kind. word.now ≡ name_of kind) }
+    ensures none { IfNone result ((kind : Kind) → word.now ≢ name_of kind) }
 {
     match word {
         "singly" => Some(Kind::Singly),
