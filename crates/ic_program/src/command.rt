@@ -112,8 +112,16 @@ fn with_object(name: &str, of: usize, object: Place) -> Option<Command<u64, u64>
 fn with_three(name: &str, first: &str, second: &str, third: &str) -> Option<Command<u64, u64>> {
     let collection = index(first)?;
     match name {
-        "seek_with_prev" => Some(Command::SeekWithPrev(collection, place(second)?, neighbor(third)?)),
-        "seek_with_next" => Some(Command::SeekWithNext(collection, place(second)?, neighbor(third)?)),
+        "seek_with_prev" => Some(Command::SeekWithPrev(
+            collection,
+            place(second)?,
+            neighbor(third)?,
+        )),
+        "seek_with_next" => Some(Command::SeekWithNext(
+            collection,
+            place(second)?,
+            neighbor(third)?,
+        )),
         "range" => Some(Command::Range(collection, bound(second)?, bound(third)?)),
         "entry" => Some(Command::Entry(collection, number(second)?, place(third)?)),
         _ => None,
