@@ -1,27 +1,9 @@
 //! Whole sessions over all kinds, in the text of the program's commands.
 
-use crate::worlds::Worlds;
-use std::fmt;
+use crate::session::Session;
 use std::test::Fail;
 use test_support::rationed::Rationed;
-use test_support::rows::{Answer, Played, Run, play};
-
-// A world of which a row tells the answer alone.
-#[derive(Drop)]
-struct Session<'r>(Worlds<'r>);
-
-impl Played for Session<'_> {
-    type Answer = Answer;
-
-    fn call(&mut self, words: &[&str]) -> Answer {
-        self.0.call(words)
-    }
-
-    fn show(&self, shown: &mut String) -> fmt::Result {
-        let _ = shown;
-        Ok(())
-    }
-}
+use test_support::rows::{Run, play};
 
 const SESSIONS: [Run; 5] = [
     Run {
@@ -164,7 +146,8 @@ const SESSIONS: [Run; 5] = [
 fn sessions(rt: HostRuntime) -> Result<(), Fail> {
     let rationed = Rationed::new(rt.alloc(), u64::MAX);
     for session in SESSIONS {
-        play(rt.alloc(), &mut Session(Worlds::new(rt.alloc(), &rationed)), &session)?;
+        let mut world = Session::new(rt.alloc(), &rationed);
+        play(rt.alloc(), &mut world, &session)?;
     }
     Ok(())
 }

@@ -27,6 +27,7 @@ use Rattle.ic_world.specs.Step.{StepSplice, refusal_of_splice, same_kind}
 use Rattle.ic_world.proofs.Readings.{collection_at, collection_is, table_read}
 use Rattle.ic_world.proofs.Edits.{after}
 use Rattle.ic_world.proofs.Splices.{Emptied, splice_whole, splice_family}
+use Rattle.ic_world.proofs.Steps.{some_same}
 
 eq_of : (m n : ℕ) → nat_eq m n ≡ true → m ≡ n
 eq_of m n t = elim (cases_eq m n) [ inl e ↦ e | inr d ↦ absurd (let f : nat_eq m n ≡ false = ne_eqb m n d in cc) ]
@@ -53,9 +54,6 @@ module _ {A V K : Type 0} where
     pub is_k : at cs c ≡ Some k
     pub is_l : at cs d ≡ Some l
     pub fit : Fit has c d k l
-
-  some_same : {x y : Collection A V K} → Some x ≡ Some y → x ≡ y
-  some_same {x} {y} e = cc
 
   -- these are the ones that are found
   pub these : {has : Kind → Bool} {cs : List (Option (Collection A V K))} {c d : ℕ} {k l : Collection A V K} → CanSplice has cs c d → at cs c ≡ Some k → at cs d ≡ Some l → Fit has c d k l

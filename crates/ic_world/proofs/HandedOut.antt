@@ -25,6 +25,7 @@ use Rattle.ic_world.proofs.Readings.{Found, collection_is}
 use Rattle.ic_world.proofs.Edits.{Edit, after, at_after, here, new_sequence, same_sequence, edited_family, edited_whole}
 use Rattle.ic_world.proofs.Opened.{appended_whole, appended_family}
 use Rattle.ic_world.proofs.Calls.{same_state}
+use Rattle.ic_world.proofs.Steps.{some_same}
 
 module _ {A V K : Type 0} {adapter : A} {objects : Objects V} {room : ℕ} {ts : List (Table Entry)} {cs : List (Option (Collection A V K))} (whole : IsWhole adapter objects room ts cs)
     (c : ℕ) (k : Collection A V K) (is : at cs c ≡ Some k) (part : Part) {new : Table Entry} {m handed : Members A V K} (parts : HandsOut (PartsOf part) (table ts k.field) new k.members m handed) where
@@ -103,9 +104,6 @@ module _ {A V K M : Type 0} {adapter : A} {objects : Objects V} {room : ℕ} {ta
         let at_list = subst (P tables) (sym (ap (λ z. set cs c (Some (after k z))) same.1 ∙ at_k.list_back)) (subst (λ w. StepOut w c part (refused x) (family_of adapter objects (map look tables) cs)) view (by _ has_room asks tested)) in
         subst (λ xs. P xs (set cs c (Some (after k m)))) (sym (ap (set tables k.field) same.0 ∙ at_k.table_back)) at_list
       where
-        some_same : {x y : Refusal} → Some x ≡ Some y → x ≡ y
-        some_same {x} {y} e = cc
-
         by : (o : Option Refusal) (room : Bool) → refusal_of_hand_out (family_of adapter objects (map look tables) cs) c part ≡ o → Some x ≡ asks_room room o
             → StepOut (family_of adapter objects (map look tables) cs) c part (refused x) (family_of adapter objects (map look tables) cs)
         by (Some r) room e h = rw e (ap refused (some_same h), refl)

@@ -21,3 +21,4 @@ pub mod Ends
 pub mod Picked
 pub mod Neighbors
 pub mod Seeking
+pub mod StepLaws

@@ -26,7 +26,7 @@ use Rattle.ic_link_ops.proofs.SequenceLemmas.{disjoint_sym}
 use Rattle.ic_members.proofs.AllKinds.{one_sequence}
 use Rattle.ic_world.proofs.Edits.{lawful}
 use Rattle.ic_world.proofs.Readings.{field_at}
-use Rattle.ic_world.proofs.Steps.{step_accepted, step_refused, field_there, passes, fails}
+use Rattle.ic_world.proofs.Steps.{some_same, step_accepted, step_refused, field_there, passes, fails}
 
 pub disjoint_none : (s : List Place) → IsDisjoint s []
 disjoint_none [] = tt
@@ -47,9 +47,6 @@ get_pushed (y ∷ xs) x (suc d) l e =
 module _ {A V K : Type 0} {adapter : A} {objects : Objects V} {room : ℕ} {ts : List (Table Entry)} {cs : List (Option (Collection A V K))} (whole : IsWhole adapter objects room ts cs)
     (k : Collection A V K) (within : k.field < length ts) (held : Held (table ts k.field) k.members) (adapted : adapter_in k.members ≡ adapter_for (kind_in k.members) adapter)
     (apart : (d : ℕ) (l : Collection A V K) → at cs d ≡ Some l → l.field ≡ k.field → IsDisjoint (sequence ts l) (sequence ts k)) where
-  this : {x y : Collection A V K} → Some x ≡ Some y → x ≡ y
-  this {x} {y} e = cc
-
   pub appended_whole : IsWhole adapter objects room ts (cs ++ Some k ∷ [])
   appended_whole = record {
     within = whole.within;
@@ -57,23 +54,23 @@ module _ {A V K : Type 0} {adapter : A} {objects : Objects V} {room : ℕ} {ts :
     placed = whole.placed;
     in_field = λ c l is. elim (get_pushed cs _ c l is) [
       | inl h ↦ whole.in_field c l h
-      | inr h ↦ let e : k ≡ l = this h.1 in rw (← e) within
+      | inr h ↦ let e : k ≡ l = some_same h.1 in rw (← e) within
     ];
     held = λ c l is. elim (get_pushed cs _ c l is) [
       | inl h ↦ whole.held c l h
-      | inr h ↦ subst (λ x. Held (table ts x.field) x.members) (this h.1) held
+      | inr h ↦ subst (λ x. Held (table ts x.field) x.members) (some_same h.1) held
     ];
     adapted = λ c l is. elim (get_pushed cs _ c l is) [
       | inl h ↦ whole.adapted c l h
-      | inr h ↦ subst (λ x. adapter_in x.members ≡ adapter_for (kind_in x.members) adapter) (this h.1) adapted
+      | inr h ↦ subst (λ x. adapter_in x.members ≡ adapter_for (kind_in x.members) adapter) (some_same h.1) adapted
     ];
     apart = λ a b x y n is_x is_y same. elim (get_pushed cs _ a x is_x) [
       | inl h ↦ elim (get_pushed cs _ b y is_y) [
         | inl i ↦ whole.apart a b x y n h i same
-        | inr i ↦ subst (λ z. IsDisjoint (sequence ts x) (sequence ts z)) (this i.1) (apart a x h (same ∙ ap (λ z. z.field) (sym (this i.1))))
+        | inr i ↦ subst (λ z. IsDisjoint (sequence ts x) (sequence ts z)) (some_same i.1) (apart a x h (same ∙ ap (λ z. z.field) (sym (some_same i.1))))
       ]
       | inr h ↦ elim (get_pushed cs _ b y is_y) [
-        | inl i ↦ disjoint_sym _ _ (subst (λ z. IsDisjoint (sequence ts y) (sequence ts z)) (this h.1) (apart b y i (sym same ∙ ap (λ z. z.field) (sym (this h.1)))))
+        | inl i ↦ disjoint_sym _ _ (subst (λ z. IsDisjoint (sequence ts y) (sequence ts z)) (some_same h.1) (apart b y i (sym same ∙ ap (λ z. z.field) (sym (some_same h.1)))))
         | inr i ↦ absurd (n (h.0 ∙ sym i.0))
       ]
     ];
