@@ -1,12 +1,12 @@
 -- A CALL OF ONE COLLECTION, for the world: what the collection's call gives is lifted once, for all calls.
-use Rattle.std.proofs.Common.{◌≡◌, ℕ, ◌⊎◌, inl, inr, true, false, List, [], ◌∷◌, ◌++◌, map, set, get_or, Option, Some, None, Bool, refl, sym, ap, ◌∙◌, subst, arith, Result, Ok, Err, OnErr, IfOk, ◌&&◌}
+use Rattle.std.proofs.Common.{◌≡◌, ℕ, ◌⊎◌, inl, inr, true, false, List, [], ◌∷◌, ◌++◌, map, set, get_or, Option, Some, Bool, refl, sym, ap, ◌∙◌, subst, arith, Result, Ok, Err, OnErr, IfOk, ◌&&◌}
 use Rattle.std.proofs.lemmas.Bool.{cases_eq}
 use Rattle.std.proofs.lemmas.List.{map-set}
-use Rattle.std.specs.List.{list_all, AllByRecursion}
+use Rattle.std.specs.List.{list_all}
 use Rattle.std.specs.declared.cmp.Ordering.{Ordering}
 use Rattle.ic_unsafe_ref.specs.declared.place.Place.{Place}
 use Rattle.ic_unsafe_ref.specs.Places.{index_of}
-use Rattle.ic_unsafe_ref.specs.Objects.{Objects, object_at}
+use Rattle.ic_unsafe_ref.specs.Objects.{Objects}
 use Rattle.ic_unsafe_ref.specs.Objects.{is_placed as place_is_placed}
 use Rattle.ic_unsafe_ref.proofs.PlaceLemmas.{same_index}
 use Rattle.ic_link_ops.specs.Sequences.{IsAbsent, IsDisjoint}
@@ -17,7 +17,7 @@ use Rattle.ic_fields.specs.declared.entry.Entry.{Entry}
 use Rattle.ic_fields.specs.declared.field.Field.{Field}
 use Rattle.ic_fields.specs.Fields.{look}
 use Rattle.ic_fields.specs.Entries.{is_linked}
-use Rattle.ic_members.specs.Members.{kind_in, cursor_in, members_in, Held}
+use Rattle.ic_members.specs.Members.{kind_in, cursor_in, members_in}
 use Rattle.ic_members.specs.declared.members.Members.{Members}
 use Rattle.ic_members.proofs.AllKinds.{unlinked_absent}
 use Rattle.ic_world.specs.declared.collection.Collection.{Collection}
@@ -31,9 +31,9 @@ use Rattle.ic_world.specs.Calls.{Call, edit, seek, pick, swap, search, insertion
 use Rattle.ic_world.specs.Turns.{Each, Turns, Ran, refusal_in, state_of}
 use Rattle.ic_world.specs.Tables.{table, sequence, seen_as, at, family_of, IsWhole, HasObject}
 use Rattle.ic_world.specs.Seen.{Sees}
-use Rattle.ic_world.specs.Step.{StepOn, AcceptsOn, refusal_on, state_in, is_placed, objects_of, asks_collection}
+use Rattle.ic_world.specs.Step.{StepOn, refusal_on, state_in, is_placed, objects_of, asks_collection}
 use Rattle.ic_world.proofs.Readings.{Found, collection_is, linked_at, set_back}
-use Rattle.ic_world.proofs.Edits.{Edit, after, lawful, edited_family, edited_whole}
+use Rattle.ic_world.proofs.Edits.{Edit, after, edited_family, edited_whole}
 
 -- a place is not among some, or has what each of them has
 each_or : (P : Place → Type 0) (s : List Place) (q : Place) → Each P s → IsAbsent q s ⊎ P q

@@ -4,7 +4,7 @@ use Rattle.std.proofs.lemmas.Bool.{cases_eq}
 use Rattle.std.proofs.lemmas.List.{length-map, get_or-set_other, get_or_past, get_or_default, map-set}
 use Rattle.ic_unsafe_ref.specs.declared.place.Place.{Place}
 use Rattle.ic_unsafe_ref.specs.Objects.{Objects}
-use Rattle.ic_link_ops.specs.Sequences.{Cut, join, IsDisjoint}
+use Rattle.ic_link_ops.specs.Sequences.{join, IsDisjoint}
 use Rattle.ic_link_ops.specs.Tables.{Table}
 use Rattle.ic_fields.specs.declared.entry.Entry.{Entry}
 use Rattle.ic_fields.specs.declared.field.Field.{Field}

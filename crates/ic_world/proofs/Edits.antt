@@ -13,7 +13,7 @@ use Rattle.ic_fields.specs.Entries.{is_linked, kind_of}
 use Rattle.ic_fields.specs.Kinds.{kind_with}
 use Rattle.ic_world.specs.declared.collection.Collection.{Collection}
 use Rattle.ic_members.specs.declared.members.Members.{Members}
-use Rattle.ic_members.specs.Members.{Keeps, Alike, members_in, adapter_for}
+use Rattle.ic_members.specs.Members.{Keeps, Alike, members_in}
 use Rattle.ic_world.specs.Family.{Sequence, LinkField}
 use Rattle.ic_members.proofs.AllKinds.{IsLawful}
 use Rattle.ic_world.specs.LinkedSets.{linked_in}

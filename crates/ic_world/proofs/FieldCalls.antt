@@ -24,7 +24,6 @@ use Rattle.ic_world.specs.declared.call.Command.TheVariants.{IsLinked, ForceUnli
 use Rattle.ic_world.specs.declared.call.Refusal.TheVariants.{NoSuchObject}
 use Rattle.ic_world.specs.declared.call.Refusal.TheVariants.{IsMember as IsMemberRefusal}
 use Rattle.ic_world.specs.Among.{is_among}
-use Rattle.ic_world.specs.Family.{Family}
 use Rattle.ic_world.specs.LinkedSets.{linked_in}
 use Rattle.ic_world.specs.State.{linked, done}
 use Rattle.ic_world.specs.Tables.{table, sequence, shown_as, at, family_of, IsWhole}

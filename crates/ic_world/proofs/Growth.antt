@@ -1,5 +1,5 @@
 -- Tables that cover more places, and a field more: the family stays what it is.
-use Rattle.std.proofs.Common.{◌≡◌, ◌≢◌, ℕ, zero, suc, ◌<◌, ◌≤◌, inl, inr, Bool, true, false, List, [], ◌∷◌, ◌++◌, length, map, get_or, set, Option, Some, None, refl, sym, ap, ◌∙◌, subst, arith, length-append, max, Result, Ok, Err, OnOk, OnErr}
+use Rattle.std.proofs.Common.{◌≡◌, ◌≢◌, ℕ, ◌<◌, ◌≤◌, inl, inr, Bool, true, false, List, [], ◌∷◌, ◌++◌, length, map, set, Option, Some, None, refl, sym, ap, ◌∙◌, subst, arith, length-append, max, Result, Ok, Err, OnOk, OnErr}
 use Rattle.std.proofs.lemmas.Bool.{cases_eq}
 use Rattle.std.proofs.lemmas.List.{get_or_past, map-append, map-set, length-map, length-set, get_or-set_same, get_or-set_other, ext_get_or, get_or_append_left, get_or_push}
 use Rattle.std.proofs.Math.ListN.{get_or-map as map_at}
@@ -8,7 +8,7 @@ use Rattle.ic_unsafe_ref.specs.declared.place.Place.{Place}
 use Rattle.ic_unsafe_ref.specs.Places.{index_of}
 use Rattle.ic_unsafe_ref.specs.Objects.{Objects}
 use Rattle.ic_unsafe_ref.proofs.PlaceLemmas.{same_index}
-use Rattle.ic_link_ops.specs.Sequences.{IsAbsent, IsDisjoint}
+use Rattle.ic_link_ops.specs.Sequences.{IsAbsent}
 use Rattle.ic_link_ops.specs.Tables.{Table, Extent, IsCovered, IsUnlinked, ChangesOnly, KeepsBeside}
 use Rattle.ic_link_ops.proofs.SequenceLemmas.{disjoint_cons}
 use Rattle.ic_fields.specs.declared.entry.Entry.{Entry}
@@ -21,7 +21,7 @@ use Rattle.ic_members.specs.Members.{Keeps}
 use Rattle.ic_members.proofs.AllKinds.{lawful as lawful_field}
 use Rattle.ic_members.proofs.AllKinds.{IsLawful, one_sequence, shown_frame, keeps_frame}
 use Rattle.ic_world.specs.declared.collection.Collection.{Collection}
-use Rattle.ic_world.specs.Family.{Family, Sequence, LinkField}
+use Rattle.ic_world.specs.Family.{Sequence, LinkField}
 use Rattle.ic_world.specs.LinkedSets.{linked_in}
 use Rattle.ic_world.specs.Tables.{table, no_table, field_in, sequence, seen_as, shown_as, at, family_of, IsWhole, HasObject}
 use Rattle.ic_world.specs.Step.{with_linked, linked_of, field_of}

@@ -1,31 +1,26 @@
 -- What keyed calls leave to the world, from what the tree's own calls give.
-use Rattle.std.proofs.Common.{◌≡◌, ◌∙◌, ℕ, ◌⊎◌, inl, Bool, true, false, ◌&&◌, not, Option, Some, None, List, [], ◌∷◌, refl, sym, ap, Result, Ok, Err, IfSome, IfNone}
-use Rattle.std.specs.List.{list_all}
+use Rattle.std.proofs.Common.{◌≡◌, ◌∙◌, ℕ, inl, Bool, true, false, Option, Some, None, List, [], ◌∷◌, refl, sym, ap, Ok, IfSome, IfNone}
 use Rattle.std.specs.FinSet as set
 use Rattle.std.specs.declared.cmp.Ordering.{Ordering}
 use Rattle.ic_unsafe_ref.specs.declared.place.Place.{Place}
 use Rattle.ic_unsafe_ref.specs.Places.{index_of}
 use Rattle.ic_unsafe_ref.specs.Objects.{Objects}
 use Rattle.ic_link_ops.specs.Sequences.{Cut, join}
-use Rattle.ic_link_ops.specs.Tables.{Table, IsLinked}
+use Rattle.ic_link_ops.specs.Tables.{IsLinked}
 use Rattle.ic_rbtree.specs.Borders.{Finds, IsBorder, less_at}
-use Rattle.ic_fields.specs.declared.entry.Entry.{Entry}
 use Rattle.ic_fields.specs.declared.field.Field.{Field}
 use Rattle.ic_fields.specs.declared.kind.Kind.{Kind}
 use Rattle.ic_fields.specs.Fields.{look}
 use Rattle.ic_fields.specs.Entries.{is_linked}
 use Rattle.ic_members.specs.declared.members.Members.{Members}
-use Rattle.ic_members.specs.Members.{kind_in, cursor_in, members_in, is_tree, Held, Alike}
+use Rattle.ic_members.specs.Members.{kind_in, cursor_in, members_in, is_tree, Held}
 use Rattle.ic_members.specs.Edits.{AtGap, Moves}
 use Rattle.ic_members.specs.Keyed.{FewLooks, IsVacantFor, PutsInOrder, PutsAtKey}
-use Rattle.ic_members.proofs.AllKinds.{IsLawful, lawful}
-use Rattle.ic_world.specs.declared.call.Refusal.{Refusal}
-use Rattle.ic_world.specs.declared.call.Refusal.TheVariants.{WrongKind, AlreadyLinked}
-use Rattle.ic_world.specs.declared.insertion.Insertion.{Insertion}
-use Rattle.ic_world.specs.declared.insertion.Insertion.TheVariants.{Insert, CursorInsert}
+use Rattle.ic_members.proofs.AllKinds.{lawful}
+use Rattle.ic_world.specs.declared.call.Refusal.TheVariants.{WrongKind}
 use Rattle.ic_world.specs.LinkedSets.{linked_in}
 use Rattle.ic_world.specs.State.{State, put, moved, asks, asks_unlinked}
-use Rattle.ic_world.specs.KeyedCalls.{keyed_refusal, insertion_refusal, key_at, EntryReplies}
+use Rattle.ic_world.specs.KeyedCalls.{keyed_refusal, key_at, EntryReplies}
 use Rattle.ic_world.specs.Replies.{entry_or_linked}
 use Rattle.ic_world.specs.Turns.{Turns, Ran, state_of}
 use Rattle.ic_world.proofs.Linked.{in_linked}

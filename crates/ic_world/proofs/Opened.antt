@@ -18,7 +18,6 @@ use Rattle.ic_members.specs.declared.members.Members.{Members}
 use Rattle.ic_world.specs.declared.call.Refusal.TheVariants.{WrongKind, OutOfMemory}
 use Rattle.ic_world.specs.declared.call.Command.TheVariants.{Open}
 use Rattle.ic_members.specs.Members.{Keeps, Held, kind_in, cursor_in, adapter_in, adapter_for}
-use Rattle.ic_world.specs.LinkedSets.{linked_in}
 use Rattle.ic_world.specs.Tables.{table, sequence, seen_as, shown_as, at, family_of, IsWhole}
 use Rattle.ic_world.specs.State.{opened, refused, asks}
 use Rattle.ic_world.specs.Step.{Step, refusal, with_opened}

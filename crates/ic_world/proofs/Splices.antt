@@ -3,12 +3,12 @@ use Rattle.std.proofs.Common.{◌≡◌, ◌≢◌, ℕ, inl, inr, List, [], ◌
 use Rattle.std.proofs.lemmas.List.{get_or-set_other, set-get_or}
 use Rattle.ic_unsafe_ref.specs.declared.place.Place.{Place}
 use Rattle.ic_unsafe_ref.specs.Objects.{Objects}
-use Rattle.ic_link_ops.specs.Sequences.{Cut, join, splice, IsAbsent, IsDisjoint}
-use Rattle.ic_link_ops.specs.Tables.{Table, KeepsBeside}
+use Rattle.ic_link_ops.specs.Sequences.{Cut, join, splice, IsDisjoint}
+use Rattle.ic_link_ops.specs.Tables.{Table}
 use Rattle.ic_link_ops.proofs.SequenceLemmas.{disjoint_sym, disjoint_both}
 use Rattle.ic_fields.specs.declared.entry.Entry.{Entry}
 use Rattle.ic_members.specs.declared.members.Members.{Members}
-use Rattle.ic_members.specs.Members.{Keeps, Alike, cursor_in, members_in}
+use Rattle.ic_members.specs.Members.{Keeps, Alike, cursor_in}
 use Rattle.ic_members.specs.Edits.{PutsAll}
 use Rattle.ic_members.proofs.AllKinds.{one_sequence}
 use Rattle.ic_world.specs.declared.collection.Collection.{Collection}

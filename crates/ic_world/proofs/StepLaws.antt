@@ -1,9 +1,8 @@
 -- What users rely on, from the steps of the calls and from what a world keeps.
-use Rattle.std.proofs.Common.{◌≡◌, ◌≢◌, ◌↔◌, ℕ, Bool, true, false, not, List, [], ◌∷◌, map, set, Option, Some, None, is_some, refl, sym, ap, ◌∙◌, subst}
+use Rattle.std.proofs.Common.{◌≡◌, ◌↔◌, ℕ, Bool, true, false, not, List, [], ◌∷◌, set, Option, Some, None, is_some, refl, sym, ap, ◌∙◌, subst}
 use Rattle.std.proofs.lemmas.List.{set-get_or}
-use Rattle.std.specs.List.{list_all, AllByRecursion}
+use Rattle.std.specs.List.{list_all}
 use Rattle.std.specs.declared.cmp.Ordering.{Ordering}
-use Rattle.std.specs.Ordering.{nat_cmp}
 use Rattle.std.specs.FinSet as finite_set
 use Rattle.ic_unsafe_ref.specs.declared.place.Place.{Place}
 use Rattle.ic_unsafe_ref.specs.Places.{index_of}
@@ -33,7 +32,7 @@ use Rattle.ic_world.specs.Among.{next_of}
 use Rattle.ic_world.specs.Family.{Family, Sequence}
 use Rattle.ic_world.specs.State.{Reply, object, nothing, found, looked, range, entry, refused, done, asks, asks_unlinked, State}
 use Rattle.ic_world.specs.Calls.{Call, edit, seek, pick, swap, search, insertion, enter, names, refusal_of, Replies}
-use Rattle.ic_world.specs.Step.{Step, StepOn, StepBy, Accepts, AcceptsOn, HandsOut, asks_collection, collection, field_of, linked_of, is_placed, objects_of, state_in, with_state, target}
+use Rattle.ic_world.specs.Step.{Step, StepOn, StepBy, Accepts, AcceptsOn, HandsOut, asks_collection, collection, linked_of, is_placed, objects_of, state_in, with_state}
 use Rattle.ic_world.specs.Laws.{inserts, descends, IsWellNamed, AreFew, RefusedIfLinked, HasFewLooks, AreApart}
 
 -- a state that a collection has already, taken over, changes nothing
@@ -199,8 +198,8 @@ module _ {A V K : Type 0} {adapter : A} {objects : Objects V} {room : ℕ} {ts :
   are_apart = (
     (λ c s is. let k = seen_at c s is in subst (λ x. IsDistinct x.members) k.2 (distinct (table ts k.0.field) k.0.members (sequence ts k.0) (whole.held c k.0 k.1).shown)),
     (λ c d s t differ is_s is_t same.
-      let k = seen_at c s is_s in
-      let l = seen_at d t is_t in
-      subst (λ x. IsDisjoint x.members t.members) k.2 (subst (λ x. IsDisjoint (sequence ts k.0) x.members) l.2
-      (whole.apart c d k.0 l.0 differ k.1 l.1 (ap (λ x. x.field) k.2 ∙ same ∙ sym (ap (λ x. x.field) l.2))))),
+        let k = seen_at c s is_s in
+        let l = seen_at d t is_t in
+        subst (λ x. IsDisjoint x.members t.members) k.2 (subst (λ x. IsDisjoint (sequence ts k.0) x.members) l.2
+        (whole.apart c d k.0 l.0 differ k.1 l.1 (ap (λ x. x.field) k.2 ∙ same ∙ sym (ap (λ x. x.field) l.2))))),
   )

@@ -1,5 +1,4 @@
 -- What an answer says of the call that it answers.
-use Rattle.std.specs.Prelude.{Option, Some, None}
 use Rattle.ic_world.specs.declared.call.Answer.{Answer}
 use Rattle.ic_world.specs.declared.call.Answer.TheVariants as answer
 use Rattle.ic_world.specs.State.{Reply, done, nothing, object, field, opened, items, linked, found, looked, range, entry, refused}

@@ -1,5 +1,5 @@
 -- CALLS THAT HAND A PART OUT to a collection more: which refusal is first, and what they leave of the collection and of the part.
-use Rattle.std.specs.Prelude.{◌≡◌, List, [], Option, None}
+use Rattle.std.specs.Prelude.{◌≡◌, [], Option, None}
 use Rattle.ic_link_ops.specs.Sequences.{IsAfter, IsBefore}
 use Rattle.ic_members.specs.Members.{is_list, is_two_way_list}
 use Rattle.ic_world.specs.declared.call.Refusal.{Refusal}

@@ -1,7 +1,7 @@
 -- THE CALLS OF ONE COLLECTION without keys: which refusal is first, and what an accepted one answers and leaves.
-use Rattle.std.specs.Prelude.{◌≡◌, Bool, is_some, reverse, List, [], ◌∷◌, Option, Some, None, drop}
+use Rattle.std.specs.Prelude.{◌≡◌, is_some, reverse, List, [], ◌∷◌, Option, Some, None, drop}
 use Rattle.ic_unsafe_ref.specs.declared.place.Place.{Place}
-use Rattle.ic_link_ops.specs.Sequences.{Cut, at_front, at_back, first, last, IsAfter, IsBefore}
+use Rattle.ic_link_ops.specs.Sequences.{at_front, at_back, first, last, IsAfter, IsBefore}
 use Rattle.ic_members.specs.Members.{has_before, is_list, is_two_way_list, is_singly, is_xor, has_pointer}
 use Rattle.ic_world.specs.declared.call.Refusal.{Refusal}
 use Rattle.ic_world.specs.declared.call.Refusal.TheVariants.{WrongKind, NothingThere, NotAMember, NotANeighbour}
@@ -14,7 +14,7 @@ use Rattle.ic_world.specs.declared.pick.Pick.TheVariants.{PopFront, PopBack, Mov
 use Rattle.ic_world.specs.declared.swap.Swap.{Swap}
 use Rattle.ic_world.specs.declared.swap.Swap.TheVariants.{ReplaceWith, ReplaceNextWith}
 use Rattle.ic_world.specs.Among.{is_among, before_of, behind_of, next_of, same_position}
-use Rattle.ic_world.specs.State.{Reply, done, nothing, object, object_or_nothing, asks, State, asks_kind, asks_unlinked, moved, having, put, taken, swapped, cleared, AtGap}
+use Rattle.ic_world.specs.State.{Reply, done, nothing, object, asks, State, asks_kind, asks_unlinked, moved, having, put, taken, swapped, cleared, AtGap}
 
 -- the objects that a call names
 abbrev pub edit_names : Edit → List Place

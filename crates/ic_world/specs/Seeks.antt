@@ -1,5 +1,5 @@
 -- A seek, which writes no table.
-use Rattle.std.specs.Prelude.{◌≡◌, Option, Result, OnOk, OnErr, IfOk}
+use Rattle.std.specs.Prelude.{◌≡◌, Result, OnOk, OnErr}
 use Rattle.ic_link_ops.specs.Tables.{Table}
 use Rattle.ic_fields.specs.declared.entry.Entry.{Entry}
 use Rattle.ic_members.specs.declared.members.Members.{Members}

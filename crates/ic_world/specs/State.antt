@@ -1,5 +1,5 @@
 -- A COLLECTION AS ITS CALLS SEE IT, whatever else is in the world; and the replies of calls.
-use Rattle.std.specs.Prelude.{◌≡◌, ℕ, Bool, true, false, not, reverse, List, [], ◌∷◌, Option, Some, None, Result, Ok, Err}
+use Rattle.std.specs.Prelude.{◌≡◌, ℕ, Bool, true, false, not, List, [], ◌∷◌, Option, Some, None, Result, Ok, Err}
 use Rattle.std.specs.Ordering.{nat_cmp}
 use Rattle.std.specs.FinSet as set
 use Rattle.ic_unsafe_ref.specs.declared.place.Place.{Place}

@@ -1,4 +1,4 @@
-use Rattle.std.proofs.Common.{◌<◌, ◌||◌, arith, map, length, sym, ap, subst, refl, ◌∙◌, Bool, get_or}
+use Rattle.std.proofs.Common.{◌||◌, arith, map, sym, ap, subst, refl, ◌∙◌, Bool, get_or}
 use Rattle.std.proofs.lemmas.List.{length-map, take_all}
 use Rattle.std.proofs.lemmas.List.Folds.{list_any_at, list_any_more}
 use Rattle.std.specs.List.{list_any}

@@ -1,4 +1,4 @@
-use Rattle.std.proofs.Common.{◌≡◌, ◌≤◌, ◌∙◌, false, ap, length, arith, map, ◌∷◌, ◌++◌, []}
+use Rattle.std.proofs.Common.{◌≡◌, ◌≤◌, ◌∙◌, false, ap, length, arith, map}
 use Rattle.std.proofs.lemmas.List.{length-map, map-append}
 use Rattle.ic_unsafe_ref.specs.declared.place.Place.{Place}
 use Rattle.ic_fields.specs.Entries.{is_linked}

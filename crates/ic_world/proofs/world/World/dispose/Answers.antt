@@ -1,4 +1,4 @@
-use Rattle.std.proofs.Common.{◌≡◌, ◌∙◌, sym, ap, subst, map, length, None, arith}
+use Rattle.std.proofs.Common.{◌∙◌, sym, ap, subst, map, length, None, arith}
 use Rattle.std.proofs.lemmas.List.{length-map}
 use Rattle.ic_fields.specs.Fields.{look}
 use Rattle.ic_world.specs.Family.{Family}

@@ -1,6 +1,5 @@
-use Rattle.std.proofs.Common.{◌∙◌, ◌<◌, sym, ap, subst, map, arith, length}
-use Rattle.ic_fields.specs.Fields.{look}
-use Rattle.ic_world.specs.Step.{Step, is_member_in}
+use Rattle.std.proofs.Common.{◌∙◌, ◌<◌, sym, ap, arith, length}
+use Rattle.ic_world.specs.Step.{is_member_in}
 use Rattle.ic_world.proofs.FieldCalls.{covers_object, unlinked_whole, unlink_step}
 use Rattle.ic_world.proofs.world.World.force_unlink.Goals as goal
 

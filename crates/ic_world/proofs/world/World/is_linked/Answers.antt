@@ -1,6 +1,4 @@
-use Rattle.std.proofs.Common.{◌∙◌, ◌<◌, sym, refl, subst, map, arith, length}
-use Rattle.std.proofs.lemmas.List.{length-map}
-use Rattle.ic_fields.specs.Fields.{look}
+use Rattle.std.proofs.Common.{◌∙◌, ◌<◌, sym, arith, length}
 use Rattle.ic_world.proofs.FieldCalls.{covers_object, is_linked_step}
 use Rattle.ic_world.proofs.world.World.is_linked.Goals as goal
 

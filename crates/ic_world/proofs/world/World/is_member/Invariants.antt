@@ -1,4 +1,4 @@
-use Rattle.std.proofs.Common.{◌≡◌, false, map, take}
+use Rattle.std.proofs.Common.{◌≡◌, false, take}
 use Rattle.std.specs.List.{list_any}
 use Rattle.ic_world.specs.Step.{has_member_in}
 use Rattle.ic_world.proofs.world.World.is_member.Given as goal

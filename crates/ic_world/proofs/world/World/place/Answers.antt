@@ -1,4 +1,4 @@
-use Rattle.std.proofs.Common.{◌≡◌, ℕ, ◌<◌, ◌≤◌, ◌∙◌, length, sym, ap, arith, map, subst, refl}
+use Rattle.std.proofs.Common.{◌≡◌, ℕ, ◌<◌, ◌≤◌, ◌∙◌, length, sym, ap, arith, map}
 use Rattle.std.proofs.lemmas.List.{length-map, with_items_is}
 use Rattle.ic_unsafe_ref.specs.Places.{index_of}
 use Rattle.ic_fields.specs.Fields.{look}

@@ -1,4 +1,4 @@
-use Rattle.std.proofs.Common.{◌∙◌, sym, ap, refl, subst, map, true, false, not}
+use Rattle.std.proofs.Common.{◌∙◌, sym, ap, subst, map, not}
 use Rattle.std.specs.FinMap as map_of
 use Rattle.ic_unsafe_ref.specs.Places.{index_of}
 use Rattle.ic_fields.specs.Fields.{look}

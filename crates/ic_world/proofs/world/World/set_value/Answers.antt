@@ -1,14 +1,12 @@
-use Rattle.std.proofs.Common.{◌≡◌, ◌∙◌, sym, ap, refl, subst, map, true, false, is_some, None, Some}
+use Rattle.std.proofs.Common.{◌≡◌, sym, ap, refl, map, true, false, is_some, None}
 use Rattle.std.specs.FinMap as map_of
 use Rattle.ic_unsafe_ref.specs.Places.{index_of}
 use Rattle.ic_unsafe_ref.specs.Objects.{is_placed, with_object}
 use Rattle.ic_fields.specs.Fields.{look}
 use Rattle.ic_world.specs.declared.call.Command.TheVariants.{SetValue}
 use Rattle.ic_world.specs.declared.call.Refusal.TheVariants.{NoSuchObject}
-use Rattle.ic_world.specs.Family.{Family}
-use Rattle.ic_world.specs.State.{done, refused, reply_of_value}
+use Rattle.ic_world.specs.State.{done}
 use Rattle.ic_world.specs.Tables.{family_of}
-use Rattle.ic_world.specs.Step.{Step}
 use Rattle.ic_world.proofs.ObjectChanges.{put_whole}
 use Rattle.ic_world.proofs.Steps.{step_accepted, step_refused, passes, fails}
 use Rattle.ic_world.proofs.world.World.set_value.Goals as goal

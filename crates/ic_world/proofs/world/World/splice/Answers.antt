@@ -1,11 +1,8 @@
-use Rattle.std.proofs.Common.{◌≡◌, ◌∙◌, sym, ap, subst, refl, map, Some, None, arith, length, true, false}
+use Rattle.std.proofs.Common.{◌∙◌, sym, ap, subst, map, Some, arith}
 use Rattle.std.proofs.lemmas.List.{length-map}
 use Rattle.ic_fields.specs.Fields.{look}
-use Rattle.ic_members.specs.Members.{kind_in}
-use Rattle.ic_world.specs.Splices.{IsBesideOf, can_splice}
-use Rattle.ic_world.specs.State.{done}
-use Rattle.ic_world.specs.Tables.{family_of}
-use Rattle.ic_world.specs.Step.{StepSplice, refusal_of_splice}
+use Rattle.ic_world.specs.Splices.{can_splice}
+use Rattle.ic_world.specs.Step.{refusal_of_splice}
 use Rattle.ic_world.proofs.CanSplice.{can_be_spliced, these, in_list, found_is, none_there, still_there, still_is, beside_at, held_k, held_taken, apart_taken, spliced_whole, spliced_step}
 use Rattle.ic_world.proofs.Splices.{Emptied}
 use Rattle.ic_world.proofs.world.World.splice.Goals as goal
