@@ -238,6 +238,7 @@ impl Draws {
         }
     }
 
+    // A key, or a value.
     fn key(&mut self) -> u64 {
         self.random.below(KEYS) as u64
     }
@@ -252,6 +253,7 @@ impl Draws {
         }
     }
 
+    // A bound.
     fn bound(&mut self) -> Bound<u64> {
         let key = self.key();
         match self.random.below(5) {

@@ -185,14 +185,13 @@ impl PlainWorld {
         if !is_right || !is_short(keys.len(), looks) {
             return Ok(false);
         }
-        let alloc = self.alloc;
         let Some(field) = self.fields.get_mut(field) else {
             return Ok(false);
         };
         let Some(Some(collection)) = self.collections.get_mut(number) else {
             return Ok(false);
         };
-        collection.exchange(alloc, gap, gap, &[object])?;
+        collection.exchange(gap, gap, &[object])?;
         field.link(object)?;
         Ok(true)
     }

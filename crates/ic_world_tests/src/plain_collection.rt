@@ -6,7 +6,8 @@ use crate::refusals::collection_of;
 use crate::sequences::{back, following, front, join, member, position, preceding};
 use ic_unsafe_ref::Place;
 use ic_world::{Answer, Command};
-use std::alloc::{AllocError, Global};
+use std::alloc::AllocError;
+use std::mem;
 
 impl PlainCollection {
     /// The number of the cursor's member, or none at null.
@@ -33,14 +34,41 @@ impl PlainCollection {
     /// Puts the places where the members from the one gap to the other stood.
     pub(crate) fn exchange(
         &mut self,
-        alloc: Global,
         from: usize,
         to: usize,
         places: &[Place],
     ) -> Result<(), AllocError> {
         let (first, last) = (front(&self.members, from), back(&self.members, to));
-        self.members = join(alloc, first, places, last)?;
+        self.members = join(self.alloc, first, places, last)?;
         Ok(())
+    }
+
+    /// Takes all members out, and puts the cursor to null.
+    pub(crate) fn take(&mut self) -> Vec<Place> {
+        self.cursor = None;
+        mem::replace(&mut self.members, Vec::new(self.alloc))
+    }
+
+    /// Takes out the members behind the cursor. At null these are all.
+    pub(crate) fn split_after(&mut self) -> Result<Vec<Place>, AllocError> {
+        let gap = self.gap_after();
+        let handed = Vec::from_slice(self.alloc, back(&self.members, gap))?;
+        self.members = Vec::from_slice(self.alloc, front(&self.members, gap))?;
+        Ok(handed)
+    }
+
+    /// Takes out the members in front of the cursor. At null these are all.
+    pub(crate) fn split_before(&mut self) -> Result<Vec<Place>, AllocError> {
+        let gap = self.gap_before();
+        let handed = Vec::from_slice(self.alloc, front(&self.members, gap))?;
+        self.members = Vec::from_slice(self.alloc, back(&self.members, gap))?;
+        Ok(handed)
+    }
+
+    /// Turns the sequence, and puts the cursor to null.
+    pub(crate) fn reverse(&mut self) {
+        self.cursor = None;
+        self.members.reverse();
     }
 
     // Moves the cursor, or tells where it is.
@@ -69,73 +97,74 @@ impl PlainCollection {
     }
 }
 
-/// A collection, and the field in which it is, for one edit.
-#[derive(Drop)]
-struct Edited<'p> {
-    alloc: Global,
-    collection: &'p mut PlainCollection,
-    field: &'p mut PlainField,
-}
-
-impl Edited<'_> {
+/// Edits, of the collection and of the field in which it is.
+impl PlainCollection {
     // Inserts the object at the gap.
-    fn insert(&mut self, gap: usize, object: Place) -> Result<Answer, AllocError> {
-        self.collection.exchange(self.alloc, gap, gap, &[object])?;
-        self.field.link(object)?;
+    fn insert(
+        &mut self,
+        field: &mut PlainField,
+        gap: usize,
+        object: Place,
+    ) -> Result<Answer, AllocError> {
+        self.exchange(gap, gap, &[object])?;
+        field.link(object)?;
         Ok(Answer::Done)
     }
 
     // Removes the member of that number, if there is one.
-    fn remove(&mut self, index: usize) -> Result<Answer, AllocError> {
-        let Some(old) = member(&self.collection.members, index) else {
+    fn remove(&mut self, field: &mut PlainField, index: usize) -> Result<Answer, AllocError> {
+        let Some(old) = member(&self.members, index) else {
             return Ok(Answer::Nothing);
         };
-        self.collection
-            .exchange(self.alloc, index, index.saturating_add(1), &[])?;
-        self.field.unlink(&[old]);
+        self.exchange(index, index.saturating_add(1), &[])?;
+        field.unlink(&[old]);
         Ok(Answer::Object(old))
     }
 
     // Puts the object where the member of that number stood.
-    fn replace(&mut self, index: usize, object: Place) -> Result<Answer, AllocError> {
-        let Some(old) = member(&self.collection.members, index) else {
+    fn replace(
+        &mut self,
+        field: &mut PlainField,
+        index: usize,
+        object: Place,
+    ) -> Result<Answer, AllocError> {
+        let Some(old) = member(&self.members, index) else {
             return Ok(missing());
         };
-        self.collection
-            .exchange(self.alloc, index, index.saturating_add(1), &[object])?;
-        self.field.unlink(&[old]);
-        self.field.link(object)?;
+        self.exchange(index, index.saturating_add(1), &[object])?;
+        field.unlink(&[old]);
+        field.link(object)?;
         Ok(Answer::Object(old))
     }
 
     // Makes an edit at an end, after which the cursor is null.
-    fn at_an_end(&mut self, call: Call) -> Result<Answer, AllocError> {
-        self.collection.cursor = None;
-        let members = self.collection.members.len();
+    fn edit_end(&mut self, field: &mut PlainField, call: Call) -> Result<Answer, AllocError> {
+        self.cursor = None;
+        let members = self.members.len();
         match call {
-            Command::PushFront(_, o) => self.insert(0, o),
-            Command::PushBack(_, o) => self.insert(members, o),
-            Command::PopFront(_) => self.remove(0),
-            _ => self.remove(members.saturating_sub(1)),
+            Command::PushFront(_, o) => self.insert(field, 0, o),
+            Command::PushBack(_, o) => self.insert(field, members, o),
+            Command::PopFront(_) => self.remove(field, 0),
+            _ => self.remove(field, members.saturating_sub(1)),
         }
     }
 
     // Makes an edit at the cursor or behind it.
-    fn at_the_cursor(&mut self, call: Call) -> Result<Answer, AllocError> {
-        let (before, after) = (self.collection.gap_before(), self.collection.gap_after());
+    fn edit_cursor(&mut self, field: &mut PlainField, call: Call) -> Result<Answer, AllocError> {
+        let (before, after) = (self.gap_before(), self.gap_after());
         match call {
-            Command::InsertAfter(_, o) => self.insert(after, o),
-            Command::InsertBefore(_, o) => self.insert(before, o),
+            Command::InsertAfter(_, o) => self.insert(field, after, o),
+            Command::InsertBefore(_, o) => self.insert(field, before, o),
             Command::Remove(_) => {
-                self.collection.cursor = following(&self.collection.members, before);
-                self.remove(before)
+                self.cursor = following(&self.members, before);
+                self.remove(field, before)
             }
-            Command::RemoveNext(_) => self.remove(after),
+            Command::RemoveNext(_) => self.remove(field, after),
             Command::ReplaceWith(_, o) => {
-                self.collection.cursor = Some(o);
-                self.replace(before, o)
+                self.cursor = Some(o);
+                self.replace(field, before, o)
             }
-            Command::ReplaceNextWith(_, o) => self.replace(after, o),
+            Command::ReplaceNextWith(_, o) => self.replace(field, after, o),
             _ => Ok(missing()),
         }
     }
@@ -153,30 +182,17 @@ impl PlainWorld {
         let Some(field) = self.fields.get_mut(collection.field) else {
             return Ok(missing());
         };
-        let alloc = self.alloc;
         match call {
             Command::PushFront(..)
             | Command::PushBack(..)
             | Command::PopFront(_)
-            | Command::PopBack(_) => Edited {
-                alloc,
-                collection,
-                field,
-            }
-            .at_an_end(call),
+            | Command::PopBack(_) => collection.edit_end(field, call),
             Command::InsertAfter(..)
             | Command::InsertBefore(..)
             | Command::Remove(_)
             | Command::RemoveNext(_)
             | Command::ReplaceWith(..)
-            | Command::ReplaceNextWith(..) => {
-                Edited {
-                    alloc,
-                    collection,
-                    field,
-                }
-                .at_the_cursor(call)
-            }
+            | Command::ReplaceNextWith(..) => collection.edit_cursor(field, call),
             _ => Ok(collection.moves(call)),
         }
     }

@@ -9,7 +9,7 @@ use std::alloc::{AllocError, Global};
 pub(crate) type Call = Command<u64, u64>;
 
 /// A field: its kind, and the places that are linked in it.
-#[derive(Debug, Drop)]
+#[derive(Drop)]
 pub(crate) struct PlainField {
     pub(crate) kind: Kind,
     pub(crate) linked: Vec<Place>,
@@ -34,8 +34,9 @@ impl PlainField {
 }
 
 /// A collection: the number of its field, its kind, its members in order, and its cursor, which is null or on a member.
-#[derive(Debug, Drop)]
+#[derive(Drop)]
 pub(crate) struct PlainCollection {
+    pub(crate) alloc: Global,
     pub(crate) field: usize,
     pub(crate) kind: Kind,
     pub(crate) members: Vec<Place>,
@@ -133,7 +134,7 @@ impl PlainWorld {
             Command::ShowBack(c) => self.listed(c, true),
             Command::SpliceAfter(c, d) => self.spliced(c, d, false),
             Command::SpliceBefore(c, d) => self.spliced(c, d, true),
-            Command::Reverse(c) => self.turned(c),
+            Command::Reverse(c) => Ok(self.turned(c)),
             _ => self.changed(call),
         }
     }

@@ -143,26 +143,33 @@ impl PlainWorld {
     ///
     /// Whether `entry` is refused an object that is linked is not told here.
     pub(crate) fn refusal(&self, call: Call) -> Option<Refusal> {
-        let tests = [
-            (Refusal::NoSuchField, self.lacks_field(call)),
-            (Refusal::NoSuchCollection, self.lacks_collection(call)),
-            (Refusal::NoSuchObject, self.lacks_object(call)),
-            (Refusal::WrongKind, self.is_wrong_kind(call)),
-            (Refusal::SameCollection, self.is_same_collection(call)),
-            (Refusal::OtherField, self.is_other_field(call)),
-            (Refusal::NothingThere, self.is_nothing_there(call)),
-            (Refusal::NotAMember, self.is_no_member(call)),
-            (Refusal::NotANeighbour, self.is_no_neighbour(call)),
-            (Refusal::AlreadyLinked, self.is_linked_there(call)),
-            (Refusal::IsMember, self.is_kept_by_collection(call)),
-            (Refusal::StillLinked, self.is_linked_somewhere(call)),
-        ];
-        for (refusal, applies) in tests {
-            if applies {
-                return Some(refusal);
-            }
+        if self.lacks_field(call) {
+            Some(Refusal::NoSuchField)
+        } else if self.lacks_collection(call) {
+            Some(Refusal::NoSuchCollection)
+        } else if self.lacks_object(call) {
+            Some(Refusal::NoSuchObject)
+        } else if self.is_wrong_kind(call) {
+            Some(Refusal::WrongKind)
+        } else if self.is_same_collection(call) {
+            Some(Refusal::SameCollection)
+        } else if self.is_other_field(call) {
+            Some(Refusal::OtherField)
+        } else if self.is_nothing_there(call) {
+            Some(Refusal::NothingThere)
+        } else if self.is_no_member(call) {
+            Some(Refusal::NotAMember)
+        } else if self.is_no_neighbour(call) {
+            Some(Refusal::NotANeighbour)
+        } else if self.is_linked_there(call) {
+            Some(Refusal::AlreadyLinked)
+        } else if self.is_kept_by_collection(call) {
+            Some(Refusal::IsMember)
+        } else if self.is_linked_somewhere(call) {
+            Some(Refusal::StillLinked)
+        } else {
+            None
         }
-        None
     }
 
     // The collection that the call names, if there is one.
@@ -175,7 +182,7 @@ impl PlainWorld {
         self.collection(collections_of(call).1?)
     }
 
-    // Whether the object is linked in the field.
+    /// Whether the object is linked in the field.
     pub(crate) fn is_linked_in(&self, field: usize, object: Place) -> bool {
         match self.fields.get(field) {
             Some(field) => field.is_linked(object),
@@ -183,6 +190,7 @@ impl PlainWorld {
         }
     }
 
+    // Whether there is no field of the number that the call names.
     fn lacks_field(&self, call: Call) -> bool {
         match call {
             Command::Open(field, _)
@@ -192,12 +200,14 @@ impl PlainWorld {
         }
     }
 
+    // Whether there is no collection of a number that the call names, or it was disposed of.
     fn lacks_collection(&self, call: Call) -> bool {
         let (first, second) = collections_of(call);
         (first.is_some() && self.named(call).is_none())
             || (second.is_some() && self.given(call).is_none())
     }
 
+    // Whether no object stands at a place that the call names.
     fn lacks_object(&self, call: Call) -> bool {
         let (first, second) = objects_of(call);
         self.is_vacant(first) || self.is_vacant(second)
@@ -211,6 +221,7 @@ impl PlainWorld {
         }
     }
 
+    // Whether the kind has no such call, the table can't carry the kind, or two kinds differ.
     fn is_wrong_kind(&self, call: Call) -> bool {
         if let Command::Open(field, kind) = call {
             return match self.fields.get(field) {
@@ -227,6 +238,7 @@ impl PlainWorld {
         }
     }
 
+    // Whether a collection is spliced into itself.
     fn is_same_collection(&self, call: Call) -> bool {
         match collections_of(call) {
             (Some(first), Some(second)) => first == second,
@@ -234,6 +246,7 @@ impl PlainWorld {
         }
     }
 
+    // Whether the two collections are of different fields.
     fn is_other_field(&self, call: Call) -> bool {
         match (self.named(call), self.given(call)) {
             (Some(named), Some(given)) => named.field != given.field,
@@ -241,6 +254,7 @@ impl PlainWorld {
         }
     }
 
+    // Whether nothing stands where a member is to be replaced.
     fn is_nothing_there(&self, call: Call) -> bool {
         let Some(named) = self.named(call) else {
             return false;
@@ -252,7 +266,7 @@ impl PlainWorld {
         }
     }
 
-    // The number of the member that a seek names, if it is a seek, and the members.
+    // Whether the object that a seek names is no member.
     fn is_no_member(&self, call: Call) -> bool {
         let Some(named) = self.named(call) else {
             return false;
@@ -264,6 +278,7 @@ impl PlainWorld {
         }
     }
 
+    // Whether the neighbour that a seek names isn't that of the object.
     fn is_no_neighbour(&self, call: Call) -> bool {
         let Some(named) = self.named(call) else {
             return false;
@@ -281,6 +296,7 @@ impl PlainWorld {
         }
     }
 
+    // Whether the object that is to be a member is linked in the field of the collection.
     fn is_linked_there(&self, call: Call) -> bool {
         match (self.named(call), new_member_of(call)) {
             (Some(named), Some(object)) => self.is_linked_in(named.field, object),
@@ -288,6 +304,7 @@ impl PlainWorld {
         }
     }
 
+    // Whether the object that is to be unlinked by force is a member.
     fn is_kept_by_collection(&self, call: Call) -> bool {
         let Command::ForceUnlink(field, object) = call else {
             return false;
@@ -302,6 +319,7 @@ impl PlainWorld {
         false
     }
 
+    // Whether the object that is to be taken out is linked in some field.
     fn is_linked_somewhere(&self, call: Call) -> bool {
         let Command::RemoveObject(object) = call else {
             return false;

@@ -63,6 +63,18 @@ fn goes_by_key(call: Call) -> bool {
     }
 }
 
+// Tells of a call whose answer is wrong, or the world after it.
+fn write_answer(wrong: &mut String, call: Call, answer: &Answer) -> Result<(), Fail> {
+    write!(wrong, "{call:?} answered {answer}\n")?;
+    Ok(())
+}
+
+// Tells of a list of calls after which the world is wrong.
+fn write_calls(wrong: &mut String, calls: &[Call]) -> Result<(), Fail> {
+    write!(wrong, "the world is wrong after {calls:?}\n")?;
+    Ok(())
+}
+
 impl Session {
     // The members of the collection that a call names which puts an object where its key says. Nothing for other calls.
     fn shown_after(&self, call: Call) -> Vec<Place> {
@@ -86,27 +98,19 @@ impl Session {
     ) -> Result<bool, Fail> {
         self.counts.add(kind, answer);
         self.calls = self.calls.saturating_add(1);
-        let is_right = self.plain.follows(call, answer, shown)?;
-        if !is_right {
-            write!(self.wrong, "{call:?} answered {answer}\n")?;
-        }
-        Ok(is_right)
-    }
-
-    // Whether the worlds agree after that call.
-    fn agrees_after(&mut self, call: Call) -> Result<bool, Fail> {
-        let agrees = self.plain.agrees(&mut self.world)?;
-        if !agrees {
-            write!(self.wrong, "{call:?} left the wrong world\n")?;
-        }
-        Ok(agrees)
+        Ok(self.plain.follows(call, answer, shown)?)
     }
 
     // Makes the call on both worlds, and compares them.
     fn make(&mut self, kind: usize, call: Call) -> Result<bool, Fail> {
         let answer = self.world.answer(call);
         let shown = self.shown_after(call);
-        Ok(self.is_right(kind, call, &answer, &shown)? && self.agrees_after(call)?)
+        let is_right = self.is_right(kind, call, &answer, &shown)?;
+        if is_right && self.plain.agrees(&mut self.world)? {
+            return Ok(true);
+        }
+        write_answer(&mut self.wrong, call, &answer)?;
+        Ok(false)
     }
 
     // Adds fields of these kinds, and opens a collection of each kind in each, or of its own kind alone.
@@ -161,16 +165,20 @@ impl Session {
         let shown = self.shown_after(last);
         let given = answers.get(before..).unwrap_or(&[]);
         if given.len() != calls.len() {
-            write!(self.wrong, "{calls:?} got {} answers\n", given.len())?;
+            write_calls(&mut self.wrong, &calls)?;
             return Ok(false);
         }
         for ((kind, call), answer) in kinds.iter().zip(&calls).zip(given) {
             if !self.is_right(*kind, *call, answer, &shown)? {
-                write!(self.wrong, "in {calls:?}\n")?;
+                write_answer(&mut self.wrong, *call, answer)?;
                 return Ok(false);
             }
         }
-        self.agrees_after(last)
+        let agrees = self.plain.agrees(&mut self.world)?;
+        if !agrees {
+            write_calls(&mut self.wrong, &calls)?;
+        }
+        Ok(agrees)
     }
 
     // Makes all calls, and answers whether nothing went wrong.

@@ -7,6 +7,7 @@ use std::test::Fail;
 // How many sessions are played, with a seed each.
 const SEEDS: u64 = 12;
 
+// Asserts that the texts are the same.
 fn same(rt: &impl Abort, found: &str, wanted: &str) {
     assert_eq!(rt; found, wanted);
 }

@@ -3,11 +3,10 @@
 use crate::answers::missing;
 use crate::plain_world::{Call, PlainCollection, PlainWorld};
 use crate::refusals::collection_of;
-use crate::sequences::{back, front, join, reversed};
+use crate::sequences::reversed;
 use ic_unsafe_ref::Place;
 use ic_world::{Answer, Command, Kind};
 use std::alloc::AllocError;
-use std::mem;
 
 impl PlainWorld {
     /// Opens a collection with these members, whose cursor is null.
@@ -18,12 +17,12 @@ impl PlainWorld {
         members: Vec<Place>,
     ) -> Result<Answer, AllocError> {
         let number = self.collections.len();
-        let cursor = None;
         self.collections.push(Some(PlainCollection {
+            alloc: self.alloc,
             field,
             kind,
             members,
-            cursor,
+            cursor: None,
         }))?;
         Ok(Answer::Collection(number))
     }
@@ -33,8 +32,7 @@ impl PlainWorld {
         let Some(Some(collection)) = self.collections.get_mut(number) else {
             return missing();
         };
-        let members = mem::replace(&mut collection.members, Vec::new(self.alloc));
-        collection.cursor = None;
+        let members = collection.take();
         if unlinks {
             if let Some(field) = self.fields.get_mut(collection.field) {
                 field.unlink(&members);
@@ -52,31 +50,20 @@ impl PlainWorld {
         answer
     }
 
-    /// Hands all members, or those behind the cursor or in front of it, out to a new collection. At null each is all.
+    /// Hands all members, or those behind the cursor or in front of it, out to a new collection.
     pub(crate) fn parted(&mut self, call: Call) -> Result<Answer, AllocError> {
         let Some(number) = collection_of(call) else {
             return Ok(missing());
         };
-        let alloc = self.alloc;
         let Some(Some(collection)) = self.collections.get_mut(number) else {
             return Ok(missing());
         };
-        let members = &collection.members;
-        let none: &[Place] = &[];
-        let (before, after) = (collection.gap_before(), collection.gap_after());
-        let (first, kept, last) = match call {
-            Command::SplitAfter(_) => (none, front(members, after), back(members, after)),
-            Command::SplitBefore(_) if collection.cursor.is_some() => {
-                (front(members, before), back(members, before), none)
-            }
-            _ => (members.as_slice(), none, none),
-        };
-        let handed = join(alloc, first, &[], last)?;
-        collection.members = Vec::from_slice(alloc, kept)?;
-        if let Command::Take(_) = call {
-            collection.cursor = None;
-        }
         let (field, kind) = (collection.field, collection.kind);
+        let handed = match call {
+            Command::SplitAfter(_) => collection.split_after()?,
+            Command::SplitBefore(_) => collection.split_before()?,
+            _ => collection.take(),
+        };
         self.opened(field, kind, handed)
     }
 
@@ -96,12 +83,10 @@ impl PlainWorld {
         given: usize,
         in_front: bool,
     ) -> Result<Answer, AllocError> {
-        let alloc = self.alloc;
         let Some(Some(given)) = self.collections.get_mut(given) else {
             return Ok(missing());
         };
-        let members = mem::replace(&mut given.members, Vec::new(alloc));
-        given.cursor = None;
+        let members = given.take();
         let Some(Some(collection)) = self.collections.get_mut(number) else {
             return Ok(missing());
         };
@@ -110,18 +95,16 @@ impl PlainWorld {
         } else {
             collection.gap_after()
         };
-        collection.exchange(alloc, gap, gap, &members)?;
+        collection.exchange(gap, gap, &members)?;
         Ok(Answer::Done)
     }
 
     /// Turns the sequence, and puts the cursor to null.
-    pub(crate) fn turned(&mut self, number: usize) -> Result<Answer, AllocError> {
-        let alloc = self.alloc;
+    pub(crate) fn turned(&mut self, number: usize) -> Answer {
         let Some(Some(collection)) = self.collections.get_mut(number) else {
-            return Ok(missing());
+            return missing();
         };
-        collection.members = reversed(alloc, &collection.members)?;
-        collection.cursor = None;
-        Ok(Answer::Done)
+        collection.reverse();
+        Answer::Done
     }
 }
