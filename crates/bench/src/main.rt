@@ -6,6 +6,7 @@
 //!
 //! ```text
 //! rt run -- 100001
+//! rt run -- lines < input  # reads lines, writes `ok` for each, and does nothing else
 //! ```
 #![tactic(auto)]
 
@@ -13,8 +14,10 @@ ghost use Rattle.std.specs.Prelude.{◌≡◌, ◌≤◌, [], IfSome};
 ghost use Rattle.ic_atomic.specs.Holders.{record_of, IsOf};
 ghost use Rattle.ic_link_ops.specs.DoublyEntries.{PlainShowsSome};
 
+mod by_world;
 mod claimed;
 mod keyed;
+mod lines;
 mod loops;
 mod measured;
 mod objects;
@@ -22,6 +25,7 @@ mod one_word;
 mod order;
 mod trees;
 
+use by_world::{filled_world, front_of, turn_world};
 use claimed::{claim_and_release, exchange_and_store, fill_claimed, turn_claimed};
 use ic_atomic::linked_list::AtomicLinkOps;
 use ic_atomic::{Claims, Holder};
@@ -32,6 +36,7 @@ use ic_linked_list::LinkedList;
 use ic_rbtree::RBTree;
 use ic_unsafe_ref::{Objects, Place, UnsafeRef};
 use keyed::{find, find_all, find_all_above, insert_all, place_all, turn_all};
+use lines::answer_each;
 use loops::put;
 use measured::{
     add, add_lent, split, split_lent, touch, touch_lent, turn, turn_lent, walk, walk_lent,
@@ -39,10 +44,11 @@ use measured::{
 use objects::fill_placed;
 use one_word::{filled_singly, filled_xor, turn_singly, turn_xor, walk_singly, walk_xor};
 use std::alloc::Global;
+use std::env;
+use std::io::{self, BufReader, BufWriter};
 use std::rt::Clock;
 use std::sync::atomic::AtomicU64;
 use std::time::Instant;
-use std::{env, io};
 use trees::{ByValue, filled_tree, take_off_all, turn_tree, walk_tree};
 
 // How far apart in the table the neighbours in a cache's order stand, so that no two share a line of memory.
@@ -416,8 +422,34 @@ fn over_claims(rt: &(impl Print + Eprint + Clock), alloc: Global, times: u64) ->
     claimed_list(rt, alloc, &claims, second, times)
 }
 
+// Pairs of a pop and a push of a list of a world, so many.
+fn list_of_a_world(
+    rt: &(impl Print + Eprint + Clock),
+    alloc: Global,
+    members: u64,
+    times: u64,
+) -> io::Result<()> {
+    let Ok((mut world, list)) = filled_world(alloc, members) else {
+        return eprintln!(rt; "no memory for {members} members");
+    };
+    let start = Instant::now(rt)?;
+    turn_world(&mut world, list, times);
+    let end = front_of(&mut world, list);
+    report(rt, "world: pop_front and push_back", end, start, times)
+}
+
+// Answers each line of standard input.
+fn copy_lines(rt: &(impl Input + Print + AllocGlobal)) -> io::Result<()> {
+    let mut reader = BufReader::new(rt.alloc(), rt.reader())?;
+    let mut writer = BufWriter::new(rt.alloc(), io::writer(rt))?;
+    answer_each(rt.alloc(), &mut reader, &mut writer)
+}
+
 fn main(rt: HostRuntime) -> io::Result<()> {
     let words: Vec<String> = env::args(&rt)?.collect(rt.alloc())?;
+    if words.get(1).is_some_and(|word| word.as_str() == "lines") {
+        return copy_lines(&rt);
+    }
     let times = number(words.get(1), 100_001);
     eprintln!(rt;
         "| members | pair | lent | step | lent | touch | lent | split and splice | lent | pop_front | iter | lent |"
@@ -446,6 +478,10 @@ fn main(rt: HostRuntime) -> io::Result<()> {
     eprintln!(rt; "| claim and release | bare words | pair | pair, claimed |")?;
     eprintln!(rt; "|---|---|---|---|")?;
     over_claims(&rt, rt.alloc(), times)?;
+    eprintln!(rt; "|")?;
+    eprintln!(rt; "| world: pair |")?;
+    eprintln!(rt; "|---|")?;
+    list_of_a_world(&rt, rt.alloc(), 1_000, times)?;
     eprintln!(rt; "|")?;
     Ok(())
 }

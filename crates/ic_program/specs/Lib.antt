@@ -1,2 +1,4 @@
 pub mod Line
 pub mod Number
+pub mod Arguments
+pub mod KindNames

@@ -2,14 +2,13 @@
 
 ghost use Rattle.std.specs.Prelude.{◌≡◌, ◌≢◌, ◌⊎◌, ◌<◌, IfOk, Ok, OnOk, codes, length};
 ghost use Rattle.std.specs.Io.KnownBytes.{Appends};
-ghost use Rattle.ic_world.specs.Step.{Step, reply_of};
-ghost use Rattle.ic_world.specs.Answers.{reply_in};
 ghost use Rattle.ic_program.specs.Line.{IsTextOf};
+ghost use Rattle.ic_program.specs.Arguments.{AskFor};
 
 use crate::command;
-use crate::workers::{run_workers, workers_of};
+use crate::workers::{Workers, run_workers, workers_of};
 use ic_rbtree::KeyAdapter;
-use ic_world::{Answer, Command, Refusal, World};
+use ic_world::World;
 use std::alloc::Allocator;
 use std::io::{self, BufRead, ErrorKind, Write};
 use std::sync::Wait;
@@ -58,8 +57,9 @@ pub fn run_program<
     W: Write,
 >(rt: &S, alloc: M, words: &[String], reader: &mut R, writer: &mut W) -> u8
     ensures status { (result ≡ 0) ⊎ (result ≡ 2) ⊎ (result ≡ FAULT) }
-    ensures arguments { 0 < length words.now → length words.now ≢ 3 → result ≢ FAULT → (result ≡ 2)
+    ensures arguments { 0 < length words.now → ((asked : Workers) → AskFor words.now asked → ⊥) → result ≢ FAULT → (result ≡ 2)
         × Appends (W.contents writer.old) (W.contents writer.new) (codes "bad arguments\n") }
+    ensures workers { (asked : Workers) → AskFor words.now asked → result ≢ 2 }
 {
     if words.is_empty() {
         return run_lines(alloc, reader, writer);
@@ -156,7 +156,7 @@ fn answer_line<M: Allocator + Copy, W: Write>(
     }
     match command::from_words(&words) {
         Some(command) => {
-            writeln!(writer, "{}", answer(world, command))?;
+            writeln!(writer, "{}", world.answer(command))?;
             Ok(true)
         }
         None => Ok(false),
@@ -170,44 +170,5 @@ fn without_end(line: &str) -> &str
     match line.strip_suffix('\n') {
         Some(text) => text.strip_suffix('\r').unwrap_or(text),
         None => line,
-    }
-}
-
-/// Makes the call, and answers what is printed for it.
-///
-/// It asks nothing: the world tests every condition. A call that the world refuses is answered by `Answer::Refused` with
-/// the first refusal that applies, and leaves the world as it was. It costs what the call of the world costs.
-pub fn answer<M: Allocator + Copy>(world: &mut World<OwnKey, M>, command: Command<u64>) -> Answer<M>
-    ensures { Step world.old command (reply_in result) world.new }
-{
-    match call(world, command) {
-        Ok(answer) => answer,
-        Err(refusal) => Answer::Refused(refusal),
-    }
-}
-
-// Makes the call. `Err`: the world refuses it.
-fn call<M: Allocator + Copy>(
-    world: &mut World<OwnKey, M>,
-    command: Command<u64>,
-) -> Result<Answer<M>, Refusal>
-    ensures { Step world.old command (reply_of reply_in result) world.new }
-{
-    match command {
-        Command::AddField(kind) => Ok(Answer::Field(world.add_field(kind)?)),
-        Command::Open(field, kind) => Ok(Answer::Collection(world.open(field, kind)?)),
-        Command::Place(value) => match world.place(value) {
-            Ok(object) => Ok(Answer::Object(object)),
-            Err((refusal, _)) => Err(refusal),
-        },
-        Command::PushBack(collection, object) => {
-            world.push_back(collection, object)?;
-            Ok(Answer::Done)
-        }
-        Command::PopFront(collection) => match world.pop_front(collection)? {
-            Some(object) => Ok(Answer::Object(object)),
-            None => Ok(Answer::Nothing),
-        },
-        Command::Show(collection) => Ok(Answer::Items(world.show(collection)?)),
     }
 }

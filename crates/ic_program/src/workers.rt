@@ -4,7 +4,8 @@
 //! workers_of(&words) // Some of 4 workers and 1000 places, for the words `workers 4 1000`
 //! ```
 
-ghost use Rattle.std.specs.Prelude.{◌≡◌, ◌≢◌, ◌≤◌, IfSome, length};
+ghost use Rattle.std.specs.Prelude.{IfSome, IfNone};
+ghost use Rattle.ic_program.specs.Arguments.{AskFor};
 
 use crate::command::number;
 use ic_atomic::Gate;
@@ -30,8 +31,8 @@ pub struct Workers {
 
 /// What the words `workers W N` ask for. `None`: the words are others, or a number is none or not within its bounds.
 pub fn workers_of(words: &[String]) -> Option<Workers>
-    ensures bounds { IfSome result (λ asked. (1 ≤ asked.workers) × (asked.workers ≤ 64) × (asked.places ≤ 1000000)) }
-    ensures three { IfSome result (λ asked. length words.now ≡ 3) }
+    ensures asked { IfSome result (AskFor words.now) }
+    ensures none { IfNone result ((asked : Workers) → AskFor words.now asked → ⊥) }
 {
     let [name, workers, places] = words else {
         return None;

@@ -95,9 +95,9 @@ const NUMBERS: [(&str, &str); 7] = [
 ];
 
 // Each of these is no command.
-const MALFORMED: [&str; 24] = [
+const MALFORMED: [&str; 39] = [
     "field",
-    "field singly",
+    "field list",
     "field doubly doubly",
     "Field doubly",
     "add_field doubly",
@@ -120,6 +120,21 @@ const MALFORMED: [&str; 24] = [
     "pop_front 1x",
     "show",
     "show 0 0",
+    "set_value 4294967296 0",
+    "lower_bound 0 5",
+    "lower_bound 0 included",
+    "lower_bound 0 included:",
+    "lower_bound 0 Included:5",
+    "upper_bound 0 unbounded:5",
+    "range 0 unbounded",
+    "range 0 unbounded none",
+    "entry 0 4",
+    "entry 0 none 0",
+    "seek_with_prev 0 0",
+    "seek_with_prev 0 0 null",
+    "seek_with_next 0 none 0",
+    "find 0 none",
+    "objects",
 ];
 
 // Runs the inputs, each on a new world.

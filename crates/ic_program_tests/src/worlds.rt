@@ -1,6 +1,6 @@
 //! A world whose requests for memory are refused where a row says so.
 
-use ic_program::{OwnKey, answer, from_words};
+use ic_program::{OwnKey, from_words};
 use ic_unsafe_ref::Place;
 use ic_world::{Answer as Made, Command, World};
 use std::alloc::{AllocError, Global};
@@ -26,21 +26,25 @@ pub(crate) struct Worlds<'r> {
     alloc: Global,
     rationed: &'r Rationed,
     world: World<OwnKey, &'r Rationed>,
-    accepted: Vec<Command<u64>>,
-    refused: Option<Command<u64>>,
+    accepted: Vec<Command<u64, u64>>,
+    refused: Option<Command<u64, u64>>,
 }
 
 // Makes the call, and answers the value too that came back.
 fn make<'r>(
     world: &mut World<OwnKey, &'r Rationed>,
-    command: Command<u64>,
+    command: Command<u64, u64>,
 ) -> (Made<&'r Rationed>, Option<u64>) {
     match command {
         Command::Place(value) => match world.place(value) {
             Ok(object) => (Made::Object(object), None),
             Err((refusal, back)) => (Made::Refused(refusal), Some(back)),
         },
-        _ => (answer(world, command), None),
+        Command::SetValue(object, value) => match world.set_value(object, value) {
+            Ok(_) => (Made::Done, None),
+            Err((refusal, back)) => (Made::Refused(refusal), Some(back)),
+        },
+        _ => (world.answer(command), None),
     }
 }
 
@@ -55,11 +59,11 @@ fn text(alloc: Global, made: &Made<&Rationed>, back: Option<u64>) -> Result<Stri
 // A new world after these calls.
 fn world_after<'r>(
     rationed: &'r Rationed,
-    commands: &[Command<u64>],
+    commands: &[Command<u64, u64>],
 ) -> World<OwnKey, &'r Rationed> {
     let mut world = World::new(rationed, OwnKey);
     for command in commands {
-        let _ = answer(&mut world, *command);
+        let _ = world.answer(*command);
     }
     world
 }
@@ -76,7 +80,7 @@ impl<'r> Worlds<'r> {
     }
 
     // Makes the call, with that request refused.
-    fn refusing(&mut self, refused: u64, command: Command<u64>) -> Result<String, AllocError> {
+    fn refusing(&mut self, refused: u64, command: Command<u64, u64>) -> Result<String, AllocError> {
         self.rationed.refuse(refused);
         let (made, back) = make(&mut self.world, command);
         self.rationed.refuse(NONE);
@@ -89,7 +93,7 @@ impl<'r> Worlds<'r> {
     }
 
     // Makes the refused call again, and then a new world.
-    fn again(&mut self, command: Command<u64>) -> Result<String, AllocError> {
+    fn again(&mut self, command: Command<u64, u64>) -> Result<String, AllocError> {
         let (made, back) = make(&mut self.world, command);
         self.world = world_after(self.rationed, &self.accepted);
         text(self.alloc, &made, back)

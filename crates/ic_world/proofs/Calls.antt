@@ -1,160 +1,195 @@
--- Each call over the parts of a world: the step that it makes, and the invariant after it.
-use Rattle.std.proofs.Common.{◌≡◌, ℕ, ◌<◌, ◌≤◌, inl, inr, true, false, not, List, [], ◌∷◌, ◌++◌, length, set, drop, Option, Some, None, refl, sym, ap, ◌∙◌, subst}
-use Rattle.std.proofs.lemmas.List.{length-map}
+-- A CALL OF ONE COLLECTION, for the world: what the collection's call gives is lifted once, for all calls.
+use Rattle.std.proofs.Common.{◌≡◌, ℕ, ◌⊎◌, inl, inr, true, false, List, [], ◌∷◌, ◌++◌, map, set, get_or, Option, Some, Bool, refl, sym, ap, ◌∙◌, subst, arith, Result, Ok, Err, OnErr, IfOk, ◌&&◌}
 use Rattle.std.proofs.lemmas.Bool.{cases_eq}
-use Rattle.std.specs.FinSet as set_of
-use Rattle.std.specs.FinMap as map_of
+use Rattle.std.proofs.lemmas.List.{map-set}
+use Rattle.std.specs.List.{list_all}
+use Rattle.std.specs.declared.cmp.Ordering.{Ordering}
 use Rattle.ic_unsafe_ref.specs.declared.place.Place.{Place}
 use Rattle.ic_unsafe_ref.specs.Places.{index_of}
-use Rattle.ic_unsafe_ref.specs.Objects.{Objects, Places}
+use Rattle.ic_unsafe_ref.specs.Objects.{Objects}
+use Rattle.ic_unsafe_ref.specs.Objects.{is_placed as place_is_placed}
 use Rattle.ic_unsafe_ref.proofs.PlaceLemmas.{same_index}
-use Rattle.ic_link_ops.specs.Sequences.{IsAbsent, first, at_front, at_back, insert, remove}
-use Rattle.ic_link_ops.specs.Tables.{KeepsBeside, LinksAlso, Unlinks}
-use Rattle.ic_link_ops.specs.Chains.{Ends}
-use Rattle.ic_link_ops.specs.DoublyEntries.{unlinked, is_linked, entry_at, table_of}
-use Rattle.ic_link_ops.proofs.SequenceLemmas.{disjoint_cons, absent_both, first_is}
-use Rattle.ic_link_ops.proofs.ShownLists.{free_absent}
+use Rattle.ic_link_ops.specs.Sequences.{IsAbsent, IsDisjoint}
+use Rattle.ic_link_ops.specs.Tables.{Table, IsCovered, IsUnlinked}
+use Rattle.ic_link_ops.specs.PlacedObjects.{ArePlaced}
+use Rattle.ic_link_ops.proofs.SequenceLemmas.{disjoint_cons}
+use Rattle.ic_fields.specs.declared.entry.Entry.{Entry}
+use Rattle.ic_fields.specs.declared.field.Field.{Field}
+use Rattle.ic_fields.specs.Fields.{look}
+use Rattle.ic_fields.specs.Entries.{is_linked}
+use Rattle.ic_members.specs.Members.{kind_in, cursor_in, members_in}
+use Rattle.ic_members.specs.declared.members.Members.{Members}
+use Rattle.ic_members.proofs.AllKinds.{unlinked_absent}
 use Rattle.ic_world.specs.declared.collection.Collection.{Collection}
-use Rattle.ic_world.specs.declared.call.Refusal.TheVariants.{NoSuchField, NoSuchCollection, NoSuchObject, AlreadyLinked, OutOfMemory}
-use Rattle.ic_world.specs.declared.call.Kind.{Kind}
-use Rattle.ic_world.specs.declared.call.Command.TheVariants.{AddField, Open, Place as PlaceValue, PushBack, PopFront, Show}
+use Rattle.ic_world.specs.declared.call.Refusal.{Refusal}
+use Rattle.ic_world.specs.declared.call.Refusal.TheVariants.{NoSuchObject, AlreadyLinked}
+use Rattle.ic_world.specs.declared.insertion.Insertion.TheVariants.{Insert, CursorInsert}
+use Rattle.ic_world.specs.declared.search.Search.TheVariants.{Find, LowerBound, UpperBound}
 use Rattle.ic_world.specs.Family.{Family}
-use Rattle.ic_world.specs.Tables.{Entries, table, ShowsIn, sequence, at, family_of, IsWhole, Grown, HasObject}
-use Rattle.ic_world.specs.Step.{Step, refusal, is_placed, done, nothing, object, field, opened, items, refused}
-use Rattle.ic_world.proofs.Linked.{linked_gains, linked_loses}
-use Rattle.ic_world.proofs.Readings.{collection_is, collection_not, linked_at, linked_is}
-use Rattle.ic_world.proofs.Steps.{step_accepted, step_refused, field_there, field_missing, passes, fails}
-use Rattle.ic_world.proofs.Edits.{Edit, edited_family, edited_whole}
-use Rattle.ic_world.proofs.Growth.{opened_family, fresh, field_family, placed_family, grown_family}
+use Rattle.ic_world.specs.State.{State, Reply, refused, found, looked, entry, reply_of, asks}
+use Rattle.ic_world.specs.Calls.{Call, edit, seek, pick, swap, search, insertion, enter, names, refusal_of, Replies}
+use Rattle.ic_world.specs.Turns.{Each, Turns, Ran, refusal_in, state_of}
+use Rattle.ic_world.specs.Tables.{table, sequence, seen_as, at, family_of, IsWhole, HasObject}
+use Rattle.ic_world.specs.Seen.{Sees}
+use Rattle.ic_world.specs.Step.{StepOn, refusal_on, state_in, is_placed, objects_of, asks_collection}
+use Rattle.ic_world.proofs.Readings.{Found, collection_is, linked_at, set_back}
+use Rattle.ic_world.proofs.Edits.{Edit, after, edited_family, edited_whole}
 
-module _ {V : Type 0} (objects : Objects V) (ts : List Entries) (cs : List (Option (Collection V))) where
-  abbrev w : Family V
-  w = family_of objects ts cs
+-- a place is not among some, or has what each of them has
+each_or : (P : Place → Type 0) (s : List Place) (q : Place) → Each P s → IsAbsent q s ⊎ P q
+each_or P [] q h = inl tt
+each_or P (x ∷ s) q h =
+    elim (cases_eq (index_of q) (index_of x)) [
+      | inl e ↦ inr (subst P (sym (same_index q x e)) h.0)
+      | inr d ↦ elim (each_or P s q h.1) [
+        | inl out ↦ inl ((λ e. d (ap index_of e)), out)
+        | inr has ↦ inr has
+      ]
+    ]
 
-  pub open_done : (f n : ℕ) (kind : Kind) → f < length ts → n ≡ length cs
-      → Step w (Open f kind) (opened n) (family_of objects ts (cs ++ Some (fresh f) ∷ []))
-  open_done f n kind h e =
-      step_accepted w (Open f kind) (opened n) _ (field_there w f None (rw length-map h)) (rw length-map e, opened_family objects ts cs f)
+each_map : (P Q : Place → Type 0) → ((p : Place) → P p → Q p) → (s : List Place) → Each P s → Each Q s
+each_map P Q f [] h = tt
+each_map P Q f (x ∷ s) h = (f x h.0, each_map P Q f s h.1)
 
-  pub open_missing : (f : ℕ) (kind : Kind) → length ts ≤ f → Step w (Open f kind) (refused NoSuchField) w
-  open_missing f kind h = step_refused w (Open f kind) NoSuchField (field_missing w f None (rw length-map h))
+each_named : (P : Place → Type 0) (fresh named : List Place) → (fresh ≡ []) ⊎ (fresh ≡ named) → Each P named → Each P fresh
+each_named P fresh named (inl e) h = subst (Each P) (sym e) tt
+each_named P fresh named (inr e) h = subst (Each P) (sym e) h
 
-  pub open_full : (f : ℕ) (kind : Kind) → f < length ts → Step w (Open f kind) (refused OutOfMemory) w
-  open_full f kind h = step_accepted w (Open f kind) (refused OutOfMemory) w (field_there w f None (rw length-map h)) refl
+-- what a call answers is told by the values alone
+module _ {V K : Type 0} (cmp : K → K → Ordering) (key_of : V → K) (objects other : Objects V) (same : other.values ≡ objects.values) where
+  replies_of : (call : Call K) (s : State) (reply : Reply) (t : State) → Replies cmp key_of objects call s reply t → Replies cmp key_of other call s reply t
+  replies_of (edit call) s reply t h = h
+  replies_of (seek call) s reply t h = h
+  replies_of (pick call) s reply t h = h
+  replies_of (swap call) s reply t h = h
+  replies_of (search (Find key)) s (found p n) t h = rw same h
+  replies_of (search (LowerBound bound)) s (found p n) t h = rw same h
+  replies_of (search (UpperBound bound)) s (found p n) t h = rw same h
+  replies_of (insertion (Insert p)) s (looked n) t h = rw same h
+  replies_of (insertion (CursorInsert p)) s (looked n) t h = rw same h
+  replies_of (enter key p) s (entry true q n) t h = rw same h
+  replies_of (enter key p) s (entry false q n) t h = rw same h
+  replies_of (enter key p) s (refused AlreadyLinked) t h = rw same h
+  replies_of _ s _ t h = absurd h
 
-  pub push_missing : (c : ℕ) (p : Place) → at cs c ≡ None → Step w (PushBack c p) (refused NoSuchCollection) w
-  push_missing c p e = step_refused w (PushBack c p) NoSuchCollection (rw (collection_not objects ts cs c e) refl)
+module _ {A V K : Type 0} {adapter : A} {objects : Objects V} {room : ℕ} {ts : List (Table Entry)} {cs : List (Option (Collection A V K))} (whole : IsWhole adapter objects room ts cs)
+    (c : ℕ) (k : Collection A V K) (is : at cs c ≡ Some k) where
+  -- the state of the collection, as the world has it
+  pub same_state : state_in (family_of adapter objects ts cs) (seen_as k (sequence ts k)) ≡ state_of (table ts k.field) k.members
+  same_state = λ i. record { kind = kind_in k.members; members = sequence ts k; cursor = cursor_in k.members; linked = linked_at adapter objects ts cs k.field (whole.in_field c k is) i }
 
-  pub push_unplaced : (c : ℕ) (p : Place) (k : Collection V) → at cs c ≡ Some k → is_placed w p ≡ false
-      → Step w (PushBack c p) (refused NoSuchObject) w
-  push_unplaced c p k e h =
-      step_refused w (PushBack c p) NoSuchObject (rw (collection_is objects ts cs c k e) (fails _ NoSuchObject _ h))
+  -- an object stands at each member
+  pub placed_members : (s : List Place) → ((q : Place) → (IsAbsent q s → ⊥) → is_linked ((table ts k.field).entry q) ≡ true) → ArePlaced objects s
+  placed_members [] h = tt
+  placed_members (x ∷ s) h = (whole.placed k.field x (h x (λ out. out.0 refl)), placed_members s (λ q there. h q (λ out. there out.1)))
 
-  pub push_linked : (c : ℕ) (p : Place) (k : Collection V) → at cs c ≡ Some k → k.field < length ts → is_placed w p ≡ true
-      → is_linked (entry_at (table ts k.field) p) ≡ true → Step w (PushBack c p) (refused AlreadyLinked) w
-  push_linked c p k e f h l =
-      step_refused w (PushBack c p) AlreadyLinked
-      (rw (collection_is objects ts cs c k e)
-      (passes _ NoSuchObject _ h ∙ fails _ AlreadyLinked None (ap not (linked_is objects ts cs k.field p f ∙ l))))
-
-  module _ {room : ℕ} (whole : IsWhole objects room ts cs) (c : ℕ) (k : Collection V) (is : at cs c ≡ Some k) (new : Entries) (ends : Ends) where
-    -- what the list's clauses say of a push, as an edit
-    push_edit : (p : Place) → ShowsIn new ends (insert (at_back (sequence ts k)) p) → LinksAlso is_linked (table_of (table ts k.field)) (table_of new) p
-        → KeepsBeside (table_of (table ts k.field)) (table_of new) (p ∷ sequence ts k)
-        → Edit ts cs c k new ends (insert (at_back (sequence ts k)) p) (p ∷ sequence ts k)
-    push_edit p shown links frame = record {
+  module _ {named : List Place} {Accepts : State → State → Type 0} {new : Table Entry} {m : Members A V K} (turns : Turns named Accepts (table ts k.field) new k.members m)
+      (has : Each (λ p. HasObject objects (index_of p)) named) where
+    turn_edit : Edit adapter objects ts cs c k new m (members_in new m) (turns.fresh ++ sequence ts k)
+    turn_edit = record {
       was = is;
-      shown = shown;
-      frame = frame;
-      within = λ q h. absent_both q (sequence ts k) (p ∷ []) h.1 (h.0, tt);
-      beside = λ d l n is_l same.
-          let P : ℕ → Type 0 = λ f. ShowsIn (table ts f) l.list (sequence ts l) in
-          let here = subst P same (whole.shown d l is_l) in
-          disjoint_cons p (sequence ts l) (sequence ts k) (free_absent (λ e b a h. h.linked) here links.was) (whole.apart d c l k n is_l is same);
+      kept = turns.held;
+      alike = turns.alike;
+      frame = turns.frame;
+      placed = λ q h. elim (each_or (λ p. HasObject objects (index_of p)) turns.fresh q (each_named (λ p. HasObject objects (index_of p)) turns.fresh named turns.named has)) [
+        | inl out ↦ whole.placed k.field q (turns.only q out h)
+        | inr there ↦ there
+      ];
+      within = turns.within;
+      beside = λ d l n is_l same. apart l (λ p free. unlinked_absent (table ts l.field) l.members (sequence ts l) (whole.held d l is_l).shown
+          (subst (λ f. IsUnlinked is_linked (table ts f) p) (sym same) free)) (whole.apart d c l k n is_l is same) turns.fresh turns.free;
     }
+      where
+        apart : (l : Collection A V K) → ((p : Place) → IsUnlinked is_linked (table ts k.field) p → IsAbsent p (sequence ts l)) → IsDisjoint (sequence ts l) (sequence ts k)
+            → (fresh : List Place) → Each (IsUnlinked is_linked (table ts k.field)) fresh → IsDisjoint (sequence ts l) (fresh ++ sequence ts k)
+        apart l absent rest [] free = rest
+        apart l absent rest (p ∷ s) free = disjoint_cons p (sequence ts l) (s ++ sequence ts k) (absent p free.0) (apart l absent rest s free.1)
 
-    pub push_whole : (p : Place) → ShowsIn new ends (insert (at_back (sequence ts k)) p) → LinksAlso is_linked (table_of (table ts k.field)) (table_of new) p
-        → KeepsBeside (table_of (table ts k.field)) (table_of new) (p ∷ sequence ts k) → HasObject objects (index_of p)
-        → IsWhole objects room (set ts k.field new) (set cs c (Some (record { field = k.field; list = ends })))
-    push_whole p shown links frame has =
-        edited_whole objects room ts cs whole (push_edit p shown links frame) (λ q h.
-        elim (cases_eq (index_of q) (index_of p)) [
-          | inl e ↦ rw e has
-          | inr d ↦ whole.placed k.field q (sym (links.others q (λ e. d (ap index_of e))) ∙ h)
-        ])
+    pub turn_whole : IsWhole adapter objects room (set ts k.field new) (set cs c (Some (after k m)))
+    turn_whole = edited_whole whole turn_edit
 
-    pub push_done : (p : Place) → ShowsIn new ends (insert (at_back (sequence ts k)) p) → LinksAlso is_linked (table_of (table ts k.field)) (table_of new) p
-        → KeepsBeside (table_of (table ts k.field)) (table_of new) (p ∷ sequence ts k) → is_placed w p ≡ true
-        → Step w (PushBack c p) done (family_of objects (set ts k.field new) (set cs c (Some (record { field = k.field; list = ends }))))
-    push_done p shown links frame has =
-        let f = whole.in_field c k is in
-        let at_c = collection_is objects ts cs c k is in
-        let allowed : refusal w (PushBack c p) ≡ None =
-        rw at_c (passes _ NoSuchObject _ has ∙ passes _ AlreadyLinked None (ap not (linked_is objects ts cs k.field p f ∙ links.was))) in
-        let gains = linked_gains (table ts k.field) new p links.is links.others ∙ ap (λ s. set_of.insert s (index_of p)) (sym (linked_at objects ts cs k.field f)) in
-        step_accepted w (PushBack c p) done _ allowed
-        (_, at_c, edited_family objects room ts cs whole (push_edit p shown links frame) _ gains)
+module _ {A V K M : Type 0} {adapter : A} {objects : Objects V} {room : ℕ} {tables : List (Field M)} {cs : List (Option (Collection A V K))} (whole : IsWhole adapter objects room (map look tables) cs)
+    {c : ℕ} {k : Collection A V K} {now : Field M} (at_k : Found tables cs c k now) where
+  abbrev ts : List (Table Entry)
+  ts = map look tables
 
-    -- what the list's clauses say of a pop that answered p
-    pop_edit : ShowsIn new ends (remove (at_front (sequence ts k))) → KeepsBeside (table_of (table ts k.field)) (table_of new) (sequence ts k)
-        → (p : Place) → Some p ≡ first (sequence ts k) → Edit ts cs c k new ends (remove (at_front (sequence ts k))) (sequence ts k)
-    pop_edit shown frame p answer = record {
-      was = is;
-      shown = shown;
-      frame = frame;
-      within = λ q h. (let a : IsAbsent q (p ∷ drop 1 (sequence ts k)) = subst (IsAbsent q) (first_is (sequence ts k) answer) h in a).1;
-      beside = λ d l n is_l same. whole.apart d c l k n is_l is same;
-    }
+  -- what the call of the collection asks
+  pub placed_by : ArePlaced objects (members_in (look now) k.members)
+  placed_by = subst (λ t. ArePlaced objects (members_in t k.members)) at_k.read (placed_members whole c k at_k.is (sequence ts k) (λ q there. linked q there (is_linked ((table ts k.field).entry q)) refl))
+    where
+      linked : (q : Place) → (IsAbsent q (sequence ts k) → ⊥) → (b : Bool) → is_linked ((table ts k.field).entry q) ≡ b → is_linked ((table ts k.field).entry q) ≡ true
+      linked q there true e = e
+      linked q there false e = absurd (there (unlinked_absent (table ts k.field) k.members (sequence ts k) (whole.held c k at_k.is).shown e))
 
-    pub pop_whole : ShowsIn new ends (remove (at_front (sequence ts k))) → KeepsBeside (table_of (table ts k.field)) (table_of new) (sequence ts k)
-        → (p : Place) → Some p ≡ first (sequence ts k) → Unlinks is_linked (table_of (table ts k.field)) (table_of new) p
-        → IsWhole objects room (set ts k.field new) (set cs c (Some (record { field = k.field; list = ends })))
-    pop_whole shown frame p answer unlinks =
-        edited_whole objects room ts cs whole (pop_edit shown frame p answer) (λ q h.
-        elim (cases_eq (index_of q) (index_of p)) [
-          | inl e ↦ let no : is_linked (entry_at new q) ≡ false = rw (same_index q p e) unlinks.is in cc
-          | inr d ↦ whole.placed k.field q (sym (unlinks.others q (λ e. d (ap index_of e))) ∙ h)
-        ])
+  -- what a call that only reads finds
+  pub sees_by : {old : Family A V} → family_of adapter objects ts cs ≡ old → Sees old c (look now) k.members
+  sees_by view = subst (λ w. Sees w c (look now) k.members) view (record {
+    s = seen_as k (sequence ts k);
+    is = collection_is adapter objects ts cs c k at_k.is;
+    state = same_state whole c k at_k.is ∙ ap (λ t. state_of t k.members) at_k.read;
+    held = at_k.held;
+    adapted = whole.adapted c k at_k.is;
+    placed = placed_by;
+  })
 
-    pub pop_done : ShowsIn new ends (remove (at_front (sequence ts k))) → KeepsBeside (table_of (table ts k.field)) (table_of new) (sequence ts k)
-        → (p : Place) → Some p ≡ first (sequence ts k) → Unlinks is_linked (table_of (table ts k.field)) (table_of new) p
-        → Step w (PopFront c) (object p) (family_of objects (set ts k.field new) (set cs c (Some (record { field = k.field; list = ends }))))
-    pop_done shown frame p answer unlinks =
-        let f = whole.in_field c k is in
-        let at_c = collection_is objects ts cs c k is in
-        let allowed : refusal w (PopFront c) ≡ None = rw at_c refl in
-        let loses = linked_loses (table ts k.field) new p unlinks.is unlinks.others ∙ ap (λ s. set_of.remove s (index_of p)) (sym (linked_at objects ts cs k.field f)) in
-        step_accepted w (PopFront c) (object p) _ allowed
-        (_, at_c, sym answer, edited_family objects room ts cs whole (pop_edit shown frame p answer) _ loses)
+  pub placed_each : (s : List Place) → list_all (place_is_placed objects) s ≡ true → Each (λ p. HasObject objects (index_of p)) s
+  placed_each [] e = tt
+  placed_each (p ∷ s) e = (both_left (place_is_placed objects p) _ e, placed_each s (both_right (place_is_placed objects p) _ e))
+    where
+      both_left : (a b : Bool) → (a && b) ≡ true → a ≡ true
+      both_left true b e = refl
+      both_left false b e = cc
 
-  pub pop_empty : (c : ℕ) (k : Collection V) → at cs c ≡ Some k → None ≡ first (sequence ts k) → Step w (PopFront c) nothing w
-  pop_empty c k is none =
-      let at_c = collection_is objects ts cs c k is in
-      step_accepted w (PopFront c) nothing w (rw at_c refl) (_, at_c, sym none, refl)
+      both_right : (a b : Bool) → (a && b) ≡ true → b ≡ true
+      both_right true b e = e
+      both_right false b e = cc
 
-  pub pop_missing : (c : ℕ) → at cs c ≡ None → Step w (PopFront c) (refused NoSuchCollection) w
-  pop_missing c e = step_refused w (PopFront c) NoSuchCollection (rw (collection_not objects ts cs c e) refl)
+  pub room_for : (s : List Place) → list_all (place_is_placed objects) s ≡ true → Each (IsCovered (look now)) s
+  room_for s e = each_map (λ p. HasObject objects (index_of p)) (IsCovered (look now)) (λ p has. let a = whole.within (index_of p) has in let b = rw at_k.read at (whole.covered k.field at_k.field) in omega (arith, a, b)) s (placed_each s e)
 
-  pub show_done : (c : ℕ) (k : Collection V) (places : List Place) → at cs c ≡ Some k → places ≡ sequence ts k → Step w (Show c) (items places) w
-  show_done c k places is e =
-      let at_c = collection_is objects ts cs c k is in
-      step_accepted w (Show c) (items places) w (rw at_c refl) (_, at_c, e, refl)
+  module _ (cmp : K → K → Ordering) (key_of : A → V → K) (call : Call K) (placed : list_all (place_is_placed objects) (names call) ≡ true) {R : Type 0} (accepted : R → Reply) (r : Result R Refusal) (nf : Field M) (m : Members A V K)
+      (ran : Ran (names call) (refusal_of call) (λ a s t. Replies cmp (key_of adapter) objects call s (accepted a) t) now nf k.members m r) where
+    -- THE INVARIANT and THE STEP, by the result
+    pub whole_by : IsWhole adapter objects room (map look (set tables k.field nf)) (set cs c (Some (after k m)))
+    whole_by = by r ran.turned ran.unchanged
+      where
+        by : (r : Result R Refusal) → IfOk r (λ a. Turns (names call) (λ s t. Replies cmp (key_of adapter) objects call s (accepted a) t) (look now) (look nf) k.members m) → OnErr r ((nf ≡ now) × (m ≡ k.members))
+            → IsWhole adapter objects room (map look (set tables k.field nf)) (set cs c (Some (after k m)))
+        by (Ok a) turned same = rw map-set (turn_whole whole c k at_k.is {named = names call} {Accepts = λ s t. Replies cmp (key_of adapter) objects call s (accepted a) t} (rw at_k.read turned) (placed_each (names call) placed))
+        by (Err x) turned same = rw (same.0, same.1, at_k.table_back, at_k.list_back) whole
 
-  pub show_full : (c : ℕ) (k : Collection V) → at cs c ≡ Some k → Step w (Show c) (refused OutOfMemory) w
-  show_full c k is = step_accepted w (Show c) (refused OutOfMemory) w (rw (collection_is objects ts cs c k is) refl) refl
+    pub step_by : {old : Family A V} → family_of adapter objects ts cs ≡ old
+        → StepOn cmp key_of old c call (reply_of accepted r) (family_of adapter objects (map look (set tables k.field nf)) (set cs c (Some (after k m))))
+    step_by view =
+        let tests : refusal_on (family_of adapter objects ts cs) c call ≡ refusal_in r = ap (λ o. asks_collection o (λ s. asks (list_all (is_placed (family_of adapter objects ts cs)) (names call)) NoSuchObject (refusal_of call (state_in (family_of adapter objects ts cs) s)))) (collection_is adapter objects ts cs c k at_k.is)
+        ∙ ap (λ b. asks b NoSuchObject (refusal_of call (state_in (family_of adapter objects ts cs) (seen_as k (sequence ts k))))) placed
+        ∙ ap (refusal_of call) (same_state whole c k at_k.is ∙ ap (λ t. state_of t k.members) at_k.read) ∙ sym ran.tested in
+        subst (λ w. StepOn cmp key_of w c call (reply_of accepted r) (family_of adapter objects (map look (set tables k.field nf)) (set cs c (Some (after k m))))) view (by r ran.turned ran.unchanged tests)
+      where
+        by : (r : Result R Refusal) → IfOk r (λ a. Turns (names call) (λ s t. Replies cmp (key_of adapter) objects call s (accepted a) t) (look now) (look nf) k.members m) → OnErr r ((nf ≡ now) × (m ≡ k.members))
+            → refusal_on (family_of adapter objects ts cs) c call ≡ refusal_in r
+            → StepOn cmp key_of (family_of adapter objects ts cs) c call (reply_of accepted r) (family_of adapter objects (map look (set tables k.field nf)) (set cs c (Some (after k m))))
+        by (Ok a) turned same e =
+            let Accepts : State → State → Type 0 = λ s t. Replies cmp (key_of adapter) objects call s (accepted a) t in
+            let here : Turns (names call) Accepts (table ts k.field) (look nf) k.members m = rw at_k.read turned in
+            let edit = turn_edit whole c k at_k.is {named = names call} {Accepts = Accepts} here (placed_each (names call) placed) in
+            rw (e, map-set) (
+              seen_as k (sequence ts k),
+              state_of (look nf) m,
+              collection_is adapter objects ts cs c k at_k.is,
+              replies_of cmp (key_of adapter) objects (objects_of (family_of adapter objects ts cs)) refl call _ (accepted a) _ (subst (λ s. Accepts s (state_of (look nf) m)) (sym (same_state whole c k at_k.is)) here.accepts),
+              edited_family whole edit _ refl,
+            )
+        by (Err x) turned same e = rw (e, same.0, same.1, at_k.table_back, at_k.list_back) (refl, refl)
 
-  pub show_missing : (c : ℕ) → at cs c ≡ None → Step w (Show c) (refused NoSuchCollection) w
-  show_missing c e = step_refused w (Show c) NoSuchCollection (rw (collection_not objects ts cs c e) refl)
-
-  module _ {room : ℕ} (whole : IsWhole objects room ts cs) where
-    pub field_done : (n : ℕ) (kind : Kind) (t : Entries) → n ≡ length ts → ((q : Place) → entry_at t q ≡ unlinked)
-        → Step w (AddField kind) (field n) (family_of objects (ts ++ t ∷ []) cs)
-    field_done n kind t e none = (rw length-map e, field_family objects ts cs t whole none)
-
-    pub place_done : (new : Objects V) (us : List Entries) (p : Place) (v : V) → Places objects new p v → Grown ts us → length us ≡ length ts
-        → Step w (PlaceValue v) (object p) (family_of new us cs)
-    place_done new us p v places grown count = (
-      places.vacant,
-      placed_family objects new us cs p v places
-          ∙ ap (λ (x : Family V). let r : Family V = record x { objects = map_of.insert x.objects (index_of p) v } in r) (grown_family objects ts us cs whole grown count),
-    )
+-- an object that the call names is not placed, and the collection is as it was read
+pub step_unplaced : {A V K : Type 0} (cmp : K → K → Ordering) (key_of : A → V → K) (adapter : A) (objects : Objects V) (ts : List (Table Entry)) (cs : List (Option (Collection A V K))) (c : ℕ) (k : Collection A V K)
+    {o : Option (Collection A V K)} (call : Call K) {old : Family A V} → family_of adapter objects ts cs ≡ old
+    → at cs c ≡ Some k → o ≡ get_or cs c o → o ≡ Some k → list_all (place_is_placed objects) (names call) ≡ false
+    → StepOn cmp key_of old c call (refused NoSuchObject) (family_of adapter objects ts (set cs c (Some k)))
+step_unplaced cmp key_of adapter objects us cs c k {o} call {old} view is read there lacks =
+    let back = set_back cs c (Some k) (rw there at read) in
+    let e : refusal_on (family_of adapter objects us cs) c call ≡ Some NoSuchObject =
+    ap (λ o. asks_collection o (λ s. asks (list_all (is_placed (family_of adapter objects us cs)) (names call)) NoSuchObject (refusal_of call (state_in (family_of adapter objects us cs) s)))) (collection_is adapter objects us cs c k is)
+    ∙ ap (λ b. asks b NoSuchObject (refusal_of call (state_in (family_of adapter objects us cs) (seen_as k (sequence us k))))) lacks in
+    rw (← view, e, back) (refl, refl)

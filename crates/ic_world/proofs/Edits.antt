@@ -1,26 +1,26 @@
 -- One table and one collection change: all other collections keep their sequences, and the family is the edited one.
-use Rattle.std.proofs.Common.{◌≡◌, ◌≢◌, ℕ, zero, suc, ◌<◌, ◌⊎◌, inl, inr, true, List, [], ◌∷◌, length, map, get_or, set, Option, Some, None, refl, sym, ap, ◌∙◌, subst, arith}
+use Rattle.std.proofs.Common.{◌≡◌, ◌≢◌, ℕ, zero, suc, ◌<◌, ◌⊎◌, inl, inr, true, false, List, [], ◌∷◌, length, map, get_or, set, Option, Some, None, refl, sym, ap, ◌∙◌, subst, arith}
 use Rattle.std.proofs.lemmas.Bool.{cases_eq}
-use Rattle.std.proofs.lemmas.List.{get_or-set_same, get_or-set_other, get_or_past, length-set, map-set}
+use Rattle.std.proofs.lemmas.List.{get_or-set_same, get_or-set_other, get_or_past, length-set, map-set, get_or-map, set-get_or}
 use Rattle.ic_unsafe_ref.specs.declared.place.Place.{Place}
 use Rattle.ic_unsafe_ref.specs.Places.{index_of}
 use Rattle.ic_unsafe_ref.specs.Objects.{Objects}
 use Rattle.ic_link_ops.specs.Sequences.{IsAbsent, IsDisjoint}
-use Rattle.ic_link_ops.specs.Chains.{Ends}
-use Rattle.ic_link_ops.specs.DoublyEntries.{is_linked, entry_at, table_of}
-use Rattle.ic_link_ops.specs.DoublyEntries.{linked_in_range}
-use Rattle.ic_link_ops.specs.Tables.{Extent, KeepsBeside}
+use Rattle.ic_link_ops.specs.Tables.{Table, KeepsBeside}
 use Rattle.ic_link_ops.proofs.SequenceLemmas.{absent_swap, disjoint_sym}
-use Rattle.ic_link_ops.proofs.ShownLists.{shows_frame}
-use Rattle.ic_link_ops.proofs.DoublyLists.{members_shown}
+use Rattle.ic_fields.specs.declared.entry.Entry.{Entry}
+use Rattle.ic_fields.specs.Entries.{is_linked, kind_of}
+use Rattle.ic_fields.specs.Kinds.{kind_with}
 use Rattle.ic_world.specs.declared.collection.Collection.{Collection}
-use Rattle.ic_world.specs.Family.{Sequence}
-use Rattle.ic_world.specs.Tables.{Entries, table, ShowsIn, linked_in, members_in, sequence, shown_as, at, family_of, IsWhole, HasObject}
-use Rattle.ic_world.specs.Step.{edited}
-
--- a table shows one sequence, which the walk gives
-pub one_sequence : (t : Entries) (list : Ends) (s : List Place) → ShowsIn t list s → members_in t list ≡ s
-one_sequence t list s shown = members_shown (table_of t) (λ q h. linked_in_range t (index_of q) h) list s shown
+use Rattle.ic_members.specs.declared.members.Members.{Members}
+use Rattle.ic_members.specs.Members.{Keeps, Alike, members_in}
+use Rattle.ic_world.specs.Family.{Sequence, LinkField}
+use Rattle.ic_members.proofs.AllKinds.{IsLawful}
+use Rattle.ic_world.specs.LinkedSets.{linked_in}
+use Rattle.ic_world.specs.Tables.{table, no_table, field_in, sequence, seen_as, shown_as, at, family_of, IsWhole, HasObject}
+use Rattle.ic_world.specs.Step.{with_linked, with_collection, field_of}
+use Rattle.ic_members.proofs.AllKinds.{one_sequence, keeps_frame}
+use Rattle.ic_world.proofs.Linked.{side}
 
 -- a map over two lists that differ at one index
 pub set_map_same : {A B : Type 0} (f g : A → B) (xs : List A) (c : ℕ) (y : B) (d : A)
@@ -35,130 +35,172 @@ set_map_same f g (x ∷ xs) (suc c) y d same =
     λ i. same zero (λ e. omega (arith, e)) (omega arith) i ∷ set_map_same f g xs c y d (λ j n h. same (suc j) (λ e. n (omega (arith, e))) (omega (arith, h))) i
 
 -- the table of another field, and of this one
-table_other : (ts : List Entries) (f g : ℕ) (t : Entries) → g ≢ f → table (set ts f t) g ≡ table ts g
-table_other ts f g t d = get_or-set_other ts f g t [] d
+table_other : (ts : List (Table Entry)) (f g : ℕ) (t : Table Entry) → g ≢ f → table (set ts f t) g ≡ table ts g
+table_other ts f g t d = get_or-set_other ts f g t no_table d
 
-table_here : (ts : List Entries) (f : ℕ) (t : Entries) → f < length ts → table (set ts f t) f ≡ t
-table_here ts f t h = get_or-set_same ts f t [] h
+table_here : (ts : List (Table Entry)) (f : ℕ) (t : Table Entry) → f < length ts → table (set ts f t) f ≡ t
+table_here ts f t h = get_or-set_same ts f t no_table h
 
-module _ {V : Type 0} where
-  -- what an edit of collection c, of its field's table and of no other leaves: only entries of `touched` change
-  pub record Edit (ts : List Entries) (cs : List (Option (Collection V))) (c : ℕ) (k : Collection V) (t : Entries) (ends : Ends) (members touched : List Place) : Type 0 where
+module _ {A V K : Type 0} where
+  -- in each table of a world only covered places are linked
+  pub lawful : {adapter : A} {objects : Objects V} {room : ℕ} {ts : List (Table Entry)} {cs : List (Option (Collection A V K))} → IsWhole adapter objects room ts cs → (f : ℕ) → IsLawful (table ts f)
+  lawful {objects} {room} {ts} {cs} whole f q h =
+      elim (side (length ts) f) [
+        | inl past ↦ absurd (let no : is_linked ((table ts f).entry q) ≡ false = ap (λ (t : Table Entry). is_linked (t.entry q)) (get_or_past ts f no_table past) in cc)
+        | inr within ↦
+            let a = whole.within (index_of q) (whole.placed f q h) in
+            let b = whole.covered f within in
+            omega (arith, a, b)
+      ]
+
+  -- what an edit of collection c, of its field's table and of no other leaves: only entries of `touched` change, and only objects are linked
+  pub record Edit (adapter : A) (objects : Objects V) (ts : List (Table Entry)) (cs : List (Option (Collection A V K))) (c : ℕ) (k : Collection A V K) (t : Table Entry) (m : Members A V K) (members touched : List Place) : Type 0 where
     pub was : at cs c ≡ Some k
-    pub shown : ShowsIn t ends members
-    pub frame : KeepsBeside (table_of (table ts k.field)) (table_of t) touched
+    pub kept : Keeps t m members
+    pub alike : Alike k.members m
+    pub frame : KeepsBeside (table ts k.field) t touched
+    pub placed : (q : Place) → is_linked (t.entry q) ≡ true → HasObject objects (index_of q)
     pub within : (q : Place) → IsAbsent q touched → IsAbsent q members
-    pub beside : (d : ℕ) (l : Collection V) → d ≢ c → at cs d ≡ Some l → l.field ≡ k.field → IsDisjoint (sequence ts l) touched
+    pub beside : (d : ℕ) (l : Collection A V K) → d ≢ c → at cs d ≡ Some l → l.field ≡ k.field → IsDisjoint (sequence ts l) touched
 
-  module _ (objects : Objects V) (room : ℕ) (ts : List Entries) (cs : List (Option (Collection V))) (whole : IsWhole objects room ts cs) where
-    -- each collection is shown after an edit of another one
-    kept : {c : ℕ} {k : Collection V} {t : Entries} {ends : Ends} {members touched : List Place} → Edit ts cs c k t ends members touched
-        → (d : ℕ) (l : Collection V) → d ≢ c → at cs d ≡ Some l → ShowsIn (table (set ts k.field t) l.field) l.list (sequence ts l)
-    kept {c} {k} {t} {ends} {members} {touched} e d l n is =
+  -- the collection after it
+  abbrev pub after : Collection A V K → Members A V K → Collection A V K
+  after k m = record { field = k.field; members = m }
+
+  module _ {adapter : A} {objects : Objects V} {room : ℕ} {ts : List (Table Entry)} {cs : List (Option (Collection A V K))} (whole : IsWhole adapter objects room ts cs)
+      {c : ℕ} {k : Collection A V K} {t : Table Entry} {m : Members A V K} {members touched : List Place} (e : Edit adapter objects ts cs c k t m members touched) where
+    pub in_ts : k.field < length ts
+    in_ts = whole.in_field c k e.was
+
+    pub here : table (set ts k.field t) k.field ≡ t
+    here = table_here ts k.field t in_ts
+
+    pub edited_lawful : IsLawful t
+    edited_lawful q h =
+        let a = whole.within (index_of q) (e.placed q h) in
+        let b = whole.covered k.field in_ts in
+        let same = ap (λ x. x.places) e.frame.extent in
+        omega (arith, a, b, same)
+
+    -- the table of any field after the edit
+    lawful_after : (f : ℕ) → IsLawful (table (set ts k.field t) f)
+    lawful_after f =
+        elim (cases_eq f k.field) [
+          | inl same ↦ rw (same, here) edited_lawful
+          | inr other ↦ rw (table_other ts k.field f t other) (lawful whole f)
+        ]
+
+    -- each collection is kept after an edit of another one
+    kept_beside : (d : ℕ) (l : Collection A V K) → d ≢ c → at cs d ≡ Some l → Keeps (table (set ts k.field t) l.field) l.members (sequence ts l)
+    kept_beside d l n is =
         elim (cases_eq l.field k.field) [
           | inl same ↦
-              let apart = e.beside d l n is same in
-              let shown = whole.shown d l is in
-              let here = table_here ts k.field t (whole.in_field c k e.was) in
-              let shown_here = let P : ℕ → Type 0 = λ f. ShowsIn (table ts f) l.list (sequence ts l) in subst P same shown in
-              let moved : ShowsIn t l.list (sequence ts l) = shows_frame touched shown_here apart e.frame.others in
-              let P : ℕ → Type 0 = λ f. ShowsIn (table (set ts k.field t) f) l.list (sequence ts l) in
-              let Q : Entries → Type 0 = λ u. ShowsIn u l.list (sequence ts l) in
+              let was_here = let P : ℕ → Type 0 = λ f. Keeps (table ts f) l.members (sequence ts l) in subst P same (whole.held d l is) in
+              let moved : Keeps t l.members (sequence ts l) = keeps_frame l.members (sequence ts l) touched was_here (e.beside d l n is same) e.frame in
+              let P : ℕ → Type 0 = λ f. Keeps (table (set ts k.field t) f) l.members (sequence ts l) in
+              let Q : Table Entry → Type 0 = λ u. Keeps u l.members (sequence ts l) in
               subst P (sym same) (subst Q (sym here) moved)
           | inr other ↦
-              let Q : Entries → Type 0 = λ u. ShowsIn u l.list (sequence ts l) in
-              subst Q (sym (table_other ts k.field l.field t other)) (whole.shown d l is)
+              let Q : Table Entry → Type 0 = λ u. Keeps u l.members (sequence ts l) in
+              subst Q (sym (table_other ts k.field l.field t other)) (whole.held d l is)
         ]
 
     -- so its sequence is the same
-    pub same_sequence : {c : ℕ} {k : Collection V} {t : Entries} {ends : Ends} {members touched : List Place} → Edit ts cs c k t ends members touched
-        → (d : ℕ) (l : Collection V) → d ≢ c → at cs d ≡ Some l → sequence (set ts k.field t) l ≡ sequence ts l
-    same_sequence {c} {k} {t} e d l n is = one_sequence (table (set ts k.field t) l.field) l.list (sequence ts l) (kept e d l n is)
-
-    abbrev after : Collection V → Ends → Collection V
-    after k ends = record { field = k.field; list = ends }
+    pub same_sequence : (d : ℕ) (l : Collection A V K) → d ≢ c → at cs d ≡ Some l → sequence (set ts k.field t) l ≡ sequence ts l
+    same_sequence d l n is = one_sequence (table (set ts k.field t) l.field) (lawful_after l.field) l.members (sequence ts l) (kept_beside d l n is).shown
 
     -- the edited one shows its new members
-    pub new_sequence : {c : ℕ} {k : Collection V} {t : Entries} {ends : Ends} {members touched : List Place} → Edit ts cs c k t ends members touched
-        → sequence (set ts k.field t) (after k ends) ≡ members
-    new_sequence {c} {k} {t} {ends} {members} e =
-        ap (λ u. members_in u ends) (table_here ts k.field t (whole.in_field c k e.was)) ∙ one_sequence t ends members e.shown
+    pub new_sequence : sequence (set ts k.field t) (after k m) ≡ members
+    new_sequence = ap (λ u. members_in u m) here ∙ one_sequence t edited_lawful m members e.kept.shown
 
-    within_cs : {c : ℕ} {k : Collection V} → at cs c ≡ Some k → c < length cs
-    within_cs {c} {k} is = grind (arith, get_or_past)
+    within_cs : c < length cs
+    within_cs = let is = e.was in grind (arith, get_or_past)
 
-    -- THE FAMILY after an edit
-    pub edited_family : {c : ℕ} {k : Collection V} {t : Entries} {ends : Ends} {members touched : List Place} → Edit ts cs c k t ends members touched
-        → (linked : _) → linked_in t ≡ linked
-        → family_of objects (set ts k.field t) (set cs c (Some (after k ends)))
-        ≡ edited (family_of objects ts cs) c (record { field = k.field; members = sequence ts k }) members linked
-    edited_family {c} {k} {t} {ends} {members} {touched} e linked is =
-        let fields = map-set linked_in ts k.field t ∙ ap (set (map linked_in ts) k.field) is in
+    alike : (i : ℕ) → i ≢ c → (o : Option (Collection A V K)) → at cs i ≡ o → shown_as (set ts k.field t) o ≡ shown_as ts o
+    alike i n None is = refl
+    alike i n (Some l) is = ap (λ (s : List Place). let r : Option Sequence = Some (seen_as l s) in r) (same_sequence i l n is)
+
+    collections_after : map (shown_as (set ts k.field t)) (set cs c (Some (after k m))) ≡ set (map (shown_as ts) cs) c (Some (seen_as (after k m) members))
+    collections_after =
         let old_seen = shown_as ts in
         let new_seen = shown_as (set ts k.field t) in
-        let new_one : Option Sequence = Some (record { field = k.field; members = members }) in
-        let others = set_map_same old_seen new_seen cs c new_one None (λ i n h. alike e i n (at cs i) refl) in
-        let here : new_seen (Some (after k ends)) ≡ new_one =
-        ap (λ (s : List Place). let r : Option Sequence = Some (record { field = k.field; members = s }) in r) (new_sequence e) in
-        let collections = map-set new_seen cs c (Some (after k ends)) ∙ ap (set (map new_seen cs) c) here ∙ others in
-        λ i. record { objects = (family_of objects ts cs).objects; fields = fields i; collections = collections i }
-      where
-        alike : {c : ℕ} {k : Collection V} {t : Entries} {ends : Ends} {members touched : List Place} → Edit ts cs c k t ends members touched
-            → (i : ℕ) → i ≢ c → (o : Option (Collection V)) → at cs i ≡ o → shown_as (set ts k.field t) o ≡ shown_as ts o
-        alike e i n None is = refl
-        alike e i n (Some l) is = ap (λ (s : List Place). let r : Option Sequence = Some (record { field = l.field; members = s }) in r) (same_sequence e i l n is)
+        let new_one : Option Sequence = Some (seen_as (after k m) members) in
+        let others = set_map_same old_seen new_seen cs c new_one None (λ i n h. alike i n (at cs i) refl) in
+        let this : new_seen (Some (after k m)) ≡ new_one = ap (λ (s : List Place). let r : Option Sequence = Some (seen_as (after k m) s) in r) new_sequence in
+        map-set new_seen cs c (Some (after k m)) ∙ ap (set (map new_seen cs) c) this ∙ others
+
+    -- the field keeps its kind
+    field_after : (linked : _) → linked_in t ≡ linked → field_in t ≡ record { kind = (field_of (family_of adapter objects ts cs) k.field).kind; linked = linked }
+    field_after linked is =
+        let at_f : field_of (family_of adapter objects ts cs) k.field ≡ field_in (table ts k.field) = get_or-map field_in ts k.field no_table _ in_ts in
+        let kinds : kind_of t ≡ (field_of (family_of adapter objects ts cs) k.field).kind = ap (λ x. kind_with x.identity) e.frame.extent ∙ ap (λ (x : LinkField). x.kind) (sym at_f) in
+        λ i. record { kind = kinds i; linked = is i }
+
+    -- THE FAMILY after an edit
+    pub edited_family : (linked : _) → linked_in t ≡ linked
+        → family_of adapter objects (set ts k.field t) (set cs c (Some (after k m))) ≡ with_linked (with_collection (family_of adapter objects ts cs) c (Some (seen_as (after k m) members))) k.field linked
+    edited_family linked is =
+        let fields = map-set field_in ts k.field t ∙ ap (set (map field_in ts) k.field) (field_after linked is) in
+        λ i. record { adapter = adapter; objects = (family_of adapter objects ts cs).objects; fields = fields i; collections = collections_after i }
+
+    -- the same where as many places are linked as before: the collection alone is another
+    pub unlinked_family : linked_in t ≡ linked_in (table ts k.field)
+        → family_of adapter objects (set ts k.field t) (set cs c (Some (after k m))) ≡ with_collection (family_of adapter objects ts cs) c (Some (seen_as (after k m) members))
+    unlinked_family is =
+        let kinds : kind_of t ≡ kind_of (table ts k.field) = ap (λ x. kind_with x.identity) e.frame.extent in
+        let one : field_in t ≡ field_in (table ts k.field) = λ i. record { kind = kinds i; linked = is i } in
+        let fields = map-set field_in ts k.field t ∙ ap (set (map field_in ts) k.field) one ∙ sym (map-set field_in ts k.field (table ts k.field)) ∙ ap (map field_in) (set-get_or ts k.field no_table) in
+        λ i. record { adapter = adapter; objects = (family_of adapter objects ts cs).objects; fields = fields i; collections = collections_after i }
 
     -- what stands at a number after an edit
-    at_after : {c : ℕ} {k : Collection V} {ends : Ends} → at cs c ≡ Some k → (d : ℕ) (l : Collection V) → at (set cs c (Some (after k ends))) d ≡ Some l
-        → ((d ≡ c) × (l ≡ after k ends)) ⊎ ((d ≢ c) × (at cs d ≡ Some l))
-    at_after {c} {k} {ends} was d l is =
+    pub at_after : (d : ℕ) (l : Collection A V K) → at (set cs c (Some (after k m))) d ≡ Some l → ((d ≡ c) × (l ≡ after k m)) ⊎ ((d ≢ c) × (at cs d ≡ Some l))
+    at_after d l is =
         elim (cases_eq d c) [
           | inl same ↦
-              let here = get_or-set_same cs c (Some (after k ends)) None (within_cs was) in
-              let both : Some l ≡ Some (after k ends) = sym is ∙ ap (at (set cs c (Some (after k ends)))) same ∙ here in
+              let this = get_or-set_same cs c (Some (after k m)) None within_cs in
+              let both : Some l ≡ Some (after k m) = sym is ∙ ap (at (set cs c (Some (after k m)))) same ∙ this in
               inl (same, cc)
-          | inr other ↦ inr (other, sym (get_or-set_other cs c d (Some (after k ends)) None other) ∙ is)
+          | inr other ↦ inr (other, sym (get_or-set_other cs c d (Some (after k m)) None other) ∙ is)
         ]
 
-    -- THE INVARIANT after an edit that links only placed places
-    pub edited_whole : {c : ℕ} {k : Collection V} {t : Entries} {ends : Ends} {members touched : List Place} → Edit ts cs c k t ends members touched
-        → ((q : Place) → is_linked (entry_at t q) ≡ true → HasObject objects (index_of q))
-        → IsWhole objects room (set ts k.field t) (set cs c (Some (after k ends)))
-    edited_whole {c} {k} {t} {ends} {members} {touched} e placed = record {
+    -- THE INVARIANT after an edit
+    pub edited_whole : IsWhole adapter objects room (set ts k.field t) (set cs c (Some (after k m)))
+    edited_whole = record {
       within = whole.within;
       covered = λ f within.
           elim (cases_eq f k.field) [
-            | inl same ↦ rw (same, table_here ts k.field t (in_ts e), ap (λ (x : Extent). x.places) e.frame.extent) (whole.covered k.field (in_ts e))
+            | inl same ↦ rw (same, here, e.frame.extent) (whole.covered k.field in_ts)
             | inr other ↦ rw (table_other ts k.field f t other) (whole.covered f (rw length-set at within))
           ];
       placed = λ f q h.
           elim (cases_eq f k.field) [
-            | inl same ↦ placed q (rw (same, table_here ts k.field t (in_ts e)) at h)
+            | inl same ↦ e.placed q (rw (same, here) at h)
             | inr other ↦ whole.placed f q (rw (table_other ts k.field f t other) at h)
           ];
-      in_field = λ d l is. rw length-set (elim (at_after e.was d l is) [
-        | inl same ↦ rw same.1 (in_ts e)
+      in_field = λ d l is. rw length-set (elim (at_after d l is) [
+        | inl same ↦ rw same.1 in_ts
         | inr other ↦ whole.in_field d l other.1
       ]);
-      shown = λ d l is. elim (at_after e.was d l is) [
-        | inl same ↦ rw (same.1) (rw (new_sequence e) (rw (table_here ts k.field t (in_ts e)) e.shown))
-        | inr other ↦ rw (same_sequence e d l other.0 other.1) (kept e d l other.0 other.1)
+      held = λ d l is. elim (at_after d l is) [
+        | inl same ↦ rw (same.1) (rw new_sequence (rw here e.kept))
+        | inr other ↦ rw (same_sequence d l other.0 other.1) (kept_beside d l other.0 other.1)
       ];
-      apart = λ a b x y n is_x is_y same_field. elim (at_after e.was a x is_x) [
-        | inl a_c ↦ elim (at_after e.was b y is_y) [
+      adapted = λ d l is. elim (at_after d l is) [
+        | inl same ↦ rw (same.1, e.alike.adapter, e.alike.kind) (whole.adapted c k e.was)
+        | inr other ↦ whole.adapted d l other.1
+      ];
+      apart = λ a b x y n is_x is_y same_field. elim (at_after a x is_x) [
+        | inl a_c ↦ elim (at_after b y is_y) [
           | inl b_c ↦ absurd (n (a_c.0 ∙ sym b_c.0))
           | inr b_d ↦
               let field : y.field ≡ k.field = sym same_field ∙ ap (λ z. z.field) a_c.1 in
-              rw (a_c.1, new_sequence e, same_sequence e b y b_d.0 b_d.1) (disjoint_sym _ _ (absent_swap _ touched (e.beside b y b_d.0 b_d.1 field) members e.within))
+              rw (a_c.1, new_sequence, same_sequence b y b_d.0 b_d.1) (disjoint_sym _ _ (absent_swap _ touched (e.beside b y b_d.0 b_d.1 field) members e.within))
         ]
-        | inr a_d ↦ elim (at_after e.was b y is_y) [
+        | inr a_d ↦ elim (at_after b y is_y) [
           | inl b_c ↦
               let field : x.field ≡ k.field = same_field ∙ ap (λ z. z.field) b_c.1 in
-              rw (b_c.1, new_sequence e, same_sequence e a x a_d.0 a_d.1) (absent_swap _ touched (e.beside a x a_d.0 a_d.1 field) members e.within)
-          | inr b_d ↦ rw (same_sequence e a x a_d.0 a_d.1, same_sequence e b y b_d.0 b_d.1) (whole.apart a b x y n a_d.1 b_d.1 same_field)
+              rw (b_c.1, new_sequence, same_sequence a x a_d.0 a_d.1) (absent_swap _ touched (e.beside a x a_d.0 a_d.1 field) members e.within)
+          | inr b_d ↦ rw (same_sequence a x a_d.0 a_d.1, same_sequence b y b_d.0 b_d.1) (whole.apart a b x y n a_d.1 b_d.1 same_field)
         ]
       ];
     }
-      where
-        in_ts : {c : ℕ} {k : Collection V} {t : Entries} {ends : Ends} {members touched : List Place} → Edit ts cs c k t ends members touched → k.field < length ts
-        in_ts {c} {k} e = whole.in_field c k e.was

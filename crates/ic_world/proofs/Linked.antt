@@ -1,21 +1,36 @@
 -- The linked set of a table, as its entries change.
-use Rattle.std.proofs.Common.{◌≡◌, ◌≢◌, ℕ, zero, suc, ◌<◌, ◌≤◌, ◌⊎◌, inl, inr, Bool, true, false, cond, not, ◌&&◌, ◌||◌, nat_eq, min, [], ◌∷◌, length, get_or, refl, sym, ap, ◌∙◌, subst, arith, eq-eqb, ne_eqb}
+use Rattle.std.proofs.Common.{◌≡◌, ◌≢◌, ℕ, zero, suc, ◌<◌, ◌+◌, ◌*◌, Option, Some, None, ◌≤◌, ◌⊎◌, inl, inr, Bool, true, false, cond, not, ◌&&◌, ◌||◌, nat_eq, List, [], ◌∷◌, refl, sym, ap, ◌∙◌, subst, arith, eq-eqb, ne_eqb}
 use Rattle.std.specs.List.{list_any}
 use Rattle.std.specs.Ordering.{nat_cmp}
 use Rattle.std.specs.Cmp.{nat_cmp_total, unsigned_tied}
 use Rattle.std.specs.FinSet as set
 use Rattle.std.specs.FinSet.{contains-from_list_nat, contains-insert, contains-remove, same_set, nat_cmp-IsAntisymmetric}
 use Rattle.std.proofs.lemmas.Bool.{cases_eq}
-use Rattle.std.proofs.lemmas.List.{get_or_past}
 use Rattle.ic_unsafe_ref.specs.declared.place.Place.{Place}
 use Rattle.ic_unsafe_ref.specs.Places.{index_of}
-use Rattle.ic_unsafe_ref.proofs.PlaceLemmas.{index_small, place_with, same_index}
-use Rattle.ic_link_ops.specs.DoublyEntries.{unlinked, is_linked, entry_at}
-use Rattle.ic_world.specs.Tables.{Entries, linked_below, linked_in}
+use Rattle.ic_unsafe_ref.proofs.PlaceLemmas.{index_small, place_with, same_index, place_at_word, index_at}
+use Rattle.ic_unsafe_ref.specs.Places.{place_at}
+use Rattle.ic_link_ops.specs.Sequences.{IsAbsent}
+use Rattle.ic_link_ops.specs.Tables.{Table, with_extent, IsCovered, LinksAlso, Unlinks}
+use Rattle.ic_fields.specs.declared.entry.Entry.{Entry}
+use Rattle.ic_fields.specs.Entries.{is_linked}
+use Rattle.ic_members.proofs.AllKinds.{IsLawful}
+use Rattle.ic_world.specs.State.{unlinked}
+use Rattle.ic_world.specs.LinkedSets.{linked_there, linked_index, linked_below, linked_in}
+use Rattle.ic_world.specs.Tables.{no_table}
 
--- whether the entry at an index is linked
-abbrev linked_index : Entries → ℕ → Bool
-linked_index es i = is_linked (get_or es i unlinked)
+-- an index is that of a place, or past all places
+linked_index_is : (t : Table Entry) (p : Place) → linked_index t (index_of p) ≡ is_linked (t.entry p)
+linked_index_is t p = ap (linked_there t) (place_at_word (Some p))
+
+linked_index_past : (t : Table Entry) (i : ℕ) → 8589934591 ≤ i → (o : Option Place) → place_at (2 * (i + 1)) ≡ o → linked_there t o ≡ false
+linked_index_past t i h None e = refl
+linked_index_past t i h (Some p) e = absurd (omega (arith, h, index_at i p e, index_small p))
+
+-- a place that is not covered is unlinked
+unlinked_past : (t : Table Entry) → IsLawful t → (p : Place) → t.extent.places ≤ index_of p → (b : Bool) → is_linked (t.entry p) ≡ b → is_linked (t.entry p) ≡ false
+unlinked_past t law p h true e = absurd (omega (arith, h, law p e))
+unlinked_past t law p h false e = e
 
 pub side : (m n : ℕ) → (m ≤ n) ⊎ (n < m)
 side zero n = inl (omega arith)
@@ -23,7 +38,7 @@ side (suc m) zero = inr (omega arith)
 side (suc m) (suc n) = elim (side m n) [ inl h ↦ inl (omega (arith, h)) | inr h ↦ inr (omega (arith, h)) ]
 
 -- the list has exactly the linked indexes below n
-above : (t : Entries) (n i : ℕ) → n ≤ i → list_any (λ y. nat_eq y i) (linked_below t n) ≡ false
+above : (t : Table Entry) (n i : ℕ) → n ≤ i → list_any (λ y. nat_eq y i) (linked_below t n) ≡ false
 above t zero i h = refl
 above t (suc n) i h =
     elim (linked_index t n) as (λ b. list_any (λ y. nat_eq y i) (cond b (n ∷ linked_below t n) (linked_below t n)) ≡ false) [
@@ -31,7 +46,7 @@ above t (suc n) i h =
       | false ↦ above t n i (omega (arith, h))
     ]
 
-below : (t : Entries) (n i : ℕ) → i < n → list_any (λ y. nat_eq y i) (linked_below t n) ≡ linked_index t i
+below : (t : Table Entry) (n i : ℕ) → i < n → list_any (λ y. nat_eq y i) (linked_below t n) ≡ linked_index t i
 below t zero i h = absurd (omega (arith, h))
 below t (suc n) i h =
     elim (cases_eq n i) [
@@ -52,74 +67,138 @@ below t (suc n) i h =
     ]
 
 -- a place is in the linked set exactly if its entry is linked
-pub in_linked : (t : Entries) (p : Place) → set.contains (linked_in t) (index_of p) ≡ is_linked (entry_at t p)
+pub in_linked : (t : Table Entry) → IsLawful t → (p : Place) → set.contains (linked_in t) (index_of p) ≡ is_linked (t.entry p)
 unfolding linked_in
-in_linked t p =
-    let n = min (length t) 8589934591 in
+in_linked t law p =
+    let n = t.extent.places in
     contains-from_list_nat (linked_below t n) (index_of p)
     ∙ elim (side n (index_of p)) [
-      | inl h ↦
-          let past : length t ≤ index_of p = omega (arith, h, index_small p) in
-          above t n (index_of p) h ∙ sym (ap is_linked (get_or_past t (index_of p) unlinked past))
-      | inr h ↦ below t n (index_of p) h
+      | inl h ↦ above t n (index_of p) h ∙ sym (unlinked_past t law p h (is_linked (t.entry p)) refl)
+      | inr h ↦ below t n (index_of p) h ∙ linked_index_is t p
     ]
 
 -- and no other index is in it
-beyond : (t : Entries) (i : ℕ) → 8589934591 ≤ i → set.contains (linked_in t) i ≡ false
+beyond : (t : Table Entry) (i : ℕ) → 8589934591 ≤ i → set.contains (linked_in t) i ≡ false
 unfolding linked_in
 beyond t i h =
-    let n = min (length t) 8589934591 in
-    contains-from_list_nat (linked_below t n) i ∙ above t n i (omega (arith, h))
+    let n = t.extent.places in
+    contains-from_list_nat (linked_below t n) i
+    ∙ elim (side n i) [
+      | inl k ↦ above t n i k
+      | inr k ↦ below t n i k ∙ linked_index_past t i h (place_at (2 * (i + 1))) refl
+    ]
 
 -- a set is the linked set of t, if it has the linked places and no other index
-is_linked_set : (t : Entries) (s : set.FinSet nat_cmp) → ((p : Place) → set.contains s (index_of p) ≡ is_linked (entry_at t p))
+is_linked_set : (t : Table Entry) → IsLawful t → (s : set.FinSet nat_cmp) → ((p : Place) → set.contains s (index_of p) ≡ is_linked (t.entry p))
     → ((i : ℕ) → 8589934591 ≤ i → set.contains s i ≡ false) → linked_in t ≡ s
-is_linked_set t s within past =
+is_linked_set t law s within past =
     same_set nat_cmp_total nat_cmp-IsAntisymmetric _ _ (λ i.
     elim (side 8589934591 i) [
       | inl h ↦ beyond t i h ∙ sym (past i h)
       | inr h ↦
           let p = place_with i h in
           let P : ℕ → Type 0 = λ j. set.contains (linked_in t) j ≡ set.contains s j in
-          subst P p.1 (in_linked t p.0 ∙ sym (within p.0))
+          subst P p.1 (in_linked t law p.0 ∙ sym (within p.0))
     ])
 
-pub linked_empty : linked_in [] ≡ set.empty
+pub linked_empty : linked_in no_table ≡ set.empty
 unfolding linked_in
 linked_empty = refl
 
 -- the set is as the entries are linked
-pub linked_same : (old new : Entries) → ((q : Place) → is_linked (entry_at new q) ≡ is_linked (entry_at old q)) → linked_in new ≡ linked_in old
-linked_same old new same = is_linked_set new (linked_in old) (λ p. in_linked old p ∙ sym (same p)) (beyond old)
+pub linked_same : (old new : Table Entry) → IsLawful old → IsLawful new → ((q : Place) → is_linked (new.entry q) ≡ is_linked (old.entry q)) → linked_in new ≡ linked_in old
+linked_same old new law law' same = is_linked_set new law' (linked_in old) (λ p. in_linked old law p ∙ sym (same p)) (beyond old)
 
 -- p is linked now
-pub linked_gains : (old new : Entries) (p : Place) → is_linked (entry_at new p) ≡ true
-    → ((q : Place) → q ≢ p → is_linked (entry_at new q) ≡ is_linked (entry_at old q)) → linked_in new ≡ set.insert (linked_in old) (index_of p)
-linked_gains old new p now same =
-    is_linked_set new (set.insert (linked_in old) (index_of p))
+pub linked_gains : (old new : Table Entry) → IsLawful old → IsLawful new → (p : Place) → is_linked (new.entry p) ≡ true
+    → ((q : Place) → q ≢ p → is_linked (new.entry q) ≡ is_linked (old.entry q)) → linked_in new ≡ set.insert (linked_in old) (index_of p)
+linked_gains old new law law' p now same =
+    is_linked_set new law' (set.insert (linked_in old) (index_of p))
     (λ q. contains-insert nat_cmp_total (linked_in old) (index_of p) (index_of q)
     ∙ elim (cases_eq (index_of q) (index_of p)) [
       | inl e ↦ ap (λ b. b || set.contains (linked_in old) (index_of q)) (unsigned_tied (index_of q) (index_of p) ∙ eq-eqb _ _ e)
-          ∙ sym (ap (λ r. is_linked (entry_at new r)) (same_index q p e) ∙ now)
+          ∙ sym (ap (λ r. is_linked (new.entry r)) (same_index q p e) ∙ now)
       | inr d ↦ ap (λ b. b || set.contains (linked_in old) (index_of q)) (unsigned_tied (index_of q) (index_of p) ∙ ne_eqb _ _ d)
-          ∙ in_linked old q ∙ sym (same q (λ e. d (ap index_of e)))
+          ∙ in_linked old law q ∙ sym (same q (λ e. d (ap index_of e)))
     ])
     (λ i h. contains-insert nat_cmp_total (linked_in old) (index_of p) i
     ∙ ap (λ b. b || set.contains (linked_in old) i) (unsigned_tied i (index_of p) ∙ ne_eqb i (index_of p) (λ e. omega (arith, e, h, index_small p)))
     ∙ beyond old i h)
 
 -- p is linked no more
-pub linked_loses : (old new : Entries) (p : Place) → is_linked (entry_at new p) ≡ false
-    → ((q : Place) → q ≢ p → is_linked (entry_at new q) ≡ is_linked (entry_at old q)) → linked_in new ≡ set.remove (linked_in old) (index_of p)
-linked_loses old new p now same =
-    is_linked_set new (set.remove (linked_in old) (index_of p))
+pub linked_loses : (old new : Table Entry) → IsLawful old → IsLawful new → (p : Place) → is_linked (new.entry p) ≡ false
+    → ((q : Place) → q ≢ p → is_linked (new.entry q) ≡ is_linked (old.entry q)) → linked_in new ≡ set.remove (linked_in old) (index_of p)
+linked_loses old new law law' p now same =
+    is_linked_set new law' (set.remove (linked_in old) (index_of p))
     (λ q. contains-remove nat_cmp_total (linked_in old) (index_of p) (index_of q)
     ∙ elim (cases_eq (index_of q) (index_of p)) [
       | inl e ↦ ap (λ b. not b && set.contains (linked_in old) (index_of q)) (unsigned_tied (index_of q) (index_of p) ∙ eq-eqb _ _ e)
-          ∙ sym (ap (λ r. is_linked (entry_at new r)) (same_index q p e) ∙ now)
+          ∙ sym (ap (λ r. is_linked (new.entry r)) (same_index q p e) ∙ now)
       | inr d ↦ ap (λ b. not b && set.contains (linked_in old) (index_of q)) (unsigned_tied (index_of q) (index_of p) ∙ ne_eqb _ _ d)
-          ∙ in_linked old q ∙ sym (same q (λ e. d (ap index_of e)))
+          ∙ in_linked old law q ∙ sym (same q (λ e. d (ap index_of e)))
     ])
     (λ i h. contains-remove nat_cmp_total (linked_in old) (index_of p) i
     ∙ ap (λ b. not b && set.contains (linked_in old) i) (unsigned_tied i (index_of p) ∙ ne_eqb i (index_of p) (λ e. omega (arith, e, h, index_small p)))
     ∙ beyond old i h)
+
+-- a place is absent from some, or it is not
+pub absent_or : (s : List Place) (q : Place) → IsAbsent q s ⊎ (IsAbsent q s → ⊥)
+absent_or [] q = inl tt
+absent_or (x ∷ s) q =
+    elim (cases_eq (index_of q) (index_of x)) [
+      | inl e ↦ inr (λ out. out.0 (same_index q x e))
+      | inr d ↦ elim (absent_or s q) [
+        | inl out ↦ inl ((λ e. d (ap index_of e)), out)
+        | inr there ↦ inr (λ out. there out.1)
+      ]
+    ]
+
+-- some places are linked no more
+pub linked_unlinks : (old new : Table Entry) → IsLawful old → IsLawful new → (s : List Place) → ((q : Place) → (IsAbsent q s → ⊥) → is_linked (new.entry q) ≡ false)
+    → ((q : Place) → IsAbsent q s → is_linked (new.entry q) ≡ is_linked (old.entry q)) → linked_in new ≡ unlinked (linked_in old) s
+linked_unlinks old new law law' s now same =
+    is_linked_set new law' (unlinked (linked_in old) s)
+    (λ q. elim (absent_or s q) [
+      | inl out ↦ out_of s q out ∙ in_linked old law q ∙ sym (same q out)
+      | inr there ↦ gone s q there ∙ sym (now q there)
+    ])
+    (past s)
+  where
+    step : (s : List Place) (x : Place) (i : ℕ) → i ≢ index_of x → set.contains (unlinked (linked_in old) (x ∷ s)) i ≡ set.contains (unlinked (linked_in old) s) i
+    step s x i d =
+        contains-remove nat_cmp_total (unlinked (linked_in old) s) (index_of x) i
+        ∙ ap (λ b. not b && set.contains (unlinked (linked_in old) s) i) (unsigned_tied i (index_of x) ∙ ne_eqb _ _ d)
+
+    out_of : (s : List Place) (q : Place) → IsAbsent q s → set.contains (unlinked (linked_in old) s) (index_of q) ≡ set.contains (linked_in old) (index_of q)
+    out_of [] q out = refl
+    out_of (x ∷ s) q out = step s x (index_of q) (λ e. out.0 (same_index q x e)) ∙ out_of s q out.1
+
+    gone : (s : List Place) (q : Place) → (IsAbsent q s → ⊥) → set.contains (unlinked (linked_in old) s) (index_of q) ≡ false
+    gone [] q there = absurd (there tt)
+    gone (x ∷ s) q there =
+        elim (cases_eq (index_of q) (index_of x)) [
+          | inl e ↦ contains-remove nat_cmp_total (unlinked (linked_in old) s) (index_of x) (index_of q)
+              ∙ ap (λ b. not b && set.contains (unlinked (linked_in old) s) (index_of q)) (unsigned_tied (index_of q) (index_of x) ∙ eq-eqb _ _ e)
+          | inr d ↦ step s x (index_of q) d ∙ gone s q (λ out. there ((λ e. d (ap index_of e)), out))
+        ]
+
+    past : (s : List Place) (i : ℕ) → 8589934591 ≤ i → set.contains (unlinked (linked_in old) s) i ≡ false
+    past [] i h = beyond old i h
+    past (x ∷ s) i h = step s x i (λ e. omega (arith, e, h, index_small x)) ∙ past s i h
+
+-- the same for a place that is covered, whatever the table
+pub in_linked_covered : (t : Table Entry) (p : Place) → IsCovered t p → set.contains (linked_in t) (index_of p) ≡ is_linked (t.entry p)
+unfolding linked_in
+in_linked_covered t p covered = contains-from_list_nat (linked_below t t.extent.places) (index_of p) ∙ below t t.extent.places (index_of p) covered ∙ linked_index_is t p
+
+-- p is linked, and then `out` is linked no more
+pub linked_swaps : (old mid new : Table Entry) → IsLawful old → IsLawful new → (p out : Place) → IsCovered old p → LinksAlso is_linked old mid p → Unlinks is_linked mid new out
+    → linked_in new ≡ set.remove (set.insert (linked_in old) (index_of p)) (index_of out)
+linked_swaps old mid new law law' p out covered gains loses =
+    let between = with_extent old.extent mid in
+    let law_between : IsLawful between = λ q h. elim (cases_eq (index_of q) (index_of p)) [
+      | inl e ↦ omega (arith, e, covered)
+      | inr d ↦ law q (sym (gains.others q (λ e. d (ap index_of e))) ∙ h)
+    ] in
+    linked_loses between new law_between law' out loses.is loses.others
+    ∙ ap (λ s. set.remove s (index_of out)) (linked_gains old between law law_between p gains.is gains.others)

@@ -1,32 +1,58 @@
 -- What a world is, whatever tables keep it: objects, fields and collections.
-use Rattle.std.specs.Prelude.{ℕ, List, Option, refl}
+use Rattle.std.specs.Prelude.{◌≡◌, ℕ, List, [], ◌∷◌, Option, refl}
 use Rattle.std.specs.Ordering.{nat_cmp}
 use Rattle.std.specs.FinSet as set
 use Rattle.std.specs.FinMap as map
 use Rattle.std.specs.Coded.{Coded, code_by, coded×, coded_ℕ, coded_list, coded_option}
 use Rattle.ic_unsafe_ref.specs.declared.place.Place.{Place}
 use Rattle.ic_unsafe_ref.specs.Places.{place_code}
+use Rattle.ic_fields.specs.declared.kind.Kind.{Kind}
+use Rattle.ic_fields.specs.declared.kind.Kind.TheVariants.{Singly, Doubly, Xor, Tree}
+use Rattle.ic_fields.specs.Kinds.{number_of, kind_with}
 
--- a collection: the number of its field, and its members in order
+-- a field: the kind of its table, and its linked places by index
+pub record LinkField : Type 0 where
+  pub kind : Kind
+  pub linked : set.FinSet nat_cmp
+
+-- a collection: the number of its field, its kind, its members in order, and the member that its cursor is on
 pub record Sequence : Type 0 where
   pub field : ℕ
+  pub kind : Kind
   pub members : List Place
+  pub cursor : Option Place
 
--- the values by the index of their place, the linked places of each field by index, and the collections by number
-pub record Family (V : Type 0) : Type 0 where
+-- the adapter that finds keys, the values by the index of their place, the fields, and the collections by number
+pub record Family (A V : Type 0) : Type 0 where
+  pub adapter : A
   pub objects : map.FinMap nat_cmp V
-  pub fields : List (set.FinSet nat_cmp)
+  pub fields : List LinkField
   pub collections : List (Option Sequence)
 
+-- a kind is stored as its number
+pub kind_again : (k : Kind) → kind_with (number_of k ∷ []) ≡ k
+kind_again Singly = refl
+kind_again Doubly = refl
+kind_again Xor = refl
+kind_again Tree = refl
+
+abbrev pub kind_code : Coded Kind
+kind_code = code_by ℕ coded_ℕ number_of (λ n. kind_with (n ∷ [])) kind_again
+
+abbrev pub field_code : Coded LinkField
+field_code = code_by (Kind × set.FinSet nat_cmp) (coded× kind_code (set.code coded_ℕ)) (λ f. (f.kind, f.linked)) (λ p. record { kind = p.0; linked = p.1 }) (λ _. refl)
+
 abbrev pub sequence_code : Coded Sequence
-sequence_code = code_by (ℕ × List Place) (coded× coded_ℕ (coded_list place_code)) (λ s. (s.field, s.members)) (λ p. record { field = p.0; members = p.1 }) (λ _. refl)
+sequence_code =
+    code_by (ℕ × (Kind × (List Place × Option Place))) (coded× coded_ℕ (coded× kind_code (coded× (coded_list place_code) (coded_option place_code))))
+    (λ s. (s.field, (s.kind, (s.members, s.cursor)))) (λ p. record { field = p.0; kind = p.1.0; members = p.1.1.0; cursor = p.1.1.1 }) (λ _. refl)
 
 -- a family is stored as the tuple of its fields
-abbrev pub family_code : {V : Type 0} → Coded V → Coded (Family V)
-family_code {V} code =
+abbrev pub family_code : {A V : Type 0} → Coded A → Coded V → Coded (Family A V)
+family_code {A} {V} adapter value =
     code_by
-    (map.FinMap nat_cmp V × (List (set.FinSet nat_cmp) × List (Option Sequence)))
-    (coded× (map.code coded_ℕ code) (coded× (coded_list (set.code coded_ℕ)) (coded_list (coded_option sequence_code))))
-    (λ w. (w.objects, (w.fields, w.collections)))
-    (λ p. record { objects = p.0; fields = p.1.0; collections = p.1.1 })
+    (A × (map.FinMap nat_cmp V × (List LinkField × List (Option Sequence))))
+    (coded× adapter (coded× (map.code coded_ℕ value) (coded× (coded_list field_code) (coded_list (coded_option sequence_code)))))
+    (λ w. (w.adapter, (w.objects, (w.fields, w.collections))))
+    (λ p. record { adapter = p.0; objects = p.1.0; fields = p.1.1.0; collections = p.1.1.1 })
     (λ _. refl)

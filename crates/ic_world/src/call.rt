@@ -7,17 +7,12 @@
 ghost use Rattle.std.specs.Prelude.{◌≡◌};
 ghost use Rattle.ic_world.specs.Refusals.{number_of};
 
+use ic_fields::Kind;
+use ic_rbtree::Bound;
 use ic_unsafe_ref::Place;
 use std::alloc::{Allocator, Global};
 use std::fmt;
 use thiserror::Error;
-
-/// The kinds of tables and collections.
-#[derive(Clone, Copy, PartialEq, Eq, Debug)]
-pub enum Kind {
-    /// Doubly linked lists, in a table of doubly links.
-    Doubly,
-}
 
 /// Why a call was refused. A refused call changes nothing.
 ///
@@ -78,21 +73,93 @@ impl Refusal {
     }
 }
 
-/// A call of a world, with what it is given.
+/// A call of a world, with what it is given. Fields and collections are named by their numbers, objects by their places.
 #[derive(Clone, Copy, Debug)]
-pub enum Command<V> {
-    /// `add_field`
-    AddField(Kind),
-    /// `open`: a collection of that kind in the field of that number
-    Open(usize, Kind),
+pub enum Command<V, K> {
     /// `place`
     Place(V),
-    /// `push_back`: the object at that place into the collection of that number
+    /// `remove_object`
+    RemoveObject(Place),
+    /// `set_value`
+    SetValue(Place, V),
+    /// `add_field`
+    AddField(Kind),
+    /// `open`: a collection of that kind in a field
+    Open(usize, Kind),
+    /// `dispose`
+    Dispose(usize),
+    /// `clear`
+    Clear(usize),
+    /// `fast_clear`
+    FastClear(usize),
+    /// `take`
+    Take(usize),
+    /// `show`
+    Show(usize),
+    /// `show_back`
+    ShowBack(usize),
+    /// `push_front`
+    PushFront(usize, Place),
+    /// `push_back`
     PushBack(usize, Place),
     /// `pop_front`
     PopFront(usize),
-    /// `show`
-    Show(usize),
+    /// `pop_back`
+    PopBack(usize),
+    /// `move_next`
+    MoveNext(usize),
+    /// `move_prev`
+    MovePrev(usize),
+    /// `go_null`
+    GoNull(usize),
+    /// `current`
+    Current(usize),
+    /// `seek`
+    Seek(usize, Place),
+    /// `seek_with_prev`: with the member in front of it, none at the front
+    SeekWithPrev(usize, Place, Option<Place>),
+    /// `seek_with_next`: with the member behind it, none at the back
+    SeekWithNext(usize, Place, Option<Place>),
+    /// `insert_after`
+    InsertAfter(usize, Place),
+    /// `insert_before`
+    InsertBefore(usize, Place),
+    /// `remove`
+    Remove(usize),
+    /// `remove_next`
+    RemoveNext(usize),
+    /// `replace_with`
+    ReplaceWith(usize, Place),
+    /// `replace_next_with`
+    ReplaceNextWith(usize, Place),
+    /// `splice_after`: all of the second collection behind the cursor of the first
+    SpliceAfter(usize, usize),
+    /// `splice_before`: all of the second collection in front of the cursor of the first
+    SpliceBefore(usize, usize),
+    /// `split_after`
+    SplitAfter(usize),
+    /// `split_before`
+    SplitBefore(usize),
+    /// `reverse`
+    Reverse(usize),
+    /// `find`
+    Find(usize, K),
+    /// `lower_bound`
+    LowerBound(usize, Bound<K>),
+    /// `upper_bound`
+    UpperBound(usize, Bound<K>),
+    /// `range`
+    Range(usize, Bound<K>, Bound<K>),
+    /// `insert`
+    Insert(usize, Place),
+    /// `cursor_insert`
+    CursorInsert(usize, Place),
+    /// `entry`: with the object that goes in where no member has the key
+    Entry(usize, K, Place),
+    /// `is_linked`: in a field
+    IsLinked(usize, Place),
+    /// `force_unlink`: in a field
+    ForceUnlink(usize, Place),
 }
 
 /// What a call answers.
@@ -110,6 +177,16 @@ pub enum Answer<M: Allocator = Global> {
     Collection(usize),
     /// The members of a collection, in order.
     Items(Vec<Place, M>),
+    /// Whether an object is linked.
+    Linked(bool),
+    /// The member that a search found, and how many objects it looked at.
+    Found(Option<Place>, u64),
+    /// It is done, with so many looks.
+    Looked(u64),
+    /// The members between two bounds, in order, and the looks of the two searches.
+    Range(Vec<Place, M>, u64, u64),
+    /// Whether a member had the key, that member or the object that went in, and the looks.
+    Entry(bool, Place, u64),
     /// Refused: nothing has changed.
     Refused(Refusal),
 }
@@ -123,14 +200,36 @@ impl<M: Allocator> fmt::Display for Answer<M> {
             Answer::Object(place) => write!(f, "object {}", place.index()),
             Answer::Field(number) => write!(f, "field {number}"),
             Answer::Collection(number) => write!(f, "collection {number}"),
-            Answer::Items(places) => {
-                write!(f, "items")?;
-                for place in places {
-                    write!(f, " {}", place.index())?;
-                }
-                Ok(())
+            Answer::Items(places) => write_items(f, places),
+            Answer::Linked(true) => write!(f, "linked"),
+            Answer::Linked(false) => write!(f, "unlinked"),
+            Answer::Found(Some(place), looks) => write!(
+                f,
+                "object {} looks {looks}",
+                place.index()
+            ),
+            Answer::Found(None, looks) => write!(f, "none looks {looks}"),
+            Answer::Looked(looks) => write!(f, "ok looks {looks}"),
+            Answer::Range(places, first, second) => {
+                write_items(f, places)?;
+                write!(f, " looks {first} {second}")
+            }
+            Answer::Entry(true, place, looks) => {
+                write!(f, "occupied object {} looks {looks}", place.index())
+            }
+            Answer::Entry(false, place, looks) => {
+                write!(f, "inserted object {} looks {looks}", place.index())
             }
             Answer::Refused(refusal) => write!(f, "refused {} {refusal}", refusal.number()),
         }
     }
+}
+
+// The places of some objects, in one line.
+fn write_items<W: fmt::Write>(f: &mut fmt::Formatter<W>, places: &[Place]) -> fmt::Result {
+    write!(f, "items")?;
+    for place in places {
+        write!(f, " {}", place.index())?;
+    }
+    Ok(())
 }

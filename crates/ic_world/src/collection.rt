@@ -1,15 +1,11 @@
 //! A collection of a world.
 
-use ic_linked_list::LinkedList;
+use ic_members::Members;
+use ic_rbtree::KeyAdapter;
 
-/// A list, with the number of the field that links its members.
-pub struct Collection<V> {
+/// The members and the cursor, with the number of the field that links them.
+#[derive(Drop)]
+pub struct Collection<A: KeyAdapter> {
     pub field: usize,
-    pub list: LinkedList<V>,
-}
-
-impl<V> Drop for Collection<V> {
-    fn drop(self) {
-        let Collection { field: _, list: _ } = self;
-    }
+    pub members: Members<A>,
 }

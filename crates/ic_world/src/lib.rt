@@ -1,18 +1,36 @@
-//! A world of objects, link fields and collections, in which every call tests its conditions itself.
+//! A world of objects, link fields and collections of every kind, in which every call tests its conditions itself.
 //!
 //! ```text
 //! let mut world = World::new(rt.alloc(), adapter);
-//! let field = world.add_field(Kind::Doubly)?;
-//! let queue = world.open(field, Kind::Doubly)?;
+//! let field = world.add_field(Kind::Tree)?;
+//! let queue = world.open(field, Kind::Tree)?;
 //! let first = world.place(10)?;
-//! world.push_back(queue, first)?;
-//! world.show(queue)? // the place of the first object
+//! world.insert(queue, first)?; // 0 looks
+//! world.show(queue)?           // the place of the first object
 //! ```
 #![tactic(auto)]
 
 mod call;
 mod collection;
+mod collections;
+mod edit;
+mod fields;
+mod insertion;
+mod keyed_calls;
+mod kinds;
+pub mod laws;
+mod list_calls;
+mod objects;
+mod one_call;
+mod part;
+mod pick;
+mod run;
+mod search;
+mod seek;
+mod swap;
 mod world;
 
-pub use call::{Answer, Command, Kind, Refusal};
+pub use call::{Answer, Command, Refusal};
+pub use ic_fields::Kind;
+pub use ic_rbtree::Bound;
 pub use world::World;

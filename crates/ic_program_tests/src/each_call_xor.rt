@@ -1,0 +1,372 @@
+//! Each call on an XOR list: accepted, and refused for each reason that there is.
+
+use test_support::rows::Run;
+
+/// The runs of XOR lists.
+pub(crate) const RUNS: [Run; 8] = [
+    Run {
+        name: "the calls of an XOR list",
+        rows: "
+        field xor         | field 0
+        place 10          | object 0
+        place 20          | object 1
+        place 30          | object 2
+        place 40          | object 3
+        place 50          | object 4
+        place 60          | object 5
+        open 0 xor        | collection 0 | 0:
+        show 0            | items
+        show_back 0       | items
+        current 0         | none
+        move_next 0       | none
+        move_prev 0       | none
+        pop_front 0       | none
+        pop_back 0        | none
+        remove 0          | none
+        reverse 0         | ok
+        push_front 0 1    | ok           | 0: 1
+        push_back 0 2     | ok           | 0: 1 2
+        push_front 0 0    | ok           | 0: 0 1 2
+        show 0            | items 0 1 2
+        show_back 0       | items 2 1 0
+        insert_after 0 3  | ok           | 0: 3 0 1 2
+        insert_before 0 4 | ok           | 0: 3 0 1 2 4
+        move_next 0       | object 3     | 0: (3) 0 1 2 4
+        current 0         | object 3
+        move_next 0       | object 0     | 0: 3 (0) 1 2 4
+        insert_after 0 5  | ok           | 0: 3 (0) 5 1 2 4
+        current 0         | object 0
+        show 0            | items 3 0 5 1 2 4
+        move_next 0       | object 5     | 0: 3 0 (5) 1 2 4
+        move_prev 0       | object 0     | 0: 3 (0) 5 1 2 4
+        pop_back 0        | object 4     | 0: 3 0 5 1 2
+        current 0         | none
+        move_prev 0       | object 2     | 0: 3 0 5 1 (2)
+        move_prev 0       | object 1     | 0: 3 0 5 (1) 2
+        insert_before 0 4 | ok           | 0: 3 0 5 4 (1) 2
+        current 0         | object 1
+        show_back 0       | items 2 1 4 5 0 3
+        move_prev 0       | object 4     | 0: 3 0 5 (4) 1 2
+        move_next 0       | object 1     | 0: 3 0 5 4 (1) 2
+        remove 0          | object 1     | 0: 3 0 5 4 (2)
+        current 0         | object 2
+        move_prev 0       | object 4     | 0: 3 0 5 (4) 2
+        remove 0          | object 4     | 0: 3 0 5 (2)
+        current 0         | object 2
+        move_next 0       | none         | 0: 3 0 5 2
+        move_next 0       | object 3     | 0: (3) 0 5 2
+        remove 0          | object 3     | 0: (0) 5 2
+        current 0         | object 0
+        pop_front 0       | object 0     | 0: 5 2
+        pop_back 0        | object 2     | 0: 5
+        show_back 0       | items 5
+        pop_back 0        | object 5     | 0:
+        pop_front 0       | none
+        ",
+    },
+    Run {
+        name: "an XOR list that is turned round",
+        rows: "
+        field xor      | field 0
+        place 10       | object 0
+        place 20       | object 1
+        place 30       | object 2
+        open 0 xor     | collection 0 | 0:
+        push_back 0 0  | ok           | 0: 0
+        reverse 0      | ok
+        push_back 0 1  | ok           | 0: 0 1
+        push_back 0 2  | ok           | 0: 0 1 2
+        move_next 0    | object 0     | 0: (0) 1 2
+        reverse 0      | ok           | 0: 2 1 0
+        current 0      | none
+        show 0         | items 2 1 0
+        show_back 0    | items 0 1 2
+        move_next 0    | object 2     | 0: (2) 1 0
+        move_next 0    | object 1     | 0: 2 (1) 0
+        pop_front 0    | object 2     | 0: 1 0
+        push_front 0 2 | ok           | 0: 2 1 0
+        reverse 0      | ok           | 0: 0 1 2
+        pop_back 0     | object 2     | 0: 0 1
+        show 0         | items 0 1
+        ",
+    },
+    Run {
+        name: "a cursor that is put on a member of an XOR list",
+        rows: "
+        field xor               | field 0
+        place 10                | object 0
+        place 20                | object 1
+        place 30                | object 2
+        place 40                | object 3
+        open 0 xor              | collection 0 | 0:
+        push_back 0 0           | ok           | 0: 0
+        push_back 0 1           | ok           | 0: 0 1
+        push_back 0 2           | ok           | 0: 0 1 2
+        seek_with_prev 0 0 none | ok           | 0: (0) 1 2
+        current 0               | object 0
+        move_next 0             | object 1     | 0: 0 (1) 2
+        seek_with_prev 0 2 1    | ok           | 0: 0 1 (2)
+        current 0               | object 2
+        move_prev 0             | object 1     | 0: 0 (1) 2
+        seek_with_prev 0 1 0    | ok
+        move_next 0             | object 2     | 0: 0 1 (2)
+        seek_with_next 0 2 none | ok
+        current 0               | object 2
+        move_next 0             | none         | 0: 0 1 2
+        seek_with_next 0 0 1    | ok           | 0: (0) 1 2
+        move_next 0             | object 1     | 0: 0 (1) 2
+        seek_with_next 0 1 2    | ok
+        current 0               | object 1
+        move_prev 0             | object 0     | 0: (0) 1 2
+        seek_with_prev 0 1 2    | refused 9 NotANeighbour
+        seek_with_prev 0 1 none | refused 9 NotANeighbour
+        seek_with_prev 0 1 1    | refused 9 NotANeighbour
+        seek_with_prev 0 1 3    | refused 9 NotANeighbour
+        seek_with_prev 0 0 1    | refused 9 NotANeighbour
+        seek_with_next 0 1 0    | refused 9 NotANeighbour
+        seek_with_next 0 1 none | refused 9 NotANeighbour
+        seek_with_next 0 1 3    | refused 9 NotANeighbour
+        seek_with_next 0 2 1    | refused 9 NotANeighbour
+        seek_with_prev 0 3 none | refused 8 NotAMember
+        seek_with_prev 0 3 2    | refused 8 NotAMember
+        seek_with_next 0 3 none | refused 8 NotAMember
+        seek_with_next 0 3 0    | refused 8 NotAMember
+        current 0               | object 0
+        ",
+    },
+    Run {
+        name: "replacements in an XOR list",
+        rows: "
+        field xor        | field 0
+        place 10         | object 0
+        place 20         | object 1
+        place 30         | object 2
+        place 40         | object 3
+        open 0 xor       | collection 0 | 0:
+        push_back 0 0    | ok           | 0: 0
+        push_back 0 1    | ok           | 0: 0 1
+        push_back 0 2    | ok           | 0: 0 1 2
+        move_next 0      | object 0     | 0: (0) 1 2
+        move_next 0      | object 1     | 0: 0 (1) 2
+        replace_with 0 3 | object 1     | 0: 0 (3) 2
+        current 0        | object 3
+        is_linked 0 1    | unlinked
+        is_linked 0 3    | linked
+        show 0           | items 0 3 2
+        show_back 0      | items 2 3 0
+        move_prev 0      | object 0     | 0: (0) 3 2
+        replace_with 0 1 | object 0     | 0: (1) 3 2
+        move_prev 0      | none         | 0: 1 3 2
+        move_prev 0      | object 2     | 0: 1 3 (2)
+        replace_with 0 0 | object 2     | 0: 1 3 (0)
+        show_back 0      | items 0 3 1
+        go_null 0        | ok           | 0: 1 3 0
+        ",
+    },
+    Run {
+        name: "splices and splits of XOR lists",
+        rows: "
+        field xor         | field 0
+        place 10          | object 0
+        place 20          | object 1
+        place 30          | object 2
+        place 40          | object 3
+        place 50          | object 4
+        open 0 xor        | collection 0 | 0:
+        open 0 xor        | collection 1 | 0:  1:
+        push_back 0 0     | ok           | 0: 0  1:
+        push_back 0 1     | ok           | 0: 0 1  1:
+        push_back 1 2     | ok           | 0: 0 1  1: 2
+        push_back 1 3     | ok           | 0: 0 1  1: 2 3
+        move_next 1       | object 2     | 0: 0 1  1: (2) 3
+        move_next 0       | object 0     | 0: (0) 1  1: (2) 3
+        splice_after 0 1  | ok           | 0: (0) 2 3 1  1:
+        current 0         | object 0
+        current 1         | none
+        show 0            | items 0 2 3 1
+        show_back 0       | items 1 3 2 0
+        show 1            | items
+        splice_after 0 1  | ok
+        splice_before 0 1 | ok
+        split_after 0     | collection 2 | 0: (0)  1:  2: 2 3 1
+        current 0         | object 0
+        current 2         | none
+        show 2            | items 2 3 1
+        show_back 2       | items 1 3 2
+        push_back 1 4     | ok           | 0: (0)  1: 4  2: 2 3 1
+        splice_before 2 0 | ok           | 0:  1: 4  2: 2 3 1 0
+        show 2            | items 2 3 1 0
+        show_back 2       | items 0 1 3 2
+        move_prev 2       | object 0     | 0:  1: 4  2: 2 3 1 (0)
+        move_prev 2       | object 1     | 0:  1: 4  2: 2 3 (1) 0
+        splice_before 2 1 | ok           | 0:  1:  2: 2 3 4 (1) 0
+        current 2         | object 1
+        show_back 2       | items 0 1 4 3 2
+        split_before 2    | collection 3 | 0:  1:  2: (1) 0  3: 2 3 4
+        current 2         | object 1
+        current 3         | none
+        show 3            | items 2 3 4
+        show_back 3       | items 4 3 2
+        move_next 2       | object 0     | 0:  1:  2: 1 (0)  3: 2 3 4
+        splice_after 2 3  | ok           | 0:  1:  2: 1 (0) 2 3 4  3:
+        go_null 2         | ok           | 0:  1:  2: 1 0 2 3 4  3:
+        splice_after 2 3  | ok
+        split_before 2    | collection 4 | 0:  1:  2:  3:  4: 1 0 2 3 4
+        move_prev 2       | none
+        split_after 4     | collection 5 | 0:  1:  2:  3:  4:  5: 1 0 2 3 4
+        move_next 4       | none
+        split_after 4     | collection 6 | 0:  1:  2:  3:  4:  5: 1 0 2 3 4  6:
+        split_before 4    | collection 7 | 0:  1:  2:  3:  4:  5: 1 0 2 3 4  6:  7:
+        ",
+    },
+    Run {
+        name: "whole XOR lists",
+        rows: "
+        field xor        | field 0
+        place 10         | object 0
+        place 20         | object 1
+        open 0 xor       | collection 0 | 0:
+        take 0           | collection 1 | 0:  1:
+        push_back 0 0    | ok           | 0: 0  1:
+        push_back 0 1    | ok           | 0: 0 1  1:
+        move_next 0      | object 0     | 0: (0) 1  1:
+        take 0           | collection 2 | 0:  1:  2: 0 1
+        current 0        | none
+        current 2        | none
+        show 2           | items 0 1
+        show_back 2      | items 1 0
+        move_prev 2      | object 1     | 0:  1:  2: 0 (1)
+        clear 2          | ok           | 0:  1:  2:
+        current 2        | none
+        is_linked 0 0    | unlinked
+        push_front 2 0   | ok           | 0:  1:  2: 0
+        push_back 2 1    | ok           | 0:  1:  2: 0 1
+        move_next 2      | object 0     | 0:  1:  2: (0) 1
+        fast_clear 2     | ok           | 0:  1:  2:
+        current 2        | none
+        is_linked 0 0    | linked
+        is_linked 0 1    | linked
+        force_unlink 0 0 | ok
+        force_unlink 0 0 | ok
+        is_linked 0 0    | unlinked
+        push_back 0 0    | ok           | 0: 0  1:  2:
+        push_back 0 1    | refused 10 AlreadyLinked
+        force_unlink 0 1 | ok
+        push_back 0 1    | ok           | 0: 0 1  1:  2:
+        dispose 0        | ok           | 1:  2:
+        is_linked 0 0    | unlinked
+        is_linked 0 1    | unlinked
+        show 0           | refused 2 NoSuchCollection
+        clear 1          | ok
+        fast_clear 1     | ok
+        dispose 1        | ok           | 2:
+        dispose 2        | ok           |
+        ",
+    },
+    Run {
+        name: "what an XOR list refuses",
+        rows: "
+        field xor                   | field 0
+        field xor                   | field 1
+        place 10                    | object 0
+        place 20                    | object 1
+        place 30                    | object 2
+        open 0 xor                  | collection 0 | 0:
+        open 0 xor                  | collection 1 | 0:  1:
+        open 1 xor                  | collection 2 | 0:  1:  2:
+        open 0 singly               | collection 3 | 0:  1:  2:  3:
+        push_back 0 0               | ok           | 0: 0  1:  2:  3:
+        push_back 0 1               | ok           | 0: 0 1  1:  2:  3:
+        push_back 1 2               | ok           | 0: 0 1  1: 2  2:  3:
+        move_next 0                 | object 0     | 0: (0) 1  1: 2  2:  3:
+        seek 0 0                    | refused 4 WrongKind
+        seek 0 2                    | refused 4 WrongKind
+        remove_next 0               | refused 4 WrongKind
+        replace_next_with 0 2       | refused 4 WrongKind
+        find 0 10                   | refused 4 WrongKind
+        lower_bound 0 included:10   | refused 4 WrongKind
+        upper_bound 0 included:10   | refused 4 WrongKind
+        range 0 unbounded unbounded | refused 4 WrongKind
+        insert 0 2                  | refused 4 WrongKind
+        cursor_insert 0 2           | refused 4 WrongKind
+        entry 0 10 2                | refused 4 WrongKind
+        splice_after 0 3            | refused 4 WrongKind
+        open 1 singly               | collection 4 | 0: (0) 1  1: 2  2:  3:  4:
+        splice_after 0 4            | refused 4 WrongKind
+        splice_before 0 4           | refused 4 WrongKind
+        splice_before 4 0           | refused 4 WrongKind
+        splice_before 4 4           | refused 4 WrongKind
+        replace_next_with 0 0       | refused 4 WrongKind
+        replace_next_with 2 0       | refused 4 WrongKind
+        insert 0 0                  | refused 4 WrongKind
+        cursor_insert 0 0           | refused 4 WrongKind
+        entry 0 10 0                | refused 4 WrongKind
+        splice_before 0 3           | refused 4 WrongKind
+        splice_after 0 0            | refused 5 SameCollection
+        splice_before 0 0           | refused 5 SameCollection
+        splice_after 0 2            | refused 6 OtherField
+        splice_before 0 2           | refused 6 OtherField
+        push_front 0 0              | refused 10 AlreadyLinked
+        push_front 0 2              | refused 10 AlreadyLinked
+        push_back 0 0               | refused 10 AlreadyLinked
+        push_back 0 2               | refused 10 AlreadyLinked
+        push_back 1 0               | refused 10 AlreadyLinked
+        insert_after 0 0            | refused 10 AlreadyLinked
+        insert_after 0 2            | refused 10 AlreadyLinked
+        insert_before 0 0           | refused 10 AlreadyLinked
+        insert_before 0 2           | refused 10 AlreadyLinked
+        replace_with 0 0            | refused 10 AlreadyLinked
+        replace_with 0 1            | refused 10 AlreadyLinked
+        replace_with 0 2            | refused 10 AlreadyLinked
+        seek_with_prev 0 2 none     | refused 8 NotAMember
+        seek_with_prev 1 0 none     | refused 8 NotAMember
+        seek_with_next 2 0 none     | refused 8 NotAMember
+        seek_with_prev 0 1 none     | refused 9 NotANeighbour
+        seek_with_next 0 1 0        | refused 9 NotANeighbour
+        replace_with 2 0            | refused 7 NothingThere
+        go_null 0                   | ok           | 0: 0 1  1: 2  2:  3:  4:
+        replace_with 0 2            | refused 7 NothingThere
+        replace_with 0 0            | refused 7 NothingThere
+        fast_clear 1                | ok           | 0: 0 1  1:  2:  3:  4:
+        push_back 1 2               | refused 10 AlreadyLinked
+        seek_with_prev 1 2 none     | refused 8 NotAMember
+        show 0                      | items 0 1
+        current 0                   | none
+        ",
+    },
+    Run {
+        name: "no such object, of an XOR list",
+        rows: "
+        field xor                     | field 0
+        place 10                      | object 0
+        place 20                      | object 1
+        open 0 xor                    | collection 0 | 0:
+        push_front 0 0                | ok           | 0: 0
+        move_next 0                   | object 0     | 0: (0)
+        remove_object 1               | ok
+        push_front 0 1                | refused 3 NoSuchObject
+        push_back 0 1                 | refused 3 NoSuchObject
+        seek 0 1                      | refused 3 NoSuchObject
+        seek_with_prev 0 1 none       | refused 3 NoSuchObject
+        seek_with_prev 0 1 0          | refused 3 NoSuchObject
+        seek_with_prev 0 0 1          | refused 3 NoSuchObject
+        seek_with_next 0 1 none       | refused 3 NoSuchObject
+        seek_with_next 0 1 0          | refused 3 NoSuchObject
+        seek_with_next 0 0 1          | refused 3 NoSuchObject
+        insert_after 0 1              | refused 3 NoSuchObject
+        insert_before 0 1             | refused 3 NoSuchObject
+        replace_with 0 1              | refused 3 NoSuchObject
+        replace_next_with 0 1         | refused 3 NoSuchObject
+        insert 0 1                    | refused 3 NoSuchObject
+        cursor_insert 0 1             | refused 3 NoSuchObject
+        entry 0 10 1                  | refused 3 NoSuchObject
+        push_front 0 7                | refused 3 NoSuchObject
+        push_back 0 4294967295        | refused 3 NoSuchObject
+        seek_with_prev 0 7 none       | refused 3 NoSuchObject
+        seek_with_next 0 0 4294967295 | refused 3 NoSuchObject
+        insert_after 0 7              | refused 3 NoSuchObject
+        insert_before 0 7             | refused 3 NoSuchObject
+        replace_with 0 4294967295     | refused 3 NoSuchObject
+        ",
+    },
+];

@@ -1,0 +1,128 @@
+//! A world that runs commands as one list.
+
+use crate::shown::write_collections;
+use ic_program::{OwnKey, from_words};
+use ic_world::{Answer as Made, Command, World};
+use std::alloc::Global;
+use std::fmt::{self, Write};
+use test_support::rationed::Rationed;
+use test_support::rows::{Answer, Played};
+
+// The request to refuse where none is.
+const NONE: u64 = u64::MAX;
+
+/// A world with a list of commands, and the answers of all lists that were run. A row is one of these:
+///
+/// - `list COMMAND`: the command goes into the list. The answer is how many are in it then.
+/// - `run`: the list is run, and what was answered stands between semicolons. `no memory`: the run was refused.
+/// - `refuse N run`: the same, with request number N of the run's requests for memory refused, counted from 0.
+/// - `no list`: the list is empty from then on.
+/// - `anew`: a new world, and no answers. The list stays.
+///
+/// A row shows how many answers there are, and each collection with its cursor.
+#[derive(Drop)]
+pub(crate) struct Listed<'r> {
+    alloc: Global,
+    rationed: &'r Rationed,
+    world: World<OwnKey, &'r Rationed>,
+    list: Vec<Command<u64, u64>>,
+    answers: Vec<Made<&'r Rationed>, &'r Rationed>,
+    // All that is shown after the last call.
+    shown: String,
+}
+
+// Writes the answers, between semicolons.
+fn write_answers(answers: &[Made<&Rationed>], text: &mut String) -> fmt::Result {
+    let mut between = "";
+    for answer in answers {
+        write!(text, "{between}{answer}")?;
+        between = " ; ";
+    }
+    Ok(())
+}
+
+impl<'r> Listed<'r> {
+    pub(crate) fn new(alloc: Global, rationed: &'r Rationed) -> Listed<'r> {
+        Listed {
+            alloc,
+            rationed,
+            world: World::new(rationed, OwnKey),
+            list: Vec::new(alloc),
+            answers: Vec::new(rationed),
+            shown: String::new(alloc),
+        }
+    }
+
+    // Puts the command of these words into the list.
+    fn list(&mut self, words: &[&str]) -> Answer {
+        let Some(command) = from_words(words) else {
+            return Answer::Refused("no command");
+        };
+        match self.list.push(command) {
+            Ok(()) => Answer::Number(self.list.len() as u64),
+            Err(_) => Answer::Refused("memory"),
+        }
+    }
+
+    // Runs the list, with that request refused.
+    fn run(&mut self, refused: u64) -> Answer {
+        let before = self.answers.len();
+        self.rationed.refuse(refused);
+        let ran = self.world.run(self.list.as_slice(), &mut self.answers);
+        self.rationed.refuse(NONE);
+        if ran.is_err() {
+            return Answer::Refused("no memory");
+        }
+        let mut text = String::new(self.alloc);
+        match self.answers.get(before..) {
+            Some(answers) if write_answers(answers, &mut text).is_ok() => Answer::Text(text),
+            _ => Answer::Refused("memory"),
+        }
+    }
+
+    // Does what these words say.
+    fn answer(&mut self, words: &[&str]) -> Answer {
+        match *words {
+            ["list", ..] => self.list(&words[1..]),
+            ["run"] => self.run(NONE),
+            ["refuse", number, "run"] => match number.parse() {
+                Ok(refused) => self.run(refused),
+                Err(_) => Answer::Refused("no number"),
+            },
+            ["no", "list"] => {
+                self.list.clear();
+                Answer::Done
+            }
+            ["anew"] => {
+                self.world = World::new(self.rationed, OwnKey);
+                self.answers = Vec::new(self.rationed);
+                Answer::Done
+            }
+            _ => Answer::Refused("no row"),
+        }
+    }
+
+    // Writes the number of answers, and all collections.
+    fn write_all(&mut self, shown: &mut String) -> fmt::Result {
+        write!(shown, "{} answers", self.answers.len())?;
+        write_collections(&mut self.world, shown)
+    }
+}
+
+impl Played for Listed<'_> {
+    type Answer = Answer;
+
+    fn call(&mut self, words: &[&str]) -> Answer {
+        let answer = self.answer(words);
+        let mut shown = String::new(self.alloc);
+        if self.write_all(&mut shown).is_err() {
+            return Answer::Refused("memory");
+        }
+        self.shown = shown;
+        answer
+    }
+
+    fn show(&self, shown: &mut String) -> fmt::Result {
+        shown.write_str(self.shown.as_str())
+    }
+}

@@ -1,0 +1,94 @@
+-- A collection less, which was cleared.
+use Rattle.std.proofs.Common.{◌≡◌, ℕ, ◌<◌, inl, inr, List, length, get_or, set, Option, Some, None, refl, sym, ap, ◌∙◌, arith}
+use Rattle.std.proofs.lemmas.Bool.{cases_eq}
+use Rattle.std.proofs.lemmas.List.{get_or-set_same, get_or-set_other, get_or_past, length-set, map-set, set-set}
+use Rattle.std.specs.declared.cmp.Ordering.{Ordering}
+use Rattle.ic_unsafe_ref.specs.Objects.{Objects}
+use Rattle.ic_link_ops.specs.Tables.{Table}
+use Rattle.ic_fields.specs.declared.entry.Entry.{Entry}
+use Rattle.ic_world.specs.declared.collection.Collection.{Collection}
+use Rattle.ic_world.specs.declared.call.Refusal.{Refusal}
+use Rattle.ic_world.specs.declared.call.Command.TheVariants.{Dispose}
+use Rattle.ic_world.specs.declared.edit.Edit.TheVariants.{Clear}
+use Rattle.ic_world.specs.Family.{Family, Sequence}
+use Rattle.ic_world.specs.State.{Reply, done, refused, cleared, unlinked}
+use Rattle.ic_world.specs.Calls.{edit}
+use Rattle.ic_world.specs.Tables.{shown_as, at, family_of, IsWhole}
+use Rattle.ic_world.specs.Step.{Step, StepBy, StepOn, AcceptsOn, refusal_on, asks_collection, collection, linked_of, state_in, with_state, sequence_of, with_collection, with_linked}
+use Rattle.ic_world.proofs.Linked.{side}
+use Rattle.ic_world.proofs.Steps.{step_accepted}
+
+module _ {A V K : Type 0} where
+  at_dropped : (cs : List (Option (Collection A V K))) (c d : ℕ) (l : Collection A V K) → at (set cs c None) d ≡ Some l → at cs d ≡ Some l
+  at_dropped cs c d l is = elim (cases_eq d c) [
+    | inl same ↦ elim (side (length cs) c) [
+      | inl past ↦ absurd (let no = get_or_past (set cs c None) d None (let n = length-set cs c None in omega (arith, n, past, same)) in let both : None ≡ Some l = sym no ∙ is in cc)
+      | inr within ↦ absurd (let no : at (set cs c None) d ≡ None = ap (at (set cs c None)) same ∙ get_or-set_same cs c None None within in let both : None ≡ Some l = sym no ∙ is in cc)
+    ]
+    | inr other ↦ sym (get_or-set_other cs c d None None other) ∙ is
+  ]
+
+  -- THE INVARIANT with a collection less
+  pub dropped_whole : {adapter : A} {objects : Objects V} {room : ℕ} {ts : List (Table Entry)} {cs : List (Option (Collection A V K))} → IsWhole adapter objects room ts cs → (c : ℕ) → IsWhole adapter objects room ts (set cs c None)
+  dropped_whole {cs = cs} whole c = record {
+    within = whole.within;
+    covered = whole.covered;
+    placed = whole.placed;
+    in_field = λ d l is. whole.in_field d l (at_dropped cs c d l is);
+    held = λ d l is. whole.held d l (at_dropped cs c d l is);
+    adapted = λ d l is. whole.adapted d l (at_dropped cs c d l is);
+    apart = λ a b x y n is_x is_y same. whole.apart a b x y n (at_dropped cs c a x is_x) (at_dropped cs c b y is_y) same;
+  }
+
+  pub dropped_family : (adapter : A) (objects : Objects V) (ts : List (Table Entry)) (cs : List (Option (Collection A V K))) (c : ℕ)
+      → family_of adapter objects ts (set cs c None) ≡ with_collection (family_of adapter objects ts cs) c None
+  dropped_family adapter objects ts cs c =
+      let collections = map-set (shown_as ts) cs c None in
+      λ i. record (family_of adapter objects ts cs) { collections = collections i }
+
+-- what is accepted by a step that no test refuses
+taken_step : {A V : Type 0} (refusal : Option Refusal) (accepts : Reply → Family A V → Type 0) (old : Family A V) (reply : Reply) (new : Family A V) → refusal ≡ None → StepBy refusal accepts old reply new → accepts reply new
+taken_step None accepts old reply new e h = h
+taken_step (Some r) accepts old reply new e h = absurd cc
+
+-- `cmp`, `key_of`: the order of the keys, and the key of a value
+module _ {A V K : Type 0} (cmp : K → K → Ordering) (key_of : A → V → K) (old mid : Family A V) (c : ℕ) where
+  -- THE STEP of a disposal, by that of a clear: its refusal is the same
+  pub dispose_refused : (r : Refusal) → StepOn cmp key_of old c (edit Clear) (refused r) mid → Step cmp key_of old (Dispose c) (refused r) mid
+  dispose_refused r step = by (collection old c) refl step
+    where
+      by : (o : Option Sequence) → collection old c ≡ o → StepOn cmp key_of old c (edit Clear) (refused r) mid → Step cmp key_of old (Dispose c) (refused r) mid
+      by None e h = rw e (rw e at h)
+      by (Some s) e h =
+          let a = taken_step (refusal_on {K = K} old c (edit Clear)) (AcceptsOn {K = K} cmp key_of old c (edit Clear)) old (refused r) mid (ap (λ o. asks_collection o (λ _. None)) e) h in
+          absurd a.3
+
+  accepted : (s : Sequence) → collection old c ≡ Some s → StepOn cmp key_of old c (edit Clear) done mid → AcceptsOn cmp key_of old c (edit Clear) done mid
+  accepted s e h = taken_step (refusal_on {K = K} old c (edit Clear)) (AcceptsOn {K = K} cmp key_of old c (edit Clear)) old done mid (ap (λ o. asks_collection o (λ _. None)) e) h
+
+  cleared_there : StepOn cmp key_of old c (edit Clear) done mid → AcceptsOn cmp key_of old c (edit Clear) done mid
+  cleared_there step = by (collection old c) refl step
+    where
+      by : (o : Option Sequence) → collection old c ≡ o → StepOn cmp key_of old c (edit Clear) done mid → AcceptsOn cmp key_of old c (edit Clear) done mid
+      by None e h = absurd (let no = (rw e at h).0 in cc)
+      by (Some s) e h = accepted s e h
+
+  pub disposed : StepOn cmp key_of old c (edit Clear) done mid → Step cmp key_of old (Dispose c) done (with_collection mid c None)
+  disposed step =
+      let a = cleared_there step in
+      let s = a.0 in
+      let last : with_collection (with_state old c s.field (cleared (state_in old s))) c None ≡ with_linked (with_collection old c None) s.field (unlinked (linked_of old s.field) s.members) =
+      λ i. record (with_linked (with_collection old c None) s.field (unlinked (linked_of old s.field) s.members)) { collections = set-set old.collections c (Some (sequence_of s.field (cleared (state_in old s)))) None i } in
+      step_accepted cmp key_of old (Dispose c) done (with_collection mid c None) (ap (λ o. asks_collection o (λ _. None)) a.2)
+      (s, a.2, ap (λ w. with_collection w c None) (a.4 ∙ ap (with_state old c s.field) a.3) ∙ last)
+
+  -- its number is one of the family's
+  pub still_in : StepOn cmp key_of old c (edit Clear) done mid → c < length mid.collections
+  still_in step =
+      let a = cleared_there step in
+      let there : c < length old.collections = in_family old.collections c a.0 a.2 in
+      let same = ap (λ (w : Family A V). length w.collections) a.4 ∙ length-set old.collections c (Some (sequence_of a.0.field a.1)) in
+      omega (arith, there, same)
+    where
+      in_family : (xs : List (Option Sequence)) (c : ℕ) (s : Sequence) → get_or xs c None ≡ Some s → c < length xs
+      in_family xs c s is = grind (arith, get_or_past)

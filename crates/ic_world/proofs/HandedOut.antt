@@ -1,0 +1,139 @@
+-- A CALL THAT HANDS A PART OUT, for the world: the collection is edited, and then there is one more.
+use Rattle.std.proofs.Common.{◌≡◌, ℕ, ◌<◌, inl, inr, Bool, true, false, List, [], ◌∷◌, ◌++◌, length, map, set, Option, Some, None, refl, sym, ap, ◌∙◌, subst}
+use Rattle.std.proofs.lemmas.List.{length-map, length-set, map-set}
+use Rattle.ic_unsafe_ref.specs.Objects.{Objects}
+use Rattle.ic_link_ops.specs.Sequences.{IsDisjoint}
+use Rattle.ic_link_ops.specs.Tables.{Table}
+use Rattle.ic_link_ops.proofs.SequenceLemmas.{absent_swap}
+use Rattle.ic_fields.specs.declared.entry.Entry.{Entry}
+use Rattle.ic_fields.specs.declared.field.Field.{Field}
+use Rattle.ic_fields.specs.Fields.{look}
+use Rattle.ic_members.specs.declared.members.Members.{Members}
+use Rattle.ic_members.specs.Members.{Held, members_in, kind_in, adapter_in, adapter_for}
+use Rattle.ic_world.specs.declared.collection.Collection.{Collection}
+use Rattle.ic_world.specs.declared.part.Part.{Part}
+use Rattle.ic_world.specs.declared.call.Refusal.{Refusal}
+use Rattle.ic_world.specs.declared.call.Refusal.TheVariants.{OutOfMemory}
+use Rattle.ic_world.specs.Family.{Family}
+use Rattle.ic_world.specs.State.{opened, refused}
+use Rattle.ic_world.specs.Handing.{part_refusal, PartsOf}
+use Rattle.ic_world.specs.Turns.{HandsOut, asks_room, state_of}
+use Rattle.ic_world.specs.Tables.{table, sequence, seen_as, at, family_of, IsWhole}
+use Rattle.ic_world.specs.Step.{StepOut, refusal_of_hand_out, asks_collection, state_in, sequence_of, with_opened}
+use Rattle.ic_world.specs.Step as step
+use Rattle.ic_world.proofs.Readings.{Found, collection_is}
+use Rattle.ic_world.proofs.Edits.{Edit, after, at_after, here, new_sequence, same_sequence, edited_family, edited_whole}
+use Rattle.ic_world.proofs.Opened.{appended_whole, appended_family}
+use Rattle.ic_world.proofs.Calls.{same_state}
+use Rattle.ic_world.proofs.Steps.{some_same}
+
+module _ {A V K : Type 0} {adapter : A} {objects : Objects V} {room : ℕ} {ts : List (Table Entry)} {cs : List (Option (Collection A V K))} (whole : IsWhole adapter objects room ts cs)
+    (c : ℕ) (k : Collection A V K) (is : at cs c ≡ Some k) (part : Part) {new : Table Entry} {m handed : Members A V K} (parts : HandsOut (PartsOf part) (table ts k.field) new k.members m handed) where
+  part_edit : Edit adapter objects ts cs c k new m (members_in new m) (sequence ts k)
+  part_edit = record {
+    was = is;
+    kept = parts.held;
+    alike = parts.alike;
+    frame = parts.frame;
+    placed = λ q h. whole.placed k.field q (sym (parts.links q) ∙ h);
+    within = λ q out. (parts.within q out).0;
+    beside = λ d l n is_l same. whole.apart d c l k n is_l is same;
+  }
+
+  abbrev more : Collection A V K
+  more = record { field = k.field; members = handed }
+
+  abbrev tables : List (Table Entry)
+  tables = set ts k.field new
+
+  abbrev between : List (Option (Collection A V K))
+  between = set cs c (Some (after k m))
+
+  shows : sequence tables more ≡ members_in new handed
+  shows = ap (λ t. members_in t handed) (here whole part_edit)
+
+  held : Held (table tables k.field) handed
+  held = rw (here whole part_edit) parts.hands_out
+
+  adapted : adapter_in handed ≡ adapter_for (kind_in handed) adapter
+  adapted = rw (parts.part_alike.adapter, parts.part_alike.kind) (whole.adapted c k is)
+
+  others : (d : ℕ) (l : Collection A V K) → at between d ≡ Some l → l.field ≡ k.field → IsDisjoint (sequence tables l) (sequence tables more)
+  others d l is_l same =
+      subst (IsDisjoint (sequence tables l)) (sym shows) (elim (at_after whole part_edit d l is_l) [
+        | inl this ↦ subst (λ x. IsDisjoint (sequence tables x) (members_in new handed)) (sym this.1) (subst (λ s. IsDisjoint s (members_in new handed)) (sym (new_sequence whole part_edit)) parts.apart)
+        | inr old ↦ subst (λ s. IsDisjoint s (members_in new handed)) (sym (same_sequence whole part_edit d l old.0 old.1))
+            (absent_swap (sequence ts l) (sequence ts k) (whole.apart d c l k old.0 old.1 is same) (members_in new handed) (λ q out. (parts.within q out).1))
+      ])
+
+  field_there : k.field < length tables
+  field_there = rw length-set (whole.in_field c k is)
+
+  pub part_whole : IsWhole adapter objects room tables (between ++ Some more ∷ [])
+  part_whole = appended_whole (edited_whole whole part_edit) more field_there held adapted others
+
+  pub part_hands : (n : ℕ) → n ≡ length cs → step.HandsOut (family_of adapter objects ts cs) c part (opened n) (family_of adapter objects tables (between ++ Some more ∷ []))
+  part_hands n number = (
+    rw length-map number,
+    seen_as k (sequence ts k),
+    state_of new m,
+    state_of new handed,
+    collection_is adapter objects ts cs c k is,
+    subst (λ s. PartsOf part s (state_of new m) (state_of new handed)) (sym (same_state whole c k is)) parts.parts,
+    appended_family (edited_whole whole part_edit) more field_there held adapted others
+        ∙ ap (λ s. with_opened (family_of adapter objects tables between) (seen_as more s)) shows
+        ∙ ap (λ w. with_opened w (seen_as more (members_in new handed))) (edited_family whole part_edit _ refl),
+  )
+
+module _ {A V K M : Type 0} {adapter : A} {objects : Objects V} {room : ℕ} {tables : List (Field M)} {cs : List (Option (Collection A V K))} (whole : IsWhole adapter objects room (map look tables) cs)
+    {c : ℕ} {k : Collection A V K} {now : Field M} (at_k : Found tables cs c k now) {old : Family A V} (view : family_of adapter objects (map look tables) cs ≡ old) (part : Part) (has_room : Bool) (nf : Field M) (m : Members A V K) where
+  asks : refusal_of_hand_out (family_of adapter objects (map look tables) cs) c part ≡ part_refusal part (state_of (look now) k.members)
+  asks =
+      ap (λ o. asks_collection o (λ s. part_refusal part (state_in (family_of adapter objects (map look tables) cs) s))) (collection_is adapter objects (map look tables) cs c k at_k.is)
+      ∙ ap (part_refusal part) (same_state whole c k at_k.is ∙ ap (λ t. state_of t k.members) at_k.read)
+
+  -- where it is refused
+  module _ (same : (nf ≡ now) × (m ≡ k.members)) where
+    pub refused_whole : IsWhole adapter objects room (map look (set tables k.field nf)) (set cs c (Some (after k m)))
+    refused_whole = rw (same.0, same.1, at_k.table_back, at_k.list_back) whole
+
+    pub refused_step : (x : Refusal) → Some x ≡ asks_room has_room (part_refusal part (state_of (look now) k.members))
+        → StepOut old c part (refused x) (family_of adapter objects (map look (set tables k.field nf)) (set cs c (Some (after k m))))
+    refused_step x tested =
+        let P : List (Field M) → List (Option (Collection A V K)) → Type 0 = λ xs ys. StepOut old c part (refused x) (family_of adapter objects (map look xs) ys) in
+        let at_list = subst (P tables) (sym (ap (λ z. set cs c (Some (after k z))) same.1 ∙ at_k.list_back)) (subst (λ w. StepOut w c part (refused x) (family_of adapter objects (map look tables) cs)) view (by _ has_room asks tested)) in
+        subst (λ xs. P xs (set cs c (Some (after k m)))) (sym (ap (set tables k.field) same.0 ∙ at_k.table_back)) at_list
+      where
+        by : (o : Option Refusal) (room : Bool) → refusal_of_hand_out (family_of adapter objects (map look tables) cs) c part ≡ o → Some x ≡ asks_room room o
+            → StepOut (family_of adapter objects (map look tables) cs) c part (refused x) (family_of adapter objects (map look tables) cs)
+        by (Some r) room e h = rw e (ap refused (some_same h), refl)
+        by None true e h = absurd cc
+        by None false e h = let f : x ≡ OutOfMemory = some_same h in rw (e, f) refl
+
+  -- where it is not
+  module _ (handed : Members A V K) (parts : HandsOut (PartsOf part) (look now) (look nf) k.members m handed) where
+    there : HandsOut (PartsOf part) (table (map look tables) k.field) (look nf) k.members m handed
+    there = rw at_k.read parts
+
+    pub handed_whole : IsWhole adapter objects room (map look (set tables k.field nf)) (set cs c (Some (after k m)) ++ Some (record { field = k.field; members = handed }) ∷ [])
+    handed_whole = rw map-set (part_whole whole c k at_k.is part there)
+
+    pub handed_step : (n : ℕ) → n ≡ length cs → None ≡ asks_room has_room (part_refusal part (state_of (look now) k.members))
+        → StepOut old c part (opened n) (family_of adapter objects (map look (set tables k.field nf)) (set cs c (Some (after k m)) ++ Some (record { field = k.field; members = handed }) ∷ []))
+    handed_step n number tested =
+        subst (λ w. StepOut w c part (opened n) (family_of adapter objects (map look (set tables k.field nf)) (set cs c (Some (after k m)) ++ Some (record { field = k.field; members = handed }) ∷ []))) view
+        (rw (asks ∙ sym (passed has_room _ tested), map-set) (part_hands whole c k at_k.is part there n number))
+      where
+        passed : (room : Bool) (o : Option Refusal) → None ≡ asks_room room o → None ≡ o
+        passed room (Some r) h = absurd cc
+        passed true None h = refl
+        passed false None h = refl
+
+    -- there is room, where it was not refused
+    pub had_room : None ≡ asks_room has_room (part_refusal part (state_of (look now) k.members)) → has_room ≡ true
+    had_room tested = by has_room _ tested
+      where
+        by : (room : Bool) (o : Option Refusal) → None ≡ asks_room room o → room ≡ true
+        by true o h = refl
+        by false None h = absurd cc
+        by false (Some r) h = absurd cc

@@ -1,0 +1,77 @@
+-- What a call that hands a part out leaves to the world, from what the collection's own call gives, whatever the kind.
+use Rattle.std.proofs.Common.{◌≡◌, Option, None, List, [], refl, subst, sym}
+use Rattle.ic_unsafe_ref.specs.declared.place.Place.{Place}
+use Rattle.ic_link_ops.specs.Sequences.{Cut, join, IsAfter, IsBefore, IsAbsent, IsDisjoint, IsDistinct}
+use Rattle.ic_link_ops.specs.Tables.{Table, KeepsBeside, KeepsLinked}
+use Rattle.ic_link_ops.proofs.SequenceLemmas.{absent_both, absent_left, absent_right, distinct_disjoint, disjoint_sym}
+use Rattle.ic_fields.specs.declared.entry.Entry.{Entry}
+use Rattle.ic_fields.specs.Entries.{is_linked}
+use Rattle.ic_members.specs.declared.members.Members.{Members}
+use Rattle.ic_members.specs.Members.{cursor_in, members_in, Keeps, Held, Alike}
+use Rattle.ic_members.specs.Edits.{Parts}
+use Rattle.ic_members.proofs.AllKinds.{IsLawful, one_sequence, distinct, held_of}
+use Rattle.ic_world.specs.State.{State, having}
+use Rattle.ic_world.specs.Turns.{HandsOut, state_of}
+use Rattle.ic_world.specs.Handing.{PartsOf}
+use Rattle.ic_world.specs.declared.part.Part.TheVariants.{All, After, Before}
+use Rattle.ic_world.proofs.Linked.{linked_same}
+
+-- the two sides of a gap share no member, and what is no member is at neither
+apart_gap : {A V K : Type 0} {t : Table Entry} {m : Members A V K} → Held t m → (gap : Cut) → join gap ≡ members_in t m → IsDisjoint gap.front gap.back
+apart_gap {t} {m} held gap cut = distinct_disjoint gap.front gap.back (subst IsDistinct (sym cut) (distinct t m (members_in t m) held.shown))
+
+absent_gap : {s : List Place} (gap : Cut) → join gap ≡ s → (q : Place) → IsAbsent q s → IsAbsent q (join gap)
+absent_gap gap cut q out = subst (IsAbsent q) (sym cut) out
+
+module _ {A V K : Type 0} {old new : Table Entry} {m m' part : Members A V K} (law : IsLawful old) (law' : IsLawful new) where
+  -- the members s stay, and u are handed out
+  hands_by : {P : State → State → State → Type 0} (s u : List Place) (cursor : Option Place) → Keeps new m' s → Keeps new part u → Alike m m' → Alike m part
+      → cursor_in m' ≡ cursor → cursor_in part ≡ None → KeepsLinked is_linked old new → KeepsBeside old new (members_in old m)
+      → ((q : Place) → IsAbsent q (members_in old m) → IsAbsent q s × IsAbsent q u) → IsDisjoint s u
+      → P (state_of old m) (having (state_of old m) s cursor) (having (state_of old m) u None) → HandsOut P old new m m' part
+  hands_by {P} s u cursor kept handed alike part_alike at null links frame within apart parts =
+      let shown = one_sequence new law' m' s kept.shown in
+      let part_shown = one_sequence new law' part u handed.shown in
+      let linked = linked_same old new law law' links in
+      let stays : state_of new m' ≡ having (state_of old m) s cursor = λ i. record { kind = alike.kind i; members = shown i; cursor = at i; linked = linked i } in
+      let goes : state_of new part ≡ having (state_of old m) u None = λ i. record { kind = part_alike.kind i; members = part_shown i; cursor = null i; linked = linked i } in
+      record {
+        held = held_of law' m' s kept;
+        hands_out = held_of law' part u handed;
+        alike = alike;
+        part_alike = part_alike;
+        links = links;
+        frame = frame;
+        within = λ q out. rw (shown, part_shown) (within q out);
+        apart = rw (shown, part_shown) apart;
+        parts = subst (P (state_of old m) (state_of new m')) (sym goes) (subst (λ t. P (state_of old m) t (having (state_of old m) u None)) (sym stays) parts);
+      }
+
+  -- a gap parts them: what is kept and what is handed out stand on its two sides
+  by_gap : {P : State → State → State → Type 0} (kept handed : List Place) → Parts old new m m' kept handed part
+      → ((q : Place) → IsAbsent q (members_in old m) → IsAbsent q kept × IsAbsent q handed) → IsDisjoint kept handed
+      → P (state_of old m) (having (state_of old m) kept (cursor_in m)) (having (state_of old m) handed None) → HandsOut P old new m m' part
+  by_gap kept handed e within apart parts =
+      hands_by kept handed (cursor_in m) e.leaves.kept e.hands_out e.leaves.alike e.part_alike e.leaves.cursor_is e.null e.links
+      (record { extent = e.leaves.frame.extent; others = λ q out. e.leaves.frame.others q (absent_both q kept handed (within q out).0 (within q out).1) })
+      within apart parts
+
+  module _ (held : Held old m) (gap : Cut) (cut : join gap ≡ members_in old m) where
+    -- what is behind the cursor is handed out
+    pub hands_after : IsAfter gap (cursor_in m) → Parts old new m m' gap.front gap.back part → HandsOut (PartsOf After) old new m m' part
+    hands_after after e =
+        by_gap gap.front gap.back e (λ q out. let a = absent_gap gap cut q out in (absent_left q gap.front gap.back a, absent_right q gap.front gap.back a))
+        (apart_gap held gap cut) (gap, cut, (after, refl, refl))
+
+    -- what is in front of it is
+    pub hands_before : IsBefore gap (cursor_in m) → Parts old new m m' gap.back gap.front part → HandsOut (PartsOf Before) old new m m' part
+    hands_before before e =
+        by_gap gap.back gap.front e (λ q out. let a = absent_gap gap cut q out in (absent_right q gap.front gap.back a, absent_left q gap.front gap.back a))
+        (disjoint_sym gap.front gap.back (apart_gap held gap cut)) (gap, cut, (before, refl, refl))
+
+-- all members are handed out, and no entry changes
+pub hands_all : {A V K : Type 0} {t : Table Entry} {m m' part : Members A V K} → IsLawful t → Keeps t m' [] → Keeps t part (members_in t m) → Alike m m' → Alike m part
+    → cursor_in m' ≡ None → cursor_in part ≡ None → HandsOut (PartsOf All) t t m m' part
+hands_all {t} {m} law kept handed alike part_alike null part_null =
+    hands_by law law [] (members_in t m) None kept handed alike part_alike null part_null (λ q. refl)
+    (record { extent = refl; others = λ q out. refl }) (λ q out. (tt, out)) tt (refl, refl)

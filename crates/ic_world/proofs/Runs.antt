@@ -1,0 +1,28 @@
+-- Steps, one behind the other.
+use Rattle.std.proofs.Common.{◌≡◌, ◌∙◌, ℕ, ◌+◌, ◌<◌, ◌++◌, List, [], ◌∷◌, length, take, map, get_or, refl, sym, ap, subst}
+use Rattle.std.proofs.lemmas.List.{take_more, map-append}
+use Rattle.std.specs.declared.cmp.Ordering.{Ordering}
+use Rattle.ic_world.specs.declared.call.Command.{Command}
+use Rattle.ic_world.specs.Family.{Family}
+use Rattle.ic_world.specs.State.{Reply}
+use Rattle.ic_world.specs.Step.{Step}
+use Rattle.ic_world.specs.Runs.{Runs}
+
+module _ {A V K : Type 0} (cmp : K → K → Ordering) (key_of : A → V → K) where
+  -- a run, and one call more
+  pub runs_more : (calls : List (Command V K)) (replies : List Reply) (call : Command V K) (reply : Reply) (old mid new : Family A V) → Runs cmp key_of old calls replies mid
+      → Step cmp key_of mid call reply new → Runs cmp key_of old (calls ++ call ∷ []) (replies ++ reply ∷ []) new
+  runs_more [] [] call reply old mid new run step = (new, subst (λ w. Step cmp key_of w call reply new) run step, refl)
+  runs_more (c ∷ calls) (r ∷ replies) call reply old mid new run step = (run.0, run.1, runs_more calls replies call reply run.0 mid new run.2 step)
+  runs_more [] (r ∷ replies) call reply old mid new run step = absurd run
+  runs_more (c ∷ calls) [] call reply old mid new run step = absurd run
+
+  -- the same of a loop over the calls, which keeps its answers
+  pub runs_next : {X : Type 0} (told : X → Reply) (calls : List (Command V K)) (i : ℕ) (call : Command V K) (given : List X) (answer : X) (old mid new : Family A V)
+      → i < length calls → call ≡ get_or calls i call → Runs cmp key_of old (take i calls) (map told given) mid → Step cmp key_of mid call (told answer) new
+      → Runs cmp key_of old (take (i + 1) calls) (map told (given ++ answer ∷ [])) new
+  runs_next told calls i call given answer old mid new h is run step =
+      let taken : take (i + 1) calls ≡ take i calls ++ call ∷ [] = take_more calls i call h ∙ ap (λ c. take i calls ++ c ∷ []) (sym is) in
+      subst (λ cs. Runs cmp key_of old cs (map told (given ++ answer ∷ [])) new) (sym taken)
+      (subst (λ rs. Runs cmp key_of old (take i calls ++ call ∷ []) rs new) (sym (map-append told given (answer ∷ [])))
+      (runs_more (take i calls) (map told given) call (told answer) old mid new run step))

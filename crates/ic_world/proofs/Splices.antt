@@ -1,0 +1,115 @@
+-- A splice is two edits: the given collection is emptied, and then its members are put into the other.
+use Rattle.std.proofs.Common.{◌≡◌, ◌≢◌, ℕ, inl, inr, List, [], ◌∷◌, ◌++◌, set, Option, Some, None, refl, sym, ap, ◌∙◌, subst}
+use Rattle.std.proofs.lemmas.List.{get_or-set_other, set-get_or}
+use Rattle.ic_unsafe_ref.specs.declared.place.Place.{Place}
+use Rattle.ic_unsafe_ref.specs.Objects.{Objects}
+use Rattle.ic_link_ops.specs.Sequences.{Cut, join, splice, IsDisjoint}
+use Rattle.ic_link_ops.specs.Tables.{Table}
+use Rattle.ic_link_ops.proofs.SequenceLemmas.{disjoint_sym, disjoint_both}
+use Rattle.ic_fields.specs.declared.entry.Entry.{Entry}
+use Rattle.ic_members.specs.declared.members.Members.{Members}
+use Rattle.ic_members.specs.Members.{Keeps, Alike, cursor_in}
+use Rattle.ic_members.specs.Edits.{PutsAll}
+use Rattle.ic_members.proofs.AllKinds.{one_sequence}
+use Rattle.ic_world.specs.declared.collection.Collection.{Collection}
+use Rattle.ic_world.specs.Family.{Family, Sequence}
+use Rattle.ic_world.specs.Tables.{table, no_table, sequence, seen_as, at, family_of, IsWhole}
+use Rattle.ic_world.specs.Step.{with_collection, with_members}
+use Rattle.ic_world.proofs.Linked.{linked_same}
+use Rattle.ic_world.proofs.Edits.{Edit, after, lawful, edited_lawful, edited_whole, unlinked_family, at_after}
+use Rattle.ic_world.proofs.Opened.{disjoint_none}
+
+-- THE COLLECTION HAS NO MEMBER NOW, and its cursor is at null; its members stay linked
+pub record Emptied {A V K : Type 0} (m m' : Members A V K) : Type 0 where
+  pub kept : (t : Table Entry) (s : List Place) → Keeps t m s → Keeps t m' []
+  pub alike : Alike m m'
+  pub null : cursor_in m' ≡ None
+
+-- a collection as it is seen, of the same kind and with its cursor elsewhere
+pub seen_after : {A V K : Type 0} {m : Members A V K} (k : Collection A V K) (s t : List Place) {cursor : Option Place} → Alike k.members m → cursor_in m ≡ cursor
+    → seen_as (after k m) t ≡ with_members (seen_as k s) t cursor
+seen_after k s t alike cursor_is = λ i. record { field = k.field; kind = alike.kind i; members = t; cursor = cursor_is i }
+
+module _ {A V K : Type 0} {adapter : A} {objects : Objects V} {room : ℕ} {ts : List (Table Entry)} {cs : List (Option (Collection A V K))} (whole : IsWhole adapter objects room ts cs)
+    (c : ℕ) (k : Collection A V K) (is : at cs c ≡ Some k) (m : Members A V K) (e : Emptied k.members m) where
+  -- A COLLECTION IS EMPTIED, and its members stay linked
+  pub emptied_edit : Edit adapter objects ts cs c k (table ts k.field) m [] []
+  emptied_edit = record {
+    was = is;
+    kept = e.kept (table ts k.field) (sequence ts k) (whole.held c k is);
+    alike = e.alike;
+    frame = record { extent = refl; others = λ q out. refl };
+    placed = whole.placed k.field;
+    within = λ q out. tt;
+    beside = λ d l n is_l same. disjoint_none (sequence ts l);
+  }
+
+  same_tables : set ts k.field (table ts k.field) ≡ ts
+  same_tables = set-get_or ts k.field no_table
+
+  pub emptied_whole : IsWhole adapter objects room ts (set cs c (Some (after k m)))
+  emptied_whole =
+      let P : List (Table Entry) → Type 0 = λ us. IsWhole adapter objects room us (set cs c (Some (after k m))) in
+      subst P same_tables (edited_whole whole emptied_edit)
+
+  pub emptied_family : family_of adapter objects ts (set cs c (Some (after k m))) ≡ with_collection (family_of adapter objects ts cs) c (Some (with_members (seen_as k (sequence ts k)) [] None))
+  emptied_family =
+      ap (λ us. family_of adapter objects us (set cs c (Some (after k m)))) (sym same_tables) ∙ unlinked_family whole emptied_edit refl
+      ∙ ap (λ (x : Sequence). with_collection (family_of adapter objects ts cs) c (Some x)) (seen_after {m = m} k (sequence ts k) [] e.alike e.null)
+
+-- THE SPLICE of collection d into c
+module _ {A V K : Type 0} {adapter : A} {objects : Objects V} {room : ℕ} {ts : List (Table Entry)} {cs : List (Option (Collection A V K))} (whole : IsWhole adapter objects room ts cs)
+    (c d : ℕ) (k l : Collection A V K) (is_k : at cs c ≡ Some k) (is_l : at cs d ≡ Some l) (differ : c ≢ d) (fields : k.field ≡ l.field)
+    (new : Table Entry) (m emptied : Members A V K) (e : Emptied l.members emptied) (gap : Cut) (cut : join gap ≡ sequence ts k)
+    (puts : PutsAll (table ts k.field) new k.members m gap (sequence ts l)) where
+  abbrev pub between : List (Option (Collection A V K))
+  between = set cs d (Some (after l emptied))
+
+  still : at between c ≡ Some k
+  still = get_or-set_other cs d c (Some (after l emptied)) None differ ∙ is_k
+
+  first_whole : IsWhole adapter objects room ts between
+  first_whole = emptied_whole whole d l is_l emptied e
+
+  -- others share no member with what is put together
+  others_apart : (x : ℕ) (o : Collection A V K) → x ≢ c → at between x ≡ Some o → o.field ≡ k.field → IsDisjoint (sequence ts o) (splice gap (sequence ts l))
+  others_apart x o n is_o same =
+      elim (at_after whole (emptied_edit whole d l is_l emptied e) x o is_o) [
+        | inl given ↦
+            let none : sequence ts o ≡ [] =
+            ap (sequence ts) given.1 ∙ one_sequence (table ts l.field) (lawful whole l.field) emptied [] (e.kept (table ts l.field) (sequence ts l) (whole.held d l is_l)).shown in
+            let P : List Place → Type 0 = λ r. IsDisjoint r (splice gap (sequence ts l)) in
+            subst P (sym none) tt
+        | inr old ↦
+            let with_k = subst (λ s. IsDisjoint s (sequence ts o)) (sym cut) (disjoint_sym _ _ (whole.apart x c o k n old.1 is_k same)) in
+            let with_l = disjoint_sym _ _ (whole.apart x d o l old.0 old.1 is_l (same ∙ fields)) in
+            let back_front = disjoint_split gap.front gap.back (sequence ts o) with_k in
+            disjoint_sym _ _ (disjoint_both gap.front (sequence ts l ++ gap.back) (sequence ts o) back_front.0 (disjoint_both (sequence ts l) gap.back (sequence ts o) with_l back_front.1))
+      ]
+    where
+      disjoint_split : (a b u : List Place) → IsDisjoint (a ++ b) u → IsDisjoint a u × IsDisjoint b u
+      disjoint_split [] b u h = (tt, h)
+      disjoint_split (x ∷ a) b u h = let r = disjoint_split a b u h.1 in ((h.0, r.0), r.1)
+
+  splice_edit : Edit adapter objects ts between c k new m (splice gap (sequence ts l)) (splice gap (sequence ts l))
+  splice_edit = record {
+    was = still;
+    kept = puts.leaves.kept;
+    alike = puts.leaves.alike;
+    frame = puts.leaves.frame;
+    placed = λ q h. whole.placed k.field q (sym (puts.links q) ∙ h);
+    within = λ q out. out;
+    beside = others_apart;
+  }
+
+  pub splice_whole : IsWhole adapter objects room (set ts k.field new) (set between c (Some (after k m)))
+  splice_whole = edited_whole first_whole splice_edit
+
+  pub splice_family : family_of adapter objects (set ts k.field new) (set between c (Some (after k m)))
+      ≡ with_collection (with_collection (family_of adapter objects ts cs) d (Some (with_members (seen_as l (sequence ts l)) [] None))) c
+      (Some (with_members (seen_as k (sequence ts k)) (splice gap (sequence ts l)) (cursor_in k.members)))
+  splice_family =
+      unlinked_family first_whole splice_edit (linked_same (table ts k.field) new (lawful whole k.field) (edited_lawful first_whole splice_edit) puts.links)
+      ∙ ap (λ (w : Family A V). with_collection w c (Some (seen_as (after k m) (splice gap (sequence ts l))))) (emptied_family whole d l is_l emptied e)
+      ∙ ap (λ (x : Sequence). with_collection (with_collection (family_of adapter objects ts cs) d (Some (with_members (seen_as l (sequence ts l)) [] None))) c (Some x))
+      (seen_after {m = m} k (sequence ts k) (splice gap (sequence ts l)) puts.leaves.alike puts.leaves.cursor_is)

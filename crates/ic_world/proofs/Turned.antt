@@ -1,0 +1,186 @@
+-- What a call of one collection leaves to the world, from what the collection's own call gives, whatever the kind.
+use Rattle.std.proofs.Common.{◌≡◌, ◌≢◌, ◌⊎◌, inl, inr, true, false, Option, None, List, [], ◌∷◌, ◌++◌, refl, sym, ap, ◌∙◌, subst, drop}
+use Rattle.std.proofs.lemmas.Bool.{cases_eq}
+use Rattle.std.specs.Ordering.{nat_cmp}
+use Rattle.std.specs.FinSet as set
+use Rattle.ic_unsafe_ref.specs.declared.place.Place.{Place}
+use Rattle.ic_unsafe_ref.specs.Places.{index_of}
+use Rattle.ic_unsafe_ref.proofs.PlaceLemmas.{same_index}
+use Rattle.ic_link_ops.specs.Sequences.{Cut, join, insert, remove, replace, IsAbsent}
+use Rattle.ic_link_ops.specs.Tables.{Table, IsCovered, IsUnlinked, KeepsBeside}
+use Rattle.ic_link_ops.proofs.SequenceLemmas.{absent_both, absent_left, absent_right}
+use Rattle.ic_link_ops.proofs.StepLemmas.{released_stay, each_unlinked}
+use Rattle.ic_fields.specs.declared.entry.Entry.{Entry}
+use Rattle.ic_fields.specs.Entries.{is_linked}
+use Rattle.ic_members.specs.declared.members.Members.{Members}
+use Rattle.ic_members.specs.Members.{kind_in, cursor_in, members_in, Keeps, Held, Alike}
+use Rattle.ic_members.specs.Edits.{Leaves, Moves, Puts, Takes, Swaps, Empties}
+use Rattle.ic_members.proofs.AllKinds.{IsLawful, one_sequence, held_of}
+use Rattle.ic_world.specs.LinkedSets.{linked_in}
+use Rattle.ic_world.specs.State.{State, put, taken, swapped, moved, having, cleared}
+use Rattle.ic_world.specs.Turns.{Each, Turns, state_of}
+use Rattle.ic_world.proofs.Linked.{absent_or, linked_gains, linked_loses, linked_swaps, linked_unlinks}
+
+absent_drop : (q : Place) (t : List Place) → IsAbsent q t → IsAbsent q (drop 1 t)
+absent_drop q [] h = tt
+absent_drop q (x ∷ t) h = h.1
+
+-- a collection with these members now, on a table in which only covered places are linked
+abbrev after_call : {A V K : Type 0} → Members A V K → List Place → Option Place → set.FinSet nat_cmp → State
+after_call m s cursor linked = record { kind = kind_in m; members = s; cursor = cursor; linked = linked }
+
+module _ {A V K : Type 0} {old new : Table Entry} {m m' : Members A V K} (law : IsLawful old) (law' : IsLawful new) where
+  -- WHAT A CALL LEAVES, by what is newly linked, what it leaves of the collection, and the linked set after it
+  pub turns_by : {names s : List Place} {cursor : Option Place} {linked : set.FinSet nat_cmp} {Accepts : State → State → Type 0} (fresh : List Place)
+      → (fresh ≡ []) ⊎ (fresh ≡ names) → Each (IsUnlinked is_linked old) fresh
+      → ((q : Place) → IsAbsent q fresh → is_linked (new.entry q) ≡ true → is_linked (old.entry q) ≡ true)
+      → (e : Leaves old new m m' s cursor (fresh ++ members_in old m)) → ((q : Place) → IsAbsent q (fresh ++ members_in old m) → IsAbsent q s)
+      → linked_in new ≡ linked → (state_of new m' ≡ after_call m s cursor linked → Accepts (state_of old m) (state_of new m')) → Turns names Accepts old new m m'
+  turns_by {s = s} fresh named free only e within is accepts =
+      let shown = one_sequence new law' m' s e.kept.shown in record {
+        fresh = fresh;
+        named = named;
+        free = free;
+        only = only;
+        frame = e.frame;
+        within = λ q out. subst (IsAbsent q) (sym shown) (within q out);
+        held = held_of law' m' s e.kept;
+        alike = e.alike;
+        accepts = accepts (λ i. record { kind = e.alike.kind i; members = shown i; cursor = e.cursor_is i; linked = is i });
+      }
+
+  -- p is put into the gap
+  pub turns_put : {cursor : Option Place} {Accepts : State → State → Type 0} (gap : Cut) (p : Place) → join gap ≡ members_in old m → (e : Puts old new m m' gap p cursor)
+      → (state_of new m' ≡ put (state_of old m) gap p cursor → Accepts (state_of old m) (state_of new m')) → Turns (p ∷ []) Accepts old new m m'
+  turns_put gap p cut e accepts =
+      let absent : (q : Place) → IsAbsent q (p ∷ join gap) → IsAbsent q (insert gap p) =
+      λ q out. absent_both q gap.front (p ∷ gap.back) (absent_left q gap.front gap.back out.1) (out.0, absent_right q gap.front gap.back out.1) in
+      turns_by (p ∷ []) (inr refl) (e.links.was, tt) (λ q out h. sym (e.links.others q out.0) ∙ h) e.leaves
+      (λ q out. absent q (subst (λ s. IsAbsent q (p ∷ s)) (sym cut) out)) (linked_gains old new law law' p e.links.is e.links.others) accepts
+
+  -- p, the member behind the gap, is taken out
+  pub turns_out : {cursor : Option Place} {Accepts : State → State → Type 0} (gap : Cut) (p : Place) → join gap ≡ members_in old m → (e : Takes old new m m' gap p cursor)
+      → (state_of new m' ≡ taken (state_of old m) gap p cursor → Accepts (state_of old m) (state_of new m')) → Turns [] Accepts old new m m'
+  turns_out gap p cut e accepts =
+      let still : (q : Place) → is_linked (new.entry q) ≡ true → is_linked (old.entry q) ≡ true = λ q h. elim (cases_eq (index_of q) (index_of p)) [
+        | inl same ↦ let no : is_linked (new.entry q) ≡ false = rw (same_index q p same) e.links.is in absurd cc
+        | inr other ↦ sym (e.links.others q (λ x. other (ap index_of x))) ∙ h
+      ] in
+      let absent : (q : Place) → IsAbsent q (join gap) → IsAbsent q (remove gap) =
+      λ q out. absent_both q gap.front (drop 1 gap.back) (absent_left q gap.front gap.back out) (absent_drop q gap.back (absent_right q gap.front gap.back out)) in
+      turns_by [] (inl refl) tt (λ q out h. still q h) e.leaves
+      (λ q out. absent q (subst (IsAbsent q) (sym cut) out)) (linked_loses old new law law' p e.links.is e.links.others) accepts
+
+  -- p takes the place of `out`, the member behind the gap
+  pub turns_swap : {cursor : Option Place} {Accepts : State → State → Type 0} (gap : Cut) (p out : Place) → IsCovered old p → join gap ≡ members_in old m → (e : Swaps old new m m' gap p out cursor)
+      → (state_of new m' ≡ swapped (state_of old m) gap p out cursor → Accepts (state_of old m) (state_of new m')) → Turns (p ∷ []) Accepts old new m m'
+  turns_swap gap p out covered cut e accepts =
+      let gains = e.links.1 in
+      let loses = e.links.2 in
+      let only : (q : Place) → q ≢ p → is_linked (new.entry q) ≡ true → is_linked (old.entry q) ≡ true = λ q n h. elim (cases_eq (index_of q) (index_of out)) [
+        | inl same ↦ let no : is_linked (new.entry q) ≡ false = rw (same_index q out same) loses.is in absurd cc
+        | inr other ↦ sym (gains.others q n) ∙ sym (loses.others q (λ x. other (ap index_of x))) ∙ h
+      ] in
+      let absent : (q : Place) → IsAbsent q (p ∷ join gap) → IsAbsent q (replace gap p) =
+      λ q far. absent_both q gap.front (p ∷ drop 1 gap.back) (absent_left q gap.front gap.back far.1) (far.0, absent_drop q gap.back (absent_right q gap.front gap.back far.1)) in
+      turns_by (p ∷ []) (inr refl) (gains.was, tt) (λ q far h. only q far.0 h) e.leaves
+      (λ q far. absent q (subst (λ s. IsAbsent q (p ∷ s)) (sym cut) far)) (linked_swaps old e.links.0 new law law' p out covered gains loses) accepts
+
+  -- all members are taken out
+  pub turns_clear : {Accepts : State → State → Type 0} → (e : Empties old new m m')
+      → (state_of new m' ≡ cleared (state_of old m) → Accepts (state_of old m) (state_of new m')) → Turns [] Accepts old new m m'
+  turns_clear e accepts =
+      let gone : (q : Place) → (IsAbsent q (members_in old m) → ⊥) → is_linked (new.entry q) ≡ false = λ q there. each_unlinked is_linked (members_in old m) old new q e.links there in
+      let same : (q : Place) → IsAbsent q (members_in old m) → is_linked (new.entry q) ≡ is_linked (old.entry q) = λ q out. released_stay is_linked (members_in old m) old new q e.links out in
+      turns_by [] (inl refl) tt (λ q out h. elim (absent_or (members_in old m) q) [
+        | inl out ↦ sym (same q out) ∙ h
+        | inr there ↦ absurd (let no = gone q there in let both : true ≡ false = sym h ∙ no in cc)
+      ]) e.leaves (λ q out. tt) (linked_unlinks old new law law' (members_in old m) gone same) accepts
+
+-- the cursor alone has moved
+pub turns_still : {A V K : Type 0} {t : Table Entry} {m m' : Members A V K} {cursor : Option Place} {names : List Place} {Accepts : State → State → Type 0} → IsLawful t → (e : Moves t m m' cursor)
+    → (state_of t m' ≡ moved (state_of t m) cursor → Accepts (state_of t m) (state_of t m')) → Turns names Accepts t t m m'
+turns_still {t = t'} {m = m'} law e accepts =
+    turns_by law law [] (inl refl) tt (λ q out h. h)
+    (record { kept = e.kept; alike = e.alike; cursor_is = e.cursor_is; frame = record { extent = refl; others = λ q out. refl } })
+    (λ q out. out) refl accepts
+
+module _ {A V K : Type 0} where
+  -- the collection, with its cursor at null
+  pub nulled : {t : Table Entry} {m m' : Members A V K} → Held t m → ((t : Table Entry) (s : List Place) → Keeps t m s → Keeps t m' s) → Alike m m' → cursor_in m' ≡ None
+      → Moves t m m' None
+  nulled {t} {m} held kept alike null = record { kept = kept t (members_in t m) held; alike = alike; cursor_is = null }
+
+  module _ {t : Table Entry} (law : IsLawful t) {m m1 : Members A V K} {cursor : Option Place} (e : Moves t m m1 cursor) where
+    pub still_members : members_in t m1 ≡ members_in t m
+    still_members = one_sequence t law m1 (members_in t m) e.kept.shown
+
+    pub still_held : Held t m1
+    still_held = held_of law m1 (members_in t m) e.kept
+
+    pub state_moved : state_of t m1 ≡ moved (state_of t m) cursor
+    state_moved = λ i. record { kind = e.alike.kind i; members = still_members i; cursor = e.cursor_is i; linked = linked_in t }
+
+    -- two moves are one
+    pub moves_on : {m2 : Members A V K} {next : Option Place} → Moves t m1 m2 next → Moves t m m2 next
+    moves_on {m2 = m2'} d = record {
+      kept = subst (Keeps t m2') still_members d.kept;
+      alike = record { kind = d.alike.kind ∙ e.alike.kind; adapter = d.alike.adapter ∙ e.alike.adapter };
+      cursor_is = d.cursor_is;
+    }
+
+    -- A MOVE AND THEN A CALL are one call
+    pub turns_moved : {t' : Table Entry} {m2 : Members A V K} {names : List Place} {Accepts : State → State → Type 0} (Then : State → State → Type 0) → Turns names Then t t' m1 m2
+        → (Then (moved (state_of t m) cursor) (state_of t' m2) → Accepts (state_of t m) (state_of t' m2)) → Turns names Accepts t t' m m2
+    turns_moved {t' = t2} {m2 = m2'} Then d accepts = record {
+      fresh = d.fresh;
+      named = d.named;
+      free = d.free;
+      only = d.only;
+      frame = subst (λ s. KeepsBeside t t2 (d.fresh ++ s)) still_members d.frame;
+      within = λ q out. d.within q (subst (λ s. IsAbsent q (d.fresh ++ s)) (sym still_members) out);
+      held = d.held;
+      alike = record { kind = d.alike.kind ∙ e.alike.kind; adapter = d.alike.adapter ∙ e.alike.adapter };
+      accepts = accepts (subst (λ s. Then s (state_of t2 m2')) state_moved d.accepts);
+    }
+
+  -- A CALL AND THEN A MOVE are one call
+  pub turns_then : {t t' : Table Entry} {m m1 m2 : Members A V K} {cursor : Option Place} {names : List Place} {Accepts : State → State → Type 0} (law' : IsLawful t')
+      (First : State → State → Type 0) → Turns names First t t' m m1 → (e : Moves t' m1 m2 cursor)
+      → (First (state_of t m) (state_of t' m1) → state_of t' m2 ≡ moved (state_of t' m1) cursor → Accepts (state_of t m) (state_of t' m2)) → Turns names Accepts t t' m m2
+  turns_then law' First d e accepts = record {
+    fresh = d.fresh;
+    named = d.named;
+    free = d.free;
+    only = d.only;
+    frame = d.frame;
+    within = λ q out. subst (IsAbsent q) (sym (still_members law' e)) (d.within q out);
+    held = still_held law' e;
+    alike = record { kind = e.alike.kind ∙ d.alike.kind; adapter = e.alike.adapter ∙ d.alike.adapter };
+    accepts = accepts d.accepts (state_moved law' e);
+  }
+
+  -- p is put into the gap that the cursor shows once it is at null
+  pub turns_put_null : {t t' : Table Entry} {m m1 m2 : Members A V K} {Accepts : State → State → Type 0} (law : IsLawful t) (law' : IsLawful t') (e : Moves t m m1 None) (gap : Cut) (p : Place)
+      → join gap ≡ members_in t m1 → Puts t t' m1 m2 gap p (cursor_in m1)
+      → (join gap ≡ members_in t m → state_of t' m2 ≡ put (state_of t m) gap p None → Accepts (state_of t m) (state_of t' m2)) → Turns (p ∷ []) Accepts t t' m m2
+  turns_put_null law law' e gap p cut puts accepts =
+      turns_moved law e (λ s u. u ≡ put s gap p s.cursor) (turns_put law law' gap p cut puts (λ same. same)) (accepts (cut ∙ still_members law e))
+
+  -- the table stays, and keeps other members for the collection
+  pub turns_kept : {t : Table Entry} {m m' : Members A V K} {cursor : Option Place} {Accepts : State → State → Type 0} (law : IsLawful t) (s : List Place) → Keeps t m' s → Alike m m'
+      → cursor_in m' ≡ cursor → ((q : Place) → IsAbsent q (members_in t m) → IsAbsent q s) → (state_of t m' ≡ having (state_of t m) s cursor → Accepts (state_of t m) (state_of t m'))
+      → Turns [] Accepts t t m m'
+  turns_kept law s kept alike cursor_is within accepts =
+      turns_by law law [] (inl refl) tt (λ q out h. h)
+      (record { kept = kept; alike = alike; cursor_is = cursor_is; frame = record { extent = refl; others = λ q out. refl } }) within refl accepts
+
+  -- the member p behind a gap goes out, between a move of the cursor and one to null
+  pub turns_out_between : {t t' : Table Entry} {m m1 m2 m3 : Members A V K} {cursor next : Option Place} {Accepts : State → State → Type 0} (law : IsLawful t) (law' : IsLawful t')
+      (e : Moves t m m1 cursor) (gap : Cut) (p : Place) → join gap ≡ members_in t m1 → Takes t t' m1 m2 gap p next → Moves t' m2 m3 None
+      → (join gap ≡ members_in t m → state_of t' m3 ≡ taken (state_of t m) gap p None → Accepts (state_of t m) (state_of t' m3)) → Turns [] Accepts t t' m m3
+  turns_out_between {t} {t'} {m} {m1} {m2} {next = next'} law law' e gap p cut takes null accepts =
+      let First : State → State → Type 0 = λ s u. u ≡ taken s gap p next' in
+      let taking : Turns [] First t t' m1 m2 = turns_out law law' gap p cut takes (λ same. same) in
+      let out : Turns [] First t t' m m2 = turns_moved law e First taking (λ same. same) in
+      turns_then law' First out null (λ was now. accepts (cut ∙ still_members law e) (now ∙ ap (λ s. moved s None) was))

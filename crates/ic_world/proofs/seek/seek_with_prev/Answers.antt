@@ -1,0 +1,30 @@
+use Rattle.std.proofs.Common.{◌∙◌, refl, sym, ap}
+use Rattle.ic_fields.specs.Fields.{look}
+use Rattle.ic_members.specs.Members.{members_in, is_xor}
+use Rattle.ic_members.proofs.AllKinds.{distinct}
+use Rattle.ic_world.specs.Among.{same_position}
+use Rattle.ic_world.proofs.Neighbors.{not_among, among_gap, before_gap}
+use Rattle.ic_world.proofs.Tested.{goes_on, stops}
+use Rattle.ic_world.proofs.seek.seek_with_prev.Goals as goal
+
+pub returns-in_default : goal.returns-in_default
+returns-in_default g c =
+    let can = ap is_xor (sym c.kind.ensures) ∙ sym c.is_xor.ensures ∙ c.if-not-is_xor.false in
+    let out = not_among (members_in (look c.args.links.now) c.args.members.now) c.args.object c.in_default.ensures.none in
+    record { tested = goes_on _ _ _ can (stops _ _ _ out); moved = tt; unchanged = refl }
+
+pub returns-then-not-same_position : goal.returns-then-not-same_position
+returns-then-not-same_position g c =
+    let can = ap is_xor (sym c.kind.ensures) ∙ sym c.is_xor.ensures ∙ c.if-not-is_xor.false in
+    let e = c.in-Some.ensures.member in
+    let before = before_gap e.0 e.1 e.2.1 (distinct (look c.args.links.now) c.args.members.now _ c.requires.held.shown) ∙ sym e.2.0 in
+    let other = ap (same_position c.args.prev) before ∙ sym c.same_position.ensures ∙ c.if-not-same_position.true in
+    record { tested = goes_on _ _ _ can (goes_on _ _ _ (among_gap e.0 e.1 e.2.1) (stops _ _ _ other)); moved = tt; unchanged = refl }
+
+pub returns : goal.returns
+returns g c =
+    let can = ap is_xor (sym c.kind.ensures) ∙ sym c.is_xor.ensures ∙ c.if-not-is_xor.false in
+    let e = c.in-Some.ensures.member in
+    let before = before_gap e.0 e.1 e.2.1 (distinct (look c.args.links.now) c.args.members.now _ c.requires.held.shown) ∙ sym e.2.0 in
+    let same = ap (same_position c.args.prev) before ∙ sym c.same_position.ensures ∙ c.if-not-same_position.false in
+    record { tested = goes_on _ _ _ can (goes_on _ _ _ (among_gap e.0 e.1 e.2.1) (goes_on _ _ _ same refl)); moved = c.stand_on.ensures; unchanged = tt }

@@ -1,0 +1,45 @@
+use Rattle.std.proofs.Common.{◌∙◌, sym, arith, map}
+use Rattle.std.proofs.lemmas.List.{length-map}
+use Rattle.ic_fields.specs.Fields.{look}
+use Rattle.ic_world.specs.Calls.{names}
+use Rattle.ic_world.proofs.Readings.{found, found_at}
+use Rattle.ic_world.proofs.Calls.{room_for, placed_by, whole_by, step_by, step_unplaced}
+use Rattle.ic_world.proofs.world.World.call.Goals as goal
+
+pub returns-then-not-placed : goal.returns-then-not-placed
+returns-then-not-placed g c =
+    let cs = c.self.inside.collections in
+    let is = found_at cs.items c.args.collection c.if-collection-len.false c.len.ensures cs.ok.0 c.index_mut.ensures.value c.in-Some.is in
+    step_unplaced g.A.Key.Ord.cmp g.A.KeyAdapter.key_of c.self.inside.adapter c.self.inside.objects (map look c.self.inside.fields.items) cs.items c.args.collection c.in-Some.found (g.C.OneCall.call c.args.call.now) c.self.view_is is c.index_mut.ensures.value c.in-Some.is (sym c.is_placed-placed.ensures ∙ c.if-not-placed.true)
+
+pub index_mut-links-requires : goal.index_mut-links-requires
+index_mut-links-requires g c =
+    let cs = c.self.inside.collections in
+    let fields = c.self.inside.fields in
+    let is = found_at cs.items c.args.collection c.if-collection-len.false c.len.ensures cs.ok.0 c.index_mut.ensures.value c.in-Some.is in
+    omega (arith, c.self.invariant.in_field c.args.collection c.in-Some.found is, length-map fields.items look, fields.ok.0)
+
+pub run-requires : goal.run-requires
+run-requires g c =
+    let cs = c.self.inside.collections in
+    let at_k = found c.self.inside.fields.items c.self.invariant c.if-collection-len.false c.len.ensures cs.ok.0 c.index_mut.ensures.value c.in-Some.is c.index_mut-links.ensures.value in
+    let placed = sym c.is_placed-placed.ensures ∙ c.if-not-placed.false in
+    record {
+      held = at_k.held;
+      adapter = c.self.invariant.adapted c.args.collection c.in-Some.found at_k.is;
+      covered = room_for c.self.invariant at_k (names (g.C.OneCall.call c.args.call.now)) placed;
+      named = placed;
+      placed = placed_by c.self.invariant at_k;
+    }
+
+pub invariant_of-self-in-Some : goal.invariant_of-self-in-Some
+invariant_of-self-in-Some g c =
+    let cs = c.self.inside.collections in
+    let at_k = found c.self.inside.fields.items c.self.invariant c.if-collection-len.false c.len.ensures cs.ok.0 c.index_mut.ensures.value c.in-Some.is c.index_mut-links.ensures.value in
+    whole_by c.self.invariant at_k g.A.Key.Ord.cmp g.A.KeyAdapter.key_of (g.C.OneCall.call c.args.call.now) (sym c.is_placed-placed.ensures ∙ c.if-not-placed.false) g.C.OneCall.reply c.run.result c.run.new.links c.run.new.members c.run.ensures
+
+pub returns-else-not-placed : goal.returns-else-not-placed
+returns-else-not-placed g c =
+    let cs = c.self.inside.collections in
+    let at_k = found c.self.inside.fields.items c.self.invariant c.if-collection-len.false c.len.ensures cs.ok.0 c.index_mut.ensures.value c.in-Some.is c.index_mut-links.ensures.value in
+    step_by c.self.invariant at_k g.A.Key.Ord.cmp g.A.KeyAdapter.key_of (g.C.OneCall.call c.args.call.now) (sym c.is_placed-placed.ensures ∙ c.if-not-placed.false) g.C.OneCall.reply c.run.result c.run.new.links c.run.new.members c.run.ensures c.self.view_is

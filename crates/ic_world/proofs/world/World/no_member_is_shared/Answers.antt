@@ -1,0 +1,7 @@
+use Rattle.std.proofs.Common.{subst}
+use Rattle.ic_world.specs.Laws.{AreApart}
+use Rattle.ic_world.proofs.StepLaws.{are_apart}
+use Rattle.ic_world.proofs.world.World.no_member_is_shared.Goals as goal
+
+pub returns : goal.returns
+returns g c = subst AreApart c.self.view_is (are_apart c.self.invariant)

@@ -1,0 +1,70 @@
+-- What users rely on, whatever the calls were.
+use Rattle.std.specs.Prelude.{◌≡◌, ◌≢◌, ◌↔◌, ℕ, true, List, Option, Some, None}
+use Rattle.std.specs.FinSet as set
+use Rattle.ic_unsafe_ref.specs.declared.place.Place.{Place}
+use Rattle.ic_unsafe_ref.specs.Places.{index_of}
+use Rattle.ic_link_ops.specs.Sequences.{IsDistinct, IsDisjoint}
+use Rattle.ic_members.specs.Keyed.{FewLooks}
+use Rattle.ic_world.specs.declared.call.Refusal.TheVariants.{AlreadyLinked}
+use Rattle.ic_world.specs.declared.call.Command.{Command}
+use Rattle.ic_world.specs.declared.call.Command.TheVariants as call
+use Rattle.ic_world.specs.Family.{Family, Sequence}
+use Rattle.ic_world.specs.State.{Reply, found, looked, range, entry, refused}
+use Rattle.ic_world.specs.Step.{collection, linked_of}
+
+module _ {V K : Type 0} where
+  -- the collection that a call puts an object into, and the object
+  abbrev pub inserts : Command V K → Option (ℕ × Place)
+  inserts (call.PushFront c p) = Some (c, p)
+  inserts (call.PushBack c p) = Some (c, p)
+  inserts (call.InsertAfter c p) = Some (c, p)
+  inserts (call.InsertBefore c p) = Some (c, p)
+  inserts (call.ReplaceWith c p) = Some (c, p)
+  inserts (call.ReplaceNextWith c p) = Some (c, p)
+  inserts (call.Insert c p) = Some (c, p)
+  inserts (call.CursorInsert c p) = Some (c, p)
+  inserts (call.Entry c key p) = Some (c, p)
+  inserts _ = None
+
+  -- the tree that a call descends
+  abbrev pub descends : Command V K → Option ℕ
+  descends (call.Find c key) = Some c
+  descends (call.LowerBound c bound) = Some c
+  descends (call.UpperBound c bound) = Some c
+  descends (call.Range c min max) = Some c
+  descends (call.Insert c p) = Some c
+  descends (call.CursorInsert c p) = Some c
+  descends (call.Entry c key p) = Some c
+  descends _ = None
+
+-- an insert whose collection, object and kind are right, and of an entry one that is vacant
+abbrev pub IsWellNamed : Reply → Type 0
+IsWellNamed (refused AlreadyLinked) = Unit
+IsWellNamed (refused _) = ⊥
+IsWellNamed (entry true p looks) = ⊥
+IsWellNamed _ = Unit
+
+-- the looks of a descent of the tree of s are few
+abbrev pub AreFew : List Place → Reply → Type 0
+AreFew s (found p looks) = FewLooks looks s
+AreFew s (looked looks) = FewLooks looks s
+AreFew s (range places first_looks second_looks) = FewLooks first_looks s × FewLooks second_looks s
+AreFew s (entry occupied p looks) = FewLooks looks s
+AreFew s _ = Unit
+
+module _ {A V : Type 0} where
+  -- AN INSERT IS REFUSED EXACTLY IF its object is linked in the field of the collection
+  abbrev pub RefusedIfLinked : Family A V → Option (ℕ × Place) → Reply → Type 0
+  RefusedIfLinked w None reply = Unit
+  RefusedIfLinked w (Some (c, p)) reply = (s : Sequence) → collection w c ≡ Some s → IsWellNamed reply
+      → (reply ≡ refused AlreadyLinked) ↔ (set.contains (linked_of w s.field) (index_of p) ≡ true)
+
+  -- LOOKS ARE FEW: v of them in a tree of n members, where 2^v is at most (n + 1)^2
+  abbrev pub HasFewLooks : Family A V → Option ℕ → Reply → Type 0
+  HasFewLooks w None reply = Unit
+  HasFewLooks w (Some c) reply = (s : Sequence) → collection w c ≡ Some s → AreFew s.members reply
+
+  -- NO MEMBER IS SHARED: no place stands twice in a collection, nor in two of one field
+  abbrev pub AreApart : Family A V → Type 0
+  AreApart w = ((c : ℕ) (s : Sequence) → collection w c ≡ Some s → IsDistinct s.members)
+      × ((c d : ℕ) (s t : Sequence) → c ≢ d → collection w c ≡ Some s → collection w d ≡ Some t → s.field ≡ t.field → IsDisjoint s.members t.members)

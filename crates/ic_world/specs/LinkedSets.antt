@@ -1,0 +1,26 @@
+-- The linked set of a table.
+use Rattle.std.specs.Prelude.{ℕ, ◌+◌, ◌*◌, Bool, false, cond, List, [], ◌∷◌, Option, Some, None}
+use Rattle.std.proofs.Common.{zero, suc}
+use Rattle.std.specs.Ordering.{nat_cmp}
+use Rattle.std.specs.FinSet as set
+use Rattle.ic_unsafe_ref.specs.declared.place.Place.{Place}
+use Rattle.ic_unsafe_ref.specs.Places.{place_at}
+use Rattle.ic_link_ops.specs.Tables.{Table}
+use Rattle.ic_fields.specs.declared.entry.Entry.{Entry}
+use Rattle.ic_fields.specs.Entries.{is_linked}
+
+-- whether the place with an index is linked
+abbrev pub linked_there : Table Entry → Option Place → Bool
+linked_there t None = false
+linked_there t (Some p) = is_linked (t.entry p)
+
+abbrev pub linked_index : Table Entry → ℕ → Bool
+linked_index t i = linked_there t (place_at (2 * (i + 1)))
+
+-- the linked places below an index, and those of the whole table
+abbrev pub linked_below : Table Entry → ℕ → List ℕ
+linked_below t zero = []
+linked_below t (suc n) = cond (linked_index t n) (n ∷ linked_below t n) (linked_below t n)
+
+unfoldable pub linked_in : Table Entry → set.FinSet nat_cmp
+linked_in t = set.from_list (linked_below t t.extent.places)

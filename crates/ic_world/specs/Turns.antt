@@ -1,0 +1,67 @@
+-- What a call of one collection gives to the world, whatever it does.
+use Rattle.std.specs.Prelude.{◌≡◌, ◌⊎◌, Bool, true, false, Option, Some, None, List, [], ◌∷◌, ◌++◌, Result, Ok, Err, IfOk, OnErr}
+use Rattle.ic_unsafe_ref.specs.declared.place.Place.{Place}
+use Rattle.ic_link_ops.specs.Sequences.{IsAbsent, IsDisjoint}
+use Rattle.ic_link_ops.specs.Tables.{Table, KeepsBeside, KeepsLinked, IsUnlinked}
+use Rattle.ic_fields.specs.declared.entry.Entry.{Entry}
+use Rattle.ic_fields.specs.declared.field.Field.{Field}
+use Rattle.ic_fields.specs.Fields.{look}
+use Rattle.ic_fields.specs.Entries.{is_linked}
+use Rattle.ic_members.specs.declared.members.Members.{Members}
+use Rattle.ic_members.specs.Members.{kind_in, cursor_in, members_in, Held, Alike}
+use Rattle.ic_world.specs.declared.call.Refusal.{Refusal}
+use Rattle.ic_world.specs.declared.call.Refusal.TheVariants.{OutOfMemory}
+use Rattle.ic_world.specs.LinkedSets.{linked_in}
+use Rattle.ic_world.specs.State.{State}
+
+-- the refusal that a result is, if it is one
+abbrev pub refusal_in : {A : Type 0} → Result A Refusal → Option Refusal
+refusal_in (Ok a) = None
+refusal_in (Err r) = Some r
+
+-- the refusal of the tests, and want of memory after them
+abbrev pub asks_room : Bool → Option Refusal → Option Refusal
+asks_room room (Some r) = Some r
+asks_room true None = None
+asks_room false None = Some OutOfMemory
+
+-- P holds of each place
+abbrev pub Each : (Place → Type 0) → List Place → Type 0
+Each P [] = Unit {0}
+Each P (p ∷ s) = P p × Each P s
+
+module _ {A V K : Type 0} where
+  -- the state of a collection, as its table shows it
+  abbrev pub state_of : Table Entry → Members A V K → State
+  state_of t m = record { kind = kind_in m; members = members_in t m; cursor = cursor_in m; linked = linked_in t }
+
+  -- WHAT A CALL OF ONE COLLECTION LEAVES: its step, and the rest as it was. Nothing is newly linked but what the call names
+  pub record Turns (names : List Place) (Accepts : State → State → Type 0) (old new : Table Entry) (m m' : Members A V K) : Type 0 where
+    pub fresh : List Place
+    pub named : (fresh ≡ []) ⊎ (fresh ≡ names)
+    pub free : Each (IsUnlinked is_linked old) fresh
+    pub only : (q : Place) → IsAbsent q fresh → is_linked (new.entry q) ≡ true → is_linked (old.entry q) ≡ true
+    pub frame : KeepsBeside old new (fresh ++ members_in old m)
+    pub within : (q : Place) → IsAbsent q (fresh ++ members_in old m) → IsAbsent q (members_in new m')
+    pub held : Held new m'
+    pub alike : Alike m m'
+    pub accepts : Accepts (state_of old m) (state_of new m')
+
+  -- A CALL IS DONE: it is refused as its tests say, and nothing has changed; or it leaves what it accepts
+  pub record Ran {M R : Type 0} (names : List Place) (refusal : State → Option Refusal) (accepts : R → State → State → Type 0)
+      (links links' : Field M) (m m' : Members A V K) (result : Result R Refusal) : Type 0 where
+    pub tested : refusal_in result ≡ refusal (state_of (look links) m)
+    pub turned : IfOk result (λ answer. Turns names (accepts answer) (look links) (look links') m m')
+    pub unchanged : OnErr result ((links' ≡ links) × (m' ≡ m))
+
+  -- WHAT A CALL THAT HANDS A PART OUT LEAVES: the same places are linked, and nothing but entries of members is changed
+  pub record HandsOut (Parts : State → State → State → Type 0) (old new : Table Entry) (m m' handed : Members A V K) : Type 0 where
+    pub held : Held new m'
+    pub hands_out : Held new handed
+    pub alike : Alike m m'
+    pub part_alike : Alike m handed
+    pub links : KeepsLinked is_linked old new
+    pub frame : KeepsBeside old new (members_in old m)
+    pub within : (q : Place) → IsAbsent q (members_in old m) → IsAbsent q (members_in new m') × IsAbsent q (members_in new handed)
+    pub apart : IsDisjoint (members_in new m') (members_in new handed)
+    pub parts : Parts (state_of old m) (state_of new m') (state_of new handed)

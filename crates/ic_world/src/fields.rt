@@ -1,0 +1,87 @@
+//! The fields of a world.
+//!
+//! ```text
+//! let field = world.add_field(Kind::Tree)?;
+//! world.is_linked(field, first)? // false: it is in no collection of that field
+//! ```
+
+ghost use Rattle.std.specs.Prelude.{◌≡◌, true};
+
+use crate::World;
+use crate::call::{Command, Refusal};
+use ic_fields::{Field, Kind};
+use ic_rbtree::KeyAdapter;
+use ic_unsafe_ref::Place;
+use std::alloc::Allocator;
+
+impl<A: KeyAdapter, M: Allocator + Copy> World<A, M> {
+    ghost use Rattle.ic_world.specs.Step.{Step, is_placed, is_member_in, has_field};
+    ghost use Rattle.ic_world.specs.State.{reply_of, field, done, linked};
+
+    /// Makes a field with no collection, which covers the objects that are there, and answers its number.
+    ///
+    /// Refused: `OutOfMemory`.
+    pub fn add_field(&mut self, kind: Kind) -> Result<usize, Refusal>
+        ensures { Step A.Key.cmp A.key_of self.old (Command.AddField kind) (reply_of (λ f. field f) result) self.new }
+    {
+        let mut links = Field::new(self.alloc, kind);
+        if links.cover(self.room).is_err() {
+            return Err(Refusal::OutOfMemory);
+        }
+        let number = self.fields.len();
+        match self.fields.push(links) {
+            Ok(()) => Ok(number),
+            Err(_) => Err(Refusal::OutOfMemory),
+        }
+    }
+
+    /// Whether the object is linked in the field: a member of one of its collections, or left linked by `fast_clear`. O(1).
+    ///
+    /// Refused: `NoSuchField`, `NoSuchObject`.
+    pub fn is_linked(&self, field: usize, object: Place) -> Result<bool, Refusal>
+        ensures { Step A.Key.cmp A.key_of self.now (Command.IsLinked field object) (reply_of (λ b. linked b) result) self.now }
+    {
+        if field >= self.fields.len() {
+            return Err(Refusal::NoSuchField);
+        }
+        if !self.objects.is_placed(object) {
+            return Err(Refusal::NoSuchObject);
+        }
+        Ok(self.fields[field].is_linked(object))
+    }
+
+    // Whether the object, which is placed, is a member of a collection of the field.
+    fn is_member(&self, field: usize, object: Place) -> bool
+        requires placed { is_placed self.now object ≡ true }
+        requires there { has_field self.now field ≡ true }
+        ensures { result ≡ is_member_in self.now field object }
+    {
+        for c in 0..self.collections.len() {
+            if let Some(found) = &self.collections[c] {
+                if found.field == field && found.members.contains(&self.fields[field], object) {
+                    return true;
+                }
+            }
+        }
+        false
+    }
+
+    /// Unlinks an object in a field where it is a member of no collection, as `fast_clear` leaves it. An unlinked one stays unlinked.
+    ///
+    /// Refused: `NoSuchField`, `NoSuchObject`, `IsMember`. O(collections), and of lists O(members). It takes no memory.
+    pub fn force_unlink(&mut self, field: usize, object: Place) -> Result<(), Refusal>
+        ensures { Step A.Key.cmp A.key_of self.old (Command.ForceUnlink field object) (reply_of (λ _. done) result) self.new }
+    {
+        if field >= self.fields.len() {
+            return Err(Refusal::NoSuchField);
+        }
+        if !self.objects.is_placed(object) {
+            return Err(Refusal::NoSuchObject);
+        }
+        if self.is_member(field, object) {
+            return Err(Refusal::IsMember);
+        }
+        self.fields[field].force_unlink(object);
+        Ok(())
+    }
+}

@@ -1,0 +1,86 @@
+//! Which kinds have which calls.
+//!
+//! ```text
+//! has_before(Kind::Singly) // false: no call of a singly linked list goes back
+//! ```
+
+ghost use Rattle.std.specs.Prelude.{◌≡◌};
+ghost use Rattle.ic_members.specs.Members as kinds;
+ghost use Rattle.ic_world.specs.Step as step;
+ghost use Rattle.ic_world.specs.Among as among;
+
+use ic_fields::Kind;
+use ic_unsafe_ref::Place;
+
+// Whether the position before the cursor can be used.
+#[inline]
+pub(crate) fn has_before(kind: Kind) -> bool
+    ensures { result ≡ kinds.has_before kind }
+{
+    !matches!(kind, Kind::Singly)
+}
+
+// Whether it is a list: all but trees.
+#[inline]
+pub(crate) fn is_list(kind: Kind) -> bool
+    ensures { result ≡ kinds.is_list kind }
+{
+    !matches!(kind, Kind::Tree)
+}
+
+// Whether it is a list with calls at its back.
+#[inline]
+pub(crate) fn is_two_way_list(kind: Kind) -> bool
+    ensures { result ≡ kinds.is_two_way_list kind }
+{
+    matches!(kind, Kind::Doubly | Kind::Xor)
+}
+
+#[inline]
+pub(crate) fn is_singly(kind: Kind) -> bool
+    ensures { result ≡ kinds.is_singly kind }
+{
+    matches!(kind, Kind::Singly)
+}
+
+#[inline]
+pub(crate) fn is_xor(kind: Kind) -> bool
+    ensures { result ≡ kinds.is_xor kind }
+{
+    matches!(kind, Kind::Xor)
+}
+
+#[inline]
+pub(crate) fn is_tree(kind: Kind) -> bool
+    ensures { result ≡ kinds.is_tree kind }
+{
+    matches!(kind, Kind::Tree)
+}
+
+// Whether a cursor is made on a member from its place alone.
+#[inline]
+pub(crate) fn has_pointer(kind: Kind) -> bool
+    ensures { result ≡ kinds.has_pointer kind }
+{
+    !matches!(kind, Kind::Xor)
+}
+
+// Whether two kinds are one.
+#[inline]
+pub(crate) fn same_kind(kind: Kind, other: Kind) -> bool
+    ensures { result ≡ step.same_kind kind other }
+{
+    kind as u8 == other as u8
+}
+
+// Whether two positions are one.
+#[inline]
+pub(crate) fn same_position(position: Option<Place>, other: Option<Place>) -> bool
+    ensures { result ≡ among.same_position position other }
+{
+    match (position, other) {
+        (None, None) => true,
+        (Some(place), Some(other)) => place.index() == other.index(),
+        _ => false,
+    }
+}

@@ -1,0 +1,70 @@
+//! What holds of a world whatever its calls were: each law is the contract of a function.
+//!
+//! ```text
+//! laws::refused_changes_nothing(&mut world, command) // so the same command can be made again
+//! ```
+
+ghost use Rattle.std.specs.Prelude.{◌≡◌};
+ghost use Rattle.ic_world.specs.declared.call.Refusal.{Refusal};
+ghost use Rattle.ic_world.specs.Answers.{reply_in};
+ghost use Rattle.ic_world.specs.State.{refused};
+ghost use Rattle.ic_world.specs.Step.{Step};
+ghost use Rattle.ic_world.specs.Laws.{inserts, descends, RefusedIfLinked, HasFewLooks, AreApart};
+
+use crate::World;
+use crate::call::{Answer, Command};
+use ic_rbtree::KeyAdapter;
+use std::alloc::Allocator;
+
+/// Makes a call: refused, it has changed nothing.
+pub fn refused_changes_nothing<A: KeyAdapter, M: Allocator + Copy>(
+    world: &mut World<A, M>,
+    command: Command<A::Value, A::Key>,
+) -> Answer<M>
+where
+    A::Value: Copy,
+    A::Key: Copy,
+    ensures step { Step A.Key.cmp A.key_of world.old command (reply_in result) world.new }
+    ensures law { (refusal : Refusal) → reply_in result ≡ refused refusal → world.new ≡ world.old }
+{
+    world.answer(command)
+}
+
+/// Makes a call that puts an object into a collection. Where collection, object and kind are right, and an entry is vacant, it is
+/// refused exactly if the object is linked in the field.
+pub fn insert_is_refused_if_linked<A: KeyAdapter, M: Allocator + Copy>(
+    world: &mut World<A, M>,
+    command: Command<A::Value, A::Key>,
+) -> Answer<M>
+where
+    A::Value: Copy,
+    A::Key: Copy,
+    ensures step { Step A.Key.cmp A.key_of world.old command (reply_in result) world.new }
+    ensures law { RefusedIfLinked world.old (inserts command) (reply_in result) }
+{
+    world.answer(command)
+}
+
+/// Makes a call that descends a tree: of a tree of n members it looks at v, where `2^v <= (n + 1)^2`; a range at as many twice.
+pub fn looks_are_few<A: KeyAdapter, M: Allocator + Copy>(
+    world: &mut World<A, M>,
+    command: Command<A::Value, A::Key>,
+) -> Answer<M>
+where
+    A::Value: Copy,
+    A::Key: Copy,
+    ensures step { Step A.Key.cmp A.key_of world.old command (reply_in result) world.new }
+    ensures law { HasFewLooks world.old (descends command) (reply_in result) }
+{
+    world.answer(command)
+}
+
+impl<A: KeyAdapter, M: Allocator + Copy> World<A, M> {
+    /// Says that no place stands twice in a collection, nor in two collections of one field. It does nothing.
+    pub fn no_member_is_shared(&self)
+        ensures { AreApart self.now }
+    {
+        // What is read is kept by a world, of which this is the law.
+        let _ = self.collections.len();
+    }
+}

@@ -1,0 +1,221 @@
+//! Calls of one collection without keys. Each tests its conditions in the order of the refusals that it names, and takes no memory.
+//!
+//! ```text
+//! world.push_back(queue, first)?;
+//! world.move_next(queue)?; // Some(first)
+//! world.remove(queue)?     // Some(first)
+//! ```
+
+ghost use Rattle.std.specs.Prelude.{◌≡◌};
+
+use crate::World;
+use crate::call::{Command, Refusal};
+use crate::edit::Edit;
+use crate::pick::Pick;
+use crate::seek::Seek;
+use crate::swap::Swap;
+use ic_rbtree::KeyAdapter;
+use ic_unsafe_ref::Place;
+use std::alloc::Allocator;
+
+impl<A: KeyAdapter, M: Allocator + Copy> World<A, M> {
+    ghost use Rattle.ic_world.specs.Step.{Step};
+    ghost use Rattle.ic_world.specs.State as state;
+    ghost use Rattle.ic_world.specs.State.{reply_of, done, object_or_nothing};
+
+    /// Puts an object in front of all members of a list, and the cursor to null. O(1).
+    ///
+    /// Refused: `NoSuchCollection`, `NoSuchObject`, `WrongKind` of a tree, `AlreadyLinked`.
+    pub fn push_front(&mut self, collection: usize, object: Place) -> Result<(), Refusal>
+        ensures { Step A.Key.cmp A.key_of self.old (Command.PushFront collection object) (reply_of (λ _. done) result) self.new }
+    {
+        self.call(collection, &Edit::PushFront(object))
+    }
+
+    /// Puts an object behind all members of a doubly linked or an XOR list, and the cursor to null. O(1).
+    ///
+    /// Refused: `NoSuchCollection`, `NoSuchObject`, `WrongKind` of the other kinds, `AlreadyLinked`.
+    pub fn push_back(&mut self, collection: usize, object: Place) -> Result<(), Refusal>
+        ensures { Step A.Key.cmp A.key_of self.old (Command.PushBack collection object) (reply_of (λ _. done) result) self.new }
+    {
+        self.call(collection, &Edit::PushBack(object))
+    }
+
+    /// Takes the first member out of a list and answers it, `None` where there is none, and puts the cursor to null. O(1).
+    ///
+    /// Refused: `NoSuchCollection`, `WrongKind` of a tree.
+    pub fn pop_front(&mut self, collection: usize) -> Result<Option<Place>, Refusal>
+        ensures { Step A.Key.cmp A.key_of self.old (Command.PopFront collection) (reply_of object_or_nothing result) self.new }
+    {
+        self.call(collection, &Pick::PopFront)
+    }
+
+    /// Takes the last member out of a doubly linked or an XOR list and answers it, `None` where there is none, and puts the cursor to
+    /// null. O(1).
+    ///
+    /// Refused: `NoSuchCollection`, `WrongKind` of the other kinds.
+    pub fn pop_back(&mut self, collection: usize) -> Result<Option<Place>, Refusal>
+        ensures { Step A.Key.cmp A.key_of self.old (Command.PopBack collection) (reply_of object_or_nothing result) self.new }
+    {
+        self.call(collection, &Pick::PopBack)
+    }
+
+    /// Moves the cursor to the next member, from null to the first one and from the last one to null, and answers where it is. O(1), in
+    /// a tree O(log n).
+    ///
+    /// Refused: `NoSuchCollection`.
+    pub fn move_next(&mut self, collection: usize) -> Result<Option<Place>, Refusal>
+        ensures { Step A.Key.cmp A.key_of self.old (Command.MoveNext collection) (reply_of object_or_nothing result) self.new }
+    {
+        self.call(collection, &Pick::MoveNext)
+    }
+
+    /// Moves the cursor to the previous member, from null to the last one and from the first one to null, and answers where it is. O(1),
+    /// in a tree O(log n).
+    ///
+    /// Refused: `NoSuchCollection`, `WrongKind` of a singly linked list.
+    pub fn move_prev(&mut self, collection: usize) -> Result<Option<Place>, Refusal>
+        ensures { Step A.Key.cmp A.key_of self.old (Command.MovePrev collection) (reply_of object_or_nothing result) self.new }
+    {
+        self.call(collection, &Pick::MovePrev)
+    }
+
+    /// Moves the cursor to null. O(1).
+    ///
+    /// Refused: `NoSuchCollection`.
+    pub fn go_null(&mut self, collection: usize) -> Result<(), Refusal>
+        ensures { Step A.Key.cmp A.key_of self.old (Command.GoNull collection) (reply_of (λ _. done) result) self.new }
+    {
+        self.call(collection, &Edit::GoNull)
+    }
+
+    /// The member that the cursor is on, `None` at null. O(1).
+    ///
+    /// Refused: `NoSuchCollection`.
+    pub fn current(&mut self, collection: usize) -> Result<Option<Place>, Refusal>
+        ensures { Step A.Key.cmp A.key_of self.old (Command.Current collection) (reply_of object_or_nothing result) self.new }
+    {
+        self.call(collection, &Pick::Current)
+    }
+
+    /// Puts the cursor on a member. Of lists O(members), in a tree O(log n).
+    ///
+    /// Refused: `NoSuchCollection`, `NoSuchObject`, `WrongKind` of an XOR list, `NotAMember`.
+    pub fn seek(&mut self, collection: usize, object: Place) -> Result<(), Refusal>
+        ensures { Step A.Key.cmp A.key_of self.old (Command.Seek collection object) (reply_of (λ _. done) result) self.new }
+    {
+        self.call(collection, &Seek::On(object))
+    }
+
+    /// Puts the cursor of an XOR list on a member, with the one in front of it, `None` at the front. O(members).
+    ///
+    /// Refused: `NoSuchCollection`, `NoSuchObject` of either object, `WrongKind` of the other kinds, `NotAMember`, `NotANeighbour`.
+    pub fn seek_with_prev(
+        &mut self,
+        collection: usize,
+        object: Place,
+        prev: Option<Place>,
+    ) -> Result<(), Refusal>
+        ensures { Step A.Key.cmp A.key_of self.old (Command.SeekWithPrev collection object prev) (reply_of (λ _. done) result) self.new }
+    {
+        self.call(collection, &Seek::WithPrev(object, prev))
+    }
+
+    /// Puts the cursor of an XOR list on a member, with the one behind it, `None` at the back. O(members).
+    ///
+    /// Refused: `NoSuchCollection`, `NoSuchObject` of either object, `WrongKind` of the other kinds, `NotAMember`, `NotANeighbour`.
+    pub fn seek_with_next(
+        &mut self,
+        collection: usize,
+        object: Place,
+        next: Option<Place>,
+    ) -> Result<(), Refusal>
+        ensures { Step A.Key.cmp A.key_of self.old (Command.SeekWithNext collection object next) (reply_of (λ _. done) result) self.new }
+    {
+        self.call(collection, &Seek::WithNext(object, next))
+    }
+
+    /// Puts an object behind the cursor, at null in front of all. The cursor stays. O(1), in a tree O(log n).
+    ///
+    /// Refused: `NoSuchCollection`, `NoSuchObject`, `AlreadyLinked`.
+    pub fn insert_after(&mut self, collection: usize, object: Place) -> Result<(), Refusal>
+        ensures { Step A.Key.cmp A.key_of self.old (Command.InsertAfter collection object) (reply_of (λ _. done) result) self.new }
+    {
+        self.call(collection, &Edit::InsertAfter(object))
+    }
+
+    /// Puts an object in front of the cursor, at null behind all. The cursor stays. O(1), in a tree O(log n).
+    ///
+    /// Refused: `NoSuchCollection`, `NoSuchObject`, `WrongKind` of a singly linked list, `AlreadyLinked`.
+    pub fn insert_before(&mut self, collection: usize, object: Place) -> Result<(), Refusal>
+        ensures { Step A.Key.cmp A.key_of self.old (Command.InsertBefore collection object) (reply_of (λ _. done) result) self.new }
+    {
+        self.call(collection, &Edit::InsertBefore(object))
+    }
+
+    /// Takes the member out that the cursor is on and answers it, `None` at null. The cursor goes on to the next member. O(1), in a tree
+    /// O(log n).
+    ///
+    /// Refused: `NoSuchCollection`, `WrongKind` of a singly linked list.
+    pub fn remove(&mut self, collection: usize) -> Result<Option<Place>, Refusal>
+        ensures { Step A.Key.cmp A.key_of self.old (Command.Remove collection) (reply_of object_or_nothing result) self.new }
+    {
+        self.call(collection, &Pick::Remove)
+    }
+
+    /// Takes the member behind the cursor of a singly linked list out and answers it, at null the first one; `None` where there is none.
+    /// The cursor stays. O(1).
+    ///
+    /// Refused: `NoSuchCollection`, `WrongKind` of the other kinds.
+    pub fn remove_next(&mut self, collection: usize) -> Result<Option<Place>, Refusal>
+        ensures { Step A.Key.cmp A.key_of self.old (Command.RemoveNext collection) (reply_of object_or_nothing result) self.new }
+    {
+        self.call(collection, &Pick::RemoveNext)
+    }
+
+    /// Puts an object in the place of the member that the cursor is on, which it answers. The cursor is on the object then. O(1).
+    ///
+    /// Refused: `NoSuchCollection`, `NoSuchObject`, `WrongKind` of a singly linked list, `NothingThere` at null, `AlreadyLinked`.
+    pub fn replace_with(&mut self, collection: usize, object: Place) -> Result<Place, Refusal>
+        ensures { Step A.Key.cmp A.key_of self.old (Command.ReplaceWith collection object) (reply_of (λ p. state.object p) result) self.new }
+    {
+        self.call(collection, &Swap::ReplaceWith(object))
+    }
+
+    /// Puts an object in the place of the member behind the cursor of a singly linked list, at null of the first one, which it answers.
+    /// The cursor stays. O(1).
+    ///
+    /// Refused: `NoSuchCollection`, `NoSuchObject`, `WrongKind` of the other kinds, `NothingThere` where there is none, `AlreadyLinked`.
+    pub fn replace_next_with(&mut self, collection: usize, object: Place) -> Result<Place, Refusal>
+        ensures { Step A.Key.cmp A.key_of self.old (Command.ReplaceNextWith collection object) (reply_of (λ p. state.object p) result) self.new }
+    {
+        self.call(collection, &Swap::ReplaceNextWith(object))
+    }
+
+    /// Turns an XOR list round, and puts the cursor to null. O(1).
+    ///
+    /// Refused: `NoSuchCollection`, `WrongKind` of the other kinds.
+    pub fn reverse(&mut self, collection: usize) -> Result<(), Refusal>
+        ensures { Step A.Key.cmp A.key_of self.old (Command.Reverse collection) (reply_of (λ _. done) result) self.new }
+    {
+        self.call(collection, &Edit::Reverse)
+    }
+
+    /// Takes all members out, and puts the cursor to null. O(members).
+    ///
+    /// Refused: `NoSuchCollection`.
+    pub fn clear(&mut self, collection: usize) -> Result<(), Refusal>
+        ensures { Step A.Key.cmp A.key_of self.old (Command.Clear collection) (reply_of (λ _. done) result) self.new }
+    {
+        self.call(collection, &Edit::Clear)
+    }
+
+    /// Takes all members out and leaves them linked, until [`World::force_unlink`], and puts the cursor to null. O(1).
+    ///
+    /// Refused: `NoSuchCollection`.
+    pub fn fast_clear(&mut self, collection: usize) -> Result<(), Refusal>
+        ensures { Step A.Key.cmp A.key_of self.old (Command.FastClear collection) (reply_of (λ _. done) result) self.new }
+    {
+        self.call(collection, &Edit::FastClear)
+    }
+}

@@ -1,0 +1,112 @@
+//! The objects of a world.
+//!
+//! ```text
+//! let first = world.place(10)?;
+//! world.remove_object(first)? // 10, unless it is linked in some field
+//! ```
+
+ghost use Rattle.std.specs.Prelude.{◌≡◌, ◌<◌, ◌≤◌, ℕ, length, Some, IfOk, IfErr, OnOk, map as map_list};
+ghost use Rattle.std.specs.List.{list_any};
+ghost use Rattle.std.specs.FinMap as map;
+ghost use Rattle.std.specs.FinSet as set;
+ghost use Rattle.ic_unsafe_ref.specs.Places.{index_of};
+ghost use Rattle.ic_fields.specs.Fields.{look};
+ghost use Rattle.ic_link_ops.specs.Tables.{IsCovered};
+ghost use Rattle.ic_world.specs.Family.{LinkField};
+ghost use Rattle.ic_world.specs.Tables.{table, field_in};
+ghost use Rattle.ic_world.specs.Growth.{Grown};
+
+use crate::World;
+use crate::call::{Command, Refusal};
+use ic_fields::Field;
+use ic_rbtree::KeyAdapter;
+use ic_unsafe_ref::{Place, UnsafeRef};
+use std::alloc::{AllocError, Allocator};
+use std::mem;
+
+// Covers the first `count` places in each table, as far as memory is found.
+fn cover_all<M: Allocator>(tables: &mut [Field<M>], count: usize) -> Result<(), AllocError>
+    ensures grown { Grown (map_list look tables.old) (map_list look tables.new) }
+    ensures ok { OnOk result ((f : ℕ) → f < length tables.old → count ≤ (table (map_list look tables.new) f).extent.places) }
+{
+    for f in 0..tables.len() {
+        if tables[f].cover(count).is_err() {
+            return Err(AllocError);
+        }
+    }
+    Ok(())
+}
+
+// Whether the object, which each table covers, is linked in one of them.
+fn is_linked_in_any<M: Allocator>(tables: &[Field<M>], object: Place) -> bool
+    requires covered { (f : ℕ) → f < length tables.now → IsCovered (table (map_list look tables.now) f) object }
+    ensures { result ≡ list_any (λ (x : LinkField). set.contains x.linked (index_of object)) (map_list field_in (map_list look tables.now)) }
+{
+    for f in 0..tables.len() {
+        if tables[f].is_linked(object) {
+            return true;
+        }
+    }
+    false
+}
+
+impl<A: KeyAdapter, M: Allocator + Copy> World<A, M> {
+    ghost use Rattle.ic_world.specs.Step.{Step};
+    ghost use Rattle.ic_world.specs.State.{reply_of, reply_of_value, object, done};
+
+    /// Places a value where no object stands, with room for it in each field first, and answers the place.
+    ///
+    /// Refused: `TooManyObjects`, `OutOfMemory`. The value comes back then.
+    pub fn place(&mut self, value: A::Value) -> Result<Place, (Refusal, A::Value)>
+        ensures step { Step A.Key.cmp A.key_of self.old (Command.Place value) (reply_of_value (λ p. object p) result) self.new }
+        ensures handed_back { IfErr result (λ refused. refused.1 ≡ value) }
+    {
+        let Some(place) = self.objects.next_place() else {
+            return Err((Refusal::TooManyObjects, value));
+        };
+        let count = place.index() + 1;
+        if cover_all(&mut self.fields, count).is_err() {
+            return Err((Refusal::OutOfMemory, value));
+        }
+        self.room = self.room.max(count);
+        match UnsafeRef::from_box(&mut self.objects, value) {
+            Ok(object) => Ok(object.place()),
+            Err((_, value)) => Err((Refusal::OutOfMemory, value)),
+        }
+    }
+
+    /// Takes an object out that is linked in no field, and answers its value.
+    ///
+    /// Refused: `NoSuchObject`, `StillLinked`. O(fields). It takes no memory.
+    pub fn remove_object(&mut self, object: Place) -> Result<A::Value, Refusal>
+        ensures step { Step A.Key.cmp A.key_of self.old (Command.RemoveObject object) (reply_of (λ _. done) result) self.new }
+        ensures value { IfOk result (λ value. map.get self.old.objects (index_of object) ≡ Some value) }
+    {
+        if !self.objects.is_placed(object) {
+            return Err(Refusal::NoSuchObject);
+        }
+        if is_linked_in_any(&self.fields, object) {
+            return Err(Refusal::StillLinked);
+        }
+        Ok(UnsafeRef::new(object).into_box(&mut self.objects))
+    }
+
+    /// Puts another value in the place of an object's, which it answers. The object stays linked where it was.
+    ///
+    /// Refused: `NoSuchObject`, and the value comes back then. It takes no memory. Where the key changes, trees of the object may
+    /// be sorted no more.
+    pub fn set_value(
+        &mut self,
+        object: Place,
+        value: A::Value,
+    ) -> Result<A::Value, (Refusal, A::Value)>
+        ensures step { Step A.Key.cmp A.key_of self.old (Command.SetValue object value) (reply_of_value (λ _. done) result) self.new }
+        ensures value { IfOk result (λ old. map.get self.old.objects (index_of object) ≡ Some old) }
+        ensures handed_back { IfErr result (λ refused. refused.1 ≡ value) }
+    {
+        match self.objects.get_mut(object) {
+            None => Err((Refusal::NoSuchObject, value)),
+            Some(there) => Ok(mem::replace(there, value)),
+        }
+    }
+}

@@ -1,0 +1,59 @@
+//! Which members are handed out to a collection more.
+
+ghost use Rattle.std.specs.Prelude.{◌≡◌, IfOk, OnErr};
+ghost use Rattle.ic_fields.specs.Fields.{look};
+ghost use Rattle.ic_members.specs.Members.{kind_in, adapter_in, adapter_for, Held};
+ghost use Rattle.ic_world.specs.Turns.{HandsOut, refusal_in, asks_room, state_of};
+ghost use Rattle.ic_world.specs.Handing.{part_refusal, PartsOf};
+
+use crate::call::Refusal;
+use crate::kinds::{is_list, is_two_way_list};
+use ic_fields::Field;
+use ic_members::Members;
+use ic_rbtree::KeyAdapter;
+use std::alloc::Allocator;
+
+/// Which members are handed out.
+#[derive(Clone, Copy, Debug)]
+pub enum Part {
+    /// All of them. The cursor goes to null.
+    All,
+    /// Those behind the cursor, which stays.
+    After,
+    /// Those in front of the cursor, which stays.
+    Before,
+}
+
+impl Part {
+    /// Hands the part out, if there is room for a collection more. A refusal changes nothing.
+    pub fn hand_out<A: KeyAdapter, M: Allocator>(
+        self,
+        members: &mut Members<A>,
+        links: &mut Field<M>,
+        adapter: A,
+        has_room: bool,
+    ) -> Result<Members<A>, Refusal>
+        requires held { Held (look links.old) members.old }
+        requires adapter { adapter_in members.old ≡ adapter_for (kind_in members.old) adapter }
+        ensures tested { refusal_in result ≡ asks_room has_room (part_refusal self (state_of (look links.old) members.old)) }
+        ensures parted { IfOk result (λ handed. HandsOut (PartsOf self) (look links.old) (look links.new) members.old members.new handed) }
+        ensures unchanged { OnErr result ((links.new ≡ links.old) × (members.new ≡ members.old)) }
+    {
+        let has = match self {
+            Part::All => true,
+            Part::After => is_list(members.kind()),
+            Part::Before => is_two_way_list(members.kind()),
+        };
+        if !has {
+            return Err(Refusal::WrongKind);
+        }
+        if !has_room {
+            return Err(Refusal::OutOfMemory);
+        }
+        match self {
+            Part::All => Ok(members.take(adapter)),
+            Part::After => Ok(members.split_after(links)),
+            Part::Before => Ok(members.split_before(links)),
+        }
+    }
+}
