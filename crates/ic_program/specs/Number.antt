@@ -1,7 +1,15 @@
 -- The numbers that words write.
-use Rattle.std.specs.Prelude.{ℕ, ◌≤◌, ◌<◌, ◌^◌, List, length}
+use Rattle.std.specs.Prelude.{◌≡◌, ℕ, ◌+◌, ◌*◌, ◌≤◌, ◌<◌, ◌^◌, List, length, Option, MatchOption}
+use Rattle.std.specs.Char.{digit_value}
 use Rattle.std.specs.Str.Parse.{IsNumeral, digits_value}
 
 -- 1 to 20 decimal digits, of a value below 2^64
 abbrev pub IsNumber : List ℕ → Type 0
 IsNumber word = IsNumeral 10 word × (length word ≤ 20) × (digits_value 10 word < 2 ^ 64)
+
+-- what a decimal digit behind a number makes, if it is one and the value stays below 2^64
+abbrev pub MoreDigits : ℕ → ℕ → Option ℕ → Type 0
+MoreDigits number digit result =
+    let more = number * 10 + digit_value digit in
+    let IsMore = (digit_value digit < 10) × (more < 2 ^ 64) in
+    MatchOption result (¬ IsMore) (λ value. IsMore × (value ≡ more))

@@ -2,16 +2,22 @@
 //!
 //! ```text
 //! let mut world = World::new(alloc, OwnKey);
-//! from_words(&words_of("field doubly")) // Some(Command::AddField(Kind::Doubly))
+//! Line::of(b"field doubly") // Line::Call(Command::AddField(Kind::Doubly))
 //! world.answer(Command::AddField(Kind::Doubly)) // printed as `field 0`
 //! run_program(&rt, alloc, &[], &mut reader, &mut writer) // answers each line of the reader, and gives the status
 //! ```
 #![tactic(auto)]
 
-mod command;
+mod answers;
+mod line;
+mod own_key;
 mod program;
+mod session;
+mod words;
 mod workers;
 
-pub use command::{MOST_WORDS, from_words, words_of};
-pub use program::{FAULT, OwnKey, run_lines, run_program};
+pub use answers::push_answer;
+pub use line::Line;
+pub use own_key::OwnKey;
+pub use program::{FAULT, run_lines, run_program};
 pub use workers::{Workers, workers_of};

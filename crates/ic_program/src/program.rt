@@ -2,13 +2,10 @@
 
 ghost use Rattle.std.specs.Prelude.{◌≡◌, ◌≢◌, ◌⊎◌, ◌<◌, IfOk, Ok, OnOk, codes, length};
 ghost use Rattle.std.specs.Io.KnownBytes.{Appends};
-ghost use Rattle.ic_program.specs.Line.{IsTextOf};
 ghost use Rattle.ic_program.specs.Arguments.{AskFor};
 
-use crate::command;
+use crate::session::{Session, Stop};
 use crate::workers::{Workers, run_workers, workers_of};
-use ic_rbtree::KeyAdapter;
-use ic_world::World;
 use std::alloc::Allocator;
 use std::io::{self, BufRead, ErrorKind, Write};
 use std::sync::Wait;
@@ -24,22 +21,6 @@ enum Ending {
     Finished = 0,
     /// At a line that is no command, or at arguments.
     NotUnderstood = 2,
-}
-
-/// The program's objects are numbers, and a value is its own key.
-#[derive(Clone, Copy)]
-pub struct OwnKey;
-
-impl KeyAdapter for OwnKey {
-    type Value = u64;
-
-    type Key = u64;
-
-    ghost key_of = { λ _ value. value };
-
-    fn get_key<'v>(&self, value: &'v u64) -> &'v u64 {
-        value
-    }
 }
 
 /// Runs the program. `words` are its arguments, and `rt` is what main is handed.
@@ -117,58 +98,57 @@ fn refuse_arguments<W: Write>(writer: &mut W) -> io::Result<Ending>
     Ok(Ending::NotUnderstood)
 }
 
-// The line of that number is no command.
-fn refuse_line<W: Write>(writer: &mut W, number: u64) -> io::Result<Ending> {
-    writeln!(writer, "line {number}: no command")?;
-    Ok(Ending::NotUnderstood)
-}
-
 // Answers each line in turn, until the input ends or a line is no command. After a fault the lines before it are answered.
 fn answer_lines<M: Allocator + Copy, R: BufRead, W: Write>(
     alloc: M,
     reader: &mut R,
     writer: &mut W,
 ) -> io::Result<Ending> {
-    let mut world = World::new(alloc, OwnKey);
-    let mut line = String::new(alloc);
-    for lines_before in 0..u64::MAX {
-        line.clear();
-        if reader.read_line(&mut line)? == 0 {
+    let mut session = Session::new(alloc)?;
+    let mut cut = Vec::new(alloc);
+    for _round in 0..u64::MAX {
+        let answered = answer_lent(&mut session, reader);
+        writer.write_all(&session.answers)?;
+        session.answers.clear();
+        if let Err(stop) = answered {
+            return stopped(stop, session.lines, writer);
+        }
+        cut.clear();
+        if reader.read_until(b'\n', &mut cut)? == 0 {
             return Ok(Ending::Finished);
         }
-        if !answer_line(&mut world, &line, writer)? {
-            return refuse_line(writer, lines_before + 1);
+        if let Err(stop) = session.answer(&cut) {
+            return stopped(stop, session.lines, writer);
         }
     }
     // There are more lines than a number counts.
     Err(io::Error::from(ErrorKind::TimedOut))
 }
 
-// Answers a line, of which an empty one has no answer. `false`: it is no command.
-fn answer_line<M: Allocator + Copy, W: Write>(
-    world: &mut World<OwnKey, M>,
-    line: &str,
-    writer: &mut W,
-) -> io::Result<bool> {
-    let words = command::words_of(without_end(line));
-    if words.is_empty() {
-        return Ok(true);
-    }
-    match command::from_words(&words) {
-        Some(command) => {
-            writeln!(writer, "{}", world.answer(command))?;
-            Ok(true)
+// Answers the lines that the reader lends whole, and takes them from it.
+fn answer_lent<M: Allocator + Copy, R: BufRead>(
+    session: &mut Session<M>,
+    reader: &mut R,
+) -> Result<(), Stop> {
+    match reader.fill_buf() {
+        Ok(lent) => {
+            let taken = session.answer_all(lent)?;
+            reader.consume(taken);
+            Ok(())
         }
-        None => Ok(false),
+        // Who reads next tries again.
+        Err(fault) if fault.kind() == ErrorKind::Interrupted => Ok(()),
+        Err(fault) => Err(Stop::Fault(fault.kind())),
     }
 }
 
-// A line as `lines` gives it: without the `\n` or `\r\n` that ends it.
-fn without_end(line: &str) -> &str
-    ensures { IsTextOf line.now result.now }
-{
-    match line.strip_suffix('\n') {
-        Some(text) => text.strip_suffix('\r').unwrap_or(text),
-        None => line,
+// How a run ends that was stopped at the line of that number.
+fn stopped<W: Write>(stop: Stop, line: u64, writer: &mut W) -> io::Result<Ending> {
+    match stop {
+        Stop::NoCommand => {
+            writeln!(writer, "line {line}: no command")?;
+            Ok(Ending::NotUnderstood)
+        }
+        Stop::Fault(kind) => Err(io::Error::from(kind)),
     }
 }

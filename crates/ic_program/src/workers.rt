@@ -7,7 +7,7 @@
 ghost use Rattle.std.specs.Prelude.{IfSome, IfNone};
 ghost use Rattle.ic_program.specs.Arguments.{AskFor};
 
-use crate::command::number;
+use crate::words::number;
 use ic_atomic::Gate;
 use ic_workers::{doubles, fan_out};
 use std::alloc::Allocator;
@@ -40,8 +40,8 @@ pub fn workers_of(words: &[String]) -> Option<Workers>
     if name.as_str() != "workers" {
         return None;
     }
-    let workers = number(workers)?;
-    let places = number(places)?;
+    let workers = number(workers.as_bytes())?;
+    let places = number(places.as_bytes())?;
     if workers < 1 || workers > MOST_WORKERS || places > MOST_PLACES {
         return None;
     }

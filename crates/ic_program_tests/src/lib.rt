@@ -5,6 +5,8 @@
 #[cfg(test)]
 mod arguments;
 #[cfg(test)]
+mod commands;
+#[cfg(test)]
 mod delicate_places;
 #[cfg(test)]
 mod each_call;

@@ -1,7 +1,8 @@
 //! A world that runs commands as one list.
 
+use crate::commands::command_of;
 use crate::shown::write_collections;
-use ic_program::{OwnKey, from_words};
+use ic_program::OwnKey;
 use ic_world::{Answer as Made, Command, World};
 use std::alloc::Global;
 use std::fmt::{self, Write};
@@ -55,7 +56,7 @@ impl<'r> Listed<'r> {
 
     // Puts the command of these words into the list.
     fn list(&mut self, words: &[&str]) -> Answer {
-        let Some(command) = from_words(words) else {
+        let Some(command) = command_of(self.alloc, words) else {
             return Answer::Refused("no command");
         };
         match self.list.push(command) {

@@ -1,6 +1,7 @@
 //! A world of which each row shows the collections.
 
-use ic_program::{OwnKey, from_words};
+use crate::commands::command_of;
+use ic_program::OwnKey;
 use ic_world::World;
 use std::alloc::{Allocator, Global};
 use std::fmt::{self, Write};
@@ -64,7 +65,7 @@ impl Played for Shown {
     type Answer = Answer;
 
     fn call(&mut self, words: &[&str]) -> Answer {
-        let Some(command) = from_words(words) else {
+        let Some(command) = command_of(self.alloc, words) else {
             return Answer::Refused("no command");
         };
         let made = self.world.answer(command);

@@ -1,7 +1,9 @@
 //! The texts and numbers of answers and refusals.
 
+use ic_program::push_answer;
 use ic_unsafe_ref::Place;
 use ic_world::{Answer, Refusal};
+use std::alloc::Global;
 use std::process::Abort;
 use std::test::Fail;
 
@@ -12,6 +14,19 @@ fn same(rt: &impl Abort, found: &str, wanted: &str) {
 // The place with that index, which need not be an object's.
 fn at(index: usize) -> Result<Place, Fail> {
     Ok(Place::new(index).ok_or("no such place")?)
+}
+
+// The line of an answer in the program, and its text, one behind the other.
+fn line_and_text(alloc: Global, answer: &Answer) -> Result<String, Fail> {
+    let mut line: Vec<u8> = Vec::new(alloc);
+    push_answer(&mut line, answer)?;
+    let line = String::from_utf8(line)?;
+    Ok(format!(in alloc; "{line}{answer}")?)
+}
+
+// The line that is wanted, and the text.
+fn twice(alloc: Global, text: &str) -> Result<String, Fail> {
+    Ok(format!(in alloc; "{text}\n{text}")?)
 }
 
 #[test]
@@ -35,6 +50,9 @@ fn numbers_and_names(rt: HostRuntime) -> Result<(), Fail> {
     for (refusal, wanted) in table {
         let found = format!(in rt.alloc(); "{} {refusal}", refusal.number())?;
         same(&rt, found.as_str(), wanted);
+        let found = line_and_text(rt.alloc(), &Answer::Refused(refusal))?;
+        let text = format!(in rt.alloc(); "refused {wanted}")?;
+        same(&rt, found.as_str(), twice(rt.alloc(), &text)?.as_str());
     }
     Ok(())
 }
@@ -49,6 +67,7 @@ fn answers_in_one_line(rt: HostRuntime) -> Result<(), Fail> {
         (Answer::Object(at(3)?), "object 3"),
         (Answer::Field(0), "field 0"),
         (Answer::Collection(2), "collection 2"),
+        (Answer::Object(at(4_294_967_295)?), "object 4294967295"),
         (Answer::Items(two), "items 0 1"),
         (Answer::Items(none), "items"),
         (
@@ -57,8 +76,8 @@ fn answers_in_one_line(rt: HostRuntime) -> Result<(), Fail> {
         ),
     ];
     for (answer, wanted) in lines {
-        let found = format!(in rt.alloc(); "{answer}")?;
-        same(&rt, found.as_str(), wanted);
+        let found = line_and_text(rt.alloc(), &answer)?;
+        same(&rt, found.as_str(), twice(rt.alloc(), wanted)?.as_str());
     }
     Ok(())
 }

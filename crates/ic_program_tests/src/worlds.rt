@@ -1,6 +1,7 @@
 //! A world whose requests for memory are refused where a row says so.
 
-use ic_program::{OwnKey, from_words};
+use crate::commands::command_of;
+use ic_program::OwnKey;
 use ic_unsafe_ref::Place;
 use ic_world::{Answer as Made, Command, World};
 use std::alloc::{AllocError, Global};
@@ -101,7 +102,7 @@ impl<'r> Worlds<'r> {
 
     // Makes the call of these words, with that request refused.
     fn command(&mut self, refused: u64, words: &[&str]) -> Answer {
-        match from_words(words) {
+        match command_of(self.alloc, words) {
             Some(command) => told(self.refusing(refused, command)),
             None => Answer::Refused("no command"),
         }

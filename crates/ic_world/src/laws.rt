@@ -1,7 +1,7 @@
-//! What holds of a world whatever its calls were: each law is the contract of a function.
+//! What holds of a world whatever its calls were: each law is a named clause.
 //!
 //! ```text
-//! laws::refused_changes_nothing(&mut world, command) // so the same command can be made again
+//! laws::answer(&mut world, command) // refused, it can be made again in the same world
 //! ```
 
 ghost use Rattle.std.specs.Prelude.{◌≡◌};
@@ -16,8 +16,13 @@ use crate::call::{Answer, Command};
 use ic_rbtree::KeyAdapter;
 use std::alloc::Allocator;
 
-/// Makes a call: refused, it has changed nothing.
-pub fn refused_changes_nothing<A: KeyAdapter, M: Allocator + Copy>(
+/// Makes a call as [`World::answer`], and says what users rely on whatever the call is.
+///
+/// - Refused, it has changed nothing.
+/// - Where it puts an object into a collection, and collection, object and kind are right, it is refused exactly if the object is
+///   linked in the field; of an entry where it is vacant.
+/// - Where it descends a tree of n members, it looks at v of them, where `2^v <= (n + 1)^2`; a range at as many twice.
+pub fn answer<A: KeyAdapter, M: Allocator + Copy>(
     world: &mut World<A, M>,
     command: Command<A::Value, A::Key>,
 ) -> Answer<M>
@@ -25,36 +30,9 @@ where
     A::Value: Copy,
     A::Key: Copy,
     ensures step { Step A.Key.cmp A.key_of world.old command (reply_in result) world.new }
-    ensures law { (refusal : Refusal) → reply_in result ≡ refused refusal → world.new ≡ world.old }
-{
-    world.answer(command)
-}
-
-/// Makes a call that puts an object into a collection. Where collection, object and kind are right, and an entry is vacant, it is
-/// refused exactly if the object is linked in the field.
-pub fn insert_is_refused_if_linked<A: KeyAdapter, M: Allocator + Copy>(
-    world: &mut World<A, M>,
-    command: Command<A::Value, A::Key>,
-) -> Answer<M>
-where
-    A::Value: Copy,
-    A::Key: Copy,
-    ensures step { Step A.Key.cmp A.key_of world.old command (reply_in result) world.new }
-    ensures law { RefusedIfLinked world.old (inserts command) (reply_in result) }
-{
-    world.answer(command)
-}
-
-/// Makes a call that descends a tree: of a tree of n members it looks at v, where `2^v <= (n + 1)^2`; a range at as many twice.
-pub fn looks_are_few<A: KeyAdapter, M: Allocator + Copy>(
-    world: &mut World<A, M>,
-    command: Command<A::Value, A::Key>,
-) -> Answer<M>
-where
-    A::Value: Copy,
-    A::Key: Copy,
-    ensures step { Step A.Key.cmp A.key_of world.old command (reply_in result) world.new }
-    ensures law { HasFewLooks world.old (descends command) (reply_in result) }
+    ensures refused_changes_nothing { (refusal : Refusal) → reply_in result ≡ refused refusal → world.new ≡ world.old }
+    ensures insert_is_refused_if_linked { RefusedIfLinked world.old (inserts command) (reply_in result) }
+    ensures looks_are_few { HasFewLooks world.old (descends command) (reply_in result) }
 {
     world.answer(command)
 }

@@ -14,6 +14,8 @@ mod keyed;
 #[cfg(test)]
 mod keys;
 #[cfg(test)]
+mod laws;
+#[cfg(test)]
 mod own_key;
 #[cfg(test)]
 mod plain_collection;

@@ -1,0 +1,97 @@
+//! A world that is called by lines, and the lines that answer them.
+//!
+//! ```text
+//! let mut session = Session::new(alloc)?;
+//! session.answer(b"field doubly\n")?;
+//! session.answers // `field 0` and a line feed
+//! ```
+
+ghost use Rattle.ic_program.specs.Line.{IsTextOf};
+
+use crate::answers::push_answer;
+use crate::line::Line;
+use crate::own_key::OwnKey;
+use ic_world::World;
+use memchr::memchr;
+use std::alloc::{AllocError, Allocator};
+use std::io::ErrorKind;
+use std::str;
+
+// How many bytes of answers there is room for at first.
+const ROOM: usize = 8192;
+
+/// Why no more lines are answered.
+#[derive(Clone, Copy, Debug)]
+pub(crate) enum Stop {
+    /// The line is no command.
+    NoCommand,
+    /// The line could not be read or answered: it is not UTF-8, there is no memory, or a number counts no more lines.
+    Fault(ErrorKind),
+}
+
+/// A world, and the lines of its answers that are not written yet.
+#[derive(Drop)]
+pub(crate) struct Session<M: Allocator + Copy> {
+    world: World<OwnKey, M>,
+    /// The answers, each with its line feed.
+    pub(crate) answers: Vec<u8, M>,
+    /// How many lines were read.
+    pub(crate) lines: u64,
+}
+
+impl<M: Allocator + Copy> Session<M> {
+    /// A new world, with nothing answered.
+    pub(crate) fn new(alloc: M) -> Result<Session<M>, AllocError> {
+        Ok(Session {
+            world: World::new(alloc, OwnKey),
+            answers: Vec::with_capacity(alloc, ROOM)?,
+            lines: 0,
+        })
+    }
+
+    /// Answers a line, of which an empty one has no answer. Where it stops, the answers are those of the lines before.
+    #[inline]
+    pub(crate) fn answer(&mut self, line: &[u8]) -> Result<(), Stop> {
+        let Some(lines) = self.lines.checked_add(1) else {
+            return Err(Stop::Fault(ErrorKind::TimedOut));
+        };
+        self.lines = lines;
+        match Line::of(without_end(line)) {
+            Line::Empty => Ok(()),
+            Line::Call(command) => match push_answer(
+                &mut self.answers,
+                &self.world.answer(command),
+            ) {
+                Ok(()) => Ok(()),
+                Err(_) => Err(Stop::Fault(ErrorKind::OutOfMemory)),
+            },
+            // A command is ASCII alone, so that only here the line may be other than UTF-8.
+            Line::NoCommand => match str::from_utf8(line) {
+                Ok(_) => Err(Stop::NoCommand),
+                Err(_) => Err(Stop::Fault(ErrorKind::InvalidData)),
+            },
+        }
+    }
+
+    /// Answers the lines that end in these bytes, and tells how many bytes they have.
+    pub(crate) fn answer_all(&mut self, bytes: &[u8]) -> Result<usize, Stop> {
+        let mut rest = bytes;
+        while let Some(end) = memchr(b'\n', rest) {
+            self.answer(&rest[..end + 1])?;
+            rest = &rest[end + 1..];
+        }
+        Ok(bytes.len() - rest.len())
+    }
+}
+
+// A line as `lines` gives it: without the `\n` or `\r\n` that ends it.
+#[inline]
+fn without_end(line: &[u8]) -> &[u8]
+    ensures { IsTextOf line.now result.now }
+{
+    match line {
+        [text @ .., b'\r', b'\n'] => text,
+        [text @ .., b'\n'] => text,
+        _ => line,
+    }
+}
