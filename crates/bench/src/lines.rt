@@ -19,3 +19,15 @@ pub fn answer_each<M: Allocator + Copy, R: BufRead, W: Write>(
     }
     writer.flush()
 }
+
+/// Reads lines to the end of the input as `lines` gives them, and prints each again.
+pub fn print_each<M: Allocator + Copy, R: BufRead + Drop, W: Write>(
+    alloc: M,
+    reader: R,
+    writer: &mut W,
+) -> io::Result<()> {
+    for line in reader.lines(alloc) {
+        writeln!(writer, "{}", line?)?;
+    }
+    writer.flush()
+}

@@ -7,6 +7,7 @@
 //! ```text
 //! rt run -- 100001
 //! rt run -- lines < input  # reads lines, writes `ok` for each, and does nothing else
+//! rt run -- print < input  # reads lines, prints each again, and does nothing else
 //! ```
 #![tactic(auto)]
 
@@ -36,7 +37,7 @@ use ic_linked_list::LinkedList;
 use ic_rbtree::RBTree;
 use ic_unsafe_ref::{Objects, Place, UnsafeRef};
 use keyed::{find, find_all, find_all_above, insert_all, place_all, turn_all};
-use lines::answer_each;
+use lines::{answer_each, print_each};
 use loops::put;
 use measured::{
     add, add_lent, split, split_lent, touch, touch_lent, turn, turn_lent, walk, walk_lent,
@@ -445,10 +446,19 @@ fn copy_lines(rt: &(impl Input + Print + AllocGlobal)) -> io::Result<()> {
     answer_each(rt.alloc(), &mut reader, &mut writer)
 }
 
+// Prints each line of standard input again.
+fn print_lines(rt: &(impl Input + Print + AllocGlobal)) -> io::Result<()> {
+    let reader = BufReader::new(rt.alloc(), rt.reader())?;
+    let mut writer = BufWriter::new(rt.alloc(), io::writer(rt))?;
+    print_each(rt.alloc(), reader, &mut writer)
+}
+
 fn main(rt: HostRuntime) -> io::Result<()> {
     let words: Vec<String> = env::args(&rt)?.collect(rt.alloc())?;
-    if words.get(1).is_some_and(|word| word.as_str() == "lines") {
-        return copy_lines(&rt);
+    match words.get(1).map(|word| word.as_str()) {
+        Some("lines") => return copy_lines(&rt),
+        Some("print") => return print_lines(&rt),
+        _ => {}
     }
     let times = number(words.get(1), 100_001);
     eprintln!(rt;

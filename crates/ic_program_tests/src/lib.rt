@@ -61,6 +61,8 @@ mod shown;
 #[cfg(test)]
 mod texts;
 #[cfg(test)]
+mod wholes;
+#[cfg(test)]
 mod world_runs;
 #[cfg(test)]
 mod worlds;

@@ -5,8 +5,8 @@ use std::test::Fail;
 use test_support::rationed::Rationed;
 use test_support::rows::{Run, play};
 
-// Each under the heading that its example stands under.
-const PAGES: [Run; 5] = [
+/// The examples, each under the heading that it stands under on the page.
+pub(crate) const PAGES: [Run; 5] = [
     Run {
         name: "Objects and fields",
         rows: "

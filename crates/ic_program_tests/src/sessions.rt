@@ -5,7 +5,8 @@ use std::test::Fail;
 use test_support::rationed::Rationed;
 use test_support::rows::{Run, play};
 
-const SESSIONS: [Run; 5] = [
+/// The sessions, of which only the last line may be no command.
+pub(crate) const SESSIONS: [Run; 5] = [
     Run {
         name: "keys in a tree",
         rows: "

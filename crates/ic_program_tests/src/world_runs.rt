@@ -5,9 +5,8 @@ use std::test::Fail;
 use test_support::rationed::Rationed;
 use test_support::rows::{Run, play};
 
-// What grows has room for four at first, and then for twice as many. The requests of a call are as many as can be
-// refused, one after the other: the one behind them is not asked for.
-const RUNS: [Run; 6] = [
+/// Runs with no refused request.
+pub(crate) const WORKED: [Run; 3] = [
     Run {
         name: "the first run",
         rows: "
@@ -98,6 +97,11 @@ const RUNS: [Run; 6] = [
         show 0        | items 1 2 3 0
         ",
     },
+];
+
+// What grows has room for four at first, and then for twice as many. The requests of a call are as many as can be
+// refused, one after the other: the one behind them is not asked for.
+const REFUSED: [Run; 3] = [
     Run {
         name: "each growth refused in turn, the field first",
         rows: "
@@ -214,8 +218,8 @@ const RUNS: [Run; 6] = [
 #[test]
 fn worked_rows(rt: HostRuntime) -> Result<(), Fail> {
     let rationed = Rationed::new(rt.alloc(), u64::MAX);
-    for run in RUNS {
-        play(rt.alloc(), &mut Worlds::new(rt.alloc(), &rationed), &run)?;
+    for run in WORKED.iter().chain(&REFUSED) {
+        play(rt.alloc(), &mut Worlds::new(rt.alloc(), &rationed), run)?;
     }
     Ok(())
 }
