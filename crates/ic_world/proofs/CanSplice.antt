@@ -1,174 +1,167 @@
 -- What holds where no test of a splice refuses it, and the splice by its parts.
-use Rattle.std.proofs.Common.{◌≡◌, ◌≢◌, ℕ, ◌<◌, Bool, true, false, not, nat_eq, List, [], ◌∷◌, length, map, set, get_or, Option, Some, None, refl, sym, ap, ◌∙◌, subst, arith, inl, inr, ne_eqb, eq-eqb}
+use Rattle.std.proofs.Common.{◌≡◌, ◌≢◌, ℕ, Bool, true, false, not, nat_eq, List, [], ◌∷◌, set, Option, Some, None, map, get_or, refl, sym, ap, ◌∙◌, subst, inl, inr, ne_eqb, eq-eqb}
 use Rattle.std.proofs.lemmas.Bool.{cases_eq}
-use Rattle.std.proofs.lemmas.List.{length-map, get_or-set_other, get_or_past, get_or_default, map-set}
+use Rattle.std.proofs.lemmas.List.{get_or-set_other, set-set, set_comm, length-map, map-set}
 use Rattle.ic_unsafe_ref.specs.declared.place.Place.{Place}
 use Rattle.ic_unsafe_ref.specs.Objects.{Objects}
-use Rattle.ic_link_ops.specs.Sequences.{join, IsDisjoint}
+use Rattle.ic_link_ops.specs.Sequences.{IsDisjoint}
 use Rattle.ic_link_ops.specs.Tables.{Table}
 use Rattle.ic_fields.specs.declared.entry.Entry.{Entry}
-use Rattle.ic_fields.specs.declared.field.Field.{Field}
 use Rattle.ic_fields.specs.declared.kind.Kind.{Kind}
 use Rattle.ic_fields.specs.Kinds.{number_of, kind_with}
+use Rattle.ic_fields.specs.declared.field.Field.{Field}
 use Rattle.ic_fields.specs.Fields.{look}
 use Rattle.ic_members.specs.declared.members.Members.{Members}
-use Rattle.ic_members.specs.Members.{Keeps, Held, kind_in, cursor_in, members_in}
+use Rattle.ic_members.specs.Members.{Keeps, Held, kind_in, members_in}
 use Rattle.ic_members.proofs.AllKinds.{lawful as lawful_field}
-use Rattle.ic_members.proofs.AllKinds.{one_sequence, held_of}
-use Rattle.ic_members.specs.Edits.{AtGap, PutsAll}
+use Rattle.ic_members.proofs.AllKinds.{IsLawful, one_sequence}
+use Rattle.ic_members.specs.Edits.{PutsAll}
 use Rattle.ic_world.specs.declared.collection.Collection.{Collection}
-use Rattle.ic_world.specs.declared.call.Refusal.{Refusal}
 use Rattle.ic_world.specs.declared.call.Refusal.TheVariants.{WrongKind, SameCollection, OtherField}
 use Rattle.ic_world.specs.Family.{Family, kind_again}
-use Rattle.ic_world.specs.Splices.{IsBesideOf, can_splice}
-use Rattle.ic_world.specs.State.{asks, done}
+use Rattle.ic_world.specs.Splices.{IsBesideOf, can_splice, Emptied, PutsBeside, CanJoin, CanBeJoined, Joins, AreJoined}
+use Rattle.ic_world.specs.State.{done}
 use Rattle.ic_world.specs.Tables.{table, sequence, seen_as, at, family_of, IsWhole}
 use Rattle.ic_world.specs.Step.{StepSplice, refusal_of_splice, same_kind}
 use Rattle.ic_world.proofs.Readings.{collection_at, collection_is, table_read}
 use Rattle.ic_world.proofs.Edits.{after}
-use Rattle.ic_world.proofs.Splices.{Emptied, splice_whole, splice_family}
-use Rattle.ic_world.proofs.Steps.{some_same}
+use Rattle.ic_world.proofs.Splices.{splice_whole, splice_family}
+use Rattle.ic_world.proofs.Steps.{asks_none}
 
 eq_of : (m n : ℕ) → nat_eq m n ≡ true → m ≡ n
 eq_of m n t = elim (cases_eq m n) [ inl e ↦ e | inr d ↦ absurd (let f : nat_eq m n ≡ false = ne_eqb m n d in cc) ]
-
-asks_none : (b : Bool) (r : Refusal) (rest : Option Refusal) → asks b r rest ≡ None → (b ≡ true) × (rest ≡ None)
-asks_none true r rest e = (refl, e)
-asks_none false r rest e = absurd cc
 
 not_true : (b : Bool) → not b ≡ true → b ≡ false
 not_true true e = cc
 not_true false e = refl
 
+-- two that were taken out and put back, each as it is then
+put_back : {X : Type 0} (xs : List X) (c d : ℕ) (n x y : X) → c ≢ d → set (set (set (set xs c n) d n) c x) d y ≡ set (set xs d y) c x
+put_back xs c d n x y differ =
+    ap (λ z. set z d y) (set_comm (set xs c n) d c n x (λ e. differ (sym e)) ∙ ap (λ z. set z d n) (set-set xs c n x)) ∙ set-set (set xs c x) d n y ∙ set_comm xs c d x y differ
+
+-- an item stands in the place of another
+abbrev Exchanged : {X : Type 0} → List (Option X) → ℕ → Option X → (was : Option X) → List (Option X) → Type 0
+Exchanged old i item was new = record { was : was ≡ get_or old i None; set : new ≡ set old i item }
+
 module _ {A V K : Type 0} where
   -- two collections that can be spliced
-  pub record Fit (has : Kind → Bool) (c d : ℕ) (k l : Collection A V K) : Type 0 where
-    pub can : has (kind_in k.members) ≡ true
-    pub kinds : kind_in k.members ≡ kind_in l.members
-    pub differ : c ≢ d
-    pub fields : k.field ≡ l.field
-
-  pub record CanSplice (has : Kind → Bool) (cs : List (Option (Collection A V K))) (c d : ℕ) : Type 0 where
-    pub k : Collection A V K
-    pub l : Collection A V K
-    pub is_k : at cs c ≡ Some k
-    pub is_l : at cs d ≡ Some l
-    pub fit : Fit has c d k l
-
-  -- these are the ones that are found
-  pub these : {has : Kind → Bool} {cs : List (Option (Collection A V K))} {c d : ℕ} {k l : Collection A V K} → CanSplice has cs c d → at cs c ≡ Some k → at cs d ≡ Some l → Fit has c d k l
-  these {has} {cs} {c} {d} {k} {l} s is_k is_l =
-      let P : Collection A V K → Type 0 = λ x. Fit has c d x l in
-      let Q : Collection A V K → Type 0 = λ x. Fit has c d s.k x in
-      subst P (some_same (sym s.is_k ∙ is_k)) (subst Q (some_same (sym s.is_l ∙ is_l)) s.fit)
-
-  pub in_list : (cs : List (Option (Collection A V K))) (c : ℕ) {k : Collection A V K} → at cs c ≡ Some k → c < length cs
-  in_list cs c {k} is = grind (arith, get_or_past)
-
-  -- what was read where a collection is
-  pub read_is : (cs : List (Option (Collection A V K))) (c : ℕ) {o : Option (Collection A V K)} {k : Collection A V K} → at cs c ≡ Some k → o ≡ get_or cs c o → o ≡ Some k
-  read_is cs c {o} {k} is read = sym (get_or_default cs c None o (in_list cs c is) ∙ sym read) ∙ is
-
-  pub found_is : (cs : List (Option (Collection A V K))) (c : ℕ) {o : Option (Collection A V K)} {k x : Collection A V K} → at cs c ≡ Some k → o ≡ get_or cs c o → o ≡ Some x → at cs c ≡ Some x
-  found_is cs c is read found = is ∙ sym (read_is cs c is read) ∙ found
-
-  pub none_there : (cs : List (Option (Collection A V K))) (c : ℕ) {o : Option (Collection A V K)} {k : Collection A V K} → at cs c ≡ Some k → o ≡ get_or cs c o → o ≡ None → ⊥
-  none_there cs c {o} {k} is read none = let e : None ≡ Some k = sym none ∙ read_is cs c is read in cc
-
-  pub still_there : {has : Kind → Bool} {cs : List (Option (Collection A V K))} {c d : ℕ} (o : Option (Collection A V K)) (s : CanSplice has cs c d) → at (set cs d o) c ≡ Some s.k
-  still_there {has} {cs} {c} {d} o s = get_or-set_other cs d c o None s.fit.differ ∙ s.is_k
+  record CanSplice (has : Kind → Bool) (cs : List (Option (Collection A V K))) (c d : ℕ) (k l : Collection A V K) : Type 0 where
+    is_k : at cs c ≡ Some k
+    is_l : at cs d ≡ Some l
+    can : has (kind_in k.members) ≡ true
+    kinds : kind_in k.members ≡ kind_in l.members
+    differ : c ≢ d
+    fields : k.field ≡ l.field
 
   module _ (has : Kind → Bool) (adapter : A) (objects : Objects V) (ts : List (Table Entry)) (cs : List (Option (Collection A V K))) (c d : ℕ) where
-    fit_of : (k l : Collection A V K) → refusal_of_splice (family_of adapter objects ts cs) has c d ≡ None → at cs c ≡ Some k → at cs d ≡ Some l → Fit has c d k l
-    fit_of k l none is_k is_l =
+    fit : (k l : Collection A V K) → refusal_of_splice (family_of adapter objects ts cs) has c d ≡ None → at cs c ≡ Some k → at cs d ≡ Some l → CanSplice has cs c d k l
+    fit k l none is_k is_l =
         let all = rw (collection_is adapter objects ts cs c k is_k, collection_is adapter objects ts cs d l is_l) at none in
         let one = asks_none (has (kind_in k.members)) WrongKind _ all in
         let two = asks_none (same_kind (kind_in k.members) (kind_in l.members)) WrongKind _ one.1 in
         let three = asks_none (not (nat_eq c d)) SameCollection _ two.1 in
-        let four = asks_none (nat_eq k.field l.field) OtherField None three.1 in
         let numbers : number_of (kind_in k.members) ≡ number_of (kind_in l.members) = eq_of _ _ two.0 in record {
+          is_k = is_k;
+          is_l = is_l;
           can = one.0;
           kinds = sym (kind_again (kind_in k.members)) ∙ ap (λ n. kind_with (n ∷ [])) numbers ∙ kind_again (kind_in l.members);
           differ = λ e. let t : nat_eq c d ≡ true = eq-eqb c d e in let f = not_true (nat_eq c d) three.0 in cc;
-          fields = eq_of _ _ four.0;
+          fields = eq_of _ _ (asks_none (nat_eq k.field l.field) OtherField None three.1).0;
         }
 
-    by : (o p : Option (Collection A V K)) → refusal_of_splice (family_of adapter objects ts cs) has c d ≡ None → at cs c ≡ o → at cs d ≡ p → CanSplice has cs c d
-    by None p none is_k is_l = absurd (let e = rw (collection_at adapter objects ts cs c, is_k) at none in cc)
-    by (Some k) None none is_k is_l = absurd (let e = rw (collection_is adapter objects ts cs c k is_k, collection_at adapter objects ts cs d, is_l) at none in cc)
-    by (Some k) (Some l) none is_k is_l = record { k = k; l = l; is_k = is_k; is_l = is_l; fit = fit_of k l none is_k is_l }
+    two : (o p : Option (Collection A V K)) → refusal_of_splice (family_of adapter objects ts cs) has c d ≡ None → at cs c ≡ o → at cs d ≡ p → (k l : Collection A V K) × CanSplice has cs c d k l
+    two None p none is_k is_l = absurd (let e = rw (collection_at adapter objects ts cs c, is_k) at none in cc)
+    two (Some k) None none is_k is_l = absurd (let e = rw (collection_is adapter objects ts cs c k is_k, collection_at adapter objects ts cs d, is_l) at none in cc)
+    two (Some k) (Some l) none is_k is_l = (k, l, fit k l none is_k is_l)
 
-    pub can_be_spliced : refusal_of_splice (family_of adapter objects ts cs) has c d ≡ None → CanSplice has cs c d
-    can_be_spliced none = by (at cs c) (at cs d) none refl refl
+-- A SPLICE that no test refuses
+module _ {A V K : Type 0} {adapter : A} {objects : Objects V} {room : ℕ} {ts : List (Table Entry)} {cs : List (Option (Collection A V K))} (whole : IsWhole adapter objects room ts cs)
+    {old : Family A V} (view : family_of adapter objects ts cs ≡ old) (before : Bool) (c d : ℕ) (none : refusal_of_splice old (can_splice before) c d ≡ None) where
+  none_now : refusal_of_splice (family_of adapter objects ts cs) (can_splice before) c d ≡ None
+  none_now = rw (← view) at none
 
--- what stands at the first number after the given one was emptied, stood there before
-pub still_is : {A V K : Type 0} {has : Kind → Bool} {cs : List (Option (Collection A V K))} {c d : ℕ} {k : Collection A V K} (s : CanSplice has cs c d) (o : Option (Collection A V K)) → at (set cs d o) c ≡ Some k → at cs c ≡ Some k
-still_is {cs = cs} {c = c} {d = d} s o is = sym (get_or-set_other cs d c o None s.fit.differ) ∙ is
+  both : (k l : Collection A V K) × CanSplice (can_splice before) cs c d k l
+  both = two (can_splice before) adapter objects ts cs c d (at cs c) (at cs d) none_now refl refl
 
--- what the splice of the members asks, of the table that was read
-module _ {A V K M : Type 0} {adapter : A} {objects : Objects V} {room : ℕ} (tables : List (Field M)) {cs : List (Option (Collection A V K))} (whole : IsWhole adapter objects room (map look tables) cs)
-    (c : ℕ) {k : Collection A V K} (is_k : at cs c ≡ Some k) (now : Field M) (links : now ≡ get_or tables k.field now) where
-  in_tables : k.field < length tables
-  in_tables = rw length-map at (whole.in_field c k is_k)
+  abbrev k : Collection A V K
+  k = both.0
 
-  pub read : table (map look tables) k.field ≡ look now
-  read = table_read tables k.field now in_tables links
+  abbrev l : Collection A V K
+  l = both.1
 
-  pub held_k : Held (look now) k.members
-  held_k = subst (λ t. Held t k.members) read (whole.held c k is_k)
+  fits : CanSplice (can_splice before) cs c d k l
+  fits = both.2
 
-module _ {A V K M : Type 0} {adapter : A} {objects : Objects V} {room : ℕ} (tables : List (Field M)) {cs : List (Option (Collection A V K))} (whole : IsWhole adapter objects room (map look tables) cs)
-    {has : Kind → Bool} {c d : ℕ} {k l : Collection A V K} (is_k : at cs c ≡ Some k) (is_l : at cs d ≡ Some l) (fit : Fit has c d k l) (now : Field M) (links : now ≡ get_or tables k.field now)
-    (taken : Members A V K) (same : (t : Table Entry) (s : List Place) → Keeps t l.members s → Keeps t taken s) where
-  read_now : table (map look tables) k.field ≡ look now
-  read_now = read tables whole c is_k now links
+  given_is : members_in (table ts k.field) l.members ≡ sequence ts l
+  given_is = ap (λ f. members_in (table ts f) l.members) fits.fields
 
-  kept_l : Keeps (look now) l.members (sequence (map look tables) l)
-  kept_l = subst (λ t. Keeps t l.members (sequence (map look tables) l)) (ap (table (map look tables)) (sym fit.fields) ∙ read_now) (whole.held d l is_l)
+  fit_together : CanJoin before adapter ts k l
+  fit_together = record {
+    there = whole.in_field c k fits.is_k;
+    held = whole.held c k fits.is_k;
+    given = subst (λ f. Held (table ts f) l.members) (sym fits.fields) (whole.held d l fits.is_l);
+    adapted = whole.adapted d l fits.is_l;
+    can = fits.can;
+    kinds = sym fits.kinds;
+    apart = subst (λ s. IsDisjoint s (sequence ts k)) (sym given_is) (whole.apart d c l k (λ e. fits.differ (sym e)) fits.is_l fits.is_k (sym fits.fields));
+  }
 
-  pub taken_is : members_in (look now) taken ≡ sequence (map look tables) l
-  taken_is = one_sequence (look now) (lawful_field now) taken (sequence (map look tables) l) (same (look now) (sequence (map look tables) l) kept_l).shown
+  -- where both were taken out
+  module _ {mid rest : List (Option (Collection A V K))} {o p : Option (Collection A V K)} (first : Exchanged cs c None o mid) (second : Exchanged mid d None p rest) where
+    is_k : o ≡ Some k
+    is_k = first.was ∙ fits.is_k
 
-  pub k_is : members_in (look now) k.members ≡ sequence (map look tables) k
-  k_is = ap (λ t. members_in t k.members) (sym read_now)
+    is_l : p ≡ Some l
+    is_l = second.was ∙ ap (λ xs. at xs d) first.set ∙ get_or-set_other cs c d None None (λ e. fits.differ (sym e)) ∙ fits.is_l
 
-  pub held_taken : Held (look now) taken
-  held_taken = held_of (lawful_field now) taken (sequence (map look tables) l) (same (look now) (sequence (map look tables) l) kept_l)
+    -- what is asked of them
+    pub can_be_joined : CanBeJoined before adapter ts o p
+    can_be_joined = rw (is_k, is_l) fit_together
 
-  pub apart_taken : IsDisjoint (members_in (look now) taken) (members_in (look now) k.members)
-  apart_taken = rw (taken_is, k_is) (whole.apart d c l k (λ x. fit.differ (sym x)) is_l is_k (sym fit.fields))
+    -- THE INVARIANT and THE STEP, as they are put back
+    pub joined : {us : List (Table Entry)} (o' p' : Option (Collection A V K)) → AreJoined before ts us o p o' p' → {all new : List (Option (Collection A V K))} → all ≡ set rest c o' → new ≡ set all d p'
+        → IsWhole adapter objects room us new × StepSplice (IsBesideOf before) (can_splice before) old c d done (family_of adapter objects us new)
+    joined o' p' j {new = new} all_is new_is =
+        let back : new ≡ set (set cs d p') c o' = rw (new_is, all_is, second.set, first.set) (put_back cs c d None o' p' fits.differ) in
+        rw back (by o' p' (rw (is_k, is_l) at j))
+      where
+        by : {us : List (Table Entry)} (o' p' : Option (Collection A V K)) → AreJoined before ts us (Some k) (Some l) o' p'
+            → IsWhole adapter objects room us (set (set cs d p') c o') × StepSplice (IsBesideOf before) (can_splice before) old c d done (family_of adapter objects us (set (set cs d p') c o'))
+        by None p' j = absurd j
+        by (Some k') None j = absurd j
+        by (Some k') (Some l') j =
+            let same : k' ≡ after k k'.members = λ i. record { field = j.field i; members = k'.members } in
+            let given_same : l' ≡ after l l'.members = λ i. record { field = j.given_field i; members = l'.members } in
+            let put : PutsAll (table ts k.field) j.t k.members k'.members j.puts.0 (sequence ts l) = subst (PutsAll (table ts k.field) j.t k.members k'.members j.puts.0) given_is j.puts.2.1 in
+            rw (j.tables, same, given_same) (
+              splice_whole whole c d k l fits.is_k fits.is_l fits.differ fits.fields j.t k'.members l'.members j.emptied j.puts.0 j.puts.1 put,
+              subst (λ w. StepSplice (IsBesideOf before) (can_splice before) w c d done (family_of adapter objects (set ts k.field j.t) (set (set cs d (Some (after l l'.members))) c (Some (after k k'.members))))) view (rw none_now (
+                seen_as k (sequence ts k),
+                j.puts.0,
+                collection_is adapter objects ts cs c k fits.is_k,
+                j.puts.1,
+                seen_as l (sequence ts l),
+                collection_is adapter objects ts cs d l fits.is_l,
+                j.puts.2.0,
+                splice_family whole c d k l fits.is_k fits.is_l fits.differ fits.fields j.t k'.members l'.members j.emptied j.puts.0 j.puts.1 put,
+              )),
+            )
 
--- all of `taken` is put at the gap beside the cursor, on the side that is told
-abbrev pub beside_at : {A V K : Type 0} → (t : Table Entry) (m taken : Members A V K) (t' : Table Entry) (m' : Members A V K) → Bool → Type 0
-beside_at t m taken t' m' before = AtGap (members_in t m) (λ gap. IsBesideOf before gap (cursor_in m) × PutsAll t t' m m' gap (members_in t taken))
-
--- THE SPLICE by its parts
-module _ {A V K M : Type 0} {adapter : A} {objects : Objects V} {room : ℕ} (tables : List (Field M)) {cs : List (Option (Collection A V K))} (whole : IsWhole adapter objects room (map look tables) cs)
-    (before : Bool) {c d : ℕ} {k l : Collection A V K} (is_k : at cs c ≡ Some k) (is_l : at cs d ≡ Some l) (fit : Fit (can_splice before) c d k l) (now : Field M) (links : now ≡ get_or tables k.field now)
-    (taken : Members A V K) (same : (t : Table Entry) (s : List Place) → Keeps t l.members s → Keeps t taken s) (emptied : Members A V K) (e : Emptied l.members emptied) (nf : Field M) (m : Members A V K)
-    (puts : beside_at (look now) k.members taken (look nf) m before) where
-  cut : join puts.0 ≡ sequence (map look tables) k
-  cut = puts.1 ∙ k_is tables whole is_k is_l fit now links taken same
-
-  put : PutsAll (table (map look tables) k.field) (look nf) k.members m puts.0 (sequence (map look tables) l)
-  put =
-      subst (PutsAll (table (map look tables) k.field) (look nf) k.members m puts.0) (taken_is tables whole is_k is_l fit now links taken same)
-      (subst (λ t. PutsAll t (look nf) k.members m puts.0 (members_in (look now) taken)) (sym (read tables whole c is_k now links)) puts.2.1)
-
-  pub spliced_whole : IsWhole adapter objects room (map look (set tables k.field nf)) (set (set cs d (Some (after l emptied))) c (Some (after k m)))
-  spliced_whole = rw map-set (splice_whole whole c d k l is_k is_l fit.differ fit.fields (look nf) m emptied e puts.0 cut put)
-
-  pub spliced_step : {old : Family A V} → family_of adapter objects (map look tables) cs ≡ old → refusal_of_splice (family_of adapter objects (map look tables) cs) (can_splice before) c d ≡ None
-      → StepSplice (IsBesideOf before) (can_splice before) old c d done (family_of adapter objects (map look (set tables k.field nf)) (set (set cs d (Some (after l emptied))) c (Some (after k m))))
-  spliced_step view none =
-      subst (λ w. StepSplice (IsBesideOf before) (can_splice before) w c d done (family_of adapter objects (map look (set tables k.field nf)) (set (set cs d (Some (after l emptied))) c (Some (after k m))))) view
-      (rw (none, map-set) (
-        seen_as k (sequence (map look tables) k),
-        puts.0,
-        collection_is adapter objects (map look tables) cs c k is_k,
-        cut,
-        seen_as l (sequence (map look tables) l),
-        collection_is adapter objects (map look tables) cs d l is_l,
-        puts.2.0,
-        splice_family whole c d k l is_k is_l fit.differ fit.fields (look nf) m emptied e puts.0 cut put,
-      ))
+-- what the members of a joined list say of both lists: `taken` has those of l
+pub joins : {A V K M : Type 0} {adapter : A} (before : Bool) (tables : List (Field M)) (k l : Collection A V K) → CanJoin before adapter (map look tables) k l → (now : Field M) → now ≡ get_or tables k.field now → (nf : Field M)
+    (m emptied taken : Members A V K) → ((t : Table Entry) (s : List Place) → Keeps t l.members s → Keeps t taken s) → Emptied l.members emptied → PutsBeside before (look now) (look nf) k.members m (members_in (look now) taken)
+    → Joins before (map look tables) (map look (set tables k.field nf)) k l (after k m) (after l emptied)
+joins before tables k l can now links nf m emptied taken same e puts =
+    let t = table (map look tables) k.field in
+    let read : t ≡ look now = table_read tables k.field now (rw length-map at can.there) links in
+    let lawful_t : IsLawful t = subst IsLawful (sym read) (lawful_field now) in
+    let all : members_in t taken ≡ members_in t l.members = one_sequence t lawful_t taken (members_in t l.members) (same t (members_in t l.members) can.given).shown in
+    record {
+      t = look nf;
+      tables = map-set look tables k.field nf;
+      field = refl;
+      given_field = refl;
+      emptied = e;
+      puts = subst (PutsBeside before t (look nf) k.members m) all (rw read puts);
+    }

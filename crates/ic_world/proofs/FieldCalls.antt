@@ -23,6 +23,7 @@ use Rattle.ic_world.specs.declared.collection.Collection.{Collection}
 use Rattle.ic_world.specs.declared.call.Command.TheVariants.{IsLinked, ForceUnlink}
 use Rattle.ic_world.specs.declared.call.Refusal.TheVariants.{NoSuchObject}
 use Rattle.ic_world.specs.declared.call.Refusal.TheVariants.{IsMember as IsMemberRefusal}
+use Rattle.ic_world.specs.Family.{Family}
 use Rattle.ic_world.specs.Among.{is_among}
 use Rattle.ic_world.specs.LinkedSets.{linked_in}
 use Rattle.ic_world.specs.State.{linked, done}
@@ -109,7 +110,7 @@ module _ {A V K M : Type 0} {adapter : A} {objects : Objects V} {room : ℕ} (ta
 
   -- AN OBJECT UNLINKED BY FORCE, where it is a member of none
   module _ (within : f < length tables) (t : Field M) (read : t ≡ get_or tables f t) (nf : Field M) (free : IsUnlinked is_linked (look nf) p) (frame : ChangesOnly (look t) (look nf) p)
-      (none : is_member_in (family_of adapter objects (map look tables) cs) f p ≡ false) where
+      {old : Family A V} (view : family_of adapter objects (map look tables) cs ≡ old) (none : is_member_in old f p ≡ false) where
     in_map : f < length (map look tables)
     in_map = rw length-map within
 
@@ -128,14 +129,14 @@ module _ {A V K M : Type 0} {adapter : A} {objects : Objects V} {room : ℕ} (ta
             let has : has_member_in f p (get_or (map (shown_as (map look tables)) cs) c None) ≡ true =
             has_at c ∙ ap (λ o. has_member_in f p (shown_as (map look tables) o)) is ∙ ap (λ x. x && is_among p (sequence (map look tables) k)) (eq-eqb k.field f same) ∙ e in
             let yes = list_any_at (has_member_in f p) (map (shown_as (map look tables)) cs) c None (rw length-map in_cs) has in
-            absurd (let both : true ≡ false = sym yes ∙ none in cc)
+            absurd (let both : true ≡ false = sym yes ∙ rw (← view) at none in cc)
 
-    pub unlinked_whole : IsWhole adapter objects room (map look (set_at tables f nf)) cs
-    unlinked_whole = rw map-set (freed_whole whole f in_map (look nf) p free changes absent)
-
-    pub unlink_step : (cmp : K → K → Ordering) (key_of : A → V → K) → place_is_placed objects p ≡ true
-        → Step cmp key_of (family_of adapter objects (map look tables) cs) (ForceUnlink f p) done (family_of adapter objects (map look (set_at tables f nf)) cs)
-    unlink_step cmp key_of has =
+    pub unlinked_by : (cmp : K → K → Ordering) (key_of : A → V → K) → place_is_placed objects p ≡ true
+        → IsWhole adapter objects room (map look (set_at tables f nf)) cs × Step cmp key_of old (ForceUnlink f p) done (family_of adapter objects (map look (set_at tables f nf)) cs)
+    unlinked_by cmp key_of has =
         let w = family_of adapter objects (map look tables) cs in
-        rw map-set (step_accepted cmp key_of w (ForceUnlink f p) done _ (field_there w f _ (rw length-map in_map) ∙ passes (is_placed w p) NoSuchObject _ has ∙ passes _ IsMemberRefusal None (ap not none))
-        (freed_family whole f in_map (look nf) p free changes absent))
+        rw (← view, map-set) (
+          freed_whole whole f in_map (look nf) p free changes absent,
+          step_accepted cmp key_of w (ForceUnlink f p) done _ (field_there w f _ (rw length-map in_map) ∙ passes (is_placed w p) NoSuchObject _ has ∙ passes _ IsMemberRefusal None (ap not (rw (← view) at none)))
+              (freed_family whole f in_map (look nf) p free changes absent),
+        )

@@ -1,9 +1,10 @@
 -- Tables that cover more places, and a field more: the family stays what it is.
-use Rattle.std.proofs.Common.{◌≡◌, ◌≢◌, ℕ, ◌<◌, ◌≤◌, inl, inr, Bool, true, false, List, [], ◌∷◌, ◌++◌, length, map, set, Option, Some, None, refl, sym, ap, ◌∙◌, subst, arith, length-append, max, Result, Ok, Err, OnOk, OnErr}
+use Rattle.std.proofs.Common.{◌≡◌, ◌≢◌, ℕ, ◌<◌, ◌≤◌, ◌+◌, get_or, is_ok, inl, inr, Bool, true, false, List, [], ◌∷◌, ◌++◌, length, map, set, Option, Some, None, refl, sym, ap, ◌∙◌, subst, arith, length-append, max, Result, Ok, Err, OnOk, OnErr}
 use Rattle.std.proofs.lemmas.Bool.{cases_eq}
-use Rattle.std.proofs.lemmas.List.{get_or_past, map-append, map-set, length-map, length-set, get_or-set_same, get_or-set_other, ext_get_or, get_or_append_left, get_or_push}
+use Rattle.std.proofs.lemmas.List.{get_or_past, map-append, map-set, length-map, length-set, get_or-set_same, get_or-set_other, ext_get_or, get_or_append_left, get_or_push, get_or-map}
 use Rattle.std.proofs.Math.ListN.{get_or-map as map_at}
 use Rattle.std.specs.FinSet as set_of
+use Rattle.std.specs.declared.cmp.Ordering.{Ordering}
 use Rattle.ic_unsafe_ref.specs.declared.place.Place.{Place}
 use Rattle.ic_unsafe_ref.specs.Places.{index_of}
 use Rattle.ic_unsafe_ref.specs.Objects.{Objects}
@@ -21,42 +22,97 @@ use Rattle.ic_members.specs.Members.{Keeps}
 use Rattle.ic_members.proofs.AllKinds.{lawful as lawful_field}
 use Rattle.ic_members.proofs.AllKinds.{IsLawful, one_sequence, shown_frame, keeps_frame}
 use Rattle.ic_world.specs.declared.collection.Collection.{Collection}
-use Rattle.ic_world.specs.Family.{Sequence, LinkField}
+use Rattle.ic_world.specs.Family.{Family, Sequence, LinkField}
 use Rattle.ic_world.specs.LinkedSets.{linked_in}
 use Rattle.ic_world.specs.Tables.{table, no_table, field_in, sequence, seen_as, shown_as, at, family_of, IsWhole, HasObject}
-use Rattle.ic_world.specs.Step.{with_linked, linked_of, field_of}
+use Rattle.ic_world.specs.declared.call.Refusal.{Refusal}
+use Rattle.ic_world.specs.declared.call.Command.TheVariants.{AddField}
+use Rattle.ic_world.specs.State.{reply_of, field}
+use Rattle.ic_world.specs.Pieces.{Appends, IsFresh}
+use Rattle.ic_world.specs.Step.{Step, with_linked, linked_of, field_of}
 use Rattle.ic_world.proofs.Readings.{field_at}
-use Rattle.ic_world.specs.Growth.{Grown}
+use Rattle.ic_world.specs.Growth.{Cover, GrowsTo, Grown, Grows}
+use Rattle.ic_world.proofs.Steps.{from_ok}
 use Rattle.ic_world.proofs.Linked.{side, linked_empty, linked_same, linked_loses}
 use Rattle.ic_world.proofs.Edits.{lawful}
 use Rattle.ic_world.proofs.Opened.{disjoint_none}
 
-pub grown_none : (ts : List (Table Entry)) → Grown ts ts
-grown_none ts = record { count = refl; longer = λ f. omega arith; identity = λ f. refl; entries = λ f q. refl }
+-- the first f of the tables cover so many places already
+pub record GrownTo (ts us : List (Table Entry)) (f count : ℕ) : Type 0 where
+  pub grown : Grown ts us
+  pub done : (g : ℕ) → g < f → count ≤ (table us g).extent.places
+
+grown_none : (ts : List (Table Entry)) → Grown ts ts
+grown_none ts = record { count = refl; each = λ f. record { longer = omega arith; identity = refl; entries = λ q. refl } }
+
+pub grown_to_none : (ts : List (Table Entry)) (count : ℕ) → GrownTo ts ts 0 count
+grown_to_none ts count = record { grown = grown_none ts; done = λ f h. absurd (omega (arith, h)) }
+
+grows_on : (t u v : Table Entry) → GrowsTo t u → GrowsTo u v → GrowsTo t v
+grows_on t u v a b = record {
+  longer = let x = a.longer in let y = b.longer in omega (arith, x, y);
+  identity = b.identity ∙ a.identity;
+  entries = λ q. b.entries q ∙ a.entries q;
+}
 
 -- one of them grows
-pub grown_more : (ts us : List (Table Entry)) (f : ℕ) (t : Table Entry) → Grown ts us → f < length us → (table us f).extent.places ≤ t.extent.places
-    → t.extent.identity ≡ (table us f).extent.identity → ((q : Place) → t.entry q ≡ (table us f).entry q) → Grown ts (set us f t)
-grown_more ts us f t so within longer identity same = record {
+grown_more : (ts us : List (Table Entry)) (f : ℕ) (t : Table Entry) → Grown ts us → f < length us → GrowsTo (table us f) t → Grown ts (set us f t)
+grown_more ts us f t so within more = record {
   count = length-set us f t ∙ so.count;
-  longer = λ g. elim (cases_eq g f) [
-    | inl e ↦ let here = ap (λ (u : Table Entry). u.extent.places) (get_or-set_same us f t no_table within) in let old = so.longer f in rw e (omega (arith, here, old, longer))
-    | inr d ↦ let there = ap (λ (u : Table Entry). u.extent.places) (get_or-set_other us f g t no_table d) in let old = so.longer g in omega (arith, there, old)
-  ];
-  identity = λ g. elim (cases_eq g f) [
-    | inl e ↦ rw (e, get_or-set_same us f t no_table within) (identity ∙ so.identity f)
-    | inr d ↦ rw (get_or-set_other us f g t no_table d) (so.identity g)
-  ];
-  entries = λ g q. elim (cases_eq g f) [
-    | inl e ↦ rw (e, get_or-set_same us f t no_table within) (same q ∙ so.entries f q)
-    | inr d ↦ rw (get_or-set_other us f g t no_table d) (so.entries g q)
+  each = λ g. elim (cases_eq g f) [
+    | inl e ↦ rw (e, get_or-set_same us f t no_table within) (grows_on (table ts f) (table us f) t (so.each f) more)
+    | inr d ↦ rw (get_or-set_other us f g t no_table d) (so.each g)
   ];
 }
 
 -- a table that was asked to cover n places covers no fewer than before
-pub covers_more : {A E : Type 0} (r : Result A E) (old new : Extent) (n : ℕ) → OnOk r (new.places ≡ max old.places n) → OnErr r (new ≡ old) → old.places ≤ new.places
+covers_more : {A E : Type 0} (r : Result A E) (old new : Extent) (n : ℕ) → OnOk r (new.places ≡ max old.places n) → OnErr r (new ≡ old) → old.places ≤ new.places
 covers_more (Ok a) old new n ok err = omega (arith, ok)
 covers_more (Err e) old new n ok err = let same = ap (λ (x : Extent). x.places) err in omega (arith, same)
+
+-- a table was asked to cover `count` places
+abbrev Covering : {A E : Type 0} → ℕ → Result A E → (too_many : Type 0) → (old new : Table Entry) → (enough : Type 0) → Type 0
+Covering count r said old new is_enough = record {
+  too_many : said;
+  covers : OnOk r (new.extent.places ≡ max old.extent.places count);
+  stays : (q : Place) → new.entry q ≡ old.entry q;
+  identity : new.extent.identity ≡ old.extent.identity;
+  enough : is_enough;
+  refused : OnErr r (new.extent ≡ old.extent);
+}
+
+-- it is table f, which was read
+module _ {M A E : Type 0} {said is_enough : Type 0} (ts : List (Table Entry)) (tables : List (Field M)) (f count : ℕ) (within : f < length tables) (x u : Field M) (r : Result A E)
+    (e : Covering count r said (look (get_or tables f x)) (look u) is_enough) where
+  pub covered_more : Grown ts (map look tables) → Grown ts (map look (set tables f u))
+  covered_more so =
+      let t = look (get_or tables f x) in
+      let more : GrowsTo t (look u) = record { longer = covers_more r t.extent (look u).extent count e.covers e.refused; identity = e.identity; entries = e.stays } in
+      rw map-set (grown_more ts (map look tables) f (look u) so (rw length-map within) (subst (λ v. GrowsTo v (look u)) (sym (get_or-map look tables f x no_table within)) more))
+
+  pub covered_next : is_ok r ≡ true → GrownTo ts (map look tables) f count → GrownTo ts (map look (set tables f u)) (f + 1) count
+  covered_next ok so = record {
+    grown = covered_more so.grown;
+    done = λ g h. elim (cases_eq g f) [
+      | inl same ↦ let all = from_ok r ok e.covers in rw (map-set, same, get_or-set_same (map look tables) f (look u) no_table (rw length-map within)) (omega (arith, all))
+      | inr d ↦ rw (map-set, get_or-set_other (map look tables) f g (look u) no_table d) (so.done g (omega (arith, h, d)))
+    ];
+  }
+
+-- what each table covers, where not all of them grew, and where all did
+pub grows_some : (room : ℕ) (ts us : List (Table Entry)) → Grown ts us → Grows room ts room us
+grows_some room ts us so = record {
+  grown = so;
+  more = omega arith;
+  covered = λ old f h. let n = so.count in let a = old f (omega (arith, h, n)) in let b = (so.each f).longer in omega (arith, a, b);
+}
+
+pub grows_all : (room room' count f : ℕ) (ts us : List (Table Entry)) → GrownTo ts us f count → length ts ≤ f → room' ≡ max room count → Grows room ts room' us
+grows_all room room' count f ts us so past e = record {
+  grown = so.grown;
+  more = omega (arith, e);
+  covered = λ old g h. let n = so.grown.count in let a = (grows_some room ts us so.grown).covered old g h in let b = so.done g (omega (arith, h, n, past)) in omega (arith, a, b, e);
+}
 
 -- OTHER TABLES that keep each collection: its sequence is the same
 module _ {A V K : Type 0} {adapter : A} {objects : Objects V} {room : ℕ} {ts : List (Table Entry)} {cs : List (Option (Collection A V K))} (whole : IsWhole adapter objects room ts cs) (us : List (Table Entry))
@@ -87,20 +143,20 @@ module _ {A V K : Type 0} {adapter : A} {objects : Objects V} {room : ℕ} {ts :
 
 module _ {A V K : Type 0} (adapter : A) (objects : Objects V) (ts us : List (Table Entry)) (cs : List (Option (Collection A V K))) {room : ℕ} (whole : IsWhole adapter objects room ts cs) (grown : Grown ts us) where
   grown_lawful : (f : ℕ) → IsLawful (table us f)
-  grown_lawful f q h = let a = lawful whole f q (rw (grown.entries f q) at h) in let b = grown.longer f in omega (arith, a, b)
+  grown_lawful f q h = let a = lawful whole f q (rw ((grown.each f).entries q) at h) in let b = (grown.each f).longer in omega (arith, a, b)
 
   grown_kept : (c : ℕ) (k : Collection A V K) → at cs c ≡ Some k → Keeps (table us k.field) k.members (sequence ts k)
   grown_kept c k is =
       let old = whole.held c k is in record {
-        carried = rw (grown.identity k.field) old.carried;
-        shown = shown_frame (table ts k.field) (table us k.field) k.members (sequence ts k) [] old.shown (disjoint_none (sequence ts k)) (λ q out. grown.entries k.field q);
+        carried = rw (grown.each k.field).identity old.carried;
+        shown = shown_frame (table ts k.field) (table us k.field) k.members (sequence ts k) [] old.shown (disjoint_none (sequence ts k)) (λ q out. (grown.each k.field).entries q);
         stands = old.stands;
       }
 
   grown_field : (f : ℕ) → field_in (table us f) ≡ field_in (table ts f)
   grown_field f =
-      let kinds : kind_of (table us f) ≡ kind_of (table ts f) = ap kind_with (grown.identity f) in
-      let links = linked_same (table ts f) (table us f) (lawful whole f) (grown_lawful f) (λ q. ap is_linked (grown.entries f q)) in
+      let kinds : kind_of (table us f) ≡ kind_of (table ts f) = ap kind_with (grown.each f).identity in
+      let links = linked_same (table ts f) (table us f) (lawful whole f) (grown_lawful f) (λ q. ap is_linked ((grown.each f).entries q)) in
       λ i. record { kind = kinds i; linked = links i }
 
   -- THE SAME FAMILY, with longer tables
@@ -113,13 +169,9 @@ module _ {A V K : Type 0} (adapter : A) (objects : Objects V) (ts us : List (Tab
       λ i. record { adapter = adapter; objects = objects.values; fields = fields i; collections = collections i }
 
   -- and the invariant, where each table covers what the objects need
-  pub grown_whole : (more : ℕ) → room ≤ more → ((f : ℕ) → f < length us → more ≤ (table us f).extent.places) → IsWhole adapter objects more us cs
+  pub grown_whole : (more : ℕ) → room ≤ more → Cover more us → IsWhole adapter objects more us cs
   grown_whole more reach covered =
-      kept_whole whole us grown_lawful grown_kept more reach (let n = grown.count in omega (arith, n)) covered (λ f q h. whole.placed f q (rw (grown.entries f q) at h))
-
-  -- which they did before
-  pub still_covered : (f : ℕ) → f < length us → room ≤ (table us f).extent.places
-  still_covered f within = let n = grown.count in let old = whole.covered f (omega (arith, within, n)) in let longer = grown.longer f in omega (arith, old, longer)
+      kept_whole whole us grown_lawful grown_kept more reach (let n = grown.count in omega (arith, n)) covered (λ f q h. whole.placed f q (rw ((grown.each f).entries q) at h))
 
 -- in a table that covered no place when it was made nothing is linked, and growing keeps it so
 pub nothing_linked : {M : Type 0} (links : Field M) (t : Table Entry) → (look links).extent.places ≡ 0 → ((q : Place) → t.entry q ≡ (look links).entry q) → (q : Place) → is_linked (t.entry q) ≡ false
@@ -177,6 +229,17 @@ module _ {A V K : Type 0} {adapter : A} {objects : Objects V} {room : ℕ} {ts :
         | inl past ↦ absurd (let both : true ≡ false = sym h ∙ unlinked f q past in cc)
         | inr old ↦ whole.placed f q (rw (in_old f old) at h)
       ])
+
+-- and what adding it comes to
+module _ {A V K M : Type 0} {adapter : A} {objects : Objects V} {room : ℕ} (tables : List (Field M)) {cs : List (Option (Collection A V K))} (whole : IsWhole adapter objects room (map look tables) cs)
+    {old : Family A V} (view : family_of adapter objects (map look tables) cs ≡ old) (cmp : K → K → Ordering) (key_of : A → V → K) where
+  pub field_added : (kind : Kind) (links : Field M) → IsFresh kind room (look links) → (r : Result ℕ Refusal) (news : List (Field M)) → Appends tables links r news
+      → IsWhole adapter objects room (map look news) cs × Step cmp key_of old (AddField kind) (reply_of (λ f. field f) r) (family_of adapter objects (map look news) cs)
+  field_added kind links fresh (Ok f) news e = rw (← view, e.1, map-append) (
+    field_whole whole (look links) fresh.free fresh.covers,
+    (rw (length-map, length-map) e.0, field_family whole (look links) fresh.free kind fresh.kind_is),
+  )
+  field_added kind links fresh (Err r) news e = rw (e.0, e.1) (whole, view)
 
 -- A PLACE LESS LINKED in the table of field f, that of no member of a collection there
 module _ {A V K : Type 0} {adapter : A} {objects : Objects V} {room : ℕ} {ts : List (Table Entry)} {cs : List (Option (Collection A V K))} (whole : IsWhole adapter objects room ts cs) (f : ℕ) (within : f < length ts)

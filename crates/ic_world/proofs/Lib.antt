@@ -21,4 +21,5 @@ pub mod Ends
 pub mod Picked
 pub mod Neighbors
 pub mod Seeking
+pub mod Inserted
 pub mod StepLaws

@@ -1,11 +1,12 @@
 -- An object more, another value in an object's place, and an object less.
-use Rattle.std.proofs.Common.{◌≡◌, ◌≢◌, ℕ, ◌<◌, ◌⊎◌, inl, inr, Bool, true, false, cond, List, length, map, get_or, Option, Some, None, is_some, refl, sym, ap, ◌∙◌, eq-eqb, ne_eqb}
+use Rattle.std.proofs.Common.{◌≡◌, ◌≢◌, ℕ, ◌<◌, ◌⊎◌, inl, inr, Bool, true, false, cond, List, length, map, get_or, Option, Some, None, is_some, refl, sym, ap, ◌∙◌, eq-eqb, ne_eqb, arith, Result, Ok, Err, IfOk}
 use Rattle.std.proofs.lemmas.Bool.{cases_eq}
 use Rattle.std.proofs.lemmas.List.{get_or_past, length-map}
 use Rattle.std.proofs.lemmas.List.Folds.{list_any_at}
 use Rattle.std.proofs.Math.ListN.{get_or-map as map_at}
 use Rattle.std.specs.List.{list_any}
 use Rattle.std.specs.Ordering.{nat_cmp, eq_by_cmp}
+use Rattle.std.specs.declared.cmp.Ordering.{Ordering}
 use Rattle.std.specs.Cmp.{nat_cmp_total, unsigned_tied}
 use Rattle.std.specs.FinMap as map_of
 use Rattle.std.specs.FinSet as set_of
@@ -13,6 +14,7 @@ use Rattle.std.specs.FinMap.{get-insert, get-remove}
 use Rattle.ic_unsafe_ref.specs.declared.place.Place.{Place}
 use Rattle.ic_unsafe_ref.specs.Places.{index_of}
 use Rattle.ic_unsafe_ref.specs.Objects.{Objects}
+use Rattle.ic_unsafe_ref.specs.Objects.{is_placed as place_is_placed}
 use Rattle.ic_unsafe_ref.proofs.PlaceLemmas.{same_index}
 use Rattle.ic_link_ops.specs.Tables.{Table}
 use Rattle.ic_fields.specs.declared.entry.Entry.{Entry}
@@ -21,11 +23,21 @@ use Rattle.ic_fields.specs.declared.field.Field.{Field}
 use Rattle.ic_fields.specs.Fields.{look}
 use Rattle.ic_members.proofs.AllKinds.{lawful as lawful_field}
 use Rattle.ic_world.specs.declared.collection.Collection.{Collection}
+use Rattle.ic_world.specs.declared.call.Refusal.{Refusal}
+use Rattle.ic_world.specs.declared.call.Refusal.TheVariants.{NoSuchObject}
+use Rattle.ic_world.specs.declared.call.Command.TheVariants.{SetValue}
+use Rattle.ic_world.specs.declared.call.Command.TheVariants.{Place as PlaceCall}
 use Rattle.ic_world.specs.Family.{Family, LinkField}
+use Rattle.ic_world.specs.State.{reply_of_value, object, done}
+use Rattle.ic_world.specs.Growth.{Grows}
+use Rattle.ic_world.specs.Pieces.{PlacesValue, SwapsValue}
+use Rattle.ic_world.specs.Step.{Step}
 use Rattle.ic_world.specs.Tables.{table, no_table, field_in, shown_as, family_of, IsWhole, HasObject}
 use Rattle.ic_world.proofs.Linked.{side, in_linked}
 use Rattle.ic_world.proofs.Edits.{lawful}
 use Rattle.ic_world.proofs.Readings.{table_read}
+use Rattle.ic_world.proofs.Growth.{grown_whole, grown_family}
+use Rattle.ic_world.proofs.Steps.{step_accepted, step_refused, passes, fails}
 
 -- whether p is linked in a field of the family, by its table
 pub field_has : {M : Type 0} (tables : List (Field M)) (p : Place) (f : ℕ) (t : Field M) → f < length tables → t ≡ get_or tables f t
@@ -116,11 +128,40 @@ module _ {A V K : Type 0} {adapter : A} {old new : Objects V} {room : ℕ} {ts :
     apart = whole.apart;
   }
 
--- the family with a value more, where the tables may have grown
-pub placed_family : {A V K : Type 0} (adapter : A) (old new : Objects V) (ts us : List (Table Entry)) (cs : List (Option (Collection A V K))) (p : Place) (v : V) → new.values ≡ map_of.insert old.values (index_of p) v
-    → family_of adapter old us cs ≡ family_of adapter old ts cs
-    → family_of adapter new us cs ≡ record (family_of adapter old ts cs) { objects = map_of.insert old.values (index_of p) v }
-placed_family adapter old new ts us cs p v values same =
-    let fields : map field_in us ≡ map field_in ts = ap (λ (w : Family _ _). w.fields) same in
-    let collections : map (shown_as us) cs ≡ map (shown_as ts) cs = ap (λ (w : Family _ _). w.collections) same in
-    λ i. record { adapter = adapter; objects = values i; fields = fields i; collections = collections i }
+-- what was swapped out stood there
+pub value_was : {V : Type 0} (old : Objects V) (p : Place) (v : V) (r : Result V (Refusal × V)) (new : Objects V) → SwapsValue old p v r new → IfOk r (λ was. map_of.get old.values (index_of p) ≡ Some was)
+value_was old p v (Ok was) new e = e.0
+value_was old p v (Err x) new e = tt
+
+-- `cmp`, `key_of`: the order of the keys, and the key of a value
+module _ {A V K : Type 0} (cmp : K → K → Ordering) (key_of : A → V → K) {adapter : A} {objects : Objects V} {room : ℕ} {ts : List (Table Entry)} {cs : List (Option (Collection A V K))}
+    (whole : IsWhole adapter objects room ts cs) {old : Family A V} (view : family_of adapter objects ts cs ≡ old) where
+  -- WHERE A VALUE WAS TO BE SWAPPED
+  pub value_swapped : (p : Place) (v : V) (r : Result V (Refusal × V)) (new : Objects V) → SwapsValue objects p v r new
+      → IsWhole adapter new room ts cs × Step cmp key_of old (SetValue p v) (reply_of_value (λ _. done) r) (family_of adapter new ts cs)
+  value_swapped p v (Ok was) new e =
+      let has : place_is_placed objects p ≡ true = ap is_some e.0 in (
+        put_whole whole p v (ap (λ (o : Objects V). o.values) e.1) (whole.within (index_of p) has),
+        rw (← view, e.1) (step_accepted cmp key_of (family_of adapter objects ts cs) (SetValue p v) done _ (passes _ NoSuchObject None has) refl),
+      )
+  value_swapped p v (Err x) new e =
+      rw (e.1, e.2) (whole, rw view (step_refused cmp key_of old (SetValue p v) NoSuchObject (rw (← view) (fails _ NoSuchObject None (ap is_some e.0)))))
+
+  -- WHERE A VALUE WAS TO BE PLACED, after the tables grew
+  module _ {room' : ℕ} {us : List (Table Entry)} (grows : Grows room ts room' us) where
+    longer_whole : IsWhole adapter objects room' us cs
+    longer_whole = grown_whole adapter objects ts us cs whole grows.grown room' grows.more (grows.covered whole.covered)
+
+    same_family : family_of adapter objects us cs ≡ old
+    same_family = grown_family adapter objects ts us cs whole grows.grown ∙ view
+
+    pub value_placed : (has_room : Bool) → (has_room ≡ true → objects.next < room') → (v : V) (r : Result Place (Refusal × V)) (new : Objects V) → PlacesValue has_room objects v r new
+        → IsWhole adapter new room' us cs × Step cmp key_of old (PlaceCall v) (reply_of_value (λ p. object p) r) (family_of adapter new us cs)
+    value_placed has_room reach v (Ok p) new e =
+        let put = e.1 in
+        let here = reach e.0 in
+        let next = put.next in (
+          put_whole longer_whole p v put.values (omega (arith, here, next)),
+          rw (← same_family) (put.vacant, λ i. record { adapter = adapter; objects = put.values i; fields = map field_in us; collections = map (shown_as us) cs }),
+        )
+    value_placed has_room reach v (Err x) new e = rw (e.0, e.1) (longer_whole, same_family)

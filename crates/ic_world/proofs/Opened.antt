@@ -1,5 +1,6 @@
 -- An empty collection more.
-use Rattle.std.proofs.Common.{◌≡◌, ℕ, zero, suc, ◌<◌, ◌⊎◌, inl, inr, true, false, List, [], ◌∷◌, ◌++◌, length, map, get_or, Option, Some, None, refl, sym, ap, ◌∙◌, subst, arith}
+use Rattle.std.proofs.Common.{◌≡◌, ℕ, zero, suc, ◌<◌, ◌⊎◌, inl, inr, true, List, [], ◌∷◌, ◌++◌, length, map, get_or, Option, Some, None, refl, sym, ap, ◌∙◌, subst, arith, Result, Ok, Err}
+use Rattle.std.proofs.lemmas.Bool.{ltb-true}
 use Rattle.std.proofs.lemmas.List.{map-append, length-map}
 use Rattle.std.specs.declared.cmp.Ordering.{Ordering}
 use Rattle.std.specs.Ordering.{nat_cmp}
@@ -10,22 +11,27 @@ use Rattle.ic_unsafe_ref.specs.Objects.{Objects}
 use Rattle.ic_link_ops.specs.Sequences.{IsDisjoint}
 use Rattle.ic_link_ops.specs.Tables.{Table}
 use Rattle.ic_fields.specs.declared.entry.Entry.{Entry}
+use Rattle.ic_fields.specs.declared.field.Field.{Field}
+use Rattle.ic_fields.specs.Fields.{look}
 use Rattle.ic_fields.specs.declared.kind.Kind.{Kind}
 use Rattle.ic_fields.specs.Kinds.{carries}
 use Rattle.ic_fields.specs.Entries.{kind_of}
 use Rattle.ic_world.specs.declared.collection.Collection.{Collection}
 use Rattle.ic_members.specs.declared.members.Members.{Members}
-use Rattle.ic_world.specs.declared.call.Refusal.TheVariants.{WrongKind, OutOfMemory}
+use Rattle.ic_world.specs.declared.call.Refusal.{Refusal}
+use Rattle.ic_world.specs.declared.call.Refusal.TheVariants.{NoSuchField, WrongKind, OutOfMemory}
+use Rattle.ic_world.specs.Family.{Family}
+use Rattle.ic_world.specs.Pieces.{Appends}
 use Rattle.ic_world.specs.declared.call.Command.TheVariants.{Open}
 use Rattle.ic_members.specs.Members.{Keeps, Held, kind_in, cursor_in, adapter_in, adapter_for}
-use Rattle.ic_world.specs.Tables.{table, sequence, seen_as, shown_as, at, family_of, IsWhole}
-use Rattle.ic_world.specs.State.{opened, refused, asks}
-use Rattle.ic_world.specs.Step.{Step, refusal, with_opened}
+use Rattle.ic_world.specs.Tables.{table, field_in, sequence, seen_as, shown_as, at, family_of, IsWhole}
+use Rattle.ic_world.specs.State.{reply_of, opened, refused, asks}
+use Rattle.ic_world.specs.Step.{Step, refusal_of_open, has_field, field_of, with_opened}
 use Rattle.ic_link_ops.proofs.SequenceLemmas.{disjoint_sym}
 use Rattle.ic_members.proofs.AllKinds.{one_sequence}
 use Rattle.ic_world.proofs.Edits.{lawful}
-use Rattle.ic_world.proofs.Readings.{field_at}
-use Rattle.ic_world.proofs.Steps.{some_same, step_accepted, step_refused, field_there, passes, fails}
+use Rattle.ic_world.proofs.Readings.{field_at, table_read}
+use Rattle.ic_world.proofs.Steps.{some_same, step_accepted, field_there, asks_none}
 
 pub disjoint_none : (s : List Place) → IsDisjoint s []
 disjoint_none [] = tt
@@ -78,38 +84,51 @@ module _ {A V K : Type 0} {adapter : A} {objects : Objects V} {room : ℕ} {ts :
   pub appended_family : family_of adapter objects ts (cs ++ Some k ∷ []) ≡ with_opened (family_of adapter objects ts cs) (seen_as k (sequence ts k))
   appended_family = λ i. record { adapter = adapter; objects = objects.values; fields = (family_of adapter objects ts cs).fields; collections = map-append (shown_as ts) cs (Some k ∷ []) i }
 
--- `cmp`, `key_of`: the order of the keys, and the key of a value
+-- what a test of an opening tells of the field, of the table that was read
+pub open_tests : {A V K M : Type 0} (adapter : A) (objects : Objects V) (tables : List (Field M)) (cs : List (Option (Collection A V K))) {old : Family A V} → family_of adapter objects (map look tables) cs ≡ old → (f : ℕ) (kind : Kind) (t : Field M)
+    → f < length tables → t ≡ get_or tables f t → refusal_of_open old f kind ≡ asks (carries (kind_of (look t)) kind) WrongKind None
+open_tests adapter objects tables cs view f kind t within read =
+    rw (← view) (field_there (family_of adapter objects (map look tables) cs) f _ (rw (length-map, length-map) within)
+    ∙ ap (λ x. asks (carries x.kind kind) WrongKind None) (field_at adapter objects (map look tables) cs f (rw length-map within) ∙ ap field_in (table_read tables f t within read)))
+
+-- members of a kind that were made new
+abbrev New : {A V K : Type 0} → Kind → A → Members A V K → Type 0
+New of_kind by m = record {
+  kind : kind_in m ≡ of_kind;
+  adapter : adapter_in m ≡ adapter_for of_kind by;
+  null : cursor_in m ≡ None;
+  kept : (t : Table Entry) → carries (kind_of t) of_kind ≡ true → Keeps t m [];
+}
+
+-- AN OPENING that no test refuses. `cmp`, `key_of`: the order of the keys, and the key of a value
 module _ {A V K : Type 0} (cmp : K → K → Ordering) (key_of : A → V → K) {adapter : A} {objects : Objects V} {room : ℕ} {ts : List (Table Entry)} {cs : List (Option (Collection A V K))}
-    (whole : IsWhole adapter objects room ts cs) (f : ℕ) (kind : Kind) (within : f < length ts) where
-  asks_kind_there : refusal {K = K} (family_of adapter objects ts cs) (Open f kind) ≡ asks (carries (kind_of (table ts f)) kind) WrongKind None
-  asks_kind_there = field_there (family_of adapter objects ts cs) f _ (rw length-map within) ∙ ap (λ x. asks (carries x.kind kind) WrongKind None) (field_at adapter objects ts cs f within)
+    (whole : IsWhole adapter objects room ts cs) {old : Family A V} (view : family_of adapter objects ts cs ≡ old) (f : ℕ) (kind : Kind) (none : refusal_of_open old f kind ≡ None)
+    (m : Members A V K) (new : New kind adapter m) where
+  abbrev fresh : Collection A V K
+  fresh = record { field = f; members = m }
 
-  pub open_wrong : carries (kind_of (table ts f)) kind ≡ false → Step cmp key_of (family_of adapter objects ts cs) (Open f kind) (refused WrongKind) (family_of adapter objects ts cs)
-  open_wrong lacks = step_refused cmp key_of (family_of adapter objects ts cs) (Open f kind) WrongKind (asks_kind_there ∙ fails _ WrongKind None lacks)
+  tests : (has_field (family_of adapter objects ts cs) f ≡ true) × (asks (carries (field_of (family_of adapter objects ts cs) f).kind kind) WrongKind None ≡ None)
+  tests = asks_none (has_field (family_of adapter objects ts cs) f) NoSuchField _ (rw (← view) at none)
 
-  pub open_full : carries (kind_of (table ts f)) kind ≡ true → Step cmp key_of (family_of adapter objects ts cs) (Open f kind) (refused OutOfMemory) (family_of adapter objects ts cs)
-  open_full has = step_accepted cmp key_of (family_of adapter objects ts cs) (Open f kind) (refused OutOfMemory) _ (asks_kind_there ∙ passes _ WrongKind None has) refl
+  within : f < length ts
+  within = rw length-map at (ltb-true f (length (map field_in ts)) tests.0)
 
-  module _ (m : Members A V K) (of_kind : kind_in m ≡ kind) (null : cursor_in m ≡ None) (kept : Keeps (table ts f) m []) (adapted : adapter_in m ≡ adapter_for kind adapter) where
-    abbrev pub fresh : Collection A V K
-    fresh = record { field = f; members = m }
+  keeps : Keeps (table ts f) m []
+  keeps = new.kept (table ts f) (ap (λ x. carries x.kind kind) (sym (field_at adapter objects ts cs f within)) ∙ (asks_none (carries (field_of (family_of adapter objects ts cs) f).kind kind) WrongKind None tests.1).0)
 
-    none : sequence ts fresh ≡ []
-    none = one_sequence (table ts f) (lawful whole f) m [] kept.shown
+  no_members : sequence ts fresh ≡ []
+  no_members = one_sequence (table ts f) (lawful whole f) m [] keeps.shown
 
-    pub open_whole : IsWhole adapter objects room ts (cs ++ Some fresh ∷ [])
-    open_whole =
-        appended_whole whole fresh within (subst (Keeps (table ts f) m) (sym none) kept) (rw of_kind adapted)
-        (λ d l is same. subst (IsDisjoint (sequence ts l)) (sym none) (disjoint_none (sequence ts l)))
-
-    pub open_step : (n : ℕ) → n ≡ length cs → carries (kind_of (table ts f)) kind ≡ true
-        → Step cmp key_of (family_of adapter objects ts cs) (Open f kind) (opened n) (family_of adapter objects ts (cs ++ Some fresh ∷ []))
-    open_step n number has =
-        let last : shown_as ts (Some fresh) ≡ Some (record { field = f; kind = kind; members = []; cursor = None }) =
-        λ i. Some (record { field = f; kind = of_kind i; members = none i; cursor = null i }) in
-        let all = map-append (shown_as ts) cs (Some fresh ∷ []) ∙ ap (λ x. map (shown_as ts) cs ++ x ∷ []) last in
-        step_accepted cmp key_of (family_of adapter objects ts cs) (Open f kind) (opened n) _ (asks_kind_there ∙ passes _ WrongKind None has)
-        (rw length-map number, λ i. record { adapter = adapter; objects = objects.values; fields = (family_of adapter objects ts cs).fields; collections = all i })
+  pub opened_by : (r : Result ℕ Refusal) (news : List (Option (Collection A V K))) → Appends cs (Some fresh) r news
+      → IsWhole adapter objects room ts news × Step cmp key_of old (Open f kind) (reply_of (λ c. opened c) r) (family_of adapter objects ts news)
+  opened_by (Ok n) news e =
+      let last : shown_as ts (Some fresh) ≡ Some (record { field = f; kind = kind; members = []; cursor = None }) = λ i. Some (record { field = f; kind = new.kind i; members = no_members i; cursor = new.null i }) in
+      let all = map-append (shown_as ts) cs (Some fresh ∷ []) ∙ ap (λ x. map (shown_as ts) cs ++ x ∷ []) last in
+      rw e.1 (
+        appended_whole whole fresh within (subst (Keeps (table ts f) m) (sym no_members) keeps) (rw new.kind new.adapter) (λ d l is same. subst (IsDisjoint (sequence ts l)) (sym no_members) (disjoint_none (sequence ts l))),
+        step_accepted cmp key_of old (Open f kind) (opened n) _ none (rw (← view) (rw length-map e.0, λ i. record { adapter = adapter; objects = objects.values; fields = map field_in ts; collections = all i })),
+      )
+  opened_by (Err r) news e = rw (e.0, e.1) (whole, step_accepted cmp key_of old (Open f kind) (refused OutOfMemory) _ none view)
 
 -- A world with nothing in it
 pub empty_whole : {A V K : Type 0} (adapter : A) (objects : Objects V) → objects.values ≡ map_of.empty → IsWhole {K = K} adapter objects 0 [] []

@@ -8,37 +8,30 @@ use Rattle.ic_members.specs.declared.members.Members.{Members}
 use Rattle.ic_members.specs.Members.{cursor_in, members_in, Held}
 use Rattle.ic_members.specs.Edits.{AtGap, Moves, Takes}
 use Rattle.ic_members.proofs.AllKinds.{lawful, distinct, held_of}
-use Rattle.ic_world.specs.declared.pick.Pick.{Pick}
 use Rattle.ic_world.specs.declared.pick.Pick.TheVariants.{PopFront, PopBack, MoveNext, MovePrev, Current, Remove, RemoveNext}
-use Rattle.ic_world.specs.State.{State, object_or_nothing, taken}
-use Rattle.ic_world.specs.ListCalls.{PickAccepts, PickReplies}
+use Rattle.ic_world.specs.State.{State, taken}
 use Rattle.ic_world.specs.Picks.{Picks}
 use Rattle.ic_world.specs.Turns.{Turns, state_of}
 use Rattle.ic_world.proofs.Ends.{first_none, last_none, front_is, back_is, first_gap, last_gap}
 use Rattle.ic_world.proofs.Turned.{still_members, still_held, moves_on, turns_moved, turns_out, turns_out_between, turns_still}
 
--- the reply of an answer is accepted where the answer is
-replies : (call : Pick) (s : State) (r : Option Place) (t : State) → PickAccepts call s r t → PickReplies call s (object_or_nothing r) t
-replies call s None t h = h
-replies call s (Some p) t h = h
-
 module _ {A V K M : Type 0} (links : Field M) {m m' : Members A V K} (r : Option Place) where
   -- the cursor moves, and the answer is where it is
   pub moved_next : AtGap (members_in (look links) m) (λ gap. IsAfter gap (cursor_in m) × Moves (look links) m m' (first gap.back)) → r ≡ cursor_in m'
-      → Turns [] (λ s u. PickReplies MoveNext s (object_or_nothing r) u) (look links) (look links) m m'
-  moved_next e answer = turns_still (lawful links) e.2.1 (λ same. replies MoveNext _ r _ (e.0, e.1, (e.2.0, answer ∙ e.2.1.cursor_is, same)))
+      → Picks MoveNext (look links) (look links) m r m'
+  moved_next e answer = turns_still (lawful links) e.2.1 (λ same. (e.0, e.1, (e.2.0, answer ∙ e.2.1.cursor_is, same)))
 
   pub moved_prev : AtGap (members_in (look links) m) (λ gap. IsBefore gap (cursor_in m) × Moves (look links) m m' (last gap.front)) → r ≡ cursor_in m'
-      → Turns [] (λ s u. PickReplies MovePrev s (object_or_nothing r) u) (look links) (look links) m m'
-  moved_prev e answer = turns_still (lawful links) e.2.1 (λ same. replies MovePrev _ r _ (e.0, e.1, (e.2.0, answer ∙ e.2.1.cursor_is, same)))
+      → Picks MovePrev (look links) (look links) m r m'
+  moved_prev e answer = turns_still (lawful links) e.2.1 (λ same. (e.0, e.1, (e.2.0, answer ∙ e.2.1.cursor_is, same)))
 
 -- nothing has changed
 module _ {A V K M : Type 0} (links : Field M) {m : Members A V K} where
   stays : Held (look links) m → Moves (look links) m m (cursor_in m)
   stays held = record { kept = held; alike = record { kind = refl; adapter = refl }; cursor_is = refl }
 
-  pub stayed : (r : Option Place) → Held (look links) m → r ≡ cursor_in m → Turns [] (λ s u. PickReplies Current s (object_or_nothing r) u) (look links) (look links) m m
-  stayed r held answer = turns_still (lawful links) (stays held) (λ same. replies Current _ r _ (answer, same))
+  pub stayed : (r : Option Place) → Held (look links) m → r ≡ cursor_in m → Picks Current (look links) (look links) m r m
+  stayed r held answer = turns_still (lawful links) (stays held) (λ same. (answer, same))
 
 module _ {A V K M : Type 0} (links : Field M) where
   -- the cursor goes to null and on to the first member, or to the last
@@ -58,7 +51,7 @@ module _ {A V K M : Type 0} (links links' : Field M) where
   -- the member that the cursor is on goes out, if there is one
   pub removed : {m m' : Members A V K} (r : Option Place) → Held (look links) m
       → IfSome r (λ p. AtGap (members_in (look links) m) (λ gap. IsBefore gap (cursor_in m) × Takes (look links) (look links') m m' gap p (first (drop 1 gap.back))))
-      → r ≡ cursor_in m → IfNone r ((m' ≡ m) × (links' ≡ links)) → Turns [] (λ s u. PickReplies Remove s (object_or_nothing r) u) (look links) (look links') m m'
+      → r ≡ cursor_in m → IfNone r ((m' ≡ m) × (links' ≡ links)) → Picks Remove (look links) (look links') m r m'
   removed None held e answer none = rw (none.0, none.1) (turns_still (lawful links) (stays links held) (λ same. (sym answer, refl)))
   removed (Some p) held e answer none = turns_out (lawful links) (lawful links') e.0 p e.1 e.2.1 (λ same. (e.0, e.1, (e.2.0, sym answer, same)))
 
@@ -66,7 +59,7 @@ module _ {A V K M : Type 0} (links links' : Field M) where
   pub removed_next : {m m' : Members A V K} (r : Option Place) → Held (look links) m
       → IfSome r (λ p. AtGap (members_in (look links) m) (λ gap. IsAfter gap (cursor_in m) × Takes (look links) (look links') m m' gap p (cursor_in m)))
       → IfNone r (AtGap (members_in (look links) m) (λ gap. IsAfter gap (cursor_in m) × (first gap.back ≡ None)) × (m' ≡ m) × (links' ≡ links))
-      → Turns [] (λ s u. PickReplies RemoveNext s (object_or_nothing r) u) (look links) (look links') m m'
+      → Picks RemoveNext (look links) (look links') m r m'
   removed_next None held e none = rw (none.1, none.2) (turns_still (lawful links) (stays links held) (λ same. (none.0, refl)))
   removed_next (Some p) held e none = turns_out (lawful links) (lawful links') e.0 p e.1 e.2.1 (λ same. (e.0, e.1, (e.2.0, e.2.1.there, same)))
 

@@ -17,6 +17,10 @@ use Rattle.ic_world.specs.Step.{collection, field_of, linked_of}
 pub table_read : {M : Type 0} (tables : List (Field M)) (f : ℕ) (t : Field M) → f < length tables → t ≡ get_or tables f t → table (map look tables) f ≡ look t
 table_read tables f t h e = get_or-map look tables f t no_table h ∙ ap look (sym e)
 
+-- a number below the length that was read is one of the list's
+pub in_list : {X : Type 0} (xs : List X) {i n len : ℕ} → i < n → n ≡ len → len ≡ length xs → i < length xs
+in_list xs {i} {n} {len} h e l = omega (arith, h, e, l)
+
 -- what was read, written back, changes nothing
 pub set_back : {X : Type 0} (xs : List X) (i : ℕ) (x : X) → x ≡ get_or xs i x → set xs i x ≡ xs
 set_back xs i x e = ap (set xs i) e ∙ set-get_or xs i x

@@ -8,22 +8,17 @@ use Rattle.ic_link_ops.specs.Tables.{Table}
 use Rattle.ic_link_ops.proofs.SequenceLemmas.{disjoint_sym, disjoint_both}
 use Rattle.ic_fields.specs.declared.entry.Entry.{Entry}
 use Rattle.ic_members.specs.declared.members.Members.{Members}
-use Rattle.ic_members.specs.Members.{Keeps, Alike, cursor_in}
+use Rattle.ic_members.specs.Members.{Alike, cursor_in}
 use Rattle.ic_members.specs.Edits.{PutsAll}
 use Rattle.ic_members.proofs.AllKinds.{one_sequence}
 use Rattle.ic_world.specs.declared.collection.Collection.{Collection}
 use Rattle.ic_world.specs.Family.{Family, Sequence}
+use Rattle.ic_world.specs.Splices.{Emptied}
 use Rattle.ic_world.specs.Tables.{table, no_table, sequence, seen_as, at, family_of, IsWhole}
 use Rattle.ic_world.specs.Step.{with_collection, with_members}
 use Rattle.ic_world.proofs.Linked.{linked_same}
 use Rattle.ic_world.proofs.Edits.{Edit, after, lawful, edited_lawful, edited_whole, unlinked_family, at_after}
 use Rattle.ic_world.proofs.Opened.{disjoint_none}
-
--- THE COLLECTION HAS NO MEMBER NOW, and its cursor is at null; its members stay linked
-pub record Emptied {A V K : Type 0} (m m' : Members A V K) : Type 0 where
-  pub kept : (t : Table Entry) (s : List Place) → Keeps t m s → Keeps t m' []
-  pub alike : Alike m m'
-  pub null : cursor_in m' ≡ None
 
 -- a collection as it is seen, of the same kind and with its cursor elsewhere
 pub seen_after : {A V K : Type 0} {m : Members A V K} (k : Collection A V K) (s t : List Place) {cursor : Option Place} → Alike k.members m → cursor_in m ≡ cursor

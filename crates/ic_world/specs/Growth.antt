@@ -1,13 +1,27 @@
 -- Tables that cover more places.
-use Rattle.std.specs.Prelude.{◌≡◌, ℕ, ◌≤◌, List, length}
+use Rattle.std.specs.Prelude.{◌≡◌, ℕ, ◌<◌, ◌≤◌, List, length}
 use Rattle.ic_unsafe_ref.specs.declared.place.Place.{Place}
 use Rattle.ic_link_ops.specs.Tables.{Table}
 use Rattle.ic_fields.specs.declared.entry.Entry.{Entry}
 use Rattle.ic_world.specs.Tables.{table}
 
--- each table is of the kind that it was, covers what it did and maybe more, and has the entries that it had
+-- each table covers so many places
+abbrev pub Cover : ℕ → List (Table Entry) → Type 0
+Cover room ts = (f : ℕ) → f < length ts → room ≤ (table ts f).extent.places
+
+-- a table is of the kind that it was, covers what it did and maybe more, and has the entries that it had
+pub record GrowsTo (t u : Table Entry) : Type 0 where
+  pub longer : t.extent.places ≤ u.extent.places
+  pub identity : u.extent.identity ≡ t.extent.identity
+  pub entries : (q : Place) → u.entry q ≡ t.entry q
+
+-- each table does
 pub record Grown (old new : List (Table Entry)) : Type 0 where
   pub count : length new ≡ length old
-  pub longer : (f : ℕ) → (table old f).extent.places ≤ (table new f).extent.places
-  pub identity : (f : ℕ) → (table new f).extent.identity ≡ (table old f).extent.identity
-  pub entries : (f : ℕ) (q : Place) → (table new f).entry q ≡ (table old f).entry q
+  pub each : (f : ℕ) → GrowsTo (table old f) (table new f)
+
+-- so does what each of them covers
+pub record Grows (room : ℕ) (old : List (Table Entry)) (room' : ℕ) (new : List (Table Entry)) : Type 0 where
+  pub grown : Grown old new
+  pub more : room ≤ room'
+  pub covered : Cover room old → Cover room' new

@@ -106,6 +106,10 @@ module _ {A V : Type 0} where
   with_state w c f t = with_linked (with_collection w c (Some (sequence_of f t))) f t.linked
 
 module _ {A V : Type 0} where
+  -- a collection is opened
+  abbrev pub refusal_of_open : Family A V → ℕ → Kind → Option Refusal
+  refusal_of_open w f k = asks (has_field w f) NoSuchField (asks (carries (field_of w f).kind k) WrongKind None)
+
   -- a part of one is handed out to a collection more, of the same field
   abbrev pub refusal_of_hand_out : Family A V → ℕ → Part → Option Refusal
   refusal_of_hand_out w c part = asks_collection (collection w c) (λ s. part_refusal part (state_in w s))
@@ -177,7 +181,7 @@ module _ {A V K : Type 0} where
   -- THE FIRST REFUSAL that applies, in the order of their numbers
   abbrev pub refusal : Family A V → Command V K → Option Refusal
   refusal w (call.AddField k) = None
-  refusal w (call.Open f k) = asks (has_field w f) NoSuchField (asks (carries (field_of w f).kind k) WrongKind None)
+  refusal w (call.Open f k) = refusal_of_open w f k
   refusal w (call.Place v) = None
   refusal w (call.RemoveObject p) = asks (is_placed w p) NoSuchObject (asks (not (is_linked_somewhere w p)) StillLinked None)
   refusal w (call.SetValue p v) = asks (is_placed w p) NoSuchObject None

@@ -6,7 +6,11 @@
 //! world.splice_after(queue, rest)?;     // and back
 //! ```
 
-ghost use Rattle.std.specs.Prelude.{◌≡◌};
+ghost use Rattle.std.specs.Prelude.{◌≡◌, true, None, map, slice_index_or, slice_set};
+ghost use Rattle.ic_link_ops.specs.Sequences.{IsDisjoint};
+ghost use Rattle.ic_fields.specs.Fields.{look};
+ghost use Rattle.ic_members.specs.Members.{kind_in, members_in, Held};
+ghost use Rattle.ic_world.specs.Splices.{can_splice, PutsBeside, CanBeJoined, AreJoined};
 
 use crate::World;
 use crate::call::{Command, Refusal};
@@ -14,16 +18,82 @@ use crate::collection::Collection;
 use crate::edit::Edit;
 use crate::kinds::{has_before, is_list, is_two_way_list, same_kind};
 use crate::part::Part;
-use ic_fields::Kind;
+use crate::world::append;
+use ic_fields::{Field, Kind};
 use ic_members::Members;
 use ic_rbtree::KeyAdapter;
 use ic_unsafe_ref::Place;
 use std::alloc::Allocator;
+use std::mem;
+
+// Puts an item, or none, in the place of another, which it answers.
+fn exchange<T: Drop, M: Allocator>(
+    items: &mut Vec<Option<T>, M>,
+    number: usize,
+    item: Option<T>,
+) -> Option<T>
+    ensures was { result ≡ slice_index_or items.old.items number None }
+    ensures set { items.new.items ≡ slice_set items.old.items number item }
+{
+    if number >= items.len() {
+        return None;
+    }
+    mem::replace(&mut items[number], item)
+}
+
+// Puts an item, or none, in the place of another.
+fn put<T: Drop, M: Allocator>(items: &mut Vec<Option<T>, M>, number: usize, item: Option<T>)
+    ensures { items.new.items ≡ slice_set items.old.items number item }
+{
+    if number < items.len() {
+        items[number] = item;
+    }
+}
+
+// Puts all members of the given list beside the cursor of another.
+fn put_beside<A: KeyAdapter, M: Allocator>(
+    list: &mut Members<A>,
+    links: &mut Field<M>,
+    given: Members<A>,
+    before: bool,
+)
+    requires held { Held (look links.old) list.old }
+    requires given { Held (look links.old) given }
+    requires can { can_splice before (kind_in list.old) ≡ true }
+    requires kinds { kind_in given ≡ kind_in list.old }
+    requires apart { IsDisjoint (members_in (look links.old) given) (members_in (look links.old) list.old) }
+    ensures { PutsBeside before (look links.old) (look links.new) list.old list.new (members_in (look links.old) given) }
+{
+    if before {
+        list.splice_before(links, given);
+    } else {
+        list.splice_after(links, given);
+    }
+}
+
+// Puts all members of the given list beside the cursor of another of its field. The given one stays, with no member.
+fn join<A: KeyAdapter, M: Allocator>(
+    list: &mut Option<Collection<A>>,
+    given: &mut Option<Collection<A>>,
+    tables: &mut Vec<Field<M>, M>,
+    adapter: A,
+    before: bool,
+)
+    requires { CanBeJoined before adapter (map look tables.old.items) list.old given.old }
+    ensures { AreJoined before (map look tables.old.items) (map look tables.new.items) list.old given.old list.new given.new }
+{
+    if let Some(list) = list {
+        if let Some(given) = given {
+            let taken = given.members.take(adapter);
+            put_beside(&mut list.members, &mut tables[list.field], taken, before);
+        }
+    }
+}
 
 impl<A: KeyAdapter, M: Allocator + Copy> World<A, M> {
-    ghost use Rattle.ic_world.specs.Step.{Step, StepSplice, collection as collection_of, field_and_kind, refusal_of_splice};
+    ghost use Rattle.ic_world.specs.Step.{Step, StepSplice, collection as collection_of, field_and_kind, refusal_of_open, refusal_of_splice};
     ghost use Rattle.ic_world.specs.State.{reply_of, done, opened, items};
-    ghost use Rattle.ic_world.specs.Splices.{can_splice, IsBesideOf};
+    ghost use Rattle.ic_world.specs.Splices.{IsBesideOf};
 
     /// Makes an empty collection in a field, with its cursor at null, and answers its number.
     ///
@@ -31,18 +101,24 @@ impl<A: KeyAdapter, M: Allocator + Copy> World<A, M> {
     pub fn open(&mut self, field: usize, kind: Kind) -> Result<usize, Refusal>
         ensures { Step A.Key.cmp A.key_of self.old (Command.Open field kind) (reply_of (λ c. opened c) result) self.new }
     {
+        if let Some(refusal) = self.open_refused(field, kind) {
+            return Err(refusal);
+        }
+        let members = Members::new(kind, self.adapter);
+        append(&mut self.collections, Some(Collection { field, members }))
+    }
+
+    // The refusal of a collection of a kind in a field.
+    fn open_refused(&self, field: usize, kind: Kind) -> Option<Refusal>
+        ensures { result ≡ refusal_of_open self.now field kind }
+    {
         if field >= self.fields.len() {
-            return Err(Refusal::NoSuchField);
+            return Some(Refusal::NoSuchField);
         }
         if !self.fields[field].kind().carries(kind) {
-            return Err(Refusal::WrongKind);
+            return Some(Refusal::WrongKind);
         }
-        let number = self.collections.len();
-        let members = Members::new(kind, self.adapter);
-        match self.collections.push(Some(Collection { field, members })) {
-            Ok(()) => Ok(number),
-            Err(_) => Err(Refusal::OutOfMemory),
-        }
+        None
     }
 
     /// Unlinks all members of a collection, and gives it up: its number names nothing from then on.
@@ -171,22 +247,18 @@ impl<A: KeyAdapter, M: Allocator + Copy> World<A, M> {
         if let Some(refusal) = self.splice_refused(collection, given, before) {
             return Err(refusal);
         }
-        let taken = match &mut self.collections[given] {
-            None => return Err(Refusal::NoSuchCollection),
-            Some(found) => found.members.take(self.adapter),
-        };
-        match &mut self.collections[collection] {
-            None => Err(Refusal::NoSuchCollection),
-            Some(found) => {
-                let links = &mut self.fields[found.field];
-                if before {
-                    found.members.splice_before(links, taken);
-                } else {
-                    found.members.splice_after(links, taken);
-                }
-                Ok(())
-            }
-        }
+        let mut list = exchange(&mut self.collections, collection, None);
+        let mut given_list = exchange(&mut self.collections, given, None);
+        join(
+            &mut list,
+            &mut given_list,
+            &mut self.fields,
+            self.adapter,
+            before,
+        );
+        put(&mut self.collections, collection, list);
+        put(&mut self.collections, given, given_list);
+        Ok(())
     }
 
     /// Puts all members of the given collection behind the cursor of the first, at null in front of all. The given one is empty then,

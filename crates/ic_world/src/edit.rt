@@ -4,11 +4,13 @@
 //! Edit::PushBack(place).run(&mut members, &mut links, &objects, adapter)?; // behind all members
 //! ```
 
-ghost use Rattle.std.specs.Prelude.{◌≡◌};
-ghost use Rattle.ic_link_ops.specs.Tables.{IsCovered};
+ghost use Rattle.std.specs.Prelude.{◌≡◌, None};
+ghost use Rattle.ic_link_ops.specs.Tables.{IsCovered, IsUnlinked};
 ghost use Rattle.ic_fields.specs.Fields.{look};
-ghost use Rattle.ic_world.specs.Turns.{Each, state_of};
-ghost use Rattle.ic_world.specs.ListCalls.{edit_names, edit_refusal};
+ghost use Rattle.ic_fields.specs.Entries.{is_linked};
+ghost use Rattle.ic_members.specs.Members.{kind_in, adapter_in, adapter_for, Held};
+ghost use Rattle.ic_world.specs.Turns.{Each, Turns, state_of};
+ghost use Rattle.ic_world.specs.ListCalls.{edit_names, edit_refusal, EditAccepts};
 
 use crate::call::Refusal;
 use crate::kinds::{has_before, is_list, is_two_way_list, is_xor};
@@ -67,6 +69,41 @@ impl Edit {
             _ => None,
         }
     }
+
+    // Makes the call, which no test refuses.
+    #[inline(always)]
+    fn make<A: KeyAdapter, M: Allocator>(
+        self,
+        members: &mut Members<A>,
+        links: &mut Field<M>,
+        adapter: A,
+    )
+        requires held { Held (look links.old) members.old }
+        requires adapter { adapter_in members.old ≡ adapter_for (kind_in members.old) adapter }
+        requires covered { Each (IsCovered (look links.old)) (edit_names self) }
+        requires free { Each (IsUnlinked is_linked (look links.old)) (edit_names self) }
+        requires accepted { None ≡ edit_refusal self (state_of (look links.old) members.old) }
+        ensures { Turns (edit_names self) (EditAccepts self) (look links.old) (look links.new) members.old members.new }
+    {
+        match self {
+            Edit::PushFront(object) => {
+                members.go_null();
+                members.insert_after(links, object);
+            }
+            Edit::PushBack(object) => {
+                members.go_null();
+                members.insert_before(links, object);
+            }
+            Edit::InsertAfter(object) => members.insert_after(links, object),
+            Edit::InsertBefore(object) => members.insert_before(links, object),
+            Edit::Clear => members.unlink_all(links, adapter),
+            Edit::FastClear => {
+                let _ = members.take(adapter);
+            }
+            Edit::Reverse => members.reverse(links),
+            Edit::GoNull => members.go_null(),
+        }
+    }
 }
 
 impl<A: KeyAdapter> OneCall<A> for Edit {
@@ -90,7 +127,7 @@ impl<A: KeyAdapter> OneCall<A> for Edit {
         }
     }
 
-    #[inline]
+    #[inline(always)]
     fn run<M: Allocator>(
         &self,
         members: &mut Members<A>,
@@ -102,24 +139,7 @@ impl<A: KeyAdapter> OneCall<A> for Edit {
         if let Some(refusal) = self.refusal(members, links) {
             return Err(refusal);
         }
-        match *self {
-            Edit::PushFront(object) => {
-                members.go_null();
-                members.insert_after(links, object);
-            }
-            Edit::PushBack(object) => {
-                members.go_null();
-                members.insert_before(links, object);
-            }
-            Edit::InsertAfter(object) => members.insert_after(links, object),
-            Edit::InsertBefore(object) => members.insert_before(links, object),
-            Edit::Clear => members.unlink_all(links, adapter),
-            Edit::FastClear => {
-                let _ = members.take(adapter);
-            }
-            Edit::Reverse => members.reverse(links),
-            Edit::GoNull => members.go_null(),
-        }
+        self.make(members, links, adapter);
         Ok(())
     }
 }

@@ -5,14 +5,28 @@
 //! world.is_linked(field, first)? // false: it is in no collection of that field
 //! ```
 
-ghost use Rattle.std.specs.Prelude.{◌≡◌, true};
+ghost use Rattle.std.specs.Prelude.{◌≡◌, true, IfSome};
+ghost use Rattle.ic_fields.specs.Fields.{look};
+ghost use Rattle.ic_world.specs.Pieces.{IsFresh};
 
 use crate::World;
 use crate::call::{Command, Refusal};
+use crate::world::append;
 use ic_fields::{Field, Kind};
 use ic_rbtree::KeyAdapter;
 use ic_unsafe_ref::Place;
 use std::alloc::Allocator;
+
+// A table that covers so many places, if memory is found for it.
+fn covering<M: Allocator>(alloc: M, kind: Kind, room: usize) -> Option<Field<M>>
+    ensures { IfSome result (λ links. IsFresh kind room (look links)) }
+{
+    let mut links = Field::new(alloc, kind);
+    match links.cover(room) {
+        Ok(()) => Some(links),
+        Err(_) => None,
+    }
+}
 
 impl<A: KeyAdapter, M: Allocator + Copy> World<A, M> {
     ghost use Rattle.ic_world.specs.Step.{Step, is_placed, is_member_in, has_field};
@@ -24,15 +38,10 @@ impl<A: KeyAdapter, M: Allocator + Copy> World<A, M> {
     pub fn add_field(&mut self, kind: Kind) -> Result<usize, Refusal>
         ensures { Step A.Key.cmp A.key_of self.old (Command.AddField kind) (reply_of (λ f. field f) result) self.new }
     {
-        let mut links = Field::new(self.alloc, kind);
-        if links.cover(self.room).is_err() {
+        let Some(links) = covering(self.alloc, kind, self.room) else {
             return Err(Refusal::OutOfMemory);
-        }
-        let number = self.fields.len();
-        match self.fields.push(links) {
-            Ok(()) => Ok(number),
-            Err(_) => Err(Refusal::OutOfMemory),
-        }
+        };
+        append(&mut self.fields, links)
     }
 
     /// Whether the object is linked in the field: a member of one of its collections, or left linked by `fast_clear`. O(1).

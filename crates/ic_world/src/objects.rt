@@ -5,7 +5,7 @@
 //! world.remove_object(first)? // 10, unless it is linked in some field
 //! ```
 
-ghost use Rattle.std.specs.Prelude.{◌≡◌, ◌<◌, ◌≤◌, ℕ, length, Some, IfOk, IfErr, OnOk, map as map_list};
+ghost use Rattle.std.specs.Prelude.{◌≡◌, ◌<◌, ◌≤◌, ◌^◌, ℕ, length, Some, IfOk, IfErr, OnOk, map as map_list};
 ghost use Rattle.std.specs.List.{list_any};
 ghost use Rattle.std.specs.FinMap as map;
 ghost use Rattle.std.specs.FinSet as set;
@@ -14,27 +14,67 @@ ghost use Rattle.ic_fields.specs.Fields.{look};
 ghost use Rattle.ic_link_ops.specs.Tables.{IsCovered};
 ghost use Rattle.ic_world.specs.Family.{LinkField};
 ghost use Rattle.ic_world.specs.Tables.{table, field_in};
-ghost use Rattle.ic_world.specs.Growth.{Grown};
+ghost use Rattle.ic_world.specs.Growth.{Grows};
+ghost use Rattle.ic_world.specs.Pieces.{PlacesValue, SwapsValue};
 
 use crate::World;
 use crate::call::{Command, Refusal};
 use ic_fields::Field;
 use ic_rbtree::KeyAdapter;
-use ic_unsafe_ref::{Place, UnsafeRef};
+use ic_unsafe_ref::{Objects, Place, UnsafeRef};
 use std::alloc::{AllocError, Allocator};
 use std::mem;
 
-// Covers the first `count` places in each table, as far as memory is found.
-fn cover_all<M: Allocator>(tables: &mut [Field<M>], count: usize) -> Result<(), AllocError>
-    ensures grown { Grown (map_list look tables.old) (map_list look tables.new) }
-    ensures ok { OnOk result ((f : ℕ) → f < length tables.old → count ≤ (table (map_list look tables.new) f).extent.places) }
+// Covers the first `count` places in each table, as far as memory is found. Each covers `room` of them, before and after.
+fn cover_all<M: Allocator>(
+    tables: &mut [Field<M>],
+    room: &mut usize,
+    count: usize,
+) -> Result<(), AllocError>
+    ensures grows { Grows room.old (map_list look tables.old) room.new (map_list look tables.new) }
+    ensures reaches { OnOk result (count ≤ room.new) }
 {
     for f in 0..tables.len() {
         if tables[f].cover(count).is_err() {
             return Err(AllocError);
         }
     }
+    *room = (*room).max(count);
     Ok(())
+}
+
+// Places a value, if there is room for it.
+fn place_in<V, M: Allocator>(
+    objects: &mut Objects<V, M>,
+    value: V,
+    has_room: bool,
+) -> Result<Place, (Refusal, V)>
+    requires { objects.old.next < 2 ^ 32 }
+    ensures placed { PlacesValue has_room objects.old value result objects.new }
+    ensures handed_back { IfErr result (λ refused. refused.1 ≡ value) }
+{
+    if !has_room {
+        return Err((Refusal::OutOfMemory, value));
+    }
+    match UnsafeRef::from_box(objects, value) {
+        Ok(object) => Ok(object.place()),
+        Err((_, value)) => Err((Refusal::OutOfMemory, value)),
+    }
+}
+
+// Puts another value in the place of an object's, which it answers.
+fn swap_value<V, M: Allocator>(
+    objects: &mut Objects<V, M>,
+    object: Place,
+    value: V,
+) -> Result<V, (Refusal, V)>
+    ensures swapped { SwapsValue objects.old object value result objects.new }
+    ensures handed_back { IfErr result (λ refused. refused.1 ≡ value) }
+{
+    match objects.get_mut(object) {
+        None => Err((Refusal::NoSuchObject, value)),
+        Some(there) => Ok(mem::replace(there, value)),
+    }
 }
 
 // Whether the object, which each table covers, is linked in one of them.
@@ -65,14 +105,8 @@ impl<A: KeyAdapter, M: Allocator + Copy> World<A, M> {
             return Err((Refusal::TooManyObjects, value));
         };
         let count = place.index() + 1;
-        if cover_all(&mut self.fields, count).is_err() {
-            return Err((Refusal::OutOfMemory, value));
-        }
-        self.room = self.room.max(count);
-        match UnsafeRef::from_box(&mut self.objects, value) {
-            Ok(object) => Ok(object.place()),
-            Err((_, value)) => Err((Refusal::OutOfMemory, value)),
-        }
+        let has_room = cover_all(&mut self.fields, &mut self.room, count).is_ok();
+        place_in(&mut self.objects, value, has_room)
     }
 
     /// Takes an object out that is linked in no field, and answers its value.
@@ -104,9 +138,6 @@ impl<A: KeyAdapter, M: Allocator + Copy> World<A, M> {
         ensures value { IfOk result (λ old. map.get self.old.objects (index_of object) ≡ Some old) }
         ensures handed_back { IfErr result (λ refused. refused.1 ≡ value) }
     {
-        match self.objects.get_mut(object) {
-            None => Err((Refusal::NoSuchObject, value)),
-            Some(there) => Ok(mem::replace(there, value)),
-        }
+        swap_value(&mut self.objects, object, value)
     }
 }

@@ -4,7 +4,7 @@
 //! Pick::PopFront.run(&mut members, &mut links, &objects, adapter)? // the first member, or none
 //! ```
 
-ghost use Rattle.std.specs.Prelude.{◌≡◌, true};
+ghost use Rattle.std.specs.Prelude.{◌≡◌, true, None};
 ghost use Rattle.ic_members.specs.Members.{kind_in, Held};
 ghost use Rattle.ic_members.specs.Members as kinds;
 ghost use Rattle.ic_world.specs.Picks.{Picks};
@@ -61,6 +61,34 @@ impl Pick {
         };
         if has { None } else { Some(Refusal::WrongKind) }
     }
+
+    // Makes the call, which no test refuses.
+    #[inline(always)]
+    fn make<A: KeyAdapter, M: Allocator>(
+        self,
+        members: &mut Members<A>,
+        links: &mut Field<M>,
+    ) -> Option<Place>
+        requires held { Held (look links.old) members.old }
+        requires accepted { None ≡ pick_refusal self (state_of (look links.old) members.old) }
+        ensures { Picks self (look links.old) (look links.new) members.old result members.new }
+    {
+        match self {
+            Pick::PopFront => pop_front(members, links),
+            Pick::PopBack => pop_back(members, links),
+            Pick::MoveNext => {
+                members.move_next(links);
+                members.cursor()
+            }
+            Pick::MovePrev => {
+                members.move_prev(links);
+                members.cursor()
+            }
+            Pick::Current => members.cursor(),
+            Pick::Remove => members.remove(links),
+            Pick::RemoveNext => members.remove_next(links),
+        }
+    }
 }
 
 impl<A: KeyAdapter> OneCall<A> for Pick {
@@ -79,7 +107,7 @@ impl<A: KeyAdapter> OneCall<A> for Pick {
         true
     }
 
-    #[inline]
+    #[inline(always)]
     fn run<M: Allocator>(
         &self,
         members: &mut Members<A>,
@@ -92,21 +120,7 @@ impl<A: KeyAdapter> OneCall<A> for Pick {
         if let Some(refusal) = self.refusal(members, links) {
             return Err(refusal);
         }
-        match *self {
-            Pick::PopFront => Ok(pop_front(members, links)),
-            Pick::PopBack => Ok(pop_back(members, links)),
-            Pick::MoveNext => {
-                members.move_next(links);
-                Ok(members.cursor())
-            }
-            Pick::MovePrev => {
-                members.move_prev(links);
-                Ok(members.cursor())
-            }
-            Pick::Current => Ok(members.cursor()),
-            Pick::Remove => Ok(members.remove(links)),
-            Pick::RemoveNext => Ok(members.remove_next(links)),
-        }
+        Ok(self.make(members, links))
     }
 }
 

@@ -4,6 +4,7 @@ ghost use Rattle.std.specs.Prelude.{◌≡◌, [], Some, None, IfSome, IfNone};
 ghost use Rattle.ic_fields.specs.Fields.{look};
 ghost use Rattle.std.specs.FinMap as map;
 ghost use Rattle.ic_world.specs.State.{reply_of, opened};
+ghost use Rattle.ic_world.specs.Pieces.{Appends};
 
 use crate::call::Refusal;
 use crate::collection::Collection;
@@ -30,6 +31,17 @@ pub struct World<A: KeyAdapter, M: Allocator + Copy = Global> {
     pub(crate) room: usize,
     pub(crate) fields: Vec<Field<M>, M>,
     pub(crate) collections: Vec<Option<Collection<A>>, M>,
+}
+
+// Appends an item, and answers its number.
+pub(crate) fn append<T: Drop, M: Allocator>(list: &mut Vec<T, M>, item: T) -> Result<usize, Refusal>
+    ensures { Appends list.old.items item result list.new.items }
+{
+    let number = list.len();
+    match list.push(item) {
+        Ok(()) => Ok(number),
+        Err(_) => Err(Refusal::OutOfMemory),
+    }
 }
 
 impl<A: KeyAdapter, M: Allocator + Copy> Model for World<A, M> {
@@ -77,7 +89,8 @@ impl<A: KeyAdapter, M: Allocator + Copy> World<A, M> {
         &self.objects
     }
 
-    // Does a call of one collection.
+    // Does a call of one collection. Where the call is a literal, its match is done away with.
+    #[inline(always)]
     pub(crate) fn call<C: OneCall<A>>(
         &mut self,
         collection: usize,

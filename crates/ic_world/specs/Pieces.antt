@@ -1,0 +1,32 @@
+-- What private calls leave of one part of a world, be it its objects, its tables or its collections.
+use Rattle.std.specs.Prelude.{◌≡◌, ℕ, ◌≤◌, ◌++◌, Bool, true, false, List, [], ◌∷◌, length, Some, None, Result, Ok, Err}
+use Rattle.ic_unsafe_ref.specs.declared.place.Place.{Place}
+use Rattle.ic_unsafe_ref.specs.Objects.{Objects, object_at, with_object, Places}
+use Rattle.ic_link_ops.specs.Tables.{Table}
+use Rattle.ic_fields.specs.declared.entry.Entry.{Entry}
+use Rattle.ic_fields.specs.declared.kind.Kind.{Kind}
+use Rattle.ic_fields.specs.Entries.{is_linked, kind_of}
+use Rattle.ic_world.specs.declared.call.Refusal.{Refusal}
+use Rattle.ic_world.specs.declared.call.Refusal.TheVariants.{NoSuchObject, OutOfMemory}
+
+-- an item more, under the number that is answered; or none, for want of memory
+abbrev pub Appends : {X : Type 0} → List X → X → Result ℕ Refusal → List X → Type 0
+Appends old x (Ok number) new = (number ≡ length old) × (new ≡ old ++ x ∷ [])
+Appends old x (Err refusal) new = (refusal ≡ OutOfMemory) × (new ≡ old)
+
+module _ {V : Type 0} where
+  -- another value at p, where an object stands; else it comes back
+  abbrev pub SwapsValue : Objects V → Place → V → Result V (Refusal × V) → Objects V → Type 0
+  SwapsValue old p value (Ok was) new = (object_at old p ≡ Some was) × (new ≡ with_object old p value)
+  SwapsValue old p value (Err refused) new = (object_at old p ≡ None) × (refused ≡ (NoSuchObject, value)) × (new ≡ old)
+
+  -- an object more, where there is room for it; else the value comes back
+  abbrev pub PlacesValue : Bool → Objects V → V → Result Place (Refusal × V) → Objects V → Type 0
+  PlacesValue has_room old value (Ok p) new = (has_room ≡ true) × Places old new p value
+  PlacesValue has_room old value (Err refused) new = (refused ≡ (OutOfMemory, value)) × (new ≡ old)
+
+-- the table of a new field: it covers so many places, and links none
+pub record IsFresh (kind : Kind) (room : ℕ) (t : Table Entry) : Type 0 where
+  pub kind_is : kind_of t ≡ kind
+  pub covers : room ≤ t.extent.places
+  pub free : (q : Place) → is_linked (t.entry q) ≡ false
