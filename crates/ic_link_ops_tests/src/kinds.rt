@@ -93,23 +93,54 @@ fn doubly<L: LinkedListOps>(links: &mut L, place: Place, words: &[&str]) -> Answ
     }
 }
 
+// What the tree's trait reads of a link.
+fn read_tree<L: RBTreeOps>(links: &L, place: Place, name: &str) -> Answer
+    requires linked { IsLinked L.linked (L.table links.now) place }
+{
+    match name {
+        "left" => place_or_none(links.left(place)),
+        "right" => place_or_none(links.right(place)),
+        "parent" => place_or_none(links.parent(place)),
+        "color" => color(links.color(place)),
+        _ => Answer::Refused("call"),
+    }
+}
+
+// Sets the color of that name.
+fn set_color<L: RBTreeOps>(links: &mut L, place: Place, color: &str) -> Answer
+    requires linked { IsLinked L.linked (L.table links.old) place }
+{
+    match color {
+        "red" => links.set_color(place, Color::Red),
+        "black" => links.set_color(place, Color::Black),
+        _ => return Answer::Refused("call"),
+    }
+    Answer::Done
+}
+
+// Sets a part of a link to what the word is.
+fn set_tree<L: RBTreeOps>(links: &mut L, place: Place, name: &str, word: &str) -> Answer
+    requires linked { IsLinked L.linked (L.table links.old) place }
+{
+    match name {
+        "set_left" => links.set_left(place, read_place(word)),
+        "set_right" => links.set_right(place, read_place(word)),
+        "set_parent" => links.set_parent(place, read_place(word)),
+        "set_color" => return set_color(links, place, word),
+        _ => return Answer::Refused("call"),
+    }
+    Answer::Done
+}
+
 // A call of the tree's trait.
 fn tree<L: RBTreeOps>(links: &mut L, place: Place, words: &[&str]) -> Answer
     requires linked { IsLinked L.linked (L.table links.old) place }
 {
     match *words {
-        ["left"] => return place_or_none(links.left(place)),
-        ["right"] => return place_or_none(links.right(place)),
-        ["parent"] => return place_or_none(links.parent(place)),
-        ["color"] => return color(links.color(place)),
-        ["set_left", left] => links.set_left(place, read_place(left)),
-        ["set_right", right] => links.set_right(place, read_place(right)),
-        ["set_parent", parent] => links.set_parent(place, read_place(parent)),
-        ["set_color", "red"] => links.set_color(place, Color::Red),
-        ["set_color", "black"] => links.set_color(place, Color::Black),
-        _ => return Answer::Refused("call"),
+        [name] => read_tree(&*links, place, name),
+        [name, word] => set_tree(links, place, name, word),
+        _ => Answer::Refused("call"),
     }
-    Answer::Done
 }
 
 // A call of a trait whose links have a next word.

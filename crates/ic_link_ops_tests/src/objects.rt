@@ -49,8 +49,8 @@ impl Stand<'_> {
         Answer::Number(UnsafeRef::new(place).into_box(&mut self.objects))
     }
 
-    // A call with a place.
-    fn of_place(&self, call: &str, place: Place) -> Answer {
+    // A call with a place that reads.
+    fn read(&self, call: &str, place: Place) -> Answer {
         match call {
             "get" => match self.objects.get(place) {
                 Some(value) => Answer::Number(*value),
@@ -65,6 +65,15 @@ impl Stand<'_> {
         }
     }
 
+    // A call with a place.
+    fn of_place(&mut self, call: &str, place: Option<Place>) -> Answer {
+        match (call, place) {
+            ("take", Some(place)) => self.take(place),
+            (call, Some(place)) => self.read(call, place),
+            (_, None) => Answer::Refused("place"),
+        }
+    }
+
     // A call with a number.
     fn of_number(&mut self, call: &str, number: u64) -> Answer {
         match call {
@@ -73,6 +82,25 @@ impl Stand<'_> {
                 Answer::Done
             }
             _ => self.place(number),
+        }
+    }
+
+    // A call with a word, which is a number or a place.
+    fn of_word(&mut self, call: &str, word: &str) -> Answer {
+        if call != "refuse" && call != "place" {
+            return self.of_place(call, read_place(word));
+        }
+        match word.parse() {
+            Ok(number) => self.of_number(call, number),
+            Err(_) => Answer::Refused("number"),
+        }
+    }
+
+    // Sets the value at the place.
+    fn set_word(&mut self, place: &str, value: &str) -> Answer {
+        match (read_place(place), value.parse()) {
+            (Some(place), Ok(value)) => self.set(place, value),
+            _ => Answer::Refused("place"),
         }
     }
 }
@@ -84,22 +112,8 @@ impl Played for Stand<'_> {
         match *words {
             ["len"] => Answer::Number(self.objects.len() as u64),
             ["next_place"] => place_or_none(self.objects.next_place()),
-            ["refuse" | "place", number] => match number.parse() {
-                Ok(number) => self.of_number(words[0], number),
-                Err(_) => Answer::Refused("number"),
-            },
-            ["take", place] => match read_place(place) {
-                Some(place) => self.take(place),
-                None => Answer::Refused("place"),
-            },
-            ["set", place, value] => match (read_place(place), value.parse()) {
-                (Some(place), Ok(value)) => self.set(place, value),
-                _ => Answer::Refused("place"),
-            },
-            [call, place] => match read_place(place) {
-                Some(place) => self.of_place(call, place),
-                None => Answer::Refused("place"),
-            },
+            ["set", place, value] => self.set_word(place, value),
+            [call, word] => self.of_word(call, word),
             _ => Answer::Refused("call"),
         }
     }

@@ -114,16 +114,26 @@ fn first_wrong(alloc: Global, run: &Run) -> Result<String, Wrong> {
     }
 }
 
+// Plays the run, and fails where what is found is not what is wanted.
+fn finds(alloc: Global, run: &Run, wanted: &str) -> Result<(), Wrong> {
+    let found = first_wrong(alloc, run)?;
+    if found.as_str() == wanted {
+        return Ok(());
+    }
+    Err(Wrong::Row(run.name, found))
+}
+
+// A run that shows nothing.
+const EMPTY: Run = Run {
+    name: "no row",
+    rows: "\n  \n",
+};
+
 #[test]
 fn the_first_wrong_row_is_found(rt: HostRuntime) -> Result<(), Fail> {
-    for (run, wanted) in RUNS {
-        let found = first_wrong(rt.alloc(), &run)?;
-        assert!(rt; found.as_str() == wanted);
+    for (run, wanted) in &RUNS {
+        finds(rt.alloc(), run, *wanted)?;
     }
-    let empty = Run {
-        name: "no row",
-        rows: "\n  \n",
-    };
-    assert!(rt; matches!(first_wrong(rt.alloc(), &empty), Err(Wrong::NoRow("no row"))));
+    assert!(rt; matches!(first_wrong(rt.alloc(), &EMPTY), Err(Wrong::NoRow("no row"))));
     Ok(())
 }
