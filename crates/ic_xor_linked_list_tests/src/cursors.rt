@@ -1,13 +1,43 @@
 //! Calls at a position of the fixture.
 
+ghost use Rattle.ic_link_ops.specs.XorLinkedList.{Shows};
+ghost use Rattle.ic_xor_linked_list.specs.Cursor as reads;
+
 use crate::answers::{inserted, object, replaced, standing, value};
 use crate::lent;
 use crate::lists::{By, Lists};
 use crate::spots::{Spot, reading, spot_of};
 use ic_link_ops::NextWord;
 use ic_unsafe_ref::{Objects, Place, UnsafeRef};
-use ic_xor_linked_list::laws;
+use ic_xor_linked_list::{Cursor, XorLinkedListOps, laws};
 use test_support::rows::Answer;
+
+// Where the cursor is, or where one beside it is.
+fn place_told<L: XorLinkedListOps>(cursor: &Cursor<'_, u64, L>, name: &str) -> Option<Place>
+    requires stands { reads.KnowsNeighbors (Shows L.linked L.Joins) L.table cursor.now }
+{
+    match name {
+        "peek_next" => cursor.peek_next().get_ptr(),
+        "peek_prev" => cursor.peek_prev().get_ptr(),
+        _ => cursor.get_ptr(),
+    }
+}
+
+// What the cursor tells.
+fn told<L: XorLinkedListOps>(
+    cursor: &Cursor<'_, u64, L>,
+    objects: &Objects<u64>,
+    name: &str,
+) -> Answer
+    requires stands { reads.KnowsNeighbors (Shows L.linked L.Joins) L.table cursor.now }
+{
+    match name {
+        "is_null" => Answer::Truth(cursor.is_null()),
+        "clone_pointer" => object(cursor.clone_pointer()),
+        "get" | "into_ref" => value(cursor.get(objects)),
+        _ => standing(place_told(cursor, name)),
+    }
+}
 
 impl<W: NextWord> Lists<W> {
     /// Moves the cursor to null.
@@ -158,15 +188,7 @@ impl<W: NextWord> Lists<W> {
         if let By::Mut = self.by {
             return self.read(objects, name);
         }
-        let cursor = self.first.as_cursor(&self.links);
-        match name {
-            "peek_next" => standing(cursor.peek_next().get_ptr()),
-            "peek_prev" => standing(cursor.peek_prev().get_ptr()),
-            "is_null" => Answer::Truth(cursor.is_null()),
-            "clone_pointer" => object(cursor.clone_pointer()),
-            "get" | "into_ref" => value(cursor.get(objects)),
-            _ => standing(cursor.get_ptr()),
-        }
+        told(&self.first.as_cursor(&self.links), objects, name)
     }
 
     /// Where a copy of the cursor is when the cursor has moved on.

@@ -9,13 +9,16 @@ ghost use Rattle.ic_link_ops.specs.Positions.{MovesOn, MovesBack};
 ghost use Rattle.ic_link_ops.specs.EditsAt.{InsertsBeside, RemovesThere, ReplacesThere, SplicesBeside, SplitsAfter, SplitsBefore};
 ghost use Rattle.ic_link_ops.specs.TwoLists.{AreApart};
 ghost use Rattle.ic_xor_linked_list.specs.CursorOwning.{list_of, position, site_of, KnowsNeighbors};
+ghost use Rattle.ic_xor_linked_list.specs.CursorMut as lent;
 
 use crate::answers::{standing, value};
 use crate::lists::By;
-use crate::spots::{borrowing, owning_before, owning_behind, spot_of, take_list};
+use crate::spots::{
+    borrowing, ended, owning_before, put_back, spot_of, spot_of_held, stand, take_list,
+};
 use ic_link_ops::{AlreadyLinked, LinkOps, ReplaceError};
-use ic_unsafe_ref::{Objects, UnsafeRef};
-use ic_xor_linked_list::{CursorOwning, XorLinkedList, XorLinkedListOps};
+use ic_unsafe_ref::{Objects, Place, UnsafeRef};
+use ic_xor_linked_list::{CursorMut, CursorOwning, XorLinkedList, XorLinkedListOps};
 use test_support::rows::Answer;
 
 /// Moves the cursor to the first member.
@@ -28,18 +31,14 @@ pub(crate) fn front<L: XorLinkedListOps>(by: By, held: &mut CursorOwning<u64>, l
 {
     match by {
         By::Ref => {
-            let cursor = held.list().front(&*links);
-            let spot = spot_of(&cursor);
-            drop(cursor);
-            let list = take_list(held);
-            *held = owning_behind(list, &*links, spot);
+            let spot = spot_of(&held.list().front(&*links));
+            stand(held, &*links, spot);
         }
         By::Mut => {
             let mut list = take_list(held);
             let cursor = list.front_mut(links);
-            let spot = spot_of(&cursor.as_cursor());
-            drop(cursor);
-            *held = owning_behind(list, &*links, spot);
+            let spot = ended(cursor);
+            put_back(held, list, &*links, spot);
         }
         By::Owning => {
             let list = take_list(held);
@@ -58,18 +57,14 @@ pub(crate) fn back<L: XorLinkedListOps>(by: By, held: &mut CursorOwning<u64>, li
 {
     match by {
         By::Ref => {
-            let cursor = held.list().back(&*links);
-            let spot = spot_of(&cursor);
-            drop(cursor);
-            let list = take_list(held);
-            *held = owning_behind(list, &*links, spot);
+            let spot = spot_of(&held.list().back(&*links));
+            stand(held, &*links, spot);
         }
         By::Mut => {
             let mut list = take_list(held);
             let cursor = list.back_mut(links);
-            let spot = spot_of(&cursor.as_cursor());
-            drop(cursor);
-            *held = owning_behind(list, &*links, spot);
+            let spot = ended(cursor);
+            put_back(held, list, &*links, spot);
         }
         By::Owning => {
             let list = take_list(held);
@@ -92,17 +87,15 @@ pub(crate) fn move_on<L: XorLinkedListOps>(by: By, held: &mut CursorOwning<u64>,
             cursor.move_next();
             let spot = spot_of(&cursor);
             drop(cursor);
-            let list = take_list(held);
-            *held = owning_behind(list, &*links, spot);
+            stand(held, &*links, spot);
         }
         By::Mut => {
-            let spot = spot_of(&held.as_cursor(&*links));
+            let spot = spot_of_held(held, &*links);
             let mut list = take_list(held);
             let mut cursor = borrowing(&mut list, links, spot);
             cursor.move_next();
-            let spot = spot_of(&cursor.as_cursor());
-            drop(cursor);
-            *held = owning_behind(list, &*links, spot);
+            let spot = ended(cursor);
+            put_back(held, list, &*links, spot);
         }
         By::Owning => held.move_next(&*links),
     }
@@ -122,20 +115,50 @@ pub(crate) fn move_back<L: XorLinkedListOps>(by: By, held: &mut CursorOwning<u64
             cursor.move_prev();
             let spot = spot_of(&cursor);
             drop(cursor);
-            let list = take_list(held);
-            *held = owning_behind(list, &*links, spot);
+            stand(held, &*links, spot);
         }
         By::Mut => {
-            let spot = spot_of(&held.as_cursor(&*links));
+            let spot = spot_of_held(held, &*links);
             let mut list = take_list(held);
             let mut cursor = borrowing(&mut list, links, spot);
             cursor.move_prev();
-            let spot = spot_of(&cursor.as_cursor());
-            drop(cursor);
-            *held = owning_behind(list, &*links, spot);
+            let spot = ended(cursor);
+            put_back(held, list, &*links, spot);
         }
         By::Owning => held.move_prev(&*links),
     }
+}
+
+// Where a cursor that borrows the list is, or where one beside it is.
+fn place_told<L: XorLinkedListOps>(cursor: &CursorMut<'_, u64, L>, name: &str) -> Option<Place>
+    requires stands { lent.KnowsNeighbors (Shows L.linked L.Joins) L.table cursor.now }
+{
+    match name {
+        "peek_next" => cursor.peek_next().get_ptr(),
+        "peek_prev" => cursor.peek_prev().get_ptr(),
+        "clone_pointer" => cursor.get_ptr(),
+        _ => cursor.as_cursor().get_ptr(),
+    }
+}
+
+// What a cursor that borrows the list tells.
+fn told<L: XorLinkedListOps>(
+    cursor: &CursorMut<'_, u64, L>,
+    objects: &Objects<u64>,
+    name: &str,
+) -> Answer
+    requires stands { lent.KnowsNeighbors (Shows L.linked L.Joins) L.table cursor.now }
+{
+    match name {
+        "is_null" => Answer::Truth(cursor.is_null()),
+        "get" => value(cursor.get(objects)),
+        _ => standing(place_told(cursor, name)),
+    }
+}
+
+// The first answer, or the other one.
+fn either(is_first: bool, first: Answer, other: Answer) -> Answer {
+    if is_first { first } else { other }
 }
 
 /// What a cursor that borrows the list answers to a call that reads.
@@ -151,20 +174,13 @@ pub(crate) fn read<L: XorLinkedListOps>(
     ensures links { links.new ≡ links.old }
     ensures kept { KnowsNeighbors (Shows L.linked L.Joins) L.table links.new held.new }
 {
-    let spot = spot_of(&held.as_cursor(&*links));
+    let spot = spot_of_held(held, &*links);
     let mut list = take_list(held);
     let cursor = borrowing(&mut list, links, spot);
-    let answer = match name {
-        "peek_next" => standing(cursor.peek_next().get_ptr()),
-        "peek_prev" => standing(cursor.peek_prev().get_ptr()),
-        "is_null" => Answer::Truth(cursor.is_null()),
-        "get" => value(cursor.get(objects)),
-        "get_ptr" => standing(cursor.get_ptr()),
-        _ => standing(cursor.as_cursor().get_ptr()),
-    };
+    let answer = told(&cursor, objects, name);
     let found = value(cursor.into_ref(objects));
-    *held = owning_behind(list, &*links, spot);
-    if name == "into_ref" { found } else { answer }
+    put_back(held, list, &*links, spot);
+    either(name == "into_ref", found, answer)
 }
 
 /// Puts an object behind the cursor.
@@ -182,13 +198,12 @@ pub(crate) fn insert_after<L: XorLinkedListOps>(
     if let By::Owning = by {
         return held.insert_after(links, object);
     }
-    let spot = spot_of(&held.as_cursor(&*links));
+    let spot = spot_of_held(held, &*links);
     let mut list = take_list(held);
     let mut cursor = borrowing(&mut list, links, spot);
     let result = cursor.insert_after(object);
-    let spot = spot_of(&cursor.as_cursor());
-    drop(cursor);
-    *held = owning_behind(list, &*links, spot);
+    let spot = ended(cursor);
+    put_back(held, list, &*links, spot);
     result
 }
 
@@ -207,13 +222,12 @@ pub(crate) fn insert_before<L: XorLinkedListOps>(
     if let By::Owning = by {
         return held.insert_before(links, object);
     }
-    let spot = spot_of(&held.as_cursor(&*links));
+    let spot = spot_of_held(held, &*links);
     let mut list = take_list(held);
     let mut cursor = borrowing(&mut list, links, spot);
     let result = cursor.insert_before(object);
-    let spot = spot_of(&cursor.as_cursor());
-    drop(cursor);
-    *held = owning_behind(list, &*links, spot);
+    let spot = ended(cursor);
+    put_back(held, list, &*links, spot);
     result
 }
 
@@ -230,13 +244,12 @@ pub(crate) fn remove<L: XorLinkedListOps>(
     if let By::Owning = by {
         return held.remove(links);
     }
-    let spot = spot_of(&held.as_cursor(&*links));
+    let spot = spot_of_held(held, &*links);
     let mut list = take_list(held);
     let mut cursor = borrowing(&mut list, links, spot);
     let result = cursor.remove();
-    let spot = spot_of(&cursor.as_cursor());
-    drop(cursor);
-    *held = owning_behind(list, &*links, spot);
+    let spot = ended(cursor);
+    put_back(held, list, &*links, spot);
     result
 }
 
@@ -255,13 +268,12 @@ pub(crate) fn replace_with<L: XorLinkedListOps>(
     if let By::Owning = by {
         return held.replace_with(links, object);
     }
-    let spot = spot_of(&held.as_cursor(&*links));
+    let spot = spot_of_held(held, &*links);
     let mut list = take_list(held);
     let mut cursor = borrowing(&mut list, links, spot);
     let result = cursor.replace_with(object);
-    let spot = spot_of(&cursor.as_cursor());
-    drop(cursor);
-    *held = owning_behind(list, &*links, spot);
+    let spot = ended(cursor);
+    put_back(held, list, &*links, spot);
     result
 }
 
@@ -281,13 +293,12 @@ pub(crate) fn splice_after<L: XorLinkedListOps>(
         held.splice_after(links, given);
         return;
     }
-    let spot = spot_of(&held.as_cursor(&*links));
+    let spot = spot_of_held(held, &*links);
     let mut list = take_list(held);
     let mut cursor = borrowing(&mut list, links, spot);
     cursor.splice_after(given);
-    let spot = spot_of(&cursor.as_cursor());
-    drop(cursor);
-    *held = owning_behind(list, &*links, spot);
+    let spot = ended(cursor);
+    put_back(held, list, &*links, spot);
 }
 
 /// Puts a list in front of the cursor.
@@ -306,13 +317,12 @@ pub(crate) fn splice_before<L: XorLinkedListOps>(
         held.splice_before(links, given);
         return;
     }
-    let spot = spot_of(&held.as_cursor(&*links));
+    let spot = spot_of_held(held, &*links);
     let mut list = take_list(held);
     let mut cursor = borrowing(&mut list, links, spot);
     cursor.splice_before(given);
-    let spot = spot_of(&cursor.as_cursor());
-    drop(cursor);
-    *held = owning_behind(list, &*links, spot);
+    let spot = ended(cursor);
+    put_back(held, list, &*links, spot);
 }
 
 /// Hands out the members behind the cursor.
@@ -328,13 +338,12 @@ pub(crate) fn split_after<L: XorLinkedListOps>(
     if let By::Owning = by {
         return held.split_after(links);
     }
-    let spot = spot_of(&held.as_cursor(&*links));
+    let spot = spot_of_held(held, &*links);
     let mut list = take_list(held);
     let mut cursor = borrowing(&mut list, links, spot);
     let result = cursor.split_after();
-    let spot = spot_of(&cursor.as_cursor());
-    drop(cursor);
-    *held = owning_behind(list, &*links, spot);
+    let spot = ended(cursor);
+    put_back(held, list, &*links, spot);
     result
 }
 
@@ -351,13 +360,12 @@ pub(crate) fn split_before<L: XorLinkedListOps>(
     if let By::Owning = by {
         return held.split_before(links);
     }
-    let spot = spot_of(&held.as_cursor(&*links));
+    let spot = spot_of_held(held, &*links);
     let mut list = take_list(held);
     let mut cursor = borrowing(&mut list, links, spot);
     let result = cursor.split_before();
-    let spot = spot_of(&cursor.as_cursor());
-    drop(cursor);
-    *held = owning_behind(list, &*links, spot);
+    let spot = ended(cursor);
+    put_back(held, list, &*links, spot);
     result
 }
 
@@ -368,9 +376,8 @@ pub(crate) fn renew_behind<L: XorLinkedListOps>(held: &mut CursorOwning<u64>, li
     ensures list { list_of held.new ≡ list_of held.old }
     ensures kept { KnowsNeighbors (Shows L.linked L.Joins) L.table links.now held.new }
 {
-    let spot = spot_of(&held.as_cursor(links));
-    let list = take_list(held);
-    *held = owning_behind(list, links, spot);
+    let spot = spot_of_held(held, links);
+    stand(held, links, spot);
 }
 
 /// Makes the cursor anew where it is, by the member behind.
@@ -380,7 +387,7 @@ pub(crate) fn renew_before<L: XorLinkedListOps>(held: &mut CursorOwning<u64>, li
     ensures list { list_of held.new ≡ list_of held.old }
     ensures kept { KnowsNeighbors (Shows L.linked L.Joins) L.table links.now held.new }
 {
-    let spot = spot_of(&held.as_cursor(links));
+    let spot = spot_of_held(held, links);
     let list = take_list(held);
     *held = owning_before(list, links, spot);
 }

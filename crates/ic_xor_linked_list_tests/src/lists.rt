@@ -251,14 +251,28 @@ impl<W: NextWord> Lists<W> {
         match name {
             "push_back" => self.push_back(place),
             "push_front" => self.push_front(place),
+            "push_then_pop" => self.push_then_pop(place),
+            "force_unlink" => self.force_unlink(place),
+            _ => self.call_beside_cursor(name, place),
+        }
+    }
+
+    // A call at the cursor that is given a place, or one that reads there.
+    fn call_beside_cursor(&mut self, name: &str, place: Place) -> Answer {
+        match name {
             "insert_after" => self.insert_after(place),
             "insert_before" => self.insert_before(place),
             "replace_with" => self.replace_with(place),
-            "push_then_pop" => self.push_then_pop(place),
-            "force_unlink" => self.force_unlink(place),
+            "on" => self.on(place),
+            _ => self.look_at(name, place),
+        }
+    }
+
+    // A call that is given a place and reads.
+    fn look_at(&self, name: &str, place: Place) -> Answer {
+        match name {
             "is_linked" => self.is_linked(place),
             "contains" => self.contains(place),
-            "on" => self.on(place),
             _ => Answer::Refused("no such call"),
         }
     }
@@ -280,14 +294,27 @@ impl<W: NextWord> Lists<W> {
         match name {
             "pop_front" => self.pop_front(),
             "pop_back" => self.pop_back(),
-            "reverse" => self.reverse(),
-            "reverse_twice" => self.reverse_twice(),
-            "split_then_splice" => self.split_then_splice(),
-            "clear" => self.clear(),
             "take" => self.take(),
+            "swap" => self.swap(),
+            _ => self.call_on_all(name),
+        }
+    }
+
+    // A call that empties the list, or that changes its order.
+    fn call_on_all(&mut self, name: &str) -> Answer {
+        match name {
+            "clear" => self.clear(),
             "dispose" => self.dispose(),
             "fast_clear" => self.fast_clear(),
-            "swap" => self.swap(),
+            "reverse" => self.reverse(),
+            "reverse_twice" => self.reverse_twice(),
+            _ => self.call_at_cursor(name),
+        }
+    }
+
+    // A call at the cursor that is given nothing and edits.
+    fn call_at_cursor(&mut self, name: &str) -> Answer {
+        match name {
             "remove" => self.remove(),
             "splice_after" => self.splice_after(),
             "splice_before" => self.splice_before(),
@@ -303,10 +330,18 @@ impl<W: NextWord> Lists<W> {
             "null" => self.null(),
             "front" => self.front(),
             "back" => self.back(),
-            "there_and_back" => self.there_and_back(true),
-            "back_and_there" => self.there_and_back(false),
             "move_next" => self.move_on(),
             "move_prev" => self.move_back(),
+            _ => self.call_of_law(name),
+        }
+    }
+
+    // A call that leaves the list as it was.
+    fn call_of_law(&mut self, name: &str) -> Answer {
+        match name {
+            "split_then_splice" => self.split_then_splice(),
+            "there_and_back" => self.there_and_back(true),
+            "back_and_there" => self.there_and_back(false),
             _ => Answer::Refused("no such call"),
         }
     }
@@ -315,29 +350,32 @@ impl<W: NextWord> Lists<W> {
     fn call_to_read(&mut self, objects: &Objects<u64>, name: &str) -> Answer {
         match name {
             "is_empty" => Answer::Truth(self.first.list().is_empty()),
-            "is_null"
-            | "peek_next"
-            | "peek_prev"
-            | "get"
-            | "into_ref"
-            | "as_cursor"
-            | "clone_pointer" => { self.call_to_look(objects, name) }
             "copy" => self.copy(),
             "values" => self.values(objects),
             "linked" => self.linked(),
+            name if is_look(name) => self.call_to_look(objects, name),
             _ => self.call_alone(name),
         }
     }
 
     // A call that is given a member and a place beside it, `none` at an end.
-    fn call_beside(&mut self, name: &str, member: &str, beside: &str) -> Answer {
-        let Some(member) = place(member) else {
-            return Answer::Refused("no such place");
+    fn call_beside(&mut self, name: &str, words: &[&str]) -> Answer {
+        let [member, beside] = *words else {
+            return Answer::Refused("no such call");
         };
+        match (name, place(member)) {
+            ("on_behind", Some(member)) => self.on_behind(member, place(beside)),
+            (_, Some(member)) => self.on_before(member, place(beside)),
+            (_, None) => Answer::Refused("no such place"),
+        }
+    }
+
+    // A call that is given nothing, or places.
+    fn call_by_name(&mut self, objects: &Objects<u64>, name: &str, rest: &[&str]) -> Answer {
         match name {
-            "on_behind" => self.on_behind(member, place(beside)),
-            "on_before" => self.on_before(member, place(beside)),
-            _ => Answer::Refused("no such call"),
+            "on_behind" | "on_before" => self.call_beside(name, rest),
+            _ if rest.is_empty() => self.call_to_read(objects, name),
+            _ => self.call_at_each(name, rest),
         }
     }
 
@@ -350,12 +388,22 @@ impl<W: NextWord> Lists<W> {
             "walk" => self.walk(objects, rest),
             "take_and_drop" => self.take_off(rest, false),
             "take_and_finish" => self.take_off(rest, true),
-            "on_behind" | "on_before" if rest.len() == 2 => self.call_beside(
-                name, rest[0], rest[1],
-            ),
-            name if rest.is_empty() => self.call_to_read(objects, name),
-            name => self.call_at_each(name, rest),
+            name => self.call_by_name(objects, name, rest),
         }
+    }
+}
+
+// Whether the call of that name reads at the cursor.
+fn is_look(name: &str) -> bool {
+    match name {
+        "is_null"
+        | "peek_next"
+        | "peek_prev"
+        | "get"
+        | "into_ref"
+        | "as_cursor"
+        | "clone_pointer" => true,
+        _ => false,
     }
 }
 

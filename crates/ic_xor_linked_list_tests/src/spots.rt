@@ -41,6 +41,26 @@ pub(crate) fn spot_of<L: XorLinkedListOps>(cursor: &Cursor<'_, u64, L>) -> Spot
     }
 }
 
+/// Where the cursor stands that keeps its list.
+pub(crate) fn spot_of_held<L: XorLinkedListOps>(held: &CursorOwning<u64>, links: &L) -> Spot
+    requires stands { owned.KnowsNeighbors (Shows L.linked L.Joins) L.table links.now held.now }
+    ensures at { result.at ≡ owned.position held.now }
+    ensures stands { StandsBetween (Shows L.linked L.Joins) L.table (site links.now (owned.list_of held.now) result.at) result.prev result.next }
+{
+    spot_of(&held.as_cursor(links))
+}
+
+/// Where the cursor stood that borrowed its list, and ends.
+pub(crate) fn ended<L: XorLinkedListOps>(cursor: CursorMut<'_, u64, L>) -> Spot
+    requires stands { lent.KnowsNeighbors (Shows L.linked L.Joins) L.table cursor }
+    ensures at { result.at ≡ lent.position cursor.entry }
+    ensures stands { StandsBetween (Shows L.linked L.Joins) L.table (site (lent.links_of cursor.entry) (lent.list_of cursor.entry) result.at) result.prev result.next }
+    ensures list { cursor.exit.0.now ≡ lent.list_of cursor.entry }
+    ensures links { cursor.exit.1.0.now ≡ lent.links_of cursor.entry }
+{
+    spot_of(&cursor.as_cursor())
+}
+
 /// A cursor that reads, there: by the member in front, or where there is none by the one behind.
 pub(crate) fn reading<'a, L: XorLinkedListOps>(
     list: &'a XorLinkedList<u64>,
@@ -86,8 +106,8 @@ pub(crate) fn borrowing<'a, L: XorLinkedListOps>(
     list.cursor_mut_from_ptr_and_next(links, UnsafeRef::new(place), reference(spot.next))
 }
 
-/// A cursor that keeps the list, there, by the member in front.
-pub(crate) fn owning_behind<L: XorLinkedListOps>(
+// A cursor that keeps the list, there, by the member in front.
+fn owning_behind<L: XorLinkedListOps>(
     list: XorLinkedList<u64>,
     links: &L,
     spot: Spot,
@@ -105,6 +125,32 @@ pub(crate) fn owning_behind<L: XorLinkedListOps>(
             reference(spot.prev),
         ),
     }
+}
+
+/// Gives the cursor its list back, and makes it stand there.
+pub(crate) fn put_back<L: XorLinkedListOps>(
+    held: &mut CursorOwning<u64>,
+    list: XorLinkedList<u64>,
+    links: &L,
+    spot: Spot,
+)
+    requires stands { StandsBetween (Shows L.linked L.Joins) L.table (site links.now list spot.at) spot.prev spot.next }
+    ensures list { owned.list_of held.new ≡ list }
+    ensures position { owned.position held.new ≡ spot.at }
+    ensures kept { owned.KnowsNeighbors (Shows L.linked L.Joins) L.table links.now held.new }
+{
+    *held = owning_behind(list, links, spot);
+}
+
+/// Makes the cursor that keeps its list stand there.
+pub(crate) fn stand<L: XorLinkedListOps>(held: &mut CursorOwning<u64>, links: &L, spot: Spot)
+    requires stands { StandsBetween (Shows L.linked L.Joins) L.table (site links.now (owned.list_of held.old) spot.at) spot.prev spot.next }
+    ensures list { owned.list_of held.new ≡ owned.list_of held.old }
+    ensures position { owned.position held.new ≡ spot.at }
+    ensures kept { owned.KnowsNeighbors (Shows L.linked L.Joins) L.table links.now held.new }
+{
+    let list = take_list(held);
+    put_back(held, list, links, spot);
 }
 
 /// A cursor that keeps the list, there, by the member behind.

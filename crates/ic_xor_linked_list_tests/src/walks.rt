@@ -127,6 +127,16 @@ fn write_given(text: &mut String, given: Option<&u64>) -> fmt::Result {
     Ok(())
 }
 
+// What the walk gives at the front, and a copy of it at the back.
+fn write_then<L: XorLinkedListOps>(text: &mut String, mut walk: Iter<'_, u64, L>) -> fmt::Result
+    requires can { CanWalk L.linked L.Joins L.table walk }
+{
+    let mut copy = walk.clone()?;
+    write_where(text, true, "then ")?;
+    write_given(text, walk.next())?;
+    write_given(text, copy.next_back())
+}
+
 // The objects that calls at these ends give, then what the walk gives at the front, and a copy of it at the back.
 fn write_ends<L: XorLinkedListOps>(
     text: &mut String,
@@ -138,10 +148,7 @@ fn write_ends<L: XorLinkedListOps>(
     for end in ends {
         write_given(text, next_at(&mut walk, *end == "front"))?;
     }
-    let mut copy = walk.clone()?;
-    write_where(text, true, "then ")?;
-    write_given(text, walk.next())?;
-    write_given(text, copy.next_back())
+    write_then(text, walk)
 }
 
 // The objects of a walk as the text of a slice.
