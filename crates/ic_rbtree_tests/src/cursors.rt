@@ -90,7 +90,27 @@ pub(crate) fn moved<L: RBTreeOps>(cursor: &mut Cursor<'_, OwnKey, L>, name: &str
     Answer::Done
 }
 
-// A call of a cursor that borrows the tree.
+// A call of a cursor that borrows the tree, with a place.
+fn edited_with<L: RBTreeOps>(
+    cursor: &mut CursorMut<'_, OwnKey, L>,
+    name: &str,
+    place: Place,
+) -> Answer
+    requires stands { Stands (Shows L.node) L.table (lent.site_of cursor.old) }
+    requires covered { IsCovered (L.table (lent.links_of cursor.old)) place }
+    ensures stands { Stands (Shows L.node) L.table (lent.site_of cursor.new) }
+    ensures borrows { lent.SameBorrows cursor.old cursor.new }
+{
+    let object = UnsafeRef::new(place);
+    match name {
+        "insert_after" => inserted(cursor.insert_after(object)),
+        "insert_before" => inserted(cursor.insert_before(object)),
+        "replace_with" => replaced(cursor.replace_with(object)),
+        _ => Answer::Refused("no such call"),
+    }
+}
+
+// A call of a cursor that borrows the tree, with a place or none.
 fn edited<L: RBTreeOps>(
     cursor: &mut CursorMut<'_, OwnKey, L>,
     name: &str,
@@ -101,24 +121,39 @@ fn edited<L: RBTreeOps>(
     ensures stands { Stands (Shows L.node) L.table (lent.site_of cursor.new) }
     ensures borrows { lent.SameBorrows cursor.old cursor.new }
 {
-    match (name, place) {
-        ("insert_after", Some(place)) => inserted(cursor.insert_after(UnsafeRef::new(place))),
-        ("insert_before", Some(place)) => inserted(cursor.insert_before(UnsafeRef::new(place))),
-        ("replace_with", Some(place)) => replaced(cursor.replace_with(UnsafeRef::new(place))),
-        ("remove", None) => object(cursor.remove()),
-        ("move_next", None) => {
-            cursor.move_next();
-            Answer::Done
-        }
-        ("move_prev", None) => {
-            cursor.move_prev();
-            Answer::Done
-        }
+    if let Some(place) = place {
+        return edited_with(cursor, name, place);
+    }
+    match name {
+        "remove" => return object(cursor.remove()),
+        "move_next" => cursor.move_next(),
+        "move_prev" => cursor.move_prev(),
+        _ => return Answer::Refused("no such call"),
+    }
+    Answer::Done
+}
+
+// The same of a cursor that keeps it, with a place.
+fn edited_owning_with<L: RBTreeOps>(
+    cursor: &mut CursorOwning<OwnKey>,
+    links: &mut L,
+    name: &str,
+    place: Place,
+) -> Answer
+    requires stands { Stands (Shows L.node) L.table (owned.site_of links.old cursor.old) }
+    requires covered { IsCovered (L.table links.old) place }
+    ensures stands { Stands (Shows L.node) L.table (owned.site_of links.new cursor.new) }
+{
+    let object = UnsafeRef::new(place);
+    match name {
+        "insert_after" => inserted(cursor.insert_after(links, object)),
+        "insert_before" => inserted(cursor.insert_before(links, object)),
+        "replace_with" => replaced(cursor.replace_with(links, object)),
         _ => Answer::Refused("no such call"),
     }
 }
 
-// The same of a cursor that keeps it.
+// With a place or none.
 fn edited_owning<L: RBTreeOps>(
     cursor: &mut CursorOwning<OwnKey>,
     links: &mut L,
@@ -129,30 +164,16 @@ fn edited_owning<L: RBTreeOps>(
     requires covered { IfSome place (λ p. IsCovered (L.table links.old) p) }
     ensures stands { Stands (Shows L.node) L.table (owned.site_of links.new cursor.new) }
 {
-    match (name, place) {
-        ("insert_after", Some(place)) => inserted(cursor.insert_after(
-            links,
-            UnsafeRef::new(place),
-        )),
-        ("insert_before", Some(place)) => inserted(cursor.insert_before(
-            links,
-            UnsafeRef::new(place),
-        )),
-        ("replace_with", Some(place)) => replaced(cursor.replace_with(
-            links,
-            UnsafeRef::new(place),
-        )),
-        ("remove", None) => object(cursor.remove(links)),
-        ("move_next", None) => {
-            cursor.move_next(&*links);
-            Answer::Done
-        }
-        ("move_prev", None) => {
-            cursor.move_prev(&*links);
-            Answer::Done
-        }
-        _ => Answer::Refused("no such call"),
+    if let Some(place) = place {
+        return edited_owning_with(cursor, links, name, place);
     }
+    match name {
+        "remove" => return object(cursor.remove(links)),
+        "move_next" => cursor.move_next(&*links),
+        "move_prev" => cursor.move_prev(&*links),
+        _ => return Answer::Refused("no such call"),
+    }
+    Answer::Done
 }
 
 /// Makes the call of that name at that position, by such a cursor. The position is where the cursor is then.
@@ -235,6 +256,26 @@ fn copied<L: RBTreeOps>(cursor: &mut Cursor<'_, OwnKey, L>) -> Answer
     standing(copy.get_ptr())
 }
 
+// Where a move of a cursor that reads would lead.
+fn beside<L: RBTreeOps>(cursor: &Cursor<'_, OwnKey, L>, name: &str) -> Option<Place>
+    requires stands { Stands (Shows L.node) L.table (reads.site_of cursor.now) }
+{
+    if name == "peek_next" {
+        return cursor.peek_next().get_ptr();
+    }
+    cursor.peek_prev().get_ptr()
+}
+
+// Where a move of a cursor that borrows the tree would lead.
+fn beside_mut<L: RBTreeOps>(cursor: &CursorMut<'_, OwnKey, L>, name: &str) -> Option<Place>
+    requires stands { Stands (Shows L.node) L.table (lent.site_of cursor.now) }
+{
+    if name == "peek_next" {
+        return cursor.peek_next().get_ptr();
+    }
+    cursor.peek_prev().get_ptr()
+}
+
 /// What a cursor that reads tells.
 pub(crate) fn told<L: RBTreeOps>(
     cursor: &mut Cursor<'_, OwnKey, L>,
@@ -245,8 +286,7 @@ pub(crate) fn told<L: RBTreeOps>(
 {
     match name {
         "is_null" => Answer::Truth(cursor.is_null()),
-        "peek_next" => standing(cursor.peek_next().get_ptr()),
-        "peek_prev" => standing(cursor.peek_prev().get_ptr()),
+        "peek_next" | "peek_prev" => standing(beside(&*cursor, name)),
         "get" => value(cursor.get(objects)),
         "copy" => copied(cursor),
         _ => object(cursor.clone_pointer()),
@@ -263,8 +303,7 @@ pub(crate) fn told_by_mut<L: RBTreeOps>(
 {
     match name {
         "is_null" => Answer::Truth(cursor.is_null()),
-        "peek_next" => standing(cursor.peek_next().get_ptr()),
-        "peek_prev" => standing(cursor.peek_prev().get_ptr()),
+        "peek_next" | "peek_prev" => standing(beside_mut(cursor, name)),
         "get" => value(cursor.get(objects)),
         _ => standing(cursor.as_cursor().get_ptr()),
     }

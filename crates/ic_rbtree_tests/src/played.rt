@@ -37,18 +37,36 @@ fn search(name: &str, words: &[&str]) -> Option<Search> {
     }
 }
 
+// Whether the call of that name reads.
+fn reads(name: &str) -> bool {
+    match name {
+        "words" | "linked" | "backward" | "is_empty" | "into_ref" => true,
+        "is_null" | "peek_next" | "peek_prev" | "get" | "copy" | "position" => true,
+        _ => false,
+    }
+}
+
 impl Field {
+    // A call that is given this place.
+    fn call_at(&mut self, name: &str, place: Place) -> Answer {
+        match name {
+            "key" => self.key(place.index() as u64),
+            "on" => self.on(place),
+            "insert" | "insert_by_cursor" => self.insert(name, None, place),
+            "shape" => self.shape(place),
+            "contains" => self.contains(place),
+            _ => self.edit(name, Some(place)),
+        }
+    }
+
     // A call that is given this word.
     fn call_with(&mut self, name: &str, word: &str) -> Answer {
-        match (name, place(word)) {
-            ("place", _) => self.place_word(word),
-            ("key", Some(place)) => self.key(place.index() as u64),
-            ("on", Some(place)) => self.on(place),
-            ("insert" | "insert_by_cursor", Some(place)) => self.insert(name, None, place),
-            ("shape", Some(place)) => self.shape(place),
-            ("contains", Some(place)) => self.contains(place),
-            (name, Some(place)) => self.edit(name, Some(place)),
-            _ => Answer::Refused("no such place"),
+        if name == "place" {
+            return self.place_word(word);
+        }
+        match place(word) {
+            Some(place) => self.call_at(name, place),
+            None => Answer::Refused("no such place"),
         }
     }
 
@@ -83,23 +101,57 @@ impl Field {
         }
     }
 
-    // A call that is given nothing.
-    fn call_alone(&mut self, name: &str) -> Answer {
+    // A call that is given nothing and reads.
+    fn call_to_read(&mut self, name: &str) -> Answer {
         match name {
-            "null" => self.go_null(),
-            "front" => self.go_to_end(true),
-            "back" => self.go_to_end(false),
             "words" => self.words(),
             "linked" => self.linked(),
             "backward" => self.backward(),
             "is_empty" => self.is_empty(),
+            "into_ref" => self.into_ref(),
+            _ => self.told(name),
+        }
+    }
+
+    // A call that is given nothing and moves the cursor, or is of the whole tree.
+    fn call_to_move(&mut self, name: &str) -> Answer {
+        match name {
+            "null" => self.go_null(),
+            "front" => self.go_to_end(true),
+            "back" => self.go_to_end(false),
             "clear" | "dispose" | "fast_clear" => self.empty(name),
             "take" => self.take(),
-            "into_ref" => self.into_ref(),
-            "is_null" | "peek_next" | "peek_prev" | "get" | "copy" | "position" => {
-                self.told(name)
-            }
             _ => self.edit(name, None),
+        }
+    }
+
+    // A call that is given nothing.
+    fn call_alone(&mut self, name: &str) -> Answer {
+        if reads(name) {
+            return self.call_to_read(name);
+        }
+        self.call_to_move(name)
+    }
+}
+
+impl Field {
+    // A call that is given nothing, or words of which each is one call's.
+    fn call_each(&mut self, name: &str, words: &[&str]) -> Answer {
+        if words.is_empty() {
+            return self.call_alone(name);
+        }
+        self.call_with_each(name, words)
+    }
+
+    // A call that is no search.
+    fn call_by_name(&mut self, name: &str, words: &[&str]) -> Answer {
+        match name {
+            "walk" => self.walk(words),
+            "range" => self.call_range(words),
+            "entry" => self.call_entry(words),
+            "take_and_drop" => self.take_off(words, false),
+            "take_and_finish" => self.take_off(words, true),
+            _ => self.call_each(name, words),
         }
     }
 }
@@ -111,17 +163,9 @@ impl Played for Field {
         let Some((name, rest)) = words.split_first() else {
             return Answer::Refused("no call");
         };
-        if let Some(search) = search(name, rest) {
-            return self.search(search);
-        }
-        match *name {
-            "walk" => self.walk(rest),
-            "range" => self.call_range(rest),
-            "entry" => self.call_entry(rest),
-            "take_and_drop" => self.take_off(rest, false),
-            "take_and_finish" => self.take_off(rest, true),
-            name if rest.is_empty() => self.call_alone(name),
-            name => self.call_with_each(name, rest),
+        match search(name, rest) {
+            Some(search) => self.search(search),
+            None => self.call_by_name(name, rest),
         }
     }
 
