@@ -4,13 +4,13 @@
 //! Command::PushBack(0, place) // answered by Answer::Done, or by Answer::Refused(Refusal::AlreadyLinked)
 //! ```
 
-ghost use Rattle.std.specs.Prelude.{◌≡◌};
+ghost use Rattle.std.specs.Prelude.{◌≡◌, ⊤};
 ghost use Rattle.ic_world.specs.Refusals.{number_of};
 
 use ic_fields::Kind;
 use ic_rbtree::Bound;
 use ic_unsafe_ref::Place;
-use std::alloc::{Allocator, Global};
+use std::alloc::{AllocError, Allocator, Global};
 use std::fmt;
 use thiserror::Error;
 
@@ -74,7 +74,7 @@ impl Refusal {
 }
 
 /// A call of a world, with what it is given. Fields and collections are named by their numbers, objects by their places.
-#[derive(Clone, Copy, Debug)]
+#[derive(Copy, Debug)]
 pub enum Command<V, K> {
     /// `place`
     Place(V),
@@ -160,6 +160,17 @@ pub enum Command<V, K> {
     IsLinked(usize, Place),
     /// `force_unlink`: in a field
     ForceUnlink(usize, Place),
+}
+
+impl<V: Copy, K: Copy> Clone for Command<V, K> {
+    ghost is_clone = { λ command copy. copy ≡ command };
+
+    ghost is_infallible = { λ _. ⊤ };
+
+    /// The same command. It never fails.
+    fn clone(&self) -> Result<Self, AllocError> {
+        Ok(*self)
+    }
 }
 
 /// What a call answers.
