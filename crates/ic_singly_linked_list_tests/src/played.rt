@@ -21,11 +21,18 @@ impl<W: NextWord> Lists<W> {
     fn call_at(&mut self, name: &str, place: Place) -> Answer {
         match name {
             "push_front" => self.push_front(place),
-            "insert_after" => self.insert_after(place),
-            "replace_next_with" => self.replace_next_with(place),
             "push_then_pop" => self.push_then_pop(place),
             "force_unlink" => self.force_unlink(place),
             "contains" => self.contains(place),
+            _ => self.call_beside_cursor(name, place),
+        }
+    }
+
+    // A call at the cursor that is given a place.
+    fn call_beside_cursor(&mut self, name: &str, place: Place) -> Answer {
+        match name {
+            "insert_after" => self.insert_after(place),
+            "replace_next_with" => self.replace_next_with(place),
             "on" => self.on(place),
             _ => Answer::Refused("no such call"),
         }
@@ -43,7 +50,7 @@ impl<W: NextWord> Lists<W> {
         answer
     }
 
-    // A call that is given nothing and edits, or moves the cursor.
+    // A call on a whole list that is given nothing and edits.
     fn call_alone(&mut self, name: &str) -> Answer {
         match name {
             "pop_front" => self.pop_front(),
@@ -52,10 +59,24 @@ impl<W: NextWord> Lists<W> {
             "dispose" => self.dispose(),
             "fast_clear" => self.fast_clear(),
             "swap" => self.swap(),
+            _ => self.call_at_cursor(name),
+        }
+    }
+
+    // A call at the cursor that is given nothing and edits.
+    fn call_at_cursor(&mut self, name: &str) -> Answer {
+        match name {
             "remove_next" => self.remove_next(),
             "split_then_splice" => self.split_then_splice(),
             "splice_after" => self.splice_after(),
             "split_after" => self.split_after(),
+            _ => self.call_to_move(name),
+        }
+    }
+
+    // A call that moves the cursor.
+    fn call_to_move(&mut self, name: &str) -> Answer {
+        match name {
             "null" => self.null(),
             "front" => self.front(),
             "move_next" => self.move_next(),
@@ -67,11 +88,18 @@ impl<W: NextWord> Lists<W> {
     fn call_to_read(&mut self, objects: &Objects<u64>, name: &str) -> Answer {
         match name {
             "is_empty" => Answer::Truth(self.list.is_empty()),
-            "kept" => self.kept(),
-            "is_null" | "peek_next" | "get" | "copy" | "position" => self.told(objects, name),
-            "into_ref" => self.into_ref(objects),
             "values" => self.values(objects),
             "linked" => self.linked(),
+            _ => self.call_to_look(objects, name),
+        }
+    }
+
+    // A call that is given nothing and reads at the cursor.
+    fn call_to_look(&mut self, objects: &Objects<u64>, name: &str) -> Answer {
+        match name {
+            "is_null" | "peek_next" | "get" | "copy" | "position" => self.told(objects, name),
+            "into_ref" => self.into_ref(objects),
+            "kept" => self.kept(),
             _ => self.call_alone(name),
         }
     }
