@@ -194,15 +194,29 @@ impl Lists {
         match name {
             "push_back" => self.push_back(place),
             "push_front" => self.push_front(place),
+            "push_then_pop" => self.push_then_pop(place),
+            "force_unlink" => self.force_unlink(place),
+            _ => self.call_beside_cursor(name, place),
+        }
+    }
+
+    // A call at the cursor that is given a place, or one that reads there.
+    fn call_beside_cursor(&mut self, name: &str, place: Place) -> Answer {
+        match name {
             "insert_after" => self.insert_after(place),
             "insert_before" => self.insert_before(place),
             "replace_with" => self.replace_with(place),
-            "push_then_pop" => self.push_then_pop(place),
-            "force_unlink" => self.force_unlink(place),
+            "on" => self.on(place),
+            _ => self.look_at(name, place),
+        }
+    }
+
+    // A call that is given a place and reads.
+    fn look_at(&self, name: &str, place: Place) -> Answer {
+        match name {
             "is_linked" => self.is_linked(place),
             "contains" => self.contains(place),
             "text" => self.text(place),
-            "on" => self.on(place),
             _ => Answer::Refused("no such call"),
         }
     }
@@ -224,15 +238,29 @@ impl Lists {
         match name {
             "pop_front" => self.pop_front(),
             "pop_back" => self.pop_back(),
-            "clear" => self.clear(),
+            "remove_first" => self.remove_first(),
             "take" => self.take(),
+            "swap" => self.swap(),
+            _ => self.call_on_all(name),
+        }
+    }
+
+    // A call that empties the list, or that leaves it as it was.
+    fn call_on_all(&mut self, name: &str) -> Answer {
+        match name {
+            "clear" => self.clear(),
             "dispose" => self.dispose(),
             "fast_clear" => self.fast_clear(),
-            "swap" => self.swap(),
-            "remove" => self.remove(),
-            "remove_first" => self.remove_first(),
-            "remove_object" => self.remove_object(),
             "split_then_splice" => self.split_then_splice(),
+            _ => self.call_at_cursor(name),
+        }
+    }
+
+    // A call at the cursor that is given nothing and edits.
+    fn call_at_cursor(&mut self, name: &str) -> Answer {
+        match name {
+            "remove" => self.remove(),
+            "remove_object" => self.remove_object(),
             "splice_after" => self.splice_after(),
             "splice_before" => self.splice_before(),
             "split_after" => self.split_after(),
@@ -247,11 +275,29 @@ impl Lists {
             "null" => self.null(),
             "front" => self.front(),
             "back" => self.back(),
-            "seek_front" => self.seek(true),
-            "seek_back" => self.seek(false),
             "move_next" => self.move_next(),
             "move_prev" => self.move_prev(),
+            _ => self.call_to_seek(name),
+        }
+    }
+
+    // A call that moves the cursor by a law.
+    fn call_to_seek(&mut self, name: &str) -> Answer {
+        match name {
+            "seek_front" => self.seek(true),
+            "seek_back" => self.seek(false),
             _ => Answer::Refused("no such call"),
+        }
+    }
+
+    // A call that is given nothing and reads at the cursor.
+    fn call_to_look(&mut self, objects: &Objects<u64>, name: &str) -> Answer {
+        match name {
+            "is_null" | "peek_next" | "peek_prev" | "get" => self.told(objects, name),
+            "into_ref" => self.into_ref(objects),
+            "as_cursor" => self.as_cursor(),
+            "clone_pointer" => self.clone_pointer(),
+            _ => self.call_alone(name),
         }
     }
 
@@ -259,19 +305,20 @@ impl Lists {
     fn call_to_read(&mut self, objects: &Objects<u64>, name: &str) -> Answer {
         match name {
             "is_empty" => Answer::Truth(self.list.is_empty()),
-            "is_null" => self.is_null(),
             "kept" => self.kept(),
-            "peek_next" => self.peek_next(),
-            "peek_prev" => self.peek_prev(),
-            "get" => self.get(objects),
-            "into_ref" => self.into_ref(objects),
-            "as_cursor" => self.as_cursor(),
-            "clone_pointer" => self.clone_pointer(),
             "copy" => self.copy(),
             "values" => self.values(objects),
             "linked" => self.linked(),
-            _ => self.call_alone(name),
+            _ => self.call_to_look(objects, name),
         }
+    }
+
+    // A call that is given nothing, or places.
+    fn call_by_name(&mut self, objects: &Objects<u64>, name: &str, places: &[&str]) -> Answer {
+        if places.is_empty() {
+            return self.call_to_read(objects, name);
+        }
+        self.call_at_each(name, places)
     }
 
     /// Makes the call that these words are.
@@ -283,8 +330,7 @@ impl Lists {
             "walk" => self.walk(objects, rest),
             "take_and_drop" => self.take_off(rest, false),
             "take_and_finish" => self.take_off(rest, true),
-            name if rest.is_empty() => self.call_to_read(objects, name),
-            name => self.call_at_each(name, rest),
+            name => self.call_by_name(objects, name, rest),
         }
     }
 }

@@ -8,13 +8,14 @@ ghost use Rattle.ic_link_ops.specs.LinkedList.{Shows};
 ghost use Rattle.ic_link_ops.specs.DoublyEntries.{neighbors_of, entries, plain_table, PlainShowsSome};
 ghost use Rattle.ic_link_ops.specs.Positions.{Stands};
 ghost use Rattle.ic_linked_list.specs.Cursor as reads;
+ghost use Rattle.ic_linked_list.specs.CursorMut as lent;
 ghost use Rattle.ic_linked_list.specs.Iter.{CanWalk};
 
 use crate::answers::{answered, object, standing, value};
 use crate::cursors::{borrowing, owning, reading};
 use crate::lists::{By, Lists};
 use ic_link_ops::linked_list::LinkOps;
-use ic_linked_list::{Cursor, Iter, LinkedList, laws};
+use ic_linked_list::{Cursor, CursorMut, Iter, LinkedList, laws};
 use ic_unsafe_ref::{Objects, Place};
 use std::alloc::{AllocError, Global};
 use std::fmt::{self, Write};
@@ -123,6 +124,16 @@ fn write_given(text: &mut String, given: Option<&u64>) -> fmt::Result {
     Ok(())
 }
 
+// What the walk gives at the front, and a copy of it at the back.
+fn write_then(text: &mut String, mut walk: Iter<'_, u64, LinkOps>) -> fmt::Result
+    requires can { CanWalk neighbors_of (λ links. plain_table links) walk }
+{
+    let mut copy = walk.clone()?;
+    write_where(text, true, "then ")?;
+    write_given(text, walk.next())?;
+    write_given(text, copy.next_back())
+}
+
 // The objects that calls at these ends give, then what the walk gives at the front, and a copy of it at the back.
 fn write_ends(text: &mut String, mut walk: Iter<'_, u64, LinkOps>, ends: &[&str]) -> fmt::Result
     requires can { CanWalk neighbors_of (λ links. plain_table links) walk }
@@ -130,10 +141,7 @@ fn write_ends(text: &mut String, mut walk: Iter<'_, u64, LinkOps>, ends: &[&str]
     for end in ends {
         write_given(text, next_at(&mut walk, *end == "front"))?;
     }
-    let mut copy = walk.clone()?;
-    write_where(text, true, "then ")?;
-    write_given(text, walk.next())?;
-    write_given(text, copy.next_back())
+    write_then(text, walk)
 }
 
 // The objects of a walk as the text of a slice.
@@ -158,6 +166,48 @@ pub(crate) fn write_linked(text: &mut String, links: &LinkOps) -> fmt::Result {
         }
     }
     Ok(())
+}
+
+// Where a move of a cursor that reads would lead.
+fn beside(cursor: &Cursor<'_, u64, LinkOps>, name: &str) -> Option<Place>
+    requires stands { Stands (Shows neighbors_of) plain_table (reads.site_of cursor.now) }
+{
+    if name == "peek_next" {
+        return cursor.peek_next().get_ptr();
+    }
+    cursor.peek_prev().get_ptr()
+}
+
+// What a cursor that reads tells.
+fn told_by(cursor: &Cursor<'_, u64, LinkOps>, objects: &Objects<u64>, name: &str) -> Answer
+    requires stands { Stands (Shows neighbors_of) plain_table (reads.site_of cursor.now) }
+{
+    match name {
+        "is_null" => Answer::Truth(cursor.is_null()),
+        "get" => value(cursor.get(objects)),
+        _ => standing(beside(cursor, name)),
+    }
+}
+
+// Where a move of a cursor that borrows the list would lead.
+fn beside_mut(cursor: &CursorMut<'_, u64, LinkOps>, name: &str) -> Option<Place>
+    requires stands { Stands (Shows neighbors_of) plain_table (lent.site_of cursor.now) }
+{
+    if name == "peek_next" {
+        return cursor.peek_next().get_ptr();
+    }
+    cursor.peek_prev().get_ptr()
+}
+
+// What a cursor that borrows the list tells.
+fn told_by_mut(cursor: &CursorMut<'_, u64, LinkOps>, objects: &Objects<u64>, name: &str) -> Answer
+    requires stands { Stands (Shows neighbors_of) plain_table (lent.site_of cursor.now) }
+{
+    match name {
+        "is_null" => Answer::Truth(cursor.is_null()),
+        "get" => value(cursor.get(objects)),
+        _ => standing(beside_mut(cursor, name)),
+    }
 }
 
 impl Lists {
@@ -210,58 +260,16 @@ impl Lists {
         }
     }
 
-    /// The place where a move on would lead.
-    pub(crate) fn peek_next(&mut self) -> Answer {
+    /// What the cursor tells, by its call of that name.
+    pub(crate) fn told(&mut self, objects: &Objects<u64>, name: &str) -> Answer {
         match self.by {
             By::Mut => {
                 let cursor = borrowing(&mut self.list, &mut self.links, self.at);
-                standing(cursor.peek_next().get_ptr())
+                told_by_mut(&cursor, objects, name)
             }
             By::Ref | By::Owning => {
                 let cursor = reading(&self.list, &self.links, self.at);
-                standing(cursor.peek_next().get_ptr())
-            }
-        }
-    }
-
-    /// The place where a move back would lead.
-    pub(crate) fn peek_prev(&mut self) -> Answer {
-        match self.by {
-            By::Mut => {
-                let cursor = borrowing(&mut self.list, &mut self.links, self.at);
-                standing(cursor.peek_prev().get_ptr())
-            }
-            By::Ref | By::Owning => {
-                let cursor = reading(&self.list, &self.links, self.at);
-                standing(cursor.peek_prev().get_ptr())
-            }
-        }
-    }
-
-    /// Whether the cursor is at null.
-    pub(crate) fn is_null(&mut self) -> Answer {
-        match self.by {
-            By::Mut => {
-                let cursor = borrowing(&mut self.list, &mut self.links, self.at);
-                Answer::Truth(cursor.is_null())
-            }
-            By::Ref | By::Owning => {
-                let cursor = reading(&self.list, &self.links, self.at);
-                Answer::Truth(cursor.is_null())
-            }
-        }
-    }
-
-    /// The object that the cursor is on.
-    pub(crate) fn get(&mut self, objects: &Objects<u64>) -> Answer {
-        match self.by {
-            By::Mut => {
-                let cursor = borrowing(&mut self.list, &mut self.links, self.at);
-                value(cursor.get(objects))
-            }
-            By::Ref | By::Owning => {
-                let cursor = reading(&self.list, &self.links, self.at);
-                value(cursor.get(objects))
+                told_by(&cursor, objects, name)
             }
         }
     }
