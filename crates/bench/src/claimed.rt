@@ -1,20 +1,18 @@
-//! Claims and releases, beside the same two steps on bare words; and a list over links whose places are claimed.
+//! Claims and releases, beside the same two steps on bare words.
 //!
 //! ```text
 //! let last = claim_and_release(&claims, &mut holder, 1000);
 //! let same = exchange_and_store(&words, 1000);
 //! ```
 
-ghost use Rattle.std.specs.Prelude.{◌≡◌, [], ◌<◌, length};
-ghost use Rattle.ic_atomic.specs.AtomicLinks.{links_of};
+ghost use Rattle.std.specs.Prelude.{◌≡◌, []};
 ghost use Rattle.ic_atomic.specs.Holders.{record_of, IsOf};
-ghost use Rattle.ic_link_ops.specs.DoublyEntries.{PlainShowsSome};
 
-use crate::loops::{put, turns};
 use ic_atomic::linked_list::AtomicLinkOps;
 use ic_atomic::{Claims, Holder};
-use ic_linked_list::LinkedList;
-use ic_unsafe_ref::{Place, UnsafeRef};
+use ic_link_ops::linked_list::LinkOps;
+use ic_unsafe_ref::Place;
+use std::alloc::{AllocError, Global};
 use std::sync::atomic::{AtomicU64, Ordering};
 
 /// Claims a place and releases it, one after the other, so many times; answers the last that it had.
@@ -38,6 +36,29 @@ pub fn claim_and_release(claims: &Claims, holder: &mut Holder, times: usize) -> 
     last
 }
 
+/// Links for all places of the claims, if there is memory.
+pub fn claimed_links<'c>(
+    alloc: Global,
+    claims: &'c Claims,
+    holder: Holder,
+) -> Option<AtomicLinkOps<'c>>
+    requires made { IsOf claims.now holder }
+    requires fresh { record_of holder ≡ [] }
+{
+    let mut links = LinkOps::new(alloc);
+    links.cover(claims.places()).ok()?;
+    Some(AtomicLinkOps::new(claims, holder, links))
+}
+
+/// A thousand words, each 0.
+pub fn thousand_words(alloc: Global) -> Result<Vec<AtomicU64>, AllocError> {
+    let mut words = Vec::new(alloc);
+    for _word in 0..1_000 {
+        words.push(AtomicU64::new(0))?;
+    }
+    Ok(words)
+}
+
 /// The same two steps on bare words: a compare-exchange of 0 to 1, and a store of 0.
 #[inline(never)]
 pub fn exchange_and_store(words: &[AtomicU64], times: usize) -> Option<Place> {
@@ -56,27 +77,4 @@ pub fn exchange_and_store(words: &[AtomicU64], times: usize) -> Option<Place> {
         }
     }
     last
-}
-
-/// Puts the first places into the list, as far as the links cover them.
-pub fn fill_claimed(list: &mut LinkedList<u64>, links: &mut AtomicLinkOps<'_>, members: usize)
-    requires { PlainShowsSome (links_of links.old) list.old }
-    ensures { PlainShowsSome (links_of links.new) list.new }
-{
-    for index in 0..members {
-        if let Some(place) = Place::new(index) {
-            if index < links.covers() {
-                put(list, links, UnsafeRef::new(place));
-            }
-        }
-    }
-}
-
-/// Takes the first member off and puts it back at the end, so many times.
-#[inline(never)]
-pub fn turn_claimed(list: &mut LinkedList<u64>, links: &mut AtomicLinkOps<'_>, times: u64)
-    requires { PlainShowsSome (links_of links.old) list.old }
-    ensures { PlainShowsSome (links_of links.new) list.new }
-{
-    turns(list, links, times);
 }

@@ -14,6 +14,7 @@
 ghost use Rattle.std.specs.Prelude.{◌≡◌, ◌≤◌, [], IfSome};
 ghost use Rattle.ic_atomic.specs.Holders.{record_of, IsOf};
 ghost use Rattle.ic_link_ops.specs.DoublyEntries.{PlainShowsSome};
+ghost use Rattle.ic_link_ops.specs.LinkedList.{ShowsSome};
 
 mod by_world;
 mod claimed;
@@ -24,64 +25,33 @@ mod measured;
 mod objects;
 mod one_word;
 mod order;
+mod rings;
 mod trees;
 
 use by_world::{filled_world, front_of, turn_world};
-use claimed::{claim_and_release, exchange_and_store, fill_claimed, turn_claimed};
-use ic_atomic::linked_list::AtomicLinkOps;
+use claimed::{claim_and_release, claimed_links, exchange_and_store, thousand_words};
 use ic_atomic::{Claims, Holder};
-use ic_link_ops::linked_list::LinkOps;
+use ic_link_ops::linked_list::{LinkOps, LinkedListOps};
 use ic_link_ops::rbtree::RBTreeOps;
-use ic_link_ops::{LentTable, rbtree, singly_linked_list, xor_linked_list};
+use ic_link_ops::{LentTable, rbtree};
 use ic_linked_list::LinkedList;
 use ic_rbtree::RBTree;
-use ic_unsafe_ref::{Objects, Place, UnsafeRef};
+use ic_unsafe_ref::{Objects, Place};
 use keyed::{find, find_all, find_all_above, insert_all, place_all, turn_all};
 use lines::{answer_each, print_each};
-use loops::put;
-use measured::{
-    add, add_lent, split, split_lent, touch, touch_lent, turn, turn_lent, walk, walk_lent,
-};
+use loops::fill;
+use measured::{Drains, Splits, Steps, Touches, Turns, Work, add, add_lent, lent, over_table};
 use objects::fill_placed;
-use one_word::{filled_singly, filled_xor, turn_singly, turn_xor, walk_singly, walk_xor};
+use rings::{Ring, Singly, Tree, Xor};
 use std::alloc::Global;
 use std::env;
 use std::io::{self, BufReader, BufWriter};
 use std::rt::Clock;
-use std::sync::atomic::AtomicU64;
 use std::time::Instant;
-use trees::{ByValue, filled_tree, take_off_all, turn_tree, walk_tree};
+use trees::ByValue;
 
 // How far apart in the table the neighbours in a cache's order stand, so that no two share a line of memory.
 const STRIDE: usize = 7919;
-
-// Puts the first `members` places into the list, as far as the table covers them, neighbours so far apart in it.
-fn fill(list: &mut LinkedList<u64>, links: &mut LinkOps, members: usize, stride: usize)
-    requires { PlainShowsSome links.old list.old }
-    ensures { PlainShowsSome links.new list.new }
-{
-    for count in 0..members {
-        let index = count.wrapping_mul(stride) % members;
-        if let Some(place) = Place::new(index) {
-            if index < links.covers() {
-                put(list, links, UnsafeRef::new(place));
-            }
-        }
-    }
-}
-
-// Takes so many members off the front, and answers the last of them.
-#[inline(never)]
-fn drain(list: &mut LinkedList<u64>, links: &mut LinkOps, count: u64) -> Option<Place>
-    requires { PlainShowsSome links.old list.old }
-    ensures { PlainShowsSome links.new list.new }
-{
-    let mut last = None;
-    for _pop in 0..count {
-        last = list.pop_front(links).map(|object| object.place());
-    }
-    last
-}
 
 fn number(word: Option<&String>, default: u64) -> u64 {
     word.and_then(|text| text.as_str().parse::<u64>().ok())
@@ -110,115 +80,92 @@ fn cell(rt: &impl Eprint, nanos: u128, count: u64) -> io::Result<()> {
     eprint!(rt; "| {each} ")
 }
 
-// A singly linked list of so many members: pairs of a pop and a push, and steps of a cursor, so many of each.
-fn singly(
+// Prints a sum and the time of one of the additions.
+fn report_sum(
+    rt: &(impl Print + Eprint + Clock),
+    work: &str,
+    sum: u64,
+    start: Instant,
+    count: u64,
+) -> io::Result<()> {
+    let nanos = start.elapsed(rt)?.as_nanos();
+    println!(rt; "{work}: the sum is {sum}")?;
+    cell(rt, nanos, count)
+}
+
+// Pairs of a removal and an insert, and steps of a cursor, so many of each.
+fn pairs_and_steps(
+    rt: &(impl Print + Eprint + Clock),
+    ring: &mut impl Ring,
+    (pair, step): (&str, &str),
+    times: u64,
+) -> io::Result<()> {
+    let start = Instant::now(rt)?;
+    ring.turn(times);
+    let end = ring.steps(1);
+    report(rt, pair, end, start, times)?;
+
+    let start = Instant::now(rt)?;
+    let end = ring.steps(times);
+    report(rt, step, end, start, times)
+}
+
+// A singly linked list and an XOR list of so many members.
+fn lists_of_one_word(
     rt: &(impl Print + Eprint + Clock),
     alloc: Global,
     members: usize,
     times: u64,
 ) -> io::Result<()> {
-    let mut links = singly_linked_list::LinkOps::new(alloc);
-    if links.cover(members).is_err() {
+    let (Some(mut singly), Some(mut xor)) = (
+        Singly::filled(alloc, members),
+        Xor::filled(alloc, members),
+    ) else {
         return eprintln!(rt; "no memory for {members} members");
-    }
-    let mut list = filled_singly(&mut links);
-    let start = Instant::now(rt)?;
-    turn_singly(&mut list, &mut links, times);
-    let end = walk_singly(&list, &links, 1);
-    report(rt, "singly: pop_front and push_front", end, start, times)?;
-
-    let start = Instant::now(rt)?;
-    let end = walk_singly(&list, &links, times);
-    report(rt, "singly: move_next", end, start, times)
+    };
+    let work = ("singly: pop_front and push_front", "singly: move_next");
+    pairs_and_steps(rt, &mut singly, work, times)?;
+    let work = ("XOR: pop_front and push_back", "XOR: move_next");
+    pairs_and_steps(rt, &mut xor, work, times)
 }
 
-// The same of an XOR list.
-fn xor(
-    rt: &(impl Print + Eprint + Clock),
-    alloc: Global,
-    members: usize,
-    times: u64,
-) -> io::Result<()> {
-    let mut links = xor_linked_list::LinkOps::new(alloc);
-    if links.cover(members).is_err() {
-        return eprintln!(rt; "no memory for {members} members");
-    }
-    let mut list = filled_xor(&mut links);
-    let start = Instant::now(rt)?;
-    turn_xor(&mut list, &mut links, times);
-    let end = walk_xor(&list, &links, 1);
-    report(rt, "XOR: pop_front and push_back", end, start, times)?;
-
-    let start = Instant::now(rt)?;
-    let end = walk_xor(&list, &links, times);
-    report(rt, "XOR: move_next", end, start, times)
-}
-
-// A tree of so many members: pairs of a removal in front and an insert at the end, and steps of a cursor, so many of each; and
-// removals of all members in an order as at random.
+// A tree of so many members, and then removals of all of them in an order as at random.
 fn tree(
     rt: &(impl Print + Eprint + Clock),
     alloc: Global,
     members: u64,
     times: u64,
 ) -> io::Result<()> {
-    let mut links = rbtree::LinkOps::new(alloc);
-    if links.cover(members as usize).is_err() {
+    let Some(mut tree) = Tree::filled(alloc, members as usize) else {
         return eprintln!(rt; "no memory for {members} members");
-    }
-    let mut tree = filled_tree(&mut links);
+    };
+    let work = ("tree: remove in front and insert_before", "tree: move_next");
+    pairs_and_steps(rt, &mut tree, work, times)?;
     let start = Instant::now(rt)?;
-    turn_tree(&mut tree, &mut links, times);
-    let end = walk_tree(&tree, &links, 1);
-    report(
-        rt,
-        "tree: remove in front and insert_before",
-        end,
-        start,
-        times,
-    )?;
-
-    let start = Instant::now(rt)?;
-    let end = walk_tree(&tree, &links, times);
-    report(rt, "tree: move_next", end, start, times)?;
-
-    let start = Instant::now(rt)?;
-    let end = take_off_all(&mut tree, &mut links, STRIDE);
+    let end = tree.take_off_all(STRIDE);
     report(rt, "tree: remove", end, start, members)
 }
 
-// Pairs of a push and a pop, and steps of a cursor, so many of each.
-fn pairs_and_steps(
+// One kind of work over a table.
+fn timed<W: Work, L: LinkedListOps>(
     rt: &(impl Print + Eprint + Clock),
+    name: &str,
     list: &mut LinkedList<u64>,
-    links: &mut LinkOps,
+    links: &mut L,
     times: u64,
 ) -> io::Result<()>
-    requires { PlainShowsSome links.old list.old }
-    ensures { PlainShowsSome links.new list.new }
+    requires shown { ShowsSome L.neighbors (L.table links.old) list.old }
+    ensures shown { ShowsSome L.neighbors (L.table links.new) list.new }
 {
     let start = Instant::now(rt)?;
-    turn(list, links, times);
-    let end = walk(list, links, 1);
-    report(rt, "push_back and pop_front", end, start, times)?;
-
-    let start = Instant::now(rt)?;
-    turn_lent(list, links, times);
-    let end = walk(list, links, 1);
-    report(rt, "the same, lent", end, start, times)?;
-
-    let start = Instant::now(rt)?;
-    let end = walk(list, links, times);
-    report(rt, "move_next", end, start, times)?;
-
-    let start = Instant::now(rt)?;
-    let end = walk_lent(list, links, times);
-    report(rt, "the same, lent", end, start, times)
+    let end = over_table::<W, L>(list, links, times);
+    report(rt, name, end, start, times)
 }
 
-// Touches, and splits with splices, so many of each.
-fn touches_and_splits(
+// One kind of work over a table, and over the links that it lends.
+fn timed_twice<W: Work>(
     rt: &(impl Print + Eprint + Clock),
+    name: &str,
     list: &mut LinkedList<u64>,
     links: &mut LinkOps,
     times: u64,
@@ -226,24 +173,9 @@ fn touches_and_splits(
     requires { PlainShowsSome links.old list.old }
     ensures { PlainShowsSome links.new list.new }
 {
+    timed::<W, _>(rt, name, list, links, times)?;
     let start = Instant::now(rt)?;
-    touch(list, links, times);
-    let end = walk(list, links, 1);
-    report(rt, "touch", end, start, times)?;
-
-    let start = Instant::now(rt)?;
-    touch_lent(list, links, times);
-    let end = walk(list, links, 1);
-    report(rt, "the same, lent", end, start, times)?;
-
-    let start = Instant::now(rt)?;
-    split(list, links, times);
-    let end = walk(list, links, 2);
-    report(rt, "split and splice", end, start, times)?;
-
-    let start = Instant::now(rt)?;
-    split_lent(list, links, times);
-    let end = walk(list, links, 2);
+    let end = lent::<W>(list, links, times);
     report(rt, "the same, lent", end, start, times)
 }
 
@@ -259,15 +191,15 @@ fn one_list(
         return eprintln!(rt; "no memory for {members} members");
     }
     let mut list = LinkedList::new();
-    fill(&mut list, &mut links, members as usize, STRIDE);
+    let covered = links.covers();
+    fill(&mut list, &mut links, covered, STRIDE);
     println!(rt; "{members} members")?;
     eprint!(rt; "| {members} ")?;
-    pairs_and_steps(rt, &mut list, &mut links, times)?;
-    touches_and_splits(rt, &mut list, &mut links, times)?;
-
-    let start = Instant::now(rt)?;
-    let end = drain(&mut list, &mut links, members);
-    report(rt, "pop_front", end, start, members)
+    timed_twice::<Turns>(rt, "push_back and pop_front", &mut list, &mut links, times)?;
+    timed_twice::<Steps>(rt, "move_next", &mut list, &mut links, times)?;
+    timed_twice::<Touches>(rt, "touch", &mut list, &mut links, times)?;
+    timed_twice::<Splits>(rt, "split and splice", &mut list, &mut links, times)?;
+    timed::<Drains, _>(rt, "pop_front", &mut list, &mut links, members)
 }
 
 // One list of so many objects, which are added up by a walk over them.
@@ -281,16 +213,12 @@ fn one_sum(rt: &(impl Print + Eprint + Clock), alloc: Global, members: u64) -> i
     fill_placed(&mut list, &mut links, &mut objects, members);
 
     let start = Instant::now(rt)?;
-    let total = add(&list, &links, &objects);
-    let nanos = start.elapsed(rt)?.as_nanos();
-    println!(rt; "iter: the sum is {total}")?;
-    cell(rt, nanos, members)?;
+    let sum = add(&list, &links, &objects);
+    report_sum(rt, "iter", sum, start, members)?;
 
     let start = Instant::now(rt)?;
-    let total = add_lent(&list, &mut links, &objects);
-    let nanos = start.elapsed(rt)?.as_nanos();
-    println!(rt; "the same, lent: the sum is {total}")?;
-    cell(rt, nanos, members)
+    let sum = add_lent(&list, &mut links, &objects);
+    report_sum(rt, "the same, lent", sum, start, members)
 }
 
 // Objects that go into a tree by their keys: inserts of all of them, and then searches and pairs of a removal and an insert, so many
@@ -353,10 +281,9 @@ fn one_keyed_tree(
     by_keys_lent(rt, links.lend(), &objects, times)
 }
 
-// Pairs of a claim and a release, and the same steps on bare words, so many of each.
+// Pairs of a claim and a release, so many.
 fn claims_alone(
     rt: &(impl Print + Eprint + Clock),
-    alloc: Global,
     claims: &Claims,
     holder: &mut Holder,
     times: u64,
@@ -365,20 +292,32 @@ fn claims_alone(
 {
     let start = Instant::now(rt)?;
     let end = claim_and_release(claims, holder, times as usize);
-    report(rt, "claim and release", end, start, times)?;
+    report(rt, "claim and release", end, start, times)
+}
 
-    let mut words = Vec::new(alloc);
-    for _word in 0..1_000 {
-        if words.push(AtomicU64::new(0)).is_err() {
-            return eprintln!(rt; "no memory for the words");
-        }
-    }
+// The same steps on bare words, so many of each.
+fn bare_words(rt: &(impl Print + Eprint + Clock), alloc: Global, times: u64) -> io::Result<()> {
+    let Ok(words) = thousand_words(alloc) else {
+        return eprintln!(rt; "no memory for the words");
+    };
     let start = Instant::now(rt)?;
     let end = exchange_and_store(&words, times as usize);
     report(rt, "the same on bare words", end, start, times)
 }
 
-// Pairs of a pop and a push over a plain table, and over one whose places are claimed, so many of each.
+// Pairs of a pop and a push over a plain table, so many of each.
+fn plain_list(rt: &(impl Print + Eprint + Clock), alloc: Global, times: u64) -> io::Result<()> {
+    let mut links = LinkOps::new(alloc);
+    if links.cover(1_000).is_err() {
+        return eprintln!(rt; "no memory for the list");
+    }
+    let mut list = LinkedList::new();
+    let covered = links.covers();
+    fill(&mut list, &mut links, covered, 1);
+    timed::<Turns, _>(rt, "push_back and pop_front", &mut list, &mut links, times)
+}
+
+// The same over a table whose places are claimed.
 fn claimed_list(
     rt: &(impl Print + Eprint + Clock),
     alloc: Global,
@@ -389,25 +328,13 @@ fn claimed_list(
     requires made { IsOf claims.now holder }
     requires fresh { record_of holder ≡ [] }
 {
-    let (mut plain, mut table) = (LinkOps::new(alloc), LinkOps::new(alloc));
-    let members = claims.places();
-    if plain.cover(members).is_err() || table.cover(members).is_err() {
-        return eprintln!(rt; "no memory for {members} members");
-    }
+    let Some(mut links) = claimed_links(alloc, claims, holder) else {
+        return eprintln!(rt; "no memory for the links");
+    };
     let mut list = LinkedList::new();
-    fill(&mut list, &mut plain, members, 1);
-    let start = Instant::now(rt)?;
-    turn(&mut list, &mut plain, times);
-    let end = list.front(&plain).get_ptr();
-    report(rt, "push_back and pop_front", end, start, times)?;
-
-    let mut links = AtomicLinkOps::new(claims, holder, table);
-    let mut list = LinkedList::new();
-    fill_claimed(&mut list, &mut links, members);
-    let start = Instant::now(rt)?;
-    turn_claimed(&mut list, &mut links, times);
-    let end = list.front(&links).get_ptr();
-    report(rt, "the same, claimed", end, start, times)
+    let covered = links.covers();
+    fill(&mut list, &mut links, covered, 1);
+    timed::<Turns, _>(rt, "the same, claimed", &mut list, &mut links, times)
 }
 
 // Claims of a thousand places, and a list over them.
@@ -419,7 +346,9 @@ fn over_claims(rt: &(impl Print + Eprint + Clock), alloc: Global, times: u64) ->
         return eprintln!(rt; "no holders");
     };
     println!(rt; "1000 places")?;
-    claims_alone(rt, alloc, &claims, &mut first, times)?;
+    claims_alone(rt, &claims, &mut first, times)?;
+    bare_words(rt, alloc, times)?;
+    plain_list(rt, alloc, times)?;
     claimed_list(rt, alloc, &claims, second, times)
 }
 
@@ -462,36 +391,30 @@ fn main(rt: HostRuntime) -> io::Result<()> {
     }
     let times = number(words.get(1), 100_001);
     eprintln!(rt;
-        "| members | pair | lent | step | lent | touch | lent | split and splice | lent | pop_front | iter | lent |"
+        "| members | pair | lent | step | lent | touch | lent | split and splice | lent | pop_front | iter | lent |\n\
+         |---|---|---|---|---|---|---|---|---|---|---|---|"
     )?;
-    eprintln!(rt; "|---|---|---|---|---|---|---|---|---|---|---|---|")?;
     for members in [1_000, 100_000, 1_000_000] {
         one_list(&rt, rt.alloc(), members, times)?;
         one_sum(&rt, rt.alloc(), members)?;
         eprintln!(rt; "|")?;
     }
-    eprintln!(rt; "| singly: pair | step | XOR: pair | step |")?;
-    eprintln!(rt; "|---|---|---|---|")?;
-    singly(&rt, rt.alloc(), 1_000, times)?;
-    xor(&rt, rt.alloc(), 1_000, times)?;
-    eprintln!(rt; "|")?;
-    eprintln!(rt; "| tree: pair | step | remove at random, with the test that it is a member |")?;
-    eprintln!(rt; "|---|---|---|")?;
+    eprintln!(rt; "| singly: pair | step | XOR: pair | step |\n|---|---|---|---|")?;
+    lists_of_one_word(&rt, rt.alloc(), 1_000, times)?;
+    eprintln!(rt;
+        "|\n| tree: pair | step | remove at random, with the test that it is a member |\n|---|---|---|"
+    )?;
     tree(&rt, rt.alloc(), 20_000, times)?;
-    eprintln!(rt; "|")?;
-    eprintln!(rt; "| keys, lent | insert | find | lower_bound | find, remove and insert |")?;
-    eprintln!(rt; "|---|---|---|---|---|")?;
+    eprintln!(rt;
+        "|\n| keys, lent | insert | find | lower_bound | find, remove and insert |\n|---|---|---|---|---|"
+    )?;
     for members in [1_000, 20_000, 1_000_000] {
         one_keyed_tree(&rt, rt.alloc(), members, times)?;
         eprintln!(rt; "|")?;
     }
-    eprintln!(rt; "| claim and release | bare words | pair | pair, claimed |")?;
-    eprintln!(rt; "|---|---|---|---|")?;
+    eprintln!(rt; "| claim and release | bare words | pair | pair, claimed |\n|---|---|---|---|")?;
     over_claims(&rt, rt.alloc(), times)?;
-    eprintln!(rt; "|")?;
-    eprintln!(rt; "| world: pair |")?;
-    eprintln!(rt; "|---|")?;
+    eprintln!(rt; "|\n| world: pair |\n|---|")?;
     list_of_a_world(&rt, rt.alloc(), 1_000, times)?;
-    eprintln!(rt; "|")?;
-    Ok(())
+    eprintln!(rt; "|")
 }
