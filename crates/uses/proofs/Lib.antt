@@ -4,6 +4,7 @@ pub mod Dealing
 pub mod Draining
 pub mod NothingLeft
 pub mod Outcomes
+pub mod Passing
 pub mod PutBack
 pub mod RaceLemmas
 pub mod Retaining

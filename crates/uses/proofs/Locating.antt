@@ -6,12 +6,11 @@ use Rattle.std.specs.declared.cmp.Ordering.TheVariants.{Less, Equal, Greater}
 use Rattle.ic_unsafe_ref.specs.declared.place.Place.{Place}
 use Rattle.ic_unsafe_ref.specs.Objects.{Objects, object_at}
 use Rattle.ic_link_ops.specs.PlacedObjects.{ArePlaced}
-use Rattle.ic_link_ops.specs.Positions.{object_there}
 use Rattle.ic_link_ops.specs.Sequences.{join, first, last}
 use Rattle.ic_rbtree.specs.declared.key_adapter.Bound.TheVariants.{Included}
 use Rattle.ic_rbtree.specs.Borders.{IsSorted, IsUpperBorder, if_passes}
 use Rattle.ic_rbtree.specs.Comparing.{answer_at, compared, order_of}
-use Rattle.uses.specs.Regions.{start, start_at, lies_in, lies_in_any, lies_at, Locates}
+use Rattle.uses.specs.Regions.{start, start_at, lies_at, Locates}
 use Rattle.uses.specs.SortedObjects.{key_or, keys_at, ShowsSorted}
 use Rattle.uses.specs.declared.region_map.Region.{Region}
 use Rattle.uses.proofs.SortedKeys.{first_is_least, up_is}
@@ -79,17 +78,3 @@ module _ (objects : Objects Region) (address : ℕ) where
         above = all_above border.gap.back back.0 back.1 (λ q e there. starts_above q there (border.border.passes q e));
         answer = is ∙ ap (if_passes (lies_at objects address)) border.after;
       }
-
-  -- the answer, by what stands there: none,
-  pub none_there : (o : Option Place) → None ≡ object_there objects o → None ≡ if_passes (lies_at objects address) o
-  none_there None there = refl
-  none_there (Some p) there = ap (λ (x : Option Region). cond (lies_in_any address x) (Some p) None) there
-
-  -- or a region, in which the address lies or not
-  pub some_there : (o : Option Place) {region : Region} {b : Bool} → Some region ≡ object_there objects o → b ≡ lies_in address region → {result : Option Place} → result ≡ cond b o None
-      → result ≡ if_passes (lies_at objects address) o
-  some_there None there is e = absurd (true≢false (sym (ap is_none_of there))) where
-    is_none_of : Option Region → Bool
-    is_none_of None = true
-    is_none_of (Some x) = false
-  some_there (Some p) {region} there is {result} e = e ∙ ap (λ (b : Bool). cond b (Some p) None) is ∙ ap (λ (x : Option Region). cond (lies_in_any address x) (Some p) None) there

@@ -1,16 +1,16 @@
 -- What the first timer tells of all others.
-use Rattle.std.proofs.Common.{◌≡◌, ℕ, ◌≤◌, ◌<◌, Option, Some, None, IsSome, IfSome, List, [], ◌∷◌, sym, arith, subst, true≢false}
+use Rattle.std.proofs.Common.{◌≡◌, ℕ, ◌≤◌, ◌<◌, Bool, true, false, Option, Some, None, IsSome, IfSome, IfNone, List, [], ◌∷◌, sym, ap, ◌∙◌, arith, subst, leb-false, true≢false}
 use Rattle.std.specs.List.{AllByRecursion}
 use Rattle.std.specs.Ordering.{nat_cmp}
 use Rattle.ic_unsafe_ref.specs.declared.place.Place.{Place}
-use Rattle.ic_unsafe_ref.specs.Objects.{Objects}
+use Rattle.ic_unsafe_ref.specs.Objects.{Objects, object_at}
 use Rattle.ic_link_ops.specs.PlacedObjects.{ArePlaced}
 use Rattle.ic_link_ops.specs.Positions.{object_there}
 use Rattle.ic_link_ops.specs.Sequences.{first}
-use Rattle.ic_link_ops.proofs.SequenceLemmas.{some_same}
+use Rattle.ic_link_ops.proofs.SequenceLemmas.{none_not, some_same}
 use Rattle.ic_rbtree.specs.Borders.{IsSorted}
 use Rattle.uses.specs.SortedObjects.{key_or, keys_at}
-use Rattle.uses.specs.Timers.{deadline, deadline_at}
+use Rattle.uses.specs.Timers.{deadline, deadline_at, due}
 use Rattle.uses.specs.declared.timer_queue.Timer.{Timer}
 use Rattle.uses.proofs.SortedKeys.{first_is_least}
 
@@ -32,15 +32,21 @@ module _ (objects : Objects Timer) where
   later now k [] h all = tt
   later now k (q ∷ s) h all = let x = all.0 in (omega arith, later now k s h all.1)
 
-  -- where it waits still, all do,
-  pub all_wait : (now : ℕ) (s : List Place) {timer : Timer} → Some timer ≡ object_there objects (first s) → now < deadline timer → IsSorted nat_cmp (keys_at deadline objects s)
-      → AllByRecursion (λ q. now < deadline_at objects q) s
-  all_wait now [] there waits sorted = tt
-  all_wait now (p ∷ s) there waits sorted =
-      let here : now < deadline_at objects p = subst (λ o. now < key_or deadline o) there waits in
+  waits : (now : ℕ) (o : Option Timer) → IsSome o → due now o ≡ false → now < key_or deadline o
+  waits now (Some timer) h not = leb-false (deadline timer) now not
+  waits now None h not = absurd (true≢false (sym h))
+
+  -- where the first is not due, or there is none, all wait
+  pub all_wait : (now : ℕ) (s : List Place) {b : Bool} {x : Option Timer} → b ≡ due now x → x ≡ object_there objects (first s) → b ≡ false → ArePlaced objects s
+      → IsSorted nat_cmp (keys_at deadline objects s) → AllByRecursion (λ q. now < deadline_at objects q) s
+  all_wait now [] tested there told placed sorted = tt
+  all_wait now (p ∷ s) tested there told placed sorted =
+      let here : now < deadline_at objects p = waits now (object_at objects p) placed.0 (ap (due now) (sym there) ∙ sym tested ∙ told) in
       (here, later now (deadline_at objects p) s here (first_is_least deadline objects p s sorted))
 
-  -- and where there is none, there are no others
-  pub none_waits : (now : ℕ) (s : List Place) → None ≡ object_there objects (first s) → ArePlaced objects s → AllByRecursion (λ q. now < deadline_at objects q) s
-  none_waits now [] there placed = tt
-  none_waits now (p ∷ s) there placed = absurd (true≢false (sym (subst IsSome (sym there) placed.0)))
+  -- and where the answer is none although the first is due, there is none
+  pub none_waits : (now : ℕ) (s : List Place) (o : Option Place) {b : Bool} {x : Option Timer} → b ≡ due now x → x ≡ object_there objects (first s) → b ≡ true → o ≡ first s
+      → IfNone o (AllByRecursion (λ q. now < deadline_at objects q) s)
+  none_waits now [] o tested there told e = absurd (true≢false (sym told ∙ tested ∙ ap (due now) there))
+  none_waits now (p ∷ s) (Some q) tested there told e = tt
+  none_waits now (p ∷ s) None tested there told e = absurd (none_not p e)

@@ -10,6 +10,7 @@
 //! An address is looked for in one region alone, the last that starts at it or below: so regions should not overlap.
 
 ghost use Rattle.std.specs.Prelude.{◌≡◌, ◌∷◌, [], true, List, OnOk, OnErr, OnSome, IfErr, IfSome, IfNone};
+ghost use Rattle.std.specs.Option.{option_copied};
 ghost use Rattle.ic_unsafe_ref.specs.declared.place.Place.{Place};
 ghost use Rattle.ic_unsafe_ref.specs.Objects.{is_placed};
 ghost use Rattle.ic_link_ops.specs.Sequences.{Cut, join, IsBefore};
@@ -19,7 +20,7 @@ ghost use Rattle.ic_link_ops.specs.Edits.{Removes};
 ghost use Rattle.ic_link_ops.specs.RedBlackTree.{Shows};
 ghost use Rattle.ic_rbtree.specs.Tree.{root_of};
 ghost use Rattle.ic_rbtree.specs.Ordered.{InsertsInOrder};
-ghost use Rattle.uses.specs.Regions.{start, lies_in, Locates};
+ghost use Rattle.uses.specs.Regions.{start, lies_in, lies_in_any, Locates};
 ghost use Rattle.uses.specs.SortedObjects.{against, ShowsSorted};
 
 use ic_link_ops::rbtree::RBTreeOps;
@@ -89,6 +90,17 @@ pub fn add<L: RBTreeOps, B: Allocator>(
     regions.cursor_mut(links).insert(objects, region)
 }
 
+// Whether there is a region, and the address lies in it.
+#[inline]
+fn is_in(region: Option<&Region>, address: u64) -> bool
+    ensures { result ≡ lies_in_any address (option_copied region.entry) }
+{
+    match region {
+        Some(region) => region.has(address),
+        None => false,
+    }
+}
+
 /// The region that the address lies in: the last that starts at the address or below, if it is so long, and `None`
 /// otherwise. O(log n): at most 66 looks.
 ///
@@ -105,10 +117,10 @@ pub fn region_at<L: RBTreeOps, B: Allocator>(
         → Locates objects.now address s result }
 {
     let cursor = regions.upper_bound(links, objects, Bound::Included(&address));
-    if !cursor.get(objects)?.has(address) {
+    if !is_in(cursor.get(objects), address) {
         return None;
     }
-    Some(UnsafeRef::new(cursor.get_ptr()?))
+    cursor.clone_pointer()
 }
 
 /// Takes the region off that the address lies in, and answers it: the one that [`region_at`] answers, or `None`. O(log n).
@@ -131,7 +143,7 @@ pub fn remove_region<L: RBTreeOps, B: Allocator>(
     ensures unchanged { IfNone result ((regions.new ≡ regions.old) × (links.new ≡ links.old)) }
 {
     let mut cursor = regions.upper_bound_mut(links, objects, Bound::Included(&address));
-    if !cursor.get(objects)?.has(address) {
+    if !is_in(cursor.get(objects), address) {
         return None;
     }
     cursor.remove()

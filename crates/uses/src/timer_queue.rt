@@ -10,6 +10,7 @@
 
 ghost use Rattle.std.specs.Prelude.{◌≡◌, ◌++◌, ◌∷◌, [], ◌≤◌, ◌<◌, true, List, OnOk, OnErr, OnSome, IfErr, IfSome, IfNone, vec_len, vec_capacity};
 ghost use Rattle.std.specs.List.{AllByRecursion};
+ghost use Rattle.std.specs.Option.{option_copied};
 ghost use Rattle.ic_unsafe_ref.specs.declared.place.Place.{Place};
 ghost use Rattle.ic_unsafe_ref.specs.Objects.{is_placed};
 ghost use Rattle.ic_link_ops.specs.Sequences.{first, at_front};
@@ -22,7 +23,7 @@ ghost use Rattle.ic_rbtree.specs.Tree.{root_of};
 ghost use Rattle.ic_rbtree.specs.Borders.{if_passes};
 ghost use Rattle.ic_rbtree.specs.Ordered.{InsertsInOrder};
 ghost use Rattle.uses.specs.SortedObjects.{against, ShowsSorted, StaysSorted};
-ghost use Rattle.uses.specs.Timers.{deadline, deadline_at, is_due, handed_back, StandsFirst};
+ghost use Rattle.uses.specs.Timers.{deadline, deadline_at, due, is_due, handed_back, StandsFirst};
 
 use ic_link_ops::rbtree::RBTreeOps;
 use ic_link_ops::{AlreadyLinked, LinkOps};
@@ -81,6 +82,17 @@ pub fn schedule<L: RBTreeOps, B: Allocator>(
     timers.cursor_mut(links).insert(objects, timer)
 }
 
+// Whether there is a timer, and it is due.
+#[inline]
+fn is_due(timer: Option<&Timer>, now: u64) -> bool
+    ensures { result ≡ due now (option_copied timer.entry) }
+{
+    match timer {
+        Some(timer) => timer.deadline <= now,
+        None => false,
+    }
+}
+
 /// Takes the first timer off if its deadline is at most `now`, and answers `None` otherwise. O(log n).
 ///
 /// It asks that the timers in the queue are placed and stand in the order of their deadlines. The timer is unlinked then, and
@@ -105,8 +117,7 @@ pub fn take_due<L: RBTreeOps, B: Allocator>(
     ensures unchanged { IfNone result ((timers.new ≡ timers.old) × (links.new ≡ links.old)) }
 {
     let mut cursor = timers.front_mut(links);
-    let earliest = cursor.get(objects)?;
-    if earliest.deadline > now {
+    if !is_due(cursor.get(objects), now) {
         return None;
     }
     cursor.remove()

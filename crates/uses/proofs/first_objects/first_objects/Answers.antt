@@ -13,8 +13,7 @@ push_back-requires-clause-shown g c =
 
 pub loop-value-preserved : goal.loop-value-preserved
 loop-value-preserved g c =
-    let put = c.push_back.ensures in
-    has_pushed _ _ (has_covered c.in_ok-cover.ensures.stays c.loop-value.invariant) c.in_ok-object.ensures.placed put.inserted put.acquired put.refused
+    has_pushed _ _ (has_covered c.in_ok-cover.ensures.stays c.loop-value.invariant) c.in_ok-object.ensures.placed c.push_back.ensures.inserted c.push_back.ensures.acquired c.push_back.ensures.refused
     (take_more _ c.loop-value.value-index 0 c.loop-value-test.true)
 
 pub unwrap-oldest-requires : goal.unwrap-oldest-requires

@@ -1,38 +1,25 @@
-use Rattle.std.proofs.Common.{rules, refl, sym, ap, ◌∙◌}
-use Rattle.std.specs.Option.{option_copied}
+use Rattle.std.proofs.Common.{rules, refl}
 use Rattle.ic_link_ops.specs.Positions.{ShowsAt}
 use Rattle.ic_link_ops.specs.RedBlackTree.{Shows}
 use Rattle.ic_link_ops.proofs.ShownTrees.{one_sequence}
 use Rattle.ic_rbtree.specs.CursorMut.{position, site_of}
-use Rattle.uses.specs.Regions.{start}
+use Rattle.uses.specs.Regions.{start, lies_in_any}
 use Rattle.uses.specs.SortedObjects.{ShowsSorted}
-use Rattle.uses.proofs.Locating.{located, none_there, some_there}
+use Rattle.uses.proofs.Locating.{located}
+use Rattle.uses.proofs.Passing.{passes_there}
 use Rattle.uses.proofs.SortedKeys.{sorted_taken}
 use Rattle.uses.proofs.region_map.remove_region.Goals as goal
 
-pub returns-in_err-get-clause-map : goal.returns-in_err-get-clause-map
-returns-in_err-get-clause-map g c =
+pub returns-then-not-is_in-clause-map : goal.returns-then-not-is_in-clause-map
+returns-then-not-is_in-clause-map g c =
     let q = c.requires.map in
     let shown = q.placed.shown in
     record { placed = record { members = q.placed.members; shown = search rules; placed = q.placed.placed }; sorted = q.sorted }
 
-pub returns-in_err-get-clause-found : goal.returns-in_err-get-clause-found
-returns-in_err-get-clause-found g c s shown =
-    let there = sym (ap option_copied c.in_err-get.was) ∙ c.get.ensures in
+pub returns-then-not-is_in-clause-found : goal.returns-then-not-is_in-clause-found
+returns-then-not-is_in-clause-found g c s shown =
     located c.args.objects.now c.args.address (λ s u shown other. one_sequence shown other) c.requires.map shown (c.upper_bound_mut-cursor.ensures.border s shown)
-    (c.from_residual.ensures ∙ none_there c.args.objects.now c.args.address (position c.upper_bound_mut-cursor.result) there)
-
-pub returns-then-not-has-clause-map : goal.returns-then-not-has-clause-map
-returns-then-not-has-clause-map g c =
-    let q = c.requires.map in
-    let shown = q.placed.shown in
-    record { placed = record { members = q.placed.members; shown = search rules; placed = q.placed.placed }; sorted = q.sorted }
-
-pub returns-then-not-has-clause-found : goal.returns-then-not-has-clause-found
-returns-then-not-has-clause-found g c s shown =
-    let there = sym (ap option_copied c.in_ok-get.was) ∙ c.get.ensures in
-    located c.args.objects.now c.args.address (λ s u shown other. one_sequence shown other) c.requires.map shown (c.upper_bound_mut-cursor.ensures.border s shown)
-    (some_there c.args.objects.now c.args.address (position c.upper_bound_mut-cursor.result) there (sym c.if-not-has.true ∙ c.has.ensures) refl)
+    (passes_there c.args.objects.now (lies_in_any c.args.address) (position c.upper_bound_mut-cursor.result) c.is_in.ensures c.get.ensures c.if-not-is_in.true refl)
 
 pub returns-clause-map : goal.returns-clause-map
 returns-clause-map g c =
@@ -44,6 +31,5 @@ returns-clause-map g c =
 
 pub returns-clause-found : goal.returns-clause-found
 returns-clause-found g c s shown =
-    let there = sym (ap option_copied c.in_ok-get.was) ∙ c.get.ensures in
     located c.args.objects.now c.args.address (λ s u shown other. one_sequence shown other) c.requires.map shown (c.upper_bound_mut-cursor.ensures.border s shown)
-    (some_there c.args.objects.now c.args.address (position c.upper_bound_mut-cursor.result) there (sym c.if-not-has.false ∙ c.has.ensures) c.remove.ensures.removed.answer)
+    (passes_there c.args.objects.now (lies_in_any c.args.address) (position c.upper_bound_mut-cursor.result) c.is_in.ensures c.get.ensures c.if-not-is_in.false c.remove.ensures.removed.answer)

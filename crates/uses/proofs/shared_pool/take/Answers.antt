@@ -3,7 +3,7 @@ use Rattle.ic_atomic.specs.declared.step.Step.TheVariants.{Claim}
 use Rattle.ic_atomic.specs.Records.{event, holds, HoldsTheSame}
 use Rattle.ic_atomic.specs.Holders.{record_of, IsOf}
 use Rattle.uses.specs.Pool.{WereRefused}
-use Rattle.uses.proofs.Pool.{refused_none, refused_more, also}
+use Rattle.uses.proofs.Pool.{refused_none, refused_more}
 use Rattle.uses.proofs.shared_pool.take.Goals as goal
 use Rattle.uses.proofs.shared_pool.take.Goals.{in-Some+else-claim, in_default}
 
