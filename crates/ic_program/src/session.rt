@@ -11,7 +11,7 @@ ghost use Rattle.ic_program.specs.Line.{IsTextOf};
 use crate::answers::push_answer;
 use crate::line::Line;
 use crate::own_key::OwnKey;
-use ic_world::World;
+use ic_world::{Answer, Command, World};
 use memchr::memchr;
 use std::alloc::{AllocError, Allocator};
 use std::io::ErrorKind;
@@ -42,9 +42,11 @@ pub(crate) struct Session<M: Allocator + Copy> {
 impl<M: Allocator + Copy> Session<M> {
     /// A new world, with nothing answered.
     pub(crate) fn new(alloc: M) -> Result<Session<M>, AllocError> {
+        // The world comes last, so that no way out has one to drop.
+        let answers = Vec::with_capacity(alloc, ROOM)?;
         Ok(Session {
             world: World::new(alloc, OwnKey),
-            answers: Vec::with_capacity(alloc, ROOM)?,
+            answers,
             lines: 0,
         })
     }
@@ -58,19 +60,15 @@ impl<M: Allocator + Copy> Session<M> {
         self.lines = lines;
         match Line::of(without_end(line)) {
             Line::Empty => Ok(()),
-            Line::Call(command) => match push_answer(
-                &mut self.answers,
-                &self.world.answer(command),
-            ) {
-                Ok(()) => Ok(()),
-                Err(_) => Err(Stop::Fault(ErrorKind::OutOfMemory)),
-            },
-            // A command is ASCII alone, so that only here the line may be other than UTF-8.
-            Line::NoCommand => match str::from_utf8(line) {
-                Ok(_) => Err(Stop::NoCommand),
-                Err(_) => Err(Stop::Fault(ErrorKind::InvalidData)),
-            },
+            Line::Call(command) => self.call(command),
+            Line::NoCommand => Err(stop_at(line)),
         }
+    }
+
+    // Makes the call, and puts its answer behind the others.
+    #[inline]
+    fn call(&mut self, command: Command<u64, u64>) -> Result<(), Stop> {
+        push(&mut self.answers, &self.world.answer(command))
     }
 
     /// Answers the lines that end in these bytes, and tells how many bytes they have.
@@ -81,6 +79,24 @@ impl<M: Allocator + Copy> Session<M> {
             rest = &rest[end + 1..];
         }
         Ok(bytes.len() - rest.len())
+    }
+}
+
+// Puts the answer behind the others.
+#[inline]
+fn push<M: Allocator>(answers: &mut Vec<u8, M>, answer: &Answer<M>) -> Result<(), Stop> {
+    match push_answer(answers, answer) {
+        Ok(()) => Ok(()),
+        Err(_) => Err(Stop::Fault(ErrorKind::OutOfMemory)),
+    }
+}
+
+// Why no more lines are answered behind this one, which is no command. A command is ASCII alone, so that only here the line may be
+// other than UTF-8.
+fn stop_at(line: &[u8]) -> Stop {
+    match str::from_utf8(line) {
+        Ok(_) => Stop::NoCommand,
+        Err(_) => Stop::Fault(ErrorKind::InvalidData),
     }
 }
 
