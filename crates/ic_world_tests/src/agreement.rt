@@ -25,6 +25,19 @@ fn is_at(current: Result<Option<Place>, Refusal>, wanted: Result<Option<Place>, 
     }
 }
 
+// Whether what is read of the collection of that number is so: from the front, from the back, and where the cursor is.
+fn reads(
+    world: &mut World<OwnKey>,
+    number: usize,
+    front: Result<&[Place], Refusal>,
+    back: Result<&[Place], Refusal>,
+    cursor: Result<Option<Place>, Refusal>,
+) -> bool {
+    are_members(world.show(number), front)
+        && are_members(world.show_back(number), back)
+        && is_at(world.current(number), cursor)
+}
+
 // Whether the collection of that number shows the members from both ends, and its cursor is where it is to be.
 fn shows(
     alloc: Global,
@@ -37,19 +50,13 @@ fn shows(
         Kind::Singly => Err(Refusal::WrongKind),
         _ => Ok(from_back.as_slice()),
     };
-    Ok(
-        are_members(world.show(number), Ok(&plain.members))
-            && are_members(world.show_back(number), back)
-            && is_at(world.current(number), Ok(plain.cursor)),
-    )
+    Ok(reads(world, number, Ok(&plain.members), back, Ok(plain.cursor)))
 }
 
 // Whether there is no collection of that number.
 fn is_gone(world: &mut World<OwnKey>, number: usize) -> bool {
     let refusal = Refusal::NoSuchCollection;
-    are_members(world.show(number), Err(refusal))
-        && are_members(world.show_back(number), Err(refusal))
-        && is_at(world.current(number), Err(refusal))
+    reads(world, number, Err(refusal), Err(refusal), Err(refusal))
 }
 
 // Whether the same objects are linked in the field of that number.

@@ -170,25 +170,45 @@ impl PlainWorld {
         looks: u64,
         shown: &[Place],
     ) -> Result<bool, AllocError> {
+        match self.right_gap(number, object, vacant, looks, shown)? {
+            Some(gap) => self.put_in(number, gap, object),
+            None => Ok(false),
+        }
+    }
+
+    // The gap at which the object went in, where it is a right one after so many looks.
+    fn right_gap(
+        &self,
+        number: usize,
+        object: Place,
+        vacant: Option<u64>,
+        looks: u64,
+        shown: &[Place],
+    ) -> Result<Option<usize>, AllocError> {
         let Some(found) = self.collection(number) else {
-            return Ok(false);
+            return Ok(None);
         };
-        let field = found.field;
-        let keys = self.keys(&found.members)?;
         let Some(gap) = gap_of(self.alloc, &found.members, object, shown)? else {
-            return Ok(false);
+            return Ok(None);
         };
+        let keys = self.keys(&found.members)?;
         let is_right = match vacant {
             Some(key) => is_vacant(&keys, key, gap),
             None => is_gap(&keys, self.value(object).unwrap_or(0), gap),
         };
-        if !is_right || !is_short(keys.len(), looks) {
-            return Ok(false);
-        }
-        let Some(field) = self.fields.get_mut(field) else {
+        Ok(if is_right && is_short(keys.len(), looks) {
+            Some(gap)
+        } else {
+            None
+        })
+    }
+
+    // Puts the object in at the gap.
+    fn put_in(&mut self, number: usize, gap: usize, object: Place) -> Result<bool, AllocError> {
+        let Some(Some(collection)) = self.collections.get_mut(number) else {
             return Ok(false);
         };
-        let Some(Some(collection)) = self.collections.get_mut(number) else {
+        let Some(field) = self.fields.get_mut(collection.field) else {
             return Ok(false);
         };
         collection.exchange(gap, gap, &[object])?;

@@ -85,6 +85,11 @@ fn both_shown<A: KeyAdapter, M: Allocator + Copy>(
 /// The first thing that is not as it should be in a world of three objects, a tree and a list. Nothing: the empty text.
 pub(crate) fn first_wrong(alloc: Global) -> &'static str {
     let mut world = World::new(alloc, OwnKey);
+    wrong_in(&mut world)
+}
+
+// The same, in a new world.
+fn wrong_in(world: &mut World<OwnKey>) -> &'static str {
     let (Ok(field), Ok(keyed)) = (world.add_field(Kind::Tree), world.open(0, Kind::Tree)) else {
         return "the tree";
     };
@@ -98,19 +103,19 @@ pub(crate) fn first_wrong(alloc: Global) -> &'static str {
         if world.insert(keyed, object).is_err() {
             return "an insert";
         }
-        if !was_linked(&mut world, list, object) {
+        if !was_linked(world, list, object) {
             return "a second link of one field";
         }
     }
-    let Answer::Refused(Refusal::NoSuchField) = made_again(&mut world, Command::Open(1, Kind::Tree))
+    let Answer::Refused(Refusal::NoSuchField) = made_again(world, Command::Open(1, Kind::Tree))
     else {
         return "a refused call, made again";
     };
     // It goes on below the root, where the first member of the key may stand.
-    let Some(2) = looks_of_find(&mut world, keyed, 1) else {
+    let Some(2) = looks_of_find(world, keyed, 1) else {
         return "a find of the root";
     };
-    match both_shown(&world, keyed, list) {
+    match both_shown(world, keyed, list) {
         Some((members, others)) if members.len() == 3 && others.is_empty() => "",
         _ => "what is shown",
     }

@@ -105,11 +105,21 @@ impl Session {
     fn make(&mut self, kind: usize, call: Call) -> Result<bool, Fail> {
         let answer = self.world.answer(call);
         let shown = self.shown_after(call);
-        let is_right = self.is_right(kind, call, &answer, &shown)?;
-        if is_right && self.plain.agrees(&mut self.world)? {
+        self.compares(kind, call, &answer, &shown)
+    }
+
+    // Makes a call on the plain world, too, which was answered so, and compares the two.
+    fn compares(
+        &mut self,
+        kind: usize,
+        call: Call,
+        answer: &Answer,
+        shown: &[Place],
+    ) -> Result<bool, Fail> {
+        if self.is_right(kind, call, answer, shown)? && self.plain.agrees(&mut self.world)? {
             return Ok(true);
         }
-        write_answer(&mut self.wrong, call, &answer)?;
+        write_answer(&mut self.wrong, call, answer)?;
         Ok(false)
     }
 
@@ -146,10 +156,9 @@ impl Session {
         Ok(true)
     }
 
-    // Makes some calls by one list, which ends behind a call by which an object goes where its key says.
-    fn make_listed(&mut self, answers: &mut Vec<Answer>) -> Result<bool, Fail> {
-        let mut kinds = Vec::new(self.alloc);
-        let mut calls = Vec::new(self.alloc);
+    // Draws some calls, with their numbers, and answers the last of them. They end behind a call by which an object goes where its
+    // key says.
+    fn draw(&mut self, kinds: &mut Vec<usize>, calls: &mut Vec<Call>) -> Result<Call, AllocError> {
         let mut last = Command::Show(0);
         for _ in 0..LISTED {
             let (kind, call) = self.draws.draw(&self.plain);
@@ -160,23 +169,52 @@ impl Session {
                 break;
             }
         }
+        Ok(last)
+    }
+
+    // Makes some calls by one list.
+    fn make_listed(&mut self, answers: &mut Vec<Answer>) -> Result<bool, Fail> {
+        let mut kinds = Vec::new(self.alloc);
+        let mut calls = Vec::new(self.alloc);
+        let last = self.draw(&mut kinds, &mut calls)?;
+        self.run_listed(&kinds, &calls, last, answers)
+    }
+
+    // Runs these calls by one list, and compares what was answered.
+    fn run_listed(
+        &mut self,
+        kinds: &[usize],
+        calls: &[Call],
+        last: Call,
+        answers: &mut Vec<Answer>,
+    ) -> Result<bool, Fail> {
         let before = answers.len();
-        self.world.run(&calls, answers)?;
+        self.world.run(calls, answers)?;
         let shown = self.shown_after(last);
-        let given = answers.get(before..).unwrap_or(&[]);
+        self.compares_all(kinds, calls, answers.get(before..).unwrap_or(&[]), &shown)
+    }
+
+    // Makes the calls of a list on the plain world, too, which were answered so, and compares the two.
+    fn compares_all(
+        &mut self,
+        kinds: &[usize],
+        calls: &[Call],
+        given: &[Answer],
+        shown: &[Place],
+    ) -> Result<bool, Fail> {
         if given.len() != calls.len() {
-            write_calls(&mut self.wrong, &calls)?;
+            write_calls(&mut self.wrong, calls)?;
             return Ok(false);
         }
-        for ((kind, call), answer) in kinds.iter().zip(&calls).zip(given) {
-            if !self.is_right(*kind, *call, answer, &shown)? {
+        for ((kind, call), answer) in kinds.iter().zip(calls).zip(given) {
+            if !self.is_right(*kind, *call, answer, shown)? {
                 write_answer(&mut self.wrong, *call, answer)?;
                 return Ok(false);
             }
         }
         let agrees = self.plain.agrees(&mut self.world)?;
         if !agrees {
-            write_calls(&mut self.wrong, &calls)?;
+            write_calls(&mut self.wrong, calls)?;
         }
         Ok(agrees)
     }
@@ -188,25 +226,38 @@ impl Session {
             return Ok(false);
         }
         let mut answers = Vec::new(self.alloc);
+        self.plays_rounds(&mut answers)
+    }
+
+    // Makes the calls of all rounds. The answers of their lists stand one behind the other.
+    fn plays_rounds(&mut self, answers: &mut Vec<Answer>) -> Result<bool, Fail> {
         for _ in 0..ROUNDS {
-            if !self.make_single()? || !self.make_listed(&mut answers)? {
+            if !self.make_single()? || !self.make_listed(answers)? {
                 return Ok(false);
             }
         }
         Ok(true)
     }
 
-    // Starts again with that seed. Every other seed opens few collections.
-    fn play(&mut self, seed: u64, first: Place) -> Result<(), Fail> {
-        let opens_all = seed % 2 == 0;
-        self.draws = Draws::new(seed, first, if opens_all { MANY } else { FEW });
+    // Starts again with that seed.
+    fn start(&mut self, seed: u64, first: Place, most: Limits) {
+        self.draws = Draws::new(seed, first, most);
         self.world = World::new(self.alloc, OwnKey);
         self.plain = PlainWorld::new(self.alloc);
         self.calls = 0;
-        if !self.plays(opens_all)? {
-            write!(self.wrong, "seed {seed}, call {}\n", self.calls)?;
+    }
+
+    // Plays the session of each seed, of which every other opens few collections, and answers what went wrong: a session, or what never came.
+    fn play(&mut self, seeds: u64, first: Place) -> Result<String, Fail> {
+        for seed in 0..seeds {
+            let opens_all = seed % 2 == 0;
+            self.start(seed, first, if opens_all { MANY } else { FEW });
+            if !self.plays(opens_all)? {
+                write!(self.wrong, "seed {seed}, call {}\n", self.calls)?;
+            }
         }
-        Ok(())
+        self.counts.write_missed(&mut self.wrong)?;
+        Ok(String::from_str(self.alloc, &self.wrong)?)
     }
 }
 
@@ -215,18 +266,16 @@ pub(crate) fn play_all(alloc: Global, seeds: u64) -> Result<String, Fail> {
     let Some(first) = Place::new(0) else {
         return Ok(String::from_str(alloc, "no place")?);
     };
+    let counts = Counts::new(alloc)?;
+    // What is dropped at each way out costs a check much, so that the session has but one.
     let mut session = Session {
         alloc,
         draws: Draws::new(0, first, FEW),
         world: World::new(alloc, OwnKey),
         plain: PlainWorld::new(alloc),
-        counts: Counts::new(alloc)?,
+        counts,
         calls: 0,
         wrong: String::new(alloc),
     };
-    for seed in 0..seeds {
-        session.play(seed, first)?;
-    }
-    session.counts.write_missed(&mut session.wrong)?;
-    Ok(session.wrong)
+    session.play(seeds, first)
 }
