@@ -16,6 +16,7 @@ ghost use Rattle.uses.specs.Pool.{TakesOut, TakesNone};
 
 use ic_atomic::{Claims, Holder};
 use ic_unsafe_ref::Place;
+use std::alloc::Allocator;
 
 /// Takes an object out of the pool: the first of its places that nobody holds as this holder comes by. `None`: somebody held
 /// each of them as it was tried.
@@ -23,7 +24,7 @@ use ic_unsafe_ref::Place;
 /// The pool is the claims' places. It asks that these are no more than places can be, and that the holder was made with the
 /// claims. Nobody else takes that object out until this holder gives it back. One claim a place that is tried: O(places), no
 /// memory, and it waits for nobody.
-pub fn take(claims: &Claims, holder: &mut Holder) -> Option<Place>
+pub fn take<A: Allocator>(claims: &Claims<A>, holder: &mut Holder) -> Option<Place>
     requires small { places_of claims.now ≤ 4294967296 }
     requires made { IsOf claims.now holder.old }
     ensures made { IsOf claims.now holder.new }
@@ -43,7 +44,7 @@ pub fn take(claims: &Claims, holder: &mut Holder) -> Option<Place>
 /// Gives an object back, which any thread may take out then.
 ///
 /// It asks that this holder has taken it out. One release, O(1), no memory.
-pub fn give_back(claims: &Claims, holder: &mut Holder, place: Place)
+pub fn give_back<A: Allocator>(claims: &Claims<A>, holder: &mut Holder, place: Place)
     requires place { index_of place < places_of claims.now }
     requires made { IsOf claims.now holder.old }
     requires taken { holds place (record_of holder.old) ≡ true }

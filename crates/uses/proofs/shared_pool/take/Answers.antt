@@ -8,10 +8,10 @@ use Rattle.uses.proofs.shared_pool.take.Goals as goal
 use Rattle.uses.proofs.shared_pool.take.Goals.{in-Some+else-claim, in_default}
 
 pub loop-index-init : goal.loop-index-init
-loop-index-init c = record { made = c.requires.made; refused = refused_none (record_of c.args.holder.now); held = λ q. refl }
+loop-index-init g c = record { made = c.requires.made; refused = refused_none (record_of c.args.holder.now); held = λ q. refl }
 
 pub loop-index-preserved : goal.loop-index-preserved
-loop-index-preserved c =
+loop-index-preserved g c =
     let was = c.loop-index.invariant in
     let claims = c.args.claims.now in
     elim c.match-new.branch [
