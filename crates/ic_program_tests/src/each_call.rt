@@ -1,12 +1,12 @@
 //! Each call on each kind of collection, each kind in fields of each kind that carries it, and runs at delicate places.
 
-use crate::shown::Shown;
+use crate::shown::play_shown;
 use crate::{
     delicate_places, each_call_doubly, each_call_gone, each_call_objects, each_call_singly,
     each_call_tree, each_call_whole_tree, each_call_xor, each_pair, each_pair_beside,
 };
 use std::test::Fail;
-use test_support::rows::{Run, play};
+use test_support::rows::Run;
 
 #[test]
 fn each_call(rt: HostRuntime) -> Result<(), Fail> {
@@ -24,7 +24,7 @@ fn each_call(rt: HostRuntime) -> Result<(), Fail> {
     ];
     for runs in files {
         for run in runs {
-            play(rt.alloc(), &mut Shown::new(rt.alloc()), run)?;
+            play_shown(rt.alloc(), run)?;
         }
     }
     Ok(())

@@ -1,10 +1,10 @@
 //! Each growth of a world refused in turn, and calls that take no memory.
 
-use crate::worlds::Worlds;
+use crate::worlds::play_on_world;
 use crate::{growth_collections, growth_fields, growth_never, growth_shows};
 use std::test::Fail;
 use test_support::rationed::Rationed;
-use test_support::rows::{Run, play};
+use test_support::rows::Run;
 
 #[test]
 fn growth(rt: HostRuntime) -> Result<(), Fail> {
@@ -17,7 +17,7 @@ fn growth(rt: HostRuntime) -> Result<(), Fail> {
     ];
     for runs in files {
         for run in runs {
-            play(rt.alloc(), &mut Worlds::new(rt.alloc(), &rationed), run)?;
+            play_on_world(rt.alloc(), &rationed, run)?;
         }
     }
     Ok(())

@@ -1,9 +1,9 @@
 //! Commands that are run as one list, with each request of a run refused in turn.
 
-use crate::listed::Listed;
+use crate::listed::play_listed;
 use std::test::Fail;
 use test_support::rationed::Rationed;
-use test_support::rows::{Run, play};
+use test_support::rows::Run;
 
 // The first request of a run is for its answers: refused it refuses the run. A later one is a call's.
 const RUNS: [Run; 3] = [
@@ -93,7 +93,7 @@ const RUNS: [Run; 3] = [
 fn growth_of_runs(rt: HostRuntime) -> Result<(), Fail> {
     let rationed = Rationed::new(rt.alloc(), u64::MAX);
     for run in RUNS {
-        play(rt.alloc(), &mut Listed::new(rt.alloc(), &rationed), &run)?;
+        play_listed(rt.alloc(), &rationed, &run)?;
     }
     Ok(())
 }

@@ -7,7 +7,7 @@ use ic_world::{Answer as Made, Command, World};
 use std::alloc::Global;
 use std::fmt::{self, Write};
 use test_support::rationed::Rationed;
-use test_support::rows::{Answer, Played};
+use test_support::rows::{Answer, Played, Run, Wrong, play};
 
 // The request to refuse where none is.
 const NONE: u64 = u64::MAX;
@@ -42,6 +42,15 @@ fn write_answers(answers: &[Made<&Rationed>], text: &mut String) -> fmt::Result 
     Ok(())
 }
 
+// The answers as a row's answer.
+fn as_text(alloc: Global, answers: &[Made<&Rationed>]) -> Answer {
+    let mut text = String::new(alloc);
+    match write_answers(answers, &mut text) {
+        Ok(()) => Answer::Text(text),
+        Err(_) => Answer::Refused("memory"),
+    }
+}
+
 impl<'r> Listed<'r> {
     pub(crate) fn new(alloc: Global, rationed: &'r Rationed) -> Listed<'r> {
         Listed {
@@ -71,13 +80,17 @@ impl<'r> Listed<'r> {
         self.rationed.refuse(refused);
         let ran = self.world.run(self.list.as_slice(), &mut self.answers);
         self.rationed.refuse(NONE);
-        if ran.is_err() {
-            return Answer::Refused("no memory");
+        match ran {
+            Ok(()) => self.answered_from(before),
+            Err(_) => Answer::Refused("no memory"),
         }
-        let mut text = String::new(self.alloc);
-        match self.answers.get(before..) {
-            Some(answers) if write_answers(answers, &mut text).is_ok() => Answer::Text(text),
-            _ => Answer::Refused("memory"),
+    }
+
+    // The answers from that number on.
+    fn answered_from(&self, number: usize) -> Answer {
+        match self.answers.get(number..) {
+            Some(answers) => as_text(self.alloc, answers),
+            None => Answer::Refused("memory"),
         }
     }
 
@@ -104,10 +117,17 @@ impl<'r> Listed<'r> {
     }
 
     // Writes the number of answers, and all collections.
-    fn write_all(&mut self, shown: &mut String) -> fmt::Result {
-        write!(shown, "{} answers", self.answers.len())?;
-        write_collections(&mut self.world, shown)
+    fn write_all(&mut self) -> fmt::Result {
+        self.shown.clear();
+        write!(self.shown, "{} answers", self.answers.len())?;
+        write_collections(&mut self.world, &mut self.shown)
     }
+}
+
+/// Plays a run on a new world, which is dropped at this one end alone.
+pub(crate) fn play_listed(alloc: Global, rationed: &Rationed, run: &Run) -> Result<(), Wrong> {
+    let mut world = Listed::new(alloc, rationed);
+    play(alloc, &mut world, run)
 }
 
 impl Played for Listed<'_> {
@@ -115,12 +135,10 @@ impl Played for Listed<'_> {
 
     fn call(&mut self, words: &[&str]) -> Answer {
         let answer = self.answer(words);
-        let mut shown = String::new(self.alloc);
-        if self.write_all(&mut shown).is_err() {
-            return Answer::Refused("memory");
+        match self.write_all() {
+            Ok(()) => answer,
+            Err(_) => Answer::Refused("memory"),
         }
-        self.shown = shown;
-        answer
     }
 
     fn show(&self, shown: &mut String) -> fmt::Result {

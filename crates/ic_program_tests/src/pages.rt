@@ -1,9 +1,9 @@
 //! The examples of docs/COMMANDS.md, once more as rows. `page-examples` at the top compares the two.
 
-use crate::session::Session;
+use crate::session::play_session;
 use std::test::Fail;
 use test_support::rationed::Rationed;
-use test_support::rows::{Run, play};
+use test_support::rows::Run;
 
 /// The examples, each under the heading that it stands under on the page.
 pub(crate) const PAGES: [Run; 5] = [
@@ -122,8 +122,7 @@ pub(crate) const PAGES: [Run; 5] = [
 fn pages(rt: HostRuntime) -> Result<(), Fail> {
     let rationed = Rationed::new(rt.alloc(), u64::MAX);
     for page in PAGES {
-        let mut world = Session::new(rt.alloc(), &rationed);
-        play(rt.alloc(), &mut world, &page)?;
+        play_session(rt.alloc(), &rationed, &page)?;
     }
     Ok(())
 }

@@ -4,16 +4,22 @@ use crate::worlds::Worlds;
 use std::alloc::Global;
 use std::fmt;
 use test_support::rationed::Rationed;
-use test_support::rows::{Answer, Played};
+use test_support::rows::{Answer, Played, Run, Wrong, play};
 
 /// A world of which nothing is shown, so that a row tells the answer alone.
 #[derive(Drop)]
-pub(crate) struct Session<'r>(Worlds<'r>);
+struct Session<'r>(Worlds<'r>);
 
 impl<'r> Session<'r> {
-    pub(crate) fn new(alloc: Global, rationed: &'r Rationed) -> Session<'r> {
+    fn new(alloc: Global, rationed: &'r Rationed) -> Session<'r> {
         Session(Worlds::new(alloc, rationed))
     }
+}
+
+/// Plays a run on a new world, which is dropped at this one end alone.
+pub(crate) fn play_session(alloc: Global, rationed: &Rationed, run: &Run) -> Result<(), Wrong> {
+    let mut world = Session::new(alloc, rationed);
+    play(alloc, &mut world, run)
 }
 
 impl Played for Session<'_> {

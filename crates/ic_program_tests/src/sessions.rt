@@ -1,9 +1,9 @@
 //! Whole sessions over all kinds, in the text of the program's commands.
 
-use crate::session::Session;
+use crate::session::play_session;
 use std::test::Fail;
 use test_support::rationed::Rationed;
-use test_support::rows::{Run, play};
+use test_support::rows::Run;
 
 /// The sessions, of which only the last line may be no command.
 pub(crate) const SESSIONS: [Run; 5] = [
@@ -147,8 +147,7 @@ pub(crate) const SESSIONS: [Run; 5] = [
 fn sessions(rt: HostRuntime) -> Result<(), Fail> {
     let rationed = Rationed::new(rt.alloc(), u64::MAX);
     for session in SESSIONS {
-        let mut world = Session::new(rt.alloc(), &rationed);
-        play(rt.alloc(), &mut world, &session)?;
+        play_session(rt.alloc(), &rationed, &session)?;
     }
     Ok(())
 }

@@ -1,14 +1,14 @@
 //! Whole sessions at once: as the input of the program, and as one list of commands of a world.
 
-use crate::commands::command_of;
+use crate::commands::command_in;
 use crate::pages::PAGES;
 use crate::program_runs::{run, same};
 use crate::sessions::SESSIONS;
 use crate::world_runs::WORKED;
 use ic_program::OwnKey;
 use ic_world::{Answer, Command, World};
-use std::alloc::Global;
-use std::fmt::Write;
+use std::alloc::{AllocError, Global};
+use std::fmt::{self, Write};
 use std::process::Abort;
 use std::test::Fail;
 use test_support::rows::Run;
@@ -56,25 +56,44 @@ fn to_be_printed(alloc: Global, session: &Run) -> Result<String, Fail> {
     Ok(wanted)
 }
 
-// The answers of a new world to the commands of a session, run as one list.
-fn answered(alloc: Global, session: &Run) -> Result<String, Fail> {
-    let mut commands: Vec<Command<u64, u64>> = Vec::new(alloc);
+// Puts the commands of a session into the list.
+fn list_commands(session: &Run, commands: &mut Vec<Command<u64, u64>>) -> Result<(), AllocError> {
     for row in session.rows.lines() {
         if let Some((call, _)) = call_and_answer(row) {
-            let words: Vec<&str> = call.split_whitespace().collect(alloc)?;
-            if let Some(command) = command_of(alloc, words.as_slice()) {
+            if let Some(command) = command_in(call) {
                 commands.push(command)?;
             }
         }
     }
-    let mut world = World::new(alloc, OwnKey);
-    let mut answers: Vec<Answer> = Vec::new(alloc);
-    world.run(commands.as_slice(), &mut answers)?;
+    Ok(())
+}
+
+// Runs the commands as one list on a new world.
+fn run_listed(
+    alloc: Global,
+    commands: &[Command<u64, u64>],
+    answers: &mut Vec<Answer>,
+) -> Result<(), AllocError> {
+    World::new(alloc, OwnKey).run(commands, answers)
+}
+
+// The answers of a new world to the commands of a session, run as one list.
+fn answered(alloc: Global, session: &Run) -> Result<String, Fail> {
+    let mut commands = Vec::new(alloc);
+    list_commands(session, &mut commands)?;
+    let mut answers = Vec::new(alloc);
+    run_listed(alloc, &commands, &mut answers)?;
     let mut text = String::new(alloc);
-    for answer in answers.iter() {
+    write_lines(&answers, &mut text)?;
+    Ok(text)
+}
+
+// Writes the answers, each on a line of its own.
+fn write_lines(answers: &[Answer], text: &mut String) -> fmt::Result {
+    for answer in answers {
         writeln!(text, "{answer}")?;
     }
-    Ok(text)
+    Ok(())
 }
 
 // What they are to be by the rows.

@@ -1,9 +1,9 @@
 //! Whole runs, refusals in order, and each growth refused in turn.
 
-use crate::worlds::Worlds;
+use crate::worlds::play_on_world;
 use std::test::Fail;
 use test_support::rationed::Rationed;
-use test_support::rows::{Run, play};
+use test_support::rows::Run;
 
 /// Runs with no refused request.
 pub(crate) const WORKED: [Run; 3] = [
@@ -219,7 +219,7 @@ const REFUSED: [Run; 3] = [
 fn worked_rows(rt: HostRuntime) -> Result<(), Fail> {
     let rationed = Rationed::new(rt.alloc(), u64::MAX);
     for run in WORKED.iter().chain(&REFUSED) {
-        play(rt.alloc(), &mut Worlds::new(rt.alloc(), &rationed), run)?;
+        play_on_world(rt.alloc(), &rationed, run)?;
     }
     Ok(())
 }

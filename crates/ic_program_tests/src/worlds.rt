@@ -1,13 +1,14 @@
 //! A world whose requests for memory are refused where a row says so.
 
 use crate::commands::command_of;
+use crate::shown::{told, write_places};
 use ic_program::OwnKey;
 use ic_unsafe_ref::Place;
-use ic_world::{Answer as Made, Command, World};
+use ic_world::{Answer as Made, Command, Refusal, World};
 use std::alloc::{AllocError, Global};
 use std::fmt::{self, Write};
 use test_support::rationed::Rationed;
-use test_support::rows::{Answer, Played};
+use test_support::rows::{Answer, Played, Run, Wrong, play};
 
 // How many numbers of objects and of collections are asked for. No run makes as many.
 const ASKED: usize = 8;
@@ -37,15 +38,25 @@ fn make<'r>(
     command: Command<u64, u64>,
 ) -> (Made<&'r Rationed>, Option<u64>) {
     match command {
-        Command::Place(value) => match world.place(value) {
-            Ok(object) => (Made::Object(object), None),
-            Err((refusal, back)) => (Made::Refused(refusal), Some(back)),
-        },
-        Command::SetValue(object, value) => match world.set_value(object, value) {
-            Ok(_) => (Made::Done, None),
-            Err((refusal, back)) => (Made::Refused(refusal), Some(back)),
-        },
+        Command::Place(value) => placed(world.place(value)),
+        Command::SetValue(object, value) => set(world.set_value(object, value)),
         _ => (world.answer(command), None),
+    }
+}
+
+// What a placed value came to.
+fn placed<'r>(placed: Result<Place, (Refusal, u64)>) -> (Made<&'r Rationed>, Option<u64>) {
+    match placed {
+        Ok(object) => (Made::Object(object), None),
+        Err((refusal, back)) => (Made::Refused(refusal), Some(back)),
+    }
+}
+
+// What another value of an object came to.
+fn set<'r>(set: Result<u64, (Refusal, u64)>) -> (Made<&'r Rationed>, Option<u64>) {
+    match set {
+        Ok(_) => (Made::Done, None),
+        Err((refusal, back)) => (Made::Refused(refusal), Some(back)),
     }
 }
 
@@ -109,14 +120,6 @@ impl<'r> Worlds<'r> {
     }
 }
 
-// The line as a row's answer.
-fn told(line: Result<String, AllocError>) -> Answer {
-    match line {
-        Ok(text) => Answer::Text(text),
-        Err(_) => Answer::Refused("memory"),
-    }
-}
-
 // Writes the object with that number and its value, where there is one.
 fn show_object(world: &World<OwnKey, &Rationed>, index: usize, shown: &mut String) -> fmt::Result {
     let Some(place) = Place::new(index) else {
@@ -134,14 +137,16 @@ fn show_members(
     collection: usize,
     shown: &mut String,
 ) -> fmt::Result {
-    let Ok(places) = world.show(collection) else {
-        return Ok(());
-    };
-    write!(shown, " {collection}:")?;
-    for place in &places {
-        write!(shown, " {}", place.index())?;
+    match world.show(collection) {
+        Ok(places) => write_places(collection, &places, None, shown),
+        Err(_) => Ok(()),
     }
-    Ok(())
+}
+
+/// Plays a run on a new world, which is dropped at this one end alone.
+pub(crate) fn play_on_world(alloc: Global, rationed: &Rationed, run: &Run) -> Result<(), Wrong> {
+    let mut world = Worlds::new(alloc, rationed);
+    play(alloc, &mut world, run)
 }
 
 impl Played for Worlds<'_> {
