@@ -66,7 +66,7 @@ impl<M: Allocator + Copy> Session<M> {
     }
 
     // Makes the call, and puts its answer behind the others.
-    #[inline]
+    #[inline(always)]
     fn call(&mut self, command: Command<u64, u64>) -> Result<(), Stop> {
         push(&mut self.answers, &self.world.answer(command))
     }
