@@ -22,4 +22,4 @@ pub mod Picked
 pub mod Neighbors
 pub mod Seeking
 pub mod Inserted
-pub mod StepLaws
+pub mod Apart

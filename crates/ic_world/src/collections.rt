@@ -94,6 +94,7 @@ impl<A: KeyAdapter, M: Allocator + Copy> World<A, M> {
     ghost use Rattle.ic_world.specs.Step.{Step, StepSplice, collection as collection_of, field_and_kind, refusal_of_open, refusal_of_splice};
     ghost use Rattle.ic_world.specs.State.{reply_of, done, opened, items};
     ghost use Rattle.ic_world.specs.Splices.{IsBesideOf};
+    ghost use Rattle.ic_world.specs.Apart.{AreApart};
 
     /// Makes an empty collection in a field, with its cursor at null, and answers its number.
     ///
@@ -281,5 +282,13 @@ impl<A: KeyAdapter, M: Allocator + Copy> World<A, M> {
         ensures { Step A.Key.cmp A.key_of self.old (Command.SpliceBefore collection given) (reply_of (λ _. done) result) self.new }
     {
         self.splice(collection, given, true)
+    }
+
+    /// Says that no place stands twice in a collection, nor in two collections of one field. It does nothing.
+    pub fn no_member_is_shared(&self)
+        ensures { AreApart self.now }
+    {
+        // What is read is kept by a world, of which this is the law.
+        let _ = self.collections.len();
     }
 }

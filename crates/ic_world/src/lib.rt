@@ -18,7 +18,6 @@ mod fields;
 mod insertion;
 mod keyed_calls;
 mod kinds;
-pub mod laws;
 mod list_calls;
 mod objects;
 mod one_call;

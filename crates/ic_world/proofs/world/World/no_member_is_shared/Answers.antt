@@ -1,6 +1,6 @@
 use Rattle.std.proofs.Common.{subst}
-use Rattle.ic_world.specs.Laws.{AreApart}
-use Rattle.ic_world.proofs.StepLaws.{are_apart}
+use Rattle.ic_world.specs.Apart.{AreApart}
+use Rattle.ic_world.proofs.Apart.{are_apart}
 use Rattle.ic_world.proofs.world.World.no_member_is_shared.Goals as goal
 
 pub returns : goal.returns

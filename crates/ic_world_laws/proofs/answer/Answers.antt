@@ -1,5 +1,5 @@
-use Rattle.ic_world.proofs.StepLaws.{refused_stays, insert_refused, looks_few}
-use Rattle.ic_world.proofs.laws.answer.Goals as goal
+use Rattle.ic_world_laws.proofs.StepLaws.{refused_stays, insert_refused, looks_few}
+use Rattle.ic_world_laws.proofs.answer.Goals as goal
 
 pub returns-clause-refused_changes_nothing : goal.returns-clause-refused_changes_nothing
 returns-clause-refused_changes_nothing g c = λ r is. refused_stays g.A.Key.Ord.cmp g.A.KeyAdapter.key_of c.args.command _ _ _ r c.answer.ensures is

@@ -1,9 +1,8 @@
 -- What users rely on, whatever the calls were.
-use Rattle.std.specs.Prelude.{◌≡◌, ◌≢◌, ◌↔◌, ℕ, true, List, Option, Some, None}
+use Rattle.std.specs.Prelude.{◌≡◌, ◌↔◌, ℕ, true, List, Option, Some, None}
 use Rattle.std.specs.FinSet as set
 use Rattle.ic_unsafe_ref.specs.declared.place.Place.{Place}
 use Rattle.ic_unsafe_ref.specs.Places.{index_of}
-use Rattle.ic_link_ops.specs.Sequences.{IsDistinct, IsDisjoint}
 use Rattle.ic_members.specs.Keyed.{FewLooks}
 use Rattle.ic_world.specs.declared.call.Refusal.TheVariants.{AlreadyLinked}
 use Rattle.ic_world.specs.declared.call.Command.{Command}
@@ -63,8 +62,3 @@ module _ {A V : Type 0} where
   abbrev pub HasFewLooks : Family A V → Option ℕ → Reply → Type 0
   HasFewLooks w None reply = Unit
   HasFewLooks w (Some c) reply = (s : Sequence) → collection w c ≡ Some s → AreFew s.members reply
-
-  -- NO MEMBER IS SHARED: no place stands twice in a collection, nor in two of one field
-  abbrev pub AreApart : Family A V → Type 0
-  AreApart w = ((c : ℕ) (s : Sequence) → collection w c ≡ Some s → IsDistinct s.members)
-      × ((c d : ℕ) (s t : Sequence) → c ≢ d → collection w c ≡ Some s → collection w d ≡ Some t → s.field ≡ t.field → IsDisjoint s.members t.members)

@@ -1,4 +1,4 @@
--- What users rely on, from the steps of the calls and from what a world keeps.
+-- What users rely on, from the steps of the calls.
 use Rattle.std.proofs.Common.{◌≡◌, ◌↔◌, ℕ, Bool, true, false, not, List, [], ◌∷◌, set, Option, Some, None, is_some, refl, sym, ap, ◌∙◌, subst}
 use Rattle.std.proofs.lemmas.List.{set-get_or}
 use Rattle.std.specs.List.{list_all}
@@ -19,21 +19,14 @@ use Rattle.ic_world.specs.declared.insertion.Insertion.TheVariants as insertions
 use Rattle.ic_world.specs.declared.part.Part.{Part}
 use Rattle.ic_world.specs.declared.part.Part.TheVariants.{All, After, Before}
 use Rattle.ic_rbtree.specs.declared.key_adapter.Bound.{Bound}
-use Rattle.ic_link_ops.specs.Sequences.{IsDistinct, IsDisjoint}
-use Rattle.ic_link_ops.specs.Tables.{Table}
-use Rattle.ic_fields.specs.declared.entry.Entry.{Entry}
-use Rattle.ic_members.proofs.AllKinds.{distinct}
-use Rattle.ic_world.specs.declared.collection.Collection.{Collection}
-use Rattle.ic_world.specs.Tables.{table, sequence, seen_as, shown_as, at, family_of, IsWhole}
 use Rattle.ic_world.specs.KeyedCalls.{RangeReplies}
 use Rattle.ic_world.proofs.Steps.{some_same}
-use Rattle.ic_world.proofs.Readings.{collection_at}
 use Rattle.ic_world.specs.Among.{next_of}
 use Rattle.ic_world.specs.Family.{Family, Sequence}
 use Rattle.ic_world.specs.State.{Reply, object, nothing, found, looked, range, entry, refused, done, asks, asks_unlinked, State}
 use Rattle.ic_world.specs.Calls.{Call, edit, seek, pick, swap, search, insertion, enter, names, refusal_of, Replies}
 use Rattle.ic_world.specs.Step.{Step, StepOn, StepBy, Accepts, AcceptsOn, HandsOut, asks_collection, collection, linked_of, is_placed, objects_of, state_in, with_state}
-use Rattle.ic_world.specs.Laws.{inserts, descends, IsWellNamed, AreFew, RefusedIfLinked, HasFewLooks, AreApart}
+use Rattle.ic_world_laws.specs.Laws.{inserts, descends, IsWellNamed, AreFew, RefusedIfLinked, HasFewLooks}
 
 -- a state that a collection has already, taken over, changes nothing
 state_back : {A V : Type 0} (w : Family A V) (c : ℕ) (s : Sequence) → collection w c ≡ Some s → with_state w c s.field (state_in w s) ≡ w
@@ -183,23 +176,3 @@ module _ {A V K : Type 0} (cmp : K → K → Ordering) (key_of : A → V → K) 
   looks_few (call.Range c min max) = λ old new reply step s is. few_by _ (Accepts cmp key_of old (call.Range c min max)) s.members old new reply step
       (λ h. subst (λ x. AreFew x.members reply) (some_same (sym h.1 ∙ is)) (range_few old min max (state_in old h.0) reply h.2))
   looks_few _ = λ old new reply step. tt
-
--- NO MEMBER IS SHARED, as a world keeps it
-module _ {A V K : Type 0} {adapter : A} {objects : Objects V} {room : ℕ} {ts : List (Table Entry)} {cs : List (Option (Collection A V K))} (whole : IsWhole adapter objects room ts cs) where
-  -- what a collection of the family is
-  seen : (o : Option (Collection A V K)) (s : Sequence) → shown_as ts o ≡ Some s → (k : Collection A V K) × (o ≡ Some k) × (seen_as k (sequence ts k) ≡ s)
-  seen None s e = absurd cc
-  seen (Some k) s e = (k, refl, some_same e)
-
-  seen_at : (c : ℕ) (s : Sequence) → collection (family_of adapter objects ts cs) c ≡ Some s → (k : Collection A V K) × (at cs c ≡ Some k) × (seen_as k (sequence ts k) ≡ s)
-  seen_at c s e = seen (at cs c) s (sym (collection_at adapter objects ts cs c) ∙ e)
-
-  pub are_apart : AreApart (family_of adapter objects ts cs)
-  are_apart = (
-    (λ c s is. let k = seen_at c s is in subst (λ x. IsDistinct x.members) k.2 (distinct (table ts k.0.field) k.0.members (sequence ts k.0) (whole.held c k.0 k.1).shown)),
-    (λ c d s t differ is_s is_t same.
-        let k = seen_at c s is_s in
-        let l = seen_at d t is_t in
-        subst (λ x. IsDisjoint x.members t.members) k.2 (subst (λ x. IsDisjoint (sequence ts k.0) x.members) l.2
-        (whole.apart c d k.0 l.0 differ k.1 l.1 (ap (λ x. x.field) k.2 ∙ same ∙ sym (ap (λ x. x.field) l.2))))),
-  )

@@ -1,19 +1,19 @@
-//! What holds of a world whatever its calls were: each law is a named clause.
+//! What holds of each call of a world, whatever the call is: each law is a named clause.
 //!
 //! ```text
-//! laws::answer(&mut world, command) // refused, it can be made again in the same world
+//! ic_world_laws::answer(&mut world, command) // refused, it can be made again in the same world
 //! ```
+#![tactic(auto)]
 
 ghost use Rattle.std.specs.Prelude.{◌≡◌};
 ghost use Rattle.ic_world.specs.declared.call.Refusal.{Refusal};
 ghost use Rattle.ic_world.specs.Answers.{reply_in};
 ghost use Rattle.ic_world.specs.State.{refused};
 ghost use Rattle.ic_world.specs.Step.{Step};
-ghost use Rattle.ic_world.specs.Laws.{inserts, descends, RefusedIfLinked, HasFewLooks, AreApart};
+ghost use Rattle.ic_world_laws.specs.Laws.{inserts, descends, RefusedIfLinked, HasFewLooks};
 
-use crate::World;
-use crate::call::{Answer, Command};
 use ic_rbtree::KeyAdapter;
+use ic_world::{Answer, Command, World};
 use std::alloc::Allocator;
 
 /// Makes a call as [`World::answer`], and says what users rely on whatever the call is.
@@ -35,14 +35,4 @@ where
     ensures looks_are_few { HasFewLooks world.old (descends command) (reply_in result) }
 {
     world.answer(command)
-}
-
-impl<A: KeyAdapter, M: Allocator + Copy> World<A, M> {
-    /// Says that no place stands twice in a collection, nor in two collections of one field. It does nothing.
-    pub fn no_member_is_shared(&self)
-        ensures { AreApart self.now }
-    {
-        // What is read is kept by a world, of which this is the law.
-        let _ = self.collections.len();
-    }
 }

@@ -1,0 +1,34 @@
+-- That a world's collections share no member, from what it keeps.
+use Rattle.std.proofs.Common.{◌≡◌, ℕ, List, Option, Some, None, refl, sym, ap, ◌∙◌, subst}
+use Rattle.ic_unsafe_ref.specs.Objects.{Objects}
+use Rattle.ic_link_ops.specs.Sequences.{IsDistinct, IsDisjoint}
+use Rattle.ic_link_ops.specs.Tables.{Table}
+use Rattle.ic_fields.specs.declared.entry.Entry.{Entry}
+use Rattle.ic_members.proofs.AllKinds.{distinct}
+use Rattle.ic_world.specs.declared.collection.Collection.{Collection}
+use Rattle.ic_world.specs.Tables.{table, sequence, seen_as, shown_as, at, family_of, IsWhole}
+use Rattle.ic_world.specs.Family.{Sequence}
+use Rattle.ic_world.specs.Step.{collection}
+use Rattle.ic_world.specs.Apart.{AreApart}
+use Rattle.ic_world.proofs.Steps.{some_same}
+use Rattle.ic_world.proofs.Readings.{collection_at}
+
+-- NO MEMBER IS SHARED, as a world keeps it
+module _ {A V K : Type 0} {adapter : A} {objects : Objects V} {room : ℕ} {ts : List (Table Entry)} {cs : List (Option (Collection A V K))} (whole : IsWhole adapter objects room ts cs) where
+  -- what a collection of the family is
+  seen : (o : Option (Collection A V K)) (s : Sequence) → shown_as ts o ≡ Some s → (k : Collection A V K) × (o ≡ Some k) × (seen_as k (sequence ts k) ≡ s)
+  seen None s e = absurd cc
+  seen (Some k) s e = (k, refl, some_same e)
+
+  seen_at : (c : ℕ) (s : Sequence) → collection (family_of adapter objects ts cs) c ≡ Some s → (k : Collection A V K) × (at cs c ≡ Some k) × (seen_as k (sequence ts k) ≡ s)
+  seen_at c s e = seen (at cs c) s (sym (collection_at adapter objects ts cs c) ∙ e)
+
+  pub are_apart : AreApart (family_of adapter objects ts cs)
+  are_apart = (
+    (λ c s is. let k = seen_at c s is in subst (λ x. IsDistinct x.members) k.2 (distinct (table ts k.0.field) k.0.members (sequence ts k.0) (whole.held c k.0 k.1).shown)),
+    (λ c d s t differ is_s is_t same.
+        let k = seen_at c s is_s in
+        let l = seen_at d t is_t in
+        subst (λ x. IsDisjoint x.members t.members) k.2 (subst (λ x. IsDisjoint (sequence ts k.0) x.members) l.2
+        (whole.apart c d k.0 l.0 differ k.1 l.1 (ap (λ x. x.field) k.2 ∙ same ∙ sym (ap (λ x. x.field) l.2))))),
+  )
