@@ -11,7 +11,7 @@ ghost use Rattle.ic_world.specs.Step.{Step, collection as collection_of, linked_
 use crate::own_key::OwnKey;
 use ic_rbtree::KeyAdapter;
 use ic_unsafe_ref::Place;
-use ic_world::{Answer, Command, Kind, Refusal, World, laws};
+use ic_world::{Answer, Command, Kind, Refusal, World};
 use std::alloc::{Allocator, Global};
 
 /// Makes a call, and where it is refused once more, as if the first had not been made.
@@ -24,8 +24,8 @@ where
     A::Key: Copy,
     ensures { Step A.Key.cmp A.key_of world.old command (reply_in result) world.new }
 {
-    match laws::answer(world, command) {
-        Answer::Refused(_) => laws::answer(world, command),
+    match ic_world_laws::answer(world, command) {
+        Answer::Refused(_) => ic_world_laws::answer(world, command),
         answer => answer,
     }
 }
@@ -43,7 +43,7 @@ where
         → set.contains (linked_of world.old s.field) (index_of object) ≡ true }
     ensures unchanged { IsTrue result → world.new ≡ world.old }
 {
-    match laws::answer(world, Command::PushBack(collection, object)) {
+    match ic_world_laws::answer(world, Command::PushBack(collection, object)) {
         Answer::Refused(Refusal::AlreadyLinked) => true,
         _ => false,
     }
@@ -60,7 +60,7 @@ where
     A::Key: Copy,
     ensures { (s : Sequence) → collection_of world.old collection ≡ Some s → length s.members ≤ 3 → IfSome result (λ looks. looks ≤ 4) }
 {
-    match laws::answer(world, Command::Find(collection, key)) {
+    match ic_world_laws::answer(world, Command::Find(collection, key)) {
         Answer::Found(_, looks) => Some(looks),
         _ => None,
     }

@@ -12,6 +12,7 @@
 //! | `key_adapter` | where the key of an object stands, and bounds of keys |
 //! | `rbtree_keys` | searches in a tree, which count their looks |
 //! | `world` | objects, fields and collections whose calls test every condition themselves |
+//! | `world_laws` | what holds of each call of a world |
 #![tactic(auto)]
 
 pub mod linked_list;
@@ -33,4 +34,5 @@ pub use ic_singly_linked_list::SinglyLinkedList;
 pub use ic_unsafe_ref as unsafe_ref;
 pub use ic_unsafe_ref::UnsafeRef;
 pub use ic_world as world;
+pub use ic_world_laws as world_laws;
 pub use ic_xor_linked_list::XorLinkedList;
