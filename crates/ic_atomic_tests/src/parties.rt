@@ -1,111 +1,42 @@
-//! Four parties in threads of their own, each with links of another kind over the same claims.
+//! Parties in threads of their own, each with links of another kind over the same claims.
 
-ghost use Rattle.std.specs.Prelude.{◌≡◌, [], IfSome};
-ghost use Rattle.ic_atomic.specs.AtomicLinks.{links_of};
-ghost use Rattle.ic_rbtree.specs.PlainTrees.{PlainShowsSome};
-ghost use Rattle.ic_rbtree.specs.Tree.{root_of};
-ghost use Rattle.ic_atomic.specs.Holders.{record_of, IsOf};
+ghost use Rattle.ic_atomic.specs.Holders.{IsOf};
 
-use crate::kinds::{ByValue, put_doubly, put_singly, put_tree, put_xor, take_tree};
-use crate::links::next_holder;
+use crate::kinds::{Doubly, Party, Singly, Tree, Xor};
+use crate::links::{next_holder, next_links};
 use crate::runs::same;
-use ic_atomic::{Claims, Holder, linked_list, rbtree, singly_linked_list, xor_linked_list};
-use ic_link_ops::{CoverError, PlainTable, Words};
-use ic_linked_list::LinkedList;
-use ic_rbtree::RBTree;
-use ic_singly_linked_list::SinglyLinkedList;
-use ic_unsafe_ref::{Place, UnsafeRef};
-use ic_xor_linked_list::XorLinkedList;
+use ic_atomic::{Claims, Holder};
+use ic_unsafe_ref::Place;
 use std::alloc::Global;
+use std::process::Abort;
 use std::test::Fail;
 use std::thread;
 
 const ROUNDS: usize = 100;
 
-// Tries to put each object in a list of its own, takes one off and clears the list, so many times; answers how many it had.
-fn by_singly(mut links: singly_linked_list::AtomicLinkOps<'_>, places: &[Place]) -> usize {
-    let mut list = SinglyLinkedList::new();
+// The party tries to put each object in, takes one off and clears the rest, so many times; answers how many it had.
+fn rounds<P: Party + Drop>(mut party: P, places: &[Place]) -> usize {
     let mut had: usize = 0;
     for _round in 0..ROUNDS {
         for place in places {
-            if place.index() < links.covers()
-                && put_singly(&mut list, &mut links, UnsafeRef::new(*place))
-            {
+            if party.put(*place) {
                 had = had.saturating_add(1);
             }
         }
-        let _ = list.pop_front(&mut links);
-        list.clear(&mut links);
+        party.take();
+        party.clear();
     }
     had
 }
 
-// The same by a doubly linked list.
-fn by_doubly(mut links: linked_list::AtomicLinkOps<'_>, places: &[Place]) -> usize {
-    let mut list = LinkedList::new();
-    let mut had: usize = 0;
-    for _round in 0..ROUNDS {
-        for place in places {
-            if place.index() < links.covers()
-                && put_doubly(&mut list, &mut links, UnsafeRef::new(*place))
-            {
-                had = had.saturating_add(1);
-            }
-        }
-        let _ = list.pop_front(&mut links);
-        list.clear(&mut links);
+// So many of the first places.
+fn first_places(rt: &impl Abort, alloc: Global, count: usize) -> Vec<Place> {
+    let mut places = Vec::new(alloc);
+    for index in 0..count {
+        let place = Place::new(index).expect(rt, "the index of a place");
+        places.push(place).expect(rt, "room for a place");
     }
-    had
-}
-
-// The same by an XOR list.
-fn by_xor(mut links: xor_linked_list::AtomicLinkOps<'_>, places: &[Place]) -> usize {
-    let mut list = XorLinkedList::new();
-    let mut had: usize = 0;
-    for _round in 0..ROUNDS {
-        for place in places {
-            if place.index() < links.covers()
-                && put_xor(&mut list, &mut links, UnsafeRef::new(*place))
-            {
-                had = had.saturating_add(1);
-            }
-        }
-        let _ = list.pop_front(&mut links);
-        list.clear(&mut links);
-    }
-    had
-}
-
-// The same by a tree.
-fn by_tree(mut links: rbtree::AtomicLinkOps<'_>, places: &[Place]) -> usize {
-    let mut tree = RBTree::new(ByValue);
-    let mut had: usize = 0;
-    for _round in 0..ROUNDS {
-        for place in places {
-            if place.index() < links.covers()
-                && put_tree(&mut tree, &mut links, UnsafeRef::new(*place))
-            {
-                had = had.saturating_add(1);
-            }
-        }
-        take_tree(&mut tree, &mut links);
-        tree.clear(&mut links);
-    }
-    had
-}
-
-// Links over all places of the claims, of which the holder has none.
-fn links_of_kind<'c, W: Words>(
-    alloc: Global,
-    claims: &'c Claims,
-    holder: Option<Holder>,
-) -> Result<ic_atomic::AtomicLinkOps<'c, PlainTable<W, Global>, Global>, Fail>
-    requires holder { IfSome holder (λ h. IsOf claims.now h × (record_of h ≡ [])) }
-{
-    let holder = holder.ok_or("a holder")?;
-    let mut table = PlainTable::new(alloc);
-    table.cover(claims.places())?;
-    Ok(ic_atomic::AtomicLinkOps::new(claims, holder, table))
+    places
 }
 
 // How many of the places somebody holds.
@@ -127,43 +58,37 @@ fn held(claims: &Claims, holder: &mut Holder) -> usize
 #[test]
 fn four_kinds_of_links_share_places(rt: HostRuntime) -> Result<(), Fail> {
     let (claims, mut holders) = Claims::new(rt.alloc(), 100, 5)?;
-    let singly = links_of_kind(rt.alloc(), &claims, next_holder(&claims, &mut holders))?;
-    let doubly = links_of_kind(rt.alloc(), &claims, next_holder(&claims, &mut holders))?;
-    let xor = links_of_kind(rt.alloc(), &claims, next_holder(&claims, &mut holders))?;
-    let tree = links_of_kind(rt.alloc(), &claims, next_holder(&claims, &mut holders))?;
-    let mut last = next_holder(&claims, &mut holders).ok_or("the last holder")?;
-    let mut places = Vec::new(rt.alloc());
-    for index in 0..100 {
-        places.push(Place::new(index).ok_or("a place")?)?;
-    }
+    let singly = next_links(&rt, rt.alloc(), &claims, &mut holders);
+    let doubly = next_links(&rt, rt.alloc(), &claims, &mut holders);
+    let xor = next_links(&rt, rt.alloc(), &claims, &mut holders);
+    let tree = next_links(&rt, rt.alloc(), &claims, &mut holders);
+    let mut last = next_holder(&claims, &mut holders).expect(&rt, "the last holder");
+    let places = first_places(&rt, rt.alloc(), 100);
     let places = places.as_slice();
     let (first, second) = thread::join(
         &rt,
         || thread::join(
             &rt,
-            || by_singly(singly, places),
-            || by_doubly(doubly, places),
+            || rounds(Singly::new(singly), places),
+            || rounds(Doubly::new(doubly), places),
         ),
-        || thread::join(&rt, || by_xor(xor, places), || by_tree(tree, places)),
+        || thread::join(
+            &rt,
+            || rounds(Xor::new(xor), places),
+            || rounds(Tree::new(tree), places),
+        ),
     );
     let some_had = first.0 > 0 || first.1 > 0 || second.0 > 0 || second.1 > 0;
     same(&rt, (some_had, held(&claims, &mut last)), (true, 0));
     Ok(())
 }
 
-// Puts the first places into a tree.
-fn put_each(
-    tree: &mut RBTree<ByValue>,
-    links: &mut rbtree::AtomicLinkOps<'_>,
-    count: usize,
-) -> usize
-    requires shown { PlainShowsSome (links_of links.old) (root_of tree.old) }
-    ensures shown { PlainShowsSome (links_of links.new) (root_of tree.new) }
-{
+// How many of the first places the party could put in.
+fn put_each<P: Party>(party: &mut P, count: usize) -> usize {
     let mut had: usize = 0;
     for index in 0..count {
         if let Some(place) = Place::new(index) {
-            if index < links.covers() && put_tree(tree, links, UnsafeRef::new(place)) {
+            if party.put(place) {
                 had = had.saturating_add(1);
             }
         }
@@ -174,21 +99,16 @@ fn put_each(
 #[test]
 fn another_party_looks_at_the_places_of_a_tree(rt: HostRuntime) -> Result<(), Fail> {
     let (claims, mut holders) = Claims::new(rt.alloc(), 8, 2)?;
-    let mut links: rbtree::AtomicLinkOps<'_> = links_of_kind(
-        rt.alloc(),
-        &claims,
-        next_holder(&claims, &mut holders),
-    )?;
-    let mut other = next_holder(&claims, &mut holders).ok_or("another holder")?;
-    let mut tree = RBTree::new(ByValue);
-    let had = put_each(&mut tree, &mut links, 7);
-    let seventh = Place::new(7).ok_or("place 7")?;
+    let mut tree = Tree::new(next_links(&rt, rt.alloc(), &claims, &mut holders));
+    let mut other = next_holder(&claims, &mut holders).expect(&rt, "another holder");
+    let had = put_each(&mut tree, 7);
+    let seventh = Place::new(7).expect(&rt, "place 7");
     let seen = (
         had,
         held(&claims, &mut other),
         claims.look(&mut other, seventh),
     );
-    tree.clear(&mut links);
+    tree.clear();
     same(&rt, (seen, held(&claims, &mut other)), ((7, 7, false), 0));
     Ok(())
 }

@@ -1,9 +1,0 @@
-use Rattle.ic_atomic.specs.AtomicLinks.{links_of}
-use Rattle.ic_link_ops.specs.DoublyEntries.{PlainShowsSome}
-use Rattle.ic_atomic_tests.proofs.parties.by_doubly.Given as goal
-
-abbrev pub invariant-loop-round : goal.invariant-loop-round
-invariant-loop-round l = record { shown : PlainShowsSome (links_of l.links) l.list }
-
-abbrev pub invariant-loop-place : goal.invariant-loop-place
-invariant-loop-place l = record { shown : PlainShowsSome (links_of l.links) l.list }
