@@ -3,12 +3,14 @@
 ghost use Rattle.ic_link_ops.specs.XorLinkedList.{Shows};
 ghost use Rattle.ic_xor_linked_list.specs.Cursor as reads;
 
-use crate::answers::{inserted, object, replaced, standing, value};
+use crate::answers::{object, standing, value};
+use crate::edits::{self, Edit, is_covered};
 use crate::lent;
 use crate::lists::{By, Lists};
+use crate::moves::{self, Move};
 use crate::spots::{Spot, reading, spot_of};
 use ic_link_ops::NextWord;
-use ic_unsafe_ref::{Objects, Place, UnsafeRef};
+use ic_unsafe_ref::{Objects, Place};
 use ic_xor_linked_list::{Cursor, XorLinkedListOps, laws};
 use test_support::rows::Answer;
 
@@ -46,105 +48,31 @@ impl<W: NextWord> Lists<W> {
         Answer::Done
     }
 
-    /// Moves the cursor to the first member.
-    pub(crate) fn front(&mut self) -> Answer {
-        lent::front(self.by, &mut self.first, &mut self.links);
+    /// Moves the cursor there.
+    pub(crate) fn go(&mut self, step: Move) -> Answer {
+        moves::go(self.by, &mut self.first, &mut self.links, step);
         Answer::Done
     }
 
-    /// Moves the cursor to the last member.
-    pub(crate) fn back(&mut self) -> Answer {
-        lent::back(self.by, &mut self.first, &mut self.links);
-        Answer::Done
-    }
-
-    /// Moves the cursor on.
-    pub(crate) fn move_on(&mut self) -> Answer {
-        lent::move_on(self.by, &mut self.first, &mut self.links);
-        Answer::Done
-    }
-
-    /// Moves the cursor back.
-    pub(crate) fn move_back(&mut self) -> Answer {
-        lent::move_back(self.by, &mut self.first, &mut self.links);
-        Answer::Done
-    }
-
-    /// Puts the place behind the cursor.
-    pub(crate) fn insert_after(&mut self, place: Place) -> Answer {
-        if place.index() >= self.links.covers() {
+    /// Makes the edit at the cursor.
+    pub(crate) fn edit(&mut self, edit: Edit) -> Answer {
+        if !is_covered(&self.links, edit) {
             return Answer::Refused("beyond");
         }
-        inserted(lent::insert_after(
+        edits::edit_by(
             self.by,
             &mut self.first,
+            &mut self.other,
             &mut self.links,
-            UnsafeRef::new(place),
-        ))
-    }
-
-    /// Puts the place in front of the cursor.
-    pub(crate) fn insert_before(&mut self, place: Place) -> Answer {
-        if place.index() >= self.links.covers() {
-            return Answer::Refused("beyond");
-        }
-        inserted(lent::insert_before(
-            self.by,
-            &mut self.first,
-            &mut self.links,
-            UnsafeRef::new(place),
-        ))
-    }
-
-    /// Takes off the member that the cursor is on.
-    pub(crate) fn remove(&mut self) -> Answer {
-        object(lent::remove(self.by, &mut self.first, &mut self.links))
-    }
-
-    /// Puts the place where the member is that the cursor is on.
-    pub(crate) fn replace_with(&mut self, place: Place) -> Answer {
-        if place.index() >= self.links.covers() {
-            return Answer::Refused("beyond");
-        }
-        replaced(lent::replace_with(
-            self.by,
-            &mut self.first,
-            &mut self.links,
-            UnsafeRef::new(place),
-        ))
-    }
-
-    /// All of the other list goes in behind the cursor.
-    pub(crate) fn splice_after(&mut self) -> Answer {
-        let given = self.other.take();
-        lent::splice_after(self.by, &mut self.first, &mut self.links, given);
-        Answer::Done
-    }
-
-    /// All of the other list goes in in front of the cursor.
-    pub(crate) fn splice_before(&mut self) -> Answer {
-        let given = self.other.take();
-        lent::splice_before(self.by, &mut self.first, &mut self.links, given);
-        Answer::Done
-    }
-
-    /// The members behind the cursor are the other list then.
-    pub(crate) fn split_after(&mut self) -> Answer {
-        self.other = lent::split_after(self.by, &mut self.first, &mut self.links);
-        Answer::Done
-    }
-
-    /// The members in front of the cursor are the other list then.
-    pub(crate) fn split_before(&mut self) -> Answer {
-        self.other = lent::split_before(self.by, &mut self.first, &mut self.links);
-        Answer::Done
+            edit,
+        )
     }
 
     /// Moves the cursor to that member.
     pub(crate) fn on(&mut self, place: Place) -> Answer {
         let _ = self.null();
         for _ in 0..self.links.covers() {
-            let _ = self.move_on();
+            let _ = self.go(Move::Next);
             if self.first.get_ptr() == Some(place) {
                 return Answer::Done;
             }

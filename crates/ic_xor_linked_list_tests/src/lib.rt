@@ -7,11 +7,15 @@ mod answers;
 #[cfg(test)]
 mod cursors;
 #[cfg(test)]
+mod edits;
+#[cfg(test)]
 mod fields;
 #[cfg(test)]
 mod lent;
 #[cfg(test)]
 mod lists;
+#[cfg(test)]
+mod moves;
 #[cfg(test)]
 mod runs;
 #[cfg(test)]

@@ -6,6 +6,8 @@ ghost use Rattle.ic_link_ops.specs.Tables.{KeepsBeside};
 ghost use Rattle.ic_link_ops.specs.XorLinkedList.{Shows, ShowsSome};
 
 use crate::answers::{inserted, object};
+use crate::edits::{Edit, Put, Side};
+use crate::moves::Move;
 use crate::spots::take_list;
 use ic_link_ops::{LinkOps, NextWord, PlainTable};
 use ic_unsafe_ref::{Objects, Place, UnsafeRef};
@@ -41,13 +43,14 @@ impl<W: NextWord> Model for Lists<W> {
     ghost use Rattle.ic_link_ops.specs.XorLinkedList.{Shows};
     ghost use Rattle.ic_link_ops.specs.PlainTables.{table, linked_by};
     ghost use Rattle.ic_link_ops.specs.Readings.{XorJoins};
+    ghost use Rattle.ic_xor_linked_list.specs.CursorOwning.{list_of, place_of};
     ghost use Rattle.ic_xor_linked_list_tests.specs.Lists.{AreHeld};
 
     ghost Value = { ℕ };
 
     ghost view = { λ _. 0 };
 
-    ghost invariant = { λ l. AreHeld (Shows (linked_by W.is_linked) (XorJoins W.next_word)) (table W.unlinked) l.links l.first l.other };
+    ghost invariant = { λ l. AreHeld (Shows (linked_by W.is_linked) (XorJoins W.next_word)) (table W.unlinked) l.links (list_of l.first) (place_of l.first) l.other };
 }
 
 // Splits the list behind its first member, and puts it together again.
@@ -260,9 +263,9 @@ impl<W: NextWord> Lists<W> {
     // A call at the cursor that is given a place, or one that reads there.
     fn call_beside_cursor(&mut self, name: &str, place: Place) -> Answer {
         match name {
-            "insert_after" => self.insert_after(place),
-            "insert_before" => self.insert_before(place),
-            "replace_with" => self.replace_with(place),
+            "insert_after" => self.edit(Edit::Put(Put::After, place)),
+            "insert_before" => self.edit(Edit::Put(Put::Before, place)),
+            "replace_with" => self.edit(Edit::Put(Put::Instead, place)),
             "on" => self.on(place),
             _ => self.look_at(name, place),
         }
@@ -315,11 +318,11 @@ impl<W: NextWord> Lists<W> {
     // A call at the cursor that is given nothing and edits.
     fn call_at_cursor(&mut self, name: &str) -> Answer {
         match name {
-            "remove" => self.remove(),
-            "splice_after" => self.splice_after(),
-            "splice_before" => self.splice_before(),
-            "split_after" => self.split_after(),
-            "split_before" => self.split_before(),
+            "remove" => self.edit(Edit::Remove),
+            "splice_after" => self.edit(Edit::Splice(Side::After)),
+            "splice_before" => self.edit(Edit::Splice(Side::Before)),
+            "split_after" => self.edit(Edit::Split(Side::After)),
+            "split_before" => self.edit(Edit::Split(Side::Before)),
             _ => self.call_to_move(name),
         }
     }
@@ -328,10 +331,10 @@ impl<W: NextWord> Lists<W> {
     fn call_to_move(&mut self, name: &str) -> Answer {
         match name {
             "null" => self.null(),
-            "front" => self.front(),
-            "back" => self.back(),
-            "move_next" => self.move_on(),
-            "move_prev" => self.move_back(),
+            "front" => self.go(Move::Front),
+            "back" => self.go(Move::Back),
+            "move_next" => self.go(Move::Next),
+            "move_prev" => self.go(Move::Prev),
             _ => self.call_of_law(name),
         }
     }

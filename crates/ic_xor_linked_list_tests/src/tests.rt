@@ -15,12 +15,17 @@ use test_support::rows::{
     Answer, BOTH_ENDS, EDITS, MOVES, Played, Run, SPLICES_AND_SPLITS, WALKS, WHOLE_LISTS, play,
 };
 
-// Plays each run by each cursor, on empty lists of tables that cover so many places.
+// Plays the run by that cursor, on empty lists of tables that cover so many places.
+fn play_run<W: NextWord>(alloc: Global, by: By, covers: usize, run: &Run) -> Result<(), Fail> {
+    let mut fields: Fields<W> = Fields::new(alloc, by, covers)?;
+    Ok(play(alloc, &mut fields, run)?)
+}
+
+// Plays each run by each cursor.
 fn play_all<W: NextWord>(alloc: Global, covers: usize, runs: &[Run]) -> Result<(), Fail> {
     for run in runs {
         for by in [By::Ref, By::Mut, By::Owning] {
-            let mut fields: Fields<W> = Fields::new(alloc, by, covers)?;
-            play(alloc, &mut fields, run)?;
+            play_run::<W>(alloc, by, covers, run)?;
         }
     }
     Ok(())
@@ -68,12 +73,17 @@ fn worked_rows(rt: HostRuntime) -> Result<(), Fail> {
     play_all::<OneWord<Xor>>(rt.alloc(), 9, OWN)
 }
 
+// Plays the run by that cursor, where the words of links are read too.
+fn play_words(alloc: Global, by: By, run: &Run) -> Result<(), Fail> {
+    let fields = Fields::new(alloc, by, 3)?;
+    Ok(play(alloc, &mut Words { fields }, run)?)
+}
+
 #[test]
 fn words_of_links(rt: HostRuntime) -> Result<(), Fail> {
     for run in WORDS {
         for by in [By::Ref, By::Mut, By::Owning] {
-            let fields = Fields::new(rt.alloc(), by, 3)?;
-            play(rt.alloc(), &mut Words { fields }, run)?;
+            play_words(rt.alloc(), by, run)?;
         }
     }
     Ok(())

@@ -1,9 +1,0 @@
-use Rattle.ic_link_ops.proofs.TwoLists.{split_before}
-use Rattle.ic_xor_linked_list_tests.proofs.Fixture.{plain_kind}
-use Rattle.ic_xor_linked_list_tests.proofs.lists.Lists.split_before.Goals as goal
-
-pub invariant_of-self : goal.invariant_of-self
-invariant_of-self g c =
-    let kind = plain_kind g.W.Words.is_linked g.W.NextWord.next_word in
-    let a = c.self.invariant.apart in
-    let e = c.split_before.ensures in record { knows = e.kept; apart = rw e.edited.position (split_before kind a e.edited.split) }
