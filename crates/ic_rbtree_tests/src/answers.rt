@@ -1,8 +1,7 @@
 //! What calls of a tree are answered as.
 
 use ic_link_ops::{AlreadyLinked, ReplaceError};
-use ic_unsafe_ref::{Place, UnsafeRef};
-use std::fmt;
+use ic_unsafe_ref::{Objects, Place, UnsafeRef};
 use test_support::rows::Answer;
 
 /// What a place is answered as.
@@ -15,6 +14,18 @@ pub(crate) fn object(found: Option<UnsafeRef<u64>>) -> Answer {
     match found {
         Some(object) => number(object.place()),
         None => Answer::Nothing,
+    }
+}
+
+/// Places an object of that value, and answers where it stands.
+pub(crate) fn placed(objects: &mut Objects<u64>, value: u64) -> Answer {
+    let Some(next) = objects.next_place() else {
+        return Answer::Refused("full");
+    };
+    let _small = next.index();
+    match UnsafeRef::from_box(objects, value) {
+        Ok(object) => number(object.place()),
+        Err(_) => Answer::Refused("memory"),
     }
 }
 
@@ -56,13 +67,5 @@ pub(crate) fn value(found: Option<&u64>) -> Answer {
     match found {
         Some(value) => Answer::Number(*value),
         None => Answer::Nothing,
-    }
-}
-
-/// What a text is answered as, if it could be written.
-pub(crate) fn answered(written: fmt::Result, text: String) -> Answer {
-    match written {
-        Ok(()) => Answer::Text(text),
-        Err(_) => Answer::Refused("memory"),
     }
 }

@@ -213,6 +213,43 @@ pub(crate) fn edit<L: RBTreeOps>(
     }
 }
 
+// The first member, or the last one, by a cursor that reads.
+fn read_end<L: RBTreeOps>(tree: &RBTree<OwnKey>, links: &L, is_front: bool) -> Option<Place>
+    requires shown { ShowsSome L.node (L.table links.now) (root_of tree.now) }
+    ensures stands { Stands (Shows L.node) L.table (site links.now (root_of tree.now) result) }
+{
+    if is_front {
+        return tree.front(links).get_ptr();
+    }
+    tree.back(links).get_ptr()
+}
+
+// By a cursor that borrows the tree.
+fn borrowed_end<L: RBTreeOps>(
+    tree: &mut RBTree<OwnKey>,
+    links: &mut L,
+    is_front: bool,
+) -> Option<Place>
+    requires shown { ShowsSome L.node (L.table links.old) (root_of tree.old) }
+    ensures stands { Stands (Shows L.node) L.table (site links.new (root_of tree.new) result) }
+{
+    if is_front {
+        return tree.front_mut(links).get_ptr();
+    }
+    tree.back_mut(links).get_ptr()
+}
+
+// A cursor that keeps the tree, on the first member or the last one.
+fn owning_end<L: RBTreeOps>(tree: RBTree<OwnKey>, links: &L, is_front: bool) -> CursorOwning<OwnKey>
+    requires shown { ShowsSome L.node (L.table links.now) (root_of tree) }
+    ensures stands { Stands (Shows L.node) L.table (owned.site_of links.now result) }
+{
+    if is_front {
+        return tree.front_owning(links);
+    }
+    tree.back_owning(links)
+}
+
 /// The first member, or the last one, by such a cursor.
 pub(crate) fn end<L: RBTreeOps>(
     by: By,
@@ -223,21 +260,11 @@ pub(crate) fn end<L: RBTreeOps>(
     requires shown { ShowsSome L.node (L.table links.old) (root_of tree.old) }
     ensures stands { Stands (Shows L.node) L.table (site links.new (root_of tree.new) result) }
 {
-    match (by, is_front) {
-        (By::Ref, true) => tree.front(&*links).get_ptr(),
-        (By::Ref, false) => tree.back(&*links).get_ptr(),
-        (By::Mut, true) => tree.front_mut(links).get_ptr(),
-        (By::Mut, false) => tree.back_mut(links).get_ptr(),
-        (By::Owning, true) => {
-            let whole = tree.take();
-            let cursor = whole.front_owning(&*links);
-            let at = cursor.get_ptr();
-            *tree = cursor.into_inner();
-            at
-        }
-        (By::Owning, false) => {
-            let whole = tree.take();
-            let cursor = whole.back_owning(&*links);
+    match by {
+        By::Ref => read_end(&*tree, &*links, is_front),
+        By::Mut => borrowed_end(tree, links, is_front),
+        By::Owning => {
+            let cursor = owning_end(tree.take(), &*links, is_front);
             let at = cursor.get_ptr();
             *tree = cursor.into_inner();
             at
@@ -276,8 +303,8 @@ fn beside_mut<L: RBTreeOps>(cursor: &CursorMut<'_, OwnKey, L>, name: &str) -> Op
     cursor.peek_prev().get_ptr()
 }
 
-/// What a cursor that reads tells.
-pub(crate) fn told<L: RBTreeOps>(
+// What a cursor that reads tells.
+fn told<L: RBTreeOps>(
     cursor: &mut Cursor<'_, OwnKey, L>,
     objects: &Objects<u64>,
     name: &str,
@@ -293,8 +320,8 @@ pub(crate) fn told<L: RBTreeOps>(
     }
 }
 
-/// What a cursor that borrows the tree tells.
-pub(crate) fn told_by_mut<L: RBTreeOps>(
+// What a cursor that borrows the tree tells.
+fn told_by_mut<L: RBTreeOps>(
     cursor: &CursorMut<'_, OwnKey, L>,
     objects: &Objects<u64>,
     name: &str,
@@ -307,4 +334,69 @@ pub(crate) fn told_by_mut<L: RBTreeOps>(
         "get" => value(cursor.get(objects)),
         _ => standing(cursor.as_cursor().get_ptr()),
     }
+}
+
+// What a cursor that keeps the tree tells at that position.
+fn told_owning<L: RBTreeOps>(
+    tree: RBTree<OwnKey>,
+    links: &L,
+    objects: &Objects<u64>,
+    at: Option<Place>,
+    name: &str,
+) -> (Answer, RBTree<OwnKey>)
+    requires stands { Stands (Shows L.node) L.table (site links.now (root_of tree) at) }
+    ensures tree { result.1 ≡ tree }
+{
+    let cursor = owning(tree, links, at);
+    let answer = told(&mut cursor.as_cursor(links), objects, name);
+    (answer, cursor.into_inner())
+}
+
+/// What such a cursor tells at that position.
+pub(crate) fn told_at<L: RBTreeOps>(
+    by: By,
+    tree: &mut RBTree<OwnKey>,
+    links: &mut L,
+    objects: &Objects<u64>,
+    at: Option<Place>,
+    name: &str,
+) -> Answer
+    requires stands { Stands (Shows L.node) L.table (site links.old (root_of tree.old) at) }
+    ensures stands { Stands (Shows L.node) L.table (site links.new (root_of tree.new) at) }
+{
+    match by {
+        By::Ref => told(&mut reading(&*tree, &*links, at), objects, name),
+        By::Mut => told_by_mut(&borrowing(tree, links, at), objects, name),
+        By::Owning => {
+            let (answer, whole) = told_owning(tree.take(), &*links, objects, at, name);
+            *tree = whole;
+            answer
+        }
+    }
+}
+
+/// Moves a cursor that keeps the tree from that position to null.
+pub(crate) fn nulled<L: RBTreeOps>(
+    tree: RBTree<OwnKey>,
+    links: &L,
+    at: Option<Place>,
+) -> CursorOwning<OwnKey>
+    requires stands { Stands (Shows L.node) L.table (site links.now (root_of tree) at) }
+    ensures stands { Stands (Shows L.node) L.table (owned.site_of links.now result) }
+{
+    let mut cursor = owning(tree, links, at);
+    cursor.go_null();
+    cursor
+}
+
+/// Empties the tree by the call of that name, and answers whether it is empty then.
+pub(crate) fn emptied<L: RBTreeOps>(tree: &mut RBTree<OwnKey>, links: &mut L, name: &str) -> bool
+    requires shown { ShowsSome L.node (L.table links.old) (root_of tree.old) }
+{
+    match name {
+        "clear" => tree.clear(links),
+        "dispose" => tree.take().dispose(links),
+        _ => tree.fast_clear(),
+    }
+    tree.is_empty()
 }

@@ -1,20 +1,19 @@
 //! A tree with a position in it, and objects, whose calls ask nothing.
 
-use crate::answers::{answered, number, value};
-use crate::cursors::{By, borrowing, edit, end, owning, reading, told, told_by_mut};
+use crate::answers::{placed, value};
+use crate::cursors::{By, borrowing, edit, emptied, end, nulled, told_at};
 use crate::inserts::{insert, insert_by_cursor};
 use crate::keyed::{Search, probed, range, seek};
-use crate::shape::{blacks_below, root_above, write_below, write_linked};
+use crate::shape::{blacks_below, root_above, write_below, write_linked, write_words};
 use crate::sorted::{Sorted, all_lead};
+use crate::texts::Text;
 use crate::values::OwnKey;
 use crate::walks::{are_placed, is_walked, write_objects, write_range, write_taken, write_walk};
 use ic_link_ops::rbtree::LinkOps;
 use ic_rbtree::{Bound, KeyAdapter, RBTree};
-use ic_unsafe_ref::{Objects, Place, UnsafeRef};
-use std::alloc::Global;
-use std::fmt::{self, Write};
+use ic_unsafe_ref::{Objects, Place};
+use std::alloc::{AllocError, Global};
 use std::marker::Model;
-use std::test::Fail;
 use test_support::plain_sequence::PlainSequence;
 use test_support::rows::Answer;
 
@@ -47,9 +46,11 @@ impl Model for Field {
 impl Field {
     /// An empty tree, no objects yet, and a table that covers so many places.
     #[tactic(auto, using(crate::proofs::Fixture::none_stands))]
-    pub(crate) fn new(alloc: Global, by: By, covers: usize) -> Result<Field, Fail> {
+    pub(crate) fn new(alloc: Global, by: By, covers: usize) -> Result<Field, AllocError> {
         let mut links = LinkOps::new(alloc);
-        links.cover(covers)?;
+        if links.cover(covers).is_err() {
+            return Err(AllocError);
+        }
         Ok(Field {
             alloc,
             by,
@@ -70,14 +71,7 @@ impl Field {
 
     /// Places an object, and answers where it stands.
     pub(crate) fn place(&mut self, value: u64) -> Answer {
-        let Some(next) = self.objects.next_place() else {
-            return Answer::Refused("full");
-        };
-        let _small = next.index();
-        match UnsafeRef::from_box(&mut self.objects, value) {
-            Ok(object) => number(object.place()),
-            Err(_) => Answer::Refused("memory"),
-        }
+        placed(&mut self.objects, value)
     }
 
     /// Makes a call at the position, if the place that it is given is covered.
@@ -105,12 +99,18 @@ impl Field {
 
     /// Moves the cursor to null.
     pub(crate) fn go_null(&mut self) -> Answer {
-        let whole = self.tree.take();
-        let mut cursor = owning(whole, &self.links, self.at);
-        cursor.go_null();
+        let cursor = nulled(self.tree.take(), &self.links, self.at);
         self.at = cursor.get_ptr();
         self.tree = cursor.into_inner();
         Answer::Done
+    }
+
+    /// Moves the cursor to null, and from there on by so many members.
+    pub(crate) fn go(&mut self, steps: usize) {
+        let _ = self.go_null();
+        for _ in 0..steps {
+            let _ = self.edit("move_next", None);
+        }
     }
 
     /// Moves the cursor to that member.
@@ -128,23 +128,14 @@ impl Field {
 
     /// What the cursor tells, by its call of that name.
     pub(crate) fn told(&mut self, name: &str) -> Answer {
-        match self.by {
-            By::Ref => {
-                let mut cursor = reading(&self.tree, &self.links, self.at);
-                told(&mut cursor, &self.objects, name)
-            }
-            By::Mut => {
-                let cursor = borrowing(&mut self.tree, &mut self.links, self.at);
-                told_by_mut(&cursor, &self.objects, name)
-            }
-            By::Owning => {
-                let whole = self.tree.take();
-                let cursor = owning(whole, &self.links, self.at);
-                let answer = told(&mut cursor.as_cursor(&self.links), &self.objects, name);
-                self.tree = cursor.into_inner();
-                answer
-            }
-        }
+        told_at(
+            self.by,
+            &mut self.tree,
+            &mut self.links,
+            &self.objects,
+            self.at,
+            name,
+        )
     }
 
     /// The object that a cursor that edits was on when it ended.
@@ -161,8 +152,7 @@ impl Field {
     /// Whether the tree has no member, also as a cursor shows it that keeps the tree.
     pub(crate) fn is_empty(&mut self) -> Answer {
         let is_empty = self.tree.is_empty();
-        let whole = self.tree.take();
-        let cursor = owning(whole, &self.links, self.at);
+        let cursor = self.tree.take().cursor_owning();
         let same = cursor.tree().is_empty() == is_empty;
         self.tree = cursor.into_inner();
         Answer::Truth(is_empty && same)
@@ -171,12 +161,7 @@ impl Field {
     /// Empties the tree by the call of that name, and answers whether it is empty then.
     #[tactic(auto, using(crate::proofs::Fixture::none_stands))]
     pub(crate) fn empty(&mut self, name: &str) -> Answer {
-        match name {
-            "clear" => self.tree.clear(&mut self.links),
-            "dispose" => self.tree.take().dispose(&mut self.links),
-            _ => self.tree.fast_clear(),
-        }
-        let is_empty = self.tree.is_empty();
+        let is_empty = emptied(&mut self.tree, &mut self.links, name);
         self.at = None;
         self.tree = RBTree::default();
         Answer::Truth(is_empty)
@@ -194,21 +179,21 @@ impl Field {
     #[tactic(auto, using(crate::proofs::Fixture::none_stands))]
     pub(crate) fn take_off(&mut self, ends: &[&str], finishes: bool) -> Answer {
         let whole = self.tree.take();
-        let mut text = String::new(self.alloc);
-        let written = write_taken(&mut text, whole, &mut self.links, ends, finishes);
+        let mut text = Text::new(self.alloc);
+        write_taken(&mut text, whole, &mut self.links, ends, finishes);
         self.at = None;
-        answered(written, text)
+        text.answer()
     }
 
     /// The objects that these calls of a walk give, if one stands at each place.
     pub(crate) fn walk(&self, calls: &[&str]) -> Answer {
-        if are_placed(&self.tree, &self.links, &self.objects) {
-            let mut text = String::new(self.alloc);
-            let walk = self.tree.iter(&self.links, &self.objects);
-            let written = write_objects(&mut text, walk, calls);
-            return answered(written, text);
+        if !are_placed(&self.tree, &self.links, &self.objects) {
+            return Answer::Refused("not placed");
         }
-        Answer::Refused("not placed")
+        let mut text = Text::new(self.alloc);
+        let walk = self.tree.iter(&self.links, &self.objects);
+        write_objects(&mut text, walk, calls);
+        text.answer()
     }
 
     /// Moves the cursor where the search leads, and answers by how many looks a probe comes there too.
@@ -236,10 +221,10 @@ impl Field {
         if !are_placed(&self.tree, &self.links, &self.objects) {
             return Answer::Refused("not placed");
         }
-        let mut text = String::new(self.alloc);
+        let mut text = Text::new(self.alloc);
         let walk = range(self.by, &self.tree, &self.links, &self.objects, min, max);
-        let written = write_range(&mut text, walk, self.links.covers());
-        answered(written, text)
+        write_range(&mut text, walk, self.links.covers());
+        text.answer()
     }
 
     /// Inserts the object where its key belongs, by the call of that name, or at the entry of a key, if it is placed and its
@@ -261,10 +246,10 @@ impl Field {
 
     /// The shape of which that place is a member, as the links have it.
     pub(crate) fn shape(&self, place: Place) -> Answer {
-        let mut text = String::new(self.alloc);
+        let mut text = Text::new(self.alloc);
         let root = root_above(&self.links, Some(place));
-        let written = write_below(&mut text, &self.links, root, self.links.covers());
-        answered(written, text)
+        write_below(&mut text, &self.links, root, self.links.covers());
+        text.answer()
     }
 
     /// Whether the place is a member.
@@ -277,50 +262,44 @@ impl Field {
 
     /// The third words of the places, in their order.
     pub(crate) fn words(&self) -> Answer {
-        let mut text = String::new(self.alloc);
-        let written = self.write_words(&mut text);
-        answered(written, text)
-    }
-
-    fn write_words(&self, text: &mut String) -> fmt::Result {
-        for index in 0..self.links.covers() {
-            if let Some(place) = Place::new(index) {
-                let third = self.links.link(place).words()[2];
-                write!(text, "{third} ")?;
-            }
-        }
-        Ok(())
+        let mut text = Text::new(self.alloc);
+        write_words(&mut text, &self.links);
+        text.answer()
     }
 
     /// The places that are linked.
     pub(crate) fn linked(&self) -> Answer {
-        let mut text = String::new(self.alloc);
-        let written = write_linked(&mut text, &self.links);
-        answered(written, text)
+        let mut text = Text::new(self.alloc);
+        write_linked(&mut text, &self.links);
+        text.answer()
+    }
+
+    // Writes the members as such moves come by them, with the cursor's mark.
+    fn write_members(&self, text: &mut Text, name: &str) {
+        let most = self.links.covers();
+        write_walk(text, &self.tree, &self.links, self.at, name, most);
     }
 
     /// The members from the last to the first.
     pub(crate) fn backward(&self) -> Answer {
-        let mut text = String::new(self.alloc);
-        let most = self.links.covers();
-        let written = write_walk(
-            &mut text,
-            &self.tree,
-            &self.links,
-            self.at,
-            "move_prev",
-            most,
-        );
-        answered(written, text)
+        let mut text = Text::new(self.alloc);
+        self.write_members(&mut text, "move_prev");
+        text.answer()
     }
 
-    /// Writes the members with the cursor's mark, and the shape.
-    pub(crate) fn write(&self, shown: &mut String) -> fmt::Result {
-        let most = self.links.covers();
-        write_walk(shown, &self.tree, &self.links, self.at, "move_next", most)?;
-        shown.write_str("; ")?;
+    /// The members with the cursor's mark, and the shape.
+    pub(crate) fn whole(&self) -> Answer {
+        let mut text = Text::new(self.alloc);
+        self.write_members(&mut text, "move_next");
+        text.word("; ");
+        write_below(&mut text, &self.links, self.root(), self.links.covers());
+        text.answer()
+    }
+
+    // The root, as the parents lead to it from the first member.
+    fn root(&self) -> Option<Place> {
         let first = self.tree.front(&self.links).get_ptr();
-        write_below(shown, &self.links, root_above(&self.links, first), most)
+        root_above(&self.links, first)
     }
 
     /// Whether the tree has those members, and its shape is right.
@@ -332,9 +311,7 @@ impl Field {
                 }
             }
         }
-        let first = self.tree.front(&self.links).get_ptr();
-        let root = root_above(&self.links, first);
-        blacks_below(&self.links, root, None, true, self.links.covers()).is_some()
+        blacks_below(&self.links, self.root(), None, true, self.links.covers()).is_some()
             && is_walked(&self.tree, &self.links, plain)
     }
 

@@ -30,20 +30,20 @@ pub(crate) const KEYED_RUNS: &[Run] = &[
         rows: "
         place 5 3 5 8 0 0 0 0    | 7
         insert 0 1 2 3           | ok | 1 0 2 (3) ; 0b(1b,2b(-,3r))
-        lower_bound Included 5   | 2  | 1 (0) 2 3 ; 0b(1b,2b(-,3r))
-        upper_bound Included 5   | 3  | 1 0 (2) 3 ; 0b(1b,2b(-,3r))
-        lower_bound Excluded 5   | 3  | 1 0 2 (3) ; 0b(1b,2b(-,3r))
-        upper_bound Excluded 5   | 2  | (1) 0 2 3 ; 0b(1b,2b(-,3r))
+        lower_bound Included=5   | 2  | 1 (0) 2 3 ; 0b(1b,2b(-,3r))
+        upper_bound Included=5   | 3  | 1 0 (2) 3 ; 0b(1b,2b(-,3r))
+        lower_bound Excluded=5   | 3  | 1 0 2 (3) ; 0b(1b,2b(-,3r))
+        upper_bound Excluded=5   | 2  | (1) 0 2 3 ; 0b(1b,2b(-,3r))
         lower_bound Unbounded    | 0  | (1) 0 2 3 ; 0b(1b,2b(-,3r))
         upper_bound Unbounded    | 0  | 1 0 2 (3) ; 0b(1b,2b(-,3r))
-        lower_bound Included 8   | 3  | 1 0 2 (3) ; 0b(1b,2b(-,3r))
-        lower_bound Excluded 8   | 3  | 1 0 2 3 ; 0b(1b,2b(-,3r))
-        upper_bound Excluded 9   | 3  | 1 0 2 (3) ; 0b(1b,2b(-,3r))
-        lower_bound Included 9   | 3  | 1 0 2 3 ; 0b(1b,2b(-,3r))
-        lower_bound Included 2   | 2  | (1) 0 2 3 ; 0b(1b,2b(-,3r))
-        upper_bound Included 2   | 2  | 1 0 2 3 ; 0b(1b,2b(-,3r))
-        upper_bound Included 3   | 2  | (1) 0 2 3 ; 0b(1b,2b(-,3r))
-        upper_bound Excluded 3   | 2  | 1 0 2 3 ; 0b(1b,2b(-,3r))
+        lower_bound Included=8   | 3  | 1 0 2 (3) ; 0b(1b,2b(-,3r))
+        lower_bound Excluded=8   | 3  | 1 0 2 3 ; 0b(1b,2b(-,3r))
+        upper_bound Excluded=9   | 3  | 1 0 2 (3) ; 0b(1b,2b(-,3r))
+        lower_bound Included=9   | 3  | 1 0 2 3 ; 0b(1b,2b(-,3r))
+        lower_bound Included=2   | 2  | (1) 0 2 3 ; 0b(1b,2b(-,3r))
+        upper_bound Included=2   | 2  | 1 0 2 3 ; 0b(1b,2b(-,3r))
+        upper_bound Included=3   | 2  | (1) 0 2 3 ; 0b(1b,2b(-,3r))
+        upper_bound Excluded=3   | 2  | 1 0 2 3 ; 0b(1b,2b(-,3r))
         find 4                   | 2  | 1 0 2 3 ; 0b(1b,2b(-,3r))
         find 9                   | 3  | 1 0 2 3 ; 0b(1b,2b(-,3r))
         find 3                   | 2  | (1) 0 2 3 ; 0b(1b,2b(-,3r))
@@ -57,18 +57,18 @@ pub(crate) const KEYED_RUNS: &[Run] = &[
         place 5 3 5 8 0 0 0 0        | 7
         range Unbounded Unbounded    |
         insert_by_cursor 0 1 2 3     | ok | 1 0 2 3 ; 0b(1b,2b(-,3r))
-        range Excluded 5 Unbounded   | 3:8
-        range Included 8 Included 3  |
+        range Excluded=5 Unbounded   | 3:8
+        range Included=8 Included=3  |
         range Unbounded Unbounded    | 1:3 0:5 2:5 3:8
-        range Included 5 Included 5  | 0:5 2:5
-        range Excluded 5 Excluded 5  |
-        range Included 5 Excluded 5  |
-        range Excluded 3 Excluded 8  | 0:5 2:5
-        range Included 4 Included 9  | 0:5 2:5 3:8
-        range Excluded 8 Unbounded   |
-        range Unbounded Excluded 3   |
-        range Unbounded Included 3   | 1:3
-        range Included 6 Included 7  |
+        range Included=5 Included=5  | 0:5 2:5
+        range Excluded=5 Excluded=5  |
+        range Included=5 Excluded=5  |
+        range Excluded=3 Excluded=8  | 0:5 2:5
+        range Included=4 Included=9  | 0:5 2:5 3:8
+        range Excluded=8 Unbounded   |
+        range Unbounded Excluded=3   |
+        range Unbounded Included=3   | 1:3
+        range Included=6 Included=7  |
         ",
     },
     Run {
@@ -84,8 +84,8 @@ pub(crate) const KEYED_RUNS: &[Run] = &[
         rows: "
         place 3 1 2 7 5 8 5 0       | 7
         insert_before 0 1 2         | ok  | 0 1 2 ; 1b(0r,2r)
-        lower_bound Included 2      | 2   | 0 1 (2) ; 1b(0r,2r)
-        range Included 1 Included 2 |
+        lower_bound Included=2      | 2   | 0 1 (2) ; 1b(0r,2r)
+        range Included=1 Included=2 |
         clear                       | yes | ; -
         insert_before 3 4 5         | ok  | 3 4 5 ; 4b(3r,5r)
         find 5                      | 2   | 3 4 5 ; 4b(3r,5r)
@@ -159,8 +159,8 @@ pub(crate) const KEYED_RUNS: &[Run] = &[
         place 0 0 0 0 0 0 0 0  | 7
         lower_bound Unbounded  | 0
         upper_bound Unbounded  | 0
-        lower_bound Included 1 | 0
-        upper_bound Excluded 1 | 0
+        lower_bound Included=1 | 0
+        upper_bound Excluded=1 | 0
         find 1                 | 0
         ",
     },

@@ -31,10 +31,7 @@ fn put(
     if gap > plain.len() {
         return Ok(());
     }
-    let _ = field.go_null();
-    for _ in 0..gap {
-        let _ = field.edit("move_next", None);
-    }
+    field.go(gap);
     let _ = field.edit("insert_after", Some(place));
     plain.insert(gap, place)
 }
@@ -49,10 +46,7 @@ fn take(
     if number >= plain.len() {
         return Ok(false);
     }
-    let _ = field.go_null();
-    for _ in 0..=number {
-        let _ = field.edit("move_next", None);
-    }
+    field.go(number + 1);
     let _ = plain.remove(number);
     match fresh {
         Some(fresh) if number <= plain.len() => {

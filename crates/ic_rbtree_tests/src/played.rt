@@ -4,7 +4,7 @@ use crate::field::Field;
 use crate::keyed::Search;
 use ic_rbtree::Bound;
 use ic_unsafe_ref::Place;
-use std::fmt;
+use std::fmt::{self, Write};
 use test_support::rows::{Answer, Played};
 
 // The place that the word is.
@@ -12,37 +12,24 @@ fn place(word: &str) -> Option<Place> {
     Place::new(word.parse().ok()?)
 }
 
-// The bound that the first of the words say, and the words behind: `Included 5`, `Excluded 5` or `Unbounded`.
-fn bound<'w, 't>(words: &'w [&'t str]) -> Option<(Bound<u64>, &'w [&'t str])> {
-    let (kind, rest) = words.split_first()?;
-    if *kind == "Unbounded" {
-        return Some((Bound::Unbounded, rest));
-    }
-    let (key, rest) = rest.split_first()?;
+// The bound that the word is: `Included=5`, `Excluded=5` or `Unbounded`.
+fn bound(word: &str) -> Option<Bound<u64>> {
+    let (kind, key) = word.split_once('=').unwrap_or((word, "0"));
     let key = key.parse().ok()?;
-    match *kind {
-        "Included" => Some((Bound::Included(key), rest)),
-        "Excluded" => Some((Bound::Excluded(key), rest)),
+    match kind {
+        "Included" => Some(Bound::Included(key)),
+        "Excluded" => Some(Bound::Excluded(key)),
+        "Unbounded" => Some(Bound::Unbounded),
         _ => None,
     }
 }
 
-// The search that a call of that name and these words is.
-fn search(name: &str, words: &[&str]) -> Option<Search> {
+// The search by the call of that name, with this word.
+fn search(name: &str, word: &str) -> Option<Search> {
     match name {
-        "find" => Some(Search::Find(words.first()?.parse().ok()?)),
-        "lower_bound" => Some(Search::Lower(bound(words)?.0)),
-        "upper_bound" => Some(Search::Upper(bound(words)?.0)),
-        _ => None,
-    }
-}
-
-// Whether the call of that name reads.
-fn reads(name: &str) -> bool {
-    match name {
-        "words" | "linked" | "backward" | "is_empty" | "into_ref" => true,
-        "is_null" | "peek_next" | "peek_prev" | "get" | "copy" | "position" => true,
-        _ => false,
+        "find" => Some(Search::Find(word.parse().ok()?)),
+        "lower_bound" => Some(Search::Lower(bound(word)?)),
+        _ => Some(Search::Upper(bound(word)?)),
     }
 }
 
@@ -92,45 +79,49 @@ impl Field {
 
     // A call that is given these two bounds.
     fn call_range(&self, words: &[&str]) -> Answer {
-        let Some((min, rest)) = bound(words) else {
-            return Answer::Refused("no bound");
+        let [min, max] = words else {
+            return Answer::Refused("no two bounds");
         };
-        match bound(rest) {
-            Some((max, _)) => self.range(&min, &max),
+        match (bound(min), bound(max)) {
+            (Some(min), Some(max)) => self.range(&min, &max),
+            _ => Answer::Refused("no bound"),
+        }
+    }
+
+    // A search for what these words say.
+    fn call_search(&mut self, name: &str, words: &[&str]) -> Answer {
+        let [word] = words else {
+            return Answer::Refused("no key");
+        };
+        match search(name, word) {
+            Some(search) => self.search(search),
             None => Answer::Refused("no bound"),
         }
     }
 
-    // A call that is given nothing and reads.
-    fn call_to_read(&mut self, name: &str) -> Answer {
+    // A call of the cursor that is given nothing.
+    fn call_of_cursor(&mut self, name: &str) -> Answer {
         match name {
-            "words" => self.words(),
-            "linked" => self.linked(),
-            "backward" => self.backward(),
-            "is_empty" => self.is_empty(),
+            "null" => self.go_null(),
+            "front" => self.go_to_end(true),
+            "back" => self.go_to_end(false),
+            "move_next" | "move_prev" | "remove" => self.edit(name, None),
             "into_ref" => self.into_ref(),
             _ => self.told(name),
         }
     }
 
-    // A call that is given nothing and moves the cursor, or is of the whole tree.
-    fn call_to_move(&mut self, name: &str) -> Answer {
-        match name {
-            "null" => self.go_null(),
-            "front" => self.go_to_end(true),
-            "back" => self.go_to_end(false),
-            "clear" | "dispose" | "fast_clear" => self.empty(name),
-            "take" => self.take(),
-            _ => self.edit(name, None),
-        }
-    }
-
     // A call that is given nothing.
     fn call_alone(&mut self, name: &str) -> Answer {
-        if reads(name) {
-            return self.call_to_read(name);
+        match name {
+            "words" => self.words(),
+            "linked" => self.linked(),
+            "backward" => self.backward(),
+            "is_empty" => self.is_empty(),
+            "clear" | "dispose" | "fast_clear" => self.empty(name),
+            "take" => self.take(),
+            _ => self.call_of_cursor(name),
         }
-        self.call_to_move(name)
     }
 }
 
@@ -143,7 +134,7 @@ impl Field {
         self.call_with_each(name, words)
     }
 
-    // A call that is no search.
+    // The call of that name.
     fn call_by_name(&mut self, name: &str, words: &[&str]) -> Answer {
         match name {
             "walk" => self.walk(words),
@@ -151,6 +142,7 @@ impl Field {
             "entry" => self.call_entry(words),
             "take_and_drop" => self.take_off(words, false),
             "take_and_finish" => self.take_off(words, true),
+            "find" | "lower_bound" | "upper_bound" => self.call_search(name, words),
             _ => self.call_each(name, words),
         }
     }
@@ -163,13 +155,12 @@ impl Played for Field {
         let Some((name, rest)) = words.split_first() else {
             return Answer::Refused("no call");
         };
-        match search(name, rest) {
-            Some(search) => self.search(search),
-            None => self.call_by_name(name, rest),
-        }
+        self.call_by_name(name, rest)
     }
 
     fn show(&self, shown: &mut String) -> fmt::Result {
-        self.write(shown)
+        let whole = self.whole();
+        write!(shown, "{whole}")?;
+        Ok(())
     }
 }

@@ -1,20 +1,30 @@
 //! What the links say of a tree's shape.
 
+use crate::answers::number;
+use crate::texts::Text;
 use ic_link_ops::rbtree::LinkOps;
 use ic_rbtree::{Color, RBTreeOps};
 use ic_unsafe_ref::Place;
-use std::fmt::{self, Write};
+use test_support::rows::Answer;
 
 /// Writes the places that are linked.
-pub(crate) fn write_linked(text: &mut String, links: &LinkOps) -> fmt::Result {
+pub(crate) fn write_linked(text: &mut Text, links: &LinkOps) {
     for index in 0..links.covers() {
         if let Some(place) = Place::new(index) {
             if links.is_linked(place) {
-                write!(text, "{index} ")?;
+                text.add(number(place), " ");
             }
         }
     }
-    Ok(())
+}
+
+/// Writes the third words of the places, in their order.
+pub(crate) fn write_words(text: &mut Text, links: &LinkOps) {
+    for index in 0..links.covers() {
+        if let Some(place) = Place::new(index) {
+            text.add(Answer::Number(links.link(place).words()[2]), " ");
+        }
+    }
 }
 
 /// Where the parents lead to from that member.
@@ -32,34 +42,33 @@ pub(crate) fn root_above(links: &LinkOps, member: Option<Place>) -> Option<Place
     Some(root)
 }
 
+// The letter of a color.
+fn letter(color: Color) -> &'static str {
+    match color {
+        Color::Red => "r",
+        Color::Black => "b",
+    }
+}
+
 /// Writes what stands at that place and below, at most so many levels of it: `3b(1b(-,2r),4r)` is a black 3 above a
 /// black 1 with no child on the left.
-pub(crate) fn write_below(
-    text: &mut String,
-    links: &LinkOps,
-    at: Option<Place>,
-    levels: usize,
-) -> fmt::Result {
+pub(crate) fn write_below(text: &mut Text, links: &LinkOps, at: Option<Place>, levels: usize) {
     let Some(place) = at else {
-        return text.write_str("-");
+        return text.word("-");
     };
-    let index = place.index();
-    if levels == 0 || index >= links.covers() || !links.is_linked(place) {
-        return text.write_str("?");
+    if levels == 0 || place.index() >= links.covers() || !links.is_linked(place) {
+        return text.word("?");
     }
-    match links.color(place) {
-        Color::Red => write!(text, "{index}r")?,
-        Color::Black => write!(text, "{index}b")?,
-    }
+    text.add(number(place), letter(links.color(place)));
     let (left, right) = (links.left(place), links.right(place));
     if left.is_none() && right.is_none() {
-        return Ok(());
+        return;
     }
-    text.write_str("(")?;
-    write_below(text, links, left, levels - 1)?;
-    text.write_str(",")?;
-    write_below(text, links, right, levels - 1)?;
-    text.write_str(")")
+    text.word("(");
+    write_below(text, links, left, levels - 1);
+    text.word(",");
+    write_below(text, links, right, levels - 1);
+    text.word(")");
 }
 
 /// The number of black members on each way down from that place, if what stands there and below is right: a member is

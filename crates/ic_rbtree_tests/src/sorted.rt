@@ -9,6 +9,7 @@ use crate::cursors::By;
 use crate::field::Field;
 use crate::keyed::{Search, probed};
 use crate::values::OwnKey;
+use crate::walks::before;
 use ic_rbtree::{Bound, Iter, RBTree, RBTreeOps};
 use ic_unsafe_ref::{Objects, Place};
 use std::alloc::{AllocError, Global};
@@ -18,7 +19,10 @@ use test_support::plain_sequence::PlainSequence;
 // How many members a tree has.
 const MEMBERS: usize = 1000;
 
-// More than each key. The keys are even, so that others lie between them.
+// About half of the greatest key. The keys are even, so that others lie between them.
+const HALF: u64 = 1000;
+
+// More than each key.
 const TOP: u64 = 4003;
 
 // The most looks of a search: 2^19 <= (MEMBERS + 1)^2 < 2^20.
@@ -43,14 +47,15 @@ enum Order {
 impl Order {
     // The key of the object at that place.
     fn key(self, place: Place) -> u64 {
-        let index = place.index() as u64 % MEMBERS as u64;
-        2 * match self {
+        let index = place.index() as u64;
+        let half = match self {
             Order::Rising => index,
-            Order::Falling => MEMBERS as u64 - index,
-            Order::Alternating if index % 2 == 0 => MEMBERS as u64 + index,
-            Order::Alternating => MEMBERS as u64 - index,
-            Order::Mixed => index * index % 997,
-        }
+            Order::Falling => HALF.saturating_sub(index),
+            Order::Alternating if index % 2 == 0 => HALF.saturating_add(index),
+            Order::Alternating => HALF.saturating_sub(index),
+            Order::Mixed => index.saturating_mul(index) % 997,
+        };
+        half.saturating_mul(2)
     }
 }
 
@@ -91,7 +96,7 @@ impl Sorted {
 
     // The member in front of the one of that number.
     fn before(&self, number: usize) -> Option<Place> {
-        self.places.get(number.checked_sub(1)?)
+        before(&self.places, number)
     }
 }
 
@@ -119,13 +124,22 @@ fn lead<L: RBTreeOps>(
         (Search::Upper(Bound::Included(key)), sorted.before(most)),
         (Search::Upper(Bound::Excluded(key)), sorted.before(less)),
     ];
-    for (search, wanted) in wanted {
-        let (at, looks) = probed(tree, links, objects, &search);
-        if at != wanted || looks > MOST_LOOKS {
+    for (search, wanted) in &wanted {
+        let (at, looks) = probed(tree, links, objects, search);
+        if at != *wanted || looks > MOST_LOOKS {
             return false;
         }
     }
     true
+}
+
+// Whether the walk is at this member and gives its object, or is at its end.
+fn gives_at<L: RBTreeOps>(walk: &mut Iter<'_, OwnKey, L>, wanted: Option<Place>) -> bool
+    requires can { CanWalk L.node L.table walk.old }
+    ensures can { CanWalk L.node L.table walk.new }
+{
+    let at = walk.get_ptr();
+    walk.next().is_some() == wanted.is_some() && at == wanted
 }
 
 // Whether the walk gives the members between those of these numbers.
@@ -138,11 +152,11 @@ fn gives<L: RBTreeOps>(
     requires can { CanWalk L.node L.table walk }
 {
     for number in from..to {
-        if walk.get_ptr() != sorted.places.get(number) || walk.next().is_none() {
+        if !gives_at(&mut walk, sorted.places.get(number)) {
             return false;
         }
     }
-    walk.get_ptr().is_none() && walk.next().is_none()
+    gives_at(&mut walk, None)
 }
 
 /// Whether each search leads where it is to lead among those members, and each range has its members, for each key and for
@@ -178,37 +192,48 @@ pub(crate) fn all_lead<L: RBTreeOps>(
     true
 }
 
-// Whether the tree is right to which the members come in that order.
-fn is_right(alloc: Global, order: Order) -> Result<bool, Fail> {
-    let mut field = Field::new(alloc, By::Ref, MEMBERS)?;
-    let mut sorted = Sorted {
-        order,
-        places: PlainSequence::new(alloc),
-    };
+// Places an object for each member, by its key.
+fn place_all(field: &mut Field, order: Order) {
     for index in 0..MEMBERS {
         if let Some(place) = Place::new(index) {
             let _ = field.place(order.key(place));
         }
     }
+}
+
+// Inserts each member.
+fn insert_all(field: &mut Field, sorted: &mut Sorted) -> Result<(), AllocError> {
     for index in 0..MEMBERS {
         if let Some(place) = Place::new(index) {
             let _ = field.insert("insert", None, place);
             sorted.insert(place)?;
         }
     }
+    Ok(())
+}
+
+// Whether the tree is right to which the members come in that order.
+fn is_right(alloc: Global, order: Order) -> Result<bool, AllocError> {
+    let mut field = Field::new(alloc, By::Ref, MEMBERS)?;
+    let mut sorted = Sorted {
+        order,
+        places: PlainSequence::new(alloc),
+    };
+    place_all(&mut field, order);
+    insert_all(&mut field, &mut sorted)?;
     Ok(field.is_right(&sorted.places) && field.leads(&sorted))
 }
 
 /// Makes a tree in each order, and each search of it. The error is the first order that is wrong.
 pub(crate) fn thousands_are_right(alloc: Global) -> Result<(), Fail> {
-    for order in [
+    for order in &[
         Order::Rising,
         Order::Falling,
         Order::Alternating,
         Order::Mixed,
     ] {
-        if !is_right(alloc, order)? {
-            Err(order)?;
+        if !is_right(alloc, *order)? {
+            Err(*order)?;
         }
     }
     Ok(())

@@ -6,17 +6,30 @@ use crate::keyed_runs::KEYED_RUNS;
 use crate::orders::all_are_right;
 use crate::runs::RUNS;
 use crate::sorted::thousands_are_right;
+use std::alloc::Global;
 use std::test::Fail;
-use test_support::rows::play;
+use test_support::rows::{Run, Wrong, play};
+
+// Plays the run by that cursor, on an empty tree of a table that covers the places 0 to 7.
+fn play_by(alloc: Global, by: By, run: &Run) -> Result<(), Wrong> {
+    let mut field = Field::new(alloc, by, 8)?;
+    play(alloc, &mut field, run)
+}
+
+// Plays each run by each cursor.
+fn play_all(alloc: Global, runs: &[Run]) -> Result<(), Wrong> {
+    for run in runs {
+        play_by(alloc, By::Ref, run)?;
+        play_by(alloc, By::Mut, run)?;
+        play_by(alloc, By::Owning, run)?;
+    }
+    Ok(())
+}
 
 #[test]
 fn worked_rows(rt: HostRuntime) -> Result<(), Fail> {
-    for run in RUNS.iter().chain(KEYED_RUNS) {
-        for by in [By::Ref, By::Mut, By::Owning] {
-            let mut field = Field::new(rt.alloc(), by, 8)?;
-            play(rt.alloc(), &mut field, run)?;
-        }
-    }
+    play_all(rt.alloc(), RUNS)?;
+    play_all(rt.alloc(), KEYED_RUNS)?;
     Ok(())
 }
 

@@ -13,36 +13,32 @@ ghost use Rattle.ic_rbtree.specs.IntoIter.{CanTake};
 ghost use Rattle.ic_rbtree.specs.Iter.{CanWalk};
 ghost use Rattle.ic_rbtree.specs.Tree.{root_of};
 
-use crate::answers::object;
+use crate::answers::{number, object, value};
 use crate::cursors::moved;
 use crate::shape::write_linked;
+use crate::texts::Text;
 use crate::values::OwnKey;
 use ic_link_ops::rbtree::LinkOps;
 use ic_rbtree::{IntoIter, Iter, RBTree, RBTreeOps};
 use ic_unsafe_ref::{Objects, Place, UnsafeRef};
-use std::fmt::{self, Write};
 use test_support::plain_sequence::PlainSequence;
 
 // Writes a member, with a mark if the cursor is on it.
-fn write_member(text: &mut String, place: Place, is_marked: bool) -> fmt::Result {
-    let index = place.index();
-    if is_marked {
-        write!(text, "({index}) ")?;
-    } else {
-        write!(text, "{index} ")?;
-    }
-    Ok(())
+fn write_member(text: &mut Text, place: Place, is_marked: bool) {
+    let (before, behind) = if is_marked { ("(", ") ") } else { ("", " ") };
+    text.word(before);
+    text.add(number(place), behind);
 }
 
 /// The members as a walk from null by such moves comes by them, at most so many, with a mark at the cursor's.
 pub(crate) fn write_walk<L: RBTreeOps>(
-    shown: &mut String,
+    shown: &mut Text,
     tree: &RBTree<OwnKey>,
     links: &L,
     at: Option<Place>,
     name: &str,
     most: usize,
-) -> fmt::Result
+)
     requires shown { ShowsSome L.node (L.table links.now) (root_of tree.now) }
 {
     let mut cursor = tree.cursor(links);
@@ -51,9 +47,16 @@ pub(crate) fn write_walk<L: RBTreeOps>(
         let Some(place) = cursor.get_ptr() else {
             break;
         };
-        write_member(shown, place, at == Some(place))?;
+        write_member(shown, place, at == Some(place));
     }
-    Ok(())
+}
+
+/// The member in front of the gap of that number.
+pub(crate) fn before(plain: &PlainSequence, gap: usize) -> Option<Place> {
+    if gap == 0 {
+        return None;
+    }
+    plain.get(gap - 1)
 }
 
 /// Whether walks on and back come by the members of that sequence.
@@ -66,16 +69,12 @@ pub(crate) fn is_walked<L: RBTreeOps>(
 {
     let mut on = tree.cursor(links);
     let mut back = tree.cursor(links);
-    let mut left = plain.len();
     for index in 0..=plain.len() {
         on.move_next();
         back.move_prev();
-        let mut before = None;
-        if left > 0 {
-            left -= 1;
-            before = plain.get(left);
-        }
-        if on.get_ptr() != plain.get(index) || back.get_ptr() != before {
+        if on.get_ptr() != plain.get(index)
+            || back.get_ptr() != before(plain, plain.len() - index)
+        {
             return false;
         }
     }
@@ -107,55 +106,53 @@ pub(crate) fn are_placed(tree: &RBTree<OwnKey>, links: &LinkOps, objects: &Objec
     is_full(links, objects)
 }
 
-// Writes what a walk gave.
-fn write_given(text: &mut String, given: Option<&u64>) -> fmt::Result {
-    match given {
-        Some(object) => write!(text, "{object} ")?,
-        None => write!(text, "none ")?,
+// What the first call of a copy of the walk gives.
+fn first_of_copy<'a, L: RBTreeOps>(walk: &Iter<'a, OwnKey, L>) -> Option<&'a u64>
+    requires can { CanWalk L.node L.table walk.now }
+{
+    let mut copy = walk.clone().ok()?;
+    copy.next()
+}
+
+// What the call of the walk gives.
+fn given<'a, L: RBTreeOps>(walk: &mut Iter<'a, OwnKey, L>, call: &str) -> Option<&'a u64>
+    requires can { CanWalk L.node L.table walk.old }
+    ensures can { CanWalk L.node L.table walk.new }
+{
+    match call {
+        "next" => walk.next(),
+        "next_back" => walk.next_back(),
+        _ => first_of_copy(&*walk),
     }
-    Ok(())
 }
 
 /// Writes the objects that these calls give. `copy` is the first call of a copy of the walk.
 pub(crate) fn write_objects<L: RBTreeOps>(
-    text: &mut String,
+    text: &mut Text,
     mut walk: Iter<'_, OwnKey, L>,
     calls: &[&str],
-) -> fmt::Result
+)
     requires can { CanWalk L.node L.table walk }
 {
     for call in calls {
-        match *call {
-            "next" => write_given(text, walk.next())?,
-            "next_back" => write_given(text, walk.next_back())?,
-            _ => {
-                let mut copy = walk.clone()?;
-                write_given(text, copy.next())?;
-            }
-        }
+        text.add(value(given(&mut walk, call)), " ");
     }
-    Ok(())
 }
 
 /// Writes the places that the walk is at, and the objects that it gives there: `3:8` for the object 8 at 3.
-pub(crate) fn write_range<L: RBTreeOps>(
-    text: &mut String,
-    mut walk: Iter<'_, OwnKey, L>,
-    most: usize,
-) -> fmt::Result
+pub(crate) fn write_range<L: RBTreeOps>(text: &mut Text, mut walk: Iter<'_, OwnKey, L>, most: usize)
     requires can { CanWalk L.node L.table walk }
 {
-    for _ in 0..=most {
-        match (walk.get_ptr(), walk.next()) {
-            (Some(place), Some(object)) => {
-                let index = place.index();
-                write!(text, "{index}:{object} ")?;
-            }
-            (None, None) => break,
-            _ => write!(text, "otherwise ")?,
-        }
+    for _ in 0..most {
+        let Some(place) = walk.get_ptr() else {
+            break;
+        };
+        text.add(number(place), ":");
+        text.add(value(walk.next()), " ");
     }
-    Ok(())
+    if walk.get_ptr().is_some() || walk.next().is_some() {
+        text.word("otherwise");
+    }
 }
 
 // Takes off the first of the rest, or the last.
@@ -174,23 +171,22 @@ fn take_end<L: RBTreeOps>(
 
 /// Takes off members at these ends, tells them and what is linked then, and finishes the walk or drops it.
 pub(crate) fn write_taken(
-    text: &mut String,
+    text: &mut Text,
     tree: RBTree<OwnKey>,
     links: &mut LinkOps,
     ends: &[&str],
     finishes: bool,
-) -> fmt::Result
+)
     requires shown { ShowsSome node_of (table no_words links.old) (root_of tree) }
 {
     let mut rest = tree.into_iter(links);
     for end in ends {
-        let answer = object(take_end(&mut rest, *end == "front"));
-        write!(text, "{answer} ")?;
+        let taken = take_end(&mut rest, *end == "front");
+        text.add(object(taken), " ");
     }
-    write!(text, "linked ")?;
-    write_linked(text, rest.links())?;
+    text.word("linked ");
+    write_linked(text, rest.links());
     if finishes {
         rest.finish();
     }
-    Ok(())
 }
