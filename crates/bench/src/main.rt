@@ -44,7 +44,7 @@ use measured::{Drains, Splits, Steps, Touches, Turns, Work, add, add_lent, lent,
 use objects::fill_placed;
 use rings::{Ring, Singly, Tree, Xor};
 use std::alloc::Global;
-use std::env;
+use std::env::{self, Env};
 use std::io::{self, BufReader, BufWriter};
 use std::rt::Clock;
 use std::time::Instant;
@@ -382,39 +382,86 @@ fn print_lines(rt: &(impl Input + Print + AllocGlobal)) -> io::Result<()> {
     print_each(rt.alloc(), reader, &mut writer)
 }
 
-fn main(rt: HostRuntime) -> io::Result<()> {
-    let words: Vec<String> = env::args(&rt)?.collect(rt.alloc())?;
-    match words.get(1).map(|word| word.as_str()) {
-        Some("lines") => return copy_lines(&rt),
-        Some("print") => return print_lines(&rt),
-        _ => {}
-    }
-    let times = number(words.get(1), 100_001);
+// What is asked for.
+#[derive(Clone, Copy)]
+enum Job {
+    AnswerLines,
+    PrintLines,
+    // Figures, for so many operations of each kind.
+    Measure(u64),
+}
+
+// What the first argument asks for.
+fn job_asked(rt: &(impl Env + AllocGlobal)) -> io::Result<Job> {
+    let words: Vec<String> = env::args(rt)?.collect(rt.alloc())?;
+    Ok(match words.get(1).map(|word| word.as_str()) {
+        Some("lines") => Job::AnswerLines,
+        Some("print") => Job::PrintLines,
+        _ => Job::Measure(number(words.get(1), 100_001)),
+    })
+}
+
+// Lists of these numbers of members, and lists of one word.
+fn measure_lists(
+    rt: &(impl Print + Eprint + Clock),
+    alloc: Global,
+    sizes: &[u64],
+    times: u64,
+) -> io::Result<()> {
     eprintln!(rt;
         "| members | pair | lent | step | lent | touch | lent | split and splice | lent | pop_front | iter | lent |\n\
          |---|---|---|---|---|---|---|---|---|---|---|---|"
     )?;
-    for members in [1_000, 100_000, 1_000_000] {
-        one_list(&rt, rt.alloc(), members, times)?;
-        one_sum(&rt, rt.alloc(), members)?;
+    for members in sizes {
+        one_list(rt, alloc, *members, times)?;
+        one_sum(rt, alloc, *members)?;
         eprintln!(rt; "|")?;
     }
     eprintln!(rt; "| singly: pair | step | XOR: pair | step |\n|---|---|---|---|")?;
-    lists_of_one_word(&rt, rt.alloc(), 1_000, times)?;
+    lists_of_one_word(rt, alloc, 1_000, times)
+}
+
+// A tree by its cursors, and trees by keys of these numbers of members.
+fn measure_trees(
+    rt: &(impl Print + Eprint + Clock),
+    alloc: Global,
+    sizes: &[u64],
+    times: u64,
+) -> io::Result<()> {
     eprintln!(rt;
         "|\n| tree: pair | step | remove at random, with the test that it is a member |\n|---|---|---|"
     )?;
-    tree(&rt, rt.alloc(), 20_000, times)?;
+    tree(rt, alloc, 20_000, times)?;
     eprintln!(rt;
         "|\n| keys, lent | insert | find | lower_bound | find, remove and insert |\n|---|---|---|---|---|"
     )?;
-    for members in [1_000, 20_000, 1_000_000] {
-        one_keyed_tree(&rt, rt.alloc(), members, times)?;
+    for members in sizes {
+        one_keyed_tree(rt, alloc, *members, times)?;
         eprintln!(rt; "|")?;
     }
+    Ok(())
+}
+
+// Claims and a list over them, and a list of a world.
+fn measure_others(rt: &(impl Print + Eprint + Clock), alloc: Global, times: u64) -> io::Result<()> {
     eprintln!(rt; "| claim and release | bare words | pair | pair, claimed |\n|---|---|---|---|")?;
-    over_claims(&rt, rt.alloc(), times)?;
+    over_claims(rt, alloc, times)?;
     eprintln!(rt; "|\n| world: pair |\n|---|")?;
-    list_of_a_world(&rt, rt.alloc(), 1_000, times)?;
+    list_of_a_world(rt, alloc, 1_000, times)?;
     eprintln!(rt; "|")
+}
+
+// All figures.
+fn measure(rt: &(impl Print + Eprint + Clock), alloc: Global, times: u64) -> io::Result<()> {
+    measure_lists(rt, alloc, &[1_000, 100_000, 1_000_000], times)?;
+    measure_trees(rt, alloc, &[1_000, 20_000, 1_000_000], times)?;
+    measure_others(rt, alloc, times)
+}
+
+fn main(rt: HostRuntime) -> io::Result<()> {
+    match job_asked(&rt)? {
+        Job::AnswerLines => copy_lines(&rt),
+        Job::PrintLines => print_lines(&rt),
+        Job::Measure(times) => measure(&rt, rt.alloc(), times),
+    }
 }

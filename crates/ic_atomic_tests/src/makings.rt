@@ -6,6 +6,7 @@ ghost use Rattle.std.specs.Prelude.{All};
 use crate::runs::{place_below, same};
 use ic_atomic::{Claims, ClaimsError, Holder};
 use std::alloc::{AllocError, Global};
+use std::process::Abort;
 use std::test::Fail;
 use test_support::rationed::Rationed;
 use test_support::rows::Answer;
@@ -49,7 +50,7 @@ fn making(
 // There are four requests: the words as a list, the table's own words and its empty row of slots, and the holders. Each
 // is refused once, the same call then finds memory, and a fifth request is not asked for, by the audit and the claim
 // neither.
-const MAKINGS: [(u64, usize, usize, &str); 12] = [
+const MAKINGS: &[(u64, usize, usize, &str)] = &[
     (NONE, 0, 2, "0 places, 2 holders, none"),
     (NONE, 4_294_967_297, 1, "TooManyPlaces"),
     (NONE, 3, 0, "3 places, 0 holders, none"),
@@ -64,15 +65,24 @@ const MAKINGS: [(u64, usize, usize, &str); 12] = [
     (4, 1, 1, "1 places, 1 holders, yes"),
 ];
 
-#[test]
-fn limits_and_each_growth_refused_in_turn(rt: HostRuntime) -> Result<(), Fail> {
-    let memory = Rationed::new(rt.alloc(), NONE);
-    for (refused, places, holders, wanted) in MAKINGS {
-        memory.refuse(refused);
-        let found = making(rt.alloc(), &memory, places, holders)?;
-        same(&rt, found.as_str(), wanted);
+// Makes claims as each of these rows says, with one allocator for all.
+fn make_each(
+    rt: &impl Abort,
+    alloc: Global,
+    rows: &[(u64, usize, usize, &str)],
+) -> Result<(), AllocError> {
+    let memory = Rationed::new(alloc, NONE);
+    for (refused, places, holders, wanted) in rows {
+        memory.refuse(*refused);
+        let found = making(alloc, &memory, *places, *holders)?;
+        same(rt, found.as_str(), *wanted);
     }
     Ok(())
+}
+
+#[test]
+fn limits_and_each_growth_refused_in_turn(rt: HostRuntime) -> Result<(), Fail> {
+    Ok(make_each(&rt, rt.alloc(), MAKINGS)?)
 }
 
 #[test]

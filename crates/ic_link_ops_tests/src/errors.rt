@@ -6,7 +6,7 @@ use ic_unsafe_ref::{Place, UnsafeRef};
 use std::alloc::Global;
 use std::fmt;
 use std::test::Fail;
-use test_support::rows::{Answer, Played, Run, play};
+use test_support::rows::{Answer, Played, Run, play_all};
 
 // Makes errors and reads them. Nothing is kept, so nothing is shown.
 #[derive(Drop)]
@@ -68,7 +68,7 @@ impl Played for Errors {
     }
 }
 
-const RUNS: [Run; 4] = [
+const RUNS: &[Run] = &[
     Run {
         name: "a refused object comes back",
         rows: "AlreadyLinked 3 | 3",
@@ -98,8 +98,5 @@ const RUNS: [Run; 4] = [
 #[test]
 fn worked_rows(rt: HostRuntime) -> Result<(), Fail> {
     let mut errors = Errors { alloc: rt.alloc() };
-    for run in RUNS {
-        play(rt.alloc(), &mut errors, &run)?;
-    }
-    Ok(())
+    Ok(play_all(rt.alloc(), &mut errors, RUNS)?)
 }

@@ -4,9 +4,10 @@ use crate::answers::{place_or_none, read_place};
 use ic_unsafe_ref::{Objects, Place, UnsafeRef};
 use std::fmt::{self, Write};
 use std::mem;
+use std::alloc::Global;
 use std::test::Fail;
 use test_support::rationed::Rationed;
-use test_support::rows::{Answer, Played, Run, play};
+use test_support::rows::{Answer, Played, Run, Wrong, play};
 
 // Objects over an allocator that refuses the requests which a row names, and the value that came back last.
 #[derive(Drop)]
@@ -134,7 +135,7 @@ impl Played for Stand<'_> {
     }
 }
 
-const RUNS: [Run; 3] = [
+const RUNS: &[Run] = &[
     Run {
         name: "objects by place",
         rows: "
@@ -189,16 +190,26 @@ const RUNS: [Run; 3] = [
     },
 ];
 
-#[test]
-fn worked_rows(rt: HostRuntime) -> Result<(), Fail> {
-    for run in RUNS {
-        let rationed = Rationed::new(rt.alloc(), u64::MAX);
-        let mut stand = Stand {
-            rationed: &rationed,
-            objects: Objects::new(&rationed),
-            back: None,
-        };
-        play(rt.alloc(), &mut stand, &run)?;
+// Plays the run on a new stand.
+fn play_one(alloc: Global, run: &Run) -> Result<(), Wrong> {
+    let rationed = Rationed::new(alloc, u64::MAX);
+    let mut stand = Stand {
+        rationed: &rationed,
+        objects: Objects::new(&rationed),
+        back: None,
+    };
+    play(alloc, &mut stand, run)
+}
+
+// Plays these runs.
+fn play_each(alloc: Global, runs: &[Run]) -> Result<(), Wrong> {
+    for run in runs {
+        play_one(alloc, run)?;
     }
     Ok(())
+}
+
+#[test]
+fn worked_rows(rt: HostRuntime) -> Result<(), Fail> {
+    Ok(play_each(rt.alloc(), RUNS)?)
 }

@@ -5,7 +5,7 @@ use ic_unsafe_ref::{Place, UnsafeRef};
 use std::alloc::Global;
 use std::fmt;
 use std::test::Fail;
-use test_support::rows::{Answer, Played, Run, play};
+use test_support::rows::{Answer, Played, Run, play_all};
 
 // Calls of places. They change nothing, so nothing is shown.
 #[derive(Drop)]
@@ -95,7 +95,7 @@ impl Played for Places {
     }
 }
 
-const RUNS: [Run; 6] = [
+const RUNS: &[Run] = &[
     Run {
         name: "place limits",
         rows: "
@@ -152,8 +152,5 @@ const RUNS: [Run; 6] = [
 #[test]
 fn worked_rows(rt: HostRuntime) -> Result<(), Fail> {
     let mut places = Places { alloc: rt.alloc() };
-    for run in RUNS {
-        play(rt.alloc(), &mut places, &run)?;
-    }
-    Ok(())
+    Ok(play_all(rt.alloc(), &mut places, RUNS)?)
 }

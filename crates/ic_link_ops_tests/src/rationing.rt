@@ -1,9 +1,10 @@
 //! A vector over the allocator, which grows where the request is not the one to refuse.
 
 use std::fmt::{self, Write};
+use std::alloc::Global;
 use std::test::Fail;
 use test_support::rationed::Rationed;
-use test_support::rows::{Answer, Played, Run, play};
+use test_support::rows::{Answer, Played, Run, Wrong, play};
 
 // Numbers in memory that is rationed.
 #[derive(Drop)]
@@ -66,7 +67,7 @@ impl Played for Numbers<'_> {
 }
 
 // With each run stands which request it is made to refuse.
-const RUNS: [(u64, Run); 3] = [
+const RUNS: &[(u64, Run)] = &[
     (
         u64::MAX,
         Run {
@@ -107,15 +108,25 @@ const RUNS: [(u64, Run); 3] = [
     ),
 ];
 
-#[test]
-fn rows_of_rationed_memory(rt: HostRuntime) -> Result<(), Fail> {
-    for (refused, run) in RUNS {
-        let rationed = Rationed::new(rt.alloc(), refused);
-        let mut numbers = Numbers {
-            rationed: &rationed,
-            numbers: Vec::new(&rationed),
-        };
-        play(rt.alloc(), &mut numbers, &run)?;
+// Plays the run on new numbers, where this request for memory is refused.
+fn play_one(alloc: Global, refused: u64, run: &Run) -> Result<(), Wrong> {
+    let rationed = Rationed::new(alloc, refused);
+    let mut numbers = Numbers {
+        rationed: &rationed,
+        numbers: Vec::new(&rationed),
+    };
+    play(alloc, &mut numbers, run)
+}
+
+// Plays these runs.
+fn play_each(alloc: Global, runs: &[(u64, Run)]) -> Result<(), Wrong> {
+    for (refused, run) in runs {
+        play_one(alloc, *refused, run)?;
     }
     Ok(())
+}
+
+#[test]
+fn rows_of_rationed_memory(rt: HostRuntime) -> Result<(), Fail> {
+    Ok(play_each(rt.alloc(), RUNS)?)
 }

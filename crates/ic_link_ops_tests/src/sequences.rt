@@ -1,10 +1,11 @@
 //! The plain sequence: each method called once or more, and the rows of the lists that it can play.
 
 use crate::sequence::Sequence;
+use std::alloc::Global;
 use std::test::Fail;
-use test_support::rows::{BESIDE_THE_PLAIN_SEQUENCE, BOTH_ENDS, ONE_END, Run, play};
+use test_support::rows::{BESIDE_THE_PLAIN_SEQUENCE, BOTH_ENDS, ONE_END, Run, Wrong, play};
 
-const RUNS: [Run; 5] = [
+const RUNS: &[Run] = &[
     ONE_END,
     BOTH_ENDS,
     BESIDE_THE_PLAIN_SEQUENCE,
@@ -46,10 +47,15 @@ const RUNS: [Run; 5] = [
     },
 ];
 
-#[test]
-fn rows_of_a_plain_sequence(rt: HostRuntime) -> Result<(), Fail> {
-    for run in RUNS {
-        play(rt.alloc(), &mut Sequence::new(rt.alloc()), &run)?;
+// Plays these runs, each on a new sequence.
+fn play_each(alloc: Global, runs: &[Run]) -> Result<(), Wrong> {
+    for run in runs {
+        play(alloc, &mut Sequence::new(alloc), run)?;
     }
     Ok(())
+}
+
+#[test]
+fn rows_of_a_plain_sequence(rt: HostRuntime) -> Result<(), Fail> {
+    Ok(play_each(rt.alloc(), RUNS)?)
 }

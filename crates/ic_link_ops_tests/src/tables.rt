@@ -4,10 +4,10 @@ use crate::any_table::{AnyTable, Form};
 use std::alloc::Global;
 use std::test::Fail;
 use test_support::rationed::Rationed;
-use test_support::rows::{Run, Wrong, play};
+use test_support::rows::{Run, Wrong, play_all};
 
 // What each table does.
-const COMMON: [Run; 5] = [
+const COMMON: &[Run] = &[
     Run {
         name: "cover limits",
         rows: "
@@ -256,26 +256,18 @@ const THREE_WORDS: [Run; 1] = [Run {
 }];
 
 // Each form, with what only a table of that form does, and the kinds of links that it carries.
-const FORMS: [(Form, &[Run], &[Run]); 4] = [
+const FORMS: &[(Form, &[Run], &[Run])] = &[
     (Form::Singly, &[], &[SINGLY, XOR]),
     (Form::Xor, &XOR_WORD, &[SINGLY, XOR]),
     (Form::Doubly, &TWO_WORDS, &[SINGLY, XOR, DOUBLY]),
     (Form::Tree, &THREE_WORDS, &[SINGLY, XOR, DOUBLY, TREE]),
 ];
 
-// Plays the runs one after another on that table.
-fn play_on(alloc: Global, table: &mut AnyTable<'_>, runs: &[Run]) -> Result<(), Wrong> {
-    for run in runs {
-        play(alloc, table, run)?;
-    }
-    Ok(())
-}
-
 // Plays the runs one after another on a new table.
 fn play_in_turn(alloc: Global, form: Form, is_lent: bool, runs: &[Run]) -> Result<(), Wrong> {
     let rationed = Rationed::new(alloc, u64::MAX);
     let mut table = AnyTable::new(alloc, &rationed, form, is_lent);
-    play_on(alloc, &mut table, runs)
+    play_all(alloc, &mut table, runs)
 }
 
 // Plays the runs, each on a new table.
@@ -294,16 +286,21 @@ fn play_form(
     own: &[Run],
     carried: &[Run],
 ) -> Result<(), Wrong> {
-    play_each(alloc, form, is_lent, &COMMON)?;
+    play_each(alloc, form, is_lent, COMMON)?;
     play_each(alloc, form, is_lent, own)?;
     play_in_turn(alloc, form, is_lent, carried)
 }
 
-#[test]
-fn worked_rows(rt: HostRuntime) -> Result<(), Fail> {
-    for (form, own, carried) in FORMS {
-        play_form(rt.alloc(), form, false, own, carried)?;
-        play_form(rt.alloc(), form, true, own, carried)?;
+// Plays what each of these forms does, as a table of its own and as a lent one.
+fn play_forms(alloc: Global, forms: &[(Form, &[Run], &[Run])]) -> Result<(), Wrong> {
+    for (form, own, carried) in forms {
+        play_form(alloc, *form, false, own, carried)?;
+        play_form(alloc, *form, true, own, carried)?;
     }
     Ok(())
+}
+
+#[test]
+fn worked_rows(rt: HostRuntime) -> Result<(), Fail> {
+    Ok(play_forms(rt.alloc(), FORMS)?)
 }

@@ -3,8 +3,9 @@
 use crate::answers::{color, place_or_none, read_place};
 use ic_link_ops::{Color, End, MarkedWord, TreeWord, Word};
 use std::fmt::{self, Write};
+use std::alloc::Global;
 use std::test::Fail;
-use test_support::rows::{Answer, Played, Run, play};
+use test_support::rows::{Answer, Played, Run, Wrong, play};
 
 // A word of each form.
 #[derive(Drop)]
@@ -88,7 +89,7 @@ impl Played for Words {
     }
 }
 
-const RUNS: [Run; 4] = [
+const RUNS: &[Run] = &[
     Run {
         name: "an end keeps a place",
         rows: "
@@ -144,15 +145,25 @@ const RUNS: [Run; 4] = [
     },
 ];
 
-#[test]
-fn worked_rows(rt: HostRuntime) -> Result<(), Fail> {
-    for run in RUNS {
-        let mut words = Words {
-            word: Word::none(),
-            marked: MarkedWord::mark(),
-            tree: TreeWord::unlinked(),
-        };
-        play(rt.alloc(), &mut words, &run)?;
+// Plays the run on new words.
+fn play_one(alloc: Global, run: &Run) -> Result<(), Wrong> {
+    let mut words = Words {
+        word: Word::none(),
+        marked: MarkedWord::mark(),
+        tree: TreeWord::unlinked(),
+    };
+    play(alloc, &mut words, run)
+}
+
+// Plays these runs.
+fn play_each(alloc: Global, runs: &[Run]) -> Result<(), Wrong> {
+    for run in runs {
+        play_one(alloc, run)?;
     }
     Ok(())
+}
+
+#[test]
+fn worked_rows(rt: HostRuntime) -> Result<(), Fail> {
+    Ok(play_each(rt.alloc(), RUNS)?)
 }

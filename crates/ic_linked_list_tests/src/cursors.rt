@@ -10,11 +10,11 @@ ghost use Rattle.ic_linked_list.specs.CursorOwning as owned;
 ghost use Rattle.ic_linked_list.specs.CursorMut as lent;
 ghost use Rattle.ic_linked_list.specs.Cursor as reads;
 
-use crate::answers::{inserted, object, replaced};
 use crate::lists::{By, Lists};
 use ic_link_ops::linked_list::{LinkOps, LinkedListOps};
 use ic_linked_list::{Cursor, CursorMut, CursorOwning, LinkedList, laws};
 use ic_unsafe_ref::{Place, UnsafeRef};
+use test_support::answers::{inserted, object, replaced};
 use test_support::rows::Answer;
 
 /// A cursor that keeps the list, at that position.

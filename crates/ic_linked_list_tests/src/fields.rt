@@ -1,12 +1,11 @@
 //! Objects with two link fields, and lists in either field.
 
-use crate::answers::number;
-use crate::lists::{self, By, Lists};
-use ic_unsafe_ref::{Objects, UnsafeRef};
-use std::alloc::Global;
-use std::fmt::{self, Write};
-use std::test::Fail;
-use test_support::rows::{Answer, Played};
+use crate::lists::{By, Lists};
+use ic_unsafe_ref::Objects;
+use std::alloc::{AllocError, Global};
+use std::fmt;
+use test_support::answers::placed_words;
+use test_support::rows::{Answer, Played, place};
 
 /// Objects, with two lists and a cursor in each of two fields.
 #[derive(Drop)]
@@ -18,7 +17,7 @@ pub(crate) struct Fields {
 
 impl Fields {
     /// No objects yet, and empty lists. Each table covers so many places.
-    pub(crate) fn new(alloc: Global, by: By, covers: usize) -> Result<Fields, Fail> {
+    pub(crate) fn new(alloc: Global, by: By, covers: usize) -> Result<Fields, AllocError> {
         Ok(Fields {
             objects: Objects::new(alloc),
             first: Lists::new(alloc, by, covers)?,
@@ -26,35 +25,9 @@ impl Fields {
         })
     }
 
-    // Places an object, and answers where it stands.
-    fn place(&mut self, word: &str) -> Answer {
-        let Ok(value) = word.parse() else {
-            return Answer::Refused("no number");
-        };
-        let Some(next) = self.objects.next_place() else {
-            return Answer::Refused("full");
-        };
-        let _small = next.index();
-        match UnsafeRef::from_box(&mut self.objects, value) {
-            Ok(object) => number(object.place()),
-            Err(_) => Answer::Refused("memory"),
-        }
-    }
-
-    // Places these objects one after the other, and answers where the last one stands.
-    fn place_all(&mut self, values: &[&str]) -> Answer {
-        let mut answer = Answer::Nothing;
-        for value in values {
-            answer = self.place(value);
-        }
-        answer
-    }
-}
-
-impl Fields {
     // Puts an object at the back of a list of each field.
     fn push_in_both(&mut self, word: &str) -> Answer {
-        match lists::place(word) {
+        match place(word) {
             Some(place) => self.first.push_in_both(&mut self.second, place),
             None => Answer::Refused("no such place"),
         }
@@ -79,7 +52,7 @@ impl Played for Fields {
             return Answer::Refused("no call");
         };
         match *name {
-            "place" => self.place_all(rest),
+            "place" => placed_words(&mut self.objects, rest),
             "placed" => Answer::Number(self.objects.len() as u64),
             "second" => self.second.call(&self.objects, rest),
             "push_in_both" => self.push_in_both_all(rest),
@@ -88,11 +61,11 @@ impl Played for Fields {
     }
 
     fn show(&self, shown: &mut String) -> fmt::Result {
-        self.first.write(shown)?;
+        let mut text = self.first.write();
         if !self.second.is_empty() {
-            write!(shown, "/ ")?;
-            self.second.write(shown)?;
+            text.word("/ ");
+            self.second.write_to(&mut text);
         }
-        Ok(())
+        text.show(shown)
     }
 }

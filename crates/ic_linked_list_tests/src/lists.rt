@@ -1,14 +1,13 @@
 //! Two lists of one table with a position in the first, whose calls ask nothing.
 
-use crate::answers::{inserted, object};
 use ic_link_ops::linked_list::LinkOps;
 use ic_linked_list::{LinkedList, laws};
 use ic_unsafe_ref::{Objects, Place, UnsafeRef};
-use std::alloc::Global;
+use std::alloc::{AllocError, Global};
 use std::marker::Model;
 use std::mem;
-use std::test::Fail;
-use test_support::rows::Answer;
+use test_support::answers::{inserted, object};
+use test_support::rows::{Answer, place};
 
 /// By which cursor the calls at a position are made.
 #[derive(Clone, Copy)]
@@ -46,9 +45,11 @@ impl Model for Lists {
 
 impl Lists {
     /// Two empty lists, a new one and the default, of a table that covers so many places.
-    pub(crate) fn new(alloc: Global, by: By, covers: usize) -> Result<Lists, Fail> {
+    pub(crate) fn new(alloc: Global, by: By, covers: usize) -> Result<Lists, AllocError> {
         let mut links = LinkOps::new(alloc);
-        links.cover(covers)?;
+        if links.cover(covers).is_err() {
+            return Err(AllocError);
+        }
         Ok(Lists {
             alloc,
             by,
@@ -333,9 +334,4 @@ impl Lists {
             name => self.call_by_name(objects, name, rest),
         }
     }
-}
-
-/// The place that the word is.
-pub(crate) fn place(word: &str) -> Option<Place> {
-    Place::new(word.parse().ok()?)
 }

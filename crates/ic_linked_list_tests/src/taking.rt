@@ -3,14 +3,13 @@
 ghost use Rattle.ic_link_ops.specs.DoublyEntries.{neighbors_of, plain_table, PlainShowsSome};
 ghost use Rattle.ic_linked_list.specs.IntoIter.{CanTake};
 
-use crate::answers::{answered, object};
 use crate::lists::Lists;
-use crate::walks::write_linked;
 use ic_link_ops::linked_list::LinkOps;
 use ic_linked_list::{IntoIter, LinkedList};
 use ic_unsafe_ref::UnsafeRef;
-use std::fmt::{self, Write};
-use test_support::rows::Answer;
+use test_support::answers::object;
+use test_support::rows::{Answer, Text};
+use test_support::tables::write_linked;
 
 // Takes off the member at the front, or at the back.
 fn take_at(rest: &mut IntoIter<'_, u64, LinkOps>, at_the_front: bool) -> Option<UnsafeRef<u64>>
@@ -23,38 +22,25 @@ fn take_at(rest: &mut IntoIter<'_, u64, LinkOps>, at_the_front: bool) -> Option<
     rest.next_back()
 }
 
-// Writes which member came off.
-fn write_object(text: &mut String, taken: Option<UnsafeRef<u64>>) -> fmt::Result {
-    let answer = object(taken);
-    write!(text, "{answer} ")?;
-    Ok(())
-}
-
-// Writes which places are linked before the rest of the walk.
-fn write_still_linked(text: &mut String, links: &LinkOps) -> fmt::Result {
-    write!(text, "linked ")?;
-    write_linked(text, links)
-}
-
 // Takes off members at these ends, tells them and what is linked then, and finishes the walk or drops it.
 fn write_taken(
-    text: &mut String,
+    text: &mut Text,
     list: LinkedList<u64>,
     links: &mut LinkOps,
     ends: &[&str],
     finishes: bool,
-) -> fmt::Result
+)
     requires shown { PlainShowsSome links.old list }
 {
     let mut rest = list.into_iter(links);
     for end in ends {
-        write_object(text, take_at(&mut rest, *end == "front"))?;
+        text.add(object(take_at(&mut rest, *end == "front")), " ");
     }
-    write_still_linked(text, rest.links())?;
+    text.word("linked ");
+    write_linked(text, rest.links());
     if finishes {
         rest.finish();
     }
-    Ok(())
 }
 
 impl Lists {
@@ -66,8 +52,8 @@ impl Lists {
         self.at = None;
         self.other = LinkedList::new();
         let list = self.list.take();
-        let mut text = String::new(self.alloc);
-        let written = write_taken(&mut text, list, &mut self.links, ends, finishes);
-        answered(written, text)
+        let mut text = Text::new(self.alloc);
+        write_taken(&mut text, list, &mut self.links, ends, finishes);
+        text.answer()
     }
 }

@@ -1,4 +1,2 @@
 pub mod Line
-pub mod Number
 pub mod Arguments
-pub mod KindNames

@@ -7,8 +7,8 @@
 ghost use Rattle.std.specs.Prelude.{IfSome, IfNone};
 ghost use Rattle.ic_program.specs.Arguments.{AskFor};
 
-use crate::words::number;
 use ic_atomic::Gate;
+use ic_words::number;
 use ic_workers::{doubles, fan_out};
 use std::alloc::Allocator;
 use std::io::{self, ErrorKind, Write};

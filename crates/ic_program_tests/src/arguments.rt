@@ -3,11 +3,12 @@
 use crate::program_runs::same;
 use ic_program::run_program;
 use std::alloc::Global;
+use std::process::Abort;
 use std::sync::Wait;
 use std::test::Fail;
 use std::thread::Threads;
 
-const PRINTED: [(&str, &str); 9] = [
+const PRINTED: &[(&str, &str)] = &[
     ("workers 1 3", "worker 1 items 0 1 2\ndoubles 0\nstatus 0"),
     (
         "workers 2 0",
@@ -38,13 +39,22 @@ fn run_with<S: Threads + Wait + Sync>(
     Ok(format!(in alloc; "{text}status {status}")?)
 }
 
-#[test]
-fn takes_workers_alone(rt: HostRuntime) -> Result<(), Fail> {
-    for (arguments, wanted) in PRINTED {
-        let found = run_with(&rt, rt.alloc(), arguments)?;
-        same(&rt, found.as_str(), wanted);
+// Runs the program with each of these arguments.
+fn run_each<S: Threads + Wait + Sync + Abort>(
+    rt: &S,
+    alloc: Global,
+    rows: &[(&str, &str)],
+) -> Result<(), Fail> {
+    for (arguments, wanted) in rows {
+        let found = run_with(rt, alloc, arguments)?;
+        same(rt, found.as_str(), wanted);
     }
     Ok(())
+}
+
+#[test]
+fn takes_workers_alone(rt: HostRuntime) -> Result<(), Fail> {
+    run_each(&rt, rt.alloc(), PRINTED)
 }
 
 #[test]

@@ -1,12 +1,13 @@
 //! Commands that are run as one list, with each request of a run refused in turn.
 
 use crate::listed::play_listed;
+use std::alloc::Global;
 use std::test::Fail;
 use test_support::rationed::Rationed;
-use test_support::rows::Run;
+use test_support::rows::{Run, Wrong};
 
 // The first request of a run is for its answers: refused it refuses the run. A later one is a call's.
-const RUNS: [Run; 3] = [
+const RUNS: &[Run] = &[
     Run {
         name: "both ends",
         rows: "
@@ -89,11 +90,16 @@ const RUNS: [Run; 3] = [
     },
 ];
 
-#[test]
-fn growth_of_runs(rt: HostRuntime) -> Result<(), Fail> {
-    let rationed = Rationed::new(rt.alloc(), u64::MAX);
-    for run in RUNS {
-        play_listed(rt.alloc(), &rationed, &run)?;
+// Plays these, each on a new world.
+fn play_each(alloc: Global, runs: &[Run]) -> Result<(), Wrong> {
+    let rationed = Rationed::new(alloc, u64::MAX);
+    for run in runs {
+        play_listed(alloc, &rationed, run)?;
     }
     Ok(())
+}
+
+#[test]
+fn growth_of_runs(rt: HostRuntime) -> Result<(), Fail> {
+    Ok(play_each(rt.alloc(), RUNS)?)
 }

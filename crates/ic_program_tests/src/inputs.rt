@@ -60,7 +60,7 @@ status 0",
 );
 
 // Every line is counted, an empty one and the last too.
-const COUNTED: [(&str, &str); 5] = [
+const COUNTED: &[(&str, &str)] = &[
     ("", "status 0"),
     ("\n \n\r\n", "status 0"),
     (
@@ -75,7 +75,7 @@ const COUNTED: [(&str, &str); 5] = [
 ];
 
 // Numbers at their ends.
-const NUMBERS: [(&str, &str); 7] = [
+const NUMBERS: &[(&str, &str)] = &[
     ("place 00000000000000000001", "object 0\nstatus 0"),
     ("place 18446744073709551615", "object 0\nstatus 0"),
     ("  place   7  ", "object 0\nstatus 0"),
@@ -95,7 +95,7 @@ const NUMBERS: [(&str, &str); 7] = [
 ];
 
 // Each of these is no command.
-const MALFORMED: [&str; 39] = [
+const MALFORMED: &[&str] = &[
     "field",
     "field list",
     "field doubly doubly",
@@ -146,13 +146,19 @@ fn run_each(rt: &impl Abort, alloc: Global, rows: &[(&str, &str)]) -> Result<(),
     Ok(())
 }
 
+// Runs each of these lines, which are no commands, on a new world.
+fn refuse_each(rt: &impl Abort, alloc: Global, lines: &[&str]) -> Result<(), Fail> {
+    for line in lines {
+        let found = run(alloc, alloc, &mut line.as_bytes())?;
+        same(rt, found.as_str(), "line 1: no command\nstatus 2");
+    }
+    Ok(())
+}
+
 #[test]
 fn inputs_and_what_is_printed(rt: HostRuntime) -> Result<(), Fail> {
     run_each(&rt, rt.alloc(), &[FIRST_RUN, REFUSALS])?;
-    run_each(&rt, rt.alloc(), &COUNTED)?;
-    run_each(&rt, rt.alloc(), &NUMBERS)?;
-    for line in MALFORMED {
-        run_each(&rt, rt.alloc(), &[(line, "line 1: no command\nstatus 2")])?;
-    }
-    Ok(())
+    run_each(&rt, rt.alloc(), COUNTED)?;
+    run_each(&rt, rt.alloc(), NUMBERS)?;
+    refuse_each(&rt, rt.alloc(), MALFORMED)
 }

@@ -56,10 +56,10 @@ impl<'r> Listed<'r> {
         Listed {
             alloc,
             rationed,
-            world: World::new(rationed, OwnKey),
             list: Vec::new(alloc),
             answers: Vec::new(rationed),
             shown: String::new(alloc),
+            world: World::new(rationed, OwnKey),
         }
     }
 
@@ -108,8 +108,8 @@ impl<'r> Listed<'r> {
                 Answer::Done
             }
             ["anew"] => {
-                self.world = World::new(self.rationed, OwnKey);
                 self.answers = Vec::new(self.rationed);
+                self.world = World::new(self.rationed, OwnKey);
                 Answer::Done
             }
             _ => Answer::Refused("no row"),

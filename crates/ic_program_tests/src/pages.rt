@@ -1,12 +1,13 @@
 //! The examples of docs/COMMANDS.md, once more as rows. `page-examples` at the top compares the two.
 
 use crate::session::play_session;
+use std::alloc::Global;
 use std::test::Fail;
 use test_support::rationed::Rationed;
-use test_support::rows::Run;
+use test_support::rows::{Run, Wrong};
 
 /// The examples, each under the heading that it stands under on the page.
-pub(crate) const PAGES: [Run; 5] = [
+pub(crate) const PAGES: &[Run] = &[
     Run {
         name: "Objects and fields",
         rows: "
@@ -118,11 +119,16 @@ pub(crate) const PAGES: [Run; 5] = [
     },
 ];
 
-#[test]
-fn pages(rt: HostRuntime) -> Result<(), Fail> {
-    let rationed = Rationed::new(rt.alloc(), u64::MAX);
-    for page in PAGES {
-        play_session(rt.alloc(), &rationed, &page)?;
+// Plays these, each on a new world.
+fn play_each(alloc: Global, runs: &[Run]) -> Result<(), Wrong> {
+    let rationed = Rationed::new(alloc, u64::MAX);
+    for run in runs {
+        play_session(alloc, &rationed, run)?;
     }
     Ok(())
+}
+
+#[test]
+fn pages(rt: HostRuntime) -> Result<(), Fail> {
+    Ok(play_each(rt.alloc(), PAGES)?)
 }

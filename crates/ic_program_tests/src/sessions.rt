@@ -1,12 +1,13 @@
 //! Whole sessions over all kinds, in the text of the program's commands.
 
 use crate::session::play_session;
+use std::alloc::Global;
 use std::test::Fail;
 use test_support::rationed::Rationed;
-use test_support::rows::Run;
+use test_support::rows::{Run, Wrong};
 
 /// The sessions, of which only the last line may be no command.
-pub(crate) const SESSIONS: [Run; 5] = [
+pub(crate) const SESSIONS: &[Run] = &[
     Run {
         name: "keys in a tree",
         rows: "
@@ -143,11 +144,16 @@ pub(crate) const SESSIONS: [Run; 5] = [
     },
 ];
 
-#[test]
-fn sessions(rt: HostRuntime) -> Result<(), Fail> {
-    let rationed = Rationed::new(rt.alloc(), u64::MAX);
-    for session in SESSIONS {
-        play_session(rt.alloc(), &rationed, &session)?;
+// Plays these, each on a new world.
+fn play_each(alloc: Global, runs: &[Run]) -> Result<(), Wrong> {
+    let rationed = Rationed::new(alloc, u64::MAX);
+    for run in runs {
+        play_session(alloc, &rationed, run)?;
     }
     Ok(())
+}
+
+#[test]
+fn sessions(rt: HostRuntime) -> Result<(), Fail> {
+    Ok(play_each(rt.alloc(), SESSIONS)?)
 }

@@ -74,8 +74,8 @@ impl Shown {
     pub(crate) fn new(alloc: Global) -> Shown {
         Shown {
             alloc,
-            world: World::new(alloc, OwnKey),
             shown: String::new(alloc),
+            world: World::new(alloc, OwnKey),
         }
     }
 

@@ -85,9 +85,9 @@ impl<'r> Worlds<'r> {
         Worlds {
             alloc,
             rationed,
-            world: World::new(rationed, OwnKey),
             accepted: Vec::new(alloc),
             refused: None,
+            world: World::new(rationed, OwnKey),
         }
     }
 

@@ -9,10 +9,10 @@ ghost use Rattle.ic_rbtree.specs.Cursor as reads;
 ghost use Rattle.ic_rbtree.specs.CursorMut as lent;
 ghost use Rattle.ic_rbtree.specs.CursorOwning as owned;
 
-use crate::answers::{inserted, object, replaced, standing, value};
 use crate::values::OwnKey;
 use ic_rbtree::{Cursor, CursorMut, CursorOwning, RBTree, RBTreeOps};
 use ic_unsafe_ref::{Objects, Place, UnsafeRef};
+use test_support::answers::{inserted, object, replaced, standing, value};
 use test_support::rows::Answer;
 
 /// By which cursor the calls at a position are made.

@@ -1,12 +1,10 @@
 //! A tree with a position in it, and objects, whose calls ask nothing.
 
-use crate::answers::{placed, value};
 use crate::cursors::{By, borrowing, edit, emptied, end, nulled, told_at};
 use crate::inserts::{insert, insert_by_cursor};
 use crate::keyed::{Search, probed, range, seek};
-use crate::shape::{blacks_below, root_above, write_below, write_linked, write_words};
+use crate::shape::{blacks_below, root_above, write_below, write_words};
 use crate::sorted::{Sorted, all_lead};
-use crate::texts::Text;
 use crate::values::OwnKey;
 use crate::walks::{are_placed, is_walked, write_objects, write_range, write_taken, write_walk};
 use ic_link_ops::rbtree::LinkOps;
@@ -14,8 +12,10 @@ use ic_rbtree::{Bound, KeyAdapter, RBTree};
 use ic_unsafe_ref::{Objects, Place};
 use std::alloc::{AllocError, Global};
 use std::marker::Model;
+use test_support::answers::{placed, placed_word, value};
 use test_support::plain_sequence::PlainSequence;
-use test_support::rows::Answer;
+use test_support::rows::{Answer, Text};
+use test_support::tables::write_linked;
 
 /// A tree, a position in it, and objects.
 #[derive(Drop)]
@@ -63,10 +63,7 @@ impl Field {
 
     /// Places the object that the word says, and answers where it stands.
     pub(crate) fn place_word(&mut self, word: &str) -> Answer {
-        match word.parse() {
-            Ok(value) => self.place(value),
-            Err(_) => Answer::Refused("no number"),
-        }
+        placed_word(&mut self.objects, word)
     }
 
     /// Places an object, and answers where it stands.

@@ -12,13 +12,21 @@ ghost use Rattle.ic_rbtree.specs.KeyProbe.{looks_of};
 ghost use Rattle.ic_rbtree.specs.Tree.{root_of};
 ghost use Rattle.ic_rbtree.specs.CursorMut as lent;
 
-use crate::answers::{inserted, refused};
 use crate::cursors::{By, borrowing, owning};
 use crate::values::OwnKey;
 use ic_link_ops::AlreadyLinked;
 use ic_rbtree::{CursorMut, Entry, KeyProbe, RBTree, RBTreeOps};
 use ic_unsafe_ref::{Objects, Place, UnsafeRef};
+use test_support::answers::inserted;
 use test_support::rows::Answer;
+
+// A refusal of an object that is linked, which no probe is to look for.
+fn refused(looks: u64) -> Answer {
+    if looks > 0 {
+        return Answer::Refused("looked");
+    }
+    Answer::Refused("linked")
+}
 
 /// Inserts the object where its key belongs, by such a cursor at that position.
 pub(crate) fn insert_by_cursor<L: RBTreeOps>(

@@ -2,7 +2,6 @@
 #![tactic(auto)]
 
 #[cfg(test)]
-mod answers;
 #[cfg(test)]
 mod cursors;
 #[cfg(test)]
@@ -26,7 +25,6 @@ mod sorted;
 #[cfg(test)]
 mod tests;
 #[cfg(test)]
-mod texts;
 #[cfg(test)]
 mod values;
 #[cfg(test)]

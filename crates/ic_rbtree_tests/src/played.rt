@@ -5,12 +5,7 @@ use crate::keyed::Search;
 use ic_rbtree::Bound;
 use ic_unsafe_ref::Place;
 use std::fmt::{self, Write};
-use test_support::rows::{Answer, Played};
-
-// The place that the word is.
-fn place(word: &str) -> Option<Place> {
-    Place::new(word.parse().ok()?)
-}
+use test_support::rows::{Answer, Played, place};
 
 // The bound that the word is: `Included=5`, `Excluded=5` or `Unbounded`.
 fn bound(word: &str) -> Option<Bound<u64>> {

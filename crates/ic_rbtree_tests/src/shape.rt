@@ -1,22 +1,10 @@
 //! What the links say of a tree's shape.
 
-use crate::answers::number;
-use crate::texts::Text;
 use ic_link_ops::rbtree::LinkOps;
 use ic_rbtree::{Color, RBTreeOps};
 use ic_unsafe_ref::Place;
-use test_support::rows::Answer;
-
-/// Writes the places that are linked.
-pub(crate) fn write_linked(text: &mut Text, links: &LinkOps) {
-    for index in 0..links.covers() {
-        if let Some(place) = Place::new(index) {
-            if links.is_linked(place) {
-                text.add(number(place), " ");
-            }
-        }
-    }
-}
+use test_support::answers::number;
+use test_support::rows::{Answer, Text};
 
 /// Writes the third words of the places, in their order.
 pub(crate) fn write_words(text: &mut Text, links: &LinkOps) {

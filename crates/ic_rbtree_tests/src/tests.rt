@@ -26,11 +26,15 @@ fn play_all(alloc: Global, runs: &[Run]) -> Result<(), Wrong> {
     Ok(())
 }
 
+// Plays all that there are.
+fn play_each(alloc: Global) -> Result<(), Wrong> {
+    play_all(alloc, RUNS)?;
+    play_all(alloc, KEYED_RUNS)
+}
+
 #[test]
 fn worked_rows(rt: HostRuntime) -> Result<(), Fail> {
-    play_all(rt.alloc(), RUNS)?;
-    play_all(rt.alloc(), KEYED_RUNS)?;
-    Ok(())
+    Ok(play_each(rt.alloc())?)
 }
 
 #[test]

@@ -13,22 +13,15 @@ ghost use Rattle.ic_rbtree.specs.IntoIter.{CanTake};
 ghost use Rattle.ic_rbtree.specs.Iter.{CanWalk};
 ghost use Rattle.ic_rbtree.specs.Tree.{root_of};
 
-use crate::answers::{number, object, value};
 use crate::cursors::moved;
-use crate::shape::write_linked;
-use crate::texts::Text;
 use crate::values::OwnKey;
 use ic_link_ops::rbtree::LinkOps;
 use ic_rbtree::{IntoIter, Iter, RBTree, RBTreeOps};
 use ic_unsafe_ref::{Objects, Place, UnsafeRef};
+use test_support::answers::{number, object, value};
 use test_support::plain_sequence::PlainSequence;
-
-// Writes a member, with a mark if the cursor is on it.
-fn write_member(text: &mut Text, place: Place, is_marked: bool) {
-    let (before, behind) = if is_marked { ("(", ") ") } else { ("", " ") };
-    text.word(before);
-    text.add(number(place), behind);
-}
+use test_support::rows::Text;
+use test_support::tables::{self, write_linked};
 
 /// The members as a walk from null by such moves comes by them, at most so many, with a mark at the cursor's.
 pub(crate) fn write_walk<L: RBTreeOps>(
@@ -47,7 +40,7 @@ pub(crate) fn write_walk<L: RBTreeOps>(
         let Some(place) = cursor.get_ptr() else {
             break;
         };
-        write_member(shown, place, at == Some(place));
+        shown.member(place, at == Some(place));
     }
 }
 
@@ -81,21 +74,6 @@ pub(crate) fn is_walked<L: RBTreeOps>(
     true
 }
 
-// Whether an object stands at each place that is covered.
-fn is_full(links: &LinkOps, objects: &Objects<u64>) -> bool
-    ensures placed { OnTrue result ((q : Place) → IsCovered (table no_words links.now) q → is_placed objects.now q ≡ true) }
-{
-    for index in 0..links.covers() {
-        let Some(place) = Place::new(index) else {
-            return false;
-        };
-        if !objects.is_placed(place) {
-            return false;
-        }
-    }
-    true
-}
-
 /// Whether an object stands at each place that is covered, so at each member.
 pub(crate) fn are_placed(tree: &RBTree<OwnKey>, links: &LinkOps, objects: &Objects<u64>) -> bool
     requires shown { ShowsSome node_of (table no_words links.now) (root_of tree.now) }
@@ -103,7 +81,7 @@ pub(crate) fn are_placed(tree: &RBTree<OwnKey>, links: &LinkOps, objects: &Objec
     ensures members { OnTrue result (ShowsPlaced (Shows node_of (table no_words links.now) (root_of tree.now)) objects.now) }
 {
     let _ = tree;
-    is_full(links, objects)
+    tables::are_placed(links, objects)
 }
 
 // What the first call of a copy of the walk gives.

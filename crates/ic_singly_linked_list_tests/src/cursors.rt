@@ -8,11 +8,11 @@ ghost use Rattle.ic_singly_linked_list.specs.CursorMut as lent;
 ghost use Rattle.ic_singly_linked_list.specs.Cursor as reads;
 ghost use Rattle.ic_singly_linked_list_tests.specs.Lists.{Shows};
 
-use crate::answers::{inserted, object, replaced};
 use crate::lists::{By, Lists};
 use ic_link_ops::{NextWord, PlainTable};
 use ic_singly_linked_list::{Cursor, CursorMut, CursorOwning, SinglyLinkedList, laws};
 use ic_unsafe_ref::{Place, UnsafeRef};
+use test_support::answers::{inserted, object, replaced};
 use test_support::rows::Answer;
 
 /// A cursor that keeps the list, at that position.

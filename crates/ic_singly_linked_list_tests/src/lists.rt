@@ -1,13 +1,12 @@
 //! Two lists of one table with a position in the first, whose calls ask nothing.
 
-use crate::answers::{inserted, object};
 use ic_link_ops::{NextWord, PlainTable};
 use ic_singly_linked_list::{SinglyLinkedList, laws};
 use ic_unsafe_ref::{Place, UnsafeRef};
-use std::alloc::Global;
+use std::alloc::{AllocError, Global};
 use std::marker::Model;
 use std::mem;
-use std::test::Fail;
+use test_support::answers::{inserted, object};
 use test_support::rows::Answer;
 
 /// By which cursor the calls at a position are made.
@@ -46,9 +45,11 @@ impl<W: NextWord> Model for Lists<W> {
 
 impl<W: NextWord> Lists<W> {
     /// Two empty lists, a new one and the default, of a table that covers so many places.
-    pub(crate) fn new(alloc: Global, by: By, covers: usize) -> Result<Lists<W>, Fail> {
+    pub(crate) fn new(alloc: Global, by: By, covers: usize) -> Result<Lists<W>, AllocError> {
         let mut links = PlainTable::new(alloc);
-        links.cover(covers)?;
+        if links.cover(covers).is_err() {
+            return Err(AllocError);
+        }
         Ok(Lists {
             alloc,
             by,
@@ -144,9 +145,4 @@ impl<W: NextWord> Lists<W> {
         self.at = None;
         object(laws::push_then_pop(&mut self.list, &mut self.links, UnsafeRef::new(place)))
     }
-}
-
-/// The place that the word is.
-pub(crate) fn place(word: &str) -> Option<Place> {
-    Place::new(word.parse().ok()?)
 }

@@ -1,13 +1,12 @@
 //! The calls by their names.
 
-use crate::answers::number;
-use crate::lists::{By, Lists, place};
+use crate::lists::{By, Lists};
 use ic_link_ops::NextWord;
-use ic_unsafe_ref::{Objects, Place, UnsafeRef};
-use std::alloc::Global;
+use ic_unsafe_ref::{Objects, Place};
+use std::alloc::{AllocError, Global};
 use std::fmt;
-use std::test::Fail;
-use test_support::rows::{Answer, Played};
+use test_support::answers::placed_words;
+use test_support::rows::{Answer, Played, place};
 
 /// Objects, with two lists and a cursor.
 #[derive(Drop)]
@@ -107,35 +106,11 @@ impl<W: NextWord> Lists<W> {
 
 impl<W: NextWord> Field<W> {
     /// No objects yet, and empty lists. The table covers so many places.
-    pub(crate) fn new(alloc: Global, by: By, covers: usize) -> Result<Field<W>, Fail> {
+    pub(crate) fn new(alloc: Global, by: By, covers: usize) -> Result<Field<W>, AllocError> {
         Ok(Field {
             objects: Objects::new(alloc),
             lists: Lists::new(alloc, by, covers)?,
         })
-    }
-
-    // Places an object, and answers where it stands.
-    fn place(&mut self, word: &str) -> Answer {
-        let Ok(value) = word.parse() else {
-            return Answer::Refused("no number");
-        };
-        let Some(next) = self.objects.next_place() else {
-            return Answer::Refused("full");
-        };
-        let _small = next.index();
-        match UnsafeRef::from_box(&mut self.objects, value) {
-            Ok(object) => number(object.place()),
-            Err(_) => Answer::Refused("memory"),
-        }
-    }
-
-    // Places these objects one after the other, and answers where the last one stands.
-    fn place_all(&mut self, values: &[&str]) -> Answer {
-        let mut answer = Answer::Nothing;
-        for value in values {
-            answer = self.place(value);
-        }
-        answer
     }
 
     // A walk of as many calls as the word says.
@@ -158,7 +133,7 @@ impl<W: NextWord> Played for Field<W> {
             return Answer::Refused("no call");
         };
         match (*name, rest) {
-            ("place", rest) => self.place_all(rest),
+            ("place", rest) => placed_words(&mut self.objects, rest),
             (name, []) => self.lists.call_to_read(&self.objects, name),
             ("walk" | "take_and_drop" | "take_and_finish", [calls]) => self.walk(name, calls),
             (name, rest) => self.lists.call_at_each(name, rest),
@@ -166,6 +141,6 @@ impl<W: NextWord> Played for Field<W> {
     }
 
     fn show(&self, shown: &mut String) -> fmt::Result {
-        self.lists.write(shown)
+        self.lists.write().show(shown)
     }
 }

@@ -1,10 +1,7 @@
 //! What is read at a position, and by a walk.
 
-ghost use Rattle.std.specs.Prelude.{◌≡◌, ◌<◌, IfSome, IsTrue, List, true};
+ghost use Rattle.std.specs.Prelude.{IfSome, List};
 ghost use Rattle.ic_unsafe_ref.specs.declared.place.Place.{Place};
-ghost use Rattle.ic_unsafe_ref.specs.Places.{index_of};
-ghost use Rattle.ic_unsafe_ref.specs.Objects.{is_placed};
-ghost use Rattle.ic_link_ops.specs.Tables.{IsCovered};
 ghost use Rattle.ic_link_ops.specs.PlainTables.{table};
 ghost use Rattle.ic_link_ops.specs.Readings.{successor_of};
 ghost use Rattle.ic_link_ops.specs.Positions.{Stands};
@@ -13,34 +10,23 @@ ghost use Rattle.ic_singly_linked_list.specs.CursorMut as lent;
 ghost use Rattle.ic_singly_linked_list.specs.Iter.{CanWalk};
 ghost use Rattle.ic_singly_linked_list_tests.specs.Lists.{Shows};
 
-use crate::answers::{answered, object, standing, value};
 use crate::cursors::{borrowing, owning, reading};
 use crate::lists::{By, Lists};
 use ic_link_ops::{NextWord, PlainTable};
 use ic_singly_linked_list::{Cursor, CursorMut, Iter, SinglyLinkedList};
 use ic_unsafe_ref::{Objects, Place};
 use std::alloc::{AllocError, Global};
-use std::fmt::{self, Write};
-use test_support::rows::Answer;
-
-// Writes a member, with a mark if the cursor is on it.
-fn write_member(text: &mut String, place: Place, is_marked: bool) -> fmt::Result {
-    let index = place.index();
-    if is_marked {
-        write!(text, "({index}) ")?;
-    } else {
-        write!(text, "{index} ")?;
-    }
-    Ok(())
-}
+use test_support::answers::{object, standing, value};
+use test_support::rows::{Answer, Text};
+use test_support::tables::{are_placed, write_linked};
 
 /// The members as a walk from null to null comes by them, with a mark at the cursor's.
 pub(crate) fn write_walk<W: NextWord>(
-    shown: &mut String,
+    shown: &mut Text,
     list: &SinglyLinkedList<u64>,
     links: &PlainTable<W>,
     at: Option<Place>,
-) -> fmt::Result
+)
     requires shown { (s : List Place) × Shows W.next_word W.is_linked (table W.unlinked links.now) list.now s }
 {
     let mut cursor = reading(list, links, None);
@@ -49,24 +35,8 @@ pub(crate) fn write_walk<W: NextWord>(
         let Some(place) = cursor.get_ptr() else {
             break;
         };
-        write_member(shown, place, at == Some(place))?;
+        shown.member(place, at == Some(place));
     }
-    Ok(())
-}
-
-// Whether an object stands at each place that is covered.
-fn are_placed<W: NextWord>(links: &PlainTable<W>, objects: &Objects<u64>) -> bool
-    ensures placed { IsTrue result → (q : Place) → IsCovered (table W.unlinked links.now) q → is_placed objects.now q ≡ true }
-{
-    for index in 0..links.covers() {
-        let Some(place) = Place::new(index) else {
-            return false;
-        };
-        if !objects.is_placed(place) {
-            return false;
-        }
-    }
-    true
 }
 
 // A walk over the objects of the list, if one stands at each place.
@@ -84,29 +54,23 @@ fn walk_over<'a, W: NextWord>(
     None
 }
 
-// Writes what a walk gave.
-fn write_given(text: &mut String, given: Option<&u64>) -> fmt::Result {
-    match given {
-        Some(object) => write!(text, "{object} ")?,
-        None => write!(text, "none ")?,
-    }
-    Ok(())
+// What the first call of a copy of the walk gives.
+fn first_of_copy<'a, W: NextWord>(walk: &Iter<'a, u64, PlainTable<W>>) -> Option<&'a u64>
+    requires can { CanWalk (successor_of W.next_word W.is_linked) (table W.unlinked) walk.now }
+{
+    let mut copy = walk.clone().ok()?;
+    copy.next()
 }
 
 // The objects that so many calls give, and what a copy of the walk gives then.
-fn write_objects<W: NextWord>(
-    text: &mut String,
-    mut walk: Iter<'_, u64, PlainTable<W>>,
-    calls: u64,
-) -> fmt::Result
+fn write_objects<W: NextWord>(text: &mut Text, mut walk: Iter<'_, u64, PlainTable<W>>, calls: u64)
     requires can { CanWalk (successor_of W.next_word W.is_linked) (table W.unlinked) walk }
 {
     for _ in 0..calls {
-        write_given(text, walk.next())?;
+        text.add(value(walk.next()), " ");
     }
-    let mut copy = walk.clone()?;
-    write!(text, "then ")?;
-    write_given(text, copy.next())
+    text.word("then ");
+    text.add(value(first_of_copy(&walk)), " ");
 }
 
 // The objects of a walk as the text of a slice.
@@ -123,40 +87,25 @@ fn collected<W: NextWord>(
     format!(in alloc; "{:?}", found.as_slice())
 }
 
-/// The places that are linked.
-pub(crate) fn write_linked<W: NextWord>(text: &mut String, links: &PlainTable<W>) -> fmt::Result {
-    for index in 0..links.covers() {
-        let Some(place) = Place::new(index) else {
-            break;
-        };
-        if links.is_linked(place) {
-            write!(text, "{index} ")?;
-        }
-    }
-    Ok(())
-}
-
 // Takes off so many members, tells them and what is linked then, and finishes the walk or drops it.
 fn write_taken<W: NextWord>(
-    text: &mut String,
+    text: &mut Text,
     list: SinglyLinkedList<u64>,
     links: &mut PlainTable<W>,
     calls: u64,
     finishes: bool,
-) -> fmt::Result
+)
     requires shown { (s : List Place) × Shows W.next_word W.is_linked (table W.unlinked links.old) list s }
 {
     let mut rest = list.into_iter(links);
     for _ in 0..calls {
-        let answer = object(rest.next());
-        write!(text, "{answer} ")?;
+        text.add(object(rest.next()), " ");
     }
-    write!(text, "linked ")?;
-    write_linked(text, rest.links())?;
+    text.word("linked ");
+    write_linked(text, rest.links());
     if finishes {
         rest.finish();
     }
-    Ok(())
 }
 
 // Where a copy of the cursor is when the cursor has moved on.
@@ -205,13 +154,14 @@ fn told_by_mut<W: NextWord>(
 
 impl<W: NextWord> Lists<W> {
     /// What a walk from null gives, of both lists.
-    pub(crate) fn write(&self, shown: &mut String) -> fmt::Result {
-        write_walk(shown, &self.list, &self.links, self.at)?;
+    pub(crate) fn write(&self) -> Text {
+        let mut shown = Text::new(self.alloc);
+        write_walk(&mut shown, &self.list, &self.links, self.at);
         if !self.other.is_empty() {
-            write!(shown, "+ ")?;
-            write_walk(shown, &self.other, &self.links, None)?;
+            shown.word("+ ");
+            write_walk(&mut shown, &self.other, &self.links, None);
         }
-        Ok(())
+        shown
     }
 
     /// The objects that so many calls of a walk give.
@@ -219,9 +169,9 @@ impl<W: NextWord> Lists<W> {
         let Some(walk) = walk_over(&self.list, &self.links, objects) else {
             return Answer::Refused("not placed");
         };
-        let mut text = String::new(self.alloc);
-        let written = write_objects(&mut text, walk, calls);
-        answered(written, text)
+        let mut text = Text::new(self.alloc);
+        write_objects(&mut text, walk, calls);
+        text.answer()
     }
 
     /// The objects of the list.
@@ -237,9 +187,9 @@ impl<W: NextWord> Lists<W> {
 
     /// The places that are linked.
     pub(crate) fn linked(&self) -> Answer {
-        let mut text = String::new(self.alloc);
-        let written = write_linked(&mut text, &self.links);
-        answered(written, text)
+        let mut text = Text::new(self.alloc);
+        write_linked(&mut text, &self.links);
+        text.answer()
     }
 
     /// Takes off so many members, and finishes the walk or drops it. Only where there is no other list.
@@ -250,9 +200,9 @@ impl<W: NextWord> Lists<W> {
         self.at = None;
         self.other = SinglyLinkedList::new();
         let list = self.list.take();
-        let mut text = String::new(self.alloc);
-        let written = write_taken(&mut text, list, &mut self.links, calls, finishes);
-        answered(written, text)
+        let mut text = Text::new(self.alloc);
+        write_taken(&mut text, list, &mut self.links, calls, finishes);
+        text.answer()
     }
 
     /// What the cursor tells, by its call of that name.

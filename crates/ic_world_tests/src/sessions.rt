@@ -242,9 +242,9 @@ impl Session {
     // Starts again with that seed.
     fn start(&mut self, seed: u64, first: Place, most: Limits) {
         self.draws = Draws::new(seed, first, most);
-        self.world = World::new(self.alloc, OwnKey);
         self.plain = PlainWorld::new(self.alloc);
         self.calls = 0;
+        self.world = World::new(self.alloc, OwnKey);
     }
 
     // Plays the session of each seed, of which every other opens few collections, and answers what went wrong: a session, or what never came.
@@ -271,11 +271,11 @@ pub(crate) fn play_all(alloc: Global, seeds: u64) -> Result<String, Fail> {
     let mut session = Session {
         alloc,
         draws: Draws::new(0, first, FEW),
-        world: World::new(alloc, OwnKey),
-        plain: PlainWorld::new(alloc),
         counts,
         calls: 0,
         wrong: String::new(alloc),
+        plain: PlainWorld::new(alloc),
+        world: World::new(alloc, OwnKey),
     };
     session.play(seeds, first)
 }

@@ -3,7 +3,6 @@
 ghost use Rattle.ic_link_ops.specs.XorLinkedList.{Shows};
 ghost use Rattle.ic_xor_linked_list.specs.Cursor as reads;
 
-use crate::answers::{object, standing, value};
 use crate::edits::{self, Edit, is_covered};
 use crate::lent;
 use crate::lists::{By, Lists};
@@ -12,6 +11,7 @@ use crate::spots::{Spot, reading, spot_of};
 use ic_link_ops::NextWord;
 use ic_unsafe_ref::{Objects, Place};
 use ic_xor_linked_list::{Cursor, XorLinkedListOps, laws};
+use test_support::answers::{object, standing, value};
 use test_support::rows::Answer;
 
 // Where the cursor is, or where one beside it is.

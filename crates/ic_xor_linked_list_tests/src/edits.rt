@@ -12,12 +12,12 @@ ghost use Rattle.ic_xor_linked_list_tests.specs.Lists.{AreHeld};
 ghost use Rattle.ic_xor_linked_list_tests.specs.declared.edits.Put.{Put as PutThere};
 ghost use Rattle.ic_xor_linked_list_tests.specs.declared.edits.Edit.TheVariants.{Put as PutAt};
 
-use crate::answers::{inserted, object, replaced};
 use crate::lists::By;
 use crate::spots::{borrowing, ended, put_back, spot_of_held, take_list};
 use ic_link_ops::{LinkOps, PlainTable, Words};
 use ic_unsafe_ref::{Place, UnsafeRef};
 use ic_xor_linked_list::{CursorMut, CursorOwning, XorLinkedList, XorLinkedListOps};
+use test_support::answers::{inserted, object, replaced};
 use test_support::rows::Answer;
 
 /// A side of a position.

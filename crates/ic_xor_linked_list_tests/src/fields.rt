@@ -1,13 +1,12 @@
 //! Objects with two link fields, and lists in either field.
 
-use crate::answers::number;
-use crate::lists::{self, By, Lists};
+use crate::lists::{By, Lists};
 use ic_link_ops::NextWord;
-use ic_unsafe_ref::{Objects, UnsafeRef};
-use std::alloc::Global;
-use std::fmt::{self, Write};
-use std::test::Fail;
-use test_support::rows::{Answer, Played};
+use ic_unsafe_ref::Objects;
+use std::alloc::{AllocError, Global};
+use std::fmt;
+use test_support::answers::placed_words;
+use test_support::rows::{Answer, Played, place};
 
 /// Objects, with two lists and a cursor in each of two fields.
 #[derive(Drop)]
@@ -19,7 +18,7 @@ pub(crate) struct Fields<W: NextWord> {
 
 impl<W: NextWord> Fields<W> {
     /// No objects yet, and empty lists. Each table covers so many places.
-    pub(crate) fn new(alloc: Global, by: By, covers: usize) -> Result<Fields<W>, Fail> {
+    pub(crate) fn new(alloc: Global, by: By, covers: usize) -> Result<Fields<W>, AllocError> {
         Ok(Fields {
             objects: Objects::new(alloc),
             first: Lists::new(alloc, by, covers)?,
@@ -27,35 +26,9 @@ impl<W: NextWord> Fields<W> {
         })
     }
 
-    // Places an object, and answers where it stands.
-    fn place(&mut self, word: &str) -> Answer {
-        let Ok(value) = word.parse() else {
-            return Answer::Refused("no number");
-        };
-        let Some(next) = self.objects.next_place() else {
-            return Answer::Refused("full");
-        };
-        let _small = next.index();
-        match UnsafeRef::from_box(&mut self.objects, value) {
-            Ok(object) => number(object.place()),
-            Err(_) => Answer::Refused("memory"),
-        }
-    }
-
-    // Places these objects one after the other, and answers where the last one stands.
-    fn place_all(&mut self, values: &[&str]) -> Answer {
-        let mut answer = Answer::Nothing;
-        for value in values {
-            answer = self.place(value);
-        }
-        answer
-    }
-}
-
-impl<W: NextWord> Fields<W> {
     // Puts an object at the back of a list of each field.
     fn push_in_both(&mut self, word: &str) -> Answer {
-        match lists::place(word) {
+        match place(word) {
             Some(place) => self.first.push_in_both(&mut self.second, place),
             None => Answer::Refused("no such place"),
         }
@@ -80,7 +53,7 @@ impl<W: NextWord> Played for Fields<W> {
             return Answer::Refused("no call");
         };
         match *name {
-            "place" => self.place_all(rest),
+            "place" => placed_words(&mut self.objects, rest),
             "placed" => Answer::Number(self.objects.len() as u64),
             "second" => self.second.call(&self.objects, rest),
             "push_in_both" => self.push_in_both_all(rest),
@@ -89,11 +62,11 @@ impl<W: NextWord> Played for Fields<W> {
     }
 
     fn show(&self, shown: &mut String) -> fmt::Result {
-        self.first.write(shown)?;
+        let mut text = self.first.write();
         if !self.second.is_empty() {
-            write!(shown, "/ ")?;
-            self.second.write(shown)?;
+            text.word("/ ");
+            self.second.write_to(&mut text);
         }
-        Ok(())
+        text.show(shown)
     }
 }

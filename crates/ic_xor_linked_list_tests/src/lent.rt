@@ -5,11 +5,11 @@ ghost use Rattle.ic_link_ops.specs.XorLinkedList.{Shows};
 ghost use Rattle.ic_xor_linked_list.specs.CursorOwning.{list_of, KnowsNeighbors};
 ghost use Rattle.ic_xor_linked_list.specs.CursorMut as lent;
 
-use crate::answers::{standing, value};
 use crate::spots::{borrowing, owning_before, put_back, spot_of_held, stand, take_list};
 use ic_link_ops::LinkOps;
 use ic_unsafe_ref::{Objects, Place};
 use ic_xor_linked_list::{CursorMut, CursorOwning, XorLinkedListOps};
+use test_support::answers::{standing, value};
 use test_support::rows::Answer;
 
 // Where a cursor that borrows the list is, or where one beside it is.

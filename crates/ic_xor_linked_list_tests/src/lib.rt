@@ -3,7 +3,6 @@
 #![tactic(auto)]
 
 #[cfg(test)]
-mod answers;
 #[cfg(test)]
 mod cursors;
 #[cfg(test)]

@@ -5,17 +5,16 @@ ghost use Rattle.ic_unsafe_ref.specs.declared.place.Place.{Place};
 ghost use Rattle.ic_link_ops.specs.Tables.{KeepsBeside};
 ghost use Rattle.ic_link_ops.specs.XorLinkedList.{Shows, ShowsSome};
 
-use crate::answers::{inserted, object};
 use crate::edits::{Edit, Put, Side};
 use crate::moves::Move;
 use crate::spots::take_list;
 use ic_link_ops::{LinkOps, NextWord, PlainTable};
 use ic_unsafe_ref::{Objects, Place, UnsafeRef};
 use ic_xor_linked_list::{CursorOwning, XorLinkedList, XorLinkedListOps, laws};
-use std::alloc::Global;
+use std::alloc::{AllocError, Global};
 use std::marker::Model;
-use std::test::Fail;
-use test_support::rows::Answer;
+use test_support::answers::{inserted, object};
+use test_support::rows::{Answer, place};
 
 /// By which cursor the calls at a position are made.
 #[derive(Clone, Copy)]
@@ -67,9 +66,11 @@ fn split_and_join<L: XorLinkedListOps>(list: &mut XorLinkedList<u64>, links: &mu
 
 impl<W: NextWord> Lists<W> {
     /// Two empty lists, a new one and the default, of a table that covers so many places.
-    pub(crate) fn new(alloc: Global, by: By, covers: usize) -> Result<Lists<W>, Fail> {
+    pub(crate) fn new(alloc: Global, by: By, covers: usize) -> Result<Lists<W>, AllocError> {
         let mut links = PlainTable::new(alloc);
-        links.cover(covers)?;
+        if links.cover(covers).is_err() {
+            return Err(AllocError);
+        }
         Ok(Lists {
             alloc,
             by,
@@ -408,9 +409,4 @@ fn is_look(name: &str) -> bool {
         | "clone_pointer" => true,
         _ => false,
     }
-}
-
-/// The place that the word is.
-pub(crate) fn place(word: &str) -> Option<Place> {
-    Place::new(word.parse().ok()?)
 }

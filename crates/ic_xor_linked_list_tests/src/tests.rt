@@ -1,7 +1,7 @@
 //! The rows, by each cursor and over each table.
 
 use crate::fields::Fields;
-use crate::lists::{self, By};
+use crate::lists::By;
 use crate::runs::{OWN, WORDS};
 use ic_link_ops::linked_list::TwoWords;
 use ic_link_ops::rbtree::ThreeWords;
@@ -12,21 +12,22 @@ use std::alloc::Global;
 use std::fmt;
 use std::test::Fail;
 use test_support::rows::{
-    Answer, BOTH_ENDS, EDITS, MOVES, Played, Run, SPLICES_AND_SPLITS, WALKS, WHOLE_LISTS, play,
+    Answer, BOTH_ENDS, EDITS, MOVES, Played, Run, SPLICES_AND_SPLITS, WALKS, WHOLE_LISTS, Wrong,
+    place, play,
 };
 
 // Plays the run by that cursor, on empty lists of tables that cover so many places.
-fn play_run<W: NextWord>(alloc: Global, by: By, covers: usize, run: &Run) -> Result<(), Fail> {
+fn play_by<W: NextWord>(alloc: Global, by: By, covers: usize, run: &Run) -> Result<(), Wrong> {
     let mut fields: Fields<W> = Fields::new(alloc, by, covers)?;
-    Ok(play(alloc, &mut fields, run)?)
+    play(alloc, &mut fields, run)
 }
 
 // Plays each run by each cursor.
-fn play_all<W: NextWord>(alloc: Global, covers: usize, runs: &[Run]) -> Result<(), Fail> {
+fn play_all<W: NextWord>(alloc: Global, covers: usize, runs: &[Run]) -> Result<(), Wrong> {
     for run in runs {
-        for by in [By::Ref, By::Mut, By::Owning] {
-            play_run::<W>(alloc, by, covers, run)?;
-        }
+        play_by::<W>(alloc, By::Ref, covers, run)?;
+        play_by::<W>(alloc, By::Mut, covers, run)?;
+        play_by::<W>(alloc, By::Owning, covers, run)?;
     }
     Ok(())
 }
@@ -55,7 +56,7 @@ impl Played for Words {
 impl Fields<OneWord<Xor>> {
     // The word of a place's link.
     fn word(&self, word: &str) -> Answer {
-        let Some(place) = lists::place(word) else {
+        let Some(place) = place(word) else {
             return Answer::Refused("no such place");
         };
         if place.index() >= self.first.links.covers() {
@@ -65,36 +66,57 @@ impl Fields<OneWord<Xor>> {
     }
 }
 
+// Plays the runs of every list, and those of this one, over the table that is made for it.
+fn play_over_its_own(alloc: Global) -> Result<(), Wrong> {
+    play_all::<OneWord<Xor>>(alloc, 5, WHOLE_LISTS)?;
+    play_all::<OneWord<Xor>>(alloc, 5, MOVES)?;
+    play_all::<OneWord<Xor>>(alloc, 5, EDITS)?;
+    play_all::<OneWord<Xor>>(alloc, 5, SPLICES_AND_SPLITS)?;
+    play_all::<OneWord<Xor>>(alloc, 5, WALKS)?;
+    play_all::<OneWord<Xor>>(alloc, 9, OWN)
+}
+
 #[test]
 fn worked_rows(rt: HostRuntime) -> Result<(), Fail> {
-    for runs in [WHOLE_LISTS, MOVES, EDITS, SPLICES_AND_SPLITS, WALKS] {
-        play_all::<OneWord<Xor>>(rt.alloc(), 5, runs)?;
-    }
-    play_all::<OneWord<Xor>>(rt.alloc(), 9, OWN)
+    Ok(play_over_its_own(rt.alloc())?)
 }
 
 // Plays the run by that cursor, where the words of links are read too.
-fn play_words(alloc: Global, by: By, run: &Run) -> Result<(), Fail> {
+fn play_words(alloc: Global, by: By, run: &Run) -> Result<(), Wrong> {
     let fields = Fields::new(alloc, by, 3)?;
-    Ok(play(alloc, &mut Words { fields }, run)?)
+    play(alloc, &mut Words { fields }, run)
+}
+
+// Plays each of these runs, which read words, by each cursor.
+fn play_all_words(alloc: Global, runs: &[Run]) -> Result<(), Wrong> {
+    for run in runs {
+        play_words(alloc, By::Ref, run)?;
+        play_words(alloc, By::Mut, run)?;
+        play_words(alloc, By::Owning, run)?;
+    }
+    Ok(())
 }
 
 #[test]
 fn words_of_links(rt: HostRuntime) -> Result<(), Fail> {
-    for run in WORDS {
-        for by in [By::Ref, By::Mut, By::Owning] {
-            play_words(rt.alloc(), by, run)?;
-        }
-    }
-    Ok(())
+    Ok(play_all_words(rt.alloc(), WORDS)?)
+}
+
+// Plays some runs over a table of such links.
+fn play_some<W: NextWord>(alloc: Global) -> Result<(), Wrong> {
+    play_by::<W>(alloc, By::Mut, 9, &BOTH_ENDS)?;
+    play_all::<W>(alloc, 9, SPLICES_AND_SPLITS)?;
+    play_all::<W>(alloc, 9, OWN)
+}
+
+// Plays them over tables of other kinds.
+fn play_over_others(alloc: Global) -> Result<(), Wrong> {
+    play_some::<OneWord<Singly>>(alloc)?;
+    play_some::<TwoWords>(alloc)?;
+    play_some::<ThreeWords>(alloc)
 }
 
 #[test]
 fn tables_of_other_kinds(rt: HostRuntime) -> Result<(), Fail> {
-    for runs in [&[BOTH_ENDS], SPLICES_AND_SPLITS, OWN] {
-        play_all::<OneWord<Singly>>(rt.alloc(), 9, runs)?;
-        play_all::<TwoWords>(rt.alloc(), 9, runs)?;
-        play_all::<ThreeWords>(rt.alloc(), 9, runs)?;
-    }
-    Ok(())
+    Ok(play_over_others(rt.alloc())?)
 }

@@ -11,14 +11,14 @@ ghost use Rattle.ic_xor_linked_list.specs.Cursor as reads;
 ghost use Rattle.ic_xor_linked_list.specs.Iter.{CanWalk};
 ghost use Rattle.ic_xor_linked_list.specs.PlainLists.{PlainShowsSome};
 
-use crate::answers::answered;
 use crate::lists::Lists;
 use ic_link_ops::{LinkOps, NextWord, PlainTable, Words};
 use ic_unsafe_ref::{Objects, Place};
 use ic_xor_linked_list::{Cursor, Iter, XorLinkedList, XorLinkedListOps};
 use std::alloc::{AllocError, Global};
-use std::fmt::{self, Write};
-use test_support::rows::Answer;
+use test_support::answers::value;
+use test_support::rows::{Answer, Text};
+use test_support::tables::{are_placed, write_linked};
 
 // Moves the cursor, and answers where it is then, and whether a move back would lead where it was.
 fn step<L: XorLinkedListOps>(cursor: &mut Cursor<'_, u64, L>) -> (Option<Place>, bool)
@@ -31,62 +31,28 @@ fn step<L: XorLinkedListOps>(cursor: &mut Cursor<'_, u64, L>) -> (Option<Place>,
     (cursor.get_ptr(), back.get_ptr() == before)
 }
 
-// Writes the word where it holds.
-fn write_where(text: &mut String, holds: bool, word: &str) -> fmt::Result {
-    if holds {
-        write!(text, "{word}")?;
-    }
-    Ok(())
-}
-
-// Writes a member, with a mark if the cursor is on it.
-fn write_member(text: &mut String, place: Place, is_marked: bool) -> fmt::Result {
-    let index = place.index();
-    if is_marked {
-        write!(text, "({index}) ")?;
-    } else {
-        write!(text, "{index} ")?;
-    }
-    Ok(())
-}
-
 /// The members as a walk from null to null comes by them, with a mark at the cursor's.
 pub(crate) fn write_walk<L: XorLinkedListOps>(
-    shown: &mut String,
+    shown: &mut Text,
     list: &XorLinkedList<u64>,
     links: &L,
     covers: usize,
     at: Option<Place>,
-) -> fmt::Result
+)
     requires shown { ShowsSome L.linked L.Joins (L.table links.now) list.now }
 {
     let mut cursor = list.cursor(links);
     let mut is_empty = true;
     for _ in 0..=covers {
         let (here, leads_back) = step(&mut cursor);
-        write_where(shown, !leads_back, "no way back ")?;
+        shown.word_where(!leads_back, "no way back ");
         let Some(place) = here else {
             break;
         };
         is_empty = false;
-        write_member(shown, place, here == at)?;
+        shown.member(place, here == at);
     }
-    write_where(shown, list.is_empty() != is_empty, "is_empty is wrong")
-}
-
-// Whether an object stands at each place that is covered.
-fn are_placed<W: Words>(links: &PlainTable<W>, objects: &Objects<u64>) -> bool
-    ensures placed { IsTrue result → (q : Place) → index_of q < (table W.unlinked links.now).extent.places → is_placed objects.now q ≡ true }
-{
-    for index in 0..links.covers() {
-        let Some(place) = Place::new(index) else {
-            return false;
-        };
-        if !objects.is_placed(place) {
-            return false;
-        }
-    }
-    true
+    shown.word_where(list.is_empty() != is_empty, "is_empty is wrong");
 }
 
 // A walk over the objects of the list, if one stands at each place.
@@ -118,37 +84,32 @@ fn next_at<'a, L: XorLinkedListOps>(
     walk.next_back()
 }
 
-// Writes what a walk gave.
-fn write_given(text: &mut String, given: Option<&u64>) -> fmt::Result {
-    match given {
-        Some(object) => write!(text, "{object} ")?,
-        None => write!(text, "none ")?,
-    }
-    Ok(())
+// What a copy of the walk gives at the back.
+fn last_of_copy<'a, L: XorLinkedListOps>(walk: &Iter<'a, u64, L>) -> Option<&'a u64>
+    requires can { CanWalk L.linked L.Joins L.table walk.now }
+{
+    let mut copy = walk.clone().ok()?;
+    copy.next_back()
 }
 
 // What the walk gives at the front, and a copy of it at the back.
-fn write_then<L: XorLinkedListOps>(text: &mut String, mut walk: Iter<'_, u64, L>) -> fmt::Result
+fn write_then<L: XorLinkedListOps>(text: &mut Text, mut walk: Iter<'_, u64, L>)
     requires can { CanWalk L.linked L.Joins L.table walk }
 {
-    let mut copy = walk.clone()?;
-    write_where(text, true, "then ")?;
-    write_given(text, walk.next())?;
-    write_given(text, copy.next_back())
+    text.word("then ");
+    let last = last_of_copy(&walk);
+    text.add(value(walk.next()), " ");
+    text.add(value(last), " ");
 }
 
 // The objects that calls at these ends give, then what the walk gives at the front, and a copy of it at the back.
-fn write_ends<L: XorLinkedListOps>(
-    text: &mut String,
-    mut walk: Iter<'_, u64, L>,
-    ends: &[&str],
-) -> fmt::Result
+fn write_ends<L: XorLinkedListOps>(text: &mut Text, mut walk: Iter<'_, u64, L>, ends: &[&str])
     requires can { CanWalk L.linked L.Joins L.table walk }
 {
     for end in ends {
-        write_given(text, next_at(&mut walk, *end == "front"))?;
+        text.add(value(next_at(&mut walk, *end == "front")), " ");
     }
-    write_then(text, walk)
+    write_then(text, walk);
 }
 
 // The objects of a walk as the text of a slice.
@@ -165,30 +126,23 @@ fn collected<L: XorLinkedListOps>(
     format!(in alloc; "{:?}", found.as_slice())
 }
 
-/// The places that are linked.
-pub(crate) fn write_linked<W: Words>(text: &mut String, links: &PlainTable<W>) -> fmt::Result {
-    for index in 0..links.covers() {
-        let Some(place) = Place::new(index) else {
-            break;
-        };
-        if links.is_linked(place) {
-            write!(text, "{index} ")?;
-        }
-    }
-    Ok(())
-}
-
 impl<W: NextWord> Lists<W> {
     /// What a walk from null gives, of both lists.
-    pub(crate) fn write(&self, shown: &mut String) -> fmt::Result {
+    pub(crate) fn write(&self) -> Text {
+        let mut shown = Text::new(self.alloc);
+        self.write_to(&mut shown);
+        shown
+    }
+
+    /// The same, behind what the text has.
+    pub(crate) fn write_to(&self, shown: &mut Text) {
         let covers = self.links.covers();
         let at = self.first.get_ptr();
-        write_walk(shown, self.first.list(), &self.links, covers, at)?;
+        write_walk(shown, self.first.list(), &self.links, covers, at);
         if !self.other.is_empty() {
-            write!(shown, "+ ")?;
-            write_walk(shown, &self.other, &self.links, covers, None)?;
+            shown.word("+ ");
+            write_walk(shown, &self.other, &self.links, covers, None);
         }
-        Ok(())
     }
 
     /// The objects that a walk gives at these ends.
@@ -196,9 +150,9 @@ impl<W: NextWord> Lists<W> {
         let Some(walk) = walk_over(self.first.list(), &self.links, objects) else {
             return Answer::Refused("not placed");
         };
-        let mut text = String::new(self.alloc);
-        let written = write_ends(&mut text, walk, ends);
-        answered(written, text)
+        let mut text = Text::new(self.alloc);
+        write_ends(&mut text, walk, ends);
+        text.answer()
     }
 
     /// The objects of the list.
@@ -214,8 +168,8 @@ impl<W: NextWord> Lists<W> {
 
     /// The places that are linked.
     pub(crate) fn linked(&self) -> Answer {
-        let mut text = String::new(self.alloc);
-        let written = write_linked(&mut text, &self.links);
-        answered(written, text)
+        let mut text = Text::new(self.alloc);
+        write_linked(&mut text, &self.links);
+        text.answer()
     }
 }

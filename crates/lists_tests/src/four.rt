@@ -1,7 +1,6 @@
 //! A list of each kind and a tree of one table, whose calls ask nothing.
 
 use crate::own_key::OwnKey;
-use crate::three::{inserted, place, taken};
 use crate::walks::{step_in, write_doubly, write_singly, write_tree, write_xor};
 use ic_link_ops::rbtree::LinkOps;
 use ic_linked_list::LinkedList;
@@ -10,14 +9,16 @@ use ic_singly_linked_list::SinglyLinkedList;
 use ic_unsafe_ref::{Place, UnsafeRef};
 use ic_xor_linked_list::XorLinkedList;
 use std::alloc::Global;
-use std::fmt::{self, Write};
+use std::fmt;
 use std::marker::Model;
 use std::test::Fail;
-use test_support::rows::{Answer, Played};
+use test_support::answers::{inserted, object};
+use test_support::rows::{Answer, Played, Text, place};
 
 /// Three lists and a tree, no two of which share a member.
 #[derive(Drop)]
 pub(crate) struct Four {
+    alloc: Global,
     links: LinkOps,
     singly: SinglyLinkedList<u64>,
     doubly: LinkedList<u64>,
@@ -65,6 +66,7 @@ impl Four {
         let mut links = LinkOps::new(alloc);
         links.cover(covers)?;
         Ok(Four {
+            alloc,
             links,
             singly: SinglyLinkedList::new(),
             doubly: LinkedList::new(),
@@ -95,15 +97,15 @@ impl Four {
     // Takes the first member off, of a tree the second one if so said.
     fn pop(&mut self, kind: Kind, is_second: bool) -> Answer {
         match kind {
-            Kind::Singly => taken(self.singly.pop_front(&mut self.links)),
-            Kind::Doubly => taken(self.doubly.pop_front(&mut self.links)),
-            Kind::Xor => taken(self.xor.pop_front(&mut self.links)),
+            Kind::Singly => object(self.singly.pop_front(&mut self.links)),
+            Kind::Doubly => object(self.doubly.pop_front(&mut self.links)),
+            Kind::Xor => object(self.xor.pop_front(&mut self.links)),
             Kind::Tree => {
                 let mut cursor = self.tree.take().cursor_owning();
                 step_in(&mut cursor, &self.links, is_second);
                 let removed = cursor.remove(&mut self.links);
                 self.tree = cursor.into_inner();
-                taken(removed)
+                object(removed)
             }
         }
     }
@@ -132,12 +134,14 @@ impl Played for Four {
     }
 
     fn show(&self, shown: &mut String) -> fmt::Result {
-        write_singly(shown, &self.singly, &self.links)?;
-        write!(shown, "/ ")?;
-        write_doubly(shown, &self.doubly, &self.links, true)?;
-        write!(shown, "/ ")?;
-        write_xor(shown, &self.xor, &self.links, true)?;
-        write!(shown, "/ ")?;
-        write_tree(shown, &self.tree, &self.links, self.links.covers())
+        let mut text = Text::new(self.alloc);
+        write_singly(&mut text, &self.singly, &self.links);
+        text.word("/ ");
+        write_doubly(&mut text, &self.doubly, &self.links, true);
+        text.word("/ ");
+        write_xor(&mut text, &self.xor, &self.links, true);
+        text.word("/ ");
+        write_tree(&mut text, &self.tree, &self.links, self.links.covers());
+        text.show(shown)
     }
 }

@@ -1,20 +1,22 @@
 //! A singly linked list, a doubly linked one and an XOR list of one table, whose calls ask nothing.
 
 use crate::walks::{write_doubly, write_singly, write_xor};
-use ic_link_ops::{AlreadyLinked, PlainTable, PrevPlace};
+use ic_link_ops::{PlainTable, PrevPlace};
 use ic_linked_list::LinkedList;
 use ic_singly_linked_list::SinglyLinkedList;
 use ic_unsafe_ref::{Place, UnsafeRef};
 use ic_xor_linked_list::XorLinkedList;
 use std::alloc::Global;
-use std::fmt::{self, Write};
+use std::fmt;
 use std::marker::Model;
 use std::test::Fail;
-use test_support::rows::{Answer, Played};
+use test_support::answers::{inserted, object};
+use test_support::rows::{Answer, Played, Text, place};
 
 /// Three lists, no two of which share a member.
 #[derive(Drop)]
 pub(crate) struct Three<W: PrevPlace> {
+    alloc: Global,
     links: PlainTable<W>,
     singly: SinglyLinkedList<u64>,
     doubly: LinkedList<u64>,
@@ -33,28 +35,13 @@ impl<W: PrevPlace> Model for Three<W> {
     ghost invariant = { λ l. AreThree W.is_linked W.next_word W.prev (table W.unlinked l.links) l.singly l.doubly l.xor };
 }
 
-/// Whether an object was taken in.
-pub(crate) fn inserted(given: Result<(), AlreadyLinked<u64>>) -> Answer {
-    match given {
-        Ok(()) => Answer::Done,
-        Err(_) => Answer::Refused("linked"),
-    }
-}
-
-/// What an object that came off is answered as.
-pub(crate) fn taken(object: Option<UnsafeRef<u64>>) -> Answer {
-    match object {
-        Some(object) => Answer::Number(object.place().index() as u64),
-        None => Answer::Nothing,
-    }
-}
-
 impl<W: PrevPlace> Three<W> {
     /// Three empty lists of a table that covers so many places.
     pub(crate) fn new(alloc: Global, covers: usize) -> Result<Three<W>, Fail> {
         let mut links = PlainTable::new(alloc);
         links.cover(covers)?;
         Ok(Three {
+            alloc,
             links,
             singly: SinglyLinkedList::new(),
             doubly: LinkedList::new(),
@@ -107,23 +94,23 @@ impl<W: PrevPlace> Three<W> {
     }
 
     fn singly_pop_front(&mut self) -> Answer {
-        taken(self.singly.pop_front(&mut self.links))
+        object(self.singly.pop_front(&mut self.links))
     }
 
     fn doubly_pop_front(&mut self) -> Answer {
-        taken(self.doubly.pop_front(&mut self.links))
+        object(self.doubly.pop_front(&mut self.links))
     }
 
     fn doubly_pop_back(&mut self) -> Answer {
-        taken(self.doubly.pop_back(&mut self.links))
+        object(self.doubly.pop_back(&mut self.links))
     }
 
     fn xor_pop_front(&mut self) -> Answer {
-        taken(self.xor.pop_front(&mut self.links))
+        object(self.xor.pop_front(&mut self.links))
     }
 
     fn xor_pop_back(&mut self) -> Answer {
-        taken(self.xor.pop_back(&mut self.links))
+        object(self.xor.pop_back(&mut self.links))
     }
 
     // A call that puts a place in.
@@ -151,11 +138,6 @@ impl<W: PrevPlace> Three<W> {
     }
 }
 
-/// The place that the word is.
-pub(crate) fn place(word: &str) -> Option<Place> {
-    Place::new(word.parse().ok()?)
-}
-
 impl<W: PrevPlace> Played for Three<W> {
     type Answer = Answer;
 
@@ -172,14 +154,16 @@ impl<W: PrevPlace> Played for Three<W> {
     }
 
     fn show(&self, shown: &mut String) -> fmt::Result {
-        write_singly(shown, &self.singly, &self.links)?;
-        write!(shown, "/ ")?;
-        write_doubly(shown, &self.doubly, &self.links, true)?;
-        write!(shown, "/ ")?;
-        write_xor(shown, &self.xor, &self.links, true)?;
-        write!(shown, "; ")?;
-        write_doubly(shown, &self.doubly, &self.links, false)?;
-        write!(shown, "/ ")?;
-        write_xor(shown, &self.xor, &self.links, false)
+        let mut text = Text::new(self.alloc);
+        write_singly(&mut text, &self.singly, &self.links);
+        text.word("/ ");
+        write_doubly(&mut text, &self.doubly, &self.links, true);
+        text.word("/ ");
+        write_xor(&mut text, &self.xor, &self.links, true);
+        text.word("; ");
+        write_doubly(&mut text, &self.doubly, &self.links, false);
+        text.word("/ ");
+        write_xor(&mut text, &self.xor, &self.links, false);
+        text.show(shown)
     }
 }

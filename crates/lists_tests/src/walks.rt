@@ -17,23 +17,15 @@ use ic_link_ops::{NextWord, PlainTable, PrevPlace};
 use ic_linked_list::{Cursor, LinkedList};
 use ic_rbtree::{CursorOwning, RBTree};
 use ic_singly_linked_list::SinglyLinkedList;
-use ic_unsafe_ref::Place;
 use ic_xor_linked_list::XorLinkedList;
-use std::fmt::{self, Write};
-
-// Writes a member.
-fn write_member(text: &mut String, place: Place) -> fmt::Result {
-    let index = place.index();
-    write!(text, "{index} ")?;
-    Ok(())
-}
+use test_support::rows::Text;
 
 /// The members of a singly linked list.
 pub(crate) fn write_singly<W: NextWord>(
-    shown: &mut String,
+    shown: &mut Text,
     list: &SinglyLinkedList<u64>,
     links: &PlainTable<W>,
-) -> fmt::Result
+)
     requires shown { (s : List Place) × ShowsSingly W.is_linked W.next_word (table W.unlinked links.now) list.now s }
 {
     let mut cursor = list.cursor(links);
@@ -42,9 +34,8 @@ pub(crate) fn write_singly<W: NextWord>(
         let Some(place) = cursor.get_ptr() else {
             break;
         };
-        write_member(shown, place)?;
+        shown.member(place, false);
     }
-    Ok(())
 }
 
 // Moves the cursor on, or back.
@@ -61,11 +52,11 @@ fn step_doubly<W: PrevPlace>(cursor: &mut Cursor<'_, u64, PlainTable<W>>, on: bo
 
 /// The members of a doubly linked list, from the front or from the back.
 pub(crate) fn write_doubly<W: PrevPlace>(
-    shown: &mut String,
+    shown: &mut Text,
     list: &LinkedList<u64>,
     links: &PlainTable<W>,
     on: bool,
-) -> fmt::Result
+)
     requires shown { (s : List Place) × ShowsDoubly W.is_linked W.next_word W.prev (table W.unlinked links.now) list.now s }
 {
     let mut cursor = list.cursor(links);
@@ -74,9 +65,8 @@ pub(crate) fn write_doubly<W: PrevPlace>(
         let Some(place) = cursor.get_ptr() else {
             break;
         };
-        write_member(shown, place)?;
+        shown.member(place, false);
     }
-    Ok(())
 }
 
 // The same of an XOR list.
@@ -93,11 +83,11 @@ fn step_xor<W: NextWord>(cursor: &mut ic_xor_linked_list::Cursor<'_, u64, PlainT
 
 /// The members of an XOR list, from the front or from the back.
 pub(crate) fn write_xor<W: NextWord>(
-    shown: &mut String,
+    shown: &mut Text,
     list: &XorLinkedList<u64>,
     links: &PlainTable<W>,
     on: bool,
-) -> fmt::Result
+)
     requires shown { (s : List Place) × ShowsXor W.is_linked W.next_word (table W.unlinked links.now) list.now s }
 {
     let mut cursor = list.cursor(links);
@@ -106,18 +96,17 @@ pub(crate) fn write_xor<W: NextWord>(
         let Some(place) = cursor.get_ptr() else {
             break;
         };
-        write_member(shown, place)?;
+        shown.member(place, false);
     }
-    Ok(())
 }
 
 /// The members of a tree.
 pub(crate) fn write_tree<L: RBTreeOps>(
-    shown: &mut String,
+    shown: &mut Text,
     tree: &RBTree<OwnKey>,
     links: &L,
     most: usize,
-) -> fmt::Result
+)
     requires shown { ShowsSome L.node (L.table links.now) (root_of tree.now) }
 {
     let mut cursor = tree.cursor(links);
@@ -126,9 +115,8 @@ pub(crate) fn write_tree<L: RBTreeOps>(
         let Some(place) = cursor.get_ptr() else {
             break;
         };
-        write_member(shown, place)?;
+        shown.member(place, false);
     }
-    Ok(())
 }
 
 /// Moves a cursor one step on, or two.

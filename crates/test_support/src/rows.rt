@@ -13,14 +13,17 @@
 
 mod answer;
 mod lists;
+mod text;
 
 pub use answer::Answer;
+use ic_unsafe_ref::Place;
 pub use lists::{
     BESIDE_THE_PLAIN_SEQUENCE, BOTH_ENDS, EDITS, MOVES, ONE_END, SPLICES_AND_SPLITS, WALKS,
     WHOLE_LISTS,
 };
 use std::alloc::{AllocError, Global};
 use std::fmt::{self, Write};
+pub use text::Text;
 
 /// Rows that follow on one another, under a name. A row is a line; blank lines are passed over.
 #[derive(Clone, Copy)]
@@ -29,6 +32,11 @@ pub struct Run {
     pub name: &'static str,
     /// The rows, in order.
     pub rows: &'static str,
+}
+
+/// The place of that index, written as a row writes it.
+pub fn place(word: &str) -> Option<Place> {
+    Place::new(word.parse().ok()?)
 }
 
 /// What rows are played on.
@@ -128,4 +136,14 @@ pub fn play(alloc: Global, played: &mut impl Played, run: &Run) -> Result<(), Wr
     } else {
         Err(Wrong::NoRow(run.name))
     }
+}
+
+/// Plays these runs one behind the other on the same, up to the first that goes otherwise than it says.
+///
+/// They are handed over as a slice. A check of a loop over a constant has all of its text in each step.
+pub fn play_all(alloc: Global, played: &mut impl Played, runs: &[Run]) -> Result<(), Wrong> {
+    for run in runs {
+        play(alloc, played, run)?;
+    }
+    Ok(())
 }

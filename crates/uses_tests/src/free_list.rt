@@ -6,12 +6,12 @@ ghost use Rattle.ic_link_ops.specs.PlainTables.{table};
 ghost use Rattle.ic_link_ops.specs.Tables.{IsCovered};
 ghost use Rattle.ic_link_ops.specs.SinglyLinkedList.{ShowsSome};
 
+use crate::tests::{UNLINKED, covering, same};
 use ic_link_ops::singly_linked_list::SinglyLinkedListOps;
 use ic_link_ops::{AlreadyLinked, NextWord, PlainTable, linked_list, singly_linked_list};
 use ic_singly_linked_list::SinglyLinkedList;
 use ic_unsafe_ref::{Place, UnsafeRef};
 use std::process::Abort;
-use std::test::Fail;
 use uses::free_list::{give_and_take, give_back, take};
 
 // Gives two objects back, takes one of them at once and gives it back again, and then takes three: what was taken at once, and these.
@@ -45,12 +45,11 @@ fn played<W: NextWord>(
 }
 
 #[test]
-fn the_latest_object_is_taken(rt: HostRuntime) -> Result<(), Fail> {
-    let mut links = singly_linked_list::LinkOps::new(rt.alloc());
-    links.cover(3)?;
-    let mut doubly = linked_list::LinkOps::new(rt.alloc());
-    doubly.cover(3)?;
-    let wanted = [Place::new(0), Place::new(0), Place::new(2), None];
-    assert!(rt; played(&rt, &mut links)? == wanted && played(&rt, &mut doubly)? == wanted);
-    Ok(())
+fn the_latest_object_is_taken(rt: HostRuntime) {
+    let mut singly: singly_linked_list::LinkOps = covering(&rt, rt.alloc(), 3);
+    let mut doubly: linked_list::LinkOps = covering(&rt, rt.alloc(), 3);
+    let by_one_word = played(&rt, &mut singly).expect(&rt, UNLINKED);
+    let by_two_words = played(&rt, &mut doubly).expect(&rt, UNLINKED);
+    same(&rt, &by_one_word, &[0, 0, 2, Place::COUNT]); // there is no place with that index
+    same(&rt, &by_two_words, &[0, 0, 2, Place::COUNT]);
 }

@@ -6,13 +6,12 @@ ghost use Rattle.ic_rbtree.specs.Tree.{root_of};
 ghost use Rattle.uses.specs.Regions.{start};
 ghost use Rattle.uses.specs.SortedObjects.{ShowsSorted};
 
-use crate::tests::same;
+use crate::tests::{UNLINKED, covering, same};
 use ic_link_ops::AlreadyLinked;
 use ic_link_ops::rbtree::LinkOps;
 use ic_rbtree::RBTree;
 use ic_unsafe_ref::{Objects, Place, UnsafeRef};
 use std::process::Abort;
-use std::test::Fail;
 use uses::region_map::{ByStart, Region, add, region_at, remove_region};
 
 // Places a region for each start and length, one behind the other.
@@ -63,9 +62,8 @@ fn find_four(
 }
 
 #[test]
-fn an_address_lies_in_one_region(rt: HostRuntime) -> Result<(), Fail> {
-    let mut links = LinkOps::new(rt.alloc());
-    links.cover(4)?;
+fn an_address_lies_in_one_region(rt: HostRuntime) {
+    let mut links: LinkOps = covering(&rt, rt.alloc(), 4);
     let mut objects = Objects::new(rt.alloc());
     // 10 to 19, 20 to 24, and 40 and 41; the last one has no length
     place_each(&rt, &mut objects, &[(20, 5), (40, 2), (10, 10), (30, 0)]);
@@ -73,7 +71,7 @@ fn an_address_lies_in_one_region(rt: HostRuntime) -> Result<(), Fail> {
     let found = find_four(&regions, &links, &objects, [0, 10, 20, u64::MAX]);
     let none = Place::COUNT; // there is no place with that index
     same(&rt, &found, &[none, none, none, none]);
-    add_each(&rt, &mut regions, &mut links, &objects, &[0, 1, 2, 3])?;
+    add_each(&rt, &mut regions, &mut links, &objects, &[0, 1, 2, 3]).expect(&rt, UNLINKED);
     let again = add_each(&rt, &mut regions, &mut links, &objects, &[1]);
     same(&rt, &[again.err().map(|refused| refused.0.place())], &[1]);
     let found = find_four(&regions, &links, &objects, [0, 9, 10, 19]);
@@ -88,5 +86,4 @@ fn an_address_lies_in_one_region(rt: HostRuntime) -> Result<(), Fail> {
     same(&rt, &places, &[0, none]);
     let found = find_four(&regions, &links, &objects, [19, 20, 22, 41]);
     same(&rt, &found, &[2, none, none, 1]);
-    Ok(())
 }

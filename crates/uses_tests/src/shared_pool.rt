@@ -4,7 +4,6 @@ ghost use Rattle.ic_atomic.specs.Holders.{places_of, IsOf};
 ghost use Rattle.std.specs.Prelude.{◌≤◌, IfSome};
 
 use ic_atomic::{Claims, Holder};
-use std::test::Fail;
 use std::thread;
 use uses::shared_pool::{give_back, take};
 
@@ -79,18 +78,13 @@ fn with_holder<'c>(claims: &'c Claims, holder: Option<Holder>) -> Option<Visitor
 }
 
 #[test]
-fn threads_share_a_pool(rt: HostRuntime) -> Result<(), Fail> {
-    let (claims, mut holders) = Claims::new(rt.alloc(), 2, 2)?;
-    let first = with_holder(&claims, holders.pop()).ok_or("a holder")?;
-    let second = with_holder(&claims, holders.pop()).ok_or("another holder")?;
+fn threads_share_a_pool(rt: HostRuntime) {
+    let (claims, mut holders) = Claims::new(rt.alloc(), 2, 2).expect(&rt, "memory for the claims");
+    let first = with_holder(&claims, holders.pop()).expect(&rt, "a holder");
+    let second = with_holder(&claims, holders.pop()).expect(&rt, "another holder");
     let (first, second) = thread::join(&rt, move || first.visit(), move || second.visit());
-    let seen = (
-        first.taken,
-        second.taken,
-        first.is_shared || second.is_shared,
-    );
-    assert_eq!(rt; seen, (ROUNDS, ROUNDS, false));
-    assert_eq!(rt; first.take_all(), 2);
-    assert_eq!(rt; second.take_all(), 0);
-    Ok(())
+    let was_shared = first.is_shared || second.is_shared;
+    let rounds = (first.taken, second.taken);
+    let left = (first.take_all(), second.take_all());
+    assert!(rt; !was_shared && rounds == (ROUNDS, ROUNDS) && left == (2, 0));
 }

@@ -8,13 +8,12 @@ ghost use Rattle.ic_link_ops.specs.DoublyEntries.{plain_table, PlainShows, Plain
 ghost use Rattle.ic_link_ops.specs.PlacedObjects.{ShowsPlaced};
 
 use ic_atomic::Claims;
-use ic_link_ops::AlreadyLinked;
 use ic_link_ops::linked_list::LinkOps;
+use ic_link_ops::{AlreadyLinked, PlainTable, Words};
 use ic_linked_list::LinkedList;
 use ic_unsafe_ref::{Objects, Place, UnsafeRef};
 use std::alloc::{AllocError, Global};
 use std::process::Abort;
-use std::test::Fail;
 use test_support::rationed::Rationed;
 use uses::either_table::EitherTable;
 use uses::first_objects::{ObjectsError, first_objects};
@@ -23,10 +22,23 @@ use uses::race::race;
 use uses::retain::retain;
 use uses::{borrowed_table, deal, jobs, lru, pairs, queue};
 
+/// What the objects of a test are at first.
+pub(crate) const UNLINKED: &str = "objects that are linked nowhere";
+
+// What a test has enough of.
+const MEMORY: &str = "memory";
+
 // Asserts that these places were found. The one assert of the tests.
 pub(crate) fn same(rt: &impl Abort, found: &[Option<Place>], wanted: &[usize]) {
     let indices = wanted.iter().map(|index| Place::new(*index));
     assert!(rt; found.iter().copied().eq(indices));
+}
+
+/// A table that covers so many places.
+pub(crate) fn covering<W: Words>(rt: &impl Abort, alloc: Global, count: usize) -> PlainTable<W> {
+    let mut links = PlainTable::new(alloc);
+    links.cover(count).expect(rt, "memory for the links");
+    links
 }
 
 // The place with that index, which the table covers.
@@ -68,13 +80,12 @@ fn touch_the_older(
 }
 
 #[test]
-fn a_touched_object_is_forgotten_last(rt: HostRuntime) -> Result<(), Fail> {
-    let mut links = LinkOps::new(rt.alloc());
-    links.cover(3)?;
+fn a_touched_object_is_forgotten_last(rt: HostRuntime) {
+    let mut links: LinkOps = covering(&rt, rt.alloc(), 3);
     let (older, newer) = (covered(&rt, &links, 0), covered(&rt, &links, 1));
-    let found = touch_the_older(&mut LinkedList::new(), &mut links, older, newer)?;
+    let found = touch_the_older(&mut LinkedList::new(), &mut links, older, newer);
+    let found = found.expect(&rt, UNLINKED);
     same(&rt, &found, &[1, 0]);
-    Ok(())
 }
 
 // Two objects that have two turns and one, and which is last and which is first, in the order of the calls.
@@ -99,16 +110,15 @@ fn give_turns(
 }
 
 #[test]
-fn each_object_has_its_turn(rt: HostRuntime) -> Result<(), Fail> {
-    let mut links = LinkOps::new(rt.alloc());
-    links.cover(3)?;
+fn each_object_has_its_turn(rt: HostRuntime) {
+    let mut links: LinkOps = covering(&rt, rt.alloc(), 3);
     let mut waiting: LinkedList<u64> = LinkedList::new();
     let nobody = queue::turn(&mut waiting, &mut links);
     assert!(rt; nobody.is_none());
     let (first, second) = (covered(&rt, &links, 2), covered(&rt, &links, 0));
-    let found = give_turns(&mut LinkedList::new(), &mut links, first, second)?;
+    let found = give_turns(&mut LinkedList::new(), &mut links, first, second);
+    let found = found.expect(&rt, UNLINKED);
     same(&rt, &found, &[2, 2, 0, 2, 0]);
-    Ok(())
 }
 
 // What two first objects come to where one request for memory is refused.
@@ -118,7 +128,7 @@ fn refused(rt: &HostRuntime, request: u64) -> Option<ObjectsError> {
 }
 
 #[test]
-fn the_first_objects_are_seen_and_taken(rt: HostRuntime) -> Result<(), Fail> {
+fn the_first_objects_are_seen_and_taken(rt: HostRuntime) {
     let (seen, taken, left) = first_objects(rt.alloc(), 10, 20).expect(&rt, "memory");
     let found = [
         seen.first().copied(),
@@ -131,27 +141,23 @@ fn the_first_objects_are_seen_and_taken(rt: HostRuntime) -> Result<(), Fail> {
     let wanting = Some(ObjectsError::OutOfMemory);
     let as_said = found == [Some(10), Some(20), Some(10), Some(20)] && seen.len() == 2;
     assert!(rt; as_said && refusals == [wanting, wanting, None]);
-    Ok(())
 }
 
 #[test]
-fn the_first_steps_end_on_the_first_object(rt: HostRuntime) -> Result<(), Fail> {
-    let mut links = LinkOps::new(rt.alloc());
-    links.cover(2)?;
+fn the_first_steps_end_on_the_first_object(rt: HostRuntime) {
+    let mut links: LinkOps = covering(&rt, rt.alloc(), 2);
     let (first, second) = (covered(&rt, &links, 1), covered(&rt, &links, 0));
-    let position = first_steps::<u64, _>(links, UnsafeRef::new(first), UnsafeRef::new(second))?;
+    let position = first_steps::<u64, _>(links, UnsafeRef::new(first), UnsafeRef::new(second));
+    let position = position.expect(&rt, UNLINKED);
     same(&rt, &[position], &[1]);
-    Ok(())
 }
 
 #[test]
-fn an_object_is_not_pushed_twice(rt: HostRuntime) -> Result<(), Fail> {
-    let mut links = LinkOps::new(rt.alloc());
-    links.cover(1)?;
+fn an_object_is_not_pushed_twice(rt: HostRuntime) {
+    let mut links: LinkOps = covering(&rt, rt.alloc(), 1);
     let only = covered(&rt, &links, 0);
     let ended = first_steps::<u64, _>(links, UnsafeRef::new(only), UnsafeRef::new(only));
     same(&rt, &[ended.err().map(|refused| refused.0.place())], &[0]);
-    Ok(())
 }
 
 // Two objects that go into a list by views of its table, and come off it from both ends.
@@ -173,15 +179,13 @@ fn pair_by_views(
 }
 
 #[test]
-fn two_members_come_off_from_both_ends(rt: HostRuntime) -> Result<(), Fail> {
-    let mut links = LinkOps::new(rt.alloc());
-    links.cover(4)?;
+fn two_members_come_off_from_both_ends(rt: HostRuntime) {
+    let mut links: LinkOps = covering(&rt, rt.alloc(), 4);
     let (first, second) = (covered(&rt, &links, 3), covered(&rt, &links, 1));
-    let found = pair_by_views(&mut links, first, second)?;
+    let found = pair_by_views(&mut links, first, second).expect(&rt, UNLINKED);
     same(&rt, &found, &[3, 1]);
     let (low, high) = pairs::in_order(first, second);
     same(&rt, &[Some(low), Some(high)], &[1, 3]);
-    Ok(())
 }
 
 // An object that goes into a list over the second of two tables, and the first member then, if it is the second still.
@@ -198,24 +202,19 @@ fn over_the_second(links: LinkOps, object: Place) -> Result<Option<Place>, Alrea
 }
 
 #[test]
-fn a_table_stays_the_second_of_two(rt: HostRuntime) -> Result<(), Fail> {
-    let mut links = LinkOps::new(rt.alloc());
-    links.cover(3)?;
+fn a_table_stays_the_second_of_two(rt: HostRuntime) {
+    let mut links: LinkOps = covering(&rt, rt.alloc(), 3);
     let object = covered(&rt, &links, 2);
-    let found = over_the_second(links, object)?;
+    let found = over_the_second(links, object).expect(&rt, UNLINKED);
     same(&rt, &[found], &[2]);
-    Ok(())
 }
 
 #[test]
-fn just_one_of_two_threads_claims_a_place(rt: HostRuntime) -> Result<(), Fail> {
-    let (claims, mut holders) = Claims::new(rt.alloc(), 1, 2)?;
-    let Some(place) = Place::new(0) else {
-        return Err(Fail::from("no such place"));
-    };
+fn just_one_of_two_threads_claims_a_place(rt: HostRuntime) {
+    let (claims, mut holders) = Claims::new(rt.alloc(), 1, 2).expect(&rt, "memory for the claims");
+    let place = Place::new(0).expect(&rt, "the first place");
     let (first, second) = race(&rt, &claims, &mut holders, place);
     assert!(rt; first != second);
-    Ok(())
 }
 
 // An object that waits in one queue goes to the back of another: its place.
@@ -229,12 +228,11 @@ fn hand_one_over(links: &mut LinkOps, object: Place) -> Result<Option<Place>, Al
 }
 
 #[test]
-fn an_object_waits_in_another_queue(rt: HostRuntime) -> Result<(), Fail> {
-    let mut links = LinkOps::new(rt.alloc());
-    links.cover(2)?;
+fn an_object_waits_in_another_queue(rt: HostRuntime) {
+    let mut links: LinkOps = covering(&rt, rt.alloc(), 2);
     let place = covered(&rt, &links, 1);
-    same(&rt, &[hand_one_over(&mut links, place)?], &[1]);
-    Ok(())
+    let found = hand_one_over(&mut links, place).expect(&rt, UNLINKED);
+    same(&rt, &[found], &[1]);
 }
 
 // Places objects, each the number of those before it, and pushes them to the back of a list, in order.
@@ -291,30 +289,26 @@ fn deal_two_each(
 }
 
 #[test]
-fn members_are_dealt_from_both_ends(rt: HostRuntime) -> Result<(), Fail> {
-    let mut links = LinkOps::new(rt.alloc());
-    links.cover(4)?;
+fn members_are_dealt_from_both_ends(rt: HostRuntime) {
+    let mut links: LinkOps = covering(&rt, rt.alloc(), 4);
     let mut objects = Objects::new(rt.alloc());
     let mut list = LinkedList::new();
-    place_each(&rt, &mut list, &mut links, &mut objects, 4)?;
-    let shown = show_two_each(rt.alloc(), &list, &links, &objects)?;
+    place_each(&rt, &mut list, &mut links, &mut objects, 4).expect(&rt, UNLINKED);
+    let shown = show_two_each(rt.alloc(), &list, &links, &objects).expect(&rt, MEMORY);
     same(&rt, &shown, &[0, 1, 3, 2]);
-    let dealt = deal_two_each(rt.alloc(), list, &mut links)?;
+    let dealt = deal_two_each(rt.alloc(), list, &mut links).expect(&rt, MEMORY);
     same(&rt, &dealt, &[0, 1, 3, 2]);
-    Ok(())
 }
 
 #[test]
-fn what_fails_the_test_leaves(rt: HostRuntime) -> Result<(), Fail> {
-    let mut links = LinkOps::new(rt.alloc());
-    links.cover(5)?;
+fn what_fails_the_test_leaves(rt: HostRuntime) {
+    let mut links: LinkOps = covering(&rt, rt.alloc(), 5);
     let mut objects = Objects::new(rt.alloc());
     let mut list = LinkedList::new();
-    place_each(&rt, &mut list, &mut links, &mut objects, 5)?;
+    place_each(&rt, &mut list, &mut links, &mut objects, 5).expect(&rt, UNLINKED);
     retain(&mut list, &mut links, &objects, |object| object % 2 == 1);
-    let left = deal_two_each(rt.alloc(), list, &mut links)?;
+    let left = deal_two_each(rt.alloc(), list, &mut links).expect(&rt, MEMORY);
     same(&rt, &left, &[1, Place::COUNT, 3, Place::COUNT]); // there is no place with that index
-    Ok(())
 }
 
 // Three jobs of one owner are submitted, and the second once more: it is refused, and the answer is its place.
@@ -376,10 +370,9 @@ fn work_off(
 }
 
 #[test]
-fn jobs_leave_both_lists(rt: HostRuntime) -> Result<(), Fail> {
-    let (mut owned_links, mut ready_links) = (LinkOps::new(rt.alloc()), LinkOps::new(rt.alloc()));
-    owned_links.cover(3)?;
-    ready_links.cover(3)?;
+fn jobs_leave_both_lists(rt: HostRuntime) {
+    let mut owned_links: LinkOps = covering(&rt, rt.alloc(), 3);
+    let mut ready_links: LinkOps = covering(&rt, rt.alloc(), 3);
     let (mut owned, mut ready) = (LinkedList::new(), LinkedList::new());
     let first = covered_by_both(&rt, &owned_links, &ready_links, 2);
     let second = covered_by_both(&rt, &owned_links, &ready_links, 0);
@@ -392,7 +385,8 @@ fn jobs_leave_both_lists(rt: HostRuntime) -> Result<(), Fail> {
         first,
         second,
         third,
-    )?;
+    )
+    .expect(&rt, UNLINKED);
     same(&rt, &[again], &[0]);
     if again.is_some() {
         let found = work_off(
@@ -406,5 +400,4 @@ fn jobs_leave_both_lists(rt: HostRuntime) -> Result<(), Fail> {
         );
         same(&rt, &found, &[0, 1, 1]);
     }
-    Ok(())
 }

@@ -6,14 +6,13 @@ ghost use Rattle.ic_rbtree.specs.Tree.{root_of};
 ghost use Rattle.uses.specs.SortedObjects.{ShowsSorted};
 ghost use Rattle.uses.specs.Timers.{deadline};
 
-use crate::tests::same;
+use crate::tests::{UNLINKED, covering, same};
 use ic_link_ops::AlreadyLinked;
 use ic_link_ops::rbtree::LinkOps;
 use ic_rbtree::RBTree;
 use ic_unsafe_ref::{Objects, Place, UnsafeRef};
-use std::alloc::Allocator;
+use std::alloc::{Allocator, Global};
 use std::process::Abort;
-use std::test::Fail;
 use test_support::rationed::Rationed;
 use uses::timer_queue::{ByDeadline, Timer, cancel, schedule, take_all_due, take_due};
 
@@ -102,30 +101,70 @@ fn cancel_there(
     true
 }
 
+// Schedules five timers, and one of them once more, and takes three at the times when they are due.
+fn take_in_turn(
+    rt: &impl Abort,
+    timers: &mut RBTree<ByDeadline>,
+    links: &mut LinkOps,
+    objects: &Objects<Timer>,
+)
+    requires queue { ShowsSorted deadline (PlainShows links.old (root_of timers.old)) objects.now }
+    ensures queue { ShowsSorted deadline (PlainShows links.new (root_of timers.new)) objects.now }
+{
+    // they stand as 1, 3, 4, 2, 0: of the two at 20 the last place is scheduled first
+    schedule_each(rt, timers, links, objects, &[4, 1, 0, 3, 2]).expect(rt, UNLINKED);
+    let again = schedule_each(rt, timers, links, objects, &[3]);
+    same(rt, &[again.err().map(|refused| refused.0.place())], &[3]);
+    let found = take_four(timers, links, objects, [9, 10, 10, 19]);
+    same(rt, &found, &[Place::COUNT, 1, 3, Place::COUNT]); // there is no place with that index
+}
+
+// Cancels a timer, which is in the queue no more then.
+fn cancel_twice(
+    rt: &impl Abort,
+    timers: &mut RBTree<ByDeadline>,
+    links: &mut LinkOps,
+    objects: &Objects<Timer>,
+)
+    requires queue { ShowsSorted deadline (PlainShows links.old (root_of timers.old)) objects.now }
+    ensures queue { ShowsSorted deadline (PlainShows links.new (root_of timers.new)) objects.now }
+{
+    let place = Place::new(4).expect(rt, "the index of a place");
+    let was = cancel_there(timers, links, objects, place);
+    let is = cancel_there(timers, links, objects, place);
+    assert!(rt; was && !is);
+}
+
+// Schedules two of them again, and takes all that are due: three, and then one for which there is no room.
+fn take_the_others(
+    rt: &impl Abort,
+    alloc: Global,
+    timers: &mut RBTree<ByDeadline>,
+    links: &mut LinkOps,
+    objects: &Objects<Timer>,
+)
+    requires queue { ShowsSorted deadline (PlainShows links.old (root_of timers.old)) objects.now }
+    ensures queue { ShowsSorted deadline (PlainShows links.new (root_of timers.new)) objects.now }
+{
+    // they stand as 3, 1, 2, 0 then
+    schedule_each(rt, timers, links, objects, &[3, 1]).expect(rt, UNLINKED);
+    let mut due = Vec::new(alloc);
+    let all_fit = take_all(timers, links, objects, 29, &mut due);
+    same(rt, &first_four(&due), &[3, 1, 2, Place::COUNT]);
+    let no_memory = Rationed::new(alloc, 0);
+    let mut none = Vec::new(&no_memory);
+    let back = take_all(timers, links, objects, u64::MAX, &mut none);
+    same(rt, &[all_fit, back], &[Place::COUNT, 0]);
+    assert!(rt; none.is_empty() && timers.is_empty());
+}
+
 #[test]
-fn the_earliest_timer_is_taken_first(rt: HostRuntime) -> Result<(), Fail> {
-    let mut links = LinkOps::new(rt.alloc());
-    links.cover(5)?;
+fn the_earliest_timer_is_taken_first(rt: HostRuntime) {
+    let mut links: LinkOps = covering(&rt, rt.alloc(), 5);
     let mut objects = Objects::new(rt.alloc());
     place_each(&rt, &mut objects, &[30, 10, 20, 10, 20]);
     let mut timers = RBTree::new(ByDeadline);
-    // they stand as 1, 3, 4, 2, 0: of the two at 20 the last place is scheduled first
-    schedule_each(&rt, &mut timers, &mut links, &objects, &[4, 1, 0, 3, 2])?;
-    let again = schedule_each(&rt, &mut timers, &mut links, &objects, &[3]);
-    same(&rt, &[again.err().map(|refused| refused.0.place())], &[3]);
-    let found = take_four(&mut timers, &mut links, &objects, [9, 10, 10, 19]);
-    same(&rt, &found, &[Place::COUNT, 1, 3, Place::COUNT]); // there is no place with that index
-    let place = Place::new(4).expect(&rt, "the index of a place");
-    let was = cancel_there(&mut timers, &mut links, &objects, place);
-    let is = cancel_there(&mut timers, &mut links, &objects, place);
-    schedule_each(&rt, &mut timers, &mut links, &objects, &[3, 1])?; // they stand as 3, 1, 2, 0
-    let mut due = Vec::new(rt.alloc());
-    let all_fit = take_all(&mut timers, &mut links, &objects, 29, &mut due);
-    same(&rt, &first_four(&due), &[3, 1, 2, Place::COUNT]);
-    let no_memory = Rationed::new(rt.alloc(), 0);
-    let mut none = Vec::new(&no_memory);
-    let back = take_all(&mut timers, &mut links, &objects, u64::MAX, &mut none);
-    same(&rt, &[all_fit, back], &[Place::COUNT, 0]);
-    assert!(rt; was && !is && none.is_empty() && timers.is_empty());
-    Ok(())
+    take_in_turn(&rt, &mut timers, &mut links, &objects);
+    cancel_twice(&rt, &mut timers, &mut links, &objects);
+    take_the_others(&rt, rt.alloc(), &mut timers, &mut links, &objects);
 }

@@ -1,0 +1,84 @@
+//! What calls of a collection are answered as, of objects that are numbers.
+//!
+//! ```text
+//! object(list.pop_front(&mut links)) // `none`, or the index of the place where the object stands
+//! ```
+
+use crate::rows::Answer;
+use ic_link_ops::{AlreadyLinked, ReplaceError};
+use ic_unsafe_ref::{Objects, Place, UnsafeRef};
+
+/// What a place is answered as: its index.
+pub fn number(place: Place) -> Answer {
+    Answer::Number(place.index() as u64)
+}
+
+/// What an object that comes back is answered as: where it stands.
+pub fn object(found: Option<UnsafeRef<u64>>) -> Answer {
+    match found {
+        Some(object) => number(object.place()),
+        None => Answer::Nothing,
+    }
+}
+
+/// What a position is answered as: the member's place, `none` at null.
+pub fn standing(at: Option<Place>) -> Answer {
+    match at {
+        Some(place) => number(place),
+        None => Answer::Nothing,
+    }
+}
+
+/// What an object's value is answered as.
+pub fn value(found: Option<&u64>) -> Answer {
+    match found {
+        Some(value) => Answer::Number(*value),
+        None => Answer::Nothing,
+    }
+}
+
+/// Whether an object was taken in: `ok`, or `linked`.
+pub fn inserted(given: Result<(), AlreadyLinked<u64>>) -> Answer {
+    match given {
+        Ok(()) => Answer::Done,
+        Err(_) => Answer::Refused("linked"),
+    }
+}
+
+/// What was replaced: where it stands, or `null` or `linked`.
+pub fn replaced(given: Result<UnsafeRef<u64>, ReplaceError<u64>>) -> Answer {
+    match &given {
+        Ok(out) => number(out.place()),
+        Err(ReplaceError::Null(_)) => Answer::Refused("null"),
+        Err(ReplaceError::AlreadyLinked(_)) => Answer::Refused("linked"),
+    }
+}
+
+/// Places an object of that value, and answers where it stands: `full` or `memory` where it can't.
+pub fn placed(objects: &mut Objects<u64>, value: u64) -> Answer {
+    let Some(next) = objects.next_place() else {
+        return Answer::Refused("full");
+    };
+    let _small = next.index();
+    match UnsafeRef::from_box(objects, value) {
+        Ok(object) => number(object.place()),
+        Err(_) => Answer::Refused("memory"),
+    }
+}
+
+/// Places the object that the word says, and answers where it stands.
+pub fn placed_word(objects: &mut Objects<u64>, word: &str) -> Answer {
+    match word.parse() {
+        Ok(value) => placed(objects, value),
+        Err(_) => Answer::Refused("no number"),
+    }
+}
+
+/// Places the objects that the words say, and answers where the last one stands.
+pub fn placed_words(objects: &mut Objects<u64>, words: &[&str]) -> Answer {
+    let mut answer = Answer::Nothing;
+    for word in words {
+        answer = placed_word(objects, word);
+    }
+    answer
+}

@@ -1,0 +1,42 @@
+//! What tests read of a whole table.
+//!
+//! ```text
+//! write_linked(&mut text, &links); // `0 2 ` where the places 0 and 2 are linked
+//! ```
+
+ghost use Rattle.std.specs.Prelude.{◌≡◌, IsTrue, true};
+ghost use Rattle.ic_unsafe_ref.specs.declared.place.Place.{Place};
+ghost use Rattle.ic_unsafe_ref.specs.Objects.{is_placed};
+ghost use Rattle.ic_link_ops.specs.PlainTables.{table};
+ghost use Rattle.ic_link_ops.specs.Tables.{IsCovered};
+
+use crate::answers::number;
+use crate::rows::Text;
+use ic_link_ops::{PlainTable, Words};
+use ic_unsafe_ref::{Objects, Place};
+
+/// Whether an object stands at each place that is covered.
+pub fn are_placed<W: Words>(links: &PlainTable<W>, objects: &Objects<u64>) -> bool
+    ensures placed { IsTrue result → (q : Place) → IsCovered (table W.unlinked links.now) q → is_placed objects.now q ≡ true }
+{
+    for index in 0..links.covers() {
+        let Some(place) = Place::new(index) else {
+            return false;
+        };
+        if !objects.is_placed(place) {
+            return false;
+        }
+    }
+    true
+}
+
+/// Writes the places that are linked.
+pub fn write_linked<W: Words>(text: &mut Text, links: &PlainTable<W>) {
+    for index in 0..links.covers() {
+        if let Some(place) = Place::new(index) {
+            if links.is_linked(place) {
+                text.add(number(place), " ");
+            }
+        }
+    }
+}
