@@ -2,9 +2,9 @@
 
 use crate::answers::{place_or_none, read_place};
 use ic_unsafe_ref::{Objects, Place, UnsafeRef};
+use std::alloc::Global;
 use std::fmt::{self, Write};
 use std::mem;
-use std::alloc::Global;
 use std::test::Fail;
 use test_support::rationed::Rationed;
 use test_support::rows::{Answer, Played, Run, Wrong, play};

@@ -1,7 +1,7 @@
 //! A vector over the allocator, which grows where the request is not the one to refuse.
 
-use std::fmt::{self, Write};
 use std::alloc::Global;
+use std::fmt::{self, Write};
 use std::test::Fail;
 use test_support::rationed::Rationed;
 use test_support::rows::{Answer, Played, Run, Wrong, play};

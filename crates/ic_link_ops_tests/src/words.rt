@@ -2,8 +2,8 @@
 
 use crate::answers::{color, place_or_none, read_place};
 use ic_link_ops::{Color, End, MarkedWord, TreeWord, Word};
-use std::fmt::{self, Write};
 use std::alloc::Global;
+use std::fmt::{self, Write};
 use std::test::Fail;
 use test_support::rows::{Answer, Played, Run, Wrong, play};
 
