@@ -1,12 +1,13 @@
 //! Errors, with the objects that they give back, as numbers and as text.
 
-use crate::answers::{place_or_none, read_place, text};
+use crate::answers::text;
 use ic_link_ops::{AlreadyLinked, CoverError, ReplaceError};
 use ic_unsafe_ref::{Place, UnsafeRef};
 use std::alloc::Global;
 use std::fmt;
 use std::test::Fail;
-use test_support::rows::{Answer, Played, Run, play_all};
+use test_support::answers::number;
+use test_support::rows::{self, Answer, Played, Run, play_all};
 
 // Makes errors and reads them. Nothing is kept, so nothing is shown.
 #[derive(Drop)]
@@ -16,7 +17,7 @@ struct Errors {
 
 // The place of an object that came back.
 fn back(object: UnsafeRef<u64>) -> Answer {
-    place_or_none(Some(object.place()))
+    number(object.place())
 }
 
 impl Errors {
@@ -55,7 +56,7 @@ impl Played for Errors {
             ["number" | "text", "CoverError::OutOfMemory"] => {
                 self.of_cover(words[0], CoverError::OutOfMemory)
             }
-            [error, place] => match read_place(place) {
+            [error, place] => match rows::place(place) {
                 Some(place) => self.of_place(error, place),
                 None => Answer::Refused("place"),
             },

@@ -4,7 +4,7 @@ ghost use Rattle.ic_link_ops.specs.Tables.{IsLinked};
 ghost use Rattle.ic_link_ops.specs.PlainTables.{table, linked_by};
 ghost use Rattle.ic_link_ops.specs.LentTables.{lent_table};
 
-use crate::answers::{color, place_or_none, read_place, text};
+use crate::answers::{color, text};
 use ic_link_ops::linked_list::{LinkedListOps, TwoWords};
 use ic_link_ops::rbtree::{RBTreeOps, ThreeWords};
 use ic_link_ops::singly_linked_list::{Singly, SinglyLinkedListOps};
@@ -12,8 +12,9 @@ use ic_link_ops::xor_linked_list::{Xor, XorLinkedListOps};
 use ic_link_ops::{Color, LentTable, Link, OneWord, PlainTable, Words};
 use ic_unsafe_ref::Place;
 use std::alloc::Global;
+use test_support::answers::standing;
 use test_support::rationed::Rationed;
-use test_support::rows::Answer;
+use test_support::rows::{self, Answer};
 
 /// Words of a table, with the calls of the traits that the table carries.
 pub(crate) trait Kind: Words {
@@ -46,9 +47,9 @@ fn singly<L: SinglyLinkedListOps>(links: &mut L, place: Place, words: &[&str]) -
     requires linked { IsLinked L.linked (L.table links.old) place }
 {
     match *words {
-        ["next"] => place_or_none(links.next(place)),
+        ["next"] => standing(links.next(place)),
         ["set_next", next] => {
-            links.set_next(place, read_place(next));
+            links.set_next(place, rows::place(next));
             Answer::Done
         }
         _ => Answer::Refused("call"),
@@ -60,14 +61,14 @@ fn xor<L: XorLinkedListOps>(links: &mut L, place: Place, words: &[&str]) -> Answ
     requires linked { IsLinked L.linked (L.table links.old) place }
 {
     match *words {
-        ["next", prev] => place_or_none(links.next(place, read_place(prev))),
-        ["prev", next] => place_or_none(links.prev(place, read_place(next))),
+        ["next", prev] => standing(links.next(place, rows::place(prev))),
+        ["prev", next] => standing(links.prev(place, rows::place(next))),
         ["set", prev, next] => {
-            links.set(place, read_place(prev), read_place(next));
+            links.set(place, rows::place(prev), rows::place(next));
             Answer::Done
         }
         ["replace_next_or_prev", old, new] => {
-            links.replace_next_or_prev(place, read_place(old), read_place(new));
+            links.replace_next_or_prev(place, rows::place(old), rows::place(new));
             Answer::Done
         }
         _ => Answer::Refused("call"),
@@ -79,14 +80,14 @@ fn doubly<L: LinkedListOps>(links: &mut L, place: Place, words: &[&str]) -> Answ
     requires linked { IsLinked L.linked (L.table links.old) place }
 {
     match *words {
-        ["next"] => place_or_none(links.next(place)),
-        ["prev"] => place_or_none(links.prev(place)),
+        ["next"] => standing(links.next(place)),
+        ["prev"] => standing(links.prev(place)),
         ["set_next", next] => {
-            links.set_next(place, read_place(next));
+            links.set_next(place, rows::place(next));
             Answer::Done
         }
         ["set_prev", prev] => {
-            links.set_prev(place, read_place(prev));
+            links.set_prev(place, rows::place(prev));
             Answer::Done
         }
         _ => Answer::Refused("call"),
@@ -98,9 +99,9 @@ fn read_tree<L: RBTreeOps>(links: &L, place: Place, name: &str) -> Answer
     requires linked { IsLinked L.linked (L.table links.now) place }
 {
     match name {
-        "left" => place_or_none(links.left(place)),
-        "right" => place_or_none(links.right(place)),
-        "parent" => place_or_none(links.parent(place)),
+        "left" => standing(links.left(place)),
+        "right" => standing(links.right(place)),
+        "parent" => standing(links.parent(place)),
         "color" => color(links.color(place)),
         _ => Answer::Refused("call"),
     }
@@ -123,9 +124,9 @@ fn set_tree<L: RBTreeOps>(links: &mut L, place: Place, name: &str, word: &str) -
     requires linked { IsLinked L.linked (L.table links.old) place }
 {
     match name {
-        "set_left" => links.set_left(place, read_place(word)),
-        "set_right" => links.set_right(place, read_place(word)),
-        "set_parent" => links.set_parent(place, read_place(word)),
+        "set_left" => links.set_left(place, rows::place(word)),
+        "set_right" => links.set_right(place, rows::place(word)),
+        "set_parent" => links.set_parent(place, rows::place(word)),
         "set_color" => return set_color(links, place, word),
         _ => return Answer::Refused("call"),
     }

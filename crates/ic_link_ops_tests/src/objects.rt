@@ -1,13 +1,13 @@
 //! Objects by their places, with memory and without.
 
-use crate::answers::{place_or_none, read_place};
 use ic_unsafe_ref::{Objects, Place, UnsafeRef};
 use std::alloc::Global;
 use std::fmt::{self, Write};
 use std::mem;
 use std::test::Fail;
+use test_support::answers::{number, standing};
 use test_support::rationed::Rationed;
-use test_support::rows::{Answer, Played, Run, Wrong, play};
+use test_support::rows::{self, Answer, Played, Run, Wrong, play};
 
 // Objects over an allocator that refuses the requests which a row names, and the value that came back last.
 #[derive(Drop)]
@@ -26,7 +26,7 @@ impl Stand<'_> {
         let _small = next.index();
         self.back = None;
         match UnsafeRef::from_box(&mut self.objects, value) {
-            Ok(object) => place_or_none(Some(object.place())),
+            Ok(object) => number(object.place()),
             Err((_, value)) => {
                 self.back = Some(value);
                 Answer::Refused("memory")
@@ -59,7 +59,7 @@ impl Stand<'_> {
             },
             "is_placed" => Answer::Truth(self.objects.is_placed(place)),
             "at" => match self.objects.at(place) {
-                Some(object) => place_or_none(Some(object.place())),
+                Some(object) => number(object.place()),
                 None => Answer::Nothing,
             },
             _ => Answer::Refused("call"),
@@ -89,7 +89,7 @@ impl Stand<'_> {
     // A call with a word, which is a number or a place.
     fn of_word(&mut self, call: &str, word: &str) -> Answer {
         if call != "refuse" && call != "place" {
-            return self.of_place(call, read_place(word));
+            return self.of_place(call, rows::place(word));
         }
         match word.parse() {
             Ok(number) => self.of_number(call, number),
@@ -99,7 +99,7 @@ impl Stand<'_> {
 
     // Sets the value at the place.
     fn set_word(&mut self, place: &str, value: &str) -> Answer {
-        match (read_place(place), value.parse()) {
+        match (rows::place(place), value.parse()) {
             (Some(place), Ok(value)) => self.set(place, value),
             _ => Answer::Refused("place"),
         }
@@ -112,7 +112,7 @@ impl Played for Stand<'_> {
     fn call(&mut self, words: &[&str]) -> Answer {
         match *words {
             ["len"] => Answer::Number(self.objects.len() as u64),
-            ["next_place"] => place_or_none(self.objects.next_place()),
+            ["next_place"] => standing(self.objects.next_place()),
             ["set", place, value] => self.set_word(place, value),
             [call, word] => self.of_word(call, word),
             _ => Answer::Refused("call"),

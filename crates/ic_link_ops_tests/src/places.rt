@@ -1,11 +1,11 @@
 //! Places and references: limits, words, numbers, order and text.
 
-use crate::answers::{place_or_none, read_place};
 use ic_unsafe_ref::{Place, UnsafeRef};
 use std::alloc::Global;
 use std::fmt;
 use std::test::Fail;
-use test_support::rows::{Answer, Played, Run, play_all};
+use test_support::answers::{number, standing};
+use test_support::rows::{self, Answer, Played, Run, play_all};
 
 // Calls of places. They change nothing, so nothing is shown.
 #[derive(Drop)]
@@ -24,7 +24,7 @@ fn text(alloc: Global, value: &impl fmt::Debug) -> Answer {
 // The place that a word names, where the word is even and small enough.
 fn from_word(word: u64) -> Answer {
     if word < 17_179_869_184 && word % 2 == 0 {
-        return place_or_none(Place::from_word(word));
+        return standing(Place::from_word(word));
     }
     Answer::Refused("word")
 }
@@ -32,7 +32,7 @@ fn from_word(word: u64) -> Answer {
 // A call with a number.
 fn of_number(call: &str, number: u64) -> Answer {
     match call {
-        "new" => place_or_none(Place::new(number as usize)),
+        "new" => standing(Place::new(number as usize)),
         "from_word" => from_word(number),
         _ => Answer::Refused("call"),
     }
@@ -45,10 +45,10 @@ impl Places {
         match call {
             "to_word" => Answer::Number(Place::to_word(Some(place))),
             "text" => text(self.alloc, &place),
-            "reference" => place_or_none(Some(object.place())),
+            "reference" => number(object.place()),
             "reference_text" => text(self.alloc, &object),
             "clone" => match object.clone() {
-                Ok(copy) => place_or_none(Some(copy.place())),
+                Ok(copy) => number(copy.place()),
                 Err(_) => Answer::Refused("memory"),
             },
             _ => Answer::Refused("call"),
@@ -78,11 +78,11 @@ impl Played for Places {
                 Ok(number) => of_number(words[0], number),
                 Err(_) => Answer::Refused("number"),
             },
-            [call, place] => match read_place(place) {
+            [call, place] => match rows::place(place) {
                 Some(place) => self.of_place(call, place),
                 None => Answer::Refused("place"),
             },
-            [first, call, second] => match (read_place(first), read_place(second)) {
+            [first, call, second] => match (rows::place(first), rows::place(second)) {
                 (Some(first), Some(second)) => self.of_two(call, first, second),
                 _ => Answer::Refused("place"),
             },

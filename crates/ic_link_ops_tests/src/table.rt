@@ -3,7 +3,7 @@
 ghost use Rattle.ic_link_ops.specs.Tables.{IsCovered, IsLinked};
 ghost use Rattle.ic_link_ops.specs.PlainTables.{table, linked_by};
 
-use crate::answers::{read_place, text};
+use crate::answers::text;
 use crate::kinds::Kind;
 use crate::lent;
 use ic_link_ops::{CoverError, Link, LinkOps, PlainTable, Words};
@@ -11,7 +11,7 @@ use ic_unsafe_ref::Place;
 use std::alloc::Global;
 use std::fmt::{self, Write};
 use test_support::rationed::Rationed;
-use test_support::rows::Answer;
+use test_support::rows::{self, Answer};
 
 /// A table over an allocator that refuses the requests which a row names.
 #[derive(Drop)]
@@ -139,11 +139,11 @@ impl<W: Kind> Table<'_, W> {
                 Ok(number) => self.of_number(words[0], number),
                 Err(_) => Answer::Refused("number"),
             },
-            [call, place] => match read_place(place) {
+            [call, place] => match rows::place(place) {
                 Some(place) => self.of_place(call, place),
                 None => Answer::Refused("place"),
             },
-            [place, kind, ..] => match read_place(place) {
+            [place, kind, ..] => match rows::place(place) {
                 Some(place) => self.of_kind(place, kind, &words[2..]),
                 None => Answer::Refused("place"),
             },

@@ -1,11 +1,12 @@
 //! Ends, and the words of which links are made.
 
-use crate::answers::{color, place_or_none, read_place};
+use crate::answers::color;
 use ic_link_ops::{Color, End, MarkedWord, TreeWord, Word};
 use std::alloc::Global;
 use std::fmt::{self, Write};
 use std::test::Fail;
-use test_support::rows::{Answer, Played, Run, Wrong, play};
+use test_support::answers::standing;
+use test_support::rows::{self, Answer, Played, Run, Wrong, play};
 
 // A word of each form.
 #[derive(Drop)]
@@ -19,15 +20,15 @@ impl Words {
     // A call of the word.
     fn of_word(&mut self, words: &[&str]) -> Answer {
         match *words {
-            ["place"] => return place_or_none(self.word.place()),
-            ["other", known] => return place_or_none(self.word.other(read_place(known))),
+            ["place"] => return standing(self.word.place()),
+            ["other", known] => return standing(self.word.other(rows::place(known))),
             ["none"] => self.word = Word::none(),
-            ["of", place] => self.word = Word::of(read_place(place)),
+            ["of", place] => self.word = Word::of(rows::place(place)),
             ["between", prev, next] => {
-                self.word = Word::between(read_place(prev), read_place(next));
+                self.word = Word::between(rows::place(prev), rows::place(next));
             }
             ["replace", old, new] => {
-                self.word = self.word.replaced(read_place(old), read_place(new));
+                self.word = self.word.replaced(rows::place(old), rows::place(new));
             }
             _ => return Answer::Refused("call"),
         }
@@ -45,7 +46,7 @@ impl Words {
                 return Answer::Number(self.marked.word().bits());
             }
             ["mark"] => self.marked = MarkedWord::mark(),
-            ["of", place] => self.marked = MarkedWord::of(Word::of(read_place(place))),
+            ["of", place] => self.marked = MarkedWord::of(Word::of(rows::place(place))),
             _ => return Answer::Refused("call"),
         }
         Answer::Done
@@ -55,11 +56,11 @@ impl Words {
     fn of_tree(&mut self, words: &[&str]) -> Answer {
         match *words {
             ["is_linked"] => return Answer::Truth(self.tree.is_linked()),
-            ["parent"] => return place_or_none(self.tree.parent()),
+            ["parent"] => return standing(self.tree.parent()),
             ["color"] => return color(self.tree.color()),
             ["linked"] => self.tree = TreeWord::linked(),
             ["unlinked"] => self.tree = TreeWord::unlinked(),
-            ["set_parent", parent] => self.tree.set_parent(read_place(parent)),
+            ["set_parent", parent] => self.tree.set_parent(rows::place(parent)),
             ["set_color", "red"] => self.tree.set_color(Color::Red),
             ["set_color", "black"] => self.tree.set_color(Color::Black),
             _ => return Answer::Refused("call"),
@@ -73,7 +74,7 @@ impl Played for Words {
 
     fn call(&mut self, words: &[&str]) -> Answer {
         match *words {
-            ["end", place] => place_or_none(End::of(read_place(place)).get()),
+            ["end", place] => standing(End::of(rows::place(place)).get()),
             ["word", ..] => self.of_word(&words[1..]),
             ["marked", ..] => self.of_marked(&words[1..]),
             ["tree", ..] => self.of_tree(&words[1..]),
