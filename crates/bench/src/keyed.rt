@@ -11,7 +11,7 @@ ghost use Rattle.ic_link_ops.specs.Positions.{HasMember};
 ghost use Rattle.ic_link_ops.specs.RedBlackTree.{Shows};
 ghost use Rattle.ic_link_ops.specs.Tables.{IsCovered};
 ghost use Rattle.ic_rbtree.specs.Tree.{root_of};
-ghost use Rattle.uses.specs.SortedObjects.{ShowsSorted, StaysSorted};
+ghost use Rattle.ic_rbtree.specs.SortedObjects.{ShowsSorted, StaysSorted};
 
 use crate::trees::ByValue;
 use ic_link_ops::LinkOps;

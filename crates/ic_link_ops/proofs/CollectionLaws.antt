@@ -5,7 +5,7 @@ use Rattle.ic_link_ops.specs.Sequences.{Cut, join, at_back, IsAbsent, IsDistinct
 use Rattle.ic_link_ops.specs.Tables.{Table, KeepsBeside, IsUnlinked}
 use Rattle.ic_link_ops.specs.Edits.{Splices, Splits}
 use Rattle.ic_link_ops.proofs.Covering.{frames_join}
-use Rattle.ic_link_ops.proofs.SequenceLemmas.{disjoint_sym, distinct_disjoint}
+use Rattle.ic_link_ops.proofs.SequenceLemmas.{disjoint_nothing, disjoint_sym, distinct_disjoint}
 
 -- what a kind brings: a collection keeps its sequence where only other entries change, what is unlinked is no member, no place
 -- stands twice in a sequence, every table shows the empty one for the empty collection, and at most one for any
@@ -25,6 +25,10 @@ module _ {E H : Type 0} {Shows : Table E → H → List Place → Type 0} {linke
   -- ONE SEQUENCE IS SHOWN for a collection, not two
   pub one_sequence_is_shown : {t : Table E} {list : H} {s u : List Place} → Shows t list s → Shows t list u → s ≡ u
   one_sequence_is_shown {t} {list} {s} {u} shown other = kind.one t list s u shown other
+
+  -- A COLLECTION SURVIVES `cover`, whatever it answered: `stays` is its clause
+  pub kept_shown : {old new : Table E} {list : H} {s : List Place} → ((q : Place) → new.entry q ≡ old.entry q) → Shows old list s → Shows new list s
+  kept_shown {old} {new} {list} {s} stays shown = kind.frame old new list s [] shown (disjoint_nothing s) (λ q out. stays q)
 
   -- OTHER COLLECTIONS STAY: where nothing but entries of `touched` is changed, one that shares no member with them keeps its sequence
   pub others_stay : {old new : Table E} {list : H} {s : List Place} (touched : List Place)

@@ -7,7 +7,8 @@ use Rattle.ic_link_ops.specs.Chains.{Ends, no_members}
 use Rattle.ic_link_ops.specs.Turns.{TurnsBehind, TurnsBefore}
 use Rattle.ic_link_ops.specs.Walk.{walked}
 use Rattle.ic_link_ops.specs.LinkedList.{Neighbors, neighbors_at, IsBetween, Shows, next_of, members_between, members, IsWalk}
-use Rattle.ic_link_ops.specs.DoublyEntries.{neighbors_of, is_linked}
+use Rattle.ic_unsafe_ref.specs.Places.{index_of}
+use Rattle.ic_link_ops.specs.DoublyEntries.{DoublyLinkOps, neighbors_of, is_linked, entries, linked_in_range, plain_table, PlainShows, members_of}
 use Rattle.ic_link_ops.proofs.Turning.{turns_behind, turns_before}
 use Rattle.ic_link_ops.proofs.ShownLists.{shows_frame, shows_one, free_absent}
 use Rattle.ic_link_ops.proofs.CollectionLaws.{IsKind}
@@ -131,3 +132,12 @@ doubly_lists {n = n} alike = record {
 -- THE PLAIN TABLE brings them too
 pub plain_lists : IsKind (Shows neighbors_of) is_linked no_members
 plain_lists = doubly_lists (λ e. refl)
+
+module _ {A : Type 0} (links : DoublyLinkOps A) where
+  -- what it links it covers,
+  pub plain_covered : (p : Place) → IsLinked is_linked (plain_table links) p → IsCovered (plain_table links) p
+  plain_covered p linked = linked_in_range (entries links) (index_of p) linked
+
+  -- and the members of a list are what it shows for it
+  pub plain_members : {list : Ends} {s : List Place} → PlainShows links list s → members_of links list ≡ s
+  plain_members {list} {s} shown = members_shown (plain_table links) plain_covered list s shown

@@ -27,3 +27,6 @@ pub mod Frames
 pub mod EntryLemmas
 pub mod LentTables
 pub mod TreeWordLemmas
+pub mod PlacedValues
+pub mod TwoFields
+pub mod NumberedCollections

@@ -186,6 +186,11 @@ disjoint_sym s [] d = tt
 disjoint_sym s (y ∷ t) d = (absent_before y s t d, disjoint_sym s t (disjoint_rest y s t d))
 
 -- a part of t is disjoint from s too
+-- nothing shares a member with anything
+pub disjoint_nothing : (s : List Place) → IsDisjoint s []
+disjoint_nothing [] = tt
+disjoint_nothing (x ∷ s) = (tt, disjoint_nothing s)
+
 pub disjoint_left : (s t r : List Place) → IsDisjoint s (t ++ r) → IsDisjoint s t
 disjoint_left s t r d = absent_swap s (t ++ r) d t (λ q h. absent_left q t r h)
 
@@ -322,3 +327,12 @@ member_split q (x ∷ s) member = elim (same_or_not q x) [
 
 pub split_member : (front : List Place) (q : Place) (back : List Place) → IsMember q (front ++ q ∷ back)
 split_member front q back out = (absent_right q front (q ∷ back) out).0 refl
+
+-- a sequence with no first member, or no last, is empty
+pub nothing_first : (s : List Place) → None ≡ first s → s ≡ []
+nothing_first [] h = refl
+nothing_first (x ∷ s) h = absurd (none_not x h)
+
+pub nothing_last : (s : List Place) → None ≡ last s → s ≡ []
+nothing_last [] h = refl
+nothing_last (x ∷ s) h = absurd (last_some x s (sym h))

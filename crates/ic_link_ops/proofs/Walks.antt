@@ -7,7 +7,7 @@ use Rattle.std.specs.Iterator.{MakesProgress, item_count}
 use Rattle.std.proofs.lemmas.Option.{same_Some}
 use Rattle.ic_unsafe_ref.specs.declared.place.Place.{Place}
 use Rattle.ic_unsafe_ref.specs.Places.{index_of}
-use Rattle.ic_unsafe_ref.proofs.PlaceLemmas.{same_index}
+use Rattle.ic_unsafe_ref.proofs.PlaceLemmas.{same_index, index_small}
 use Rattle.ic_link_ops.specs.Sequences.{IsAbsent, IsDistinct, first_or, last_or, first, last, but_last}
 use Rattle.ic_link_ops.specs.Tables.{Table, IsCovered}
 use Rattle.ic_link_ops.specs.Chains.{Ends, IsChain, IsStretch, ShowsBetween}
@@ -50,6 +50,14 @@ length_count (x ∷ w) n d h =
 -- distinct places below n are at most n
 pub pigeonhole : (w : List Place) (n : ℕ) → IsDistinct w → AllByRecursion (λ q. index_of q < n) w → length w ≤ n
 pigeonhole w n d h = omega (arith, length_count w n d h, count_at_most (member w) n)
+
+-- there are fewer than 2 ^ 33 places
+all_small : (s : List Place) → AllByRecursion (λ q. index_of q < 8589934591) s
+all_small [] = tt
+all_small (x ∷ s) = (index_small x, all_small s)
+
+pub few_places : (s : List Place) → IsDistinct s → length s ≤ 8589934591
+few_places s distinct = pigeonhole s 8589934591 distinct (all_small s)
 
 -- a step that reads nothing of what stands before gives the same walk, whatever stands there
 pub walk_blind : {E : Type 0} (next : E → Option Place) (t : Place → E) (fuel : ℕ) (b b' from to : Option Place)

@@ -33,3 +33,5 @@ pub mod StepLaws
 pub mod PlainTables
 pub mod LentTables
 pub mod DoublyEntries
+pub mod TwoFields
+pub mod NumberedCollections

@@ -1,5 +1,5 @@
 -- The objects that stand at the members of a sequence.
-use Rattle.std.specs.Prelude.{IsSome, List}
+use Rattle.std.specs.Prelude.{◌≡◌, IsSome, List}
 use Rattle.std.specs.List.{AllByRecursion, filter_map}
 use Rattle.ic_unsafe_ref.specs.declared.place.Place.{Place}
 use Rattle.ic_unsafe_ref.specs.Objects.{Objects, object_at}
@@ -18,3 +18,8 @@ module _ {T : Type 0} where
   -- the objects at the members of s, in order
   abbrev pub values_at : Objects T → List Place → List T
   values_at objects s = filter_map (object_at objects) s
+
+  -- an object stands at each member of s, and these are they, in order
+  pub record StandAt (objects : Objects T) (s : List Place) (values : List T) : Type 0 where
+    pub placed : ArePlaced objects s
+    pub are : values_at objects s ≡ values

@@ -99,6 +99,7 @@ impl<W: Words, A: Allocator> PlainTable<W, A> {
         ensures covers { OnOk result ((table W.unlinked self.new).extent.places ≡ max (table W.unlinked self.old).extent.places count) }
         ensures stays { (q : Place) → (table W.unlinked self.new).entry q
             ≡ (table W.unlinked self.old).entry q }
+        ensures covered { (q : Place) → IsCovered (table W.unlinked self.old) q → IsCovered (table W.unlinked self.new) q }
         ensures enough { count ≤ (table W.unlinked self.old).extent.places → count ≤ 4294967296 → IsOk result }
         ensures refused { OnErr result (entries self.new ≡ entries self.old) }
     {

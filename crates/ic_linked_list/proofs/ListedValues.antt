@@ -15,8 +15,9 @@ use Rattle.ic_link_ops.specs.LinkedList.{Neighbors, Shows}
 use Rattle.ic_link_ops.proofs.SequenceLemmas.{some_same}
 use Rattle.ic_link_ops.proofs.DoublyLists.{doubly_lists}
 use Rattle.ic_link_ops.specs.Positions.{object_there}
-use Rattle.ic_link_ops.specs.PlacedObjects.{ArePlaced, ShowsPlaced, values_at}
+use Rattle.ic_link_ops.specs.PlacedObjects.{ArePlaced, ShowsPlaced, StandAt, values_at}
 use Rattle.ic_link_ops.proofs.Calling.{accepted, still_shown}
+use Rattle.ic_link_ops.proofs.PlacedValues.{stand_begins, stand_beside, stand_placed, stand_rest}
 
 -- A LIST OF VALUES: the table shows members for the list, these values stand there, and no vacant place is linked
 module _ {E T : Type 0} (n : E → Neighbors) (linked : E → Bool) where
@@ -27,37 +28,13 @@ module _ {E T : Type 0} (n : E → Neighbors) (linked : E → Bool) where
     pub are : values_at objects members ≡ values
     pub vacant : (p : Place) → object_at objects p ≡ None → IsUnlinked linked t p
 
--- where the same objects stand at the members, the list has the same values
-module _ {T : Type 0} (old new : Objects T) where
-  same_values : (s : List Place) → ((q : Place) → (IsAbsent q s → ⊥) → IsSome (object_at old q) → object_at new q ≡ object_at old q) → ArePlaced old s
-      → ArePlaced new s × (values_at new s ≡ values_at old s)
-  same_values [] same h = (tt, refl)
-  same_values (x ∷ s) same h =
-      let here = same x (λ out. out.0 refl) h.0 in
-      let rest = same_values s (λ q member. same q (λ out. member out.1)) h.1 in ((rw here h.0, rest.0), rw (here, rest.1) refl)
-
--- one more behind them
-all_placed : {T : Type 0} (objects : Objects T) (s : List Place) (p : Place) → ArePlaced objects s → IsSome (object_at objects p) → ArePlaced objects (s ++ p ∷ [])
-all_placed objects [] p h here = (here, tt)
-all_placed objects (x ∷ s) p h here = (h.0, all_placed objects s p h.1 here)
-
--- AFTER `from_box`: those that were placed are, and so is the new object
-pub placed_with : {T : Type 0} {old new : Objects T} {p : Place} {v : T} → Places old new p v → (s : List Place) → ArePlaced old s
-    → ArePlaced new (s ++ p ∷ []) × (values_at new (s ++ p ∷ []) ≡ values_at old s ++ v ∷ [])
-placed_with {old = old} {new} {p} places s placed =
-    let there = placed_there places in
-    let same = same_values old new s (λ q member stood. others_placed places q (stood_elsewhere places q stood)) placed in
-    (all_placed new s p same.0 (rw there refl), filter_map-append (object_at new) s (p ∷ []) ∙ rw (there, same.1) refl)
-
 -- the first of them
-first_is_some : {T : Type 0} (o : Option T) (l : List T) {v : T} {values : List T} → IsSome o → cons_option o l ≡ v ∷ values → (o ≡ Some v) × (l ≡ values)
-first_is_some (Some x) l h e = ((cc), (cc))
-first_is_some None l h e = absurd (cc)
-
-first_placed : {T : Type 0} (objects : Objects T) (s : List Place) {v : T} {values : List T} → ArePlaced objects s → values_at objects s ≡ v ∷ values
-    → (p : Place) × (first s ≡ Some p) × (object_at objects p ≡ Some v) × ArePlaced objects (drop 1 s) × (values_at objects (drop 1 s) ≡ values)
-first_placed objects [] h e = absurd (cc)
-first_placed objects (x ∷ s) h e = let are = first_is_some (object_at objects x) (values_at objects s) h.0 e in (x, refl, are.0, h.1, are.1)
+front_of : {T : Type 0} {objects : Objects T} (s : List Place) {v : T} {values : List T} → StandAt objects s (v ∷ values)
+    → (p : Place) × (Some p ≡ first s) × (object_at objects p ≡ Some v)
+front_of s {v} {values} stand = elim (stand_begins s stand) [
+  | inl none ↦ absurd (cc)
+  | inr begin ↦ let same : begin.value ≡ v = cc begin.begin in (begin.place, begin.first, begin.there ∙ ap Some same)
+]
 
 module _ {E T : Type 0} {n : E → Neighbors} {linked : E → Bool} where
   -- the members are shown and placed, as `iter` asks
@@ -65,12 +42,15 @@ module _ {E T : Type 0} {n : E → Neighbors} {linked : E → Bool} where
       → ShowsPlaced (Shows n t list) objects
   has_placed has = record { members = has.members; shown = has.shown; placed = has.placed }
 
+  stand_of : {t : Table E} {list : Ends} {objects : Objects T} {values : List T} (has : HasValues n linked t list objects values) → StandAt objects has.members values
+  stand_of has = record { placed = has.placed; are = has.are }
+
   -- the value at a position on the first member
   pub has_first : {t : Table E} {list : Ends} {objects : Objects T} {v : T} {values : List T} {position : Option Place} → HasValues n linked t list objects (v ∷ values)
       → ((s : List Place) → Shows n t list s → position ≡ first s) → IsSome position × (object_there objects position ≡ Some v)
   has_first {objects = objects} has answer =
-      let f = first_placed objects has.members has.placed has.are in
-      let on = answer has.members has.shown ∙ f.1 in (ap is_some on, ap (object_there objects) on ∙ f.2)
+      let f = front_of has.members (stand_of has) in
+      let on = answer has.members has.shown ∙ sym f.1 in (ap is_some on, ap (object_there objects) on ∙ f.2)
 
   -- at the end of a loop that has linked all of them
   pub has_all : {t : Table E} {list : Ends} {objects : Objects T} {values : List T} {count : ℕ} → HasValues n linked t list objects (take count values)
@@ -95,11 +75,11 @@ module _ {E T : Type 0} {n : E → Neighbors} {linked : E → Bool} where
   has_pushed {t0} {t1} {list0} {list1} {old} {new} {values} {all} {p} {v} Same r has places inserted acquired refused more =
       let off = has.vacant p places.vacant in
       let links : LinksAlso linked t0 t1 p = accepted Same r off refused acquired in
-      let with = placed_with places has.members has.placed in record {
+      let with = stand_placed places (stand_of has) in record {
         members = has.members ++ p ∷ [];
         shown = accepted Same r off refused (inserted has.members has.shown);
-        placed = with.0;
-        are = with.1 ∙ rw (has.are, more) refl;
+        placed = with.placed;
+        are = with.are ∙ sym more;
         vacant = λ q none.
             let other : q ≢ p = λ e. let never = sym none ∙ ap (object_at new) e ∙ placed_there places in absurd (cc) in
             links.others q other ∙ has.vacant q (sym (others_placed places q other) ∙ none);
@@ -111,18 +91,18 @@ module _ {E T : Type 0} {n : E → Neighbors} {linked : E → Bool} where
       → IfSome popped (Unlinks linked t0 t1) → popped ≡ Some p → object_at old p ≡ Some taken → Frees old new p
       → (taken ≡ v) × HasValues n linked t1 list1 new values
   has_taken alike {t0} {t1} {list0} {list1} {old} {new} {v} {taken} {values} {popped} {p} has answer removed released is stood frees =
-      let f = first_placed old has.members has.placed has.are in
-      let one : f.0 ≡ p = some_same (sym f.1 ∙ sym (answer has.members has.shown) ∙ is) in
+      let f = front_of has.members (stand_of has) in
+      let one : f.0 ≡ p = some_same (f.1 ∙ sym (answer has.members has.shown) ∙ is) in
       let links : Unlinks linked t0 t1 p = rw is at released in
       let shown = removed has.members has.shown in
       let absent = (doubly_lists alike).free t1 list1 (drop 1 has.members) p shown links.is in
-      let same = same_values old new (drop 1 has.members) (λ q member standing. others_left frees q (λ e. member (rw e absent))) f.3 in (
+      let rest = stand_beside old new p (others_left frees) absent (stand_rest old f.0 f.2 f.1 (stand_of has)) in (
         same_Some _ _ (sym stood ∙ rw one at f.2),
         record {
           members = drop 1 has.members;
           shown = shown;
-          placed = same.0;
-          are = same.1 ∙ f.4;
+          placed = rest.placed;
+          are = rest.are;
           vacant = λ q none. elim (same_or_not q p) [
             | inl e ↦ rw e links.is
             | inr other ↦ links.others q other ∙ has.vacant q (sym (others_left frees q other) ∙ none)

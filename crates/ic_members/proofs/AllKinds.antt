@@ -54,7 +54,7 @@ module _ {A V K : Type 0} where
   one_sequence t law (Singly m) s shown = singly_laws.members_shown t law (singly_cursor.list_of m) s shown
   one_sequence t law (Doubly m) s shown = doubly_laws.members_shown t law (doubly_cursor.list_of m) s shown
   one_sequence t law (Xor m) s shown = xor_laws.members_shown other (λ e a b j. joins_finds_other e.word a b j) t law (xor_cursor.list_of m) s shown
-  one_sequence t law (Tree m) s shown = tree_members.members_shown node t law (root_of (tree_cursor.tree_of m)) s shown
+  one_sequence t law (Tree m) s shown = tree_members.members_shown t law (root_of (tree_cursor.tree_of m)) s shown
 
   -- no place stands twice in it
   pub distinct : (t : Table Entry) (m : Members A V K) (s : List Place) → ShowsIn t m s → IsDistinct s

@@ -6,7 +6,6 @@ use Rattle.std.proofs.lemmas.Nat.{pow_below}
 use Rattle.std.proofs.lemmas.Bool.{cases_lt}
 use Rattle.ic_unsafe_ref.specs.declared.place.Place.{Place}
 use Rattle.ic_unsafe_ref.specs.Places.{index_of}
-use Rattle.ic_unsafe_ref.proofs.PlaceLemmas.{index_small}
 use Rattle.ic_link_ops.specs.declared.color.Color.{Color}
 use Rattle.ic_link_ops.specs.Sequences.{IsMember}
 use Rattle.ic_link_ops.specs.Tables.{Table, IsCovered}
@@ -20,7 +19,7 @@ use Rattle.ic_link_ops.specs.declared.side.Side.TheVariants.{Left, Right}
 use Rattle.ic_link_ops.proofs.SequenceLemmas.{none_not, member_split}
 use Rattle.ic_link_ops.proofs.ShownTrees.{left_member, right_member}
 use Rattle.ic_link_ops.proofs.Trees.{top_parent}
-use Rattle.ic_link_ops.proofs.Walks.{pigeonhole}
+use Rattle.ic_link_ops.proofs.Walks.{few_places}
 use Rattle.ic_rbtree.specs.Height.{height}
 use Rattle.ic_rbtree.specs.Members.{HasChild}
 use Rattle.ic_rbtree.specs.Pieces.{Stands}
@@ -32,11 +31,6 @@ use Rattle.ic_rbtree.proofs.Removing.{spot, shown_of, order_around}
 -- an end is where it is
 pub is_end_there : {end : Option Place} {p : Place} → end ≡ Some p → is_end end p ≡ true
 is_end_there {end} {p} e = rw e (eq-eqb (index_of p) (index_of p) refl)
-
--- all places are few
-all_small : (s : List Place) → AllByRecursion (λ q. index_of q < 8589934591) s
-all_small [] = tt
-all_small (x ∷ s) = (index_small x, all_small s)
 
 -- what is at most the square of 2 ^ 33 as a power of 2 has a small exponent
 exponent_small : (v m : ℕ) → m ≤ 8589934592 → 2 ^ v ≤ m ^ 2 → v ≤ 66
@@ -65,7 +59,7 @@ module _ {E : Type 0} (n : E → Node) where
         let few : 2 ^ looks ≤ (length s + 1) ^ 2 =
         subst (λ (z : List Place). 2 ^ looks ≤ (length z + 1) ^ 2) (ap in_order same ∙ shown.held.order)
         (looks_few fs t looks (subst IsRight (sym same) shown.shape) high) in
-        let small : length s ≤ 8589934591 = pigeonhole s 8589934591 shown.held.distinct (all_small s) in
+        let small : length s ≤ 8589934591 = few_places s shown.held.distinct in
         exponent_small looks (length s + 1) (omega (arith, small)) few
 
     pub starts : {p : Place} → IsMember p s → Climbs v root p 0
@@ -78,7 +72,7 @@ module _ {E : Type 0} (n : E → Node) where
       where
         long : (fs : List Frame) (c : Color) (a b : Tree) → IsRight (plug fs (fork c a p b)) → in_order (plug fs (fork c a p b)) ≡ s → length fs + 1 ≤ 66
         long fs c a b right same =
-            exponent_small (length fs + 1) (length s + 1) (omega (arith, pigeonhole s 8589934591 shown.held.distinct (all_small s)))
+            exponent_small (length fs + 1) (length s + 1) (omega (arith, few_places s shown.held.distinct))
             (subst (λ (z : List Place). 2 ^ (length fs + 1) ≤ (length z + 1) ^ 2) same (looks_few fs (fork c a p b) (length fs + 1) right (omega arith)))
 
     -- one step goes to a member as well, whose child the old one is

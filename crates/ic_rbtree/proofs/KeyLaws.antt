@@ -25,11 +25,11 @@ pub record Cuts (test : Place → Bool) (s : List Place) : Type 0 where
   pub fail : AllByRecursion (λ p. test p ≡ false) front
   pub pass : AllByRecursion (λ p. test p ≡ true) back
 
-pub all_both : (P : Place → Type 0) (s t : List Place) → AllByRecursion P s → AllByRecursion P t → AllByRecursion P (s ++ t)
+pub all_both : {X : Type 0} (P : X → Type 0) (s t : List X) → AllByRecursion P s → AllByRecursion P t → AllByRecursion P (s ++ t)
 all_both P [] t hs ht = ht
 all_both P (p ∷ s) t hs ht = (hs.0, all_both P s t hs.1 ht)
 
-pub all_map : {P Q : Place → Type 0} → ((p : Place) → P p → Q p) → (s : List Place) → AllByRecursion P s → AllByRecursion Q s
+pub all_map : {X : Type 0} {P Q : X → Type 0} → ((x : X) → P x → Q x) → (s : List X) → AllByRecursion P s → AllByRecursion Q s
 all_map f [] h = tt
 all_map f (p ∷ s) h = (f p h.0, all_map f s h.1)
 
@@ -65,15 +65,15 @@ one_border test (a ∷ f) b (p ∷ x) y e hf hb fails passes =
     (sym (ap (λ z. z ∷ x) k.0) ∙ ap (λ z. a ∷ z) r.0, r.1)
 
 -- what passes, and what fails
-filter_pass : (test : Place → Bool) (s : List Place) → AllByRecursion (λ p. test p ≡ true) s → filter test s ≡ s
+pub filter_pass : {X : Type 0} (test : X → Bool) (s : List X) → AllByRecursion (λ p. test p ≡ true) s → filter test s ≡ s
 filter_pass test [] h = refl
 filter_pass test (p ∷ s) h = ap (λ x. cond x (p ∷ filter test s) (filter test s)) h.0 ∙ ap (λ t. p ∷ t) (filter_pass test s h.1)
 
-pub filter_fail : (test : Place → Bool) (s t : List Place) → AllByRecursion (λ p. test p ≡ false) s → filter test (s ++ t) ≡ filter test t
+pub filter_fail : {X : Type 0} (test : X → Bool) (s t : List X) → AllByRecursion (λ p. test p ≡ false) s → filter test (s ++ t) ≡ filter test t
 filter_fail test [] t h = refl
 filter_fail test (p ∷ s) t h = ap (λ x. cond x (p ∷ filter test (s ++ t)) (filter test (s ++ t))) h.0 ∙ filter_fail test s t h.1
 
-pub filter_front : (test : Place → Bool) (s t : List Place) → AllByRecursion (λ p. test p ≡ true) s → AllByRecursion (λ p. test p ≡ false) t → filter test (s ++ t) ≡ s
+pub filter_front : {X : Type 0} (test : X → Bool) (s t : List X) → AllByRecursion (λ p. test p ≡ true) s → AllByRecursion (λ p. test p ≡ false) t → filter test (s ++ t) ≡ s
 filter_front test [] t hs ht = ap (filter test) (sym (append-nil t)) ∙ filter_fail test t [] ht
 filter_front test (p ∷ s) t hs ht = ap (λ x. cond x (p ∷ filter test (s ++ t)) (filter test (s ++ t))) hs.0 ∙ ap (λ l. p ∷ l) (filter_front test s t hs.1 ht)
 

@@ -30,3 +30,7 @@ pub mod InOrder
 pub mod Ranges
 pub mod KeyLaws
 pub mod RangeLaws
+pub mod PlainTrees
+pub mod Passing
+pub mod SortedKeys
+pub mod SortedValues

@@ -101,10 +101,11 @@ module _ {E : Type 0} (n : E → Node) where
         top_read t.entry f.0 (Some x) x t.extent.places st.are.1.0.0.parent st.are.0.0 fits ∙ sym st.are.0.1 in
         ap (members n t) root ∙ members_held h
 
-    -- THE MEMBERS below the root of a tree are the sequence that is shown for it
-    pub members_shown : (root : Option Place) (s : List Place) → Shows n t root s → members n t root ≡ s
-    members_shown root s h = ap (members n t) h.starts ∙ members_held h.held
-
     -- and those around the first of two ends the sequence between them
     pub members_between_ends : (front back : Option Place) (s : List Place) → ShowsEnds n t front back s → members_around n t front ≡ s
     members_between_ends front back s h = ap (members_around n t) h.starts ∙ around_held h.tree s h.held
+
+-- THE MEMBERS below the root of a tree are the sequence that is shown for it
+pub members_shown : {E : Type 0} {n : E → Node} (t : Table E) → ((q : Place) → (n (t.entry q)).linked ≡ true → IsCovered t q)
+    → (root : Option Place) (s : List Place) → Shows n t root s → members n t root ≡ s
+members_shown {n = n} t law root s h = ap (members n t) h.starts ∙ members_held n t law h.held

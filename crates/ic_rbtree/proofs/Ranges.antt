@@ -196,5 +196,5 @@ module _ {K : Type 0} {cmp : K → K → Ordering} (total : IsTotalOrder cmp) wh
 pub segment_is : {E : Type 0} (n : E → Node) {t : Table E} → ((q : Place) → (n (t.entry q)).linked ≡ true → IsCovered t q) → {root low high : Option Place} {s w : List Place} → Shows n t root s
     → IsWalk n t root low high w → IsSegment s low high (between low high (members n t root))
 segment_is n {t} law {root} {low} {high} {s} {w} h x =
-    let same : x.front ++ (w ++ x.back) ≡ s = sym (members_shown n t law root (x.front ++ (w ++ x.back)) x.shown) ∙ members_shown n t law root s h in
+    let same : x.front ++ (w ++ x.back) ≡ s = sym (members_shown t law root (x.front ++ (w ++ x.back)) x.shown) ∙ members_shown t law root s h in
     subst (IsSegment s low high) (sym (walk_members n t law x)) (record { front = x.front; back = x.back; same = same; starts = x.starts; ends = x.ends })

@@ -57,7 +57,7 @@ all_but_last P (x ∷ w) p h = let k = all_but_last P w p h.1 in ((h.0, k.0), k.
 pub walk_members : {E : Type 0} (n : E → Node) (t : Table E) → ((q : Place) → (n (t.entry q)).linked ≡ true → IsCovered t q)
     → {root head tail : Option Place} {w : List Place} → IsWalk n t root head tail w → between head tail (members n t root) ≡ w
 walk_members n t law {root} {w = w} k =
-    rw (k.starts, k.ends, members_shown n t law root (k.front ++ (w ++ k.back)) k.shown) (between_ends k.front w k.back k.shown.held.distinct)
+    rw (k.starts, k.ends, members_shown t law root (k.front ++ (w ++ k.back)) k.shown) (between_ends k.front w k.back k.shown.held.distinct)
 
 module _ {E : Type 0} {n : E → Node} {t : Table E} {root : Option Place} where
   -- a walk through all members

@@ -31,3 +31,9 @@ module _ {T : Type 0} {old new : Objects T} {p : Place} where
   others_left frees q n =
       ap (λ m. map.get m (index_of q)) frees.values ∙ get-remove nat_cmp_total old.values (index_of p) (index_of q)
       ∙ ap (λ b. cond b None (object_at old q)) (apart (index_of q) (index_of p) (λ e. n (same_index q p e)))
+
+  -- and at its own place nothing
+  pub gone_there : Frees old new p → object_at new p ≡ None
+  gone_there frees =
+      ap (λ m. map.get m (index_of p)) frees.values ∙ get-remove nat_cmp_total old.values (index_of p) (index_of p)
+      ∙ ap (λ b. cond b None (object_at old p)) (tied (index_of p) (index_of p) refl)

@@ -7,6 +7,7 @@
 
 ghost use Rattle.std.specs.Prelude.{◌≡◌, ◌<◌, ◌≤◌, ◌^◌, Some, None, MatchOption, option_copied, if◌then◌else◌};
 ghost use Rattle.std.specs.FinMap as map;
+ghost use Rattle.ic_unsafe_ref.specs.declared.place.Place.{Place};
 ghost use Rattle.ic_unsafe_ref.specs.Places.{index_of};
 ghost use Rattle.ic_unsafe_ref.specs.Objects.{object_at, is_placed};
 
@@ -46,6 +47,7 @@ impl<T, A: Allocator> Objects<T, A> {
     /// No objects. It takes no memory until the first one is placed.
     pub fn new(alloc: A) -> Self
         ensures empty { result.values ≡ map.empty }
+        ensures vacant { (place : Place) → object_at result place ≡ None }
         ensures first { result.next ≡ 0 }
     {
         Objects {

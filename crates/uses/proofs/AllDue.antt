@@ -14,17 +14,10 @@ use Rattle.ic_link_ops.proofs.StepLemmas.{releases_append}
 use Rattle.ic_rbtree.specs.Borders.{if_passes}
 use Rattle.ic_rbtree.specs.Members.{members}
 use Rattle.ic_rbtree.proofs.Members.{members_shown}
-use Rattle.uses.specs.SortedObjects.{key_or}
+use Rattle.ic_rbtree.proofs.Passing.{passed}
+use Rattle.ic_rbtree.specs.SortedObjects.{key_or}
 use Rattle.uses.specs.Timers.{deadline, deadline_at, due, is_due, StandsFirst}
 use Rattle.uses.specs.declared.timer_queue.Timer.{Timer}
-
--- what passes a test is there, and passes it
-passed : (test : Place → Bool) (o : Option Place) (p : Place) → Some p ≡ if_passes test o → (Some p ≡ o) × test p ≡ true
-passed test None p e = absurd (none_not p (sym e))
-passed test (Some q) p e = by (test q) refl where
-  by : (b : Bool) → test q ≡ b → (Some p ≡ Some q) × test p ≡ true
-  by true is = let same = e ∙ ap (λ b. cond b (Some q) None) is in (same, ap test (some_same same) ∙ is)
-  by false is = absurd (none_not p (sym (e ∙ ap (λ b. cond b (Some q) None) is)))
 
 due_is : (now : ℕ) (o : Option Timer) → due now o ≡ true → key_or deadline o ≤ now
 due_is now None e = absurd (true≢false (sym e))
@@ -87,7 +80,7 @@ module _ {L E : Type 0} {n : E → Node} {table : L → Table E} {Does : L → L
     fewer covered {new} {new_root} removes =
         omega (
           arith,
-          ap length (members_shown n (table new) (covered new) new_root (drop 1 k.rest) removes.shows),
-          ap length (members_shown n (table links) (covered links) root k.rest k.shown),
+          ap length (members_shown (table new) (covered new) new_root (drop 1 k.rest) removes.shows),
+          ap length (members_shown (table links) (covered links) root k.rest k.shown),
           ap length next_due,
         )

@@ -11,7 +11,7 @@ use Rattle.ic_link_ops.proofs.Covering.{frames_join}
 use Rattle.ic_link_ops.proofs.SequenceLemmas.{absent_without, first_is}
 use Rattle.ic_link_ops.proofs.StepLemmas.{releases_append}
 use Rattle.uses.specs.Jobs.{IsWithout}
-use Rattle.uses.proofs.NothingLeft.{nothing_first}
+use Rattle.ic_link_ops.proofs.SequenceLemmas.{nothing_first}
 
 module _ {E : Type 0} (n : E → Neighbors) (linked : E → Bool) where
   -- of a list that was s in the table t, `off` are taken off, in this order, and the table t' shows `left`

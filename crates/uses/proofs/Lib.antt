@@ -2,14 +2,11 @@ pub mod AllDue
 pub mod CutShown
 pub mod Dealing
 pub mod Draining
-pub mod NothingLeft
 pub mod Outcomes
-pub mod Passing
 pub mod PutBack
 pub mod RaceLemmas
 pub mod Retaining
 pub mod Locating
-pub mod SortedKeys
 pub mod TakenOff
 pub mod TakingDue
 pub mod Pool

@@ -11,9 +11,9 @@ use Rattle.ic_rbtree.specs.declared.key_adapter.Bound.TheVariants.{Included}
 use Rattle.ic_rbtree.specs.Borders.{IsSorted, IsUpperBorder, if_passes}
 use Rattle.ic_rbtree.specs.Comparing.{answer_at, compared, order_of}
 use Rattle.uses.specs.Regions.{start, start_at, lies_at, Locates}
-use Rattle.uses.specs.SortedObjects.{key_or, keys_at, ShowsSorted}
+use Rattle.ic_rbtree.specs.SortedObjects.{key_at, key_or, keys_at, ShowsSorted}
 use Rattle.uses.specs.declared.region_map.Region.{Region}
-use Rattle.uses.proofs.SortedKeys.{first_is_least, up_is}
+use Rattle.ic_rbtree.proofs.SortedKeys.{first_is_least, up_is}
 
 -- how an address stands to a start
 at_least : (k l : ℕ) (a b : Bool) → ltb k l ≡ a → eqb k l ≡ b → not (is_ge (cond a Less (cond b Equal Greater))) ≡ false → l ≤ k
@@ -60,7 +60,7 @@ module _ (objects : Objects Region) (address : ℕ) where
   all_above : (back : List Place) → ArePlaced objects back → IsSorted nat_cmp (keys_at start objects back)
       → ((q : Place) → first back ≡ Some q → IsSome (object_at objects q) → address < start_at objects q) → AllByRecursion (λ q. address < start_at objects q) back
   all_above [] placed sorted at = tt
-  all_above (b ∷ back) placed sorted at = let here = at b refl placed.0 in (here, later (start_at objects b) back here (first_is_least start objects b back sorted))
+  all_above (b ∷ back) placed sorted at = let here = at b refl placed.0 in (here, later (start_at objects b) back here (first_is_least (key_at start objects) b back sorted))
 
   -- THE ADDRESS IS LOCATED by the upper border, whatever the answer is made of
   pub located : {shows : List Place → Type 0} → ((s u : List Place) → shows s → shows u → s ≡ u) → ShowsSorted start shows objects → {s : List Place} → shows s → {o : Option Place}

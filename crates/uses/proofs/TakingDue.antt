@@ -9,10 +9,10 @@ use Rattle.ic_link_ops.specs.Positions.{object_there}
 use Rattle.ic_link_ops.specs.Sequences.{first}
 use Rattle.ic_link_ops.proofs.SequenceLemmas.{none_not, some_same}
 use Rattle.ic_rbtree.specs.Borders.{IsSorted}
-use Rattle.uses.specs.SortedObjects.{key_or, keys_at}
+use Rattle.ic_rbtree.specs.SortedObjects.{key_at, key_or, keys_at}
 use Rattle.uses.specs.Timers.{deadline, deadline_at, due}
 use Rattle.uses.specs.declared.timer_queue.Timer.{Timer}
-use Rattle.uses.proofs.SortedKeys.{first_is_least}
+use Rattle.ic_rbtree.proofs.SortedKeys.{first_is_least}
 
 module _ (objects : Objects Timer) where
   -- it has the least deadline
@@ -20,7 +20,7 @@ module _ (objects : Objects Timer) where
       → AllByRecursion (λ q. deadline_at objects p ≤ deadline_at objects q) s
   is_earliest [] is sorted = tt
   is_earliest (x ∷ s) {p} is sorted =
-      let all : AllByRecursion (λ q. deadline_at objects x ≤ deadline_at objects q) (x ∷ s) = (omega arith, first_is_least deadline objects x s sorted) in
+      let all : AllByRecursion (λ q. deadline_at objects x ≤ deadline_at objects q) (x ∷ s) = (omega arith, first_is_least (key_at deadline objects) x s sorted) in
       subst (λ (y : Place). AllByRecursion (λ q. deadline_at objects y ≤ deadline_at objects q) (x ∷ s)) (sym (some_same is)) all
 
   pub taken_earliest : (s : List Place) (o : Option Place) → o ≡ first s → IsSorted nat_cmp (keys_at deadline objects s)
@@ -42,7 +42,7 @@ module _ (objects : Objects Timer) where
   all_wait now [] tested there told placed sorted = tt
   all_wait now (p ∷ s) tested there told placed sorted =
       let here : now < deadline_at objects p = waits now (object_at objects p) placed.0 (ap (due now) (sym there) ∙ sym tested ∙ told) in
-      (here, later now (deadline_at objects p) s here (first_is_least deadline objects p s sorted))
+      (here, later now (deadline_at objects p) s here (first_is_least (key_at deadline objects) p s sorted))
 
   -- and where the answer is none although the first is due, there is none
   pub none_waits : (now : ℕ) (s : List Place) (o : Option Place) {b : Bool} {x : Option Timer} → b ≡ due now x → x ≡ object_there objects (first s) → b ≡ true → o ≡ first s

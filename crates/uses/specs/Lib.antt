@@ -8,5 +8,4 @@ pub mod Race
 pub mod Pool
 pub mod Regions
 pub mod Retain
-pub mod SortedObjects
 pub mod Timers

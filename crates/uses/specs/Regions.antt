@@ -5,7 +5,7 @@ use Rattle.ic_unsafe_ref.specs.declared.place.Place.{Place}
 use Rattle.ic_unsafe_ref.specs.Objects.{Objects, object_at}
 use Rattle.ic_link_ops.specs.Sequences.{Cut, join, last}
 use Rattle.ic_rbtree.specs.Borders.{if_passes}
-use Rattle.uses.specs.SortedObjects.{key_at}
+use Rattle.ic_rbtree.specs.SortedObjects.{key_at}
 use Rattle.uses.specs.declared.region_map.Region.{Region}
 
 -- where a region starts, and where the region at a place does

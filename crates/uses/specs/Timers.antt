@@ -4,7 +4,7 @@ use Rattle.std.specs.List.{AllByRecursion}
 use Rattle.std.specs.declared.alloc.AllocFailed.{AllocFailed}
 use Rattle.ic_unsafe_ref.specs.declared.place.Place.{Place}
 use Rattle.ic_unsafe_ref.specs.Objects.{Objects, object_at}
-use Rattle.uses.specs.SortedObjects.{key_at}
+use Rattle.ic_rbtree.specs.SortedObjects.{key_at}
 use Rattle.uses.specs.declared.timer_queue.Timer.{Timer}
 
 -- a timer's deadline, and that of the timer at a place

@@ -21,7 +21,7 @@ ghost use Rattle.ic_link_ops.specs.RedBlackTree.{Shows};
 ghost use Rattle.ic_rbtree.specs.Tree.{root_of};
 ghost use Rattle.ic_rbtree.specs.Ordered.{InsertsInOrder};
 ghost use Rattle.uses.specs.Regions.{start, lies_in, lies_in_any, Locates};
-ghost use Rattle.uses.specs.SortedObjects.{against, ShowsSorted};
+ghost use Rattle.ic_rbtree.specs.SortedObjects.{against, ShowsSorted};
 
 use ic_link_ops::rbtree::RBTreeOps;
 use ic_link_ops::{AlreadyLinked, LinkOps};

@@ -22,7 +22,7 @@ ghost use Rattle.ic_link_ops.specs.RedBlackTree.{Shows};
 ghost use Rattle.ic_rbtree.specs.Tree.{root_of};
 ghost use Rattle.ic_rbtree.specs.Borders.{if_passes};
 ghost use Rattle.ic_rbtree.specs.Ordered.{InsertsInOrder};
-ghost use Rattle.uses.specs.SortedObjects.{against, ShowsSorted, StaysSorted};
+ghost use Rattle.ic_rbtree.specs.SortedObjects.{against, ShowsSorted, StaysSorted};
 ghost use Rattle.uses.specs.Timers.{deadline, deadline_at, due, is_due, handed_back, StandsFirst};
 
 use ic_link_ops::rbtree::RBTreeOps;

@@ -3,7 +3,7 @@
 ghost use Rattle.std.specs.Prelude.{OnOk};
 ghost use Rattle.ic_rbtree.specs.PlainTrees.{PlainShows};
 ghost use Rattle.ic_rbtree.specs.Tree.{root_of};
-ghost use Rattle.uses.specs.SortedObjects.{ShowsSorted};
+ghost use Rattle.ic_rbtree.specs.SortedObjects.{ShowsSorted};
 ghost use Rattle.uses.specs.Timers.{deadline};
 
 use crate::tests::{UNLINKED, covering, same};

@@ -1,4 +1,4 @@
-use Rattle.uses.proofs.SortedKeys.{new_is_sorted}
+use Rattle.ic_rbtree.proofs.SortedKeys.{new_is_sorted}
 use Rattle.bench.proofs.by_keys.Goals as goal
 
 pub insert_all-requires-clause-sorted : goal.insert_all-requires-clause-sorted

@@ -1,7 +1,7 @@
 use Rattle.std.proofs.Common.{◌≡◌}
 use Rattle.ic_link_ops.specs.RedBlackTree.{Shows}
 use Rattle.ic_rbtree.specs.Tree.{root_of}
-use Rattle.uses.specs.SortedObjects.{ShowsSorted}
+use Rattle.ic_rbtree.specs.SortedObjects.{ShowsSorted}
 use Rattle.bench.proofs.keyed.insert_all.Given as goal
 
 abbrev pub invariant-loop-index : goal.invariant-loop-index

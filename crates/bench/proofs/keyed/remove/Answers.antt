@@ -6,8 +6,8 @@ use Rattle.ic_link_ops.specs.Tables.{IsCovered}
 use Rattle.ic_link_ops.proofs.Calling.{removed_covered}
 use Rattle.ic_link_ops.proofs.ShownTrees.{one_sequence}
 use Rattle.ic_rbtree.specs.CursorMut.{site_of}
-use Rattle.uses.specs.SortedObjects.{ShowsSorted}
-use Rattle.uses.proofs.SortedKeys.{sorted_taken}
+use Rattle.ic_rbtree.specs.SortedObjects.{ShowsSorted}
+use Rattle.ic_rbtree.proofs.SortedKeys.{sorted_taken}
 use Rattle.bench.proofs.keyed.remove.Goals as goal
 
 pub returns-clause-sorted : goal.returns-clause-sorted

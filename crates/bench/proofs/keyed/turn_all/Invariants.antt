@@ -1,6 +1,6 @@
 use Rattle.ic_link_ops.specs.RedBlackTree.{Shows}
 use Rattle.ic_rbtree.specs.Tree.{root_of}
-use Rattle.uses.specs.SortedObjects.{ShowsSorted}
+use Rattle.ic_rbtree.specs.SortedObjects.{ShowsSorted}
 use Rattle.bench.proofs.keyed.turn_all.Given as goal
 
 abbrev pub invariant-loop-time : goal.invariant-loop-time

@@ -1,7 +1,7 @@
-use Rattle.std.proofs.Common.{[], ◌∷◌, ◌++◌, sym, ◌∙◌}
+use Rattle.std.proofs.Common.{[], ◌∷◌, ◌++◌, refl, sym, ◌∙◌}
 use Rattle.ic_unsafe_ref.proofs.PlaceLemmas.{same_index}
 use Rattle.ic_link_ops.proofs.Calling.{accepted}
-use Rattle.ic_linked_list.proofs.ListedValues.{placed_with}
+use Rattle.ic_link_ops.proofs.PlacedValues.{stand_placed}
 use Rattle.bench.proofs.objects.put_new.Goals as goal
 
 pub returns-in-Ok : goal.returns-in-Ok
@@ -14,5 +14,5 @@ returns-in-Ok c =
     record {
       members = had.members ++ c.in-Ok.object ∷ [];
       shown = accepted _ c.push_back.result (rw there free) put.refused (put.inserted had.members had.shown);
-      placed = (placed_with places had.members had.placed).0;
+      placed = (stand_placed places (record { placed = had.placed; are = refl })).placed;
     }

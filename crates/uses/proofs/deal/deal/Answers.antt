@@ -4,7 +4,7 @@ use Rattle.ic_link_ops.proofs.DoublyLists.{doubly_lists}
 use Rattle.ic_linked_list.specs.IntoIter.{rest_of, TakesFirst, TakesLast}
 use Rattle.ic_link_ops.proofs.Taking.{two_ended_taking}
 use Rattle.uses.proofs.Dealing.{all_dealt, fronts_kept, backs_kept}
-use Rattle.uses.proofs.NothingLeft.{nothing_first, nothing_last}
+use Rattle.ic_link_ops.proofs.SequenceLemmas.{nothing_first, nothing_last}
 use Rattle.uses.proofs.deal.deal.Goals as goal
 
 pub returns-clause-dealt : goal.returns-clause-dealt

@@ -3,7 +3,7 @@ use Rattle.ic_link_ops.proofs.ShownTrees.{one_sequence}
 use Rattle.ic_rbtree.specs.Cursor.{position}
 use Rattle.uses.specs.Regions.{lies_in_any}
 use Rattle.uses.proofs.Locating.{located}
-use Rattle.uses.proofs.Passing.{passes_there}
+use Rattle.ic_rbtree.proofs.Passing.{passes_there}
 use Rattle.uses.proofs.region_map.region_at.Goals as goal
 
 pub returns-then-not-is_in : goal.returns-then-not-is_in

@@ -4,10 +4,10 @@ use Rattle.ic_link_ops.specs.RedBlackTree.{Shows}
 use Rattle.ic_link_ops.proofs.ShownTrees.{one_sequence}
 use Rattle.ic_rbtree.specs.CursorMut.{position, site_of}
 use Rattle.uses.specs.Regions.{start, lies_in_any}
-use Rattle.uses.specs.SortedObjects.{ShowsSorted}
+use Rattle.ic_rbtree.specs.SortedObjects.{ShowsSorted}
 use Rattle.uses.proofs.Locating.{located}
-use Rattle.uses.proofs.Passing.{passes_there}
-use Rattle.uses.proofs.SortedKeys.{sorted_taken}
+use Rattle.ic_rbtree.proofs.Passing.{passes_there}
+use Rattle.ic_rbtree.proofs.SortedKeys.{sorted_taken}
 use Rattle.uses.proofs.region_map.remove_region.Goals as goal
 
 pub returns-then-not-is_in-clause-map : goal.returns-then-not-is_in-clause-map

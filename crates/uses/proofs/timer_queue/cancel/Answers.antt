@@ -3,9 +3,9 @@ use Rattle.ic_link_ops.specs.Positions.{ShowsAt}
 use Rattle.ic_link_ops.specs.RedBlackTree.{Shows}
 use Rattle.ic_link_ops.proofs.ShownTrees.{one_sequence}
 use Rattle.ic_rbtree.specs.CursorMut.{site_of}
-use Rattle.uses.specs.SortedObjects.{ShowsSorted}
+use Rattle.ic_rbtree.specs.SortedObjects.{ShowsSorted}
 use Rattle.uses.specs.Timers.{deadline}
-use Rattle.uses.proofs.SortedKeys.{sorted_taken}
+use Rattle.ic_rbtree.proofs.SortedKeys.{sorted_taken}
 use Rattle.uses.proofs.TakenOff.{member_removed}
 use Rattle.uses.proofs.timer_queue.cancel.Goals as goal
 

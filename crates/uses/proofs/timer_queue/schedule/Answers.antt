@@ -3,9 +3,9 @@ use Rattle.ic_link_ops.specs.RedBlackTree.{Shows}
 use Rattle.ic_link_ops.specs.Positions.{ShowsAt}
 use Rattle.ic_link_ops.proofs.Positions.{stands_null}
 use Rattle.ic_rbtree.specs.CursorMut.{site_of}
-use Rattle.uses.specs.SortedObjects.{ShowsSorted}
+use Rattle.ic_rbtree.specs.SortedObjects.{ShowsSorted}
 use Rattle.uses.specs.Timers.{deadline}
-use Rattle.uses.proofs.SortedKeys.{sorted_among}
+use Rattle.ic_rbtree.proofs.SortedKeys.{sorted_among}
 use Rattle.uses.proofs.timer_queue.schedule.Goals as goal
 
 pub insert-requires-clause-stands : goal.insert-requires-clause-stands

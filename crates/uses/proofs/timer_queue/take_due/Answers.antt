@@ -5,10 +5,10 @@ use Rattle.ic_link_ops.specs.RedBlackTree.{Shows}
 use Rattle.ic_link_ops.proofs.Positions.{stands_first}
 use Rattle.ic_link_ops.proofs.ShownTrees.{one_sequence}
 use Rattle.ic_rbtree.specs.CursorMut.{site_of}
-use Rattle.uses.specs.SortedObjects.{ShowsSorted}
+use Rattle.ic_rbtree.specs.SortedObjects.{ShowsSorted}
 use Rattle.uses.specs.Timers.{deadline, due}
-use Rattle.uses.proofs.SortedKeys.{sorted_taken}
-use Rattle.uses.proofs.Passing.{passes_there}
+use Rattle.ic_rbtree.proofs.SortedKeys.{sorted_taken}
+use Rattle.ic_rbtree.proofs.Passing.{passes_there}
 use Rattle.uses.proofs.TakingDue.{taken_earliest, all_wait, none_waits}
 use Rattle.uses.proofs.timer_queue.take_due.Goals as goal
 

@@ -1,5 +1,5 @@
 use Rattle.uses.specs.Regions.{start}
-use Rattle.uses.proofs.SortedKeys.{new_is_sorted}
+use Rattle.ic_rbtree.proofs.SortedKeys.{new_is_sorted}
 use Rattle.uses_tests.proofs.region_map.an_address_lies_in_one_region.Goals as goal
 
 pub find_four-found-requires : goal.find_four-found-requires

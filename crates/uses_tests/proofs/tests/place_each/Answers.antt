@@ -1,7 +1,7 @@
-use Rattle.std.proofs.Common.{[], ◌∷◌, ◌++◌, sym, ◌∙◌, ap}
+use Rattle.std.proofs.Common.{[], ◌∷◌, ◌++◌, refl, sym, ◌∙◌, ap}
 use Rattle.ic_unsafe_ref.specs.Places.{index_of}
 use Rattle.ic_unsafe_ref.proofs.PlaceLemmas.{same_index}
-use Rattle.ic_linked_list.proofs.ListedValues.{placed_with}
+use Rattle.ic_link_ops.proofs.PlacedValues.{stand_placed}
 use Rattle.uses_tests.proofs.tests.place_each.Goals as goal
 
 pub loop-index-preserved : goal.loop-index-preserved
@@ -12,5 +12,5 @@ loop-index-preserved g c =
     let same = same_index c.new.result c.expect-object.result (ap index_of c.new.ensures ∙ c.covered-place.ensures.at ∙ c.index.ensures.value ∙ next ∙ sym places.next) in record {
       members = m.members ++ c.new.result ∷ [];
       shown = c.in_ok-push_back.ensures.inserted m.members m.shown;
-      placed = rw same (placed_with places m.members m.placed).0;
+      placed = rw same (stand_placed places (record { placed = m.placed; are = refl })).placed;
     }

@@ -1,6 +1,6 @@
 use Rattle.ic_rbtree.specs.PlainTrees.{PlainShows}
 use Rattle.ic_rbtree.specs.Tree.{root_of}
-use Rattle.uses.specs.SortedObjects.{ShowsSorted}
+use Rattle.ic_rbtree.specs.SortedObjects.{ShowsSorted}
 use Rattle.uses.specs.Timers.{deadline}
 use Rattle.uses_tests.proofs.timer_queue.schedule_each.Given as goal
 

@@ -1,5 +1,5 @@
 -- Sequences whose objects stand by their keys: with one more, and with one less.
-use Rattle.std.proofs.Common.{◌≡◌, ◌≢◌, ℕ, ◌≤◌, Bool, true, false, cond, ltb, eqb, Option, Some, None, IsSome, Result, Ok, Err, List, [], ◌∷◌, ◌++◌, drop, refl, sym, ap, ◌∙◌, subst, arith, ltb-true, ltb-false, eqb-true, true≢false}
+use Rattle.std.proofs.Common.{◌≡◌, ◌≢◌, ℕ, ◌≤◌, Bool, true, false, cond, ltb, eqb, Option, Some, None, IsSome, Result, Ok, Err, List, [], ◌∷◌, ◌++◌, map, filter, drop, refl, sym, ap, ◌∙◌, subst, arith, ltb-true, ltb-false, eqb-true, true≢false}
 use Rattle.std.proofs.lemmas.Bool.{eqb-false}
 use Rattle.std.specs.List.{AllByRecursion}
 use Rattle.std.specs.Ordering.{nat_cmp, is_lt}
@@ -21,7 +21,7 @@ use Rattle.ic_link_ops.proofs.ShownTrees.{shows_nothing}
 use Rattle.ic_rbtree.specs.Borders.{IsSorted}
 use Rattle.ic_rbtree.specs.Comparing.{answer_at}
 use Rattle.ic_rbtree.specs.Ordered.{InsertsInOrder, InsertsAmong}
-use Rattle.uses.specs.SortedObjects.{key_or, key_at, keys_at, against, ShowsSorted}
+use Rattle.ic_rbtree.specs.SortedObjects.{key_or, key_at, keys_at, against, ShowsSorted}
 
 -- `not greater`, as numbers have it
 up_by : (k l : ℕ) (a b : Bool) → ltb k l ≡ a → eqb k l ≡ b → cond a Less (cond b Equal Greater) ≢ Greater → k ≤ l
@@ -49,6 +49,49 @@ less_is k l false false p q h = cc
 not_less_is : (k l : ℕ) (a b : Bool) → ltb k l ≡ a → eqb k l ≡ b → is_lt (cond a Less (cond b Equal Greater)) ≡ false → l ≤ k
 not_less_is k l true b p q h = cc
 not_less_is k l false b p q h = ltb-false k l p
+
+-- WHAT RISES BY ITS KEYS, with one less
+module _ {T : Type 0} (key : T → ℕ) where
+  skip : (p q : T) (s : List T) → IsSorted nat_cmp (map key (p ∷ q ∷ s)) → IsSorted nat_cmp (map key (p ∷ s))
+  skip p q [] h = tt
+  skip p q (r ∷ s) h =
+      let x = up_is (key p) (key q) h.0 in
+      let y = up_is (key q) (key r) h.1.0 in
+      (is_up (key p) (key r) (omega arith), h.1.1)
+
+  sorted_without : (front : List T) (p : T) (back : List T) → IsSorted nat_cmp (map key (front ++ p ∷ back)) → IsSorted nat_cmp (map key (front ++ back))
+  sorted_without [] p [] h = tt
+  sorted_without [] p (x ∷ back) h = h.1
+  sorted_without (f ∷ []) p back h = skip f p back h
+  sorted_without (f ∷ g ∷ front) p back h = (h.0, sorted_without (g ∷ front) p back h.1)
+
+  -- THE FIRST HAS THE LEAST KEY
+  pub first_is_least : (p : T) (s : List T) → IsSorted nat_cmp (map key (p ∷ s)) → AllByRecursion (λ q. key p ≤ key q) s
+  first_is_least p [] h = tt
+  first_is_least p (q ∷ s) h = (up_is _ _ h.0, first_is_least p s (skip p q s h))
+
+  -- AND WITH ONLY THOSE that pass a test
+  all_kept : (P : T → Type 0) (test : T → Bool) (s : List T) → AllByRecursion P s → AllByRecursion P (filter test s)
+  all_kept P test [] h = tt
+  all_kept P test (x ∷ s) h = by (test x) (all_kept P test s h.1) where
+    by : (b : Bool) → AllByRecursion P (filter test s) → AllByRecursion P (cond b (x ∷ filter test s) (filter test s))
+    by true rest = (h.0, rest)
+    by false rest = rest
+
+  rises_from : (p : T) (s : List T) → AllByRecursion (λ q. key p ≤ key q) s → IsSorted nat_cmp (map key s) → IsSorted nat_cmp (map key (p ∷ s))
+  rises_from p [] least sorted = tt
+  rises_from p (q ∷ s) least sorted = (is_up (key p) (key q) least.0, sorted)
+
+  pub sorted_filter : (test : T → Bool) (s : List T) → IsSorted nat_cmp (map key s) → IsSorted nat_cmp (map key (filter test s))
+  sorted_filter test [] h = tt
+  sorted_filter test (p ∷ s) h = by (test p) (sorted_filter test s (behind s h)) where
+    behind : (s : List T) → IsSorted nat_cmp (map key (p ∷ s)) → IsSorted nat_cmp (map key s)
+    behind [] h = tt
+    behind (q ∷ s) h = h.1
+
+    by : (b : Bool) → IsSorted nat_cmp (map key (filter test s)) → IsSorted nat_cmp (map key (cond b (p ∷ filter test s) (filter test s)))
+    by true rest = rises_from p (filter test s) (all_kept (λ q. key p ≤ key q) test s (first_is_least p s h)) rest
+    by false rest = rest
 
 module _ {T : Type 0} (key : T → ℕ) (objects : Objects T) where
   -- NOTHING IS SORTED: what a table shows for a new tree
@@ -81,25 +124,6 @@ module _ {T : Type 0} (key : T → ℕ) (objects : Objects T) where
       tail f [] h = tt
       tail f (x ∷ s) h = h.1
   put p here (f ∷ g ∷ front) back placed fails passes sorted = (sorted.0, put p here (g ∷ front) back placed.1 fails passes sorted.1)
-
-  -- ONE LESS
-  skip : (p q : Place) (s : List Place) → IsSorted nat_cmp (keys_at key objects (p ∷ q ∷ s)) → IsSorted nat_cmp (keys_at key objects (p ∷ s))
-  skip p q [] h = tt
-  skip p q (r ∷ s) h =
-      let x = up_is (key_at key objects p) (key_at key objects q) h.0 in
-      let y = up_is (key_at key objects q) (key_at key objects r) h.1.0 in
-      (is_up (key_at key objects p) (key_at key objects r) (omega arith), h.1.1)
-
-  sorted_without : (front : List Place) (p : Place) (back : List Place) → IsSorted nat_cmp (keys_at key objects (front ++ p ∷ back)) → IsSorted nat_cmp (keys_at key objects (front ++ back))
-  sorted_without [] p [] h = tt
-  sorted_without [] p (x ∷ back) h = h.1
-  sorted_without (f ∷ []) p back h = skip f p back h
-  sorted_without (f ∷ g ∷ front) p back h = (h.0, sorted_without (g ∷ front) p back h.1)
-
-  -- THE FIRST HAS THE LEAST KEY
-  pub first_is_least : (p : Place) (s : List Place) → IsSorted nat_cmp (keys_at key objects (p ∷ s)) → AllByRecursion (λ q. key_at key objects p ≤ key_at key objects q) s
-  first_is_least p [] h = tt
-  first_is_least p (q ∷ s) h = (up_is _ _ h.0, first_is_least p s (skip p q s h))
 
   -- as for the placed ones
   placed_with : (front : List Place) (p : Place) (back : List Place) → IsSome (object_at objects p) → ArePlaced objects (front ++ back) → ArePlaced objects (front ++ p ∷ back)
@@ -142,5 +166,5 @@ module _ {T : Type 0} (key : T → ℕ) (objects : Objects T) where
         let same : q.placed.members ≡ front ++ p ∷ back = one q.placed.members (join k.0) q.placed.shown k.1 ∙ ap (λ (s : List Place). front ++ s) (first_is k.0.back (off.answer ∙ k.2)) in
         record {
           placed = record { members = front ++ back; shown = (off.removed k.0 k.1 k.2).shows; placed = placed_without front p back (subst (ArePlaced objects) same q.placed.placed) };
-          sorted = sorted_without front p back (subst (λ s. IsSorted nat_cmp (keys_at key objects s)) same q.sorted);
+          sorted = sorted_without (key_at key objects) front p back (subst (λ s. IsSorted nat_cmp (keys_at key objects s)) same q.sorted);
         }

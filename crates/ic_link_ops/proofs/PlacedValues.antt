@@ -1,0 +1,96 @@
+-- For callers: the objects at the members of a sequence, after one object was placed or taken out, and after an edit of the sequence.
+use Rattle.std.proofs.Common.{◌≡◌, ◌≢◌, ◌⊎◌, inl, inr, Option, Some, None, IsSome, is_some, List, [], ◌∷◌, ◌++◌, drop, length, ◌≤◌, arith, refl, sym, ap, ◌∙◌, subst, true≢false, append-nil}
+use Rattle.std.proofs.lemmas.List.Elements.{filter_map-append}
+use Rattle.std.specs.List.{AllByRecursion, cons_option}
+use Rattle.ic_unsafe_ref.specs.declared.place.Place.{Place}
+use Rattle.ic_unsafe_ref.specs.Objects.{Objects, Places, object_at}
+use Rattle.ic_unsafe_ref.proofs.Placing.{placed_there, others_placed}
+use Rattle.ic_link_ops.specs.PlacedObjects.{ArePlaced, StandAt, values_at}
+use Rattle.ic_link_ops.specs.Sequences.{IsAbsent, IsDistinct, first}
+use Rattle.ic_link_ops.proofs.SequenceLemmas.{first_is}
+use Rattle.ic_link_ops.proofs.Walks.{few_places}
+
+-- BESIDE p, where the objects at all other places stay: what holds of each of a sequence holds still, and they are the same
+module _ {T : Type 0} (old new : Objects T) (p : Place) (same : (q : Place) → q ≢ p → object_at new q ≡ object_at old q) where
+  pub all_beside : (P : Option T → Type 0) (s : List Place) → IsAbsent p s → AllByRecursion (λ q. P (object_at old q)) s → AllByRecursion (λ q. P (object_at new q)) s
+  all_beside P [] out h = tt
+  all_beside P (x ∷ s) out h = (subst P (sym (same x (λ e. out.0 (sym e)))) h.0, all_beside P s out.1 h.1)
+
+  pub values_beside : (s : List Place) → IsAbsent p s → values_at new s ≡ values_at old s
+  values_beside [] out = refl
+  values_beside (x ∷ s) out = let here = same x (λ e. out.0 (sym e)) in let rest = values_beside s out.1 in rw (here, rest) refl
+
+  pub stand_beside : {s : List Place} {values : List T} → IsAbsent p s → StandAt old s values → StandAt new s values
+  stand_beside {s} out stand = record { placed = all_beside IsSome s out stand.placed; are = values_beside s out ∙ stand.are }
+
+module _ {T : Type 0} (objects : Objects T) (p : Place) where
+  -- a vacant place is no member of a sequence whose members are placed
+  pub vacant_absent : object_at objects p ≡ None → (s : List Place) → ArePlaced objects s → IsAbsent p s
+  vacant_absent none [] placed = tt
+  vacant_absent none (x ∷ s) placed =
+      (λ e. true≢false (sym placed.0 ∙ ap (λ q. is_some (object_at objects q)) (sym e) ∙ ap is_some none), vacant_absent none s placed.1)
+
+  -- the first of such a sequence is placed
+  pub placed_first : (s : List Place) → Some p ≡ first s → ArePlaced objects s → IsSome (object_at objects p)
+  placed_first s is placed = (subst (ArePlaced objects) (first_is s is) placed).0
+
+  module _ {v : T} (there : object_at objects p ≡ Some v) where
+    placed_put : (front back : List Place) → ArePlaced objects (front ++ back) → ArePlaced objects (front ++ p ∷ back)
+    placed_put [] back placed = (ap is_some there, placed)
+    placed_put (x ∷ front) back placed = (placed.0, placed_put front back placed.1)
+
+    -- ONE OBJECT MORE: put into a gap of the sequence, it stands in the same gap of the values
+    pub stand_put : (front back : List Place) → ArePlaced objects (front ++ back) → StandAt objects (front ++ p ∷ back) (values_at objects front ++ v ∷ values_at objects back)
+    stand_put front back placed = record {
+      placed = placed_put front back placed;
+      are = filter_map-append (object_at objects) front (p ∷ back) ∙ ap (λ (o : Option T). values_at objects front ++ cons_option o (values_at objects back)) there;
+    }
+
+    pub stand_last : {s : List Place} {values : List T} → StandAt objects s values → StandAt objects (s ++ p ∷ []) (values ++ v ∷ [])
+    stand_last {s} stand = record {
+      placed = placed_put s [] (subst (ArePlaced objects) (sym (append-nil s)) stand.placed);
+      are = filter_map-append (object_at objects) s (p ∷ []) ∙ rw (there, stand.are) refl;
+    }
+
+    -- ONE OBJECT LESS: the first of the sequence is the first of the values, and the others stand behind it
+    module _ {s : List Place} {values : List T} (is : Some p ≡ first s) (stand : StandAt objects s values) where
+      begins : values ≡ v ∷ values_at objects (drop 1 s)
+      begins = sym stand.are ∙ ap (values_at objects) (first_is s is) ∙ ap (λ (o : Option T). cons_option o (values_at objects (drop 1 s))) there
+
+      pub stand_first : values ≡ v ∷ drop 1 values
+      stand_first = begins ∙ ap (λ (l : List T). v ∷ drop 1 l) (sym begins)
+
+      pub stand_rest : StandAt objects (drop 1 s) (drop 1 values)
+      stand_rest = record { placed = (subst (ArePlaced objects) (first_is s is) stand.placed).1; are = ap (drop 1) (sym begins) }
+
+-- AFTER `from_box`: those that stood there do, and so does the new object
+pub stand_placed : {T : Type 0} {old new : Objects T} {p : Place} {v : T} → Places old new p v → {s : List Place} {values : List T} → StandAt old s values
+    → StandAt new (s ++ p ∷ []) (values ++ v ∷ [])
+stand_placed {old = old} {new} {p} places {s} stand =
+    stand_last new p (placed_there places) (stand_beside old new p (others_placed places) (vacant_absent old p places.vacant s stand.placed) stand)
+
+-- the first of the values, and where it stands
+pub record Begins {T : Type 0} (objects : Objects T) (s : List Place) (values : List T) : Type 0 where
+  pub place : Place
+  pub value : T
+  pub first : Some place ≡ first s
+  pub there : object_at objects place ≡ Some value
+  pub begin : values ≡ value ∷ drop 1 values
+
+-- THERE IS NO VALUE, or the first of them stands at the first member
+pub stand_begins : {T : Type 0} {objects : Objects T} (s : List Place) {values : List T} → StandAt objects s values → (values ≡ []) ⊎ Begins objects s values
+stand_begins [] stand = inl (sym stand.are)
+stand_begins {T} {objects} (p ∷ s) {values} stand = by (object_at objects p) refl stand.placed.0 where
+  by : (o : Option T) → object_at objects p ≡ o → IsSome o → (values ≡ []) ⊎ Begins objects (p ∷ s) values
+  by None e here = absurd (true≢false (sym here))
+  by (Some v) e here = inr (record { place = p; value = v; first = refl; there = e; begin = stand_first objects p e refl stand })
+
+-- THERE ARE FEW VALUES, as there are few places
+pub few_values : {T : Type 0} {objects : Objects T} {s : List Place} {values : List T} → StandAt objects s values → IsDistinct s → length values ≤ 8589934591
+few_values {T} {objects} {s} {values} stand distinct = omega (arith, ap length stand.are, fewer s, few_places s distinct) where
+  fewer : (s : List Place) → length (values_at objects s) ≤ length s
+  fewer [] = omega arith
+  fewer (x ∷ s) = by (object_at objects x) (fewer s) where
+    by : (o : Option T) → length (values_at objects s) ≤ length s → length (cons_option o (values_at objects s)) ≤ length (x ∷ s)
+    by None rest = omega (arith, rest)
+    by (Some v) rest = omega (arith, rest)

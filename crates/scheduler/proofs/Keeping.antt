@@ -1,0 +1,222 @@
+-- What a scheduler keeps over each of its calls, and what that says of its schedule.
+use Rattle.std.proofs.Common.{◌≡◌, ◌≢◌, ℕ, ◌≤◌, ◌<◌, ◌^◌, Bool, true, false, leb, Option, Some, None, IsSome, is_some, List, [], ◌∷◌, ◌++◌, length, map, drop, filter, inl, inr, refl, sym, ap, ◌∙◌, subst, arith, append-nil, slice_index_or, true≢false}
+use Rattle.std.proofs.Math.ListN.{get_or-map}
+use Rattle.std.proofs.lemmas.Bool.{le-leb, lt-leb}
+use Rattle.std.proofs.lemmas.Bool.Decides.{eqb_tells}
+use Rattle.std.proofs.lemmas.Cmp.{nat_cmp_total}
+use Rattle.std.specs.List.{AllByRecursion, cons_option}
+use Rattle.std.specs.Ordering.{nat_cmp}
+use Rattle.ic_unsafe_ref.specs.declared.place.Place.{Place}
+use Rattle.ic_unsafe_ref.specs.Objects.{Objects, Places, Frees, object_at, is_placed}
+use Rattle.ic_unsafe_ref.proofs.Placing.{others_placed, gone_there, others_left}
+use Rattle.ic_link_ops.specs.Chains.{Ends, no_members}
+use Rattle.ic_link_ops.specs.DoublyEntries as lists
+use Rattle.ic_link_ops.specs.NumberedCollections.{with_at}
+use Rattle.ic_link_ops.specs.PlacedObjects.{ArePlaced, ShowsPlaced, values_at}
+use Rattle.ic_link_ops.specs.Sequences.{at_front, first}
+use Rattle.ic_link_ops.specs.Edits.{Removes}
+use Rattle.ic_link_ops.specs.Tables.{IsCovered, IsUnlinked, KeepsBeside, LinksAlso, Unlinks}
+use Rattle.ic_link_ops.proofs.CollectionLaws.{new_shows_nothing}
+use Rattle.ic_link_ops.proofs.Covering.{still_covered}
+use Rattle.ic_link_ops.proofs.DoublyLists as doubly
+use Rattle.ic_link_ops.proofs.LinkedSets.{everywhere, not_linked}
+use Rattle.ic_link_ops.proofs.NumberedCollections.{at_number, at_others, numbered_none, numbered_covered, numbered_beside, numbered_pushed, numbered_first, numbered_own, numbered_taken}
+use Rattle.ic_link_ops.proofs.PlacedValues.{few_values, stand_begins}
+use Rattle.ic_link_ops.proofs.SequenceLemmas.{nothing_first}
+use Rattle.ic_link_ops.proofs.TwoFields.{once_covered, once_placed, once_moved, once_taken, unlinked_first, unlinked_vacant}
+use Rattle.ic_rbtree.specs.Borders.{IsSorted, if_passes}
+use Rattle.ic_rbtree.specs.Comparing.{compared, own_order}
+use Rattle.ic_rbtree.specs.Ordered.{InsertsInOrder}
+use Rattle.ic_rbtree.specs.PlainTrees as trees
+use Rattle.ic_rbtree.proofs.Passing.{passed, not_passed}
+use Rattle.ic_rbtree.proofs.PlainTrees.{plain_covered, plain_members, plain_trees}
+use Rattle.ic_rbtree.proofs.SortedValues.{has_none, has_covered, has_beside, has_inserted, has_first, has_first_taken}
+use Rattle.scheduler.specs.declared.task.Task.{Task}
+use Rattle.scheduler.specs.Kept.{deadline_of, is_due_then, is_due_at, list_at, schedule_of, HasRoom, IsKept}
+use Rattle.scheduler.specs.Refusals.{refusal_number}
+use Rattle.scheduler.specs.Schedule.{queue_at, deadlines, IsByDeadline, is_due, is_for, task_of, IsEmpty, IsUnchanged, Adds, TakesFront, MovesFirst}
+use Rattle.scheduler.proofs.ByDeadline.{by_deadline_with, none_due}
+
+-- where there is no place left, and where a refusal is for want of memory
+pub is_full : (next : ℕ) → 2 ^ 32 ≤ next → refusal_number true ≡ refusal_number (leb (2 ^ 32) next)
+is_full next large = ap refusal_number (sym (le-leb (2 ^ 32) next large))
+
+pub for_memory : (next : ℕ) → next < 2 ^ 32 → refusal_number false ≡ refusal_number (leb (2 ^ 32) next)
+for_memory next small = ap refusal_number (sym (lt-leb (2 ^ 32) next small))
+
+module _ {V A B : Type 0} where
+  module _ {objects : Objects (Task V)} {w : trees.TreeLinkOps A} {root : Option Place} {q : lists.DoublyLinkOps B} {ends : List Ends} (k : IsKept objects w root q ends) where
+    -- THE SCHEDULE is what is kept
+    pub waiting_is : (schedule_of objects w root q ends).waiting ≡ k.waiting
+    waiting_is = ap (values_at objects) (plain_members w k.sorted.shown) ∙ k.sorted.stand.are
+
+    pub queue_is : (i : ℕ) → queue_at (schedule_of objects w root q ends) i ≡ k.queued i
+    queue_is i =
+        let f : Ends → List (Task V) = λ list. values_at objects (lists.members_of q list) in
+        let nothing : f no_members ≡ [] = ap (values_at objects) (doubly.plain_members q (new_shows_nothing doubly.plain_lists (lists.plain_table q))) in
+        ap (λ d. slice_index_or (map f ends) i d) (sym nothing) ∙ get_or-map f ends i no_members
+        ∙ ap (values_at objects) (doubly.plain_members q (k.numbered.each i).shown) ∙ (k.numbered.each i).stand.are
+
+    -- FEWER WAIT than there are numbers of them
+    pub few_wait : length (schedule_of objects w root q ends).waiting ≤ 8589934591
+    few_wait = omega (arith, ap length waiting_is, few_values k.sorted.stand (plain_trees.distinct (trees.plain_table w) root k.sorted.members k.sorted.shown))
+
+  -- NOTHING CHANGES where the same is kept
+  unchanged : {objects : Objects (Task V)} {w v : trees.TreeLinkOps A} {root top : Option Place} {q r : lists.DoublyLinkOps B} {ends ends' : List Ends} (k : IsKept objects w root q ends) (l : IsKept objects v top r ends')
+      → l.waiting ≡ k.waiting → ((i : ℕ) → l.queued i ≡ k.queued i) → IsUnchanged (schedule_of objects w root q ends) (schedule_of objects v top r ends')
+  unchanged k l waiting queued = record {
+    waiting = waiting_is l ∙ waiting ∙ sym (waiting_is k);
+    queues = λ i. queue_is l i ∙ queued i ∙ sym (queue_is k i);
+    is_full = refl;
+  }
+
+  module _ {objects : Objects (Task V)} {w : trees.TreeLinkOps A} {root : Option Place} {q : lists.DoublyLinkOps B} {ends : List Ends} (k : IsKept objects w root q ends) where
+    pub same_kept : IsUnchanged (schedule_of objects w root q ends) (schedule_of objects w root q ends)
+    same_kept = unchanged k k refl (λ i. refl)
+
+    pub queue_empty : (i : ℕ) → None ≡ first (k.numbered.members i) → queue_at (schedule_of objects w root q ends) i ≡ []
+    queue_empty i none = queue_is k i ∙ sym (k.numbered.each i).stand.are ∙ ap (values_at objects) (nothing_first (k.numbered.members i) none)
+
+    -- the first of the tree, where it is due
+    pub first_due : (now : ℕ) {p : Place} → ((s : List Place) → trees.PlainShows w root s → Some p ≡ if_passes (is_due_at objects now) (first s)) → (Some p ≡ first k.sorted.members) × (is_due_at objects now p ≡ true)
+    first_due now {p} due = passed (is_due_at objects now) (first k.sorted.members) p (due k.sorted.members k.sorted.shown)
+
+    -- where it is not, none is
+    pub nothing_due : (now : ℕ) → None ≡ if_passes (is_due_at objects now) (first k.sorted.members) → AllByRecursion (λ (x : Task V). is_due now x ≡ false) (schedule_of objects w root q ends).waiting
+    nothing_due now none = subst (AllByRecursion (λ (x : Task V). is_due now x ≡ false)) (sym (waiting_is k)) (elim (stand_begins k.sorted.members k.sorted.stand) [
+      | inl empty ↦ rw empty tt
+      | inr at ↦
+          let not = ap (is_due_then now) (sym at.there) ∙ not_passed (is_due_at objects now) at.place (none ∙ ap (if_passes (is_due_at objects now)) (sym at.first)) in
+          subst (AllByRecursion (λ (x : Task V). is_due now x ≡ false)) (sym at.begin) (none_due now at.value (drop 1 k.waiting) (subst (λ (l : List (Task V)). IsSorted nat_cmp (deadlines l)) at.begin k.sorted.sorted) not)
+    ])
+
+  -- AT FIRST
+  module _ (objects : Objects (Task V)) (w : trees.TreeLinkOps A) (root : Option Place) (q : lists.DoublyLinkOps B) (ends : List Ends) (vacant : (p : Place) → object_at objects p ≡ None) (next : objects.next ≡ 0)
+      (no_trees : (trees.plain_table w).extent.places ≡ 0) (no_lists : (lists.plain_table q).extent.places ≡ 0) (none : root ≡ None) (empty : (i : ℕ) → list_at ends i ≡ no_members) where
+    pub kept_none : IsKept objects w root q ends
+    kept_none = record {
+      waiting = [];
+      queued = λ i. [];
+      sorted = has_none plain_trees nat_cmp_total objects none no_tree_links;
+      numbered = numbered_none doubly.plain_lists objects empty no_list_links;
+      once = record { each = λ p. rw (ap is_some (vacant p)) (no_tree_links p, no_list_links p) };
+      room = λ p placed. absurd (true≢false (sym placed ∙ ap is_some (vacant p)));
+    } where
+      no_tree_links : (p : Place) → IsUnlinked trees.is_linked (trees.plain_table w) p
+      no_tree_links p = not_linked _ (λ linked. let within = plain_covered w p linked in absurd (omega (arith, within, no_trees)))
+
+      no_list_links : (p : Place) → IsUnlinked lists.is_linked (lists.plain_table q) p
+      no_list_links p = not_linked _ (λ linked. let within = doubly.plain_covered q p linked in absurd (omega (arith, within, no_lists)))
+
+    pub none_wait : IsEmpty (schedule_of objects w root q ends)
+    unfolding kept_none
+    none_wait = record { waiting = waiting_is kept_none; queues = queue_is kept_none; is_full = ap (leb (2 ^ 32)) next }
+
+  module _ {objects : Objects (Task V)} {w : trees.TreeLinkOps A} {root : Option Place} {q : lists.DoublyLinkOps B} {ends : List Ends} (k : IsKept objects w root q ends) where
+    -- AFTER `cover` of the two tables
+    module _ (v : trees.TreeLinkOps A) (r : lists.DoublyLinkOps B) (stays_w : (p : Place) → (trees.plain_table v).entry p ≡ (trees.plain_table w).entry p)
+        (stays_q : (p : Place) → (lists.plain_table r).entry p ≡ (lists.plain_table q).entry p) (covered : (p : Place) → IsCovered (lists.plain_table q) p → IsCovered (lists.plain_table r) p) where
+      more_room : (p : Place) → HasRoom q p → HasRoom r p
+      more_room p room = (covered p room.0, room.1)
+
+      pub kept_covered : IsKept objects v root r ends
+      kept_covered = record {
+        waiting = k.waiting;
+        queued = k.queued;
+        sorted = has_covered plain_trees nat_cmp_total k.sorted stays_w;
+        numbered = numbered_covered doubly.plain_lists k.numbered stays_q;
+        once = once_covered k.once stays_w stays_q;
+        room = λ p placed. more_room p (k.room p placed);
+      }
+
+      pub same_covered : IsUnchanged (schedule_of objects w root q ends) (schedule_of objects v root r ends)
+      unfolding kept_covered
+      same_covered = unchanged k kept_covered refl (λ i. refl)
+
+      -- AND `from_box` of a task
+      module _ (new : Objects (Task V)) (p : Place) (task : Task V) (places : Places objects new p task) where
+        -- it is linked nowhere, and the tree is as an insert asks
+        pub new_unlinked : IsUnlinked trees.is_linked (trees.plain_table v) p
+        new_unlinked = (unlinked_vacant kept_covered.once p places.vacant).0
+
+        pub ready : ShowsPlaced (trees.PlainShows v root) new
+        ready = let h = has_beside plain_trees nat_cmp_total kept_covered.sorted {new = new} new_unlinked (others_placed places) in record { members = h.members; shown = h.shown; placed = h.stand.placed }
+
+        -- THE TASK WAITS, once it is inserted in order
+        module _ (u : trees.TreeLinkOps A) (top : Option Place) (room : HasRoom r p)
+            (put : (s : List Place) → trees.PlainShows v root s → InsertsInOrder trees.ShowsTree (compared (own_order nat_cmp deadline_of new p) new) (trees.plain_table v) (trees.plain_table u) top s p)
+            (also : LinksAlso trees.is_linked (trees.plain_table v) (trees.plain_table u) p) where
+          pub kept_added : IsKept new u top r ends
+          unfolding kept_covered
+          kept_added = let x = has_inserted plain_trees nat_cmp_total kept_covered.sorted places put also in record {
+            waiting = x.0;
+            queued = k.queued;
+            sorted = x.2;
+            numbered = numbered_beside doubly.plain_lists kept_covered.numbered {new = new} (unlinked_vacant kept_covered.once p places.vacant).1 (others_placed places);
+            once = once_placed kept_covered.once places also;
+            room = λ z. everywhere (λ z. is_placed new z ≡ true → HasRoom r z) p z (λ placed. room) (λ n placed. more_room z (k.room z (sym (ap is_some (others_placed places z n)) ∙ placed)));
+          }
+
+          pub adds : Adds task (schedule_of objects w root q ends) (schedule_of new u top r ends)
+          unfolding kept_added kept_covered
+          adds = record {
+            waits = λ l stands. subst (λ (t : List (Task V)). IsByDeadline t (l ++ task ∷ [])) (sym (waiting_is kept_added))
+                (by_deadline_with (has_inserted plain_trees nat_cmp_total kept_covered.sorted places put also).1 (subst (λ (t : List (Task V)). IsByDeadline t l) (waiting_is k) stands));
+            queues = λ i. queue_is kept_added i ∙ sym (queue_is k i);
+          }
+
+    -- THE FIRST OF THE TREE goes to the back of its queue
+    module _ {p : Place} {task : Task V} (is : Some p ≡ first k.sorted.members) (there : object_at objects p ≡ Some task) (v : trees.TreeLinkOps A) (top : Option Place) (r : lists.DoublyLinkOps B) (after : List Ends)
+        (off : Removes trees.ShowsTree (trees.plain_table w) (trees.plain_table v) top (at_front k.sorted.members)) (gone : Unlinks trees.is_linked (trees.plain_table w) (trees.plain_table v) p)
+        (pushed : (s : List Place) → lists.PlainShows q (list_at ends task.queue) s → lists.PlainShows r (list_at after task.queue) (s ++ p ∷ [])) (others : (i : ℕ) → i ≢ task.queue → list_at after i ≡ list_at ends i)
+        (also : LinksAlso lists.is_linked (lists.plain_table q) (lists.plain_table r) p) (frame : (s : List Place) → lists.PlainShows q (list_at ends task.queue) s → KeepsBeside (lists.plain_table q) (lists.plain_table r) (p ∷ s)) where
+      pub kept_moved : IsKept objects v top r after
+      kept_moved = record {
+        waiting = drop 1 k.waiting;
+        queued = with_at k.queued task.queue (k.queued task.queue ++ task ∷ []);
+        sorted = has_first_taken plain_trees nat_cmp_total k.sorted is there off.shows gone;
+        numbered = numbered_pushed doubly.plain_lists k.numbered there pushed others also frame;
+        once = once_moved k.once there gone also;
+        room = λ z placed. let old = k.room z placed in (still_covered z (frame (k.numbered.members task.queue) (k.numbered.each task.queue).shown) old.0, old.1);
+      }
+
+      pub moves : (now : ℕ) → is_due now task ≡ true → MovesFirst now (schedule_of objects w root q ends) (schedule_of objects v top r after)
+      unfolding kept_moved
+      moves now due = record {
+        task = task;
+        first = waiting_is k ∙ has_first plain_trees nat_cmp_total k.sorted is there ∙ ap (λ (t : List (Task V)). task ∷ t) (sym (waiting_is kept_moved));
+        due = due;
+        queues = λ i. queue_is kept_moved i ∙ one_more i ∙ ap (λ (t : List (Task V)). t ++ filter (is_for i) (task ∷ [])) (sym (queue_is k i));
+        is_full = refl;
+      } where
+        one_more : (i : ℕ) → with_at k.queued task.queue (k.queued task.queue ++ task ∷ []) i ≡ k.queued i ++ filter (is_for i) (task ∷ [])
+        one_more i = elim (eqb_tells task.queue i) [
+          | inl e ↦ rw e.0 (ap (λ j. k.queued j ++ task ∷ []) e.1)
+          | inr n ↦ rw n.0 (sym (append-nil _))
+        ]
+
+    -- THE FRONT OF A QUEUE is taken out
+    module _ {i : ℕ} {p : Place} {found : Task V} (is : Some p ≡ first (k.numbered.members i)) (there : object_at objects p ≡ Some found) (new : Objects (Task V)) (r : lists.DoublyLinkOps B) (after : List Ends)
+        (popped : (s : List Place) → lists.PlainShows q (list_at ends i) s → lists.PlainShows r (list_at after i) (drop 1 s)) (others : (j : ℕ) → j ≢ i → list_at after j ≡ list_at ends j)
+        (gone : Unlinks lists.is_linked (lists.plain_table q) (lists.plain_table r) p) (frame : (s : List Place) → lists.PlainShows q (list_at ends i) s → KeepsBeside (lists.plain_table q) (lists.plain_table r) s)
+        (frees : Frees objects new p) where
+      pub kept_taken : IsKept new w root r after
+      kept_taken = record {
+        waiting = k.waiting;
+        queued = with_at k.queued i (drop 1 (k.queued i));
+        sorted = has_beside plain_trees nat_cmp_total k.sorted {new = new} (unlinked_first k.once p gone.was) (others_left frees);
+        numbered = numbered_taken doubly.plain_lists k.numbered is there popped others gone frame frees;
+        once = once_taken k.once frees gone;
+        room = λ z. everywhere (λ z. is_placed new z ≡ true → HasRoom r z) p z (λ placed. absurd (true≢false (sym placed ∙ ap is_some (gone_there frees))))
+            (λ n placed. let old = k.room z (sym (ap is_some (others_left frees z n)) ∙ placed) in (still_covered z (frame (k.numbered.members i) (k.numbered.each i).shown) old.0, old.1));
+      }
+
+      pub takes_front : TakesFront (task_of found.deadline i found.value) (schedule_of objects w root q ends) (schedule_of new w root r after)
+      unfolding kept_taken
+      takes_front = record {
+        front = queue_is k i ∙ numbered_first doubly.plain_lists k.numbered is there ∙ ap (λ j. task_of found.deadline j found.value ∷ drop 1 (k.queued i)) (numbered_own doubly.plain_lists k.numbered is there)
+            ∙ ap (λ (t : List (Task V)). task_of found.deadline i found.value ∷ t) (sym (at_number k.queued i (drop 1 (k.queued i))) ∙ sym (queue_is kept_taken i));
+        others = λ j other. queue_is kept_taken j ∙ at_others k.queued i (drop 1 (k.queued i)) j other ∙ sym (queue_is k j);
+        waiting = waiting_is kept_taken ∙ sym (waiting_is k);
+        is_full = lt-leb (2 ^ 32) new.next (omega (arith, frees.next, (k.room p (ap is_some there)).1));
+      }

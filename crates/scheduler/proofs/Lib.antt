@@ -1,0 +1,3 @@
+pub mod ByDeadline
+pub mod Moving
+pub mod Keeping

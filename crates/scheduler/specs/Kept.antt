@@ -1,0 +1,61 @@
+-- What a scheduler keeps of its objects, its two tables, its tree and its lists.
+use Rattle.std.specs.Prelude.{◌≡◌, ℕ, ◌^◌, ◌<◌, Bool, true, false, leb, Option, Some, None, List, map, slice_index_or}
+use Rattle.std.specs.Ordering.{nat_cmp}
+use Rattle.ic_unsafe_ref.specs.declared.place.Place.{Place}
+use Rattle.ic_unsafe_ref.specs.Places.{index_of}
+use Rattle.ic_unsafe_ref.specs.Objects.{Objects, object_at, is_placed}
+use Rattle.ic_link_ops.specs.Chains.{Ends, no_members}
+use Rattle.ic_link_ops.specs.DoublyEntries as lists
+use Rattle.ic_link_ops.specs.NumberedCollections.{HasNumbered}
+use Rattle.ic_link_ops.specs.PlacedObjects.{values_at}
+use Rattle.ic_link_ops.specs.Tables.{IsCovered}
+use Rattle.ic_link_ops.specs.TwoFields.{IsLinkedOnce}
+use Rattle.ic_rbtree.specs.PlainTrees as trees
+use Rattle.ic_rbtree.specs.SortedValues.{HasSorted}
+use Rattle.scheduler.specs.declared.task.Task.{Task}
+use Rattle.scheduler.specs.Schedule.{Schedule, is_due}
+
+-- the list of the queue of that number
+abbrev pub list_at : List Ends → ℕ → Ends
+list_at queues q = slice_index_or queues q no_members
+
+module _ {V : Type 0} where
+  -- a task's deadline, and its queue
+  abbrev pub deadline_of : Task V → ℕ
+  deadline_of task = task.deadline
+
+  abbrev pub queue_of : Task V → ℕ
+  queue_of task = task.queue
+
+  -- whether there is a task, and it is due
+  abbrev pub is_due_then : ℕ → Option (Task V) → Bool
+  is_due_then now None = false
+  is_due_then now (Some task) = is_due now task
+
+  -- the same of the task at a place
+  abbrev pub is_due_at : Objects (Task V) → ℕ → Place → Bool
+  is_due_at objects now p = is_due_then now (object_at objects p)
+
+-- a place that has room in the lists' table, and is one of those that are given
+abbrev pub HasRoom : {B : Type 0} → lists.DoublyLinkOps B → Place → Type 0
+HasRoom links p = IsCovered (lists.plain_table links) p × index_of p < 2 ^ 32
+
+module _ {V A B : Type 0} (objects : Objects (Task V)) (deadline_links : trees.TreeLinkOps A) (root : Option Place) (queue_links : lists.DoublyLinkOps B) (queues : List Ends) where
+  -- the tasks in the tree and those in each list, as the tables show them
+  abbrev pub schedule_of : Schedule V
+  schedule_of = record {
+    waiting = values_at objects (trees.members_of deadline_links root);
+    queues = map (λ list. values_at objects (lists.members_of queue_links list)) queues;
+    is_full = leb (2 ^ 32) objects.next;
+  }
+
+  -- WHAT IT KEEPS: the tasks in the tree rise by their deadlines, and nothing else is linked in its table; list q has tasks of queue q
+  -- alone, and no place is linked in the lists' table but their members; each task is linked in exactly one of the two fields, and has
+  -- room in the lists' table
+  pub record IsKept : Type 0 where
+    pub waiting : List (Task V)
+    pub queued : ℕ → List (Task V)
+    pub sorted : HasSorted nat_cmp deadline_of trees.ShowsTree trees.is_linked (trees.plain_table deadline_links) root objects waiting
+    pub numbered : HasNumbered lists.ShowsList lists.is_linked queue_of (lists.plain_table queue_links) (list_at queues) objects queued
+    pub once : IsLinkedOnce trees.is_linked lists.is_linked objects (trees.plain_table deadline_links) (lists.plain_table queue_links)
+    pub room : (p : Place) → is_placed objects p ≡ true → HasRoom queue_links p

@@ -1,0 +1,3 @@
+pub mod Schedule
+pub mod Refusals
+pub mod Kept

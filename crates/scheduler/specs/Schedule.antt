@@ -1,0 +1,86 @@
+-- Schedules: tasks that wait for their deadlines, and queues of tasks that were due.
+use Rattle.std.specs.Prelude.{◌≡◌, ◌≢◌, ℕ, Bool, true, false, not, eqb, leb, List, [], ◌∷◌, ◌++◌, length, map, filter, slice_index_or}
+use Rattle.std.specs.Ordering.{nat_cmp}
+use Rattle.ic_rbtree.specs.Borders.{IsSorted}
+use Rattle.scheduler.specs.declared.task.Task.{Task}
+
+-- the tasks that wait, as the tree of deadlines has them, those of each queue, from front to back, and whether there is no place left
+-- for another task
+pub record Schedule (V : Type 0) : Type 0 where
+  pub waiting : List (Task V)
+  pub queues : List (List (Task V))
+  pub is_full : Bool
+
+module _ {V : Type 0} where
+  -- the tasks of the queue of that number, none beyond the last
+  abbrev pub queue_at : Schedule V → ℕ → List (Task V)
+  queue_at schedule q = slice_index_or schedule.queues q []
+
+  -- a task with this deadline, this queue and this value
+  abbrev pub task_of : ℕ → ℕ → V → Task V
+  task_of deadline queue value = record { deadline = deadline; queue = queue; value = value }
+
+  -- the deadlines of tasks
+  abbrev pub deadlines : List (Task V) → List ℕ
+  deadlines tasks = map (λ (task : Task V). task.deadline) tasks
+
+  -- whether a task has that deadline, is due at that time, belongs to that queue
+  abbrev pub has_deadline : ℕ → Task V → Bool
+  has_deadline d task = eqb task.deadline d
+
+  abbrev pub is_due : ℕ → Task V → Bool
+  is_due now task = leb task.deadline now
+
+  abbrev pub is_for : ℕ → Task V → Bool
+  is_for q task = eqb task.queue q
+
+  -- BY DEADLINE, EQUAL ONES AS IN w: their deadlines never fall, and those with one deadline are those of w with it, in the order of w
+  pub record IsByDeadline (tasks w : List (Task V)) : Type 0 where
+    pub rises : IsSorted nat_cmp (deadlines tasks)
+    pub alike : (d : ℕ) → filter (has_deadline d) tasks ≡ filter (has_deadline d) w
+
+  -- THE SCHEDULE STANDS FOR w, the tasks that wait in the order in which they were added
+  abbrev pub StandsFor : Schedule V → List (Task V) → Type 0
+  StandsFor schedule w = IsByDeadline schedule.waiting w
+
+  -- NOTHING WAITS, and each queue is empty
+  pub record IsEmpty (schedule : Schedule V) : Type 0 where
+    pub waiting : schedule.waiting ≡ []
+    pub queues : (q : ℕ) → queue_at schedule q ≡ []
+    pub is_full : schedule.is_full ≡ false
+
+  -- NOTHING HAS CHANGED
+  pub record IsUnchanged (old new : Schedule V) : Type 0 where
+    pub waiting : new.waiting ≡ old.waiting
+    pub queues : (q : ℕ) → queue_at new q ≡ queue_at old q
+    pub is_full : new.is_full ≡ old.is_full
+
+  -- THE TASK IS ADDED: it waits behind all that were added before
+  pub record Adds (task : Task V) (old new : Schedule V) : Type 0 where
+    pub waits : (w : List (Task V)) → StandsFor old w → StandsFor new (w ++ task ∷ [])
+    pub queues : (q : ℕ) → queue_at new q ≡ queue_at old q
+
+  -- THE TICK at `now`: those of w that are due, by deadline, equal ones as in w, go to the backs of their queues. The others wait
+  -- still, in their order
+  pub record Ticks (now : ℕ) (old new : Schedule V) (moved : ℕ) : Type 0 where
+    pub due : List (Task V)
+    pub in_order : (w : List (Task V)) → StandsFor old w → IsByDeadline due (filter (is_due now) w)
+    pub others : (w : List (Task V)) → StandsFor old w → StandsFor new (filter (λ task. not (is_due now task)) w)
+    pub queues : (q : ℕ) → queue_at new q ≡ queue_at old q ++ filter (is_for q) due
+    pub count : moved ≡ length due
+    pub is_full : new.is_full ≡ old.is_full
+
+  -- THE TASK IS TAKEN off the front of its queue, and nothing else changes: its place is free
+  pub record TakesFront (task : Task V) (old new : Schedule V) : Type 0 where
+    pub front : queue_at old task.queue ≡ task ∷ queue_at new task.queue
+    pub others : (q : ℕ) → q ≢ task.queue → queue_at new q ≡ queue_at old q
+    pub waiting : new.waiting ≡ old.waiting
+    pub is_full : new.is_full ≡ false
+
+  -- the first task that waits is due, and goes to the back of its queue
+  pub record MovesFirst (now : ℕ) (old new : Schedule V) : Type 0 where
+    pub task : Task V
+    pub first : old.waiting ≡ task ∷ new.waiting
+    pub due : is_due now task ≡ true
+    pub queues : (q : ℕ) → queue_at new q ≡ queue_at old q ++ filter (is_for q) (task ∷ [])
+    pub is_full : new.is_full ≡ old.is_full

@@ -1,0 +1,23 @@
+//! A scheduler: tasks wait for their deadlines, and go then to the queues that they were added for.
+//!
+//! ```text
+//! let mut scheduler = Scheduler::new(rt.alloc());
+//! scheduler.add(5, queue, task)?;
+//! let moved = scheduler.tick(now); // those that are due go to their queues
+//! let next = scheduler.next_task(queue); // a deadline and its task
+//! ```
+//!
+//! Each task is one object with a link in each of two fields: in the tree of deadlines while it waits, and in the list of its queue
+//! once it was due. So a task moves from one to the other, and no memory is taken for it.
+#![tactic(auto)]
+
+mod add_error;
+mod deadlines;
+mod queue;
+mod queues;
+mod scheduler;
+mod task;
+
+pub use add_error::AddError;
+pub use queue::Queue;
+pub use scheduler::Scheduler;
