@@ -1,0 +1,8 @@
+//! Tests of the scheduler: its worked rows, with ample memory and with each request refused in turn, and calls that look random beside a
+//! plain scheduler.
+#![tactic(auto)]
+
+mod calls;
+mod plain;
+mod random;
+mod rows;

@@ -1,0 +1,25 @@
+//! Numbers that look random, and are the same for the same seed.
+
+/// A linear congruential generator.
+#[derive(Clone, Copy)]
+pub(crate) struct Random {
+    state: u64,
+}
+
+impl Random {
+    /// The numbers of that seed.
+    pub(crate) fn new(seed: u64) -> Random {
+        Random {
+            state: seed.wrapping_mul(0x9e37_79b9_7f4a_7c15).wrapping_add(1),
+        }
+    }
+
+    /// A number below the bound, or 0 where the bound is 0.
+    pub(crate) fn below(&mut self, bound: usize) -> usize {
+        self.state = self
+            .state
+            .wrapping_mul(6_364_136_223_846_793_005)
+            .wrapping_add(1_442_695_040_888_963_407);
+        (self.state >> 33) as usize % bound.max(1)
+    }
+}
