@@ -1,9 +1,8 @@
 use Rattle.std.proofs.Common.{List, [], drop, length, ap, arith}
 use Rattle.ic_unsafe_ref.specs.declared.place.Place.{Place}
-use Rattle.ic_unsafe_ref.specs.Places.{index_of}
-use Rattle.ic_link_ops.specs.DoublyEntries.{entries, is_linked, neighbors_of, linked_in_range, plain_table, PlainShows}
+use Rattle.ic_link_ops.specs.DoublyEntries.{is_linked, neighbors_of, plain_table, PlainShows}
 use Rattle.ic_link_ops.proofs.CollectionLaws.{one_sequence_is_shown}
-use Rattle.ic_link_ops.proofs.DoublyLists.{plain_lists, members_shown}
+use Rattle.ic_link_ops.proofs.DoublyLists.{plain_lists, plain_members}
 use Rattle.ic_link_ops.proofs.SequenceLemmas.{fewer}
 use Rattle.uses.specs.Jobs.{IsWithout}
 use Rattle.uses.proofs.Draining.{TakesOff, starts, next_off, goes_on, ends}
@@ -25,8 +24,8 @@ loop-job-smaller g c =
     let r = c.requires.all_ready in
     let k = c.loop-job.invariant r.0 r.1 r.2 r.3 r.4 r.5 in
     let pop = c.in-Some.ensures in
-    let was = members_shown (plain_table c.loop-job.owned_links) (λ q. linked_in_range (entries c.loop-job.owned_links) (index_of q)) c.loop-job.jobs k.left k.here.shown in
-    let is = members_shown (plain_table c.pop_front.new.links) (λ q. linked_in_range (entries c.pop_front.new.links) (index_of q)) c.pop_front.new.self (drop 1 k.left) (pop.removed k.left k.here.shown) in
+    let was = plain_members c.loop-job.owned_links k.here.shown in
+    let is = plain_members c.pop_front.new.links (pop.removed k.left k.here.shown) in
     omega (arith, fewer k.left c.in-Some.job (pop.answer k.left k.here.shown), ap length was, ap length is)
 
 pub loop-job-preserved : goal.loop-job-preserved
