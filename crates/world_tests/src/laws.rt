@@ -8,7 +8,7 @@ ghost use Rattle.ic_world.specs.Answers.{reply_in};
 ghost use Rattle.ic_world.specs.Family.{Sequence};
 ghost use Rattle.ic_world.specs.Step.{Step, collection as collection_of, linked_of};
 
-use crate::own_key::OwnKey;
+use ic_program::OwnKey;
 use ic_rbtree::KeyAdapter;
 use ic_unsafe_ref::Place;
 use ic_world::{Answer, Command, Kind, Refusal, World};
@@ -82,8 +82,8 @@ fn both_shown<A: KeyAdapter, M: Allocator + Copy>(
     }
 }
 
-/// The first thing that is not as it should be in a world of three objects, a tree and a list. Nothing: the empty text.
-pub(crate) fn first_wrong(alloc: Global) -> &'static str {
+// The first thing that is not as it should be in a world of three objects, a tree and a list. Nothing: the empty text.
+fn first_wrong(alloc: Global) -> &'static str {
     let mut world = World::new(alloc, OwnKey);
     wrong_in(&mut world)
 }
@@ -119,4 +119,9 @@ fn wrong_in(world: &mut World<OwnKey>) -> &'static str {
         Some((members, others)) if members.len() == 3 && others.is_empty() => "",
         _ => "what is shown",
     }
+}
+
+#[test]
+fn laws_are_of_use(rt: HostRuntime) {
+    assert!(rt; first_wrong(rt.alloc()).is_empty());
 }
