@@ -1,0 +1,127 @@
+//! What the laws of a world are good for: the proof of each function needs one.
+
+ghost use Rattle.std.specs.Prelude.{◌≡◌, ◌≢◌, ◌≤◌, true, Some, IfSome, IsTrue, length};
+ghost use Rattle.std.specs.FinSet as set;
+ghost use Rattle.ic_unsafe_ref.specs.Places.{index_of};
+ghost use Rattle.ic_link_ops.specs.Sequences.{IsDisjoint};
+ghost use Rattle.ic_world.specs.Answers.{reply_in};
+ghost use Rattle.ic_world.specs.Family.{Sequence};
+ghost use Rattle.ic_world.specs.Step.{Step, collection as collection_of, linked_of};
+
+use ic_program::OwnKey;
+use ic_rbtree::KeyAdapter;
+use ic_unsafe_ref::Place;
+use ic_world::{Answer, Command, Kind, Refusal, World};
+use std::alloc::{Allocator, Global};
+
+/// Makes a call, and where it is refused once more, as if the first had not been made.
+fn made_again<A: KeyAdapter, M: Allocator + Copy>(
+    world: &mut World<A, M>,
+    command: Command<A::Value, A::Key>,
+) -> Answer<M>
+where
+    A::Value: Copy,
+    A::Key: Copy,
+    ensures { Step A.Key.cmp A.key_of world.old command (reply_in result) world.new }
+{
+    match ic_world_laws::answer(world, command) {
+        Answer::Refused(_) => ic_world_laws::answer(world, command),
+        answer => answer,
+    }
+}
+
+/// Puts an object behind all members of a list. `true`: it was linked in the list's field already, and all is as it was.
+fn was_linked<A: KeyAdapter, M: Allocator + Copy>(
+    world: &mut World<A, M>,
+    collection: usize,
+    object: Place,
+) -> bool
+where
+    A::Value: Copy,
+    A::Key: Copy,
+    ensures linked { IsTrue result → (s : Sequence) → collection_of world.old collection ≡ Some s
+        → set.contains (linked_of world.old s.field) (index_of object) ≡ true }
+    ensures unchanged { IsTrue result → world.new ≡ world.old }
+{
+    match ic_world_laws::answer(world, Command::PushBack(collection, object)) {
+        Answer::Refused(Refusal::AlreadyLinked) => true,
+        _ => false,
+    }
+}
+
+/// How many members of a tree a find looks at: by the law, of three members at most four.
+fn looks_of_find<A: KeyAdapter, M: Allocator + Copy>(
+    world: &mut World<A, M>,
+    collection: usize,
+    key: A::Key,
+) -> Option<u64>
+where
+    A::Value: Copy,
+    A::Key: Copy,
+    ensures { (s : Sequence) → collection_of world.old collection ≡ Some s → length s.members ≤ 3 → IfSome result (λ looks. looks ≤ 4) }
+{
+    match ic_world_laws::answer(world, Command::Find(collection, key)) {
+        Answer::Found(_, looks) => Some(looks),
+        _ => None,
+    }
+}
+
+/// The members of two collections: of one field, they share none.
+fn both_shown<A: KeyAdapter, M: Allocator + Copy>(
+    world: &World<A, M>,
+    first: usize,
+    second: usize,
+) -> Option<(Vec<Place, M>, Vec<Place, M>)>
+    ensures { first ≢ second → (s t : Sequence) → collection_of world.now first ≡ Some s → collection_of world.now second ≡ Some t
+        → s.field ≡ t.field → IfSome result (λ shown. IsDisjoint shown.0.items shown.1.items) }
+{
+    world.no_member_is_shared();
+    match (world.show(first), world.show(second)) {
+        (Ok(front), Ok(back)) => Some((front, back)),
+        _ => None,
+    }
+}
+
+// The first thing that is not as it should be in a world of three objects, a tree and a list. Nothing: the empty text.
+fn first_wrong(alloc: Global) -> &'static str {
+    let mut world = World::new(alloc, OwnKey);
+    wrong_in(&mut world)
+}
+
+// The same, in a new world.
+fn wrong_in(world: &mut World<OwnKey>) -> &'static str {
+    let (Ok(field), Ok(keyed)) = (world.add_field(Kind::Tree), world.open(0, Kind::Tree)) else {
+        return "the tree";
+    };
+    let Ok(list) = world.open(field, Kind::Doubly) else {
+        return "the list";
+    };
+    for value in 0..3 {
+        let Ok(object) = world.place(value) else {
+            return "an object";
+        };
+        if world.insert(keyed, object).is_err() {
+            return "an insert";
+        }
+        if !was_linked(world, list, object) {
+            return "a second link of one field";
+        }
+    }
+    let Answer::Refused(Refusal::NoSuchField) = made_again(world, Command::Open(1, Kind::Tree))
+    else {
+        return "a refused call, made again";
+    };
+    // It goes on below the root, where the first member of the key may stand.
+    let Some(2) = looks_of_find(world, keyed, 1) else {
+        return "a find of the root";
+    };
+    match both_shown(world, keyed, list) {
+        Some((members, others)) if members.len() == 3 && others.is_empty() => "",
+        _ => "what is shown",
+    }
+}
+
+#[test]
+fn laws_are_of_use(rt: HostRuntime) {
+    assert!(rt; first_wrong(rt.alloc()).is_empty());
+}

@@ -1,0 +1,20 @@
+//! What no session of the program shows: faults of reading and writing, workers, the texts of all answers, values that come
+//! back, lists of commands one behind the other, laws at work, and a key adapter.
+#![tactic(auto)]
+
+#[cfg(test)]
+mod arguments;
+#[cfg(test)]
+mod faults;
+#[cfg(test)]
+mod keys;
+#[cfg(test)]
+mod laws;
+#[cfg(test)]
+mod listed;
+#[cfg(test)]
+mod program_runs;
+#[cfg(test)]
+mod texts;
+#[cfg(test)]
+mod values;
