@@ -1,9 +1,7 @@
-//! What no session of the program shows: faults of reading and writing, workers, the texts of all answers, values that come
+//! What no session of the program shows: faults of reading and writing, the texts of all answers, values that come
 //! back, lists of commands one behind the other, laws at work, and a key adapter.
 #![tactic(auto)]
 
-#[cfg(test)]
-mod arguments;
 #[cfg(test)]
 mod faults;
 #[cfg(test)]
