@@ -1,14 +1,12 @@
 -- For callers: a list and its objects together, as the values that stand at its members, in order.
-use Rattle.std.proofs.Common.{◌≡◌, ◌≢◌, Bool, Option, Some, None, IsSome, IfSome, List, [], drop, take, ◌≤◌, is_some, length, ◌∷◌, ◌++◌, Result, OnOk, OnErr, ℕ, refl, sym, ap, ◌∙◌, inl, inr}
-use Rattle.std.specs.List.{cons_option}
+use Rattle.std.proofs.Common.{◌≡◌, ◌≢◌, Bool, Option, Some, None, IsSome, IfSome, List, [], drop, take, ◌≤◌, is_some, length, ◌∷◌, ◌++◌, Result, OnOk, OnErr, ℕ, sym, ap, ◌∙◌, inl, inr}
 use Rattle.std.proofs.lemmas.List.{take_all}
 use Rattle.std.proofs.lemmas.Option.{same_Some}
-use Rattle.std.proofs.lemmas.List.Elements.{filter_map-append}
 use Rattle.ic_unsafe_ref.specs.declared.place.Place.{Place}
 use Rattle.ic_unsafe_ref.specs.Objects.{Objects, Places, Frees, object_at}
 use Rattle.ic_unsafe_ref.proofs.PlaceLemmas.{same_or_not}
-use Rattle.ic_unsafe_ref.proofs.Placing.{placed_there, others_placed, stood_elsewhere, others_left}
-use Rattle.ic_link_ops.specs.Sequences.{IsAbsent, first}
+use Rattle.ic_unsafe_ref.proofs.Placing.{placed_there, others_placed, others_left}
+use Rattle.ic_link_ops.specs.Sequences.{first}
 use Rattle.ic_link_ops.specs.Tables.{Table, IsLinked, IsUnlinked, LinksAlso, Unlinks}
 use Rattle.ic_link_ops.specs.Chains.{Ends}
 use Rattle.ic_link_ops.specs.LinkedList.{Neighbors, Shows}

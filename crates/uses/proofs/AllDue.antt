@@ -1,5 +1,5 @@
 -- Timers that are due are taken off a queue, one after another.
-use Rattle.std.proofs.Common.{◌≡◌, ℕ, ◌≤◌, ◌<◌, Bool, true, false, cond, Option, Some, None, List, [], ◌∷◌, ◌++◌, length, drop, refl, sym, ap, ◌∙◌, subst, arith, append_assoc, append-nil, leb-true, true≢false}
+use Rattle.std.proofs.Common.{◌≡◌, ℕ, ◌≤◌, ◌<◌, true, Option, Some, None, List, [], ◌∷◌, ◌++◌, length, drop, refl, sym, ap, ◌∙◌, subst, arith, append_assoc, append-nil, leb-true, true≢false}
 use Rattle.std.specs.List.{AllByRecursion}
 use Rattle.ic_unsafe_ref.specs.declared.place.Place.{Place}
 use Rattle.ic_unsafe_ref.specs.Objects.{Objects, object_at}
@@ -9,7 +9,7 @@ use Rattle.ic_link_ops.specs.LinkSteps.{LinkStep, releases, releases_each}
 use Rattle.ic_link_ops.specs.Edits.{Removes}
 use Rattle.ic_link_ops.specs.RedBlackTree.{Node, Shows}
 use Rattle.ic_link_ops.proofs.Covering.{frames_join}
-use Rattle.ic_link_ops.proofs.SequenceLemmas.{absent_right, first_is, none_not, some_same}
+use Rattle.ic_link_ops.proofs.SequenceLemmas.{absent_right, first_is}
 use Rattle.ic_link_ops.proofs.StepLemmas.{releases_append}
 use Rattle.ic_rbtree.specs.Borders.{if_passes}
 use Rattle.ic_rbtree.specs.Members.{members}

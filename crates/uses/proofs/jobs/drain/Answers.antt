@@ -1,4 +1,4 @@
-use Rattle.std.proofs.Common.{List, [], drop, length, ap, arith}
+use Rattle.std.proofs.Common.{List, [], length, ap, arith}
 use Rattle.ic_unsafe_ref.specs.declared.place.Place.{Place}
 use Rattle.ic_link_ops.specs.DoublyEntries.{is_linked, neighbors_of, plain_table, PlainShows}
 use Rattle.ic_link_ops.proofs.CollectionLaws.{one_sequence_is_shown}
