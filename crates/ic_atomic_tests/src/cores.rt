@@ -152,7 +152,7 @@ impl Played for Cores<'_> {
 }
 
 // A replay and a new core each make one request for memory: the first can be refused, and a second is not asked for.
-const PLAIN_RUNS: [Run; 4] = [
+const PLAIN_RUNS: [Run; 5] = [
     Run {
         name: "claims in turn by replay",
         rows: "
@@ -183,6 +183,17 @@ const PLAIN_RUNS: [Run; 4] = [
         A look 0                   | no
         refuse 1                   | ok
         replay A claim 0 B claim 0 | ok          | yes no
+        ",
+    },
+    Run {
+        name: "a dropped holder keeps the one place",
+        rows: "
+        core 1    | ok
+        A claim 0 | yes
+        A look 0  | yes
+        A leaves  | ok
+        B claim 0 | no
+        B look 0  | yes
         ",
     },
 ];

@@ -1,10 +1,10 @@
-//! Links over claims: of two parties one links a place, and what it gives up the other may have.
+//! Links over claims: of two parties one links a place, and what it gives up the other may have; a dropped holder gives up nothing.
 
 ghost use Rattle.std.specs.Prelude.{◌≡◌, [], All, IfSome};
 ghost use Rattle.ic_atomic.specs.Holders.{record_of, IsOf};
 
 use crate::kinds::{Doubly, Party};
-use crate::runs::same;
+use crate::runs::{place_below, same};
 use ic_atomic::{AtomicLinkOps, Claims, Holder};
 use ic_link_ops::{PlainTable, Words};
 use ic_unsafe_ref::Place;
@@ -38,6 +38,25 @@ pub(crate) fn next_links<'c, W: Words>(
         .cover(claims.places())
         .expect(rt, "room for the links");
     AtomicLinkOps::new(claims, holder, table)
+}
+
+#[test]
+fn a_dropped_holder_keeps_its_place(rt: HostRuntime) -> Result<(), Fail> {
+    let (claims, mut holders) = Claims::new(rt.alloc(), 1, 2)?;
+    let mut first = next_holder(&claims, &mut holders).expect(&rt, "a holder");
+    let mut other = next_holder(&claims, &mut holders).expect(&rt, "another holder");
+    let place = place_below(claims.places(), "0").expect(&rt, "the one place");
+    let before = [
+        claims.claim(&mut first, place),
+        claims.look(&mut first, place),
+    ];
+    drop(first);
+    let behind = [
+        claims.claim(&mut other, place),
+        claims.look(&mut other, place),
+    ];
+    same(&rt, (before, behind), ([true, true], [false, true]));
+    Ok(())
 }
 
 #[test]

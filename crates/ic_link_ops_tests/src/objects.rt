@@ -188,6 +188,21 @@ const RUNS: &[Run] = &[
         get 0       | 10
         ",
     },
+    Run {
+        name: "a refused growth keeps the objects that stand",
+        rows: "
+        place 10   | 0      | 0:10
+        place 20   | 1      | 0:10 1:20
+        place 30   | 2      | 0:10 1:20 2:30
+        place 40   | 3      | 0:10 1:20 2:30 3:40
+        refuse 0   | ok
+        place 50   | memory | 0:10 1:20 2:30 3:40 back 50
+        len        | 4
+        next_place | 4
+        place 50   | 4      | 0:10 1:20 2:30 3:40
+        get 4      | 50
+        ",
+    },
 ];
 
 // Plays the run on a new stand.

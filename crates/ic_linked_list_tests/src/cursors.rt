@@ -252,14 +252,14 @@ impl Lists {
                 let mut cursor = borrowing(&mut self.list, &mut self.links, self.at);
                 let result = cursor.replace_with(UnsafeRef::new(place));
                 self.at = cursor.get_ptr();
-                replaced(result)
+                replaced(result, place)
             }
             By::Owning => {
                 let mut cursor = owning(&mut self.list, &self.links, self.at);
                 let result = cursor.replace_with(&mut self.links, UnsafeRef::new(place));
                 self.at = cursor.get_ptr();
                 self.list = cursor.into_inner();
-                replaced(result)
+                replaced(result, place)
             }
         }
     }

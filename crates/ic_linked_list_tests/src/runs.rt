@@ -119,6 +119,19 @@ pub(crate) const OWN: &[Run] = &[
         ",
     },
     Run {
+        name: "cursors that keep the list at null and on members",
+        rows: "
+        push_back 1 2 3 4 | ok  | 1 2 3 4
+        kept              | yes
+        front             | ok  | (1) 2 3 4
+        kept              | yes
+        move_next         | ok  | 1 (2) 3 4
+        kept              | yes
+        back              | ok  | 1 2 3 (4)
+        kept              | yes
+        ",
+    },
+    Run {
         name: "the first member removed",
         rows: "
         push_back 2 0 | ok | 2 0

@@ -105,7 +105,7 @@ fn edited_with<L: RBTreeOps>(
     match name {
         "insert_after" => inserted(cursor.insert_after(object)),
         "insert_before" => inserted(cursor.insert_before(object)),
-        "replace_with" => replaced(cursor.replace_with(object)),
+        "replace_with" => replaced(cursor.replace_with(object), place),
         _ => Answer::Refused("no such call"),
     }
 }
@@ -148,7 +148,7 @@ fn edited_owning_with<L: RBTreeOps>(
     match name {
         "insert_after" => inserted(cursor.insert_after(links, object)),
         "insert_before" => inserted(cursor.insert_before(links, object)),
-        "replace_with" => replaced(cursor.replace_with(links, object)),
+        "replace_with" => replaced(cursor.replace_with(links, object), place),
         _ => Answer::Refused("no such call"),
     }
 }

@@ -164,6 +164,21 @@ impl Field {
         Answer::Truth(is_empty)
     }
 
+    /// Unlinks the place by force. Only where the tree has no member.
+    #[tactic(auto, using(crate::proofs::Fixture::none_stands))]
+    pub(crate) fn force_unlink(&mut self, place: Place) -> Answer {
+        if place.index() >= self.links.covers() {
+            return Answer::Refused("beyond");
+        }
+        if !self.tree.is_empty() {
+            return Answer::Refused("member");
+        }
+        self.at = None;
+        self.tree = RBTree::default();
+        self.links.force_unlink(place);
+        Answer::Done
+    }
+
     /// Hands the tree out and takes it back, and answers whether what was left is empty.
     pub(crate) fn take(&mut self) -> Answer {
         let whole = self.tree.take();

@@ -37,6 +37,7 @@ impl Field {
             "insert" | "insert_by_cursor" => self.insert(name, None, place),
             "shape" => self.shape(place),
             "contains" => self.contains(place),
+            "force_unlink" => self.force_unlink(place),
             _ => self.edit(name, Some(place)),
         }
     }

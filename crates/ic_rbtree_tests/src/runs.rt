@@ -160,6 +160,18 @@ pub(crate) const RUNS: &[Run] = &[
         ",
     },
     Run {
+        name: "the rest of a dropped walk is forced free",
+        rows: "
+        insert_before 0 1 2 3 | ok             | 0 1 2 3 ; 1b(0b,2b(-,3r))
+        force_unlink 1        | member
+        take_and_drop front   | 0 linked 1 2 3 | ; -
+        insert_before 1       | linked
+        force_unlink 1 2 3    | ok
+        linked                |
+        insert_before 0 1 2 3 | ok             | 0 1 2 3 ; 1b(0b,2b(-,3r))
+        ",
+    },
+    Run {
         name: "whole trees",
         rows: "
         is_empty            | yes

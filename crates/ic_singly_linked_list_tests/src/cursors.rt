@@ -162,16 +162,17 @@ impl<W: NextWord> Lists<W> {
             return Answer::Refused("beyond");
         }
         match self.by {
-            By::Ref | By::Mut => replaced(borrowing(
-                &mut self.list,
-                &mut self.links,
-                self.at,
-            ).replace_next_with(UnsafeRef::new(place))),
+            By::Ref | By::Mut => replaced(
+                borrowing(&mut self.list, &mut self.links, self.at).replace_next_with(
+                    UnsafeRef::new(place),
+                ),
+                place,
+            ),
             By::Owning => {
                 let mut cursor = owning(&mut self.list, &self.links, self.at);
                 let result = cursor.replace_next_with(&mut self.links, UnsafeRef::new(place));
                 self.list = cursor.into_inner();
-                replaced(result)
+                replaced(result, place)
             }
         }
     }

@@ -86,24 +86,36 @@ impl<W: NextWord> Lists<W> {
         spot_of(&self.first.as_cursor(&self.links))
     }
 
-    /// Makes the cursor anew on that member, by the one in front.
+    // Where one that reads, made anew there, is when it has moved on, or back.
+    fn beside(&self, on: bool) -> Answer {
+        let spot = spot_of(&self.first.as_cursor(&self.links));
+        let mut cursor = reading(self.first.list(), &self.links, spot);
+        if on {
+            cursor.move_next();
+        } else {
+            cursor.move_prev();
+        }
+        standing(cursor.get_ptr())
+    }
+
+    /// Makes the cursor anew on that member, by the one in front, and answers where one that reads is when it has moved on.
     pub(crate) fn on_behind(&mut self, place: Place, prev: Option<Place>) -> Answer {
         let _ = self.on(place);
         if self.spot().prev != prev {
             return Answer::Refused("another");
         }
         lent::renew_behind(&mut self.first, &self.links);
-        Answer::Done
+        self.beside(true)
     }
 
-    /// Makes the cursor anew on that member, by the one behind.
+    /// Makes the cursor anew on that member, by the one behind, and answers where one that reads is when it has moved back.
     pub(crate) fn on_before(&mut self, place: Place, next: Option<Place>) -> Answer {
         let _ = self.on(place);
         if self.spot().next != next {
             return Answer::Refused("another");
         }
         lent::renew_before(&mut self.first, &self.links);
-        Answer::Done
+        self.beside(false)
     }
 
     // What a cursor that borrows the list answers to a call that reads.

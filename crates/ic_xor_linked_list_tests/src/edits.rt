@@ -78,7 +78,7 @@ fn put_borrowing<L: XorLinkedListOps>(
     match put {
         Put::After => inserted(cursor.insert_after(UnsafeRef::new(place))),
         Put::Before => inserted(cursor.insert_before(UnsafeRef::new(place))),
-        Put::Instead => replaced(cursor.replace_with(UnsafeRef::new(place))),
+        Put::Instead => replaced(cursor.replace_with(UnsafeRef::new(place)), place),
     }
 }
 
@@ -174,7 +174,7 @@ fn put_owning<L: XorLinkedListOps>(
     match put {
         Put::After => inserted(held.insert_after(links, UnsafeRef::new(place))),
         Put::Before => inserted(held.insert_before(links, UnsafeRef::new(place))),
-        Put::Instead => replaced(held.replace_with(links, UnsafeRef::new(place))),
+        Put::Instead => replaced(held.replace_with(links, UnsafeRef::new(place)), place),
     }
 }
 

@@ -55,16 +55,16 @@ pub(crate) const OWN: &[Run] = &[
         name: "cursors from an object and a neighbour",
         rows: "
         push_back 0 1 2  | ok | 0 1 2
-        on_behind 1 0    | ok | 0 (1) 2
+        on_behind 1 0    | 2  | 0 (1) 2
         move_next        | ok | 0 1 (2)
-        on_before 2 none | ok
+        on_before 2 none | 1
         move_prev        | ok | 0 (1) 2
-        on_behind 0 none | ok | (0) 1 2
+        on_behind 0 none | 1  | (0) 1 2
         on_behind 1 2    | another | 0 (1) 2
         reverse          | ok | 2 1 0
-        on_behind 1 2    | ok | 2 (1) 0
+        on_behind 1 2    | 0  | 2 (1) 0
         move_next        | ok | 2 1 (0)
-        on_before 1 0    | ok | 2 (1) 0
+        on_before 1 0    | 2  | 2 (1) 0
         move_prev        | ok | (2) 1 0
         ",
     },

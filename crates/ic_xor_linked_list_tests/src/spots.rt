@@ -61,7 +61,7 @@ pub(crate) fn ended<L: XorLinkedListOps>(cursor: CursorMut<'_, u64, L>) -> Spot
     spot_of(&cursor.as_cursor())
 }
 
-/// A cursor that reads, there: by the member in front, or where there is none by the one behind.
+/// A cursor that reads, there: by the member in front, or at either end by what stands behind.
 pub(crate) fn reading<'a, L: XorLinkedListOps>(
     list: &'a XorLinkedList<u64>,
     links: &'a L,
@@ -76,7 +76,7 @@ pub(crate) fn reading<'a, L: XorLinkedListOps>(
     let Some(place) = spot.at else {
         return list.cursor(links);
     };
-    if spot.prev.is_some() {
+    if spot.prev.is_some() && spot.next.is_some() {
         return list.cursor_from_ptr_and_prev(links, UnsafeRef::new(place), reference(spot.prev));
     }
     list.cursor_from_ptr_and_next(links, UnsafeRef::new(place), reference(spot.next))

@@ -8,6 +8,7 @@ use ic_link_ops::rbtree::ThreeWords;
 use ic_link_ops::singly_linked_list::Singly;
 use ic_link_ops::xor_linked_list::Xor;
 use ic_link_ops::{NextWord, OneWord};
+use ic_unsafe_ref::Place;
 use std::alloc::Global;
 use std::fmt;
 use std::test::Fail;
@@ -100,6 +101,19 @@ fn play_all_words(alloc: Global, runs: &[Run]) -> Result<(), Wrong> {
 #[test]
 fn words_of_links(rt: HostRuntime) -> Result<(), Fail> {
     Ok(play_all_words(rt.alloc(), WORDS)?)
+}
+
+#[test]
+fn words_in_a_trees_table(rt: HostRuntime) -> Result<(), Fail> {
+    let mut fields: Fields<ThreeWords> = Fields::new(rt.alloc(), By::Mut, 3)?;
+    let _ = fields.call(&["push_back", "0", "1", "2"]);
+    let links = &fields.first.links;
+    for index in 0..links.covers() {
+        let place = Place::new(index).expect(&rt, "the index of a place");
+        let [_, right, third] = links.link(place).words();
+        assert!(rt; (right, third) == (4, 3));
+    }
+    Ok(())
 }
 
 // Plays some runs over a table of such links.

@@ -45,12 +45,15 @@ pub fn inserted(given: Result<(), AlreadyLinked<u64>>) -> Answer {
     }
 }
 
-/// What was replaced: where it stands, or `null` or `linked`.
-pub fn replaced(given: Result<UnsafeRef<u64>, ReplaceError<u64>>) -> Answer {
+/// What was replaced: where it stands, or `null` or `linked`, or `another` where not the object at that place came back.
+pub fn replaced(given: Result<UnsafeRef<u64>, ReplaceError<u64>>, place: Place) -> Answer {
     match &given {
         Ok(out) => number(out.place()),
-        Err(ReplaceError::Null(_)) => Answer::Refused("null"),
-        Err(ReplaceError::AlreadyLinked(_)) => Answer::Refused("linked"),
+        Err(ReplaceError::Null(back)) if back.place() == place => Answer::Refused("null"),
+        Err(ReplaceError::AlreadyLinked(back)) if back.place() == place => {
+            Answer::Refused("linked")
+        }
+        Err(_) => Answer::Refused("another"),
     }
 }
 

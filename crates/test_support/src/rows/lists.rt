@@ -513,6 +513,10 @@ pub const WALKS: &[Run] = &[
         push_back 0 1 2 3   | ok             | 0 1 2 3
         take_and_drop front | 0 linked 1 2 3 |
         linked              | 1 2 3
+        push_back 1         | linked
+        force_unlink 1 2 3  | ok
+        linked              |
+        push_back 0 1 2 3   | ok             | 0 1 2 3
         ",
     },
     Run {
