@@ -74,7 +74,7 @@ impl Refusal {
 }
 
 /// A call of a world, with what it is given. Fields and collections are named by their numbers, objects by their places.
-#[derive(Copy, Debug)]
+#[derive(Copy)]
 pub enum Command<V, K> {
     /// `place`
     Place(V),
@@ -205,34 +205,38 @@ pub enum Answer<M: Allocator = Global> {
 /// An answer in one line, as the program prints it.
 impl<M: Allocator> fmt::Display for Answer<M> {
     fn fmt<W: fmt::Write>(&self, f: &mut fmt::Formatter<W>) -> fmt::Result {
-        match self {
-            Answer::Done => write!(f, "ok"),
-            Answer::Nothing => write!(f, "none"),
-            Answer::Object(place) => write!(f, "object {}", place.index()),
-            Answer::Field(number) => write!(f, "field {number}"),
-            Answer::Collection(number) => write!(f, "collection {number}"),
-            Answer::Items(places) => write_items(f, places),
-            Answer::Linked(true) => write!(f, "linked"),
-            Answer::Linked(false) => write!(f, "unlinked"),
-            Answer::Found(Some(place), looks) => write!(
-                f,
-                "object {} looks {looks}",
-                place.index()
-            ),
-            Answer::Found(None, looks) => write!(f, "none looks {looks}"),
-            Answer::Looked(looks) => write!(f, "ok looks {looks}"),
+        let (word, number, looks) = match self {
+            Answer::Items(places) => return write_items(f, places),
             Answer::Range(places, first, second) => {
                 write_items(f, places)?;
-                write!(f, " looks {first} {second}")
+                return write!(f, " looks {first} {second}");
             }
+            Answer::Refused(refusal) => return write!(f, "refused {} {refusal}", refusal.number()),
+            Answer::Done => ("ok", None, None),
+            Answer::Nothing => ("none", None, None),
+            Answer::Object(place) => ("object", Some(place.index()), None),
+            Answer::Field(number) => ("field", Some(*number), None),
+            Answer::Collection(number) => ("collection", Some(*number), None),
+            Answer::Linked(true) => ("linked", None, None),
+            Answer::Linked(false) => ("unlinked", None, None),
+            Answer::Found(Some(place), looks) => ("object", Some(place.index()), Some(*looks)),
+            Answer::Found(None, looks) => ("none", None, Some(*looks)),
+            Answer::Looked(looks) => ("ok", None, Some(*looks)),
             Answer::Entry(true, place, looks) => {
-                write!(f, "occupied object {} looks {looks}", place.index())
+                ("occupied object", Some(place.index()), Some(*looks))
             }
             Answer::Entry(false, place, looks) => {
-                write!(f, "inserted object {} looks {looks}", place.index())
+                ("inserted object", Some(place.index()), Some(*looks))
             }
-            Answer::Refused(refusal) => write!(f, "refused {} {refusal}", refusal.number()),
+        };
+        f.write_str(word)?;
+        if let Some(number) = number {
+            write!(f, " {number}")?;
         }
+        if let Some(looks) = looks {
+            write!(f, " looks {looks}")?;
+        }
+        Ok(())
     }
 }
 
