@@ -1,32 +1,17 @@
 //! A list of a world, worked on by the world's calls.
 //!
 //! ```text
-//! let (mut world, list) = filled_world(alloc, 1000)?;
-//! turn_world(&mut world, list, 100);
+//! one_world(&mut rows, 1000, 100_001);
 //! ```
 
-use crate::trees::ByValue;
-use ic_unsafe_ref::Place;
-use ic_world::{Kind, Refusal, World};
-use std::alloc::Global;
+use crate::keyed::ByValue;
+use crate::rows::Rows;
+use ic_world::{Kind, World};
+use std::mem::forget;
 
-/// A world with one field of doubly linked entries, and in it one list of so many new objects, by its number.
-pub fn filled_world(alloc: Global, members: u64) -> Result<(World<ByValue>, usize), Refusal> {
-    let mut world = World::new(alloc, ByValue);
-    let field = world.add_field(Kind::Doubly)?;
-    let list = world.open(field, Kind::Doubly)?;
-    for value in 0..members {
-        match world.place(value) {
-            Ok(object) => world.push_back(list, object)?,
-            Err((refusal, _)) => return Err(refusal),
-        }
-    }
-    Ok((world, list))
-}
-
-/// Takes the first member off and puts it at the back, so many times.
+// Takes the first member off and puts it at the back, so many times.
 #[inline(never)]
-pub fn turn_world(world: &mut World<ByValue>, list: usize, times: u64) {
+fn turn_world(world: &mut World<ByValue>, list: usize, times: u64) {
     for _turn in 0..times {
         if let Ok(Some(object)) = world.pop_front(list) {
             let _ = world.push_back(list, object);
@@ -34,13 +19,23 @@ pub fn turn_world(world: &mut World<ByValue>, list: usize, times: u64) {
     }
 }
 
-/// The first member, if there is one.
-pub fn front_of(world: &mut World<ByValue>, list: usize) -> Option<Place> {
-    match world.pop_front(list) {
-        Ok(Some(object)) => {
-            let _ = world.push_front(list, object);
-            Some(object)
+/// A list of a world of so many objects, turned so many times. It ends at the first member. Without memory there are no rows.
+pub fn one_world(rows: &mut Rows<'_>, members: u64, times: u64) {
+    let mut world = World::new(rows.alloc, ByValue);
+    let _field = world.add_field(Kind::Doubly);
+    if let Ok(list) = world.open(0, Kind::Doubly) {
+        for value in 0..members {
+            if let Ok(object) = world.place(value) {
+                if world.push_back(list, object).is_err() {
+                    break;
+                }
+            }
         }
-        _ => None,
+        rows.note("world: made", members, None, members);
+        turn_world(&mut world, list, times);
+        if let Ok(end) = world.pop_front(list) {
+            rows.note("world: pop_front and push_back", times, end, 0);
+        }
     }
+    forget(world); // the program ends, and with it the world's memory
 }

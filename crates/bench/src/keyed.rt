@@ -1,8 +1,8 @@
-//! Work by keys on a red-black tree, each so many times: the keys are the objects, and stand in their order as at random.
+//! Work by keys on a red-black tree: the keys are the objects, and stand in their order as at random.
 //!
 //! ```text
-//! insert_all(&mut tree, &mut links, &objects, 1000);
-//! let end = find_all(&tree, &links, &objects, 1000, 100_001);
+//! let objects = place_all(alloc, 1000)?;
+//! one_tree(&mut rows, alloc, &objects, 1000, 100_001)?;
 //! ```
 
 ghost use Rattle.std.specs.Prelude.{◌≡◌, ◌≤◌, true, IfSome};
@@ -13,33 +13,49 @@ ghost use Rattle.ic_link_ops.specs.Tables.{IsCovered};
 ghost use Rattle.ic_rbtree.specs.Tree.{root_of};
 ghost use Rattle.ic_rbtree.specs.SortedObjects.{ShowsSorted, StaysSorted};
 
-use crate::trees::ByValue;
-use ic_link_ops::LinkOps;
-use ic_link_ops::rbtree::RBTreeOps;
-use ic_rbtree::{Bound, RBTree};
+use crate::rows::Rows;
+use ic_link_ops::LentTable;
+use ic_link_ops::rbtree::{Link, LinkOps, RBTreeOps};
+use ic_rbtree::{KeyAdapter, RBTree};
 use ic_unsafe_ref::{Objects, Place, UnsafeRef};
+use std::alloc::Global;
+
+// How far apart the keys stand of objects that are placed one after the other.
+const STRIDE: u64 = 7919;
 
 // How far apart the keys stand that are looked for one after the other.
-const STRIDE: u64 = 104_729;
+const LEAP: u64 = 104_729;
 
-// The key that is looked for that many times after the first.
-fn nth(time: u64, members: u64) -> u64 {
-    time.wrapping_mul(STRIDE) % members.max(1)
-}
+/// The value is the key.
+#[derive(Clone, Copy)]
+pub struct ByValue;
 
-/// Places so many objects, as far as there is memory. Their values are the numbers below `members`, in an order as at random,
-/// where `stride` and `members` share no factor.
-pub fn place_all(objects: &mut Objects<u64>, members: u64, stride: u64) {
-    for count in 0..members {
-        if objects.next_place().is_some() {
-            let _object = UnsafeRef::from_box(objects, count.wrapping_mul(stride) % members);
-        }
+impl KeyAdapter for ByValue {
+    type Value = u64;
+
+    type Key = u64;
+
+    ghost key_of = { λ a v. v };
+
+    fn get_key<'v>(&self, value: &'v u64) -> &'v u64 {
+        value
     }
 }
 
-/// Where the object with this key stands, if it is a member.
+/// So many objects, as far as there is memory. Their values are the numbers below `members`, in an order as at random.
+pub fn place_all(alloc: Global, members: u64) -> Objects<u64> {
+    let mut objects = Objects::new(alloc);
+    for count in 0..members {
+        if objects.next_place().is_some() {
+            let _ = UnsafeRef::from_box(&mut objects, count.wrapping_mul(STRIDE) % members);
+        }
+    }
+    objects
+}
+
+// Where the object with this key stands, if it is a member.
 #[inline(never)]
-pub fn find<L: RBTreeOps>(
+fn find<L: RBTreeOps>(
     tree: &RBTree<ByValue>,
     links: &L,
     objects: &Objects<u64>,
@@ -52,23 +68,9 @@ pub fn find<L: RBTreeOps>(
     tree.find(links, objects, &key).get_ptr()
 }
 
-/// Where the first member with a greater key stands, if there is one.
+// Inserts the object where its key belongs, unless its link is refused.
 #[inline(never)]
-pub fn find_above<L: RBTreeOps>(
-    tree: &RBTree<ByValue>,
-    links: &L,
-    objects: &Objects<u64>,
-    key: u64,
-) -> Option<Place>
-    requires sorted { ShowsSorted (λ v. v) (Shows L.node (L.table links.now) (root_of tree.now)) objects.now }
-{
-    tree.lower_bound(links, objects, Bound::Excluded(&key))
-        .get_ptr()
-}
-
-/// Inserts the object where its key belongs, unless its link is refused.
-#[inline(never)]
-pub fn insert<L: RBTreeOps>(
+fn insert<L: RBTreeOps>(
     tree: &mut RBTree<ByValue>,
     links: &mut L,
     objects: &Objects<u64>,
@@ -83,9 +85,9 @@ pub fn insert<L: RBTreeOps>(
     let _ = tree.cursor_mut(links).insert(objects, object);
 }
 
-/// Takes a member off.
+// Takes a member off.
 #[inline(never)]
-pub fn remove<L: RBTreeOps>(tree: &mut RBTree<ByValue>, links: &mut L, object: UnsafeRef<u64>)
+fn remove<L: RBTreeOps>(tree: &mut RBTree<ByValue>, links: &mut L, object: UnsafeRef<u64>)
     requires member { HasMember (Shows L.node (L.table links.old) (root_of tree.old)) object }
     ensures sorted { StaysSorted (λ v. v) (Shows L.node (L.table links.old) (root_of tree.old))
         (Shows L.node (L.table links.new) (root_of tree.new)) }
@@ -94,9 +96,9 @@ pub fn remove<L: RBTreeOps>(tree: &mut RBTree<ByValue>, links: &mut L, object: U
     let _ = tree.cursor_mut_from_ptr(links, object).remove();
 }
 
-/// Inserts the objects at the first `members` places, as far as they are placed.
+// Inserts the objects at the first `members` places.
 #[inline(never)]
-pub fn insert_all<L: RBTreeOps>(
+fn insert_all<L: RBTreeOps>(
     tree: &mut RBTree<ByValue>,
     links: &mut L,
     objects: &Objects<u64>,
@@ -105,7 +107,6 @@ pub fn insert_all<L: RBTreeOps>(
     requires covered { members ≤ (L.table links.old).extent.places }
     requires sorted { ShowsSorted (λ v. v) (Shows L.node (L.table links.old) (root_of tree.old)) objects.now }
     ensures sorted { ShowsSorted (λ v. v) (Shows L.node (L.table links.new) (root_of tree.new)) objects.now }
-    ensures extent { (L.table links.new).extent ≡ (L.table links.old).extent }
 {
     for index in 0..members {
         if let Some(place) = Place::new(index) {
@@ -116,45 +117,9 @@ pub fn insert_all<L: RBTreeOps>(
     }
 }
 
-/// Finds so many keys, and answers where the last of them stands.
+// Finds so many keys, takes each one's member off and inserts it again, and answers where the last of them stands.
 #[inline(never)]
-pub fn find_all<L: RBTreeOps>(
-    tree: &RBTree<ByValue>,
-    links: &L,
-    objects: &Objects<u64>,
-    members: u64,
-    times: u64,
-) -> Option<Place>
-    requires sorted { ShowsSorted (λ v. v) (Shows L.node (L.table links.now) (root_of tree.now)) objects.now }
-{
-    let mut last = None;
-    for time in 0..times {
-        last = find(tree, links, objects, nth(time, members));
-    }
-    last
-}
-
-/// Finds the members above so many keys, and answers where the last of them stands.
-#[inline(never)]
-pub fn find_all_above<L: RBTreeOps>(
-    tree: &RBTree<ByValue>,
-    links: &L,
-    objects: &Objects<u64>,
-    members: u64,
-    times: u64,
-) -> Option<Place>
-    requires sorted { ShowsSorted (λ v. v) (Shows L.node (L.table links.now) (root_of tree.now)) objects.now }
-{
-    let mut last = None;
-    for time in 0..times {
-        last = find_above(tree, links, objects, nth(time, members));
-    }
-    last
-}
-
-/// Finds so many keys, takes each one's member off and inserts it again, and answers where the last of them stands.
-#[inline(never)]
-pub fn turn_all<L: RBTreeOps>(
+fn turn_all<L: RBTreeOps>(
     tree: &mut RBTree<ByValue>,
     links: &mut L,
     objects: &Objects<u64>,
@@ -162,15 +127,41 @@ pub fn turn_all<L: RBTreeOps>(
     times: u64,
 ) -> Option<Place>
     requires sorted { ShowsSorted (λ v. v) (Shows L.node (L.table links.old) (root_of tree.old)) objects.now }
-    ensures sorted { ShowsSorted (λ v. v) (Shows L.node (L.table links.new) (root_of tree.new)) objects.now }
 {
     let mut last = None;
     for time in 0..times {
-        last = find(&*tree, &*links, objects, nth(time, members));
+        last = find(
+            &*tree,
+            &*links,
+            objects,
+            time.wrapping_mul(LEAP) % members.max(1),
+        );
         if let Some(place) = last {
             remove(tree, links, UnsafeRef::new(place));
             insert(tree, links, objects, UnsafeRef::new(place));
         }
     }
     last
+}
+
+// A tree over links that are lent, with a member at each: inserts of all of them, and then so many searches, each with a removal and an
+// insert.
+fn over_links(rows: &mut Rows<'_>, links: &mut [Link], objects: &Objects<u64>, times: u64) {
+    let mut links = LentTable::new(links);
+    let members = links.covers();
+    let mut tree = RBTree::new(ByValue);
+    rows.note("tree: made", members as u64, None, members as u64);
+    insert_all(&mut tree, &mut links, objects, members);
+    rows.note("keyed: inserted", members as u64, None, 0);
+    let end = turn_all(&mut tree, &mut links, objects, members as u64, times);
+    rows.note("keyed: found, removed and inserted", times, end, 0);
+}
+
+/// A tree of so many objects by their keys, over a lent table. Without memory there are no rows.
+pub fn one_tree(rows: &mut Rows<'_>, members: u64, times: u64) {
+    let objects = place_all(rows.alloc, members);
+    let mut links = LinkOps::new(rows.alloc);
+    if links.cover(members as usize).is_ok() {
+        over_links(rows, links.lend(), &objects, times);
+    }
 }
