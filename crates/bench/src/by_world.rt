@@ -7,7 +7,6 @@
 use crate::keyed::ByValue;
 use crate::rows::Rows;
 use ic_world::{Kind, World};
-use std::mem::forget;
 
 // Takes the first member off and puts it at the back, so many times.
 #[inline(never)]
@@ -37,5 +36,4 @@ pub fn one_world(rows: &mut Rows<'_>, members: u64, times: u64) {
             rows.note("world: pop_front and push_back", times, end, 0);
         }
     }
-    forget(world); // the program ends, and with it the world's memory
 }

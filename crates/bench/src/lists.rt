@@ -151,7 +151,7 @@ fn sum(list: &LinkedList<u64>, links: &LinkOps, objects: &Objects<u64>) -> u64
     sum
 }
 
-// The same, by a walk over them that is counted by itself.
+// The same, in a function that callgrind counts by itself.
 #[inline(never)]
 fn add(list: &LinkedList<u64>, links: &LinkOps, objects: &Objects<u64>) -> u64
     requires { ShowsPlaced (PlainShows links.now list.now) objects.now }

@@ -1,23 +1,22 @@
 //! Figures for the doubly linked list, for the tree by its keys, and for a list of a world.
 //!
 //! ```text
-//! rt run                   # each kind of work 100,001 times, over 1,000, 20,000 and 1,000,000 members
+//! rt run                   # each kind of work 100,001 times, on 1,000, 20,000 and 1,000,000 members
 //! rt run -- 100000         # so many times
 //! rt run -- lines < input  # reads lines, writes `ok` for each, and does nothing else
 //! rt run -- print < input  # reads lines, prints each again, and does nothing else
 //! ```
 //!
-//! Where each kind of work ended goes to standard output, and the nanoseconds of one operation to standard error. Its
-//! instructions are those that callgrind counts in a function, over how often the operation was done:
+//! Where each kind of work ended, or what it added up, goes to standard output, and the nanoseconds of one operation to
+//! standard error; those of `made` are with what was let go before. The instructions of one are what callgrind counts in these
+//! functions, over how often it was done:
 //!
 //! ```text
-//! valgrind --tool=callgrind out/bench 100000
-//! over_table, lent    push_back and pop_front (Turns), and a cursor's steps (Steps)
-//! sum                 the steps of iter
-//! find                a search by key
-//! insert              a keyed insert, as insert_all or turn_all calls it
-//! remove              a removal at a cursor
-//! turn_world          pop_front and push_back by a world
+//! valgrind --tool=callgrind --dump-before='bench::keyed::insert_all*' out/bench 100000
+//! over_table, lent       a pop_front and push_back (Turns), a cursor's step (Steps)
+//! add                    a step of iter
+//! find, insert, remove   by keys: a search; an insert, as insert_all or turn_all calls it; a removal
+//! turn_world             a pop_front and push_back by a world
 //! ```
 #![tactic(auto)]
 
