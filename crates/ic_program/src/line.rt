@@ -10,7 +10,7 @@ use ic_unsafe_ref::Place;
 use ic_world::Command;
 
 /// What a line says.
-#[derive(Clone, Copy, Debug)]
+#[derive(Clone, Copy)]
 pub enum Line {
     /// It has no words.
     Empty,

@@ -2,7 +2,11 @@
 //! plain scheduler.
 #![tactic(auto)]
 
+#[cfg(test)]
 mod calls;
+#[cfg(test)]
 mod plain;
+#[cfg(test)]
 mod random;
+#[cfg(test)]
 mod rows;
