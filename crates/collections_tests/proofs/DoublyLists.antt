@@ -1,5 +1,5 @@
 -- What the doubly linked list brings to two lists of one table, and where its members are placed.
-use Rattle.std.proofs.Common.{◌≡◌, ℕ, ◌<◌, true, Option, Some, None, List, [], ◌∷◌, length, refl, ap, drop, ◌∙◌}
+use Rattle.std.proofs.Common.{◌≡◌, ℕ, ◌<◌, true, Option, Some, None, List, [], ◌∷◌, length, ap, drop, ◌∙◌}
 use Rattle.ic_unsafe_ref.specs.declared.place.Place.{Place}
 use Rattle.ic_unsafe_ref.specs.Places.{index_of}
 use Rattle.ic_unsafe_ref.specs.Objects.{Objects, is_placed}
@@ -8,9 +8,8 @@ use Rattle.ic_link_ops.specs.Tables.{Table, IsLinked}
 use Rattle.ic_link_ops.specs.LinkSteps.{LinkStep, Replays}
 use Rattle.ic_link_ops.specs.Positions.{Site, ShowsAt}
 use Rattle.ic_link_ops.specs.EditsAt.{RemovesThere}
-use Rattle.ic_link_ops.specs.Chains.{Ends, no_members}
+use Rattle.ic_link_ops.specs.Chains.{Ends}
 use Rattle.ic_link_ops.specs.LinkedList.{IsChain}
-use Rattle.ic_link_ops.specs.LinkedList as list
 use Rattle.ic_link_ops.specs.DoublyEntries.{DoublyLink, DoublyLinkOps, neighbors_of, is_linked, entry_at, plain_table, linked_in_range}
 use Rattle.ic_link_ops.proofs.SequenceLemmas.{none_not}
 use Rattle.ic_link_ops.specs.PlacedObjects.{ArePlaced}

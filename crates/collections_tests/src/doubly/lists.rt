@@ -10,13 +10,14 @@ ghost use Rattle.ic_link_ops.specs.Positions.{site, Stands};
 ghost use Rattle.ic_linked_list.specs.CursorMut as lent;
 ghost use Rattle.ic_linked_list.specs.Cursor as reads;
 
+use crate::notes::write_places;
 use ic_link_ops::linked_list::{LinkOps, LinkedListOps};
 use ic_linked_list::{Cursor, CursorMut, LinkedList, laws};
 use ic_unsafe_ref::{Place, UnsafeRef};
 use std::alloc::{AllocError, Global};
 use std::marker::Model;
 use std::mem;
-use test_support::answers::{inserted, object, replaced, standing};
+use test_support::answers::{inserted, object, replaced};
 use test_support::rows::{Answer, Text};
 use test_support::tables::write_linked;
 
@@ -312,10 +313,7 @@ impl Lists {
         let front = self.list.front(&self.links).get_ptr();
         let back = self.list.back(&self.links).get_ptr();
         let (there, again) = laws::null_there_and_back(&mut reading(&self.list, &self.links, None));
-        self.notes.add(standing(front), " ");
-        self.notes.add(standing(back), " ");
-        self.notes.add(standing(there), " ");
-        self.notes.add(standing(again), " ");
+        write_places(&mut self.notes, &[front, back, there, again]);
     }
 
     /// Notes the places that are linked.

@@ -1,23 +1,20 @@
 //! What cursors read, and walks: over the objects, and of those that take the members off.
 
-ghost use Rattle.std.specs.Prelude.{◌≡◌, ◌<◌, IfSome, IsTrue, length, true};
-ghost use Rattle.ic_unsafe_ref.specs.declared.place.Place.{Place};
-ghost use Rattle.ic_unsafe_ref.specs.Places.{index_of};
-ghost use Rattle.ic_unsafe_ref.specs.Objects.{is_placed};
+ghost use Rattle.std.specs.Prelude.{◌≡◌};
 ghost use Rattle.ic_link_ops.specs.LinkedList.{Shows};
-ghost use Rattle.ic_link_ops.specs.DoublyEntries.{neighbors_of, entries, plain_table, PlainShowsSome};
+ghost use Rattle.ic_link_ops.specs.DoublyEntries.{neighbors_of, plain_table, PlainShowsSome};
 ghost use Rattle.ic_link_ops.specs.Positions.{Stands};
 ghost use Rattle.ic_linked_list.specs.Cursor as reads;
 ghost use Rattle.ic_linked_list.specs.CursorMut as lent;
-ghost use Rattle.ic_linked_list.specs.IntoIter.{CanTake};
 ghost use Rattle.ic_linked_list.specs.Iter.{CanWalk};
 
 use crate::doubly::lists::{Lists, borrowing, reading};
+use crate::notes::{write_looks, write_values};
 use ic_link_ops::linked_list::LinkOps;
-use ic_linked_list::{Cursor, CursorMut, IntoIter, Iter, LinkedList};
+use ic_linked_list::{Cursor, CursorMut, Iter, LinkedList};
 use ic_unsafe_ref::{Objects, Place};
-use test_support::answers::{object, standing, value};
-use test_support::rows::{Answer, Text};
+use test_support::answers::{object, value};
+use test_support::rows::Text;
 use test_support::tables::{are_placed, write_linked};
 
 // Writes the members as a walk from null to null comes by them, with a mark at the cursor's.
@@ -38,16 +35,17 @@ fn write_walk(notes: &mut Text, list: &LinkedList<u64>, links: &LinkOps, at: Opt
 fn write_read(notes: &mut Text, mut cursor: Cursor<'_, u64, LinkOps>, objects: &Objects<u64>)
     requires stands { Stands (Shows neighbors_of) plain_table (reads.site_of cursor) }
 {
-    notes.add(Answer::Truth(cursor.is_null()), " ");
-    notes.add(value(cursor.get(objects)), " ");
-    notes.add(object(cursor.clone_pointer()), " ");
-    notes.add(standing(cursor.peek_prev().get_ptr()), " ");
-    notes.add(standing(cursor.peek_next().get_ptr()), " ");
+    let places = [
+        cursor.get_ptr(),
+        cursor.peek_prev().get_ptr(),
+        cursor.peek_next().get_ptr(),
+    ];
+    write_looks(notes, cursor.is_null(), cursor.get(objects), &places);
     if let Ok(copy) = cursor.clone() {
         cursor.move_prev();
         cursor.move_next();
         cursor.move_next();
-        notes.add(standing(copy.get_ptr()), " ");
+        notes.add(object(copy.clone_pointer()), " ");
     }
 }
 
@@ -57,11 +55,12 @@ fn write_borrowed(notes: &mut Text, cursor: CursorMut<'_, u64, LinkOps>, objects
     ensures list { cursor.exit.0.now ≡ lent.list_of cursor.entry }
     ensures links { cursor.exit.1.0.now ≡ lent.links_of cursor.entry }
 {
-    notes.add(Answer::Truth(cursor.is_null()), " ");
-    notes.add(value(cursor.get(objects)), " ");
-    notes.add(standing(cursor.as_cursor().get_ptr()), " ");
-    notes.add(standing(cursor.peek_prev().get_ptr()), " ");
-    notes.add(standing(cursor.peek_next().get_ptr()), " ");
+    let places = [
+        cursor.as_cursor().get_ptr(),
+        cursor.peek_prev().get_ptr(),
+        cursor.peek_next().get_ptr(),
+    ];
+    write_looks(notes, cursor.is_null(), cursor.get(objects), &places);
     notes.add(value(cursor.into_ref(objects)), " ");
 }
 
@@ -69,15 +68,12 @@ fn write_borrowed(notes: &mut Text, cursor: CursorMut<'_, u64, LinkOps>, objects
 fn write_objects(notes: &mut Text, mut walk: Iter<'_, u64, LinkOps>)
     requires can { CanWalk neighbors_of (λ links. plain_table links) walk }
 {
-    notes.add(value(walk.next()), " ");
-    notes.add(value(walk.next_back()), " ");
+    write_values(notes, &[walk.next(), walk.next_back()]);
     if let Ok(mut copy) = walk.clone() {
         notes.add(value(copy.next_back()), " ");
     }
-    notes.add(value(walk.next()), " ");
-    notes.add(value(walk.next_back()), " ");
-    notes.add(value(walk.next_back()), " ");
-    notes.add(value(walk.next()), " ");
+    let rest = [walk.next(), walk.next_back(), walk.next_back(), walk.next()];
+    write_values(notes, &rest);
 }
 
 // Takes off a member at the front and one at the back, tells them and what is linked then, and finishes the walk or drops it.

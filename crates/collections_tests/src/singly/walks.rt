@@ -10,12 +10,13 @@ ghost use Rattle.ic_singly_linked_list.specs.CursorMut as lent;
 ghost use Rattle.ic_singly_linked_list.specs.Iter.{CanWalk};
 ghost use Rattle.collections_tests.specs.SinglyLists.{Shows};
 
+use crate::notes::{write_looks, write_values};
 use crate::singly::lists::{Lists, borrowing, reading};
 use ic_link_ops::{NextWord, PlainTable};
 use ic_singly_linked_list::{Cursor, CursorMut, Iter, SinglyLinkedList};
 use ic_unsafe_ref::{Objects, Place};
-use test_support::answers::{object, standing, value};
-use test_support::rows::{Answer, Text};
+use test_support::answers::{object, value};
+use test_support::rows::Text;
 use test_support::tables::{are_placed, write_linked};
 
 // Writes the members as a walk from null to null comes by them, with a mark at the cursor's.
@@ -45,13 +46,11 @@ fn write_read<W: NextWord>(
 )
     requires stands { Stands (Shows W.next_word W.is_linked) (table W.unlinked) (reads.site_of cursor) }
 {
-    notes.add(Answer::Truth(cursor.is_null()), " ");
-    notes.add(value(cursor.get(objects)), " ");
-    notes.add(object(cursor.clone_pointer()), " ");
-    notes.add(standing(cursor.peek_next().get_ptr()), " ");
+    let places = [cursor.get_ptr(), cursor.peek_next().get_ptr()];
+    write_looks(notes, cursor.is_null(), cursor.get(objects), &places);
     if let Ok(copy) = cursor.clone() {
         cursor.move_next();
-        notes.add(standing(copy.get_ptr()), " ");
+        notes.add(object(copy.clone_pointer()), " ");
     }
 }
 
@@ -65,10 +64,8 @@ fn write_borrowed<W: NextWord>(
     ensures list { cursor.exit.0.now ≡ lent.list_of cursor.entry }
     ensures links { cursor.exit.1.0.now ≡ lent.links_of cursor.entry }
 {
-    notes.add(Answer::Truth(cursor.is_null()), " ");
-    notes.add(value(cursor.get(objects)), " ");
-    notes.add(standing(cursor.as_cursor().get_ptr()), " ");
-    notes.add(standing(cursor.peek_next().get_ptr()), " ");
+    let places = [cursor.as_cursor().get_ptr(), cursor.peek_next().get_ptr()];
+    write_looks(notes, cursor.is_null(), cursor.get(objects), &places);
     notes.add(value(cursor.into_ref(objects)), " ");
 }
 
@@ -80,9 +77,7 @@ fn write_objects<W: NextWord>(notes: &mut Text, mut walk: Iter<'_, u64, PlainTab
     if let Ok(mut copy) = walk.clone() {
         notes.add(value(copy.next()), " ");
     }
-    notes.add(value(walk.next()), " ");
-    notes.add(value(walk.next()), " ");
-    notes.add(value(walk.next()), " ");
+    write_values(notes, &[walk.next(), walk.next(), walk.next()]);
 }
 
 // Takes off two members, tells them and what is linked then, and finishes the walk or drops it.

@@ -6,8 +6,9 @@ ghost use Rattle.ic_link_ops.specs.PlainTables.{table};
 ghost use Rattle.ic_link_ops.specs.Tables.{IsCovered, KeepsBeside};
 ghost use Rattle.ic_link_ops.specs.XorLinkedList.{Shows, ShowsSome};
 
+use crate::notes::write_places;
 use crate::xor::edits::{Edit, Put, edit_borrowing, is_covered};
-use crate::xor::looks::{renew_before, renew_behind, write_borrowed, write_looks};
+use crate::xor::looks::{renew_before, renew_behind, write_borrowed, write_there};
 use crate::xor::moves::{Move, go_borrowing, go_to_end};
 use crate::xor::spots::take_list;
 use ic_link_ops::{LinkOps, NextWord, PlainTable, Words};
@@ -15,7 +16,7 @@ use ic_unsafe_ref::{Objects, Place, UnsafeRef};
 use ic_xor_linked_list::{CursorOwning, XorLinkedList, XorLinkedListOps, laws};
 use std::alloc::{AllocError, Global};
 use std::marker::Model;
-use test_support::answers::{inserted, object, standing};
+use test_support::answers::{inserted, object};
 use test_support::rows::{Answer, Text};
 use test_support::tables::write_linked;
 
@@ -124,7 +125,7 @@ impl<W: NextWord> Lists<W> {
 
     /// Notes what cursors tell at the position, one that reads and one that borrows the list.
     pub(crate) fn look(&mut self, objects: &Objects<u64>) {
-        write_looks(&mut self.notes, &self.first, &self.links, objects);
+        write_there(&mut self.notes, &self.first, &self.links, objects);
         write_borrowed(&mut self.notes, &mut self.first, &mut self.links, objects);
     }
 
@@ -207,10 +208,7 @@ impl<W: NextWord> Lists<W> {
         let back = self.first.list().back(&self.links).get_ptr();
         let mut cursor = self.first.list().cursor(&self.links);
         let (there, again) = laws::null_there_and_back(&mut cursor);
-        self.notes.add(standing(front), " ");
-        self.notes.add(standing(back), " ");
-        self.notes.add(standing(there), " ");
-        self.notes.add(standing(again), " ");
+        write_places(&mut self.notes, &[front, back, there, again]);
     }
 
     /// Notes the places that are linked.

@@ -5,14 +5,15 @@ ghost use Rattle.ic_link_ops.specs.XorLinkedList.{Shows};
 ghost use Rattle.ic_xor_linked_list.specs.Cursor as reads;
 ghost use Rattle.ic_xor_linked_list.specs.CursorOwning.{list_of, KnowsNeighbors};
 
+use crate::notes::write_looks;
 use crate::xor::spots::{
     borrowing, owning_before, put_back, reading, spot_of_held, stand, take_list,
 };
 use ic_link_ops::LinkOps;
 use ic_unsafe_ref::Objects;
 use ic_xor_linked_list::{Cursor, CursorOwning, XorLinkedListOps};
-use test_support::answers::{object, standing, value};
-use test_support::rows::{Answer, Text};
+use test_support::answers::{object, value};
+use test_support::rows::Text;
 
 // Writes what a cursor that reads tells, and where a copy of it is when it has moved on.
 fn write_read<L: XorLinkedListOps>(
@@ -22,21 +23,22 @@ fn write_read<L: XorLinkedListOps>(
 )
     requires stands { reads.KnowsNeighbors (Shows L.linked L.Joins) L.table cursor }
 {
-    notes.add(Answer::Truth(cursor.is_null()), " ");
-    notes.add(value(cursor.get(objects)), " ");
-    notes.add(object(cursor.clone_pointer()), " ");
-    notes.add(standing(cursor.peek_prev().get_ptr()), " ");
-    notes.add(standing(cursor.peek_next().get_ptr()), " ");
+    let places = [
+        cursor.get_ptr(),
+        cursor.peek_prev().get_ptr(),
+        cursor.peek_next().get_ptr(),
+    ];
+    write_looks(notes, cursor.is_null(), cursor.get(objects), &places);
     if let Ok(copy) = cursor.clone() {
         cursor.move_prev();
         cursor.move_next();
         cursor.move_next();
-        notes.add(standing(copy.get_ptr()), " ");
+        notes.add(object(copy.clone_pointer()), " ");
     }
 }
 
 /// Writes what a cursor that reads tells, made there.
-pub(crate) fn write_looks<L: XorLinkedListOps>(
+pub(crate) fn write_there<L: XorLinkedListOps>(
     notes: &mut Text,
     held: &CursorOwning<u64>,
     links: &L,
@@ -63,11 +65,12 @@ pub(crate) fn write_borrowed<L: XorLinkedListOps>(
     let spot = spot_of_held(held, &*links);
     let mut list = take_list(held);
     let cursor = borrowing(&mut list, links, spot);
-    notes.add(Answer::Truth(cursor.is_null()), " ");
-    notes.add(value(cursor.get(objects)), " ");
-    notes.add(standing(cursor.as_cursor().get_ptr()), " ");
-    notes.add(standing(cursor.peek_prev().get_ptr()), " ");
-    notes.add(standing(cursor.peek_next().get_ptr()), " ");
+    let places = [
+        cursor.as_cursor().get_ptr(),
+        cursor.peek_prev().get_ptr(),
+        cursor.peek_next().get_ptr(),
+    ];
+    write_looks(notes, cursor.is_null(), cursor.get(objects), &places);
     notes.add(value(cursor.into_ref(objects)), " ");
     put_back(held, list, &*links, spot);
 }

@@ -1,12 +1,10 @@
 //! Walks: over the members and the objects, and of those that take the members off.
 
-ghost use Rattle.ic_link_ops.specs.XorLinkedList.{Shows, ShowsSome};
-ghost use Rattle.ic_link_ops.specs.PlainTables.{table, linked_by};
-ghost use Rattle.ic_link_ops.specs.Readings.{XorJoins};
-ghost use Rattle.ic_xor_linked_list.specs.Cursor as reads;
+ghost use Rattle.ic_link_ops.specs.XorLinkedList.{ShowsSome};
 ghost use Rattle.ic_xor_linked_list.specs.Iter.{CanWalk};
 ghost use Rattle.ic_xor_linked_list.specs.PlainLists.{PlainShowsSome};
 
+use crate::notes::write_values;
 use crate::xor::lists::Lists;
 use crate::xor::spots::take_list;
 use ic_link_ops::{NextWord, PlainTable};
@@ -40,15 +38,12 @@ fn write_walk<L: XorLinkedListOps>(
 fn write_objects<L: XorLinkedListOps>(notes: &mut Text, mut walk: Iter<'_, u64, L>)
     requires can { CanWalk L.linked L.Joins L.table walk }
 {
-    notes.add(value(walk.next()), " ");
-    notes.add(value(walk.next_back()), " ");
+    write_values(notes, &[walk.next(), walk.next_back()]);
     if let Ok(mut copy) = walk.clone() {
         notes.add(value(copy.next_back()), " ");
     }
-    notes.add(value(walk.next()), " ");
-    notes.add(value(walk.next_back()), " ");
-    notes.add(value(walk.next_back()), " ");
-    notes.add(value(walk.next()), " ");
+    let rest = [walk.next(), walk.next_back(), walk.next_back(), walk.next()];
+    write_values(notes, &rest);
 }
 
 // Takes off a member at the front and one at the back, tells them and what is linked then, and finishes the walk or drops it.

@@ -1,6 +1,5 @@
 use Rattle.std.proofs.Common.{◌∙◌, rules}
 use Rattle.ic_link_ops.specs.Sequences.{at_front}
-use Rattle.ic_link_ops.specs.LinkedList.{Shows}
 use Rattle.ic_link_ops.proofs.Positions.{stands_null}
 use Rattle.collections_tests.proofs.DoublyLists.{without_first}
 use Rattle.collections_tests.proofs.doubly.lists.remove_first.Goals as goal
