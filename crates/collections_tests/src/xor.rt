@@ -145,7 +145,7 @@ fn walks_from_both_ends(rt: HostRuntime) -> Result<(), Fail> {
         &lists.notes,
         "none none none none none none none
         ok ok ok ok
-        10 40 30 20 30 none none
+        10 40 30 30 20 none none
         0 3 linked 1 2   linked   linked
         ok ok ok   3 2 linked 1   linked",
     );

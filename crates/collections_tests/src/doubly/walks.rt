@@ -72,7 +72,7 @@ fn write_objects(notes: &mut Text, mut walk: Iter<'_, u64, LinkOps>)
     if let Ok(mut copy) = walk.clone() {
         notes.add(value(copy.next_back()), " ");
     }
-    let rest = [walk.next(), walk.next_back(), walk.next_back(), walk.next()];
+    let rest = [walk.next_back(), walk.next(), walk.next(), walk.next_back()];
     write_values(notes, &rest);
 }
 
