@@ -76,12 +76,3 @@ pub fn placed_word(objects: &mut Objects<u64>, word: &str) -> Answer {
         Err(_) => Answer::Refused("no number"),
     }
 }
-
-/// Places the objects that the words say, and answers where the last one stands.
-pub fn placed_words(objects: &mut Objects<u64>, words: &[&str]) -> Answer {
-    let mut answer = Answer::Nothing;
-    for word in words {
-        answer = placed_word(objects, word);
-    }
-    answer
-}

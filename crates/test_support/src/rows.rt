@@ -17,10 +17,7 @@ mod text;
 
 pub use answer::Answer;
 use ic_unsafe_ref::Place;
-pub use lists::{
-    BESIDE_THE_PLAIN_SEQUENCE, BOTH_ENDS, EDITS, MOVES, ONE_END, SPLICES_AND_SPLITS, WALKS,
-    WHOLE_LISTS,
-};
+pub use lists::{BESIDE_THE_PLAIN_SEQUENCE, BOTH_ENDS, ONE_END};
 use std::alloc::{AllocError, Global};
 use std::fmt::{self, Write};
 pub use text::Text;

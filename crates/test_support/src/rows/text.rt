@@ -34,13 +34,6 @@ impl Text {
         self.is_whole &= write!(self.text, "{answer}{behind}").is_ok();
     }
 
-    /// Writes the word where that holds.
-    pub fn word_where(&mut self, holds: bool, word: &str) {
-        if holds {
-            self.word(word);
-        }
-    }
-
     /// Writes a member, with a mark if the cursor is on it: `3`, or `(3)`.
     pub fn member(&mut self, place: Place, is_marked: bool) {
         let (before, behind) = if is_marked { ("(", ") ") } else { ("", " ") };

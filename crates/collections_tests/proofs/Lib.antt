@@ -1,0 +1,3 @@
+pub mod DoublyLists
+pub mod SinglyLists
+pub mod XorLists

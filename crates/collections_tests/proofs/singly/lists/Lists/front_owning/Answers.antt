@@ -1,0 +1,11 @@
+use Rattle.ic_link_ops.specs.Sequences.{join}
+use Rattle.ic_link_ops.proofs.TwoLists.{at_first}
+use Rattle.collections_tests.proofs.SinglyLists.{plain}
+use Rattle.collections_tests.proofs.singly.lists.Lists.front_owning.Goals as goal
+
+pub invariant_of-self : goal.invariant_of-self
+invariant_of-self g c =
+    let a = c.self.invariant in
+    let e = c.front_owning-cursor.ensures in
+    rw (c.into_inner.ensures, e.list, c.take.ensures.whole, c.get_ptr-self-inside.ensures)
+    (at_first (plain g.W.NextWord.next_word g.W.Words.is_linked) a _ (e.position (join a.gap) (rw c.take.ensures.whole a.shown)))

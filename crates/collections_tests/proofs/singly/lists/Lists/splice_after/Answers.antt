@@ -1,0 +1,12 @@
+use Rattle.ic_singly_linked_list.specs.CursorMut as lent
+use Rattle.collections_tests.specs.SinglyLists.{AreApart}
+use Rattle.ic_link_ops.proofs.TwoLists.{spliced_after}
+use Rattle.ic_link_ops.specs.PlainTables.{table}
+use Rattle.collections_tests.proofs.SinglyLists.{plain}
+use Rattle.collections_tests.proofs.singly.lists.Lists.splice_after.Goals as goal
+
+pub invariant_of-self : goal.invariant_of-self
+invariant_of-self g c =
+    let b = c.borrowing.ensures in
+    let a : AreApart g.W.NextWord.next_word g.W.Words.is_linked (table g.W.Words.unlinked (lent.links_of c.borrowing.result)) (lent.list_of c.borrowing.result) c.take-given.result (lent.position c.borrowing.result) = rw (b.borrows.2, b.borrows.3, b.position, c.take-given.ensures.whole) c.self.invariant in
+    rw (c.drop-borrowing.ensures.list, c.drop-borrowing.ensures.links, c.take-given.ensures.empty, ← b.position) (spliced_after (plain g.W.NextWord.next_word g.W.Words.is_linked) a c.splice_after.ensures.spliced.spliced)

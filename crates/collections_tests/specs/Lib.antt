@@ -1,0 +1,4 @@
+pub mod DoublyLists
+pub mod SinglyLists
+pub mod Spots
+pub mod XorLists

@@ -1,7 +1,0 @@
-use Rattle.ic_link_ops.specs.PlainTables.{table}
-use Rattle.ic_link_ops.specs.Readings.{successor_of}
-use Rattle.ic_singly_linked_list.specs.IntoIter.{CanTake}
-use Rattle.ic_singly_linked_list_tests.proofs.walks.write_taken.Given as goal
-
-abbrev pub invariant-loop : goal.invariant-loop
-invariant-loop g l = record { can : CanTake (successor_of g.W.NextWord.next_word g.W.Words.is_linked) (table g.W.Words.unlinked) l.rest }

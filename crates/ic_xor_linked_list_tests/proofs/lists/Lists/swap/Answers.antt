@@ -1,9 +1,0 @@
-use Rattle.ic_link_ops.proofs.TwoLists.{swapped}
-use Rattle.ic_xor_linked_list_tests.proofs.Fixture.{plain_kind, taken, held_at_null}
-use Rattle.ic_xor_linked_list_tests.proofs.lists.Lists.swap.Goals as goal
-
-pub invariant_of-self : goal.invariant_of-self
-invariant_of-self g c =
-    let kind = plain_kind g.W.Words.is_linked g.W.NextWord.next_word in
-    let a = taken kind c.take_list-list.ensures c.self.invariant in
-    held_at_null kind c.cursor_owning.ensures.list c.cursor_owning.ensures.null (rw c.take-other.ensures.whole (swapped kind a))

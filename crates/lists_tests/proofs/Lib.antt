@@ -1,4 +1,0 @@
-pub mod Apart
-pub mod ThreeKinds
-pub mod ApartInFour
-pub mod FourKinds

@@ -1,2 +1,0 @@
-pub mod Three
-pub mod Four
