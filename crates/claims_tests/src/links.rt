@@ -1,6 +1,6 @@
 //! Links over claims: what one party links no other can link, until it is given up.
 
-ghost use Rattle.std.specs.Prelude.{◌≡◌, [], All, IfSome};
+ghost use Rattle.std.specs.Prelude.{◌≡◌, [], All};
 ghost use Rattle.ic_atomic.specs.Holders.{record_of, IsOf};
 
 use crate::common::{place, same};
