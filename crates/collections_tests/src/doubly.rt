@@ -115,12 +115,12 @@ fn splices_and_splits_by_a_cursor_that_borrows(rt: HostRuntime) -> Result<(), Fa
 fn walks_from_both_ends(rt: HostRuntime) -> Result<(), Fail> {
     let objects = five(rt.alloc());
     let mut lists = Lists::new(rt.alloc())?;
-    lists.walk(&objects);
+    lists.walk(rt.alloc(), &objects);
     lists.push_back(0);
     lists.push_back(1);
     lists.push_back(2);
     lists.push_back(3);
-    lists.walk(&objects);
+    lists.walk(rt.alloc(), &objects);
     lists.take_off(false);
     lists.push_back(1);
     lists.force_unlink(1);
@@ -136,9 +136,9 @@ fn walks_from_both_ends(rt: HostRuntime) -> Result<(), Fail> {
         &rt,
         rt.alloc(),
         &lists.notes,
-        "none none none none none none none
+        "none none none none none none none []
         ok ok ok ok
-        10 40 30 30 20 none none
+        10 40 30 30 20 none none [10, 20, 30, 40]
         0 3 linked 1 2 linked linked
         ok ok ok
         3 2 linked 1 linked

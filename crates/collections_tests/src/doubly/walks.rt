@@ -13,8 +13,9 @@ use crate::notes::{write_looks, write_values};
 use ic_link_ops::linked_list::LinkOps;
 use ic_linked_list::{Cursor, CursorMut, Iter, LinkedList};
 use ic_unsafe_ref::{Objects, Place};
+use std::alloc::Global;
 use test_support::answers::{object, value};
-use test_support::rows::Text;
+use test_support::rows::{Answer, Text};
 use test_support::tables::{are_placed, write_linked};
 
 // Writes the members as a walk from null to null comes by them, with a mark at the cursor's.
@@ -76,6 +77,21 @@ fn write_objects(notes: &mut Text, mut walk: Iter<'_, u64, LinkOps>)
     write_values(notes, &rest);
 }
 
+// Writes the debug text of the objects that a walk gives, as they are collected.
+fn write_text(notes: &mut Text, alloc: Global, walk: Iter<'_, u64, LinkOps>)
+    requires can { CanWalk neighbors_of (λ links. plain_table links) walk }
+{
+    let mut found = Vec::new(alloc);
+    for given in walk {
+        if found.push(*given).is_err() {
+            return;
+        }
+    }
+    if let Ok(text) = format!(in alloc; "{:?}", found.as_slice()) {
+        notes.add(Answer::Text(text), " ");
+    }
+}
+
 // Takes off a member at the front and one at the back, tells them and what is linked then, and finishes the walk or drops it.
 fn write_taken(notes: &mut Text, list: LinkedList<u64>, links: &mut LinkOps, finishes: bool)
     requires shown { PlainShowsSome links.old list }
@@ -112,10 +128,12 @@ impl Lists {
         );
     }
 
-    /// Notes the objects that a walk gives, if one stands at each place.
-    pub(crate) fn walk(&mut self, objects: &Objects<u64>) {
+    /// Notes the objects that a walk gives, and then their text, if one stands at each place.
+    pub(crate) fn walk(&mut self, alloc: Global, objects: &Objects<u64>) {
         if are_placed(&self.links, objects) {
             write_objects(&mut self.notes, self.list.iter(&self.links, objects));
+            let walk = self.list.iter(&self.links, objects);
+            write_text(&mut self.notes, alloc, walk);
         }
     }
 
