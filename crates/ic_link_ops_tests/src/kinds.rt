@@ -1,280 +1,158 @@
-//! The calls of the traits that a table carries, by the form of its words.
+//! What the links of a table say of neighbors, for each kind of collection that the table carries.
 
-ghost use Rattle.ic_link_ops.specs.Tables.{IsLinked};
-ghost use Rattle.ic_link_ops.specs.PlainTables.{table, linked_by};
-ghost use Rattle.ic_link_ops.specs.LentTables.{lent_table};
+ghost use Rattle.std.specs.Prelude.{◌≡◌};
+ghost use Rattle.ic_link_ops.specs.Tables.{IsCovered, IsLinked};
 
-use crate::answers::{color, text};
-use ic_link_ops::linked_list::{LinkedListOps, TwoWords};
-use ic_link_ops::rbtree::{RBTreeOps, ThreeWords};
-use ic_link_ops::singly_linked_list::{Singly, SinglyLinkedListOps};
-use ic_link_ops::xor_linked_list::{Xor, XorLinkedListOps};
-use ic_link_ops::{Color, LentTable, Link, OneWord, PlainTable, Words};
+use crate::fixture::{LAST, check, one_linked};
+use ic_link_ops::linked_list::LinkedListOps;
+use ic_link_ops::rbtree::{self, RBTreeOps};
+use ic_link_ops::singly_linked_list::SinglyLinkedListOps;
+use ic_link_ops::xor_linked_list::{self, XorLinkedListOps};
+use ic_link_ops::{Color, LentTable, LinkOps, linked_list};
 use ic_unsafe_ref::Place;
-use std::alloc::Global;
-use test_support::answers::standing;
-use test_support::rationed::Rationed;
-use test_support::rows::{self, Answer};
 
-/// Words of a table, with the calls of the traits that the table carries.
-pub(crate) trait Kind: Words {
-    /// The words of a link as numbers, where the link tells them.
-    fn numbers(_alloc: Global, _link: &Link<Self>) -> Answer {
-        Answer::Refused("numbers")
-    }
-
-    /// The call of the trait that the first word names, at a linked place.
-    fn call(
-        links: &mut PlainTable<Self, &Rationed>,
-        place: Place,
-        kind: &str,
-        words: &[&str],
-    ) -> Answer
-        requires linked { IsLinked (linked_by Self.is_linked) (table Self.unlinked links.old) place };
-
-    /// The same over a view of the table.
-    fn call_lent(
-        links: &mut LentTable<'_, Self>,
-        place: Place,
-        kind: &str,
-        words: &[&str],
-    ) -> Answer
-        requires linked { IsLinked (linked_by Self.is_linked) (lent_table Self.unlinked links.old) place };
-}
-
-// A call of the singly linked list's trait.
-fn singly<L: SinglyLinkedListOps>(links: &mut L, place: Place, words: &[&str]) -> Answer
+// What stands behind a linked place, as it is set.
+fn singly<L: SinglyLinkedListOps>(links: &mut L, place: Place, next: Option<Place>) -> Option<Place>
     requires linked { IsLinked L.linked (L.table links.old) place }
+    ensures linked { IsLinked L.linked (L.table links.new) place }
 {
-    match *words {
-        ["next"] => standing(links.next(place)),
-        ["set_next", next] => {
-            links.set_next(place, rows::place(next));
-            Answer::Done
-        }
-        _ => Answer::Refused("call"),
-    }
+    links.set_next(place, next);
+    links.next(place)
 }
 
-// A call of the XOR list's trait.
-fn xor<L: XorLinkedListOps>(links: &mut L, place: Place, words: &[&str]) -> Answer
-    requires linked { IsLinked L.linked (L.table links.old) place }
-{
-    match *words {
-        ["next", prev] => standing(links.next(place, rows::place(prev))),
-        ["prev", next] => standing(links.prev(place, rows::place(next))),
-        ["set", prev, next] => {
-            links.set(place, rows::place(prev), rows::place(next));
-            Answer::Done
-        }
-        ["replace_next_or_prev", old, new] => {
-            links.replace_next_or_prev(place, rows::place(old), rows::place(new));
-            Answer::Done
-        }
-        _ => Answer::Refused("call"),
-    }
-}
-
-// A call of the doubly linked list's trait.
-fn doubly<L: LinkedListOps>(links: &mut L, place: Place, words: &[&str]) -> Answer
-    requires linked { IsLinked L.linked (L.table links.old) place }
-{
-    match *words {
-        ["next"] => standing(links.next(place)),
-        ["prev"] => standing(links.prev(place)),
-        ["set_next", next] => {
-            links.set_next(place, rows::place(next));
-            Answer::Done
-        }
-        ["set_prev", prev] => {
-            links.set_prev(place, rows::place(prev));
-            Answer::Done
-        }
-        _ => Answer::Refused("call"),
-    }
-}
-
-// What the tree's trait reads of a link.
-fn read_tree<L: RBTreeOps>(links: &L, place: Place, name: &str) -> Answer
-    requires linked { IsLinked L.linked (L.table links.now) place }
-{
-    match name {
-        "left" => standing(links.left(place)),
-        "right" => standing(links.right(place)),
-        "parent" => standing(links.parent(place)),
-        "color" => color(links.color(place)),
-        _ => Answer::Refused("call"),
-    }
-}
-
-// Sets the color of that name.
-fn set_color<L: RBTreeOps>(links: &mut L, place: Place, color: &str) -> Answer
-    requires linked { IsLinked L.linked (L.table links.old) place }
-{
-    match color {
-        "red" => links.set_color(place, Color::Red),
-        "black" => links.set_color(place, Color::Black),
-        _ => return Answer::Refused("call"),
-    }
-    Answer::Done
-}
-
-// Sets a part of a link to what the word is.
-fn set_tree<L: RBTreeOps>(links: &mut L, place: Place, name: &str, word: &str) -> Answer
-    requires linked { IsLinked L.linked (L.table links.old) place }
-{
-    match name {
-        "set_left" => links.set_left(place, rows::place(word)),
-        "set_right" => links.set_right(place, rows::place(word)),
-        "set_parent" => links.set_parent(place, rows::place(word)),
-        "set_color" => return set_color(links, place, word),
-        _ => return Answer::Refused("call"),
-    }
-    Answer::Done
-}
-
-// A call of the tree's trait.
-fn tree<L: RBTreeOps>(links: &mut L, place: Place, words: &[&str]) -> Answer
-    requires linked { IsLinked L.linked (L.table links.old) place }
-{
-    match *words {
-        [name] => read_tree(&*links, place, name),
-        [name, word] => set_tree(links, place, name, word),
-        _ => Answer::Refused("call"),
-    }
-}
-
-// A call of a trait whose links have a next word.
-fn next_word<L: SinglyLinkedListOps + XorLinkedListOps>(
+// What stands before and behind, as it is set.
+fn doubly<L: LinkedListOps>(
     links: &mut L,
     place: Place,
-    kind: &str,
-    words: &[&str],
-) -> Answer
+    prev: Option<Place>,
+    next: Option<Place>,
+) -> [Option<Place>; 2]
     requires linked { IsLinked L.linked (L.table links.old) place }
+    ensures linked { IsLinked L.linked (L.table links.new) place }
 {
-    match kind {
-        "singly" => singly(links, place, words),
-        "xor" => xor(links, place, words),
-        _ => Answer::Refused("kind"),
-    }
+    links.set_prev(place, prev);
+    links.set_next(place, next);
+    [links.prev(place), links.next(place)]
 }
 
-// A call of a trait whose links have a previous place or a next word.
-fn prev_place<L: LinkedListOps + SinglyLinkedListOps + XorLinkedListOps>(
+// What stands before and behind in an XOR list, as it is set, the place behind in place of none.
+fn xor<L: XorLinkedListOps>(
     links: &mut L,
     place: Place,
-    kind: &str,
-    words: &[&str],
-) -> Answer
+    prev: Option<Place>,
+    next: Option<Place>,
+) -> [Option<Place>; 2]
     requires linked { IsLinked L.linked (L.table links.old) place }
+    ensures linked { IsLinked L.linked (L.table links.new) place }
 {
-    match kind {
-        "doubly" => doubly(links, place, words),
-        _ => next_word(links, place, kind, words),
-    }
+    links.set(place, prev, None);
+    links.replace_next_or_prev(place, None, next);
+    [links.prev(place, next), links.next(place, prev)]
 }
 
-// A call of a trait whose links have children, or of another.
-fn three_words<L: RBTreeOps + LinkedListOps + SinglyLinkedListOps + XorLinkedListOps>(
+// The children, the parent and the color of a tree's member, as they are set.
+fn tree<L: RBTreeOps>(
     links: &mut L,
     place: Place,
-    kind: &str,
-    words: &[&str],
-) -> Answer
+    parts: [Option<Place>; 3],
+    color: Color,
+) -> ([Option<Place>; 3], Color)
     requires linked { IsLinked L.linked (L.table links.old) place }
+    ensures linked { IsLinked L.linked (L.table links.new) place }
 {
-    match kind {
-        "tree" => tree(links, place, words),
-        _ => prev_place(links, place, kind, words),
-    }
+    let [left, right, parent] = parts;
+    links.set_left(place, left);
+    links.set_right(place, right);
+    links.set_parent(place, parent);
+    links.set_color(place, color);
+    let found = [links.left(place), links.right(place), links.parent(place)];
+    (found, links.color(place))
 }
 
-impl Kind for OneWord<Singly> {
-    fn call(
-        links: &mut PlainTable<Self, &Rationed>,
-        place: Place,
-        kind: &str,
-        words: &[&str],
-    ) -> Answer {
-        next_word(links, place, kind, words)
-    }
-
-    fn call_lent(
-        links: &mut LentTable<'_, Self>,
-        place: Place,
-        kind: &str,
-        words: &[&str],
-    ) -> Answer {
-        next_word(links, place, kind, words)
-    }
+// Whether each kind of link reads what it wrote at a linked place: what is behind, what is before and behind, the same of an XOR
+// list, and a red member of a tree, between the first and the last place and below the last.
+fn four_kinds<L: RBTreeOps + LinkedListOps + SinglyLinkedListOps + XorLinkedListOps>(
+    links: &mut L,
+    place: Place,
+) -> [bool; 4]
+    requires linked { IsLinked L.linked (L.table links.old) place }
+    ensures linked { IsLinked L.linked (L.table links.new) place }
+    ensures covered { IsCovered (L.table links.new) place }
+{
+    let (first, last) = (Place::new(0), Place::new(LAST));
+    let is_singly = singly(links, place, first) == first;
+    let is_doubly = doubly(links, place, first, None) == [first, None];
+    let is_xor = xor(links, place, first, last) == [first, last];
+    let parts = [first, last, last];
+    let is_tree = tree(links, place, parts, Color::Red) == (parts, Color::Red);
+    [is_singly, is_doubly, is_xor, is_tree]
 }
 
-impl Kind for OneWord<Xor> {
-    fn numbers(_alloc: Global, link: &Link<Self>) -> Answer {
-        Answer::Number(link.word())
+// The same by a view of the links, in which the place is linked first.
+fn four_kinds_by_view(links: &mut [rbtree::Link], place: Place) -> [bool; 4] {
+    let mut links = LentTable::new(links);
+    if place.index() < links.covers() && links.acquire_link(place) && links.is_linked(place) {
+        return four_kinds(&mut links, place);
     }
-
-    fn call(
-        links: &mut PlainTable<Self, &Rationed>,
-        place: Place,
-        kind: &str,
-        words: &[&str],
-    ) -> Answer {
-        next_word(links, place, kind, words)
-    }
-
-    fn call_lent(
-        links: &mut LentTable<'_, Self>,
-        place: Place,
-        kind: &str,
-        words: &[&str],
-    ) -> Answer {
-        next_word(links, place, kind, words)
-    }
+    [false; 4]
 }
 
-impl Kind for TwoWords {
-    fn call(
-        links: &mut PlainTable<Self, &Rationed>,
-        place: Place,
-        kind: &str,
-        words: &[&str],
-    ) -> Answer {
-        prev_place(links, place, kind, words)
-    }
-
-    fn call_lent(
-        links: &mut LentTable<'_, Self>,
-        place: Place,
-        kind: &str,
-        words: &[&str],
-    ) -> Answer {
-        prev_place(links, place, kind, words)
-    }
+#[test]
+fn four_kinds_in_a_table_of_trees(rt: HostRuntime) {
+    let (mut links, place): (rbtree::LinkOps, Place) = one_linked(&rt, rt.alloc());
+    let linked = links.link(place).words();
+    let is_kept = four_kinds(&mut links, place);
+    let written = links.link(place).words();
+    links.release_link(place);
+    let released = links.link(place).words();
+    let is_kept_by_view = four_kinds_by_view(links.lend(), place);
+    let new = rbtree::Link::new().words();
+    check(&rt, [is_kept, is_kept_by_view] == [[true; 4]; 2]);
+    check(&rt, [new, linked] == [[0, 0, 0], [0, 0, 3]]);
+    let red_below_the_last = [2, 8_589_934_592, 17_179_869_186];
+    let unlinked = [2, 8_589_934_592, 0];
+    check(&rt, [written, released] == [red_below_the_last, unlinked]);
 }
 
-impl Kind for ThreeWords {
-    fn numbers(alloc: Global, link: &Link<Self>) -> Answer {
-        let numbers = link.words();
-        text(format!(in alloc; "{numbers:?}"))
-    }
+// Whether the two lists that are no XOR lists read this place behind a linked one, where an XOR list wrote these neighbors.
+fn is_read<L: LinkedListOps + SinglyLinkedListOps + XorLinkedListOps>(
+    links: &mut L,
+    place: Place,
+    neighbors: [Option<Place>; 2],
+    wanted: Option<Place>,
+) -> bool
+    requires linked { IsLinked L.linked (L.table links.old) place }
+    ensures linked { IsLinked L.linked (L.table links.new) place }
+{
+    let [prev, next] = neighbors;
+    links.set(place, prev, next);
+    let by_doubly = LinkedListOps::next(links, place);
+    [by_doubly, SinglyLinkedListOps::next(links, place)] == [wanted; 2]
+}
 
-    fn call(
-        links: &mut PlainTable<Self, &Rationed>,
-        place: Place,
-        kind: &str,
-        words: &[&str],
-    ) -> Answer {
-        three_words(links, place, kind, words)
-    }
+// A word of an XOR list is that of a place, of one that no table reaches, or of none.
+#[test]
+fn what_an_xor_list_wrote_is_read_by_others(rt: HostRuntime) {
+    let (mut links, place): (linked_list::LinkOps, Place) = one_linked(&rt, rt.alloc());
+    let (first, third, last) = (Place::new(0), Place::new(2), Place::new(LAST));
+    let second = is_read(&mut links, place, [first, third], Place::new(1));
+    let far = Place::from_word(8_589_934_594);
+    let beyond = is_read(&mut links, place, [first, last], far);
+    let none = is_read(&mut links, place, [third, third], None);
+    check(&rt, [second, beyond, none] == [true; 3]);
+}
 
-    fn call_lent(
-        links: &mut LentTable<'_, Self>,
-        place: Place,
-        kind: &str,
-        words: &[&str],
-    ) -> Answer {
-        three_words(links, place, kind, words)
-    }
+#[test]
+fn words_of_an_xor_list(rt: HostRuntime) {
+    let (mut links, place): (xor_linked_list::LinkOps, Place) = one_linked(&rt, rt.alloc());
+    let (first, last) = (Place::new(0), Place::new(LAST));
+    let new = xor_linked_list::Link::new().word();
+    let alone = links.link(place).word();
+    links.set(place, first, last);
+    let between = links.link(place).word();
+    let is_last = XorLinkedListOps::next(&links, place, first) == last;
+    check(
+        &rt,
+        is_last && [new, alone, between] == [1, 0, 8_589_934_594],
+    );
 }

@@ -1,31 +1,17 @@
-//! Worked rows of places, of objects and of references, and of the plain tables, of their words and of the errors; and of
-//! what tests stand on: the player of rows, the allocator that refuses a request, and the plain sequence.
+//! Places, objects, references, tables, the words of links, and errors: what no session of the program shows. Each call is made
+//! once, on one kind of table, and what it answers is compared with what it is to.
 #![tactic(auto)]
 
 #[cfg(test)]
-mod answers;
-#[cfg(test)]
-mod any_table;
-#[cfg(test)]
 mod errors;
 #[cfg(test)]
-mod kinds;
+mod fixture;
 #[cfg(test)]
-mod lent;
+mod kinds;
 #[cfg(test)]
 mod objects;
 #[cfg(test)]
 mod places;
-#[cfg(test)]
-mod player;
-#[cfg(test)]
-mod rationing;
-#[cfg(test)]
-mod sequence;
-#[cfg(test)]
-mod sequences;
-#[cfg(test)]
-mod table;
 #[cfg(test)]
 mod tables;
 #[cfg(test)]

@@ -1,0 +1,39 @@
+//! What the tests share.
+
+ghost use Rattle.std.specs.Prelude.{◌≡◌};
+ghost use Rattle.ic_unsafe_ref.specs.Places.{index_of};
+ghost use Rattle.ic_link_ops.specs.Tables.{IsCovered, IsLinked};
+ghost use Rattle.ic_link_ops.specs.PlainTables.{table, linked_by};
+
+use ic_link_ops::{LinkOps, PlainTable, Words};
+use ic_unsafe_ref::Place;
+use std::alloc::Global;
+use std::process::Abort;
+
+/// The index of the last place that a table reaches.
+pub(crate) const LAST: usize = 4_294_967_295;
+
+/// Asserts that it is so.
+pub(crate) fn check(rt: &impl Abort, is_so: bool) {
+    assert!(rt; is_so);
+}
+
+/// The place of that index.
+pub(crate) fn at(rt: &impl Abort, index: usize) -> Place
+    ensures at { index_of result ≡ index }
+{
+    Place::new(index).expect(rt, "the index of a place")
+}
+
+/// A table of one place, and the place, which is linked.
+pub(crate) fn one_linked<W: Words>(rt: &impl Abort, alloc: Global) -> (PlainTable<W>, Place)
+    ensures covered { IsCovered (table W.unlinked result.0) result.1 }
+    ensures linked { IsLinked (linked_by W.is_linked) (table W.unlinked result.0) result.1 }
+{
+    let mut links = PlainTable::new(alloc);
+    links.cover(1).expect(rt, "memory for a link");
+    let place = at(rt, 0);
+    let _had = links.acquire_link(place);
+    assert!(rt; links.is_linked(place));
+    (links, place)
+}
