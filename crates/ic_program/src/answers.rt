@@ -55,21 +55,9 @@ fn push_object<M: Allocator>(lines: &mut Vec<u8, M>, object: Place) -> Result<()
 
 // The line of a refusal.
 fn push_refusal<M: Allocator>(lines: &mut Vec<u8, M>, refusal: Refusal) -> Result<(), AllocError> {
-    let line = match refusal {
-        Refusal::NoSuchField => "refused 1 NoSuchField\n",
-        Refusal::NoSuchCollection => "refused 2 NoSuchCollection\n",
-        Refusal::NoSuchObject => "refused 3 NoSuchObject\n",
-        Refusal::WrongKind => "refused 4 WrongKind\n",
-        Refusal::SameCollection => "refused 5 SameCollection\n",
-        Refusal::OtherField => "refused 6 OtherField\n",
-        Refusal::NothingThere => "refused 7 NothingThere\n",
-        Refusal::NotAMember => "refused 8 NotAMember\n",
-        Refusal::NotANeighbour => "refused 9 NotANeighbour\n",
-        Refusal::AlreadyLinked => "refused 10 AlreadyLinked\n",
-        Refusal::IsMember => "refused 11 IsMember\n",
-        Refusal::StillLinked => "refused 12 StillLinked\n",
-        Refusal::TooManyObjects => "refused 13 TooManyObjects\n",
-        Refusal::OutOfMemory => "refused 14 OutOfMemory\n",
-    };
-    lines.extend_from_slice(line.as_bytes())
+    lines.extend_from_slice(b"refused ")?;
+    lines.extend_from_slice(Buffer::new().format(refusal.number()).as_bytes())?;
+    lines.extend_from_slice(b" ")?;
+    lines.extend_from_slice(refusal.name().as_bytes())?;
+    lines.extend_from_slice(b"\n")
 }

@@ -23,3 +23,4 @@ pub mod Neighbors
 pub mod Seeking
 pub mod Inserted
 pub mod Apart
+pub mod Targets

@@ -10,18 +10,11 @@ use Rattle.ic_world.specs.declared.pick.Pick.{Pick}
 use Rattle.ic_world.specs.declared.swap.Swap.{Swap}
 use Rattle.ic_world.specs.declared.search.Search.{Search}
 use Rattle.ic_world.specs.declared.insertion.Insertion.{Insertion}
+pub use Rattle.ic_world.specs.declared.target.Call.{Call}
+pub use Rattle.ic_world.specs.declared.target.Call.TheVariants.{Edit as edit, Seek as seek, Pick as pick, Swap as swap, Search as search, Insertion as insertion, Enter as enter}
 use Rattle.ic_world.specs.State.{State, Reply}
 use Rattle.ic_world.specs.ListCalls.{edit_names, edit_refusal, EditReplies, seek_names, seek_refusal, SeekReplies, pick_refusal, PickReplies, swap_names, swap_refusal, SwapReplies}
 use Rattle.ic_world.specs.KeyedCalls.{keyed_refusal, SearchReplies, insertion_names, insertion_refusal, InsertionReplies, EntryReplies}
-
-pub data Call (K : Type 0) : Type 0 where
-  edit : Edit → Call K
-  seek : Seek → Call K
-  pick : Pick → Call K
-  swap : Swap → Call K
-  search : Search K → Call K
-  insertion : Insertion → Call K
-  enter : K → Place → Call K
 
 module _ {K : Type 0} where
   -- the objects that it names

@@ -27,6 +27,7 @@ mod run;
 mod search;
 mod seek;
 mod swap;
+mod target;
 mod world;
 
 pub use call::{Answer, Command, Refusal};

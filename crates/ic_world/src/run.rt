@@ -12,6 +12,8 @@ ghost use Rattle.ic_world.specs.State.{reply_of};
 
 use crate::World;
 use crate::call::{Answer, Command, Refusal};
+use crate::insertion::EntryAt;
+use crate::target::{Call, target};
 use ic_rbtree::KeyAdapter;
 use ic_unsafe_ref::Place;
 use std::alloc::{AllocError, Allocator};
@@ -23,29 +25,6 @@ fn done<M: Allocator>(answer: Result<(), Refusal>) -> Answer<M>
 {
     match answer {
         Ok(()) => Answer::Done,
-        Err(refusal) => Answer::Refused(refusal),
-    }
-}
-
-// A call that answers an object.
-#[inline]
-fn object<M: Allocator>(answer: Result<Place, Refusal>) -> Answer<M>
-    ensures { reply_in result ≡ reply_of (λ p. state.object p) answer }
-{
-    match answer {
-        Ok(place) => Answer::Object(place),
-        Err(refusal) => Answer::Refused(refusal),
-    }
-}
-
-// A call that answers an object, or none.
-#[inline]
-fn picked<M: Allocator>(answer: Result<Option<Place>, Refusal>) -> Answer<M>
-    ensures { reply_in result ≡ reply_of state.object_or_nothing answer }
-{
-    match answer {
-        Ok(Some(place)) => Answer::Object(place),
-        Ok(None) => Answer::Nothing,
         Err(refusal) => Answer::Refused(refusal),
     }
 }
@@ -72,40 +51,54 @@ fn listed<M: Allocator>(answer: Result<Vec<Place, M>, Refusal>) -> Answer<M>
     }
 }
 
-// A search.
-#[inline]
-fn found<M: Allocator>(answer: Result<(Option<Place>, u64), Refusal>) -> Answer<M>
-    ensures { reply_in result ≡ reply_of (λ a. state.found a.0 a.1) answer }
-{
-    match answer {
-        Ok((place, looks)) => Answer::Found(place, looks),
-        Err(refusal) => Answer::Refused(refusal),
-    }
-}
-
-// An insert in order.
-#[inline]
-fn looked<M: Allocator>(answer: Result<u64, Refusal>) -> Answer<M>
-    ensures { reply_in result ≡ reply_of (λ looks. state.looked looks) answer }
-{
-    match answer {
-        Ok(looks) => Answer::Looked(looks),
-        Err(refusal) => Answer::Refused(refusal),
-    }
-}
-
 impl<A: KeyAdapter, M: Allocator + Copy> World<A, M>
 where
     A::Value: Copy,
     A::Key: Copy,
 {
-    ghost use Rattle.ic_world.specs.Step.{Step};
+    ghost use Rattle.ic_world.specs.Step.{Step, StepOn};
     ghost use Rattle.ic_world.specs.Runs.{Runs};
+
+    // Makes a call of one collection, and answers what it answered.
+    #[inline(always)]
+    fn answer_on(&mut self, c: usize, call: Call<A::Key>) -> Answer<M>
+        ensures { StepOn A.Key.cmp A.key_of self.old c call (reply_in result) self.new }
+    {
+        match call {
+            Call::Edit(edit) => done(self.call(c, &edit)),
+            Call::Seek(seek) => done(self.call(c, &seek)),
+            Call::Pick(pick) => match self.call(c, &pick) {
+                Ok(Some(place)) => Answer::Object(place),
+                Ok(None) => Answer::Nothing,
+                Err(refusal) => Answer::Refused(refusal),
+            },
+            Call::Swap(swap) => match self.call(c, &swap) {
+                Ok(place) => Answer::Object(place),
+                Err(refusal) => Answer::Refused(refusal),
+            },
+            Call::Search(search) => match self.call(c, &search) {
+                Ok((place, looks)) => Answer::Found(place, looks),
+                Err(refusal) => Answer::Refused(refusal),
+            },
+            Call::Insertion(insertion) => match self.call(c, &insertion) {
+                Ok(looks) => Answer::Looked(looks),
+                Err(refusal) => Answer::Refused(refusal),
+            },
+            Call::Enter(key, object) => match self.call(c, &EntryAt { key, object }) {
+                Ok(Some((occupied, place, looks))) => Answer::Entry(occupied, place, looks),
+                Ok(None) => Answer::Refused(Refusal::AlreadyLinked),
+                Err(refusal) => Answer::Refused(refusal),
+            },
+        }
+    }
 
     /// Makes the call, and answers what it answered. The value of a removed object, and the old one where a value is set, is dropped.
     pub fn answer(&mut self, command: Command<A::Value, A::Key>) -> Answer<M>
         ensures { Step A.Key.cmp A.key_of self.old command (reply_in result) self.new }
     {
+        if let Some((c, call)) = target(command) {
+            return self.answer_on(c, call);
+        }
         match command {
             Command::Place(value) => match self.place(value) {
                 Ok(place) => Answer::Object(place),
@@ -123,53 +116,25 @@ where
                 Ok(number) => Answer::Field(number),
                 Err(refusal) => Answer::Refused(refusal),
             },
-            Command::Open(field, kind) => opened(self.open(field, kind)),
-            Command::Dispose(c) => done(self.dispose(c)),
-            Command::Clear(c) => done(self.clear(c)),
-            Command::FastClear(c) => done(self.fast_clear(c)),
-            Command::Take(c) => opened(self.take(c)),
-            Command::Show(c) => listed(self.show(c)),
-            Command::ShowBack(c) => listed(self.show_back(c)),
             Command::IsLinked(field, o) => match self.is_linked(field, o) {
                 Ok(linked) => Answer::Linked(linked),
                 Err(refusal) => Answer::Refused(refusal),
             },
-            Command::ForceUnlink(field, o) => done(self.force_unlink(field, o)),
-            Command::Find(c, key) => found(self.find(c, key)),
-            Command::LowerBound(c, bound) => found(self.lower_bound(c, bound)),
-            Command::UpperBound(c, bound) => found(self.upper_bound(c, bound)),
             Command::Range(c, min, max) => match self.range(c, min, max) {
                 Ok((places, first, second)) => Answer::Range(places, first, second),
                 Err(refusal) => Answer::Refused(refusal),
             },
-            Command::Insert(c, o) => looked(self.insert(c, o)),
-            Command::CursorInsert(c, o) => looked(self.cursor_insert(c, o)),
-            Command::Entry(c, key, o) => match self.entry(c, key, o) {
-                Ok((occupied, place, looks)) => Answer::Entry(occupied, place, looks),
-                Err(refusal) => Answer::Refused(refusal),
-            },
-            Command::PushFront(c, o) => done(self.push_front(c, o)),
-            Command::PushBack(c, o) => done(self.push_back(c, o)),
-            Command::PopFront(c) => picked(self.pop_front(c)),
-            Command::PopBack(c) => picked(self.pop_back(c)),
-            Command::MoveNext(c) => picked(self.move_next(c)),
-            Command::MovePrev(c) => picked(self.move_prev(c)),
-            Command::GoNull(c) => done(self.go_null(c)),
-            Command::Current(c) => picked(self.current(c)),
-            Command::Seek(c, o) => done(self.seek(c, o)),
-            Command::SeekWithPrev(c, o, prev) => done(self.seek_with_prev(c, o, prev)),
-            Command::SeekWithNext(c, o, next) => done(self.seek_with_next(c, o, next)),
-            Command::InsertAfter(c, o) => done(self.insert_after(c, o)),
-            Command::InsertBefore(c, o) => done(self.insert_before(c, o)),
-            Command::Remove(c) => picked(self.remove(c)),
-            Command::RemoveNext(c) => picked(self.remove_next(c)),
-            Command::ReplaceWith(c, o) => object(self.replace_with(c, o)),
-            Command::ReplaceNextWith(c, o) => object(self.replace_next_with(c, o)),
+            Command::ForceUnlink(field, o) => done(self.force_unlink(field, o)),
+            Command::Dispose(c) => done(self.dispose(c)),
             Command::SpliceAfter(c, d) => done(self.splice_after(c, d)),
             Command::SpliceBefore(c, d) => done(self.splice_before(c, d)),
+            Command::Open(field, kind) => opened(self.open(field, kind)),
+            Command::Take(c) => opened(self.take(c)),
             Command::SplitAfter(c) => opened(self.split_after(c)),
             Command::SplitBefore(c) => opened(self.split_before(c)),
-            Command::Reverse(c) => done(self.reverse(c)),
+            Command::Show(c) => listed(self.show(c)),
+            Command::ShowBack(c) => listed(self.show_back(c)),
+            _ => unreachable!(),
         }
     }
 

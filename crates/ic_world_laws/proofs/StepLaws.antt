@@ -24,7 +24,9 @@ use Rattle.ic_world.proofs.Steps.{some_same}
 use Rattle.ic_world.specs.Among.{next_of}
 use Rattle.ic_world.specs.Family.{Family, Sequence}
 use Rattle.ic_world.specs.State.{Reply, object, nothing, found, looked, range, entry, refused, done, asks, asks_unlinked, State}
-use Rattle.ic_world.specs.Calls.{Call, edit, seek, pick, swap, search, insertion, enter, names, refusal_of, Replies}
+use Rattle.ic_world.specs.declared.target.Call.{Call}
+use Rattle.ic_world.specs.declared.target.Call.TheVariants.{Edit as edit, Seek as seek, Pick as pick, Swap as swap, Search as search, Insertion as insertion, Enter as enter}
+use Rattle.ic_world.specs.Calls.{names, refusal_of, Replies}
 use Rattle.ic_world.specs.Step.{Step, StepOn, StepBy, Accepts, AcceptsOn, HandsOut, asks_collection, collection, linked_of, is_placed, objects_of, state_in, with_state}
 use Rattle.ic_world_laws.specs.Laws.{inserts, descends, IsWellNamed, AreFew, RefusedIfLinked, HasFewLooks}
 
