@@ -2,17 +2,17 @@
 
 use crate::fixture::{check, one_linked};
 use ic_link_ops::singly_linked_list::{Link, LinkOps};
-use ic_link_ops::{CoverError, LentTable, LinkOps as _, linked_list};
+use ic_link_ops::{LentTable, LinkOps as _, linked_list};
 use ic_unsafe_ref::Place;
 use test_support::rationed::Rationed;
 
-// What a table answers that is to cover so many places, and how many it covers then.
-fn cover(
-    links: &mut linked_list::LinkOps<&Rationed>,
-    count: usize,
-) -> (Result<(), CoverError>, usize) {
-    let answer = links.cover(count);
-    (answer, links.covers())
+// Why a table does not cover so many places, as a number, 0 where it does; and how many it covers then.
+fn cover(links: &mut linked_list::LinkOps<&Rationed>, count: usize) -> [usize; 2] {
+    let refused = match links.cover(count) {
+        Ok(()) => 0,
+        Err(refused) => refused as usize,
+    };
+    [refused, links.covers()]
 }
 
 #[test]
@@ -26,10 +26,9 @@ fn a_table_grows_where_there_is_memory(rt: HostRuntime) {
         cover(&mut links, 2),
         cover(&mut links, 4_294_967_297),
     ];
-    let (many, memory) = (Err(CoverError::TooManyPlaces), Err(CoverError::OutOfMemory));
-    let (done, requests) = (Ok(()), rationed.requests());
-    let wanted = [(many, 0), (memory, 0), (done, 3), (done, 3), (many, 3)];
-    check(&rt, requests == 2 && found == wanted);
+    // too many places are refused by 1, and for want of memory by 2
+    check(&rt, found == [[1, 0], [2, 0], [0, 3], [0, 3], [1, 3]]);
+    check(&rt, rationed.requests() == 2);
 }
 
 // Whether a link is linked, a copy of it, a new one and the default.

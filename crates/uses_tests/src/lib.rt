@@ -1,13 +1,11 @@
-//! Each use of the collections, run once or more.
+//! Each use of the collections, run once.
 #![tactic(auto)]
 
 #[cfg(test)]
-mod free_list;
+mod fixtures;
 #[cfg(test)]
-mod region_map;
+mod lists;
 #[cfg(test)]
-mod shared_pool;
+mod threads;
 #[cfg(test)]
-mod tests;
-#[cfg(test)]
-mod timer_queue;
+mod trees;

@@ -1,6 +1,0 @@
-use Rattle.ic_link_ops.specs.DoublyEntries.{PlainShows}
-use Rattle.ic_link_ops.specs.PlacedObjects.{ShowsPlaced}
-use Rattle.uses_tests.proofs.tests.place_each.Given as goal
-
-abbrev pub invariant-loop-index : goal.invariant-loop-index
-invariant-loop-index g l = ShowsPlaced (PlainShows l.links l.list) l.objects

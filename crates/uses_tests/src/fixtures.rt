@@ -1,0 +1,95 @@
+//! What the tests stand on: tables of a few places, objects, and the comparison of places.
+
+ghost use Rattle.std.specs.Prelude.{◌≡◌, true};
+ghost use Rattle.ic_unsafe_ref.specs.Places.{index_of};
+ghost use Rattle.ic_unsafe_ref.specs.Objects.{is_placed};
+ghost use Rattle.ic_link_ops.specs.PlainTables.{table};
+ghost use Rattle.ic_link_ops.specs.Tables.{IsCovered};
+ghost use Rattle.ic_link_ops.specs.DoublyEntries.{plain_table};
+
+use ic_link_ops::linked_list::LinkOps;
+use ic_link_ops::{PlainTable, Words};
+use ic_unsafe_ref::{Objects, Place, UnsafeRef};
+use std::alloc::Global;
+use std::fmt::Debug;
+use std::process::Abort;
+
+/// What the objects of a test are at first.
+pub(crate) const UNLINKED: &str = "objects that are linked nowhere";
+
+/// What a test has enough of.
+pub(crate) const MEMORY: &str = "memory";
+
+/// Where no object is found: there is no place with that index.
+pub(crate) const NONE: usize = Place::COUNT;
+
+/// Asserts that it is so.
+pub(crate) fn check(rt: &impl Abort, is_so: bool) {
+    assert!(rt; is_so);
+}
+
+/// The index of a place, or `NONE`.
+pub(crate) fn index(place: Option<Place>) -> usize {
+    match place {
+        Some(place) => place.index(),
+        None => NONE,
+    }
+}
+
+/// The index of the place where an object stands, or `NONE`.
+pub(crate) fn index_of_object<T>(object: Option<UnsafeRef<T>>) -> usize {
+    match object {
+        Some(object) => object.place().index(),
+        None => NONE,
+    }
+}
+
+/// A table that covers five places.
+pub(crate) fn covering<W: Words>(rt: &impl Abort, alloc: Global) -> PlainTable<W>
+    ensures { (table W.unlinked result).extent.places ≡ 5 }
+{
+    let mut links = PlainTable::new(alloc);
+    links.cover(5).expect(rt, MEMORY);
+    links
+}
+
+/// The reference to whatever stands at the place with that index.
+pub(crate) fn reference(rt: &impl Abort, index: usize) -> UnsafeRef<u64>
+    ensures { index_of result ≡ index }
+{
+    UnsafeRef::new(Place::new(index).expect(rt, "the index of a place"))
+}
+
+/// A table, and two objects that are linked nowhere, at the places 2 and 0.
+pub(crate) fn two(rt: &impl Abort, alloc: Global) -> (LinkOps, UnsafeRef<u64>, UnsafeRef<u64>)
+    ensures covers { (plain_table result.0).extent.places ≡ 5 }
+    ensures first { index_of result.1 ≡ 2 }
+    ensures second { index_of result.2 ≡ 0 }
+{
+    (covering(rt, alloc), reference(rt, 2), reference(rt, 0))
+}
+
+/// These objects, at the places from 0 on.
+pub(crate) fn placed<T: Copy + Debug>(rt: &impl Abort, alloc: Global, values: &[T]) -> Objects<T> {
+    let mut objects = Objects::new(alloc);
+    for value in values {
+        let _next = objects.next_place().expect(rt, "a vacant place");
+        let _object = UnsafeRef::from_box(&mut objects, *value).expect(rt, MEMORY);
+    }
+    objects
+}
+
+/// The object at the place with that index, which the table covers.
+pub(crate) fn object<T, W: Words>(
+    rt: &impl Abort,
+    links: &PlainTable<W>,
+    objects: &Objects<T>,
+    index: usize,
+) -> UnsafeRef<T>
+    ensures placed { is_placed objects.now result ≡ true }
+    ensures covered { IsCovered (table W.unlinked links.now) result }
+{
+    let place = Place::new(index).expect(rt, "the index of a place");
+    assert!(rt; objects.is_placed(place) && place.index() < links.covers());
+    UnsafeRef::new(place)
+}

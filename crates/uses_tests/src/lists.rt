@@ -1,0 +1,147 @@
+//! A cache, queues, jobs, a free list and the first steps, over tables of a few places.
+
+ghost use Rattle.ic_link_ops.specs.DoublyEntries.{PlainShows};
+ghost use Rattle.ic_link_ops.specs.PlacedObjects.{ShowsPlaced};
+
+use crate::fixtures::{
+    UNLINKED, check, covering, index, index_of_object, object, placed, reference, two,
+};
+use ic_link_ops::linked_list::LinkOps;
+use ic_linked_list::LinkedList;
+use ic_singly_linked_list::SinglyLinkedList;
+use ic_unsafe_ref::Objects;
+use std::process::Abort;
+use test_support::rationed::Rationed;
+use uses::either_table::EitherTable;
+use uses::first_objects::{ObjectsError, first_objects};
+use uses::first_steps::first_steps;
+use uses::free_list::{give_and_take, give_back, take};
+use uses::retain::retain;
+use uses::{borrowed_table, deal, jobs, lru, pairs, queue};
+
+#[test]
+fn the_first_objects_need_memory(rt: HostRuntime) {
+    // The objects and the links can't do with less than two requests. The values seen ask once more, for no more than they need.
+    for request in 0..3 {
+        let short = Rationed::new(rt.alloc(), request);
+        let is_so = match first_objects(&short, 10, 20) {
+            Ok((seen, 10, Some(20))) => request == 2 && matches!(seen.as_slice(), [10, 20]),
+            Err(ObjectsError::OutOfMemory) => request < 2,
+            _ => false,
+        };
+        check(&rt, is_so);
+    }
+}
+
+#[test]
+fn the_first_steps_end_on_the_first_object(rt: HostRuntime) {
+    let (links, first, second) = two(&rt, rt.alloc());
+    let position = first_steps(links, first, second).expect(&rt, UNLINKED);
+    check(&rt, index(position) == 2);
+}
+
+#[test]
+fn objects_are_touched_and_have_their_turns(rt: HostRuntime) {
+    let (mut links, first, second) = two(&rt, rt.alloc());
+    let again = reference(&rt, 2);
+    let (mut order, mut other) = (LinkedList::new(), LinkedList::new());
+    lru::insert(&mut order, &mut links, first).expect(&rt, UNLINKED);
+    lru::insert(&mut order, &mut links, second).expect(&rt, UNLINKED);
+    lru::touch(&mut order, &mut links, again);
+    let turned = queue::turn(&mut order, &mut links);
+    let forgotten = lru::forget_oldest(&mut order, &mut links);
+    let moved = queue::hand_over(&mut order, &mut other, &mut links);
+    check(
+        &rt,
+        index(turned) == 2 && index_of_object(forgotten) == 2 && index(moved) == 0,
+    );
+}
+
+#[test]
+fn jobs_leave_both_lists(rt: HostRuntime) {
+    let (mut links, first, second) = two(&rt, rt.alloc());
+    let (third, mut ready_links) = (reference(&rt, 1), covering(&rt, rt.alloc()));
+    let (again, gone) = (reference(&rt, 2), reference(&rt, 1)); // the first and the third once more
+    let (mut owned, mut ready) = (LinkedList::new(), LinkedList::new());
+    jobs::submit(&mut owned, &mut links, &mut ready, &mut ready_links, first).expect(&rt, UNLINKED);
+    jobs::submit(&mut owned, &mut links, &mut ready, &mut ready_links, second).expect(
+        &rt, UNLINKED,
+    );
+    jobs::submit(&mut owned, &mut links, &mut ready, &mut ready_links, third).expect(&rt, UNLINKED);
+    jobs::move_to_back(&mut ready, &mut ready_links, again);
+    let next = jobs::take_next(&mut owned, &mut links, &mut ready, &mut ready_links);
+    jobs::cancel(&mut owned, &mut links, &mut ready, &mut ready_links, &gone);
+    let waiting = ready.front(&ready_links).get_ptr();
+    jobs::drain(&mut owned, &mut links, &mut ready, &mut ready_links);
+    check(
+        &rt,
+        index_of_object(next) == 0 && index(waiting) == 2 && ready.is_empty(),
+    );
+}
+
+#[test]
+fn the_latest_object_is_taken(rt: HostRuntime) {
+    let (mut links, first, second) = two(&rt, rt.alloc());
+    let mut free = SinglyLinkedList::new();
+    give_back(&mut free, &mut links, first).expect(&rt, UNLINKED);
+    let latest = give_and_take(&mut free, &mut links, second).expect(&rt, UNLINKED);
+    let oldest = take(&mut free, &mut links);
+    check(
+        &rt,
+        index_of_object(latest) == 0 && index_of_object(oldest) == 2,
+    );
+}
+
+#[test]
+fn two_members_come_off_a_table_that_is_one_of_two(rt: HostRuntime) {
+    let (table, first, second) = two(&rt, rt.alloc());
+    let (mut list, mut links) = (LinkedList::new(), EitherTable::Second(table));
+    links.push_back(&mut list, first).expect(&rt, UNLINKED);
+    borrowed_table::push_back(&mut list, &mut links, second).expect(&rt, UNLINKED);
+    let (front, back) = pairs::take_both(list, &mut links).expect(&rt, "a list of two");
+    let front = front.place();
+    let (low, high) = pairs::in_order(front, back.place());
+    let is_second = matches!(&links, EitherTable::Second(_));
+    check(
+        &rt,
+        is_second && front.index() == 2 && low.index() == 0 && high.index() == 2,
+    );
+}
+
+// The objects, one behind the other.
+fn linked(rt: &impl Abort, links: &mut LinkOps, objects: &Objects<u64>) -> LinkedList<u64>
+    ensures members { ShowsPlaced (PlainShows links.new result) objects.now }
+{
+    let mut list = LinkedList::new();
+    for index in 0..5 {
+        let next = object(rt, links, objects, index);
+        list.push_back(links, next).expect(rt, UNLINKED);
+    }
+    list
+}
+
+fn is_odd(object: &u64) -> bool {
+    object % 2 == 1
+}
+
+#[test]
+fn what_is_kept_is_dealt_from_both_ends(rt: HostRuntime) {
+    let objects = placed(&rt, rt.alloc(), &[10, 11, 12, 13, 14]);
+    let mut links: LinkOps = covering(&rt, rt.alloc());
+    let mut list = linked(&rt, &mut links, &objects);
+    {
+        let (mut fronts, mut backs) = (Vec::new(rt.alloc()), Vec::new(rt.alloc()));
+        let _ = deal::show(&list, &links, &objects, &mut fronts, &mut backs);
+        check(
+            &rt,
+            matches!(fronts.pop(), Some(&12)) && matches!(backs.pop(), Some(&13)),
+        );
+    }
+    retain(&mut list, &mut links, &objects, is_odd);
+    let (mut fronts, mut backs) = (Vec::new(rt.alloc()), Vec::new(rt.alloc()));
+    let _ = deal::deal(list, &mut links, &mut fronts, &mut backs);
+    check(
+        &rt,
+        index_of_object(fronts.pop()) == 1 && index_of_object(backs.pop()) == 3,
+    );
+}
