@@ -2,7 +2,11 @@
 #![tactic(auto)]
 
 #[cfg(test)]
+mod collections;
+#[cfg(test)]
 mod common;
+#[cfg(test)]
+mod hands;
 #[cfg(test)]
 mod links;
 #[cfg(test)]

@@ -1,20 +1,25 @@
 //! Links over claims: what one party links no other can link, until it is given up.
 
 ghost use Rattle.std.specs.Prelude.{◌≡◌, [], All};
+ghost use Rattle.ic_atomic.specs.AtomicLinks.{links_of};
 ghost use Rattle.ic_atomic.specs.Holders.{record_of, IsOf};
 
-use crate::common::{place, same};
-use crate::parties::{Doubly, Party, Singly, Tree, Xor};
-use crate::threads::Hand;
-use ic_atomic::{AtomicLinkOps, Claims, Holder, linked_list};
-use ic_link_ops::{LinkOps, PlainTable, Words};
-use ic_unsafe_ref::Place;
+use crate::collections::ByValue;
+use crate::common::Open;
+use crate::hands::{Act, Hand};
+use crate::parties::{put, take_turns};
+use ic_atomic::{
+    AtomicLinkOps, Claims, Holder, gather, linked_list, rbtree, singly_linked_list, xor_linked_list,
+};
+use ic_link_ops::{PlainTable, Words};
+use ic_linked_list::LinkedList;
+use ic_rbtree::RBTree;
+use ic_singly_linked_list::SinglyLinkedList;
+use ic_unsafe_ref::{Place, UnsafeRef};
+use ic_xor_linked_list::XorLinkedList;
 use std::alloc::Global;
 use std::process::Abort;
 use std::thread;
-use std::thread::Threads;
-
-const ROUNDS: usize = 100;
 
 // The last of these holders, none of which has made a step.
 fn next_holder(rt: &impl Abort, claims: &Claims, holders: &mut Vec<Holder>) -> Holder
@@ -44,101 +49,95 @@ fn next_links<'c, W: Words>(
     AtomicLinkOps::new(claims, holder, table)
 }
 
-#[test]
-fn one_of_two_parties_links_a_place(rt: HostRuntime) {
-    let (claims, mut holders) = Claims::new(rt.alloc(), 3, 2).expect(&rt, "claims");
-    let (first, second, third) = (place(&rt, 0), place(&rt, 1), place(&rt, 2));
-    let mut party = Doubly::new(next_links(&rt, rt.alloc(), &claims, &mut holders));
-    let mut other = Doubly::new(next_links(&rt, rt.alloc(), &claims, &mut holders));
-    let pushed = [party.put(first), other.put(first)];
-    let seen = [other.looks(first), party.looks(first)];
-    let got = other.gather([third, first, second]);
-    let (last, popped) = (other.last(), party.pop());
-    let again = other.put(first);
-    let found = (pushed, seen, got, last, popped, again);
-    let seen = [(true, false), (true, true)];
-    let wanted = ([true, false], seen, 2, Some(second), Some(first), true);
-    same(&rt, found, wanted);
+// Whether anybody holds the place with that index, as these links see it.
+fn looks(links: &mut linked_list::AtomicLinkOps, index: usize) -> bool
+    ensures { links_of links.new ≡ links_of links.old }
+{
+    match Place::new(index) {
+        Some(place) if index < links.covers() => links.is_linked(place),
+        _ => false,
+    }
 }
 
-// A link with no list: given up by force, and the table apart from its holder.
 #[test]
-fn a_link_is_forced_free(rt: HostRuntime) {
-    let (claims, mut holders) = Claims::new(rt.alloc(), 1, 1).expect(&rt, "claims");
+fn one_of_two_parties_links_a_place(rt: HostRuntime) {
+    let (claims, mut holders) = Claims::new(rt.alloc(), 2, 2).expect(&rt, "claims");
+    let mut links = next_links(&rt, rt.alloc(), &claims, &mut holders);
+    let mut other_links = next_links(&rt, rt.alloc(), &claims, &mut holders);
+    let (mut list, mut other): (LinkedList<u64>, LinkedList<u64>) = (
+        LinkedList::new(),
+        LinkedList::new(),
+    );
+    let pushed = put(&mut list, &mut links, 1) && !put(&mut other, &mut other_links, 1);
+    let seen = looks(&mut other_links, 1) && looks(&mut links, 1);
+    let popped = list.pop_front(&mut links);
+    assert!(rt; pushed && seen && popped.is_some());
+    assert!(rt; put(&mut other, &mut other_links, 1));
+}
+
+// What is gathered, forced free, and left of a table apart from its holder.
+#[test]
+fn links_with_no_party(rt: HostRuntime) {
+    let (claims, mut holders) = Claims::new(rt.alloc(), 3, 2).expect(&rt, "claims");
+    let mut other = Hand::new(&claims, next_holder(&rt, &claims, &mut holders));
+    assert!(rt; other.make(Act::Claim, 2));
     let mut links: linked_list::AtomicLinkOps = next_links(&rt, rt.alloc(), &claims, &mut holders);
-    let first = place(&rt, 0);
-    assert!(rt; links.covers() > 0);
-    let linked = [links.acquire_link(first), links.holds(first)];
+    let mut list: LinkedList<u64> = LinkedList::new();
+    let first = Place::new(0).expect(&rt, "a place");
+    let offered = [UnsafeRef::new(first)];
+    assert!(rt; links.covers() == 3);
+    assert!(rt; gather(1, &offered, &mut list, &mut links, &Open) == 1);
+    assert!(rt; links.covers() == 3 && links.holds(first));
     if links.holds(first) {
         links.force_unlink(first);
     }
-    let behind = [
-        links.is_linked(first),
-        links.into_parts().1.is_linked(first),
-    ];
-    same(&rt, [linked, behind], [[true, true], [false, false]]);
-}
-
-// Puts in so many of the first places, and answers how many it could.
-fn fill<P: Party>(party: &mut P, count: usize) -> usize {
-    let mut had: usize = 0;
-    for index in 0..count {
-        if let Some(place) = Place::new(index) {
-            if party.put(place) {
-                had = had.saturating_add(1);
-            }
-        }
-    }
-    had
+    assert!(rt; !links.is_linked(first) && !links.into_parts().1.is_linked(first));
 }
 
 #[test]
 fn another_party_looks_at_the_places_of_a_tree(rt: HostRuntime) {
     let (claims, mut holders) = Claims::new(rt.alloc(), 8, 2).expect(&rt, "claims");
-    let mut tree = Tree::new(next_links(&rt, rt.alloc(), &claims, &mut holders));
+    let mut links: rbtree::AtomicLinkOps = next_links(&rt, rt.alloc(), &claims, &mut holders);
     let mut other = Hand::new(&claims, next_holder(&rt, &claims, &mut holders));
-    let had = fill(&mut tree, 7);
-    let seen = (other.look_at_each(), other.looks_at(place(&rt, 7)));
-    tree.clear();
-    same(&rt, (had, seen, other.look_at_each()), (7, (7, false), 0));
-}
-
-// The party tries to put each object in, takes one off and clears the rest, so many times; answers how many it had.
-fn rounds<P: Party + Drop>(mut party: P) -> usize {
-    let mut had: usize = 0;
-    for _round in 0..ROUNDS {
-        had = had.saturating_add(fill(&mut party, 100));
-        party.empty();
+    let mut tree = RBTree::new(ByValue);
+    for index in 0..7 {
+        assert!(rt; put(&mut tree, &mut links, index));
     }
-    had
+    assert!(rt; other.is_true_on_first(Act::Look, 7));
+    tree.clear(&mut links);
+    assert!(rt; other.is_true_on_first(Act::Look, 0));
 }
 
-// The rounds of two parties, each in a thread of its own: how many objects they had.
-fn rounds_of_two<R: Threads + Sync, P: Party + Drop + Send, Q: Party + Drop + Send>(
-    rt: &R,
-    party: P,
-    other: Q,
-) -> usize {
-    let (had, others) = thread::join(rt, || rounds(party), || rounds(other));
-    had.saturating_add(others)
+// Links of any kind.
+#[derive(Drop)]
+enum AnyLinks<'c> {
+    Singly(singly_linked_list::AtomicLinkOps<'c>),
+    Doubly(linked_list::AtomicLinkOps<'c>),
+    Xor(xor_linked_list::AtomicLinkOps<'c>),
+    Tree(rbtree::AtomicLinkOps<'c>),
+}
+
+fn turns_with(links: AnyLinks) -> bool {
+    match links {
+        AnyLinks::Singly(links) => take_turns(SinglyLinkedList::new(), links),
+        AnyLinks::Doubly(links) => take_turns(LinkedList::new(), links),
+        AnyLinks::Xor(links) => take_turns(XorLinkedList::new(), links),
+        AnyLinks::Tree(links) => take_turns(RBTree::new(ByValue), links),
+    }
 }
 
 #[test]
 fn four_kinds_of_links_share_places(rt: HostRuntime) {
     let (claims, mut holders) = Claims::new(rt.alloc(), 100, 5).expect(&rt, "claims");
-    let singly = Singly::new(next_links(&rt, rt.alloc(), &claims, &mut holders));
-    let doubly = Doubly::new(next_links(&rt, rt.alloc(), &claims, &mut holders));
-    let xor = Xor::new(next_links(&rt, rt.alloc(), &claims, &mut holders));
-    let tree = Tree::new(next_links(&rt, rt.alloc(), &claims, &mut holders));
     let mut last = Hand::new(&claims, next_holder(&rt, &claims, &mut holders));
-    let had = thread::join(
-        &rt,
-        || rounds_of_two(&rt, singly, doubly),
-        || rounds_of_two(&rt, xor, tree),
-    );
-    same(
-        &rt,
-        (had.0 > 0 || had.1 > 0, last.look_at_each()),
-        (true, 0),
-    );
+    let four = [
+        AnyLinks::Singly(next_links(&rt, rt.alloc(), &claims, &mut holders)),
+        AnyLinks::Doubly(next_links(&rt, rt.alloc(), &claims, &mut holders)),
+        AnyLinks::Xor(next_links(&rt, rt.alloc(), &claims, &mut holders)),
+        AnyLinks::Tree(next_links(&rt, rt.alloc(), &claims, &mut holders)),
+    ];
+    let four = Vec::from_array(rt.alloc(), four).expect(&rt, "room");
+    let had = thread::map_vec(&rt, four, &turns_with).expect(&rt, "room");
+    assert!(rt; had.as_slice() != [false; 4].as_slice());
+    assert!(rt; last.is_true_on_first(Act::Look, 0));
 }

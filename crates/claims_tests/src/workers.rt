@@ -1,6 +1,6 @@
-//! Workers, who share the first places out.
+//! Workers, who share the first places out, and are held up at a gate.
 
-use crate::common::{Open, place, same};
+use crate::common::Open;
 use ic_atomic::{ClaimsError, Gate};
 use ic_unsafe_ref::Place;
 use ic_workers::{doubles, fan_out};
@@ -14,42 +14,20 @@ const TURNS: u64 = 10_000;
 
 // Whether each of the first places stands in just one list, once.
 fn stand_once(rt: &impl Abort, alloc: Global, lists: &[Vec<Place>], places: usize) -> bool {
-    let mut counts = vec![in alloc; 0usize; places].expect(rt, "room");
+    let mut is_seen = vec![in alloc; false; places].expect(rt, "room");
+    let mut left = places;
     for list in lists {
         for place in list {
-            if let Some(count) = counts.get_mut(place.index()) {
-                *count = count.saturating_add(1);
+            match is_seen.get_mut(place.index()) {
+                Some(seen) if !*seen && left > 0 => {
+                    *seen = true;
+                    left -= 1;
+                }
+                _ => return false,
             }
         }
     }
-    let mut each_once = true;
-    for count in &counts {
-        each_once &= *count == 1;
-    }
-    each_once
-}
-
-#[test]
-fn each_place_in_one_list(rt: HostRuntime) {
-    for (workers, places) in [(1, 3), (2, 0), (4, 1000), (64, 100), (0, 0)] {
-        let lists = fan_out(&rt, rt.alloc(), workers, places, &Open).expect(&rt, "lists");
-        let once = stand_once(&rt, rt.alloc(), &lists, places);
-        same(
-            &rt,
-            (lists.len(), once, doubles(places, &lists)),
-            (workers, true, 0),
-        );
-    }
-}
-
-#[test]
-fn one_worker_gets_all_and_too_many_are_refused(rt: HostRuntime) {
-    let lists = fan_out(&rt, rt.alloc(), 1, 3, &Open).expect(&rt, "lists");
-    let list = lists.first().expect(&rt, "a list");
-    let wanted = [place(&rt, 0), place(&rt, 1), place(&rt, 2)];
-    same(&rt, list.as_slice(), wanted.as_slice());
-    let refused = fan_out(&rt, rt.alloc(), 2, 4_294_967_297, &Open).err();
-    same(&rt, refused, Some(ClaimsError::TooManyPlaces));
+    left == 0
 }
 
 // Notes each worker's first answer, and holds the worker up until the other one's is noted, for so many turns at most.
@@ -85,16 +63,20 @@ impl<C: Clock> Gate for Meeting<'_, C> {
     }
 }
 
-// Workers in turn would come to the last turn.
+// Where workers came one after the other, the first would come to its last turn. What one worker gets alone, a session says.
 #[test]
-fn two_workers_meet(rt: HostRuntime) {
-    let gate = Meeting {
-        clock: &rt,
-        first: AtomicU64::new(0),
-        second: AtomicU64::new(0),
-        given_up: AtomicU64::new(0),
-    };
-    let lists = fan_out(&rt, rt.alloc(), 2, 100, &gate).expect(&rt, "lists");
-    let once = stand_once(&rt, rt.alloc(), &lists, 100);
-    same(&rt, (gate.given_up.load(Ordering::SeqCst), once), (0, true));
+fn workers_meet_and_share_places_out(rt: HostRuntime) {
+    for (workers, places) in [(2, 100), (4, 1000), (64, 100), (2, 0), (0, 0)] {
+        let gate = Meeting {
+            clock: &rt,
+            first: AtomicU64::new(0),
+            second: AtomicU64::new(0),
+            given_up: AtomicU64::new(0),
+        };
+        let lists = fan_out(&rt, rt.alloc(), workers, places, &gate).expect(&rt, "lists");
+        assert!(rt; lists.len() == workers && stand_once(&rt, rt.alloc(), &lists, places));
+        assert!(rt; gate.given_up.load(Ordering::SeqCst) == 0 && doubles(places, &lists) == 0);
+    }
+    let refused = fan_out(&rt, rt.alloc(), 2, 4_294_967_297, &Open).err();
+    assert!(rt; refused == Some(ClaimsError::TooManyPlaces));
 }

@@ -1,5 +1,5 @@
 use Rattle.ic_link_ops.proofs.Positions.{stands_null}
-use Rattle.claims_tests.proofs.parties.put_tree.Goals as goal
+use Rattle.claims_tests.proofs.collections.RBTreeByValueCollection.put.Goals as goal
 
 pub insert_before-requires-clause-stands : goal.insert_before-requires-clause-stands
 insert_before-requires-clause-stands g c =

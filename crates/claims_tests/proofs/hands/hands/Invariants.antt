@@ -1,6 +1,6 @@
 use Rattle.std.proofs.Common.{All, vec_len}
 use Rattle.ic_atomic.specs.Holders.{IsOf}
-use Rattle.claims_tests.proofs.threads.hands.Given as goal
+use Rattle.claims_tests.proofs.hands.hands.Given as goal
 
 abbrev pub invariant-loop-holder : goal.invariant-loop-holder
 invariant-loop-holder g l = All (λ h. IsOf l.claims h) l.holders.items

@@ -1,5 +1,5 @@
 use Rattle.ic_link_ops.proofs.Positions.{stands_first}
-use Rattle.claims_tests.proofs.parties.take_tree.Goals as goal
+use Rattle.claims_tests.proofs.collections.RBTreeByValueCollection.empty.Goals as goal
 
 pub remove-requires : goal.remove-requires
 remove-requires g c =

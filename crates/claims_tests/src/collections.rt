@@ -1,0 +1,104 @@
+//! What parties put objects in: the four kinds of collections.
+
+ghost use Rattle.ic_link_ops.specs.LinkedList as doubly;
+ghost use Rattle.ic_link_ops.specs.RedBlackTree as trees;
+ghost use Rattle.ic_link_ops.specs.SinglyLinkedList as singly;
+ghost use Rattle.ic_link_ops.specs.Tables.{Table, IsCovered};
+ghost use Rattle.ic_link_ops.specs.XorLinkedList as xor;
+ghost use Rattle.ic_rbtree.specs.Tree.{root_of};
+
+use ic_link_ops::LinkOps;
+use ic_link_ops::linked_list::LinkedListOps;
+use ic_link_ops::rbtree::RBTreeOps;
+use ic_link_ops::singly_linked_list::SinglyLinkedListOps;
+use ic_link_ops::xor_linked_list::XorLinkedListOps;
+use ic_linked_list::LinkedList;
+use ic_rbtree::{KeyAdapter, RBTree};
+use ic_singly_linked_list::SinglyLinkedList;
+use ic_unsafe_ref::UnsafeRef;
+use ic_xor_linked_list::XorLinkedList;
+
+/// A collection over such links.
+pub(crate) trait Collection<L: LinkOps>: Drop {
+    // The table shows a sequence for it.
+    ghost Shown: { Table L.Entry → Self → Type 0 };
+
+    /// Puts the object in, unless its link is refused, and says whether it did.
+    fn put(&mut self, links: &mut L, object: UnsafeRef<u64>) -> bool
+        requires covered { IsCovered (L.table links.old) object }
+        requires shown { Shown (L.table links.old) self.old }
+        ensures shown { Shown (L.table links.new) self.new };
+
+    /// Takes the first member off, if there is one, and then all others.
+    fn empty(&mut self, links: &mut L)
+        requires shown { Shown (L.table links.old) self.old }
+        ensures shown { Shown (L.table links.new) self.new };
+}
+
+impl<L: SinglyLinkedListOps> Collection<L> for SinglyLinkedList<u64> {
+    ghost Shown = { singly.ShowsSome L.successor };
+
+    fn put(&mut self, links: &mut L, object: UnsafeRef<u64>) -> bool {
+        self.push_front(links, object).is_ok()
+    }
+
+    fn empty(&mut self, links: &mut L) {
+        let _ = self.pop_front(links);
+        self.clear(links);
+    }
+}
+
+impl<L: LinkedListOps> Collection<L> for LinkedList<u64> {
+    ghost Shown = { doubly.ShowsSome L.neighbors };
+
+    fn put(&mut self, links: &mut L, object: UnsafeRef<u64>) -> bool {
+        self.push_back(links, object).is_ok()
+    }
+
+    fn empty(&mut self, links: &mut L) {
+        let _ = self.pop_front(links);
+        self.clear(links);
+    }
+}
+
+impl<L: XorLinkedListOps> Collection<L> for XorLinkedList<u64> {
+    ghost Shown = { xor.ShowsSome L.linked L.Joins };
+
+    fn put(&mut self, links: &mut L, object: UnsafeRef<u64>) -> bool {
+        self.push_back(links, object).is_ok()
+    }
+
+    fn empty(&mut self, links: &mut L) {
+        let _ = self.pop_front(links);
+        self.clear(links);
+    }
+}
+
+/// The value is the key.
+#[derive(Clone, Copy)]
+pub(crate) struct ByValue;
+
+impl KeyAdapter for ByValue {
+    type Value = u64;
+
+    type Key = u64;
+
+    ghost key_of = { λ a v. v };
+
+    fn get_key<'v>(&self, value: &'v u64) -> &'v u64 {
+        value
+    }
+}
+
+impl<L: RBTreeOps> Collection<L> for RBTree<ByValue> {
+    ghost Shown = { λ t tree. trees.ShowsSome L.node t (root_of tree) };
+
+    fn put(&mut self, links: &mut L, object: UnsafeRef<u64>) -> bool {
+        self.cursor_mut(links).insert_before(object).is_ok()
+    }
+
+    fn empty(&mut self, links: &mut L) {
+        let _ = self.front_mut(links).remove();
+        self.clear(links);
+    }
+}

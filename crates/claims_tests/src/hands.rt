@@ -1,0 +1,100 @@
+//! Holders, each with the claims that all share, and what they do with them.
+
+ghost use Rattle.std.specs.Prelude.{All};
+ghost use Rattle.ic_atomic.specs.Holders.{IsOf, record_of};
+ghost use Rattle.claims_tests.specs.Held.{Holds};
+
+use ic_atomic::{Claims, Holder};
+use ic_unsafe_ref::Place;
+use std::alloc::Global;
+use std::process::Abort;
+
+/// What is asked of a place.
+#[derive(Clone, Copy)]
+pub(crate) enum Act {
+    Claim,
+    Release,
+    Look,
+}
+
+/// A holder with its claims.
+#[derive(Drop)]
+pub(crate) struct Hand<'c> {
+    claims: &'c Claims,
+    holder: Holder,
+    // The place that it claimed last, as long as it holds that.
+    held: Option<Place>,
+    ghost made: { IsOf claims.now holder },
+    ghost holding: { Holds (record_of holder) held },
+}
+
+impl<'c> Hand<'c> {
+    pub(crate) fn new(claims: &'c Claims, holder: Holder) -> Hand<'c>
+        requires { IsOf claims.now holder }
+    {
+        Hand {
+            claims,
+            holder,
+            held: None,
+        }
+    }
+
+    /// Makes the step on the place with that index, and answers it as a core does: a release is true of the place that this holder
+    /// claimed last and holds. On a place that the claims have not, no step is made.
+    pub(crate) fn make(&mut self, act: Act, index: usize) -> bool {
+        let Hand {
+            claims,
+            holder,
+            held,
+        } = self;
+        let Some(place) = Place::new(index) else {
+            return false;
+        };
+        if index >= claims.places() {
+            return false;
+        }
+        match act {
+            Act::Claim => {
+                let is_had = claims.claim(holder, place);
+                if is_had {
+                    *held = Some(place);
+                }
+                is_had
+            }
+            Act::Release => match *held {
+                Some(last) if last.index() == index => {
+                    claims.release(holder, last);
+                    *held = None;
+                    true
+                }
+                _ => false,
+            },
+            Act::Look => claims.look(holder, place),
+        }
+    }
+
+    /// Makes the step on each place. Whether it is true on so many of the first ones, and false on all others.
+    pub(crate) fn is_true_on_first(&mut self, act: Act, count: usize) -> bool {
+        let mut as_wanted = true;
+        for index in 0..self.claims.places() {
+            as_wanted &= self.make(act, index) == (index < count);
+        }
+        as_wanted
+    }
+}
+
+/// A hand for each holder, the last one first.
+pub(crate) fn hands<'c>(
+    rt: &impl Abort,
+    alloc: Global,
+    claims: &'c Claims,
+    mut holders: Vec<Holder>,
+) -> Vec<Hand<'c>>
+    requires { All (λ h. IsOf claims.now h) holders.items }
+{
+    let mut hands = Vec::new(alloc);
+    while let Some(holder) = holders.pop() {
+        hands.push(Hand::new(claims, holder)).expect(rt, "room");
+    }
+    hands
+}
