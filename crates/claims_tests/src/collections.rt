@@ -1,5 +1,6 @@
 //! What parties put objects in: the four kinds of collections.
 
+ghost use Rattle.std.specs.Prelude.{IfSome};
 ghost use Rattle.ic_link_ops.specs.LinkedList as doubly;
 ghost use Rattle.ic_link_ops.specs.RedBlackTree as trees;
 ghost use Rattle.ic_link_ops.specs.SinglyLinkedList as singly;
@@ -23,14 +24,10 @@ pub(crate) trait Collection<L: LinkOps>: Drop {
     // The table shows a sequence for it.
     ghost Shown: { Table L.Entry → Self → Type 0 };
 
-    /// Puts the object in, unless its link is refused, and says whether it did.
-    fn put(&mut self, links: &mut L, object: UnsafeRef<u64>) -> bool
-        requires covered { IsCovered (L.table links.old) object }
-        requires shown { Shown (L.table links.old) self.old }
-        ensures shown { Shown (L.table links.new) self.new };
-
-    /// Takes the first member off, if there is one, and then all others.
-    fn empty(&mut self, links: &mut L)
+    /// Puts the object in, unless its link is refused, and says whether it did. Where there is none, it takes the first member off, and then
+    /// all others.
+    fn put_or_empty(&mut self, links: &mut L, object: Option<UnsafeRef<u64>>) -> bool
+        requires covered { IfSome object (λ o. IsCovered (L.table links.old) o) }
         requires shown { Shown (L.table links.old) self.old }
         ensures shown { Shown (L.table links.new) self.new };
 }
@@ -38,39 +35,45 @@ pub(crate) trait Collection<L: LinkOps>: Drop {
 impl<L: SinglyLinkedListOps> Collection<L> for SinglyLinkedList<u64> {
     ghost Shown = { singly.ShowsSome L.successor };
 
-    fn put(&mut self, links: &mut L, object: UnsafeRef<u64>) -> bool {
-        self.push_front(links, object).is_ok()
-    }
-
-    fn empty(&mut self, links: &mut L) {
-        let _ = self.pop_front(links);
-        self.clear(links);
+    fn put_or_empty(&mut self, links: &mut L, object: Option<UnsafeRef<u64>>) -> bool {
+        match object {
+            Some(object) => self.push_front(links, object).is_ok(),
+            None => {
+                let _ = self.pop_front(links);
+                self.clear(links);
+                false
+            }
+        }
     }
 }
 
 impl<L: LinkedListOps> Collection<L> for LinkedList<u64> {
     ghost Shown = { doubly.ShowsSome L.neighbors };
 
-    fn put(&mut self, links: &mut L, object: UnsafeRef<u64>) -> bool {
-        self.push_back(links, object).is_ok()
-    }
-
-    fn empty(&mut self, links: &mut L) {
-        let _ = self.pop_front(links);
-        self.clear(links);
+    fn put_or_empty(&mut self, links: &mut L, object: Option<UnsafeRef<u64>>) -> bool {
+        match object {
+            Some(object) => self.push_back(links, object).is_ok(),
+            None => {
+                let _ = self.pop_front(links);
+                self.clear(links);
+                false
+            }
+        }
     }
 }
 
 impl<L: XorLinkedListOps> Collection<L> for XorLinkedList<u64> {
     ghost Shown = { xor.ShowsSome L.linked L.Joins };
 
-    fn put(&mut self, links: &mut L, object: UnsafeRef<u64>) -> bool {
-        self.push_back(links, object).is_ok()
-    }
-
-    fn empty(&mut self, links: &mut L) {
-        let _ = self.pop_front(links);
-        self.clear(links);
+    fn put_or_empty(&mut self, links: &mut L, object: Option<UnsafeRef<u64>>) -> bool {
+        match object {
+            Some(object) => self.push_back(links, object).is_ok(),
+            None => {
+                let _ = self.pop_front(links);
+                self.clear(links);
+                false
+            }
+        }
     }
 }
 
@@ -93,12 +96,14 @@ impl KeyAdapter for ByValue {
 impl<L: RBTreeOps> Collection<L> for RBTree<ByValue> {
     ghost Shown = { λ t tree. trees.ShowsSome L.node t (root_of tree) };
 
-    fn put(&mut self, links: &mut L, object: UnsafeRef<u64>) -> bool {
-        self.cursor_mut(links).insert_before(object).is_ok()
-    }
-
-    fn empty(&mut self, links: &mut L) {
-        let _ = self.front_mut(links).remove();
-        self.clear(links);
+    fn put_or_empty(&mut self, links: &mut L, object: Option<UnsafeRef<u64>>) -> bool {
+        match object {
+            Some(object) => self.cursor_mut(links).insert_before(object).is_ok(),
+            None => {
+                let _ = self.front_mut(links).remove();
+                self.clear(links);
+                false
+            }
+        }
     }
 }

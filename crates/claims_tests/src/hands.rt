@@ -7,7 +7,6 @@ ghost use Rattle.claims_tests.specs.Held.{Holds};
 use ic_atomic::{Claims, Holder};
 use ic_unsafe_ref::Place;
 use std::alloc::Global;
-use std::process::Abort;
 
 /// What is asked of a place.
 #[derive(Clone, Copy)]
@@ -28,17 +27,7 @@ pub(crate) struct Hand<'c> {
     ghost holding: { Holds (record_of holder) held },
 }
 
-impl<'c> Hand<'c> {
-    pub(crate) fn new(claims: &'c Claims, holder: Holder) -> Hand<'c>
-        requires { IsOf claims.now holder }
-    {
-        Hand {
-            claims,
-            holder,
-            held: None,
-        }
-    }
-
+impl Hand<'_> {
     /// Makes the step on the place with that index, and answers it as a core does: a release is true of the place that this holder
     /// claimed last and holds. On a place that the claims have not, no step is made.
     pub(crate) fn make(&mut self, act: Act, index: usize) -> bool {
@@ -72,20 +61,10 @@ impl<'c> Hand<'c> {
             Act::Look => claims.look(holder, place),
         }
     }
-
-    /// Makes the step on each place. Whether it is true on so many of the first ones, and false on all others.
-    pub(crate) fn is_true_on_first(&mut self, act: Act, count: usize) -> bool {
-        let mut as_wanted = true;
-        for index in 0..self.claims.places() {
-            as_wanted &= self.make(act, index) == (index < count);
-        }
-        as_wanted
-    }
 }
 
-/// A hand for each holder, the last one first.
+/// A hand for each holder, the last one first, as long as there is memory for them.
 pub(crate) fn hands<'c>(
-    rt: &impl Abort,
     alloc: Global,
     claims: &'c Claims,
     mut holders: Vec<Holder>,
@@ -94,7 +73,11 @@ pub(crate) fn hands<'c>(
 {
     let mut hands = Vec::new(alloc);
     while let Some(holder) = holders.pop() {
-        hands.push(Hand::new(claims, holder)).expect(rt, "room");
+        let _ = hands.push(Hand {
+            claims,
+            holder,
+            held: None,
+        });
     }
     hands
 }

@@ -1,13 +1,11 @@
 //! Links over claims: what one party links no other can link, until it is given up.
 
 ghost use Rattle.std.specs.Prelude.{◌≡◌, [], All};
-ghost use Rattle.ic_atomic.specs.AtomicLinks.{links_of};
 ghost use Rattle.ic_atomic.specs.Holders.{record_of, IsOf};
 
 use crate::collections::ByValue;
 use crate::common::Open;
-use crate::hands::{Act, Hand};
-use crate::parties::{put, take_turns};
+use crate::parties::{are_linked, are_seen, take_turns};
 use ic_atomic::{
     AtomicLinkOps, Claims, Holder, gather, linked_list, rbtree, singly_linked_list, xor_linked_list,
 };
@@ -21,17 +19,7 @@ use std::alloc::Global;
 use std::process::Abort;
 use std::thread;
 
-// The last of these holders, none of which has made a step.
-fn next_holder(rt: &impl Abort, claims: &Claims, holders: &mut Vec<Holder>) -> Holder
-    requires fresh { All (λ h. IsOf claims.now h × (record_of h ≡ [])) holders.old.items }
-    ensures fresh { All (λ h. IsOf claims.now h × (record_of h ≡ [])) holders.new.items }
-    ensures holder { IsOf claims.now result × (record_of result ≡ []) }
-{
-    let _ = claims;
-    holders.pop().expect(rt, "a holder")
-}
-
-// Links of the last of these holders, over all places of the claims.
+// Links of the last of these holders, none of which has made a step, over all places of the claims.
 fn next_links<'c, W: Words>(
     rt: &impl Abort,
     alloc: Global,
@@ -41,71 +29,27 @@ fn next_links<'c, W: Words>(
     requires fresh { All (λ h. IsOf claims.now h × (record_of h ≡ [])) holders.old.items }
     ensures fresh { All (λ h. IsOf claims.now h × (record_of h ≡ [])) holders.new.items }
 {
-    let holder = next_holder(rt, claims, holders);
+    let holder = holders.pop().expect(rt, "a holder");
     let mut table = PlainTable::new(alloc);
-    table
-        .cover(claims.places())
-        .expect(rt, "room for the links");
+    table.cover(claims.places()).expect(rt, "room");
     AtomicLinkOps::new(claims, holder, table)
 }
 
-// Whether anybody holds the place with that index, as these links see it.
-fn looks(links: &mut linked_list::AtomicLinkOps, index: usize) -> bool
-    ensures { links_of links.new ≡ links_of links.old }
-{
-    match Place::new(index) {
-        Some(place) if index < links.covers() => links.is_linked(place),
-        _ => false,
-    }
-}
-
-#[test]
-fn one_of_two_parties_links_a_place(rt: HostRuntime) {
-    let (claims, mut holders) = Claims::new(rt.alloc(), 2, 2).expect(&rt, "claims");
-    let mut links = next_links(&rt, rt.alloc(), &claims, &mut holders);
-    let mut other_links = next_links(&rt, rt.alloc(), &claims, &mut holders);
-    let (mut list, mut other): (LinkedList<u64>, LinkedList<u64>) = (
-        LinkedList::new(),
-        LinkedList::new(),
-    );
-    let pushed = put(&mut list, &mut links, 1) && !put(&mut other, &mut other_links, 1);
-    let seen = looks(&mut other_links, 1) && looks(&mut links, 1);
-    let popped = list.pop_front(&mut links);
-    assert!(rt; pushed && seen && popped.is_some());
-    assert!(rt; put(&mut other, &mut other_links, 1));
-}
-
-// What is gathered, forced free, and left of a table apart from its holder.
-#[test]
-fn links_with_no_party(rt: HostRuntime) {
-    let (claims, mut holders) = Claims::new(rt.alloc(), 3, 2).expect(&rt, "claims");
-    let mut other = Hand::new(&claims, next_holder(&rt, &claims, &mut holders));
-    assert!(rt; other.make(Act::Claim, 2));
-    let mut links: linked_list::AtomicLinkOps = next_links(&rt, rt.alloc(), &claims, &mut holders);
+// Gathers place 0, and gives it up by force. Whether it did.
+fn gathers(links: &mut linked_list::AtomicLinkOps) -> bool {
     let mut list: LinkedList<u64> = LinkedList::new();
-    let first = Place::new(0).expect(&rt, "a place");
+    let Some(first) = Place::new(0) else {
+        return false;
+    };
     let offered = [UnsafeRef::new(first)];
-    assert!(rt; links.covers() == 3);
-    assert!(rt; gather(1, &offered, &mut list, &mut links, &Open) == 1);
-    assert!(rt; links.covers() == 3 && links.holds(first));
-    if links.holds(first) {
-        links.force_unlink(first);
+    if links.covers() == 0 || gather(1, &offered, &mut list, links, &Open) != 1 {
+        return false;
     }
-    assert!(rt; !links.is_linked(first) && !links.into_parts().1.is_linked(first));
-}
-
-#[test]
-fn another_party_looks_at_the_places_of_a_tree(rt: HostRuntime) {
-    let (claims, mut holders) = Claims::new(rt.alloc(), 8, 2).expect(&rt, "claims");
-    let mut links: rbtree::AtomicLinkOps = next_links(&rt, rt.alloc(), &claims, &mut holders);
-    let mut other = Hand::new(&claims, next_holder(&rt, &claims, &mut holders));
-    let mut tree = RBTree::new(ByValue);
-    for index in 0..7 {
-        assert!(rt; put(&mut tree, &mut links, index));
+    if links.covers() == 0 || !links.holds(first) {
+        return false;
     }
-    assert!(rt; other.is_true_on_first(Act::Look, 7));
-    tree.clear(&mut links);
-    assert!(rt; other.is_true_on_first(Act::Look, 0));
+    links.force_unlink(first);
+    !links.is_linked(first)
 }
 
 // Links of any kind.
@@ -126,18 +70,28 @@ fn turns_with(links: AnyLinks) -> bool {
     }
 }
 
+// Two parties in turn, then four in threads, and one at last.
 #[test]
-fn four_kinds_of_links_share_places(rt: HostRuntime) {
-    let (claims, mut holders) = Claims::new(rt.alloc(), 100, 5).expect(&rt, "claims");
-    let mut last = Hand::new(&claims, next_holder(&rt, &claims, &mut holders));
+fn parties_share_places(rt: HostRuntime) {
+    let alloc = rt.alloc();
+    let (claims, mut holders) = Claims::new(alloc, 100, 5).expect(&rt, "claims");
+    let mut last: linked_list::AtomicLinkOps = next_links(&rt, alloc, &claims, &mut holders);
+    let mut doubly = next_links(&rt, alloc, &claims, &mut holders);
+    let is_list_seen = are_seen(LinkedList::new(), &mut doubly, &mut last);
+    let mut tree = next_links(&rt, alloc, &claims, &mut holders);
+    let is_tree_seen = are_seen(RBTree::new(ByValue), &mut tree, &mut last);
     let four = [
-        AnyLinks::Singly(next_links(&rt, rt.alloc(), &claims, &mut holders)),
-        AnyLinks::Doubly(next_links(&rt, rt.alloc(), &claims, &mut holders)),
-        AnyLinks::Xor(next_links(&rt, rt.alloc(), &claims, &mut holders)),
-        AnyLinks::Tree(next_links(&rt, rt.alloc(), &claims, &mut holders)),
+        AnyLinks::Singly(next_links(&rt, alloc, &claims, &mut holders)),
+        AnyLinks::Doubly(doubly),
+        AnyLinks::Xor(next_links(&rt, alloc, &claims, &mut holders)),
+        AnyLinks::Tree(tree),
     ];
-    let four = Vec::from_array(rt.alloc(), four).expect(&rt, "room");
+    let four = Vec::from_array(alloc, four).expect(&rt, "room");
     let had = thread::map_vec(&rt, four, &turns_with).expect(&rt, "room");
-    assert!(rt; had.as_slice() != [false; 4].as_slice());
-    assert!(rt; last.is_true_on_first(Act::Look, 0));
+    let is_free = are_linked(&mut last, 0);
+    let is_gathered = gathers(&mut last);
+    let covered = last.into_parts().1.covers();
+    assert!(rt;
+        is_list_seen & is_tree_seen & had.contains(&true) & is_free & is_gathered & (covered == 100)
+    );
 }

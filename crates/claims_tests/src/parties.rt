@@ -1,56 +1,97 @@
-//! What parties do with a collection over links whose places they claim.
+//! What parties do with collections over links whose places they claim.
 
 ghost use Rattle.std.specs.Prelude.{◌≡◌};
+ghost use Rattle.ic_link_ops.specs.Tables.{IsCovered};
 
 use crate::collections::Collection;
 use ic_atomic::{AtomicLinkOps, PlainLinkOps};
 use ic_link_ops::LinkOps;
+use ic_link_ops::linked_list::LinkedListOps;
+use ic_linked_list::LinkedList;
 use ic_unsafe_ref::{Place, UnsafeRef};
 use std::alloc::Allocator;
 
-const TURNS: usize = 10_000;
+// As often as a hundred places are tried, and then given up, a hundred times.
+const TURNS: usize = 10_100;
 
-/// Links that say how many places they cover.
-pub(crate) trait Covers: LinkOps {
+/// Links that say which places are linked.
+pub(crate) trait Links: LinkOps {
     /// How many places are covered: those with a smaller index.
     fn covers(&self) -> usize
         ensures { result ≡ (Self.table self.now).extent.places };
+
+    /// Whether anybody links the place.
+    fn looks_linked(&mut self, place: Place) -> bool
+        requires { IsCovered (Self.table self.old) place }
+        ensures { Self.table self.new ≡ Self.table self.old };
 }
 
-impl<L: PlainLinkOps, A: Allocator> Covers for AtomicLinkOps<'_, L, A> {
+impl<L: PlainLinkOps, A: Allocator> Links for AtomicLinkOps<'_, L, A> {
     fn covers(&self) -> usize {
         AtomicLinkOps::covers(self)
     }
+
+    fn looks_linked(&mut self, place: Place) -> bool {
+        self.is_linked(place)
+    }
 }
 
-/// Puts the object at the place with that index in, unless the links do not cover the place, or some party holds it.
-pub(crate) fn put<L: Covers, C: Collection<L>>(
-    collection: &mut C,
-    links: &mut L,
-    index: usize,
-) -> bool
+// Puts the object at the place with that index in, unless some party holds it, and says whether it did. Where the links do not cover that
+// place, the collection is emptied.
+fn put<L: Links, C: Collection<L>>(collection: &mut C, links: &mut L, index: usize) -> bool
     requires { C.Shown (L.table links.old) collection.old }
     ensures { C.Shown (L.table links.new) collection.new }
 {
     match Place::new(index) {
-        Some(place) if index < links.covers() => collection.put(links, UnsafeRef::new(place)),
-        _ => false,
+        Some(place) if index < links.covers() => {
+            collection.put_or_empty(links, Some(UnsafeRef::new(place)))
+        }
+        _ => collection.put_or_empty(links, None),
     }
 }
 
-/// Tries to put each of a hundred objects in, and empties the collection then, a hundred times over. Whether it had one.
-pub(crate) fn take_turns<L: Covers + Drop, C: Collection<L>>(
+/// Whether somebody links each of so many of the first places, and none of the others.
+pub(crate) fn are_linked<L: Links>(links: &mut L, count: usize) -> bool
+    ensures { L.table links.new ≡ L.table links.old }
+{
+    let mut as_wanted = true;
+    for index in 0..links.covers() {
+        match Place::new(index) {
+            Some(place) if index < links.covers() => as_wanted &= links.looks_linked(place)
+                == (index < count),
+            _ => as_wanted = false,
+        }
+    }
+    as_wanted
+}
+
+/// Puts the first seven objects in, which another party can't, until they are given up. Whether both parties see them.
+pub(crate) fn are_seen<L: Links, C: Collection<L>, M: Links + LinkedListOps>(
     mut collection: C,
-    mut links: L,
+    links: &mut L,
+    other: &mut M,
 ) -> bool
+    requires { C.Shown (L.table links.old) collection }
+{
+    let mut list: LinkedList<u64> = LinkedList::new();
+    let mut as_wanted = true;
+    for index in 0..7 {
+        as_wanted &= put(&mut collection, links, index) & !put(&mut list, other, index);
+    }
+    as_wanted &= are_linked(other, 7) & are_linked(links, 7);
+    let _ = put(&mut collection, links, usize::MAX);
+    as_wanted &= are_linked(other, 0) & put(&mut list, other, 0);
+    let _ = put(&mut list, other, usize::MAX);
+    as_wanted
+}
+
+/// Tries to put each of a hundred objects in, and empties the collection then, a hundred times over. Whether it had one.
+pub(crate) fn take_turns<L: Links + Drop, C: Collection<L>>(mut collection: C, mut links: L) -> bool
     requires { C.Shown (L.table links) collection }
 {
     let mut had_any = false;
     for turn in 0..TURNS {
-        had_any |= put(&mut collection, &mut links, turn % 100);
-        if turn % 100 == 99 {
-            collection.empty(&mut links);
-        }
+        had_any |= put(&mut collection, &mut links, turn % 101);
     }
     had_any
 }

@@ -1,41 +1,52 @@
 //! Claims by several threads.
 
-use crate::common::same;
 use crate::hands::{Act, Hand, hands};
 use ic_atomic::Claims;
+use std::alloc::Global;
+use std::process::Abort;
 use std::thread;
+use std::thread::Threads;
 
 // As often as four places are tried a thousand times.
 const TURNS: usize = 4_000;
 
-// Claims each of four places in turn, and where that is true looks at it and releases it. Whether all of these answers were true.
-fn take_turns(mut hand: Hand) -> bool {
+// Claims place 0 for good, and in turn four other places, and where that is true looks at these and releases them. Whether it had place 0,
+// and whether all answers on the others were true.
+fn take_turns(mut hand: Hand) -> (bool, bool) {
+    let is_had = hand.make(Act::Claim, 0);
     let mut all_true = true;
     for turn in 0..TURNS {
-        if hand.make(Act::Claim, turn % 4) {
-            all_true &= hand.make(Act::Look, turn % 4);
-            all_true &= hand.make(Act::Release, turn % 4);
+        let index = 1 + turn % 4;
+        if hand.make(Act::Claim, index) {
+            all_true &= hand.make(Act::Look, index);
+            all_true &= hand.make(Act::Release, index);
         }
     }
-    all_true
+    (is_had, all_true)
 }
 
-#[test]
-fn two_threads_claim_one_place(rt: HostRuntime) {
-    let (claims, holders) = Claims::new(rt.alloc(), 1, 2).expect(&rt, "claims");
-    let two = hands(&rt, rt.alloc(), &claims, holders);
-    let had = thread::map_vec(&rt, two, &|mut hand: Hand| hand.make(Act::Claim, 0));
-    let had = had.expect(&rt, "room");
-    assert!(rt; matches!(had.as_slice(), [true, false] | [false, true]));
+// Whether of all holders but one, each in a thread of its own, one alone has place 0, and at the end the last one can claim each of the four
+// other places, where there are these.
+fn share<R: Abort + Threads + Sync>(rt: &R, alloc: Global, places: usize, holders: usize) -> bool {
+    let (claims, holders) = Claims::new(alloc, places, holders).expect(rt, "claims");
+    let mut hands = hands(alloc, &claims, holders);
+    let mut last = hands.pop().expect(rt, "a hand");
+    let done = thread::map_vec(rt, hands, &take_turns).expect(rt, "room");
+    let mut one_had = false;
+    let mut as_wanted = true;
+    for (is_had, all_true) in &done {
+        as_wanted &= *all_true & !(*is_had & one_had);
+        one_had |= *is_had;
+    }
+    for index in 0..places {
+        as_wanted &= last.make(Act::Claim, index) == (index > 0);
+    }
+    as_wanted & one_had
 }
 
-// A ninth holder claims them all at the end.
+// Two threads try one place, and eight share four places beside it.
 #[test]
-fn eight_threads_share_four_places(rt: HostRuntime) {
-    let (claims, holders) = Claims::new(rt.alloc(), 4, 9).expect(&rt, "claims");
-    let mut eight = hands(&rt, rt.alloc(), &claims, holders);
-    let mut last = eight.pop().expect(&rt, "a hand");
-    let looks = thread::map_vec(&rt, eight, &take_turns).expect(&rt, "room");
-    same(&rt, looks.as_slice(), [true; 8].as_slice());
-    assert!(rt; last.is_true_on_first(Act::Claim, 4));
+fn threads_share_places(rt: HostRuntime) {
+    let alloc = rt.alloc();
+    assert!(rt; share(&rt, alloc, 1, 3) & share(&rt, alloc, 5, 9));
 }

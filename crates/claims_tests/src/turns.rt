@@ -1,10 +1,8 @@
-//! Steps in turn, of a core and of holders.
+//! Steps in turn, of cores and of holders.
 
-ghost use Rattle.std.specs.Prelude.{◌≡◌, ◌<◌, All};
-ghost use Rattle.ic_unsafe_ref.specs.Places.{index_of};
+ghost use Rattle.std.specs.Prelude.{◌≡◌};
 ghost use Rattle.ic_atomic.specs.ClaimMap.{target};
 
-use crate::common::same;
 use crate::hands::{Act, hands};
 use ic_atomic::{Claims, Core, Step};
 use ic_unsafe_ref::Place;
@@ -55,57 +53,48 @@ fn step(act: Act, place: Place) -> Step
     }
 }
 
-// What the rows ask, of so many places.
-fn calls_in(rt: &impl Abort, alloc: Global, places: usize, rows: &[Row]) -> Vec<(usize, Step)>
-    ensures { All (λ call. index_of (target call.1) < places) result.items }
-{
-    let mut calls = Vec::new(alloc);
-    for (_, party, act, index, _) in rows {
-        if let Some(place) = Place::new(*index) {
-            if *index < places {
-                calls.push((*party, step(*act, place))).expect(rt, "room");
+// Whether new cores answer so, one by `apply` and one by `replay`. No party leaves a core.
+fn is_right_of_cores(rt: &impl Abort, alloc: Global, places: usize, rows: &[Row]) -> bool {
+    let mut applied = Core::new(alloc, places).expect(rt, "a core");
+    let mut replayed = Core::new(alloc, places).expect(rt, "a core");
+    let mut answers = Vec::new(alloc);
+    let mut as_wanted = true;
+    for (_, party, act, index, answer) in rows {
+        match Place::new(*index) {
+            Some(place) if *index < places => {
+                let call = (*party, step(*act, place));
+                as_wanted &= applied.apply(call.0, call.1) == *answer;
+                as_wanted &= replayed.replay(&[call], &mut answers).is_ok();
+                as_wanted &= answers.pop() == Some(*answer);
             }
+            _ => as_wanted = false,
         }
     }
-    calls
+    as_wanted
 }
 
-// Makes the steps on new cores, by `replay` and by `apply`, and appends the answers.
-fn on_cores(rt: &impl Abort, alloc: Global, places: usize, rows: &[Row], answers: &mut Vec<bool>) {
-    let calls = calls_in(rt, alloc, places, rows);
-    let mut core = Core::new(alloc, places).expect(rt, "a core");
-    core.replay(&calls, answers).expect(rt, "room");
-    let mut core = Core::new(alloc, places).expect(rt, "a core");
-    for (party, step) in &calls {
-        answers.push(core.apply(*party, *step)).expect(rt, "room");
-    }
-}
-
-// Makes them on new claims.
-fn on_claims(rt: &impl Abort, alloc: Global, places: usize, rows: &[Row], answers: &mut Vec<bool>) {
+// Whether holders of new claims do.
+fn is_right_of_claims(rt: &impl Abort, alloc: Global, places: usize, rows: &[Row]) -> bool {
     let (claims, holders) = Claims::new(alloc, places, 2).expect(rt, "claims");
-    let mut hands = hands(rt, alloc, &claims, holders);
-    for (parties, party, act, index, _) in rows {
+    let mut hands = hands(alloc, &claims, holders);
+    let mut as_wanted = true;
+    for (parties, party, act, index, answer) in rows {
         hands.truncate(*parties);
-        if let Some(hand) = hands.get_mut(*party) {
-            answers.push(hand.make(*act, *index)).expect(rt, "room");
-        }
+        as_wanted &= match hands.get_mut(*party) {
+            Some(hand) => hand.make(*act, *index) == *answer,
+            None => false,
+        };
     }
+    as_wanted
 }
 
 #[test]
 fn cores_and_holders_in_turn(rt: HostRuntime) {
-    for (places, rows) in [(4, IN_TURN), (1, LEFT)] {
-        let mut answers = Vec::new(rt.alloc());
-        on_cores(&rt, rt.alloc(), places, rows, &mut answers);
-        on_claims(&rt, rt.alloc(), places, rows, &mut answers);
-        let mut wanted = Vec::new(rt.alloc());
-        for _way in 0..3 {
-            for row in rows {
-                wanted.push(row.4).expect(&rt, "room");
-            }
-        }
-        same(&rt, answers.as_slice(), wanted.as_slice());
-    }
+    let alloc = rt.alloc();
+    let of_cores = is_right_of_cores(&rt, alloc, 4, IN_TURN)
+        & is_right_of_cores(&rt, alloc, 1, LEFT);
+    let of_claims = is_right_of_claims(&rt, alloc, 4, IN_TURN)
+        & is_right_of_claims(&rt, alloc, 1, LEFT);
+    assert!(rt; of_cores & of_claims);
     Core::<Global>::last_changes_tell();
 }

@@ -2,33 +2,18 @@
 
 use crate::common::Open;
 use ic_atomic::{ClaimsError, Gate};
-use ic_unsafe_ref::Place;
 use ic_workers::{doubles, fan_out};
 use std::alloc::Global;
-use std::process::Abort;
+use std::sync::Wait;
 use std::sync::atomic::{AtomicU64, Ordering};
 use std::thread;
+use std::thread::Threads;
 use std::time::{Clock, Duration};
 
 const TURNS: u64 = 10_000;
 
-// Whether each of the first places stands in just one list, once.
-fn stand_once(rt: &impl Abort, alloc: Global, lists: &[Vec<Place>], places: usize) -> bool {
-    let mut is_seen = vec![in alloc; false; places].expect(rt, "room");
-    let mut left = places;
-    for list in lists {
-        for place in list {
-            match is_seen.get_mut(place.index()) {
-                Some(seen) if !*seen && left > 0 => {
-                    *seen = true;
-                    left -= 1;
-                }
-                _ => return false,
-            }
-        }
-    }
-    left == 0
-}
+// How many workers share how many places. What one worker gets alone, a session says.
+const ROWS: &[(usize, usize)] = &[(2, 100), (4, 1000), (64, 100), (2, 0), (0, 0)];
 
 // Notes each worker's first answer, and holds the worker up until the other one's is noted, for so many turns at most.
 #[derive(Drop)]
@@ -63,20 +48,47 @@ impl<C: Clock> Gate for Meeting<'_, C> {
     }
 }
 
-// Where workers came one after the other, the first would come to its last turn. What one worker gets alone, a session says.
+// Whether so many workers meet, and each of the places stands in just one of their lists. Where they came one after the other, the first would
+// come to its last turn.
+fn is_shared<R: Threads + Wait + Clock + Sync>(
+    rt: &R,
+    alloc: Global,
+    workers: usize,
+    places: usize,
+) -> bool {
+    let gate = Meeting {
+        clock: rt,
+        first: AtomicU64::new(0),
+        second: AtomicU64::new(0),
+        given_up: AtomicU64::new(0),
+    };
+    let Ok(lists) = fan_out(rt, alloc, workers, places, &gate) else {
+        return false;
+    };
+    let mut listed: usize = 0;
+    for list in &lists {
+        listed = listed.saturating_add(list.len());
+    }
+    let is_each_once = (listed == places) & (doubles(places, &lists) == 0);
+    is_each_once & (lists.len() == workers) & (gate.given_up.load(Ordering::SeqCst) == 0)
+}
+
+// Whether each row is.
+fn are_shared<R: Threads + Wait + Clock + Sync>(
+    rt: &R,
+    alloc: Global,
+    rows: &[(usize, usize)],
+) -> bool {
+    let mut as_wanted = true;
+    for (workers, places) in rows {
+        as_wanted &= is_shared(rt, alloc, *workers, *places);
+    }
+    as_wanted
+}
+
 #[test]
 fn workers_meet_and_share_places_out(rt: HostRuntime) {
-    for (workers, places) in [(2, 100), (4, 1000), (64, 100), (2, 0), (0, 0)] {
-        let gate = Meeting {
-            clock: &rt,
-            first: AtomicU64::new(0),
-            second: AtomicU64::new(0),
-            given_up: AtomicU64::new(0),
-        };
-        let lists = fan_out(&rt, rt.alloc(), workers, places, &gate).expect(&rt, "lists");
-        assert!(rt; lists.len() == workers && stand_once(&rt, rt.alloc(), &lists, places));
-        assert!(rt; gate.given_up.load(Ordering::SeqCst) == 0 && doubles(places, &lists) == 0);
-    }
-    let refused = fan_out(&rt, rt.alloc(), 2, 4_294_967_297, &Open).err();
-    assert!(rt; refused == Some(ClaimsError::TooManyPlaces));
+    let refused = fan_out(&rt, rt.alloc(), 2, 4_294_967_297, &Open);
+    let is_refused = matches!(refused, Err(ClaimsError::TooManyPlaces));
+    assert!(rt; is_refused & are_shared(&rt, rt.alloc(), ROWS));
 }
