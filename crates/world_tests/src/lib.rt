@@ -1,5 +1,5 @@
-//! What no session of the program shows: faults of reading and writing, the texts of all answers, values that come
-//! back, lists of commands one behind the other, laws at work, and a key adapter.
+//! What no session of the program shows: faults of reading and writing, the texts of all refusals, lists of commands one behind the
+//! other, laws at work, and a key adapter.
 #![tactic(auto)]
 
 #[cfg(test)]
@@ -11,8 +11,4 @@ mod laws;
 #[cfg(test)]
 mod listed;
 #[cfg(test)]
-mod program_runs;
-#[cfg(test)]
 mod texts;
-#[cfg(test)]
-mod values;
