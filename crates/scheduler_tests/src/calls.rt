@@ -1,46 +1,43 @@
-//! Calls of a scheduler and what they answer, as values.
+//! Calls of a scheduler of numbers and what they answer, as values.
 
 use scheduler::{AddError, Queue, Scheduler};
 use std::alloc::Allocator;
-use std::process::Abort;
 
 /// A call of a scheduler. A queue is named by its number.
 #[derive(Clone, Copy)]
-pub(crate) enum Call<V> {
-    Add(u64, usize, V),
+pub(crate) enum Call {
+    Add(u64, usize, u64),
     Tick(u64),
     Next(usize),
 }
 
 /// What a call answers.
 #[derive(Clone, Copy, PartialEq)]
-pub(crate) enum Answer<V> {
+pub(crate) enum Answer {
     Done,
     Moved(usize),
-    Task(u64, V),
+    Task(u64, u64),
     Nothing,
-    Refused(u8, V),
+    Refused(u8, u64),
+    NoQueue,
 }
 
 /// Makes the call.
-pub(crate) fn make<V: Copy, A: Allocator>(
-    rt: &impl Abort,
-    tasks: &mut Scheduler<V, A>,
-    call: Call<V>,
-) -> Answer<V> {
+pub(crate) fn make<A: Allocator>(tasks: &mut Scheduler<u64, A>, call: Call) -> Answer {
+    let number = match call {
+        Call::Tick(now) => return Answer::Moved(tasks.tick(now)),
+        Call::Add(_, number, _) | Call::Next(number) => number,
+    };
+    let Some(queue) = Queue::new(number) else {
+        return Answer::NoQueue;
+    };
     match call {
-        Call::Add(deadline, number, value) => added(tasks.add(deadline, queue(rt, number), value)),
-        Call::Tick(now) => Answer::Moved(tasks.tick(now)),
-        Call::Next(number) => taken(tasks.next_task(queue(rt, number))),
+        Call::Add(deadline, _, value) => added(tasks.add(deadline, queue, value)),
+        _ => taken(tasks.next_task(queue)),
     }
 }
 
-// The queue of that number.
-fn queue(rt: &impl Abort, number: usize) -> Queue {
-    Queue::new(number).expect(rt, "the number of a queue")
-}
-
-fn added<V: Copy>(given: Result<(), AddError<V>>) -> Answer<V> {
+fn added(given: Result<(), AddError<u64>>) -> Answer {
     let Err(refused) = given else {
         return Answer::Done;
     };
@@ -52,8 +49,7 @@ fn added<V: Copy>(given: Result<(), AddError<V>>) -> Answer<V> {
     }
 }
 
-/// What a task that was taken is answered as.
-pub(crate) fn taken<V: Copy>(task: Option<(u64, V)>) -> Answer<V> {
+fn taken(task: Option<(u64, u64)>) -> Answer {
     match task {
         Some((deadline, value)) => Answer::Task(deadline, value),
         None => Answer::Nothing,

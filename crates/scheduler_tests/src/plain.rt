@@ -1,10 +1,8 @@
 //! A plain scheduler, slow and by scans, and calls that look random beside it.
 
-use crate::calls::{Answer, Call, make, taken};
+use crate::calls::{Answer, Call, make};
 use crate::random::Random;
 use scheduler::Scheduler;
-use std::alloc::{AllocError, Global};
-use std::process::Abort;
 
 // A task, as it was added.
 #[derive(Clone, Copy)]
@@ -21,53 +19,78 @@ struct Plain {
     moved: Vec<Task>,
 }
 
-impl Plain {
-    fn call(&mut self, call: Call<u64>) -> Result<Answer<u64>, AllocError> {
-        match call {
-            Call::Add(deadline, queue, value) => self.add(Task {
-                deadline,
-                queue,
-                value,
-            }),
-            Call::Tick(now) => self.tick(now),
-            Call::Next(queue) => Ok(taken(self.next_task(queue))),
+// The task with the least deadline, of equal ones the first, if it is due.
+fn earliest(tasks: &[Task], now: u64) -> Option<usize> {
+    let mut found = None;
+    let mut least = now;
+    for index in 0..tasks.len() {
+        let deadline = tasks[index].deadline;
+        if deadline < least || (deadline == least && found.is_none()) {
+            found = Some(index);
+            least = deadline;
         }
     }
+    found
+}
 
-    fn add(&mut self, task: Task) -> Result<Answer<u64>, AllocError> {
-        self.waiting.push(task)?;
-        Ok(Answer::Done)
+// The first task of a queue.
+fn first_in(tasks: &[Task], queue: usize) -> Option<usize> {
+    for index in 0..tasks.len() {
+        if tasks[index].queue == queue {
+            return Some(index);
+        }
     }
+    None
+}
 
-    fn tick(&mut self, now: u64) -> Result<Answer<u64>, AllocError> {
-        let before = self.moved.len();
-        for _ in 0..self.waiting.len() {
-            if let Some(task) = self.take_earliest(now) {
-                self.moved.push(task)?;
+// Takes the task of that number off.
+fn take(tasks: &mut Vec<Task>, number: Option<usize>) -> Option<Task> {
+    let index = number?;
+    if index < tasks.len() {
+        Some(tasks.remove(index))
+    } else {
+        None
+    }
+}
+
+impl Plain {
+    fn call(&mut self, call: Call) -> Answer {
+        match call {
+            Call::Add(deadline, queue, value) => {
+                let _ = self.waiting.push(Task {
+                    deadline,
+                    queue,
+                    value,
+                });
+                Answer::Done
+            }
+            Call::Tick(now) => Answer::Moved(self.tick(now)),
+            Call::Next(queue) => {
+                let number = first_in(&self.moved, queue);
+                let task = take(&mut self.moved, number);
+                match task {
+                    Some(task) => Answer::Task(task.deadline, task.value),
+                    None => Answer::Nothing,
+                }
             }
         }
-        Ok(Answer::Moved(self.moved.len().saturating_sub(before)))
     }
 
-    // Takes the task with the least deadline out, of equal ones the first, if it is due.
-    fn take_earliest(&mut self, now: u64) -> Option<Task> {
-        let earliest = self.waiting.iter().map(|task| task.deadline).min()?;
-        let index = self
-            .waiting
-            .iter()
-            .position(|task| task.deadline == earliest && earliest <= now)?;
-        Some(self.waiting.remove(index))
-    }
-
-    fn next_task(&mut self, queue: usize) -> Option<(u64, u64)> {
-        let index = self.moved.iter().position(|task| task.queue == queue)?;
-        let task = self.moved.remove(index);
-        Some((task.deadline, task.value))
+    fn tick(&mut self, now: u64) -> usize {
+        let mut moved = 0;
+        for before in 0..self.waiting.len() {
+            let number = earliest(&self.waiting, now);
+            if let Some(task) = take(&mut self.waiting, number) {
+                let _ = self.moved.push(task);
+                moved = before + 1;
+            }
+        }
+        moved
     }
 }
 
 // A call that looks random: tasks with one of twenty deadlines for one of eight queues, and ticks among them.
-fn any_call(random: &mut Random, value: u64) -> Call<u64> {
+fn any_call(random: &mut Random, value: u64) -> Call {
     let deadline = random.below(20) as u64;
     let queue = random.below(8);
     match random.below(5) {
@@ -77,17 +100,24 @@ fn any_call(random: &mut Random, value: u64) -> Call<u64> {
     }
 }
 
-#[test]
-fn a_thousand_calls_answer_as_a_plain_scheduler_does(rt: HostRuntime) -> Result<(), AllocError> {
+// Whether both answer a thousand calls alike.
+fn are_alike(tasks: &mut Scheduler<u64>, plain: &mut Plain) -> bool {
     let mut random = Random::new(1);
-    let mut plain = Plain {
-        waiting: Vec::new(rt.alloc()),
-        moved: Vec::new(rt.alloc()),
-    };
-    let mut tasks = Scheduler::new(rt.alloc());
+    let mut as_wanted = true;
     for value in 0..1000 {
         let next = any_call(&mut random, value);
-        assert!(rt; make(&rt, &mut tasks, next) == plain.call(next)?);
+        as_wanted &= make(tasks, next) == plain.call(next);
     }
-    Ok(())
+    as_wanted
+}
+
+#[test]
+fn a_thousand_calls_answer_as_a_plain_scheduler_does(rt: HostRuntime) {
+    let alloc = rt.alloc();
+    let mut plain = Plain {
+        waiting: Vec::new(alloc),
+        moved: Vec::new(alloc),
+    };
+    let mut tasks = Scheduler::new(alloc);
+    assert!(rt; are_alike(&mut tasks, &mut plain));
 }

@@ -1,92 +1,97 @@
 //! The worked rows: calls, and what they answer.
 
 use crate::calls::{Answer, Call, make};
-use scheduler::{Queue, Scheduler};
-use std::alloc::Allocator;
-use std::process::Abort;
+use scheduler::Scheduler;
+use std::alloc::{Allocator, Global};
 use test_support::rationed::Rationed;
 
-type Row = (Call<char>, Answer<char>);
+type Row = (Call, Answer);
 
-// A tick moves what is due, and what has the same deadline in the order of entry.
-const TICKS: [Row; 21] = [
-    (Call::Add(5, 0, 'a'), Answer::Done),
-    (Call::Add(3, 1, 'b'), Answer::Done),
-    (Call::Add(5, 0, 'c'), Answer::Done),
-    (Call::Add(9, 0, 'd'), Answer::Done),
+// A tick moves what is due, and what has the same deadline in the order of entry. There are eight queues.
+const TICKS: &[Row] = &[
+    (Call::Add(5, 0, 10), Answer::Done),
+    (Call::Add(3, 1, 11), Answer::Done),
+    (Call::Add(5, 0, 12), Answer::Done),
+    (Call::Add(9, 0, 13), Answer::Done),
     (Call::Tick(4), Answer::Moved(1)),
-    (Call::Next(1), Answer::Task(3, 'b')),
+    (Call::Next(1), Answer::Task(3, 11)),
     (Call::Next(0), Answer::Nothing),
     (Call::Tick(5), Answer::Moved(2)),
-    (Call::Next(0), Answer::Task(5, 'a')),
-    (Call::Next(0), Answer::Task(5, 'c')),
+    (Call::Next(0), Answer::Task(5, 10)),
+    (Call::Next(0), Answer::Task(5, 12)),
     (Call::Next(0), Answer::Nothing),
-    (Call::Add(2, 0, 'e'), Answer::Done),
-    (Call::Add(1, 0, 'f'), Answer::Done),
+    (Call::Add(2, 0, 14), Answer::Done),
+    (Call::Add(1, 0, 15), Answer::Done),
     (Call::Next(0), Answer::Nothing),
     (Call::Tick(2), Answer::Moved(2)),
-    (Call::Next(0), Answer::Task(1, 'f')),
-    (Call::Next(0), Answer::Task(2, 'e')),
+    (Call::Next(0), Answer::Task(1, 15)),
+    (Call::Next(0), Answer::Task(2, 14)),
     (Call::Tick(18446744073709551615), Answer::Moved(1)),
-    (Call::Next(0), Answer::Task(9, 'd')),
+    (Call::Next(0), Answer::Task(9, 13)),
     (Call::Next(0), Answer::Nothing),
     (Call::Tick(0), Answer::Moved(0)),
+    (Call::Next(7), Answer::Nothing),
+    (Call::Next(8), Answer::NoQueue),
 ];
 
 // What a later tick moves stands behind what an earlier one did, whatever the deadlines.
-const TWO_TICKS: [Row; 9] = [
-    (Call::Add(7, 2, 'g'), Answer::Done),
+const TWO_TICKS: &[Row] = &[
+    (Call::Add(7, 2, 16), Answer::Done),
     (Call::Tick(7), Answer::Moved(1)),
-    (Call::Add(7, 2, 'h'), Answer::Done),
-    (Call::Add(6, 2, 'i'), Answer::Done),
+    (Call::Add(7, 2, 17), Answer::Done),
+    (Call::Add(6, 2, 18), Answer::Done),
     (Call::Tick(7), Answer::Moved(2)),
-    (Call::Next(2), Answer::Task(7, 'g')),
-    (Call::Next(2), Answer::Task(6, 'i')),
-    (Call::Next(2), Answer::Task(7, 'h')),
+    (Call::Next(2), Answer::Task(7, 16)),
+    (Call::Next(2), Answer::Task(6, 18)),
+    (Call::Next(2), Answer::Task(7, 17)),
     (Call::Next(2), Answer::Nothing),
 ];
 
-// Plays the rows. A refused call gives its value back and changes nothing, so it is made once more. It says how many were refused.
-fn play<A: Allocator>(rt: &impl Abort, tasks: &mut Scheduler<char, A>, rows: &[Row]) -> usize {
+// Plays the rows. A refused call gives its value back and changes nothing, so it is made once more. How many were refused; none, where a call
+// answers otherwise.
+fn play<A: Allocator>(tasks: &mut Scheduler<u64, A>, rows: &[Row]) -> Option<usize> {
     let mut refused: usize = 0;
-    for (made, wanted) in rows {
-        let mut found = make(rt, tasks, *made);
-        if let (Call::Add(_, _, value), Answer::Refused(22, back)) = (*made, found) {
-            assert!(rt; back == value);
+    for (call, wanted) in rows {
+        let mut found = make(tasks, *call);
+        if let (Call::Add(_, _, value), Answer::Refused(22, back)) = (*call, found) {
+            if back != value {
+                return None;
+            }
             refused = refused.saturating_add(1);
-            found = make(rt, tasks, *made);
+            found = make(tasks, *call);
         }
-        assert!(rt; found == *wanted);
+        if found != *wanted {
+            return None;
+        }
     }
-    refused
+    Some(refused)
 }
 
-#[test]
-fn a_tick_moves_what_is_due(rt: HostRuntime) {
-    let mut tasks = Scheduler::new(rt.alloc());
-    assert!(rt; play(&rt, &mut tasks, &TICKS) == 0);
-    assert!(rt; play(&rt, &mut tasks, &TWO_TICKS) == 0);
+// The same of the first rows and then of the second ones, on one scheduler of that memory.
+fn play_both<A: Allocator + Copy>(memory: A, rows: &[Row], others: &[Row]) -> Option<usize> {
+    let mut tasks = Scheduler::new(memory);
+    let refused = play(&mut tasks, rows);
+    match play(&mut tasks, others) {
+        Some(0) => refused,
+        _ => None,
+    }
 }
 
-// How many requests for memory the rows make, and how many of their calls are refused, where the request of that number is.
-fn refusals(rt: &impl Abort, rationed: &Rationed) -> usize {
-    let mut tasks = Scheduler::new(rationed);
-    play(rt, &mut tasks, &TICKS)
-}
-
-#[test]
-fn each_growth_is_refused_in_turn(rt: HostRuntime) {
-    let rationed = Rationed::new(rt.alloc(), u64::MAX);
-    assert!(rt; refusals(&rt, &rationed) == 0);
-    let requests = rationed.requests();
-    assert!(rt; requests >= 3); // each table grew, and the objects
+// Whether each of the requests for memory refuses one call alone, where it is refused. There are three at least: each table grew, and the
+// objects.
+fn is_refused_in_turn(alloc: Global, rows: &[Row], others: &[Row]) -> bool {
+    let memory = Rationed::new(alloc, u64::MAX);
+    let mut as_wanted = play_both(&memory, rows, others) == Some(0);
+    let requests = memory.requests();
+    as_wanted &= requests >= 3;
     for number in 0..requests {
-        rationed.refuse(number);
-        assert!(rt; refusals(&rt, &rationed) == 1);
+        memory.refuse(number);
+        as_wanted &= play_both(&memory, rows, others) == Some(1);
     }
+    as_wanted
 }
 
 #[test]
-fn there_are_eight_queues(rt: HostRuntime) {
-    assert!(rt; Queue::new(7).is_some() && Queue::new(8).is_none());
+fn rows_with_each_growth_refused_in_turn(rt: HostRuntime) {
+    assert!(rt; is_refused_in_turn(rt.alloc(), TICKS, TWO_TICKS));
 }
