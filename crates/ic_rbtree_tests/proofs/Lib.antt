@@ -1,1 +1,1 @@
-pub mod Fixture
+pub mod Trees

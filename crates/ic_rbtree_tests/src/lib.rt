@@ -1,31 +1,9 @@
-//! The red-black tree's worked rows, played on a fixture that tests what each call asks, and every tree of few members.
+//! The red-black tree: what no session of the program shows, since a world does not make the call. Cursors that read, and those that
+//! borrow their tree, searches and inserts in each form, walks, and the shape. Each test makes its calls one after the other, notes
+//! what each answers, and compares the notes with what they are to be.
 #![tactic(auto)]
 
 #[cfg(test)]
+mod notes;
 #[cfg(test)]
-mod cursors;
-#[cfg(test)]
-mod field;
-#[cfg(test)]
-mod inserts;
-#[cfg(test)]
-mod keyed;
-#[cfg(test)]
-mod keyed_runs;
-#[cfg(test)]
-mod orders;
-#[cfg(test)]
-mod played;
-#[cfg(test)]
-mod runs;
-#[cfg(test)]
-mod shape;
-#[cfg(test)]
-mod sorted;
-#[cfg(test)]
-mod tests;
-#[cfg(test)]
-#[cfg(test)]
-mod values;
-#[cfg(test)]
-mod walks;
+mod tree;

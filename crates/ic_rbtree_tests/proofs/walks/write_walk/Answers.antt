@@ -1,8 +1,0 @@
-use Rattle.ic_link_ops.proofs.Positions.{stands_null}
-use Rattle.ic_rbtree_tests.proofs.walks.write_walk.Goals as goal
-
-pub loop-init : goal.loop-init
-loop-init g c =
-    let s = c.requires.shown in
-    let e = c.cursor-cursor.ensures in
-    record { stands = stands_null s.0 (rw (e.links, e.tree) s.1) e.null }

@@ -1,0 +1,40 @@
+//! What the calls of a test answered.
+
+use ic_unsafe_ref::Place;
+use std::alloc::Global;
+use std::process::Abort;
+use test_support::answers::{standing, value};
+use test_support::rows::{Answer, Text};
+
+/// Asserts that the notes have these words. The one assert of all tests.
+pub(crate) fn same(rt: &impl Abort, alloc: Global, notes: &Text, wanted: &str) {
+    let mut found = String::new(alloc);
+    let shown = notes.show(&mut found);
+    assert!(rt; shown.is_ok() && found.split_whitespace().eq(wanted.split_whitespace()));
+}
+
+/// Notes these objects.
+pub(crate) fn write_values(notes: &mut Text, found: &[Option<&u64>]) {
+    for given in found {
+        notes.add(value(*given), " ");
+    }
+}
+
+/// Notes these positions.
+pub(crate) fn write_places(notes: &mut Text, found: &[Option<Place>]) {
+    for at in found {
+        notes.add(standing(*at), " ");
+    }
+}
+
+/// Notes what a cursor tells: whether it is at null, which object it is on, and these positions.
+pub(crate) fn write_looks(
+    notes: &mut Text,
+    is_null: bool,
+    found: Option<&u64>,
+    beside: &[Option<Place>],
+) {
+    notes.add(Answer::Truth(is_null), " ");
+    notes.add(value(found), " ");
+    write_places(notes, beside);
+}

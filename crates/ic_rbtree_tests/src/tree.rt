@@ -1,0 +1,7 @@
+//! The red-black tree.
+
+mod cursors;
+mod keys;
+mod shape;
+mod trees;
+mod walks;

@@ -1,0 +1,84 @@
+//! Walks over the objects of a tree, walks that take its members off, and calls on whole trees.
+
+ghost use Rattle.ic_rbtree.specs.Iter.{CanWalk};
+ghost use Rattle.ic_rbtree.specs.PlainTrees.{plain_table, PlainShowsSome};
+ghost use Rattle.ic_rbtree.specs.Tree.{root_of};
+ghost use Rattle.ic_link_ops.specs.ThreeWords.{node_of};
+
+use crate::notes::{same, write_values};
+use crate::tree::trees::{OwnKey, tree_of};
+use ic_link_ops::rbtree::LinkOps;
+use ic_rbtree::{Bound, Iter, RBTree};
+use test_support::answers::object;
+use test_support::rows::Text;
+use test_support::tables::write_linked;
+
+// Notes the object that a copy of the walk gives from the back, and then what the walk gives at both ends in turn, until neither gives one.
+fn write_walk(notes: &mut Text, mut walk: Iter<'_, OwnKey, LinkOps>)
+    requires can { CanWalk node_of (λ links. plain_table links) walk }
+{
+    if let Ok(mut copy) = walk.clone() {
+        write_values(notes, &[copy.next_back()]);
+    }
+    for _ in 0..3 {
+        write_values(notes, &[walk.next(), walk.next_back()]);
+    }
+}
+
+// Takes the first member off, and the last one too if that is said, notes them and what is linked then, and finishes the walk or drops it.
+fn write_taken(
+    notes: &mut Text,
+    tree: RBTree<OwnKey>,
+    links: &mut LinkOps,
+    from_back: bool,
+    finishes: bool,
+)
+    requires shown { PlainShowsSome links.old (root_of tree) }
+{
+    let mut rest = tree.into_iter(links);
+    notes.add(object(rest.next()), " ");
+    if from_back {
+        notes.add(object(rest.next_back()), " ");
+    }
+    notes.word("linked ");
+    write_linked(notes, rest.links());
+    if finishes {
+        rest.finish();
+    }
+}
+
+#[test]
+fn walks(rt: HostRuntime) {
+    let alloc = rt.alloc();
+    let mut notes = Text::new(alloc);
+    let mut trees = tree_of(&rt, alloc, 4, false);
+    write_walk(&mut notes, trees.tree.iter(&trees.links, &trees.objects));
+    let (from, below) = (Bound::Included(&20), Bound::Excluded(&40));
+    let walk = trees.tree.range(&trees.links, &trees.objects, from, below);
+    write_walk(&mut notes, walk);
+    trees.tree.clear(&mut trees.links);
+    write_linked(&mut notes, &trees.links);
+    for (members, from_back, finishes) in [
+        (2, false, true),
+        (7, true, true),
+        (0, true, true),
+        (4, false, false),
+    ] {
+        let mut trees = tree_of(&rt, alloc, members, false);
+        let tree = trees.tree.take();
+        write_taken(&mut notes, tree, &mut trees.links, from_back, finishes);
+        notes.word("then ");
+        write_linked(&mut notes, &trees.links);
+    }
+    same(
+        &rt,
+        alloc,
+        &notes,
+        "40 10 40 20 30 none none
+        30 20 30 none none none none
+        0 linked 1 then
+        0 6 linked 1 2 3 4 5 then
+        none none linked then
+        0 linked 1 2 3 then 1 2 3",
+    );
+}
