@@ -1,6 +1,6 @@
 -- That a table shows nothing for a tree with no root, where members are placed, that a vacant entry can insert, and that an insert covers
 -- as many places as before.
-use Rattle.std.proofs.Common.{◌≡◌, ◌<◌, true, Result, Ok, Err, Option, None, List, [], ◌∷◌, refl, ap}
+use Rattle.std.proofs.Common.{◌≡◌, true, Result, Ok, Err, Option, None, List, [], ◌∷◌, refl, ap}
 use Rattle.std.specs.List.{AllByRecursion}
 use Rattle.std.specs.declared.cmp.Ordering.{Ordering}
 use Rattle.ic_unsafe_ref.specs.declared.place.Place.{Place}

@@ -75,8 +75,14 @@ fn cursors(rt: HostRuntime) {
     write_places(&mut notes, &[cursor.get_ptr()]);
     trees.tree = cursor.into_inner();
     let ends = [
-        trees.tree.front_mut(&mut trees.links).into_ref(&trees.objects),
-        trees.tree.back_mut(&mut trees.links).into_ref(&trees.objects),
+        trees
+            .tree
+            .front_mut(&mut trees.links)
+            .into_ref(&trees.objects),
+        trees
+            .tree
+            .back_mut(&mut trees.links)
+            .into_ref(&trees.objects),
     ];
     write_values(&mut notes, &ends);
     write_edits(&mut notes, &mut trees);

@@ -35,14 +35,19 @@ fn write_searches(notes: &mut Text, trees: &mut Trees, key: &u64)
     let found = [
         tree.find_mut(links, objects, key).into_ref(objects),
         tree.lower_bound_mut(links, objects, from).into_ref(objects),
-        tree.upper_bound_mut(links, objects, below).into_ref(objects),
+        tree.upper_bound_mut(links, objects, below)
+            .into_ref(objects),
     ];
     write_values(notes, &found);
     let cursor = tree.take().find_owning(&*links, objects, key);
     let found = cursor.get_ptr();
-    let cursor = cursor.into_inner().lower_bound_owning(&*links, objects, from);
+    let cursor = cursor
+        .into_inner()
+        .lower_bound_owning(&*links, objects, from);
     let first = cursor.get_ptr();
-    let cursor = cursor.into_inner().upper_bound_owning(&*links, objects, below);
+    let cursor = cursor
+        .into_inner()
+        .upper_bound_owning(&*links, objects, below);
     write_places(notes, &[found, first, cursor.get_ptr()]);
 }
 
@@ -75,7 +80,9 @@ fn write_inserts(notes: &mut Text, trees: &mut Trees, way: Way, key: &u64, place
                 Entry::Occupied(cursor) => Ok(cursor),
                 Entry::Vacant(gap) => gap.insert(UnsafeRef::new(place)),
             },
-            Way::OrInsert => tree.entry(links, objects, key).or_insert(UnsafeRef::new(place)),
+            Way::OrInsert => tree
+                .entry(links, objects, key)
+                .or_insert(UnsafeRef::new(place)),
             Way::OrInsertWith => tree.entry(links, objects, key).or_insert_with(|| {
                 notes.word("made ");
                 UnsafeRef::new(place)

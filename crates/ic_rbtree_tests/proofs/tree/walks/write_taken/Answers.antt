@@ -6,6 +6,6 @@ finish-requires c =
     let s = c.requires.shown in
     let left = c.next.ensures.steps.removed s.0 (c.into_iter-rest.ensures.tree s.0 s.1) in
     elim c.if-from_back.branch [
-      then-from_back w ↦ record { can_take = rw w.rest-is (_, w.next_back.ensures.steps.removed _ left) }
-    | else-from_back w ↦ record { can_take = rw w.rest-is (_, left) }
+      | then-from_back w ↦ record { can_take = rw w.rest-is (_, w.next_back.ensures.steps.removed _ left) }
+      | else-from_back w ↦ record { can_take = rw w.rest-is (_, left) }
     ]
