@@ -1,3 +1,4 @@
-pub mod DoublyLists
-pub mod SinglyLists
-pub mod XorLists
+pub mod Edits
+pub mod Members
+pub mod Placed
+pub mod Trees

@@ -1,4 +1,1 @@
-pub mod DoublyLists
 pub mod SinglyLists
-pub mod Spots
-pub mod XorLists

@@ -1,190 +1,231 @@
 //! The doubly linked list.
 
-mod lists;
-mod walks;
+ghost use Rattle.std.specs.Prelude.{◌≡◌, ◌≤◌};
+ghost use Rattle.ic_link_ops.specs.DoublyEntries.{neighbors_of, plain_table, PlainShows, PlainShowsSome};
+ghost use Rattle.ic_link_ops.specs.LinkedList.{Shows};
+ghost use Rattle.ic_link_ops.specs.PlacedObjects.{ShowsPlaced};
+ghost use Rattle.ic_link_ops.specs.Positions.{Stands};
+ghost use Rattle.ic_linked_list.specs.Cursor as reads;
+ghost use Rattle.ic_linked_list.specs.Iter.{CanWalk};
 
-use crate::doubly::lists::Lists;
-use crate::notes::{five, same};
-use ic_link_ops::linked_list::LinkOps;
-use ic_unsafe_ref::Place;
+use crate::fixtures::{eight, reference};
+use crate::notes::{same, write_looks, write_object, write_places, write_values};
+use ic_link_ops::linked_list::{Link, LinkOps};
+use ic_linked_list::{Cursor, Iter, LinkedList, laws};
+use ic_unsafe_ref::{Objects, UnsafeRef};
 use std::alloc::Global;
-use std::test::Fail;
+use std::process::Abort;
 use test_support::rows::{Answer, Text};
+use test_support::tables::write_linked;
 
-#[test]
-fn what_cursors_read(rt: HostRuntime) -> Result<(), Fail> {
-    let objects = five(rt.alloc());
-    let mut lists = Lists::new(rt.alloc())?;
-    lists.look(&objects);
-    lists.push_back(0);
-    lists.push_back(1);
-    lists.push_back(2);
-    lists.look(&objects);
-    lists.front();
-    lists.look(&objects);
-    lists.move_next();
-    lists.look(&objects);
-    lists.back_owning();
-    lists.look(&objects);
-    lists.ends();
-    same(
-        &rt,
-        rt.alloc(),
-        &lists.notes,
-        "yes none none none none none  yes none none none none none
-        ok ok ok
-        yes none none 2 0 none  yes none none 2 0 none
-        no 10 0 none 1 0  no 10 0 none 1 10
-        no 20 1 0 2 1  no 20 1 0 2 20
-        no 30 2 1 none 2  no 30 2 1 none 30
-        0 2 0 2",
-    );
-    Ok(())
+/// A list, the table of its links, which covers the places 0 to 7, and its objects: 10 to 80 stand there, in this order.
+#[derive(Drop)]
+struct Lists {
+    objects: Objects<u64>,
+    links: LinkOps,
+    list: LinkedList<u64>,
 }
 
-#[test]
-fn edits_by_a_cursor_that_borrows(rt: HostRuntime) -> Result<(), Fail> {
-    let mut lists = Lists::new(rt.alloc())?;
-    lists.remove();
-    lists.replace_with(0);
-    lists.insert_after(0);
-    lists.back();
-    lists.insert_after(2);
-    lists.move_next();
-    lists.insert_before(1);
-    lists.insert_before(1);
-    lists.show();
-    lists.replace_with(3);
-    lists.replace_with(1);
-    lists.move_prev();
-    lists.show();
-    lists.remove();
-    lists.show();
-    lists.remove_object();
-    lists.remove_first();
-    lists.remove_first();
-    lists.linked();
-    same(
-        &rt,
-        rt.alloc(),
-        &lists.notes,
-        "none null ok ok ok linked   0 1 (2) +
-        2 linked   0 (1) 3 +
-        1   0 (3) +
-        0 none   linked",
-    );
-    Ok(())
-}
-
-#[test]
-fn splices_and_splits_by_a_cursor_that_borrows(rt: HostRuntime) -> Result<(), Fail> {
-    let mut lists = Lists::new(rt.alloc())?;
-    lists.push_back(1);
-    lists.push_back(2);
-    lists.push_back(3);
-    lists.push_back(4);
-    lists.front_owning();
-    lists.move_next();
-    lists.split_after();
-    lists.show();
-    lists.splice_before();
-    lists.show();
-    lists.split_before();
-    lists.show();
-    lists.splice_after();
-    lists.show();
-    lists.split_then_splice();
-    lists.move_prev();
-    lists.split_after();
-    lists.swap();
-    lists.show();
-    same(
-        &rt,
-        rt.alloc(),
-        &lists.notes,
-        "ok ok ok ok   1 (2) + 3 4
-        1 3 4 (2) +
-        (2) + 1 3 4
-        (2) 1 3 4 +
-        2 1 3 4 +",
-    );
-    Ok(())
-}
-
-#[test]
-fn walks_from_both_ends(rt: HostRuntime) -> Result<(), Fail> {
-    let objects = five(rt.alloc());
-    let mut lists = Lists::new(rt.alloc())?;
-    lists.walk(rt.alloc(), &objects);
-    lists.push_back(0);
-    lists.push_back(1);
-    lists.push_back(2);
-    lists.push_back(3);
-    lists.walk(rt.alloc(), &objects);
-    lists.take_off(false);
-    lists.push_back(1);
-    lists.force_unlink(1);
-    lists.force_unlink(2);
-    lists.linked();
-    lists.push_back(3);
-    lists.push_back(1);
-    lists.push_back(2);
-    lists.take_off(true);
-    lists.linked();
-    lists.take_off(true);
-    same(
-        &rt,
-        rt.alloc(),
-        &lists.notes,
-        "none none none none none none none []
-        ok ok ok ok
-        10 40 30 30 20 none none [10, 20, 30, 40]
-        0 3 linked 1 2 linked linked
-        ok ok ok
-        3 2 linked 1 linked
-        none none linked",
-    );
-    Ok(())
-}
-
-#[test]
-fn laws_of_the_list(rt: HostRuntime) -> Result<(), Fail> {
-    let mut first = Lists::new(rt.alloc())?;
-    let mut second = Lists::new(rt.alloc())?;
-    first.push_then_pop(2);
-    first.push_back(1);
-    first.push_then_pop(1);
-    first.push_then_pop(3);
-    first.push_in_both(&mut second, 2);
-    first.push_in_both(&mut second, 2);
-    first.show();
-    second.show();
-    same(&rt, rt.alloc(), &first.notes, "2 ok 3 yes   1 2 +");
-    same(&rt, rt.alloc(), &second.notes, "2 +");
-    Ok(())
-}
-
-// Writes what the link of that place is printed as, if the table covers it.
-fn write_link(notes: &mut Text, alloc: Global, links: &LinkOps, index: usize) {
-    let Some(place) = Place::new(index) else {
-        return;
-    };
-    if place.index() >= links.covers() {
-        return;
+// A list of the objects at the first places, as many as that, in their order.
+fn list_of(rt: &impl Abort, alloc: Global, members: usize) -> Lists
+    requires { members ≤ 8 }
+    ensures covers { (plain_table result.links).extent.places ≡ 8 }
+    ensures shown { ShowsPlaced (PlainShows result.links result.list) result.objects }
+{
+    let (objects, mut links) = eight(rt, alloc);
+    let mut list = LinkedList::default();
+    for index in 0..members {
+        let _ = list.push_back(&mut links, reference(index));
     }
-    if let Ok(text) = format!(in alloc; "{:?}", links.link(place)) {
-        notes.add(Answer::Text(text), " ");
+    Lists {
+        objects,
+        links,
+        list,
     }
 }
 
+// Notes what the cursor tells four times, as it moves on in between, and where a move back leads a copy of it then.
+fn write_read(notes: &mut Text, mut cursor: Cursor<'_, u64, LinkOps>, objects: &Objects<u64>)
+    requires stands { Stands (Shows neighbors_of) (λ links. plain_table links) (reads.site_of cursor) }
+{
+    for _ in 0..4 {
+        let beside = [cursor.peek_prev().get_ptr(), cursor.peek_next().get_ptr()];
+        write_looks(notes, cursor.is_null(), cursor.get(objects), &beside);
+        cursor.move_next();
+    }
+    if let Ok(mut copy) = cursor.clone() {
+        copy.move_prev();
+        write_object(notes, copy.clone_pointer());
+    }
+}
+
+// Makes each edit by one cursor of a list with the members 0, 1 and 2, and notes what came out, and what is then read.
+fn write_edits(rt: &impl Abort, notes: &mut Text, lists: &mut Lists)
+    requires covers { (plain_table lists.old.links).extent.places ≡ 8 }
+    requires shown { PlainShowsSome lists.old.links lists.old.list }
+{
+    let Lists {
+        objects,
+        links,
+        list,
+    } = lists;
+    let member = reference(1);
+    assert!(rt; list.contains(&*links, member.place()));
+    let mut cursor = list.cursor_mut_from_ptr(links, member);
+    let _ = cursor.insert_after(reference(3));
+    let _ = cursor.insert_before(reference(4));
+    write_object(notes, cursor.replace_with(reference(5)).ok());
+    cursor.move_prev();
+    write_object(notes, cursor.remove());
+    let behind = cursor.split_after();
+    cursor.splice_before(behind);
+    let in_front = cursor.split_before();
+    cursor.splice_after(in_front);
+    laws::split_then_splice(&mut cursor);
+    cursor.move_next();
+    write_read(notes, cursor.peek_next(), objects);
+    write_read(notes, cursor.peek_prev(), objects);
+    let there = [cursor.get_ptr()];
+    write_looks(notes, cursor.is_null(), cursor.into_ref(objects), &there);
+}
+
+// Notes what a walk gives at the front once, at the back twice, and at both ends until neither gives one, and first what a copy gives.
+fn write_walk(notes: &mut Text, mut walk: Iter<'_, u64, LinkOps>)
+    requires can { CanWalk neighbors_of (λ links. plain_table links) walk }
+{
+    if let Ok(mut copy) = walk.clone() {
+        write_values(notes, &[copy.next_back()]);
+    }
+    let given = [
+        walk.next(),
+        walk.next_back(),
+        walk.next_back(),
+        walk.next(),
+        walk.next(),
+        walk.next_back(),
+    ];
+    write_values(notes, &given);
+}
+
+// Notes the debug text of the objects that a walk gives.
+fn write_text(notes: &mut Text, alloc: Global, walk: Iter<'_, u64, LinkOps>)
+    requires can { CanWalk neighbors_of (λ links. plain_table links) walk }
+{
+    let mut found = Vec::new(alloc);
+    for given in walk {
+        let _ = found.push(*given);
+    }
+    if let Ok(text) = format!(in alloc; "{:?} ", found.as_slice()) {
+        notes.word(text.as_str());
+    }
+}
+
+// Notes the debug text of two links.
+fn write_links(notes: &mut Text, alloc: Global, first: &Link, second: &Link) {
+    if let Ok(text) = format!(in alloc; "{first:?} {second:?} ") {
+        notes.word(text.as_str());
+    }
+}
+
+// Takes the first member off. Then it drops the walk, or takes the last one off too, notes what is linked, and finishes.
+fn write_taken(notes: &mut Text, list: LinkedList<u64>, links: &mut LinkOps, finishes: bool)
+    requires shown { PlainShowsSome links.old list }
+{
+    let mut rest = list.into_iter(links);
+    write_object(notes, rest.next());
+    if finishes {
+        write_object(notes, rest.next_back());
+        write_linked(notes, rest.links());
+        rest.finish();
+    }
+}
+
+// Makes the other calls on a whole list with the members 0, 1 and 2, and those of the laws, with an empty list of another field.
+fn write_whole(rt: &impl Abort, notes: &mut Text, lists: &mut Lists, field: &mut Lists)
+    requires covers { (plain_table lists.old.links).extent.places ≡ 8 }
+    requires shown { PlainShowsSome lists.old.links lists.old.list }
+    requires field_covers { (plain_table field.old.links).extent.places ≡ 8 }
+    requires field_shown { PlainShowsSome field.old.links field.old.list }
+{
+    let object = reference(5);
+    let place = object.place();
+    assert!(rt; !lists.links.is_linked(place) && !field.links.is_linked(place));
+    let (front, back) = laws::null_there_and_back(&mut lists.list.cursor(&lists.links));
+    write_places(notes, &[front, back]);
+    let taken = laws::push_then_pop(&mut field.list, &mut field.links, object);
+    write_object(notes, taken);
+    let are_in = laws::fields_are_apart(
+        &mut lists.list,
+        &mut lists.links,
+        &mut field.list,
+        &mut field.links,
+        place,
+    );
+    notes.add(Answer::Truth(are_in), " ");
+    write_linked(notes, &field.links);
+    lists.list.remove(&mut lists.links, &UnsafeRef::new(place));
+    let _ = lists.list.push_front(&mut lists.links, reference(6));
+    write_linked(notes, &lists.links);
+    lists.list.fast_clear();
+    notes.add(Answer::Truth(lists.list.is_empty()), " ");
+}
+
 #[test]
-fn the_text_of_an_entry(rt: HostRuntime) -> Result<(), Fail> {
-    let mut lists = Lists::new(rt.alloc())?;
-    lists.push_back(1);
-    write_link(&mut lists.notes, rt.alloc(), &lists.links, 1);
-    lists.front();
-    lists.remove();
-    write_link(&mut lists.notes, rt.alloc(), &lists.links, 1);
-    same(&rt, rt.alloc(), &lists.notes, "ok linked 1 unlinked");
-    Ok(())
+fn doubly_linked_list(rt: HostRuntime) {
+    let alloc = rt.alloc();
+    let mut notes = Text::new(alloc);
+    let mut lists = list_of(&rt, alloc, 4);
+    write_walk(&mut notes, lists.list.iter(&lists.links, &lists.objects));
+    write_text(
+        &mut notes,
+        alloc,
+        lists.list.iter(&lists.links, &lists.objects),
+    );
+    write_read(&mut notes, lists.list.front(&lists.links), &lists.objects);
+    write_read(&mut notes, lists.list.back(&lists.links), &lists.objects);
+    write_taken(&mut notes, lists.list.take(), &mut lists.links, false);
+    write_linked(&mut notes, &lists.links);
+    let links = list_of(&rt, alloc, 1).links;
+    let (linked, unlinked) = (reference(0).place(), reference(1).place());
+    write_links(&mut notes, alloc, links.link(unlinked), links.link(linked));
+    let mut lists = list_of(&rt, alloc, 3);
+    let ends = [
+        lists
+            .list
+            .front_mut(&mut lists.links)
+            .into_ref(&lists.objects),
+        lists
+            .list
+            .back_mut(&mut lists.links)
+            .into_ref(&lists.objects),
+    ];
+    write_values(&mut notes, &ends);
+    write_edits(&rt, &mut notes, &mut lists);
+    let mut lists = list_of(&rt, alloc, 3);
+    let cursor = lists.list.take().front_owning(&lists.links);
+    write_read(&mut notes, cursor.as_cursor(&lists.links), &lists.objects);
+    let cursor = cursor.into_inner().back_owning(&lists.links);
+    write_places(&mut notes, &[cursor.get_ptr()]);
+    lists.list = cursor.into_inner();
+    write_whole(&rt, &mut notes, &mut lists, &mut list_of(&rt, alloc, 0));
+    let mut lists = list_of(&rt, alloc, 4);
+    write_taken(&mut notes, lists.list.take(), &mut lists.links, true);
+    write_linked(&mut notes, &lists.links);
+    same(
+        &rt,
+        alloc,
+        &notes,
+        "40 10 40 30 20 none none [10, 20, 30, 40]
+        no 10 none 1  no 20 0 2  no 30 1 3  no 40 2 none  3
+        no 40 2 none  yes none 3 0  no 10 none 1  no 20 0 2  1
+        0  1 2 3  unlinked linked
+        10 30
+        1 4
+        no 40 0 2  no 30 3 none  yes none 2 5  no 60 none 0  5
+        no 60 none 0  no 10 5 3  no 40 0 2  no 30 3 none  2
+        no 10 0
+        no 10 none 1  no 20 0 2  no 30 1 none  yes none 2 0  none  2
+        0 2  5 yes  5  0 1 2 6  yes
+        0 3  1 2",
+    );
 }

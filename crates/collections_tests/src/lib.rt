@@ -1,13 +1,17 @@
 //! The collections: what no session of the program shows, since a world does not make the call. Cursors that read, and those that
-//! borrow their collection, walks, laws, and what the entries of a table say. Each test makes its calls one after the other on a
-//! fixture that notes what each answers, and compares the notes with what they are to be.
+//! borrow their collection, walks, laws, and the words of links. Each test makes its calls one after the other, notes what each
+//! answers, and compares the notes with what they are to be.
 #![tactic(auto)]
 
 #[cfg(test)]
 mod doubly;
 #[cfg(test)]
+mod fixtures;
+#[cfg(test)]
 mod notes;
 #[cfg(test)]
 mod singly;
+#[cfg(test)]
+mod tree;
 #[cfg(test)]
 mod xor;

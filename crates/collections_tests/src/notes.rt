@@ -1,25 +1,16 @@
-//! The objects of a test, and what its calls answered.
+//! What the calls of a test answered.
 
-use ic_unsafe_ref::{Objects, Place};
+use ic_unsafe_ref::{Place, UnsafeRef};
 use std::alloc::Global;
 use std::process::Abort;
-use test_support::answers::{placed, standing, value};
+use test_support::answers::{object, standing, value};
 use test_support::rows::{Answer, Text};
 
-/// Asserts that the notes have these words. The one assert of all tests.
+/// Asserts that the notes have these words. The one comparison of each test.
 pub(crate) fn same(rt: &impl Abort, alloc: Global, notes: &Text, wanted: &str) {
     let mut found = String::new(alloc);
     let shown = notes.show(&mut found);
     assert!(rt; shown.is_ok() && found.split_whitespace().eq(wanted.split_whitespace()));
-}
-
-/// The objects 10, 20, 30, 40 and 50.
-pub(crate) fn five(alloc: Global) -> Objects<u64> {
-    let mut objects = Objects::new(alloc);
-    for tens in 1..6 {
-        let _ = placed(&mut objects, tens * 10);
-    }
-    objects
 }
 
 /// Notes these objects.
@@ -34,6 +25,11 @@ pub(crate) fn write_places(notes: &mut Text, found: &[Option<Place>]) {
     for at in found {
         notes.add(standing(*at), " ");
     }
+}
+
+/// Notes where this object stands, which was taken off.
+pub(crate) fn write_object(notes: &mut Text, taken: Option<UnsafeRef<u64>>) {
+    notes.add(object(taken), " ");
 }
 
 /// Notes what a cursor tells: whether it is at null, which object it is on, and these positions.

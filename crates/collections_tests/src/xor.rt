@@ -1,176 +1,115 @@
 //! The XOR list.
 
-mod edits;
-mod lists;
-mod looks;
-mod moves;
-mod spots;
-mod walks;
+ghost use Rattle.std.specs.Prelude.{◌≡◌, ◌≤◌};
+ghost use Rattle.ic_link_ops.specs.OneWord.{no_word, has_word, next_word_of};
+ghost use Rattle.ic_link_ops.specs.PlacedObjects.{ShowsPlaced};
+ghost use Rattle.ic_link_ops.specs.PlainTables.{table, linked_by};
+ghost use Rattle.ic_link_ops.specs.Readings.{XorJoins};
+ghost use Rattle.ic_link_ops.specs.XorLinkedList.{Shows};
+ghost use Rattle.ic_xor_linked_list.specs.Cursor as reads;
+ghost use Rattle.ic_xor_linked_list.specs.Iter.{CanWalk};
+ghost use Rattle.ic_xor_linked_list.specs.PlainLists.{PlainShows, PlainShowsSome};
+ghost use Rattle.ic_xor_linked_list.specs.Position.{HasMemberBehind, HasMemberBefore};
 
-use crate::notes::{five, same};
-use crate::xor::edits::{Edit, Put, Side};
-use crate::xor::lists::Lists;
-use crate::xor::moves::Move;
+use crate::fixtures::{eight, reference};
+use crate::notes::{same, write_looks, write_object, write_places, write_values};
 use ic_link_ops::rbtree::ThreeWords;
-use ic_link_ops::xor_linked_list::Xor;
-use ic_link_ops::{OneWord, PlainTable};
-use ic_unsafe_ref::Place;
-use std::test::Fail;
+use ic_link_ops::xor_linked_list::{LinkOps, Xor};
+use ic_link_ops::{NextWord, OneWord, PlainTable};
+use ic_unsafe_ref::{Objects, Place, UnsafeRef};
+use ic_xor_linked_list::{Cursor, Iter, XorLinkedList, laws};
+use std::alloc::Global;
+use std::process::Abort;
 use test_support::rows::{Answer, Text};
+use test_support::tables::write_linked;
 
-#[test]
-fn what_cursors_read(rt: HostRuntime) -> Result<(), Fail> {
-    let objects = five(rt.alloc());
-    let mut lists: Lists<OneWord<Xor>> = Lists::new(rt.alloc())?;
-    lists.look(&objects);
-    lists.push_back(0);
-    lists.push_back(1);
-    lists.push_back(2);
-    lists.look(&objects);
-    lists.go(Move::Front);
-    lists.look(&objects);
-    lists.go(Move::Next);
-    lists.renew();
-    lists.look(&objects);
-    lists.go(Move::Back);
-    lists.look(&objects);
-    lists.go_to_end(true);
-    lists.show();
-    lists.go_to_end(false);
-    lists.go(Move::Prev);
-    lists.show();
-    lists.ends();
-    same(
-        &rt,
-        rt.alloc(),
-        &lists.notes,
-        "yes none none none none none  yes none none none none none
-        ok ok ok
-        yes none none 2 0 none  yes none none 2 0 none
-        no 10 0 none 1 0  no 10 0 none 1 10
-        no 20 1 0 2 1  no 20 1 0 2 20
-        no 30 2 1 none 2  no 30 2 1 none 30
-        (0) 1 2 +   0 (1) 2 +   0 2 0 2",
-    );
-    Ok(())
+/// A list, the table of its links, which covers the places 0 to 7, and its objects: 10 to 80 stand there, in this order.
+#[derive(Drop)]
+struct Lists<W: NextWord> {
+    objects: Objects<u64>,
+    links: PlainTable<W>,
+    list: XorLinkedList<u64>,
 }
 
-#[test]
-fn edits_by_a_cursor_that_borrows(rt: HostRuntime) -> Result<(), Fail> {
-    let mut lists: Lists<OneWord<Xor>> = Lists::new(rt.alloc())?;
-    lists.edit(Edit::Remove);
-    lists.put(Put::Instead, 0);
-    lists.put(Put::After, 0);
-    lists.go(Move::Back);
-    lists.put(Put::After, 2);
-    lists.go(Move::Next);
-    lists.put(Put::Before, 1);
-    lists.put(Put::Before, 1);
-    lists.show();
-    lists.put(Put::Instead, 3);
-    lists.put(Put::Instead, 1);
-    lists.go(Move::Prev);
-    lists.show();
-    lists.edit(Edit::Remove);
-    lists.show();
-    lists.linked();
-    same(
-        &rt,
-        rt.alloc(),
-        &lists.notes,
-        "none null ok ok ok linked   0 1 (2) +
-        2 linked   0 (1) 3 +
-        1   0 (3) +   linked 0 3",
-    );
-    Ok(())
+// A list of the objects at the first places, as many as that, in their order.
+fn list_of<W: NextWord>(rt: &impl Abort, alloc: Global, members: usize) -> Lists<W>
+    requires { members ≤ 8 }
+    ensures covers { (table W.unlinked result.links).extent.places ≡ 8 }
+    ensures shown { ShowsPlaced (PlainShows W.unlinked W.is_linked W.next_word result.links result.list) result.objects }
+{
+    let (objects, mut links) = eight(rt, alloc);
+    let mut list = XorLinkedList::default();
+    for index in 0..members {
+        let _ = list.push_back(&mut links, reference(index));
+    }
+    Lists {
+        objects,
+        links,
+        list,
+    }
 }
 
-#[test]
-fn splices_and_splits_by_a_cursor_that_borrows(rt: HostRuntime) -> Result<(), Fail> {
-    let mut lists: Lists<OneWord<Xor>> = Lists::new(rt.alloc())?;
-    lists.push_back(1);
-    lists.push_back(2);
-    lists.push_back(3);
-    lists.push_back(4);
-    lists.go(Move::Front);
-    lists.go(Move::Next);
-    lists.edit(Edit::Split(Side::After));
-    lists.show();
-    lists.edit(Edit::Splice(Side::Before));
-    lists.show();
-    lists.edit(Edit::Split(Side::Before));
-    lists.show();
-    lists.edit(Edit::Splice(Side::After));
-    lists.show();
-    lists.split_then_splice();
-    lists.reverse();
-    lists.reverse_twice();
-    lists.show();
-    same(
-        &rt,
-        rt.alloc(),
-        &lists.notes,
-        "ok ok ok ok   ok   1 (2) + 3 4
-        ok   1 3 4 (2) +
-        ok   (2) + 1 3 4
-        ok   (2) 1 3 4 +
-        4 3 1 2 +",
-    );
-    Ok(())
+// Notes what the cursor tells four times, as it moves on in between, and where a move back leads a copy of it then.
+fn write_read(notes: &mut Text, mut cursor: Cursor<'_, u64, LinkOps>, objects: &Objects<u64>)
+    requires stands { reads.KnowsNeighbors (Shows (linked_by has_word) (XorJoins next_word_of)) (λ links. table no_word links) cursor }
+{
+    for _ in 0..4 {
+        let beside = [cursor.peek_prev().get_ptr(), cursor.peek_next().get_ptr()];
+        write_looks(notes, cursor.is_null(), cursor.get(objects), &beside);
+        cursor.move_next();
+    }
+    if let Ok(mut copy) = cursor.clone() {
+        copy.move_prev();
+        write_object(notes, copy.clone_pointer());
+    }
 }
 
-#[test]
-fn walks_from_both_ends(rt: HostRuntime) -> Result<(), Fail> {
-    let objects = five(rt.alloc());
-    let mut lists: Lists<OneWord<Xor>> = Lists::new(rt.alloc())?;
-    lists.walk(&objects);
-    lists.push_back(0);
-    lists.push_back(1);
-    lists.push_back(2);
-    lists.push_back(3);
-    lists.walk(&objects);
-    lists.take_off(false);
-    lists.push_back(1);
-    lists.force_unlink(1);
-    lists.force_unlink(2);
-    lists.linked();
-    lists.push_back(3);
-    lists.push_back(1);
-    lists.push_back(2);
-    lists.take_off(true);
-    lists.linked();
-    same(
-        &rt,
-        rt.alloc(),
-        &lists.notes,
-        "none none none none none none none
-        ok ok ok ok
-        10 40 30 30 20 none none
-        0 3 linked 1 2   linked   linked
-        ok ok ok   3 2 linked 1   linked",
-    );
-    Ok(())
+// The second member, and the one in front of it.
+fn second(
+    rt: &impl Abort,
+    list: &XorLinkedList<u64>,
+    links: &LinkOps,
+) -> (UnsafeRef<u64>, Option<UnsafeRef<u64>>)
+    requires shown { PlainShowsSome no_word has_word next_word_of links.now list.now }
+    ensures { HasMemberBehind (PlainShows no_word has_word next_word_of links.now list.now) result.0 result.1 }
+{
+    let mut cursor = list.front(links);
+    let first = cursor.clone_pointer();
+    cursor.move_next();
+    (cursor.clone_pointer().expect(rt, "a second member"), first)
 }
 
-#[test]
-fn laws_of_the_list(rt: HostRuntime) -> Result<(), Fail> {
-    let mut first: Lists<OneWord<Xor>> = Lists::new(rt.alloc())?;
-    let mut second: Lists<OneWord<Xor>> = Lists::new(rt.alloc())?;
-    first.push_then_pop(2);
-    first.push_back(1);
-    first.push_then_pop(1);
-    first.push_then_pop(3);
-    first.push_in_both(&mut second, 2);
-    first.push_in_both(&mut second, 2);
-    first.show();
-    second.show();
-    same(&rt, rt.alloc(), &first.notes, "2 ok 3 yes   1 2 +");
-    same(&rt, rt.alloc(), &second.notes, "2 +");
-    Ok(())
+// The last member, and what is behind it: nothing.
+fn last(
+    rt: &impl Abort,
+    list: &XorLinkedList<u64>,
+    links: &LinkOps,
+) -> (UnsafeRef<u64>, Option<UnsafeRef<u64>>)
+    requires shown { PlainShowsSome no_word has_word next_word_of links.now list.now }
+    ensures { HasMemberBefore (PlainShows no_word has_word next_word_of links.now list.now) result.0 result.1 }
+{
+    let cursor = list.back(links);
+    let behind = cursor.peek_next().clone_pointer();
+    (cursor.clone_pointer().expect(rt, "a last member"), behind)
 }
 
-// Writes the words of the places, in their order.
-fn write_words(notes: &mut Text, links: &PlainTable<OneWord<Xor>>) {
+// Notes where a move on leads from the second member, and a move back from the last one, by cursors that are made on them.
+fn write_anew(rt: &impl Abort, notes: &mut Text, list: &XorLinkedList<u64>, links: &LinkOps)
+    requires shown { PlainShowsSome no_word has_word next_word_of links.now list.now }
+{
+    let (object, prev) = second(rt, list, links);
+    let mut cursor = list.cursor_from_ptr_and_prev(links, object, prev);
+    cursor.move_next();
+    write_object(notes, cursor.clone_pointer());
+    let (object, next) = last(rt, list, links);
+    let mut cursor = list.cursor_from_ptr_and_next(links, object, next);
+    cursor.move_prev();
+    write_object(notes, cursor.clone_pointer());
+}
+
+// Notes the words of the links, in the order of their places. The word is the exclusive or of the neighbours' numbers, where a place has the
+// number 2 * (index + 1), and 1 says that it is unlinked.
+fn write_words(notes: &mut Text, links: &LinkOps) {
     for index in 0..links.covers() {
         if let Some(place) = Place::new(index) {
             notes.add(Answer::Number(links.link(place).word()), " ");
@@ -178,55 +117,201 @@ fn write_words(notes: &mut Text, links: &PlainTable<OneWord<Xor>>) {
     }
 }
 
-// The word of a link is the exclusive or of the neighbours' numbers, where a place has the number 2 * (index + 1), and 1 says
-// that it is unlinked.
-#[test]
-fn words_of_links(rt: HostRuntime) -> Result<(), Fail> {
-    let mut lists: Lists<OneWord<Xor>> = Lists::new(rt.alloc())?;
-    write_words(&mut lists.notes, &lists.links);
-    lists.push_back(0);
-    lists.push_back(1);
-    lists.push_back(2);
-    write_words(&mut lists.notes, &lists.links);
-    lists.reverse();
-    write_words(&mut lists.notes, &lists.links);
-    lists.reverse();
-    lists.go(Move::Front);
-    lists.go(Move::Next);
-    lists.edit(Edit::Remove);
-    write_words(&mut lists.notes, &lists.links);
-    same(
-        &rt,
-        rt.alloc(),
-        &lists.notes,
-        "1 1 1 1 1   ok ok ok   4 4 4 1 1   4 4 4 1 1   1   6 1 2 1 1",
-    );
-    Ok(())
+// Notes the words of a list with the members 0, 1 and 2, where cursors lead that are made on members, and both once more when the list
+// is turned round, and the words when the second member is taken off.
+fn write_turned(rt: &impl Abort, notes: &mut Text, lists: &mut Lists<OneWord<Xor>>)
+    requires shown { PlainShowsSome no_word has_word next_word_of lists.old.links lists.old.list }
+{
+    let Lists {
+        objects: _,
+        links,
+        list,
+    } = lists;
+    write_words(notes, links);
+    write_anew(rt, notes, list, links);
+    laws::reversed_is_shown(list, &*links);
+    write_words(notes, links);
+    write_anew(rt, notes, list, links);
+    let (object, prev) = second(rt, list, links);
+    let removed = list
+        .cursor_mut_from_ptr_and_prev(links, object, prev)
+        .remove();
+    write_object(notes, removed);
+    write_words(notes, links);
 }
 
-// Writes the second and the third word of the places, in their order.
-fn write_other_words(notes: &mut Text, links: &PlainTable<ThreeWords>) {
-    for index in 0..links.covers() {
-        if let Some(place) = Place::new(index) {
-            let [_, right, third] = links.link(place).words();
-            notes.add(Answer::Number(right), " ");
-            notes.add(Answer::Number(third), " ");
-        }
+// Makes each edit by one cursor on the last of the members 0, 1 and 2, and notes what came out, and what is then read.
+fn write_edits(rt: &impl Abort, notes: &mut Text, lists: &mut Lists<OneWord<Xor>>)
+    requires covers { (table no_word lists.old.links).extent.places ≡ 8 }
+    requires shown { PlainShowsSome no_word has_word next_word_of lists.old.links lists.old.list }
+{
+    let Lists {
+        objects,
+        links,
+        list,
+    } = lists;
+    let (object, next) = last(rt, list, links);
+    let mut cursor = list.cursor_mut_from_ptr_and_next(links, object, next);
+    let _ = cursor.insert_after(reference(3));
+    let _ = cursor.insert_before(reference(4));
+    write_object(notes, cursor.replace_with(reference(5)).ok());
+    cursor.move_prev();
+    write_object(notes, cursor.remove());
+    let behind = cursor.split_after();
+    cursor.splice_before(behind);
+    let in_front = cursor.split_before();
+    cursor.splice_after(in_front);
+    laws::split_then_splice(&mut cursor);
+    cursor.move_next();
+    write_read(notes, cursor.peek_next(), objects);
+    write_read(notes, cursor.peek_prev(), objects);
+    let there = [cursor.get_ptr()];
+    write_looks(notes, cursor.is_null(), cursor.into_ref(objects), &there);
+}
+
+// Notes what a walk gives at the front once, at the back twice, and at both ends until neither gives one, and first what a copy gives.
+fn write_walk(notes: &mut Text, mut walk: Iter<'_, u64, LinkOps>)
+    requires can { CanWalk (linked_by has_word) (XorJoins next_word_of) (λ links. table no_word links) walk }
+{
+    if let Ok(mut copy) = walk.clone() {
+        write_values(notes, &[copy.next_back()]);
+    }
+    let given = [
+        walk.next(),
+        walk.next_back(),
+        walk.next_back(),
+        walk.next(),
+        walk.next(),
+        walk.next_back(),
+    ];
+    write_values(notes, &given);
+}
+
+// Takes the first member off. Then it drops the walk, or takes the last one off too, notes what is linked, and finishes.
+fn write_taken(notes: &mut Text, list: XorLinkedList<u64>, links: &mut LinkOps, finishes: bool)
+    requires shown { PlainShowsSome no_word has_word next_word_of links.old list }
+{
+    let mut rest = list.into_iter(links);
+    write_object(notes, rest.next());
+    if finishes {
+        write_object(notes, rest.next_back());
+        write_linked(notes, rest.links());
+        rest.finish();
     }
 }
 
+// Makes the other calls on a whole list with the members 0, 1 and 2, and those of the laws, with an empty list of another field.
+fn write_whole(
+    rt: &impl Abort,
+    notes: &mut Text,
+    lists: &mut Lists<OneWord<Xor>>,
+    field: &mut Lists<OneWord<Xor>>,
+)
+    requires covers { (table no_word lists.old.links).extent.places ≡ 8 }
+    requires shown { PlainShowsSome no_word has_word next_word_of lists.old.links lists.old.list }
+    requires field_covers { (table no_word field.old.links).extent.places ≡ 8 }
+    requires field_shown { PlainShowsSome no_word has_word next_word_of field.old.links field.old.list }
+{
+    let object = reference(5);
+    let place = object.place();
+    assert!(rt; !lists.links.is_linked(place) && !field.links.is_linked(place));
+    let (front, back) = laws::null_there_and_back(&mut lists.list.cursor(&lists.links));
+    write_places(notes, &[front, back]);
+    let taken = laws::push_then_pop(&mut field.list, &mut field.links, object);
+    write_object(notes, taken);
+    laws::reverse_twice(&mut lists.list);
+    let are_in = laws::fields_are_apart(
+        &mut lists.list,
+        &mut lists.links,
+        &mut field.list,
+        &mut field.links,
+        place,
+    );
+    notes.add(Answer::Truth(are_in), " ");
+    write_linked(notes, &field.links);
+    let _ = field.list.push_front(&mut field.links, reference(6));
+    write_linked(notes, &field.links);
+    let has = lists.list.contains(&lists.links, place);
+    lists.list.fast_clear();
+    notes.add(Answer::Truth(has & lists.list.is_empty()), " ");
+}
+
 #[test]
-fn words_in_a_trees_table(rt: HostRuntime) -> Result<(), Fail> {
-    let mut lists: Lists<ThreeWords> = Lists::new(rt.alloc())?;
-    lists.push_back(0);
-    lists.push_back(1);
-    lists.push_back(2);
-    write_other_words(&mut lists.notes, &lists.links);
+fn xor_linked_list(rt: HostRuntime) {
+    let alloc = rt.alloc();
+    let mut notes = Text::new(alloc);
+    let mut lists = list_of(&rt, alloc, 4);
+    write_walk(&mut notes, lists.list.iter(&lists.links, &lists.objects));
+    write_read(&mut notes, lists.list.front(&lists.links), &lists.objects);
+    write_read(&mut notes, lists.list.back(&lists.links), &lists.objects);
+    write_taken(&mut notes, lists.list.take(), &mut lists.links, false);
+    write_linked(&mut notes, &lists.links);
+    let mut lists = list_of(&rt, alloc, 3);
+    let ends = [
+        lists
+            .list
+            .front_mut(&mut lists.links)
+            .into_ref(&lists.objects),
+        lists
+            .list
+            .back_mut(&mut lists.links)
+            .into_ref(&lists.objects),
+    ];
+    write_values(&mut notes, &ends);
+    write_edits(&rt, &mut notes, &mut lists);
+    let mut lists = list_of(&rt, alloc, 3);
+    let cursor = lists.list.take().front_owning(&lists.links);
+    write_read(&mut notes, cursor.as_cursor(&lists.links), &lists.objects);
+    let cursor = cursor.into_inner().back_owning(&lists.links);
+    write_places(&mut notes, &[cursor.get_ptr()]);
+    lists.list = cursor.into_inner();
+    let (object, next) = last(&rt, &lists.list, &lists.links);
+    let cursor = lists
+        .list
+        .take()
+        .cursor_owning_from_ptr_and_next(&lists.links, object, next);
+    write_places(&mut notes, &[cursor.get_ptr()]);
+    lists.list = cursor.into_inner();
+    write_whole(&rt, &mut notes, &mut lists, &mut list_of(&rt, alloc, 0));
+    let mut lists = list_of(&rt, alloc, 4);
+    write_taken(&mut notes, lists.list.take(), &mut lists.links, true);
+    write_linked(&mut notes, &lists.links);
     same(
         &rt,
-        rt.alloc(),
-        &lists.notes,
-        "ok ok ok   4 3 4 3 4 3 0 0 0 0",
+        alloc,
+        &notes,
+        "40 10 40 30 20 none none
+        no 10 none 1  no 20 0 2  no 30 1 3  no 40 2 none  3
+        no 40 2 none  yes none 3 0  no 10 none 1  no 20 0 2  1
+        0  1 2 3
+        10 30
+        2 4
+        no 20 0 3  no 40 1 none  yes none 3 5  no 60 none 0  5
+        no 60 none 0  no 10 5 1  no 20 0 3  no 40 1 none  3
+        no 10 0
+        no 10 none 1  no 20 0 2  no 30 1 none  yes none 2 0  none  2  2
+        0 2  5 yes  5  5 6  yes
+        0 3  1 2",
     );
-    Ok(())
+}
+
+#[test]
+fn words_of_links(rt: HostRuntime) {
+    let alloc = rt.alloc();
+    let mut notes = Text::new(alloc);
+    let mut lists = list_of(&rt, alloc, 3);
+    write_turned(&rt, &mut notes, &mut lists);
+    let lists: Lists<ThreeWords> = list_of(&rt, alloc, 3);
+    for index in 0..3 {
+        let [_, right, third] = lists.links.link(reference(index).place()).words();
+        notes.add(Answer::Number(right), " ");
+        notes.add(Answer::Number(third), " ");
+    }
+    same(
+        &rt,
+        alloc,
+        &notes,
+        "4 4 4 1 1 1 1 1  2 1  4 4 4 1 1 1 1 1  0 1  1  6 1 2 1 1 1 1 1
+        4 3  4 3  4 3",
+    );
 }

@@ -1,6 +1,0 @@
-use Rattle.ic_link_ops.proofs.TwoLists.{none_apart}
-use Rattle.collections_tests.proofs.SinglyLists.{plain}
-use Rattle.collections_tests.proofs.singly.lists.Lists.force_unlink.Goals as goal
-
-pub invariant_of-self : goal.invariant_of-self
-invariant_of-self g c = rw (c.new.ensures, c.new-2.ensures) (none_apart (plain g.W.NextWord.next_word g.W.Words.is_linked) _)

@@ -1,6 +1,0 @@
-use Rattle.std.proofs.Common.{Some, ap, ◌∙◌, sym}
-use Rattle.ic_link_ops.proofs.Positions.{member_there}
-use Rattle.collections_tests.proofs.singly.lists.borrowing.Goals as goal
-
-pub cursor_mut_from_ptr-requires : goal.cursor_mut_from_ptr-requires
-cursor_mut_from_ptr-requires g c = record { member = member_there c.requires.stands (c.in-Some.is ∙ ap (λ p. Some p) (sym c.new.ensures)) }

@@ -1,0 +1,20 @@
+use Rattle.ic_unsafe_ref.specs.Places.{index_of}
+use Rattle.ic_link_ops.specs.EntryLaws.{linked_in_range}
+use Rattle.ic_link_ops.specs.Links.{link_of}
+use Rattle.ic_link_ops.specs.PlainTables.{entries, table, linked_by}
+use Rattle.ic_link_ops.specs.Readings.{XorJoins}
+use Rattle.ic_link_ops.specs.XorLinkedList.{IsJoined}
+use Rattle.collections_tests.proofs.Placed.{chain_placed}
+use Rattle.collections_tests.proofs.xor.list_of.Goals as goal
+
+pub returns-clause-shown : goal.returns-clause-shown
+returns-clause-shown g c =
+    let l = c.loop-index in
+    let i = l.invariant in
+    let covered = linked_in_range (linked_by g.W.Words.is_linked) (link_of g.W.Words.unlinked) g.met.W.Words.starts_unlinked (entries l.links) in
+    record {
+      members = i.shown.0;
+      shown = i.shown.1;
+      placed = chain_placed (IsJoined (linked_by g.W.Words.is_linked) (XorJoins g.W.NextWord.next_word)) (table g.W.Words.unlinked l.links).entry c.eight-objects.result.0
+          (λ q a b k. c.eight-objects.ensures.placed q (rw (← i.covers) (covered (index_of q) k.linked))) _ i.shown.0 i.shown.1.chain;
+    }

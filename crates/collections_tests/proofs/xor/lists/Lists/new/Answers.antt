@@ -1,8 +1,0 @@
-use Rattle.ic_link_ops.proofs.TwoLists.{none_apart}
-use Rattle.collections_tests.proofs.XorLists.{plain_kind, held_at_null}
-use Rattle.collections_tests.proofs.xor.lists.Lists.new.Goals as goal
-
-pub invariant_of-result : goal.invariant_of-result
-invariant_of-result g c =
-    let kind = plain_kind g.W.Words.is_linked g.W.NextWord.next_word in
-    held_at_null kind c.cursor_owning.ensures.list c.cursor_owning.ensures.null (rw (c.new.ensures, c.default.ensures) (none_apart kind _))

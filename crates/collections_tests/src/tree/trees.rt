@@ -1,0 +1,69 @@
+//! Trees of objects that are their own keys.
+
+ghost use Rattle.std.specs.Prelude.{◌≡◌, ◌<◌, ◌≤◌, true};
+ghost use Rattle.ic_unsafe_ref.specs.declared.place.Place.{Place};
+ghost use Rattle.ic_unsafe_ref.specs.Objects.{is_placed};
+ghost use Rattle.ic_unsafe_ref.specs.Places.{index_of};
+ghost use Rattle.ic_link_ops.specs.PlacedObjects.{ShowsPlaced};
+ghost use Rattle.ic_rbtree.specs.PlainTrees.{plain_table, PlainShows};
+ghost use Rattle.ic_rbtree.specs.Tree.{root_of};
+
+use crate::fixtures::{eight, reference};
+use ic_link_ops::rbtree::LinkOps;
+use ic_rbtree::{KeyAdapter, RBTree};
+use ic_unsafe_ref::Objects;
+use std::alloc::Global;
+use std::process::Abort;
+use test_support::tables::are_placed;
+
+/// Says that a number is its own key.
+#[derive(Clone, Copy, Default)]
+pub(crate) struct OwnKey;
+
+impl KeyAdapter for OwnKey {
+    type Value = u64;
+
+    type Key = u64;
+
+    ghost key_of = { λ _ value. value };
+
+    fn get_key<'v>(&self, value: &'v u64) -> &'v u64 {
+        value
+    }
+}
+
+/// A tree, the table of its links, which covers the places 0 to 7, and its objects: 10 to 80 stand there, in this order.
+#[derive(Drop)]
+pub(crate) struct Trees {
+    pub(crate) objects: Objects<u64>,
+    pub(crate) links: LinkOps,
+    pub(crate) tree: RBTree<OwnKey>,
+}
+
+/// A tree of the objects at the first places, as many as that, each put behind all members, or in front of them.
+pub(crate) fn tree_of(rt: &impl Abort, alloc: Global, members: usize, in_front: bool) -> Trees
+    requires { members ≤ 8 }
+    ensures covers { (plain_table result.links).extent.places ≡ 8 }
+    ensures placed { (q : Place) → index_of q < 8 → is_placed result.objects q ≡ true }
+    ensures shown { ShowsPlaced (PlainShows result.links (root_of result.tree)) result.objects }
+{
+    let (objects, mut links) = eight(rt, alloc);
+    let mut tree = RBTree::default();
+    for index in 0..members {
+        if index < links.covers() {
+            let mut cursor = tree.cursor_mut(&mut links);
+            let _ = if in_front {
+                cursor.insert_after(reference(index))
+            } else {
+                cursor.insert_before(reference(index))
+            };
+        }
+    }
+    assert!(rt; links.covers() == 8);
+    assert!(rt; are_placed(&links, &objects));
+    Trees {
+        objects,
+        links,
+        tree,
+    }
+}

@@ -1,6 +1,0 @@
-use Rattle.ic_rbtree.specs.PlainTrees.{PlainShowsSome}
-use Rattle.ic_rbtree.specs.Tree.{root_of}
-use Rattle.ic_rbtree_tests.proofs.tree.trees.tree_of.Given as goal
-
-abbrev pub invariant-loop-index : goal.invariant-loop-index
-invariant-loop-index g l = record { shown : PlainShowsSome l.links (root_of l.tree) }
