@@ -15,7 +15,7 @@ use ic_linked_list::{Cursor, Iter, LinkedList, laws};
 use ic_unsafe_ref::{Objects, UnsafeRef};
 use std::alloc::Global;
 use std::process::Abort;
-use test_support::rows::{Answer, Text};
+use test_support::notes::{Answer, Text};
 use test_support::tables::write_linked;
 
 /// A list, the table of its links, which covers the places 0 to 7, and its objects: 10 to 80 stand there, in this order.
@@ -181,13 +181,17 @@ fn doubly_linked_list(rt: HostRuntime) {
         alloc,
         lists.list.iter(&lists.links, &lists.objects),
     );
+    let (linked, unlinked) = (reference(3).place(), reference(4).place());
+    write_links(
+        &mut notes,
+        alloc,
+        lists.links.link(linked),
+        lists.links.link(unlinked),
+    );
     write_read(&mut notes, lists.list.front(&lists.links), &lists.objects);
     write_read(&mut notes, lists.list.back(&lists.links), &lists.objects);
     write_taken(&mut notes, lists.list.take(), &mut lists.links, false);
     write_linked(&mut notes, &lists.links);
-    let links = list_of(&rt, alloc, 1).links;
-    let (linked, unlinked) = (reference(0).place(), reference(1).place());
-    write_links(&mut notes, alloc, links.link(unlinked), links.link(linked));
     let mut lists = list_of(&rt, alloc, 3);
     let ends = [
         lists
@@ -215,10 +219,10 @@ fn doubly_linked_list(rt: HostRuntime) {
         &rt,
         alloc,
         &notes,
-        "40 10 40 30 20 none none [10, 20, 30, 40]
+        "40 10 40 30 20 none none [10, 20, 30, 40]  linked unlinked
         no 10 none 1  no 20 0 2  no 30 1 3  no 40 2 none  3
         no 40 2 none  yes none 3 0  no 10 none 1  no 20 0 2  1
-        0  1 2 3  unlinked linked
+        0  1 2 3
         10 30
         1 4
         no 40 0 2  no 30 3 none  yes none 2 5  no 60 none 0  5

@@ -1,2 +1,1 @@
 mod Asking
-pub mod Members

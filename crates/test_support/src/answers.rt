@@ -4,8 +4,8 @@
 //! object(list.pop_front(&mut links)) // `none`, or the index of the place where the object stands
 //! ```
 
-use crate::rows::Answer;
-use ic_link_ops::{AlreadyLinked, ReplaceError};
+use crate::notes::Answer;
+use ic_link_ops::ReplaceError;
 use ic_unsafe_ref::{Objects, Place, UnsafeRef};
 
 /// What a place is answered as: its index.
@@ -37,14 +37,6 @@ pub fn value(found: Option<&u64>) -> Answer {
     }
 }
 
-/// Whether an object was taken in: `ok`, or `linked`.
-pub fn inserted(given: Result<(), AlreadyLinked<u64>>) -> Answer {
-    match given {
-        Ok(()) => Answer::Done,
-        Err(_) => Answer::Refused("linked"),
-    }
-}
-
 /// What was replaced: where it stands, or `null` or `linked`, or `another` where not the object at that place came back.
 pub fn replaced(given: Result<UnsafeRef<u64>, ReplaceError<u64>>, place: Place) -> Answer {
     match &given {
@@ -66,13 +58,5 @@ pub fn placed(objects: &mut Objects<u64>, value: u64) -> Answer {
     match UnsafeRef::from_box(objects, value) {
         Ok(object) => number(object.place()),
         Err(_) => Answer::Refused("memory"),
-    }
-}
-
-/// Places the object that the word says, and answers where it stands.
-pub fn placed_word(objects: &mut Objects<u64>, word: &str) -> Answer {
-    match word.parse() {
-        Ok(value) => placed(objects, value),
-        Err(_) => Answer::Refused("no number"),
     }
 }

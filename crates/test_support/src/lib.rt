@@ -1,10 +1,8 @@
-//! What the crates of tests stand on: worked rows and their player, what calls are answered as, an allocator that refuses a
-//! chosen request, and the definitions once more as a plain program. They are one crate, since each crate has a price of its
-//! own in the gate.
+//! What the crates of tests stand on: notes of what calls answered, how answers are written, what is read of a whole table, and an
+//! allocator that refuses a chosen request. They are one crate, since each crate has a price of its own in the gate.
 #![tactic(auto)]
 
 pub mod answers;
-pub mod plain_sequence;
+pub mod notes;
 pub mod rationed;
-pub mod rows;
 pub mod tables;

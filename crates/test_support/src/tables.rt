@@ -11,7 +11,7 @@ ghost use Rattle.ic_link_ops.specs.PlainTables.{table};
 ghost use Rattle.ic_link_ops.specs.Tables.{IsCovered};
 
 use crate::answers::number;
-use crate::rows::Text;
+use crate::notes::Text;
 use ic_link_ops::{PlainTable, Words};
 use ic_unsafe_ref::{Objects, Place};
 

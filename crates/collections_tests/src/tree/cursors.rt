@@ -19,7 +19,7 @@ use ic_link_ops::rbtree::LinkOps;
 use ic_rbtree::Cursor;
 use ic_unsafe_ref::Objects;
 use test_support::answers::object;
-use test_support::rows::{Answer, Text};
+use test_support::notes::{Answer, Text};
 use test_support::tables::write_linked;
 
 // Notes what the cursor tells four times, as it moves on in between, where a move back leads it then, and where a copy of it stays.

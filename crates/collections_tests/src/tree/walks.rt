@@ -10,7 +10,7 @@ use crate::tree::trees::{OwnKey, tree_of};
 use ic_link_ops::rbtree::LinkOps;
 use ic_rbtree::{Bound, Iter, RBTree};
 use test_support::answers::object;
-use test_support::rows::Text;
+use test_support::notes::Text;
 use test_support::tables::write_linked;
 
 // Notes the object that a copy of the walk gives from the back, and then what the walk gives at both ends in turn, until neither gives one.

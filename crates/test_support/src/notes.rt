@@ -1,10 +1,36 @@
-//! A text of many pieces.
+//! What the calls of a test answered, note by note, and the text of it.
+//!
+//! ```text
+//! notes.add(object(list.pop_front(&mut links)), " "); // `0 `, or `none `
+//! ```
 
-use crate::answers::number;
-use crate::rows::Answer;
-use ic_unsafe_ref::Place;
 use std::alloc::Global;
 use std::fmt::{self, Write};
+
+/// What a call answers.
+#[derive(Drop)]
+pub enum Answer {
+    /// There is none: `none`.
+    Nothing,
+    /// An object by its place's index, or a count.
+    Number(u64),
+    /// Whether something holds: `yes` or `no`.
+    Truth(bool),
+    /// Refused, for a reason in a word.
+    Refused(&'static str),
+}
+
+impl fmt::Display for Answer {
+    fn fmt<W: fmt::Write>(&self, f: &mut fmt::Formatter<W>) -> fmt::Result {
+        match self {
+            Answer::Nothing => f.write_str("none"),
+            Answer::Number(number) => number.fmt(f),
+            Answer::Truth(true) => f.write_str("yes"),
+            Answer::Truth(false) => f.write_str("no"),
+            Answer::Refused(reason) => f.write_str(reason),
+        }
+    }
+}
 
 /// A text that is written piece by piece, and whether all of it could be.
 ///
@@ -32,23 +58,6 @@ impl Text {
     /// Writes the answer, and what is to stand behind it.
     pub fn add(&mut self, answer: Answer, behind: &str) {
         self.is_whole &= write!(self.text, "{answer}{behind}").is_ok();
-    }
-
-    /// Writes a member, with a mark if the cursor is on it: `3`, or `(3)`.
-    pub fn member(&mut self, place: Place, is_marked: bool) {
-        let (before, behind) = if is_marked { ("(", ") ") } else { ("", " ") };
-        self.word(before);
-        self.add(number(place), behind);
-    }
-
-    /// What the text is answered as, if all of it could be written.
-    pub fn answer(self) -> Answer {
-        let Text { text, is_whole } = self;
-        if is_whole {
-            Answer::Text(text)
-        } else {
-            Answer::Refused("memory")
-        }
     }
 
     /// Writes the text to what is shown, if all of it could be written.
