@@ -196,6 +196,10 @@ fn doubly_linked_list(rt: HostRuntime) {
     let ends = [
         lists
             .list
+            .cursor_mut(&mut lists.links)
+            .into_ref(&lists.objects),
+        lists
+            .list
             .front_mut(&mut lists.links)
             .into_ref(&lists.objects),
         lists
@@ -223,7 +227,7 @@ fn doubly_linked_list(rt: HostRuntime) {
         no 10 none 1  no 20 0 2  no 30 1 3  no 40 2 none  3
         no 40 2 none  yes none 3 0  no 10 none 1  no 20 0 2  1
         0  1 2 3
-        10 30
+        none 10 30
         1 4
         no 40 0 2  no 30 3 none  yes none 2 5  no 60 none 0  5
         no 60 none 0  no 10 5 3  no 40 0 2  no 30 3 none  2

@@ -151,11 +151,17 @@ fn singly_linked_list(rt: HostRuntime) {
     write_taken(&mut notes, cursor.into_inner(), &mut lists.links);
     write_linked(&mut notes, &lists.links);
     let mut lists = list_of(&rt, alloc, 3);
-    let front = lists
-        .list
-        .front_mut(&mut lists.links)
-        .into_ref(&lists.objects);
-    write_values(&mut notes, &[front]);
+    let ends = [
+        lists
+            .list
+            .cursor_mut(&mut lists.links)
+            .into_ref(&lists.objects),
+        lists
+            .list
+            .front_mut(&mut lists.links)
+            .into_ref(&lists.objects),
+    ];
+    write_values(&mut notes, &ends);
     write_edits(&rt, &mut notes, &mut lists);
     let mut lists = list_of(&rt, alloc, 3);
     write_laws(&rt, &mut notes, &mut lists, &mut list_of(&rt, alloc, 0));
@@ -167,7 +173,7 @@ fn singly_linked_list(rt: HostRuntime) {
         yes none 0  no 10 1  no 20 none  yes none 0  0
         no 10 1  no 20 none  yes none 0  no 10 1  1
         0  1
-        10
+        none 10
         3 4 none null
         no 20 2  no 30 0  no 10 none  yes none 1  1  yes none none
         5 yes  0 1 2 5  5",

@@ -248,6 +248,10 @@ fn xor_linked_list(rt: HostRuntime) {
     let ends = [
         lists
             .list
+            .cursor_mut(&mut lists.links)
+            .into_ref(&lists.objects),
+        lists
+            .list
             .front_mut(&mut lists.links)
             .into_ref(&lists.objects),
         lists
@@ -279,7 +283,7 @@ fn xor_linked_list(rt: HostRuntime) {
         no 10 none 1  no 20 0 2  no 30 1 3  no 40 2 none  3
         no 40 2 none  yes none 3 0  no 10 none 1  no 20 0 2  1
         0 3  1 2
-        10 30
+        none 10 30
         2 4
         no 20 0 3  no 40 1 none  yes none 3 5  no 60 none 0  5
         no 60 none 0  no 10 5 1  no 20 0 3  no 40 1 none  3
