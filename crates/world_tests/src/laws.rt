@@ -12,7 +12,7 @@ use ic_program::OwnKey;
 use ic_rbtree::KeyAdapter;
 use ic_unsafe_ref::Place;
 use ic_world::{Answer, Command, Kind, Refusal, World};
-use std::alloc::{Allocator, Global};
+use std::alloc::Allocator;
 
 /// Makes a call, and where it is refused once more, as if the first had not been made.
 fn made_again<A: KeyAdapter, M: Allocator + Copy>(
@@ -82,14 +82,8 @@ fn both_shown<A: KeyAdapter, M: Allocator + Copy>(
     }
 }
 
-// The first thing that is not as it should be in a world of three objects, a tree and a list. Nothing: the empty text.
-fn first_wrong(alloc: Global) -> &'static str {
-    let mut world = World::new(alloc, OwnKey);
-    wrong_in(&mut world)
-}
-
-// The same, in a new world.
-fn wrong_in(world: &mut World<OwnKey>) -> &'static str {
+// The first thing that is not as it should be in a new world, to which come three objects, a tree and a list. Nothing: the empty text.
+fn first_wrong(world: &mut World<OwnKey>) -> &'static str {
     let (Ok(field), Ok(keyed)) = (world.add_field(Kind::Tree), world.open(0, Kind::Tree)) else {
         return "the tree";
     };
@@ -123,5 +117,6 @@ fn wrong_in(world: &mut World<OwnKey>) -> &'static str {
 
 #[test]
 fn laws_are_of_use(rt: HostRuntime) {
-    assert!(rt; first_wrong(rt.alloc()).is_empty());
+    let mut world = World::new(rt.alloc(), OwnKey);
+    assert!(rt; first_wrong(&mut world).is_empty());
 }

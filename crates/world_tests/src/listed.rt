@@ -2,7 +2,7 @@
 
 use ic_program::{Line, OwnKey};
 use ic_world::{Answer, Command, Refusal, World};
-use std::alloc::{AllocError, Global};
+use std::alloc::Global;
 use std::fmt::Write;
 use test_support::rationed::Rationed;
 
@@ -29,15 +29,15 @@ const LISTS: &[List] = &[
     (0, "", ""),
 ];
 
-// The commands of a text, in which they stand between semicolons.
-fn commands_in(alloc: Global, text: &str) -> Result<Vec<Command<u64, u64>>, AllocError> {
+// The commands of a text, in which they stand between semicolons, as far as there is memory for them.
+fn commands_in(alloc: Global, text: &str) -> Vec<Command<u64, u64>> {
     let mut commands = Vec::new(alloc);
     for line in text.split("; ") {
         if let Line::Call(command) = Line::of(line.as_bytes()) {
-            commands.push(command)?;
+            let _ = commands.push(command);
         }
     }
-    Ok(commands)
+    commands
 }
 
 // The answers as a text, as far as there is memory for it.
@@ -57,9 +57,7 @@ fn is_answered<'r>(
     list: &List,
 ) -> bool {
     let (refused, text, wanted) = *list;
-    let Ok(commands) = commands_in(alloc, text) else {
-        return false;
-    };
+    let commands = commands_in(alloc, text);
     let mut answers = Vec::new(rationed);
     rationed.refuse(refused);
     let ran = world.run(&commands, &mut answers);
