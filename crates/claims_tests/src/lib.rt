@@ -4,8 +4,6 @@
 #[cfg(test)]
 mod collections;
 #[cfg(test)]
-mod common;
-#[cfg(test)]
 mod hands;
 #[cfg(test)]
 mod links;

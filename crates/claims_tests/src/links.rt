@@ -4,10 +4,10 @@ ghost use Rattle.std.specs.Prelude.{◌≡◌, [], All};
 ghost use Rattle.ic_atomic.specs.Holders.{record_of, IsOf};
 
 use crate::collections::ByValue;
-use crate::common::Open;
 use crate::parties::{are_linked, are_seen, take_turns};
 use ic_atomic::{
-    AtomicLinkOps, Claims, Holder, gather, linked_list, rbtree, singly_linked_list, xor_linked_list,
+    AtomicLinkOps, Claims, Gate, Holder, gather, linked_list, rbtree, singly_linked_list,
+    xor_linked_list,
 };
 use ic_link_ops::{PlainTable, Words};
 use ic_linked_list::LinkedList;
@@ -33,6 +33,13 @@ fn next_links<'c, W: Words>(
     let mut table = PlainTable::new(alloc);
     table.cover(claims.places()).expect(rt, "room");
     AtomicLinkOps::new(claims, holder, table)
+}
+
+// Holds nobody up.
+struct Open;
+
+impl Gate for Open {
+    fn passed(&self, _worker: usize, _answered: usize) {}
 }
 
 // Gathers place 0, and gives it up by force. Whether it did.

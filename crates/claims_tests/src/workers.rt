@@ -1,6 +1,5 @@
 //! Workers, who share the first places out, and are held up at a gate.
 
-use crate::common::Open;
 use ic_atomic::{ClaimsError, Gate};
 use ic_workers::{doubles, fan_out};
 use std::alloc::Global;
@@ -13,7 +12,17 @@ use std::time::{Clock, Duration};
 const TURNS: u64 = 10_000;
 
 // How many workers share how many places. What one worker gets alone, a session says.
-const ROWS: &[(usize, usize)] = &[(2, 100), (4, 1000), (64, 100), (2, 0), (0, 0)];
+const ROWS: &[(usize, usize)] = &[
+    (2, 100),
+    (4, 1000),
+    (64, 100),
+    (2, 0),
+    (0, 0),
+    (2, 4_294_967_297),
+];
+
+// As many as there are.
+const MOST_PLACES: usize = 4_294_967_296;
 
 // Notes each worker's first answer, and holds the worker up until the other one's is noted, for so many turns at most.
 #[derive(Drop)]
@@ -48,8 +57,8 @@ impl<C: Clock> Gate for Meeting<'_, C> {
     }
 }
 
-// Whether so many workers meet, and each of the places stands in just one of their lists. Where they came one after the other, the first would
-// come to its last turn.
+// Whether so many workers meet, and each of the places stands in just one of their lists, or these are too many places. Where workers came one
+// after the other, the first would come to its last turn.
 fn is_shared<R: Threads + Wait + Clock + Sync>(
     rt: &R,
     alloc: Global,
@@ -62,8 +71,9 @@ fn is_shared<R: Threads + Wait + Clock + Sync>(
         second: AtomicU64::new(0),
         given_up: AtomicU64::new(0),
     };
-    let Ok(lists) = fan_out(rt, alloc, workers, places, &gate) else {
-        return false;
+    let lists = match fan_out(rt, alloc, workers, places, &gate) {
+        Ok(lists) => lists,
+        Err(error) => return places > MOST_PLACES && error == ClaimsError::TooManyPlaces,
     };
     let mut listed: usize = 0;
     for list in &lists {
@@ -88,7 +98,5 @@ fn are_shared<R: Threads + Wait + Clock + Sync>(
 
 #[test]
 fn workers_meet_and_share_places_out(rt: HostRuntime) {
-    let refused = fan_out(&rt, rt.alloc(), 2, 4_294_967_297, &Open);
-    let is_refused = matches!(refused, Err(ClaimsError::TooManyPlaces));
-    assert!(rt; is_refused & are_shared(&rt, rt.alloc(), ROWS));
+    assert!(rt; are_shared(&rt, rt.alloc(), ROWS));
 }

@@ -68,7 +68,7 @@ fn play<A: Allocator>(tasks: &mut Scheduler<u64, A>, rows: &[Row]) -> Option<usi
 }
 
 // The same of the first rows and then of the second ones, on one scheduler of that memory.
-fn play_both<A: Allocator + Copy>(memory: A, rows: &[Row], others: &[Row]) -> Option<usize> {
+fn play_both(memory: &Rationed, rows: &[Row], others: &[Row]) -> Option<usize> {
     let mut tasks = Scheduler::new(memory);
     let refused = play(&mut tasks, rows);
     match play(&mut tasks, others) {
