@@ -42,7 +42,7 @@ impl Gate for Open {
     fn passed(&self, _worker: usize, _answered: usize) {}
 }
 
-// Gathers place 0, and gives it up by force. Whether it did.
+// Gathers place 0 and takes it off the list, and gives it up by force once it is there again. Whether all that was done.
 fn gathers(links: &mut linked_list::AtomicLinkOps) -> bool {
     let mut list: LinkedList<u64> = LinkedList::new();
     let Some(first) = Place::new(0) else {
@@ -52,11 +52,18 @@ fn gathers(links: &mut linked_list::AtomicLinkOps) -> bool {
     if links.covers() == 0 || gather(1, &offered, &mut list, links, &Open) != 1 {
         return false;
     }
+    let is_taken = match list.pop_front(links) {
+        Some(taken) => taken.place() == first,
+        None => false,
+    };
+    if links.covers() == 0 || list.push_back(links, UnsafeRef::new(first)).is_err() {
+        return false;
+    }
     if links.covers() == 0 || !links.holds(first) {
         return false;
     }
     links.force_unlink(first);
-    !links.is_linked(first)
+    is_taken && !links.is_linked(first)
 }
 
 // Links of any kind.

@@ -89,14 +89,23 @@ fn limits_and_each_request_refused_in_turn(rt: HostRuntime) {
 // request for memory.
 fn is_replayed(memory: &Rationed) -> bool {
     memory.refuse(1);
-    let (Ok(mut core), Some(first)) = (Core::new(memory, 1), Place::new(0)) else {
+    let (Ok(mut core), Some(third)) = (Core::new(memory, 4), Place::new(3)) else {
         return false;
     };
     let mut answers = Vec::new(memory);
-    let calls = [(0, Step::Claim(first)), (1, Step::Claim(first))];
+    let calls = [
+        (0, Step::Claim(third)),
+        (1, Step::Claim(third)),
+        (1, Step::Look(third)),
+        (0, Step::Look(third)),
+        (0, Step::Release(third)),
+        (1, Step::Claim(third)),
+        (0, Step::Claim(third)),
+    ];
     let is_refused = core.replay(&calls, &mut answers).is_err() && answers.is_empty();
     let is_done = core.replay(&calls, &mut answers).is_ok();
-    is_refused & is_done && answers.as_slice() == [true, false].as_slice()
+    is_refused & is_done
+        && answers.as_slice() == [true, false, true, true, true, true, false].as_slice()
 }
 
 #[test]
