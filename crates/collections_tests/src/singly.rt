@@ -2,15 +2,13 @@
 
 ghost use Rattle.std.specs.Prelude.{◌≡◌, ◌≤◌};
 ghost use Rattle.ic_link_ops.specs.PlacedObjects.{ShowsPlaced};
-ghost use Rattle.ic_link_ops.specs.Positions.{Stands};
-ghost use Rattle.ic_singly_linked_list.specs.Cursor as reads;
 ghost use Rattle.ic_singly_linked_list.specs.Iter.{CanWalk};
-ghost use Rattle.collections_tests.specs.SinglyLists.{successor, plain_table, Shows, PlainShows, PlainShowsSome};
+ghost use Rattle.collections_tests.specs.SinglyLists.{successor, plain_table, PlainShows, PlainShowsSome};
 
 use crate::fixtures::{eight, reference};
-use crate::notes::{same, write_looks, write_object, write_places, write_values};
+use crate::notes::{same, write_object, write_places, write_values};
 use ic_link_ops::singly_linked_list::LinkOps;
-use ic_singly_linked_list::{Cursor, Iter, SinglyLinkedList, laws};
+use ic_singly_linked_list::{Iter, SinglyLinkedList, laws};
 use ic_unsafe_ref::Objects;
 use std::alloc::Global;
 use std::process::Abort;
@@ -44,22 +42,7 @@ fn list_of(rt: &impl Abort, alloc: Global, members: usize) -> Lists
     }
 }
 
-// Notes what the cursor tells four times, as it moves on in between, and where a copy of it stays then.
-fn write_read(notes: &mut Text, mut cursor: Cursor<'_, u64, LinkOps>, objects: &Objects<u64>)
-    requires stands { Stands Shows (λ links. plain_table links) (reads.site_of cursor) }
-{
-    for _ in 0..4 {
-        let behind = [cursor.peek_next().get_ptr()];
-        write_looks(notes, cursor.is_null(), cursor.get(objects), &behind);
-        cursor.move_next();
-    }
-    if let Ok(copy) = cursor.clone() {
-        cursor.move_next();
-        write_object(notes, copy.clone_pointer());
-    }
-}
-
-// Makes each edit by one cursor on the last of the members 0, 1 and 2, and notes what came out, and what is then read.
+// Makes the edits behind a cursor on the last of the members 0, 1 and 2, and notes what came out, and where the cursor is then.
 fn write_edits(rt: &impl Abort, notes: &mut Text, lists: &mut Lists)
     requires covers { (plain_table lists.old.links).extent.places ≡ 8 }
     requires shown { PlainShowsSome lists.old.links lists.old.list }
@@ -81,15 +64,8 @@ fn write_edits(rt: &impl Abort, notes: &mut Text, lists: &mut Lists)
     let object = reference(5);
     let place = object.place();
     notes.add(replaced(cursor.replace_next_with(object), place), " ");
-    cursor.move_next();
-    cursor.move_next();
-    let behind = cursor.split_after();
-    cursor.move_next();
-    cursor.splice_after(behind);
     laws::split_then_splice(&mut cursor);
-    write_read(notes, cursor.peek_next(), objects);
-    let there = [cursor.get_ptr()];
-    write_looks(notes, cursor.is_null(), cursor.into_ref(objects), &there);
+    write_values(notes, &[cursor.into_ref(objects)]);
 }
 
 // Takes the first member off, notes what is linked then, and unlinks the rest.
@@ -145,23 +121,18 @@ fn singly_linked_list(rt: HostRuntime) {
     let mut notes = Text::new(alloc);
     let mut lists = list_of(&rt, alloc, 2);
     write_walk(&mut notes, lists.list.iter(&lists.links, &lists.objects));
-    write_read(&mut notes, lists.list.cursor(&lists.links), &lists.objects);
+    let first = lists.list.cursor(&lists.links).peek_next().get_ptr();
+    write_places(&mut notes, &[first]);
     let cursor = lists.list.take().front_owning(&lists.links);
-    write_read(&mut notes, cursor.as_cursor(&lists.links), &lists.objects);
+    write_places(&mut notes, &[cursor.get_ptr()]);
     write_taken(&mut notes, cursor.into_inner(), &mut lists.links);
     write_linked(&mut notes, &lists.links);
     let mut lists = list_of(&rt, alloc, 3);
-    let ends = [
-        lists
-            .list
-            .cursor_mut(&mut lists.links)
-            .into_ref(&lists.objects),
-        lists
-            .list
-            .front_mut(&mut lists.links)
-            .into_ref(&lists.objects),
-    ];
-    write_values(&mut notes, &ends);
+    let front = lists
+        .list
+        .front_mut(&mut lists.links)
+        .into_ref(&lists.objects);
+    write_values(&mut notes, &[front]);
     write_edits(&rt, &mut notes, &mut lists);
     let mut lists = list_of(&rt, alloc, 3);
     write_laws(&rt, &mut notes, &mut lists, &mut list_of(&rt, alloc, 0));
@@ -169,13 +140,10 @@ fn singly_linked_list(rt: HostRuntime) {
         &rt,
         alloc,
         &notes,
-        "10 10 20 none
-        yes none 0  no 10 1  no 20 none  yes none 0  0
-        no 10 1  no 20 none  yes none 0  no 10 1  1
+        "10 10 20 none  0  0
         0  1
-        none 10
-        3 4 none null
-        no 20 2  no 30 0  no 10 none  yes none 1  1  yes none none
+        10
+        3 4 none null  30
         5 yes  0 1 2 5  5",
     );
 }

@@ -5,19 +5,17 @@ ghost use Rattle.ic_link_ops.specs.OneWord.{no_word, has_word, next_word_of};
 ghost use Rattle.ic_link_ops.specs.PlacedObjects.{ShowsPlaced};
 ghost use Rattle.ic_link_ops.specs.PlainTables.{table, linked_by};
 ghost use Rattle.ic_link_ops.specs.Readings.{XorJoins};
-ghost use Rattle.ic_link_ops.specs.XorLinkedList.{Shows};
-ghost use Rattle.ic_xor_linked_list.specs.Cursor as reads;
 ghost use Rattle.ic_xor_linked_list.specs.Iter.{CanWalk};
 ghost use Rattle.ic_xor_linked_list.specs.PlainLists.{PlainShows, PlainShowsSome};
 ghost use Rattle.ic_xor_linked_list.specs.Position.{HasMemberBehind, HasMemberBefore};
 
 use crate::fixtures::{eight, reference};
-use crate::notes::{same, write_looks, write_object, write_places, write_values};
+use crate::notes::{same, write_object, write_places, write_values};
 use ic_link_ops::rbtree::ThreeWords;
 use ic_link_ops::xor_linked_list::{LinkOps, Xor};
 use ic_link_ops::{NextWord, OneWord, PlainTable};
 use ic_unsafe_ref::{Objects, Place, UnsafeRef};
-use ic_xor_linked_list::{Cursor, Iter, XorLinkedList, laws};
+use ic_xor_linked_list::{Iter, XorLinkedList, laws};
 use std::alloc::Global;
 use std::process::Abort;
 use test_support::notes::{Answer, Text};
@@ -46,21 +44,6 @@ fn list_of<W: NextWord>(rt: &impl Abort, alloc: Global, members: usize) -> Lists
         objects,
         links,
         list,
-    }
-}
-
-// Notes what the cursor tells four times, as it moves on in between, and where a move back leads a copy of it then.
-fn write_read(notes: &mut Text, mut cursor: Cursor<'_, u64, LinkOps>, objects: &Objects<u64>)
-    requires stands { reads.KnowsNeighbors (Shows (linked_by has_word) (XorJoins next_word_of)) (λ links. table no_word links) cursor }
-{
-    for _ in 0..4 {
-        let beside = [cursor.peek_prev().get_ptr(), cursor.peek_next().get_ptr()];
-        write_looks(notes, cursor.is_null(), cursor.get(objects), &beside);
-        cursor.move_next();
-    }
-    if let Ok(mut copy) = cursor.clone() {
-        copy.move_prev();
-        write_object(notes, copy.clone_pointer());
     }
 }
 
@@ -118,7 +101,7 @@ fn write_words(notes: &mut Text, links: &LinkOps) {
 }
 
 // Notes the words of a list with the members 0, 1 and 2, where cursors lead that are made on members, and both once more when the list
-// is turned round, and the words when the second member is taken off.
+// is turned round, and the words when the second member is taken off, behind a split and a splice there.
 fn write_turned(rt: &impl Abort, notes: &mut Text, lists: &mut Lists<OneWord<Xor>>)
     requires shown { PlainShowsSome no_word has_word next_word_of lists.old.links lists.old.list }
 {
@@ -133,40 +116,13 @@ fn write_turned(rt: &impl Abort, notes: &mut Text, lists: &mut Lists<OneWord<Xor
     write_words(notes, links);
     write_anew(rt, notes, list, links);
     let (object, prev) = second(rt, list, links);
-    let removed = list
-        .cursor_mut_from_ptr_and_prev(links, object, prev)
-        .remove();
+    let removed = {
+        let mut cursor = list.cursor_mut_from_ptr_and_prev(links, object, prev);
+        laws::split_then_splice(&mut cursor);
+        cursor.remove()
+    };
     write_object(notes, removed);
     write_words(notes, links);
-}
-
-// Makes each edit by one cursor on the last of the members 0, 1 and 2, and notes what came out, and what is then read.
-fn write_edits(rt: &impl Abort, notes: &mut Text, lists: &mut Lists<OneWord<Xor>>)
-    requires covers { (table no_word lists.old.links).extent.places ≡ 8 }
-    requires shown { PlainShowsSome no_word has_word next_word_of lists.old.links lists.old.list }
-{
-    let Lists {
-        objects,
-        links,
-        list,
-    } = lists;
-    let (object, next) = last(rt, list, links);
-    let mut cursor = list.cursor_mut_from_ptr_and_next(links, object, next);
-    let _ = cursor.insert_after(reference(3));
-    let _ = cursor.insert_before(reference(4));
-    write_object(notes, cursor.replace_with(reference(5)).ok());
-    cursor.move_prev();
-    write_object(notes, cursor.remove());
-    let behind = cursor.split_after();
-    cursor.splice_before(behind);
-    let in_front = cursor.split_before();
-    cursor.splice_after(in_front);
-    laws::split_then_splice(&mut cursor);
-    cursor.move_next();
-    write_read(notes, cursor.peek_next(), objects);
-    write_read(notes, cursor.peek_prev(), objects);
-    let there = [cursor.get_ptr()];
-    write_looks(notes, cursor.is_null(), cursor.into_ref(objects), &there);
 }
 
 // Notes what a walk gives at the front once, at the back twice, and at both ends until neither gives one, and first what a copy gives.
@@ -240,38 +196,27 @@ fn xor_linked_list(rt: HostRuntime) {
     let mut notes = Text::new(alloc);
     let mut lists = list_of(&rt, alloc, 4);
     write_walk(&mut notes, lists.list.iter(&lists.links, &lists.objects));
-    write_read(&mut notes, lists.list.front(&lists.links), &lists.objects);
-    write_read(&mut notes, lists.list.back(&lists.links), &lists.objects);
     write_taken(&mut notes, lists.list.take(), &mut lists.links);
     write_linked(&mut notes, &lists.links);
     let mut lists = list_of(&rt, alloc, 3);
-    let ends = [
-        lists
-            .list
-            .cursor_mut(&mut lists.links)
-            .into_ref(&lists.objects),
-        lists
-            .list
-            .front_mut(&mut lists.links)
-            .into_ref(&lists.objects),
-        lists
-            .list
-            .back_mut(&mut lists.links)
-            .into_ref(&lists.objects),
-    ];
-    write_values(&mut notes, &ends);
-    write_edits(&rt, &mut notes, &mut lists);
-    let mut lists = list_of(&rt, alloc, 3);
+    let front = lists
+        .list
+        .front_mut(&mut lists.links)
+        .into_ref(&lists.objects);
+    write_values(&mut notes, &[front]);
+    let (object, next) = last(&rt, &lists.list, &lists.links);
+    let cursor = lists
+        .list
+        .cursor_mut_from_ptr_and_next(&mut lists.links, object, next);
+    write_values(&mut notes, &[cursor.into_ref(&lists.objects)]);
     let cursor = lists.list.take().front_owning(&lists.links);
-    write_read(&mut notes, cursor.as_cursor(&lists.links), &lists.objects);
+    write_places(&mut notes, &[cursor.get_ptr()]);
     let cursor = cursor.into_inner().back_owning(&lists.links);
     write_places(&mut notes, &[cursor.get_ptr()]);
     lists.list = cursor.into_inner();
     let (object, next) = last(&rt, &lists.list, &lists.links);
-    let cursor = lists
-        .list
-        .take()
-        .cursor_owning_from_ptr_and_next(&lists.links, object, next);
+    let list = lists.list.take();
+    let cursor = list.cursor_owning_from_ptr_and_next(&lists.links, object, next);
     write_places(&mut notes, &[cursor.get_ptr()]);
     lists.list = cursor.into_inner();
     write_whole(&rt, &mut notes, &mut lists, &mut list_of(&rt, alloc, 0));
@@ -280,15 +225,8 @@ fn xor_linked_list(rt: HostRuntime) {
         alloc,
         &notes,
         "40 10 40 30 20 none none
-        no 10 none 1  no 20 0 2  no 30 1 3  no 40 2 none  3
-        no 40 2 none  yes none 3 0  no 10 none 1  no 20 0 2  1
         0 3  1 2
-        none 10 30
-        2 4
-        no 20 0 3  no 40 1 none  yes none 3 5  no 60 none 0  5
-        no 60 none 0  no 10 5 1  no 20 0 3  no 40 1 none  3
-        no 10 0
-        no 10 none 1  no 20 0 2  no 30 1 none  yes none 2 0  none  2  2
+        10 30  0 2 2
         0 2  5 yes  5  5 6  yes",
     );
 }

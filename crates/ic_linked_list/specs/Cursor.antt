@@ -3,21 +3,14 @@ use Rattle.std.specs.Prelude.{Option}
 use Rattle.ic_unsafe_ref.specs.declared.place.Place.{Place}
 use Rattle.ic_link_ops.specs.Chains.{Ends}
 use Rattle.ic_link_ops.specs.Positions.{Site, site}
-use Rattle.ic_linked_list.specs.declared.cursor.Cursor.{Cursor}
+use Rattle.ic_cursors.specs.declared.cursor.Cursor.{Cursor}
+pub use Rattle.ic_cursors.specs.Cursor.{list_of, links_of}
 
 module _ {T L : Type 0} where
-  -- the list that it reads
-  abbrev pub list_of : Cursor T L → Ends
-  list_of c = c.list.now
-
-  -- the table that it reads
-  abbrev pub links_of : Cursor T L → L
-  links_of c = c.links.now
-
   -- the member that it is on, none at null
-  abbrev pub position : Cursor T L → Option Place
+  abbrev pub position : Cursor Ends L T (Option Place) Ends → Option Place
   position c = c.current
 
-  -- all three
-  abbrev pub site_of : Cursor T L → Site L Ends
+  -- with the list and the table that it reads
+  abbrev pub site_of : Cursor Ends L T (Option Place) Ends → Site L Ends
   site_of c = site (links_of c) (list_of c) (position c)

@@ -8,35 +8,19 @@
 //! }
 //! ```
 
-ghost use Rattle.std.specs.Prelude.{◌≡◌, ◌↔◌, List, Option, Some, None, IsTrue, ⊤};
-ghost use Rattle.std.specs.Option.{option_copied};
+ghost use Rattle.std.specs.Prelude.{◌≡◌, List, Some, None};
 ghost use Rattle.ic_unsafe_ref.specs.declared.place.Place.{Place};
-ghost use Rattle.ic_link_ops.specs.Sequences.{Cut, join, first, last, IsAfter, IsBefore};
+ghost use Rattle.ic_link_ops.specs.Sequences.{first, last};
 ghost use Rattle.ic_link_ops.specs.LinkedList.{Shows};
-ghost use Rattle.ic_link_ops.specs.Positions.{Stands, MovesOn, MovesBack, HasMember, object_there};
+ghost use Rattle.ic_link_ops.specs.Positions.{Stands, HasMember};
 
 use crate::LinkedList;
 use ic_link_ops::linked_list::LinkedListOps;
 use ic_link_ops::{End, LinkOps};
-use ic_unsafe_ref::{Objects, Place, UnsafeRef};
-use std::alloc::{AllocError, Allocator};
+use ic_unsafe_ref::UnsafeRef;
 
 /// A position in a list: on a member, or null, which stands between the last and the first.
-pub struct Cursor<'a, T, L> {
-    pub(crate) list: &'a LinkedList<T>,
-    pub(crate) links: &'a L,
-    pub(crate) current: End,
-}
-
-impl<T, L> Drop for Cursor<'_, T, L> {
-    fn drop(self) {
-        let Cursor {
-            list: _,
-            links: _,
-            current: _,
-        } = self;
-    }
-}
+pub type Cursor<'a, T, L> = ic_cursors::Cursor<'a, LinkedList<T>, L>;
 
 impl<T> LinkedList<T> {
     ghost use Rattle.ic_linked_list.specs.Cursor.{list_of, links_of, position, site_of};
@@ -48,11 +32,7 @@ impl<T> LinkedList<T> {
         ensures links { links_of result ≡ links.now }
         ensures null { position result ≡ None }
     {
-        Cursor {
-            list: self,
-            links,
-            current: End::of(None),
-        }
+        Cursor::new(self, links, End::of(None))
     }
 
     /// A cursor on the object, of which it asks that it is a member.
@@ -68,11 +48,7 @@ impl<T> LinkedList<T> {
         ensures position { position result ≡ Some object }
         ensures stands { Stands (Shows L.neighbors) L.table (site_of result) }
     {
-        Cursor {
-            list: self,
-            links,
-            current: End::of(Some(object.place())),
-        }
+        Cursor::new(self, links, End::of(Some(object.place())))
     }
 
     /// A cursor on the first member, null in an empty list.
@@ -83,11 +59,7 @@ impl<T> LinkedList<T> {
         ensures position { (s : List Place) → Shows L.neighbors (L.table links.now) self.now s
             → position result ≡ first s }
     {
-        Cursor {
-            list: self,
-            links,
-            current: End::of(self.head()),
-        }
+        Cursor::new(self, links, End::of(self.head()))
     }
 
     /// A cursor on the last member, null in an empty list.
@@ -98,118 +70,6 @@ impl<T> LinkedList<T> {
         ensures position { (s : List Place) → Shows L.neighbors (L.table links.now) self.now s
             → position result ≡ last s }
     {
-        Cursor {
-            list: self,
-            links,
-            current: End::of(self.tail()),
-        }
-    }
-}
-
-impl<'a, T, L: LinkedListOps> Cursor<'a, T, L> {
-    ghost use Rattle.ic_linked_list.specs.Cursor.{list_of, links_of, position, site_of};
-
-    /// Whether the cursor is on no member.
-    #[inline]
-    pub fn is_null(&self) -> bool
-        ensures { IsTrue result ↔ (position self.now ≡ None) }
-    {
-        self.current.get().is_none()
-    }
-
-    /// The place of the member that the cursor is on, `None` at null.
-    #[inline]
-    pub fn get_ptr(&self) -> Option<Place>
-        ensures { result ≡ position self.now }
-    {
-        self.current.get()
-    }
-
-    /// The object that the cursor is on, `None` at null. One look-up, O(1).
-    #[inline]
-    pub fn get<'b, A: Allocator>(&self, objects: &'b Objects<T, A>) -> Option<&'b T>
-        ensures { option_copied result ≡ object_there objects.now (position self.now) }
-    {
-        objects.get(self.current.get()?)
-    }
-
-    /// A reference to the object that the cursor is on, `None` at null.
-    #[inline]
-    pub fn clone_pointer(&self) -> Option<UnsafeRef<T>>
-        ensures { result ≡ position self.now }
-    {
-        let place = self.current.get()?;
-        Some(UnsafeRef::new(place))
-    }
-
-    /// Moves to the next member, from null to the first one, and from the last one to null. O(1).
-    ///
-    /// The gap that was after the cursor is then before it.
-    #[inline]
-    pub fn move_next(&mut self)
-        requires stands { Stands (Shows L.neighbors) L.table (site_of self.old) }
-        ensures moved { MovesOn (Shows L.neighbors) L.table (site_of self.old) (position self.new) }
-        ensures list { list_of self.new ≡ list_of self.old }
-        ensures links { links_of self.new ≡ links_of self.old }
-    {
-        self.current = End::of(self.list.next_of(self.links, self.current.get()));
-    }
-
-    /// Moves to the previous member, from null to the last one, and from the first one to null. O(1).
-    ///
-    /// The gap that was before the cursor is then after it.
-    #[inline]
-    pub fn move_prev(&mut self)
-        requires stands { Stands (Shows L.neighbors) L.table (site_of self.old) }
-        ensures moved { MovesBack (Shows L.neighbors) L.table (site_of self.old) (position self.new) }
-        ensures list { list_of self.new ≡ list_of self.old }
-        ensures links { links_of self.new ≡ links_of self.old }
-    {
-        self.current = End::of(self.list.prev_of(self.links, self.current.get()));
-    }
-
-    /// A cursor where [`Cursor::move_next`] would stand.
-    #[inline]
-    pub fn peek_next(&self) -> Cursor<'a, T, L>
-        requires stands { Stands (Shows L.neighbors) L.table (site_of self.now) }
-        ensures moved { MovesOn (Shows L.neighbors) L.table (site_of self.now) (position result) }
-        ensures list { list_of result ≡ list_of self.now }
-        ensures links { links_of result ≡ links_of self.now }
-    {
-        Cursor {
-            list: self.list,
-            links: self.links,
-            current: End::of(self.list.next_of(self.links, self.current.get())),
-        }
-    }
-
-    /// A cursor where [`Cursor::move_prev`] would stand.
-    #[inline]
-    pub fn peek_prev(&self) -> Cursor<'a, T, L>
-        requires stands { Stands (Shows L.neighbors) L.table (site_of self.now) }
-        ensures moved { MovesBack (Shows L.neighbors) L.table (site_of self.now) (position result) }
-        ensures list { list_of result ≡ list_of self.now }
-        ensures links { links_of result ≡ links_of self.now }
-    {
-        Cursor {
-            list: self.list,
-            links: self.links,
-            current: End::of(self.list.prev_of(self.links, self.current.get())),
-        }
-    }
-}
-
-impl<T, L> Clone for Cursor<'_, T, L> {
-    ghost is_clone = { λ c copy. copy ≡ c };
-
-    ghost is_infallible = { λ _. ⊤ };
-
-    /// A cursor at the same position. It never fails.
-    fn clone(&self) -> Result<Self, AllocError> {
-        Ok(Cursor {
-            list: self.list,
-            links: self.links,
-            current: End::of(self.current.get()),
-        })
+        Cursor::new(self, links, End::of(self.tail()))
     }
 }

@@ -7,33 +7,19 @@
 //! let list = cursor.into_inner();
 //! ```
 
-ghost use Rattle.std.specs.Prelude.{◌≡◌, List, Option, Some, None};
+ghost use Rattle.std.specs.Prelude.{◌≡◌, List, Some, None};
 ghost use Rattle.ic_unsafe_ref.specs.declared.place.Place.{Place};
-ghost use Rattle.ic_link_ops.specs.Sequences.{first, last, IsAfter, IsBefore};
-ghost use Rattle.ic_link_ops.specs.Tables.{IsCovered};
-ghost use Rattle.ic_link_ops.specs.LinkedList.{Shows, ShowsSome};
-ghost use Rattle.ic_link_ops.specs.Positions.{Stands, MovesOn, MovesBack, HasMember};
-ghost use Rattle.ic_link_ops.specs.EditsAt.{InsertsBeside, RemovesThere, ReplacesThere, SplicesBeside, SplitsAfter, SplitsBefore};
+ghost use Rattle.ic_link_ops.specs.Sequences.{first, last};
+ghost use Rattle.ic_link_ops.specs.LinkedList.{Shows};
+ghost use Rattle.ic_link_ops.specs.Positions.{Stands, HasMember};
 
-use crate::{Cursor, LinkedList};
+use crate::LinkedList;
 use ic_link_ops::linked_list::LinkedListOps;
-use ic_link_ops::{AlreadyLinked, End, LinkOps, ReplaceError};
-use ic_unsafe_ref::{Place, UnsafeRef};
+use ic_link_ops::{End, LinkOps};
+use ic_unsafe_ref::UnsafeRef;
 
 /// A position in a list that it keeps. Its calls take the table of the list's links each time.
-pub struct CursorOwning<T> {
-    list: LinkedList<T>,
-    current: End,
-}
-
-impl<T> Drop for CursorOwning<T> {
-    fn drop(self) {
-        let CursorOwning {
-            list: _,
-            current: _,
-        } = self;
-    }
-}
+pub type CursorOwning<T> = ic_cursors::CursorOwning<LinkedList<T>>;
 
 impl<T> LinkedList<T> {
     ghost use Rattle.ic_linked_list.specs.CursorOwning.{list_of, position, site_of};
@@ -44,10 +30,7 @@ impl<T> LinkedList<T> {
         ensures list { list_of result ≡ self }
         ensures null { position result ≡ None }
     {
-        CursorOwning {
-            list: self,
-            current: End::of(None),
-        }
+        CursorOwning::new(self, End::of(None))
     }
 
     /// A cursor that keeps the list, on the object, of which it asks that it is a member.
@@ -63,10 +46,7 @@ impl<T> LinkedList<T> {
         ensures stands { Stands (Shows L.neighbors) L.table (site_of links.now result) }
     {
         let _ = links;
-        CursorOwning {
-            list: self,
-            current: End::of(Some(object.place())),
-        }
+        CursorOwning::new(self, End::of(Some(object.place())))
     }
 
     /// A cursor that keeps the list, on the first member, null in an empty list.
@@ -78,10 +58,7 @@ impl<T> LinkedList<T> {
     {
         let _ = links;
         let current = End::of(self.head());
-        CursorOwning {
-            list: self,
-            current,
-        }
+        CursorOwning::new(self, current)
     }
 
     /// A cursor that keeps the list, on the last member, null in an empty list.
@@ -93,197 +70,6 @@ impl<T> LinkedList<T> {
     {
         let _ = links;
         let current = End::of(self.tail());
-        CursorOwning {
-            list: self,
-            current,
-        }
-    }
-}
-
-impl<T> CursorOwning<T> {
-    ghost use Rattle.ic_linked_list.specs.CursorOwning.{list_of, position, site_of};
-    ghost use Rattle.ic_linked_list.specs.Cursor as reading;
-
-    /// The list, as it is.
-    #[inline]
-    pub fn into_inner(self) -> LinkedList<T>
-        ensures { result ≡ list_of self }
-    {
-        let CursorOwning { list, current: _ } = self;
-        list
-    }
-
-    /// A cursor that reads, at the same position.
-    #[inline]
-    pub fn as_cursor<'a, L: LinkedListOps>(&'a self, links: &'a L) -> Cursor<'a, T, L>
-        ensures list { reading.list_of result ≡ list_of self.now }
-        ensures links { reading.links_of result ≡ links.now }
-        ensures position { reading.position result ≡ position self.now }
-    {
-        Cursor {
-            list: &self.list,
-            links,
-            current: End::of(self.current.get()),
-        }
-    }
-
-    /// The list that the cursor keeps, to be read while the cursor stays where it is. O(1).
-    #[inline]
-    pub fn list(&self) -> &LinkedList<T>
-        ensures { result.now ≡ list_of self.now }
-    {
-        &self.list
-    }
-
-    /// The place of the member that the cursor is on, `None` at null. O(1).
-    #[inline]
-    pub fn get_ptr(&self) -> Option<Place>
-        ensures { result ≡ position self.now }
-    {
-        self.current.get()
-    }
-
-    /// Moves to null, from wherever the cursor is. It reads no entry, and asks nothing. O(1).
-    #[inline]
-    pub fn go_null(&mut self)
-        ensures list { list_of self.new ≡ list_of self.old }
-        ensures null { position self.new ≡ None }
-    {
-        self.current = End::of(None);
-    }
-
-    /// Moves to the next member, from null to the first one, and from the last one to null. O(1).
-    ///
-    /// The gap that was after the cursor is then before it.
-    #[inline]
-    pub fn move_next<L: LinkedListOps>(&mut self, links: &L)
-        requires stands { Stands (Shows L.neighbors) L.table (site_of links.now self.old) }
-        ensures moved { MovesOn (Shows L.neighbors) L.table (site_of links.now self.old) (position self.new) }
-        ensures list { list_of self.new ≡ list_of self.old }
-    {
-        self.current = End::of(self.list.next_of(links, self.current.get()));
-    }
-
-    /// Moves to the previous member, from null to the last one, and from the first one to null. O(1).
-    ///
-    /// The gap that was before the cursor is then after it.
-    #[inline]
-    pub fn move_prev<L: LinkedListOps>(&mut self, links: &L)
-        requires stands { Stands (Shows L.neighbors) L.table (site_of links.now self.old) }
-        ensures moved { MovesBack (Shows L.neighbors) L.table (site_of links.now self.old) (position self.new) }
-        ensures list { list_of self.new ≡ list_of self.old }
-    {
-        self.current = End::of(self.list.prev_of(links, self.current.get()));
-    }
-
-    /// Puts the object behind the cursor, and in front of the first member at null, unless its link is refused. O(1).
-    ///
-    /// It asks that the object's place is covered. The cursor stays where it is.
-    #[inline]
-    pub fn insert_after<L: LinkedListOps>(
-        &mut self,
-        links: &mut L,
-        object: UnsafeRef<T>,
-    ) -> Result<(), AlreadyLinked<T>>
-        requires covered { IsCovered (L.table links.old) object }
-        requires stands { Stands (Shows L.neighbors) L.table (site_of links.old self.old) }
-        ensures { InsertsBeside (Shows L.neighbors) L.table L.Does L.Refused IsAfter
-            (site_of links.old self.old) object result (site_of links.new self.new) }
-    {
-        self.list.insert_after(links, self.current.get(), object)
-    }
-
-    /// Puts the object in front of the cursor, and behind the last member at null, unless its link is refused. O(1).
-    ///
-    /// It asks that the object's place is covered. The cursor stays where it is.
-    #[inline]
-    pub fn insert_before<L: LinkedListOps>(
-        &mut self,
-        links: &mut L,
-        object: UnsafeRef<T>,
-    ) -> Result<(), AlreadyLinked<T>>
-        requires covered { IsCovered (L.table links.old) object }
-        requires stands { Stands (Shows L.neighbors) L.table (site_of links.old self.old) }
-        ensures { InsertsBeside (Shows L.neighbors) L.table L.Does L.Refused IsBefore
-            (site_of links.old self.old) object result (site_of links.new self.new) }
-    {
-        self.list.insert_before(links, self.current.get(), object)
-    }
-
-    /// Removes the member that the cursor is on and answers it, `None` at null. O(1).
-    ///
-    /// The cursor goes on to the following member, or to null.
-    #[inline]
-    pub fn remove<L: LinkedListOps>(&mut self, links: &mut L) -> Option<UnsafeRef<T>>
-        requires stands { Stands (Shows L.neighbors) L.table (site_of links.old self.old) }
-        ensures { RemovesThere (Shows L.neighbors) L.table L.Does (site_of links.old self.old) result (site_of links.new self.new) }
-    {
-        self.list.remove_at(links, &mut self.current)
-    }
-
-    /// Puts the object in the place of the member that the cursor is on, and answers that member. O(1).
-    ///
-    /// It asks that the object's place is covered. At null it answers [`ReplaceError::Null`], whether or not the object
-    /// is linked. Then the cursor is on the object.
-    #[inline]
-    pub fn replace_with<L: LinkedListOps>(
-        &mut self,
-        links: &mut L,
-        object: UnsafeRef<T>,
-    ) -> Result<UnsafeRef<T>, ReplaceError<T>>
-        requires covered { IsCovered (L.table links.old) object }
-        requires stands { Stands (Shows L.neighbors) L.table (site_of links.old self.old) }
-        ensures { ReplacesThere (Shows L.neighbors) L.table L.Does L.Refused
-            (site_of links.old self.old) object result (site_of links.new self.new) }
-    {
-        self.list.replace_with(links, &mut self.current, object)
-    }
-
-    /// Puts all of the given list behind the cursor, and in front of the first member at null. O(1).
-    ///
-    /// It asks that the table shows the given list too; the two share no member. The cursor stays where it is.
-    #[inline]
-    pub fn splice_after<L: LinkedListOps>(&mut self, links: &mut L, given: LinkedList<T>)
-        requires stands { Stands (Shows L.neighbors) L.table (site_of links.old self.old) }
-        requires given { ShowsSome L.neighbors (L.table links.old) given }
-        ensures { SplicesBeside (Shows L.neighbors) L.table L.Does IsAfter
-            (site_of links.old self.old) given (site_of links.new self.new) }
-    {
-        self.list.splice_after(links, self.current.get(), given);
-    }
-
-    /// Puts all of the given list in front of the cursor, and behind the last member at null. O(1).
-    ///
-    /// It asks that the table shows the given list too; the two share no member. The cursor stays where it is.
-    #[inline]
-    pub fn splice_before<L: LinkedListOps>(&mut self, links: &mut L, given: LinkedList<T>)
-        requires stands { Stands (Shows L.neighbors) L.table (site_of links.old self.old) }
-        requires given { ShowsSome L.neighbors (L.table links.old) given }
-        ensures { SplicesBeside (Shows L.neighbors) L.table L.Does IsBefore
-            (site_of links.old self.old) given (site_of links.new self.new) }
-    {
-        self.list.splice_before(links, self.current.get(), given);
-    }
-
-    /// Hands out the members behind the cursor, and at null the whole list. O(1).
-    ///
-    /// The cursor stays where it is.
-    #[inline]
-    pub fn split_after<L: LinkedListOps>(&mut self, links: &mut L) -> LinkedList<T>
-        requires stands { Stands (Shows L.neighbors) L.table (site_of links.old self.old) }
-        ensures { SplitsAfter (Shows L.neighbors) L.table L.Does (site_of links.old self.old) result (site_of links.new self.new) }
-    {
-        self.list.split_after(links, self.current.get())
-    }
-
-    /// Hands out the members in front of the cursor, and at null the whole list. O(1).
-    ///
-    /// The cursor stays where it is.
-    #[inline]
-    pub fn split_before<L: LinkedListOps>(&mut self, links: &mut L) -> LinkedList<T>
-        requires stands { Stands (Shows L.neighbors) L.table (site_of links.old self.old) }
-        ensures { SplitsBefore (Shows L.neighbors) L.table L.Does (site_of links.old self.old) result (site_of links.new self.new) }
-    {
-        self.list.split_before(links, self.current.get())
+        CursorOwning::new(self, current)
     }
 }

@@ -1,188 +1,120 @@
-//! Moves and edits at a position in a list, once for all cursors.
+//! What a doubly linked list gives the cursors: moves and edits at a position.
 //!
 //! "After" is the gap behind the position's member, or the first gap at null; "before" is the gap in front of it, or
-//! the last gap at null.
+//! the last gap at null. What each does, the traits say.
 
-ghost use Rattle.std.specs.Prelude.{Option};
-ghost use Rattle.ic_link_ops.specs.Sequences.{IsAfter, IsBefore};
-ghost use Rattle.ic_link_ops.specs.Tables.{IsCovered};
-ghost use Rattle.ic_link_ops.specs.LinkedList.{Shows, ShowsSome};
-ghost use Rattle.ic_link_ops.specs.Positions.{site, Stands, MovesOn, MovesBack};
-ghost use Rattle.ic_link_ops.specs.EditsAt.{InsertsBeside, RemovesThere, ReplacesThere, SplicesBeside, SplitsAfter, SplitsBefore};
+ghost use Rattle.std.specs.Prelude.{None, ⊤};
+ghost use Rattle.ic_link_ops.specs.LinkedList as doubly;
+ghost use Rattle.ic_link_ops.specs.Positions.{site, Stands};
 
 use crate::LinkedList;
+use ic_cursors::{Collection, Kind, Sliced, TwoWay, TwoWaySliced};
 use ic_link_ops::linked_list::LinkedListOps;
-use ic_link_ops::{AlreadyLinked, End, LinkOps, ReplaceError};
-use ic_unsafe_ref::{Place, UnsafeRef};
+use ic_link_ops::{End, LinkOps};
+use ic_unsafe_ref::Place;
 use std::mem;
 
-impl<T> LinkedList<T> {
-    // Where the next move leads: the gap after the position is then before it.
+impl<T> Collection for LinkedList<T> {
+    type Object = T;
+
+    type Position = End;
+
+    type Head = LinkedList<T>;
+
+    ghost head_of = { λ list. list };
+
+    ghost Keeps = { λ old new. ⊤ };
+
+    ghost null_of = { λ list. None };
+
     #[inline]
-    pub(crate) fn next_of<L: LinkedListOps>(
-        &self,
-        links: &L,
-        current: Option<Place>,
-    ) -> Option<Place>
-        requires stands { Stands (Shows L.neighbors) L.table (site links.now self.now current) }
-        ensures { MovesOn (Shows L.neighbors) L.table (site links.now self.now current) result }
-    {
-        match current {
-            // as a word, which both ways lead to
-            None => End::of(self.head_from_null()).get(),
-            Some(place) => links.next(place),
+    fn null_position(&self) -> End {
+        End::of(None)
+    }
+}
+
+impl<T, L: LinkedListOps> Kind<L> for LinkedList<T> {
+    ghost Shows = { doubly.Shows L.neighbors };
+
+    ghost StandsAt = { λ links list at. Stands (doubly.Shows L.neighbors) L.table (site links list at) };
+
+    #[inline]
+    fn next_of(&self, links: &L, at: &End) -> End {
+        match at.get() {
+            None => End::of(self.head_from_null()),
+            Some(place) => End::of(links.next(place)),
         }
     }
 
-    // Where the move back leads: the gap before the position is then after it.
     #[inline]
-    pub(crate) fn prev_of<L: LinkedListOps>(
-        &self,
-        links: &L,
-        current: Option<Place>,
-    ) -> Option<Place>
-        requires stands { Stands (Shows L.neighbors) L.table (site links.now self.now current) }
-        ensures { MovesBack (Shows L.neighbors) L.table (site links.now self.now current) result }
-    {
-        match current {
-            // as a word, which both ways lead to
-            None => End::of(self.tail_from_null()).get(),
-            Some(place) => links.prev(place),
+    fn insert_after_at(&mut self, links: &mut L, at: &mut End, object: Place) -> bool {
+        let behind = self.next_of(&*links, at).get();
+        self.insert_between(links, at.get(), object, behind)
+    }
+}
+
+impl<T, L: LinkedListOps> TwoWay<L> for LinkedList<T> {
+    #[inline]
+    fn prev_of(&self, links: &L, at: &End) -> End {
+        match at.get() {
+            None => End::of(self.tail_from_null()),
+            Some(place) => End::of(links.prev(place)),
         }
     }
 
     #[inline]
-    pub(crate) fn insert_after<L: LinkedListOps>(
-        &mut self,
-        links: &mut L,
-        current: Option<Place>,
-        object: UnsafeRef<T>,
-    ) -> Result<(), AlreadyLinked<T>>
-        requires covered { IsCovered (L.table links.old) object }
-        requires stands { Stands (Shows L.neighbors) L.table (site links.old self.old current) }
-        ensures { InsertsBeside (Shows L.neighbors) L.table L.Does L.Refused IsAfter
-            (site links.old self.old current) object result (site links.new self.new current) }
-    {
-        let behind = self.next_of(&*links, current);
-        self.insert_between(links, current, object, behind)
+    fn insert_before_at(&mut self, links: &mut L, at: &mut End, object: Place) -> bool {
+        let before = self.prev_of(&*links, at).get();
+        self.insert_between(links, before, object, at.get())
     }
 
     #[inline]
-    pub(crate) fn insert_before<L: LinkedListOps>(
-        &mut self,
-        links: &mut L,
-        current: Option<Place>,
-        object: UnsafeRef<T>,
-    ) -> Result<(), AlreadyLinked<T>>
-        requires covered { IsCovered (L.table links.old) object }
-        requires stands { Stands (Shows L.neighbors) L.table (site links.old self.old current) }
-        ensures { InsertsBeside (Shows L.neighbors) L.table L.Does L.Refused IsBefore
-            (site links.old self.old current) object result (site links.new self.new current) }
-    {
-        let before = self.prev_of(&*links, current);
-        self.insert_between(links, before, object, current)
+    fn remove_at(&mut self, links: &mut L, at: &mut End) -> Option<Place> {
+        let place = at.get()?;
+        *at = End::of(self.take_off(links, place));
+        Some(place)
     }
 
-    // Removes the member at the position, which goes on to the one behind it.
     #[inline]
-    pub(crate) fn remove_at<L: LinkedListOps>(
-        &mut self,
-        links: &mut L,
-        current: &mut End,
-    ) -> Option<UnsafeRef<T>>
-        requires stands { Stands (Shows L.neighbors) L.table (site links.old self.old current.old) }
-        ensures { RemovesThere (Shows L.neighbors) L.table L.Does
-            (site links.old self.old current.old) result (site links.new self.new current.new) }
-    {
-        let place = current.get()?;
-        *current = End::of(self.take_off(links, place));
-        Some(UnsafeRef::new(place))
-    }
-
-    // Replaces the member at the position, which is on the object then.
-    #[inline]
-    pub(crate) fn replace_with<L: LinkedListOps>(
-        &mut self,
-        links: &mut L,
-        current: &mut End,
-        object: UnsafeRef<T>,
-    ) -> Result<UnsafeRef<T>, ReplaceError<T>>
-        requires covered { IsCovered (L.table links.old) object }
-        requires stands { Stands (Shows L.neighbors) L.table (site links.old self.old current.old) }
-        ensures { ReplacesThere (Shows L.neighbors) L.table L.Does L.Refused
-            (site links.old self.old current.old) object result (site links.new self.new current.new) }
-    {
-        let Some(out) = current.get() else {
-            return Err(ReplaceError::Null(object));
+    fn replace_at(&mut self, links: &mut L, at: &mut End, object: Place) -> bool {
+        let Some(out) = at.get() else {
+            return false;
         };
-        let place = object.place();
-        if !links.acquire_link(place) {
-            return Err(ReplaceError::AlreadyLinked(object));
+        if !links.acquire_link(object) {
+            return false;
         }
-        self.put_in_place(links, out, place);
+        self.put_in_place(links, out, object);
         links.release_link(out);
-        *current = End::of(Some(place));
-        Ok(UnsafeRef::new(out))
+        *at = End::of(Some(object));
+        true
+    }
+}
+
+impl<T, L: LinkedListOps> Sliced<L> for LinkedList<T> {
+    #[inline]
+    fn splice_after_at(&mut self, links: &mut L, at: &mut End, given: LinkedList<T>) {
+        let behind = self.next_of(&*links, at).get();
+        self.splice_between(links, at.get(), given, behind);
     }
 
     #[inline]
-    pub(crate) fn splice_after<L: LinkedListOps>(
-        &mut self,
-        links: &mut L,
-        current: Option<Place>,
-        given: LinkedList<T>,
-    )
-        requires stands { Stands (Shows L.neighbors) L.table (site links.old self.old current) }
-        requires given { ShowsSome L.neighbors (L.table links.old) given }
-        ensures { SplicesBeside (Shows L.neighbors) L.table L.Does IsAfter
-            (site links.old self.old current) given (site links.new self.new current) }
-    {
-        let behind = self.next_of(&*links, current);
-        self.splice_between(links, current, given, behind);
+    fn split_after_at(&mut self, links: &mut L, at: &mut End) -> LinkedList<T> {
+        let behind = self.next_of(&*links, at).get();
+        self.split_between(links, at.get(), behind)
+    }
+}
+
+impl<T, L: LinkedListOps> TwoWaySliced<L> for LinkedList<T> {
+    #[inline]
+    fn splice_before_at(&mut self, links: &mut L, at: &mut End, given: LinkedList<T>) {
+        let before = self.prev_of(&*links, at).get();
+        self.splice_between(links, before, given, at.get());
     }
 
     #[inline]
-    pub(crate) fn splice_before<L: LinkedListOps>(
-        &mut self,
-        links: &mut L,
-        current: Option<Place>,
-        given: LinkedList<T>,
-    )
-        requires stands { Stands (Shows L.neighbors) L.table (site links.old self.old current) }
-        requires given { ShowsSome L.neighbors (L.table links.old) given }
-        ensures { SplicesBeside (Shows L.neighbors) L.table L.Does IsBefore
-            (site links.old self.old current) given (site links.new self.new current) }
-    {
-        let before = self.prev_of(&*links, current);
-        self.splice_between(links, before, given, current);
-    }
-
-    #[inline]
-    pub(crate) fn split_after<L: LinkedListOps>(
-        &mut self,
-        links: &mut L,
-        current: Option<Place>,
-    ) -> LinkedList<T>
-        requires stands { Stands (Shows L.neighbors) L.table (site links.old self.old current) }
-        ensures { SplitsAfter (Shows L.neighbors) L.table L.Does
-            (site links.old self.old current) result (site links.new self.new current) }
-    {
-        let behind = self.next_of(&*links, current);
-        self.split_between(links, current, behind)
-    }
-
-    #[inline]
-    pub(crate) fn split_before<L: LinkedListOps>(
-        &mut self,
-        links: &mut L,
-        current: Option<Place>,
-    ) -> LinkedList<T>
-        requires stands { Stands (Shows L.neighbors) L.table (site links.old self.old current) }
-        ensures { SplitsBefore (Shows L.neighbors) L.table L.Does
-            (site links.old self.old current) result (site links.new self.new current) }
-    {
-        let before = self.prev_of(&*links, current);
-        let rest = self.split_between(links, before, current);
+    fn split_before_at(&mut self, links: &mut L, at: &mut End) -> LinkedList<T> {
+        let before = self.prev_of(&*links, at).get();
+        let rest = self.split_between(links, before, at.get());
         mem::replace(self, rest)
     }
 }

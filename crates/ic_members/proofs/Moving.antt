@@ -14,9 +14,6 @@ use Rattle.ic_linked_list.specs.CursorOwning as doubly_cursor
 use Rattle.ic_singly_linked_list.specs.CursorOwning as singly_cursor
 use Rattle.ic_xor_linked_list.specs.CursorOwning as xor_cursor
 use Rattle.ic_rbtree.specs.CursorOwning as tree_cursor
-use Rattle.ic_linked_list.specs.declared.cursor_owning.CursorOwning as doubly_owning
-use Rattle.ic_singly_linked_list.specs.declared.cursor_owning.CursorOwning as singly_owning
-use Rattle.ic_xor_linked_list.specs.declared.cursor_owning.CursorOwning as xor_owning
 use Rattle.ic_rbtree.specs.declared.cursor_owning.CursorOwning as tree_owning
 use Rattle.ic_rbtree.specs.Tree.{root_of, adapter_of}
 use Rattle.ic_fields.specs.declared.entry.Entry.{Entry}
@@ -43,7 +40,7 @@ at_shown kind stands s shown = (stands.gap, one_sequence_is_shown kind stands.sh
 
 -- SO IS EACH CALL of a kind that says that its cursor stands then
 module _ {A V K L : Type 0} {table : L → Table Entry} {new : L} {t : Table Entry} where
-  pub singly_turned : {m m' : singly_owning.CursorOwning V} → position.Stands (singly.Shows successor) table (singly_cursor.site_of new m')
+  pub singly_turned : {m m' : singly_cursor.Owning V} → position.Stands (singly.Shows successor) table (singly_cursor.site_of new m')
       → Turned {A = A} {V = V} {K = K} (singly.Shows successor) t (table new) (singly_cursor.list_of m) (singly_cursor.list_of m') (Singly m) (Singly m')
   singly_turned stands = record {
     reads = λ s shown. shown;
@@ -52,7 +49,7 @@ module _ {A V K L : Type 0} {table : L → Table Entry} {new : L} {t : Table Ent
     alike = record { kind = refl; adapter = refl };
   }
 
-  pub doubly_turned : {m m' : doubly_owning.CursorOwning V} → position.Stands (doubly.Shows neighbors) table (doubly_cursor.site_of new m')
+  pub doubly_turned : {m m' : doubly_cursor.Owning V} → position.Stands (doubly.Shows neighbors) table (doubly_cursor.site_of new m')
       → Turned {A = A} {V = V} {K = K} (doubly.Shows neighbors) t (table new) (doubly_cursor.list_of m) (doubly_cursor.list_of m') (Doubly m) (Doubly m')
   doubly_turned stands = record {
     reads = λ s shown. shown;
@@ -61,7 +58,7 @@ module _ {A V K L : Type 0} {table : L → Table Entry} {new : L} {t : Table Ent
     alike = record { kind = refl; adapter = refl };
   }
 
-  pub xor_turned : {m m' : xor_owning.CursorOwning V} → xor_cursor.KnowsNeighbors (xor.Shows is_linked Joins) table new m'
+  pub xor_turned : {m m' : xor_cursor.Owning V} → xor_cursor.KnowsNeighbors (xor.Shows is_linked Joins) table new m'
       → Turned {A = A} {V = V} {K = K} (xor.Shows is_linked Joins) t (table new) (xor_cursor.list_of m) (xor_cursor.list_of m') (Xor m) (Xor m')
   xor_turned {m' = to} knows = record {
     reads = λ s shown. shown;

@@ -14,7 +14,6 @@ use Rattle.ic_linked_list.specs.CursorOwning as doubly_cursor
 use Rattle.ic_singly_linked_list.specs.CursorOwning as singly_cursor
 use Rattle.ic_xor_linked_list.specs.CursorOwning as xor_cursor
 use Rattle.ic_xor_linked_list.specs.Position.{null_of}
-use Rattle.ic_xor_linked_list.specs.declared.cursor_owning.CursorOwning as xor_type
 use Rattle.ic_fields.specs.declared.entry.Entry.{Entry}
 use Rattle.ic_fields.specs.Entries.{is_linked, neighbors, successor, Joins}
 use Rattle.ic_members.specs.declared.members.Members.{Members}
@@ -46,7 +45,7 @@ at_put_before gap r {position} before =
     let at = at_before (record { front = gap.front ++ r; back = gap.back }) before in (at.0, at.1 ∙ append_assoc gap.front r gap.back, at.2)
 
 -- an XOR list's cursor at null, with the head behind it
-pub xor_null : {V : Type 0} {t : Table Entry} (m : xor_type.CursorOwning V) (s : List Place) → xor.Shows is_linked Joins t (xor_cursor.list_of m) s
+pub xor_null : {V : Type 0} {t : Table Entry} (m : xor_cursor.Owning V) (s : List Place) → xor.Shows is_linked Joins t (xor_cursor.list_of m) s
     → xor_cursor.place_of m ≡ null_of (xor_cursor.list_of m) → IsAtBefore s (xor_cursor.position m) (xor_cursor.place_of m).next
 xor_null m s shown null = rw null (at_front s, refl, refl, shown.head)
 

@@ -7,7 +7,6 @@ use Rattle.ic_link_ops.specs.XorLinkedList as xor
 use Rattle.ic_link_ops.proofs.CollectionLaws.{one_sequence_is_shown}
 use Rattle.ic_link_ops.proofs.SequenceLemmas.{gap_before}
 use Rattle.ic_xor_linked_list.specs.CursorOwning as xor_cursor
-use Rattle.ic_xor_linked_list.specs.declared.cursor_owning.CursorOwning.{CursorOwning}
 use Rattle.ic_xor_linked_list.proofs.Standing.{stands_before}
 use Rattle.ic_fields.specs.declared.entry.Entry.{Entry}
 use Rattle.ic_fields.specs.Entries.{is_linked, Joins}
@@ -36,14 +35,14 @@ module _ {A V K : Type 0} where
   gap_before_cursor m held = before_at (gap_after_cursor m held)
 
 -- AN XOR LIST'S CURSOR keeps the place behind it, as the calls of the list ask it,
-pub knows : {V L : Type 0} {table : L → Table Entry} {links : L} (m : CursorOwning V) (s : List Place)
+pub knows : {V L : Type 0} {table : L → Table Entry} {links : L} (m : xor_cursor.Owning V) (s : List Place)
     → xor.Shows is_linked Joins (table links) (xor_cursor.list_of m) s → IsAtBefore s (xor_cursor.position m) (xor_cursor.place_of m).next
     → xor_cursor.KnowsNeighbors (xor.Shows is_linked Joins) table links m
 knows {table = table} {links = links} m s shown at =
     stands_before xor_kind at.0 (subst (xor.Shows is_linked Joins (table links) (xor_cursor.list_of m)) (sym at.1) shown) at.2 at.3
 
 -- and as they leave it
-pub known : {V L : Type 0} {table : L → Table Entry} {links : L} (m : CursorOwning V) (s : List Place)
+pub known : {V L : Type 0} {table : L → Table Entry} {links : L} (m : xor_cursor.Owning V) (s : List Place)
     → xor.Shows is_linked Joins (table links) (xor_cursor.list_of m) s → xor_cursor.KnowsNeighbors (xor.Shows is_linked Joins) table links m
     → IsAtBefore s (xor_cursor.position m) (xor_cursor.place_of m).next
 known m s shown k =

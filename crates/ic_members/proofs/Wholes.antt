@@ -10,9 +10,6 @@ use Rattle.ic_singly_linked_list.specs.CursorOwning as singly_cursor
 use Rattle.ic_xor_linked_list.specs.CursorOwning as xor_cursor
 use Rattle.ic_rbtree.specs.CursorOwning as tree_cursor
 use Rattle.ic_rbtree.specs.Tree.{root_of}
-use Rattle.ic_linked_list.specs.declared.cursor_owning.CursorOwning as doubly_type
-use Rattle.ic_singly_linked_list.specs.declared.cursor_owning.CursorOwning as singly_type
-use Rattle.ic_xor_linked_list.specs.declared.cursor_owning.CursorOwning as xor_type
 use Rattle.ic_rbtree.specs.declared.cursor_owning.CursorOwning as tree_type
 use Rattle.ic_xor_linked_list.specs.Position.{null_of}
 use Rattle.ic_xor_linked_list.specs.Turned.{turned}
@@ -28,15 +25,15 @@ use Rattle.ic_members.proofs.Parting.{at_null, xor_null}
 
 -- EVERY TABLE THAT CARRIES ITS KIND keeps nothing for a new collection
 module _ {A V K : Type 0} (t : Table Entry) where
-  pub new_singly : (m : singly_type.CursorOwning V) → carries (kind_of t) kind.Singly ≡ true → singly_cursor.list_of m ≡ None → singly_cursor.position m ≡ None
+  pub new_singly : (m : singly_cursor.Owning V) → carries (kind_of t) kind.Singly ≡ true → singly_cursor.list_of m ≡ None → singly_cursor.position m ≡ None
       → Keeps {A = A} {V = V} {K = K} t (Singly m) []
   new_singly m carried empty null = record { carried = carried; shown = rw empty (singly_kind.nothing t); stands = at_null null }
 
-  pub new_doubly : (m : doubly_type.CursorOwning V) → carries (kind_of t) kind.Doubly ≡ true → doubly_cursor.list_of m ≡ no_members → doubly_cursor.position m ≡ None
+  pub new_doubly : (m : doubly_cursor.Owning V) → carries (kind_of t) kind.Doubly ≡ true → doubly_cursor.list_of m ≡ no_members → doubly_cursor.position m ≡ None
       → Keeps {A = A} {V = V} {K = K} t (Doubly m) []
   new_doubly m carried empty null = record { carried = carried; shown = rw empty (doubly_kind.nothing t); stands = at_null null }
 
-  pub new_xor : (m : xor_type.CursorOwning V) → carries (kind_of t) kind.Xor ≡ true → xor_cursor.list_of m ≡ no_members
+  pub new_xor : (m : xor_cursor.Owning V) → carries (kind_of t) kind.Xor ≡ true → xor_cursor.list_of m ≡ no_members
       → xor_cursor.place_of m ≡ null_of (xor_cursor.list_of m) → Keeps {A = A} {V = V} {K = K} t (Xor m) []
   new_xor m carried empty null =
       let shown : xor.Shows is_linked Joins t (xor_cursor.list_of m) [] = rw empty (xor_kind.nothing t) in record { carried = carried; shown = shown; stands = xor_null m [] shown null }
@@ -46,7 +43,7 @@ module _ {A V K : Type 0} (t : Table Entry) where
   new_tree m carried empty null = record { carried = carried; shown = rw empty (tree_kind.nothing t); stands = at_null null }
 
 -- A TABLE THAT KEEPS an XOR list keeps it turned round
-pub keeps_turned : {A V K : Type 0} {t : Table Entry} (m m' : xor_type.CursorOwning V) {s : List Place} → Keeps {A = A} {V = V} {K = K} t (Xor m) s
+pub keeps_turned : {A V K : Type 0} {t : Table Entry} (m m' : xor_cursor.Owning V) {s : List Place} → Keeps {A = A} {V = V} {K = K} t (Xor m) s
     → xor_cursor.list_of m' ≡ turned (xor_cursor.list_of m) → xor_cursor.place_of m' ≡ null_of (xor_cursor.list_of m') → Keeps {A = A} {V = V} {K = K} t (Xor m') (reverse s)
 keeps_turned {t = t} m m' {s} kept list null =
     let shown : xor.Shows is_linked Joins t (xor_cursor.list_of m') (reverse s) = rw list (reversed_is_shown (λ e a b j. joins_symmetric e.word a b j) kept.shown) in record {

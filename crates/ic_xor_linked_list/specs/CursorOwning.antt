@@ -4,27 +4,24 @@ use Rattle.ic_unsafe_ref.specs.declared.place.Place.{Place}
 use Rattle.ic_link_ops.specs.Tables.{Table}
 use Rattle.ic_link_ops.specs.Chains.{Ends}
 use Rattle.ic_link_ops.specs.Positions.{Site, site}
+use Rattle.ic_cursors.specs.declared.cursor_owning.CursorOwning.{CursorOwning}
 use Rattle.ic_xor_linked_list.specs.Position.{Knows, Spot}
-use Rattle.ic_xor_linked_list.specs.declared.cursor_owning.CursorOwning.{CursorOwning}
+pub use Rattle.ic_cursors.specs.CursorOwning.{list_of, place_of}
+
+-- a cursor of a list of such objects
+abbrev pub Owning : Type 0 → Type 0
+Owning T = CursorOwning Ends T Spot Ends
 
 module _ {T : Type 0} where
-  -- the list that it keeps
-  abbrev pub list_of : CursorOwning T → Ends
-  list_of c = c.list
-
   -- the member that it is on, none at null
-  abbrev pub position : CursorOwning T → Option Place
-  position c = c.at.current
-
-  -- with the place behind it
-  abbrev pub place_of : CursorOwning T → Spot
-  place_of c = c.at
+  abbrev pub position : Owning T → Option Place
+  position c = c.current.current
 
   module _ {L : Type 0} where
     -- list and position, with the table that a call is handed
-    abbrev pub site_of : L → CursorOwning T → Site L Ends
+    abbrev pub site_of : L → Owning T → Site L Ends
     site_of links c = site links (list_of c) (position c)
 
     -- it stands, as this table shows its list, and the place behind it that it keeps is right
-    abbrev pub KnowsNeighbors : {E : Type 0} → (Table E → Ends → List Place → Type 0) → (L → Table E) → L → CursorOwning T → Type 0
-    KnowsNeighbors Shows table links c = Knows Shows table links (list_of c) c.at
+    abbrev pub KnowsNeighbors : {E : Type 0} → (Table E → Ends → List Place → Type 0) → (L → Table E) → L → Owning T → Type 0
+    KnowsNeighbors Shows table links c = Knows Shows table links (list_of c) c.current

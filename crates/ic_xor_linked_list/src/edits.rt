@@ -1,136 +1,110 @@
-//! Edits at a position in a list, once for all cursors.
+//! What an XOR list gives the cursors: moves and edits at a position.
 //!
 //! "After" is the gap behind the position's member, or the first gap at null; "before" is the gap in front of it, or
 //! the last gap at null. Each edit leaves the position with the place that stands behind it then. What stands in front of
-//! it is where a move back would lead.
+//! it is where a move back would lead. What each does, the traits say.
 
-ghost use Rattle.std.specs.Prelude.{◌≡◌, List};
-ghost use Rattle.ic_unsafe_ref.specs.declared.place.Place.{Place};
-ghost use Rattle.ic_link_ops.specs.Sequences.{Cut, join, IsAfter, IsBefore, IsDisjoint};
-ghost use Rattle.ic_link_ops.specs.Tables.{IsCovered};
-ghost use Rattle.ic_link_ops.specs.XorLinkedList.{Shows, ShowsSome};
-ghost use Rattle.ic_link_ops.specs.Positions.{site};
-ghost use Rattle.ic_link_ops.specs.EditsAt.{InsertsBeside, RemovesThere, ReplacesThere, SplicesBeside, SplitsAfter, SplitsBefore};
-ghost use Rattle.ic_xor_linked_list.specs.Position.{Knows};
+ghost use Rattle.std.specs.Prelude.{⊤};
+ghost use Rattle.ic_link_ops.specs.XorLinkedList as xor;
+ghost use Rattle.ic_xor_linked_list.specs.Position as spots;
 
 use crate::XorLinkedList;
 use crate::position::Position;
+use ic_cursors::{Collection, Kind, Sliced, TwoWay, TwoWaySliced};
+use ic_link_ops::LinkOps;
 use ic_link_ops::xor_linked_list::XorLinkedListOps;
-use ic_link_ops::{AlreadyLinked, LinkOps, ReplaceError};
-use ic_unsafe_ref::UnsafeRef;
+use ic_unsafe_ref::Place;
 use std::mem;
 
-impl<T> XorLinkedList<T> {
+impl<T> Collection for XorLinkedList<T> {
+    type Object = T;
+
+    type Position = Position;
+
+    type Head = XorLinkedList<T>;
+
+    ghost head_of = { λ list. list };
+
+    ghost Keeps = { λ old new. ⊤ };
+
+    ghost null_of = { spots.null_of };
+
+    // Null: the first member is behind it.
     #[inline]
-    pub(crate) fn insert_after<L: XorLinkedListOps>(
-        &mut self,
-        links: &mut L,
-        at: &mut Position,
-        object: UnsafeRef<T>,
-    ) -> Result<(), AlreadyLinked<T>>
-        requires covered { IsCovered (L.table links.old) object }
-        requires stands { Knows (Shows L.linked L.Joins) L.table links.old self.old at.old }
-        ensures inserted { InsertsBeside (Shows L.linked L.Joins) L.table L.Does L.Refused IsAfter
-            (site links.old self.old at.old.current) object result (site links.new self.new at.new.current) }
-        ensures kept { Knows (Shows L.linked L.Joins) L.table links.new self.new at.new }
-    {
-        let place = object.place();
-        match self.insert_between(links, at.current(), object, at.next()) {
-            Err(refused) => Err(refused),
-            Ok(()) => {
-                at.set_next(Some(place));
-                Ok(())
-            }
+    fn null_position(&self) -> Position {
+        Position::of(None, self.head())
+    }
+}
+
+impl<T, L: XorLinkedListOps> Kind<L> for XorLinkedList<T> {
+    ghost Shows = { xor.Shows L.linked L.Joins };
+
+    ghost StandsAt = { spots.Knows (xor.Shows L.linked L.Joins) L.table };
+
+    #[inline]
+    fn next_of(&self, links: &L, at: &Position) -> Position {
+        self.position_behind(links, at.current(), at.next())
+    }
+
+    #[inline]
+    fn insert_after_at(&mut self, links: &mut L, at: &mut Position, object: Place) -> bool {
+        if !self.insert_between(links, at.current(), object, at.next()) {
+            return false;
+        }
+        at.set_next(Some(object));
+        true
+    }
+}
+
+impl<T, L: XorLinkedListOps> TwoWay<L> for XorLinkedList<T> {
+    #[inline]
+    fn prev_of(&self, links: &L, at: &Position) -> Position {
+        match at.current() {
+            None => Position::of(self.tail_from_null(), None),
+            Some(place) => Position::of(links.prev(place, at.next()), Some(place)),
         }
     }
 
     #[inline]
-    pub(crate) fn insert_before<L: XorLinkedListOps>(
-        &mut self,
-        links: &mut L,
-        at: &mut Position,
-        object: UnsafeRef<T>,
-    ) -> Result<(), AlreadyLinked<T>>
-        requires covered { IsCovered (L.table links.old) object }
-        requires stands { Knows (Shows L.linked L.Joins) L.table links.old self.old at.old }
-        ensures inserted { InsertsBeside (Shows L.linked L.Joins) L.table L.Does L.Refused IsBefore
-            (site links.old self.old at.old.current) object result (site links.new self.new at.new.current) }
-        ensures kept { Knows (Shows L.linked L.Joins) L.table links.new self.new at.new }
-    {
-        let before = self.moved_back(&*links, at).current();
-        match self.insert_between(links, before, object, at.current()) {
-            Err(refused) => Err(refused),
-            Ok(()) => {
-                at.stay(&*self);
-                Ok(())
-            }
+    fn insert_before_at(&mut self, links: &mut L, at: &mut Position, object: Place) -> bool {
+        let before = self.prev_of(&*links, at).current();
+        if !self.insert_between(links, before, object, at.current()) {
+            return false;
         }
+        at.stay(&*self);
+        true
     }
 
-    // Removes the member at the position, which goes on to the one behind it.
     #[inline]
-    pub(crate) fn remove_at<L: XorLinkedListOps>(
-        &mut self,
-        links: &mut L,
-        at: &mut Position,
-    ) -> Option<UnsafeRef<T>>
-        requires stands { Knows (Shows L.linked L.Joins) L.table links.old self.old at.old }
-        ensures removed { RemovesThere (Shows L.linked L.Joins) L.table L.Does
-            (site links.old self.old at.old.current) result (site links.new self.new at.new.current) }
-        ensures kept { Knows (Shows L.linked L.Joins) L.table links.new self.new at.new }
-    {
+    fn remove_at(&mut self, links: &mut L, at: &mut Position) -> Option<Place> {
         let place = at.current()?;
-        let before = self.moved_back(&*links, at).current();
+        let before = self.prev_of(&*links, at).current();
         let behind = at.next();
         self.take_off(links, before, place, behind);
         *at = self.position_behind(&*links, before, behind);
-        Some(UnsafeRef::new(place))
+        Some(place)
     }
 
-    // Replaces the member at the position, which is on the object then.
     #[inline]
-    pub(crate) fn replace_with<L: XorLinkedListOps>(
-        &mut self,
-        links: &mut L,
-        at: &mut Position,
-        object: UnsafeRef<T>,
-    ) -> Result<UnsafeRef<T>, ReplaceError<T>>
-        requires covered { IsCovered (L.table links.old) object }
-        requires stands { Knows (Shows L.linked L.Joins) L.table links.old self.old at.old }
-        ensures replaced { ReplacesThere (Shows L.linked L.Joins) L.table L.Does L.Refused
-            (site links.old self.old at.old.current) object result (site links.new self.new at.new.current) }
-        ensures kept { Knows (Shows L.linked L.Joins) L.table links.new self.new at.new }
-    {
+    fn replace_at(&mut self, links: &mut L, at: &mut Position, object: Place) -> bool {
         let Some(out) = at.current() else {
-            return Err(ReplaceError::Null(object));
+            return false;
         };
-        let before = self.moved_back(&*links, at).current();
+        let before = self.prev_of(&*links, at).current();
         let behind = at.next();
-        let place = object.place();
-        if !links.acquire_link(place) {
-            return Err(ReplaceError::AlreadyLinked(object));
+        if !links.acquire_link(object) {
+            return false;
         }
-        self.put_in_place(links, before, out, place, behind);
+        self.put_in_place(links, before, out, object, behind);
         links.release_link(out);
-        *at = Position::of(Some(place), behind);
-        Ok(UnsafeRef::new(out))
+        *at = Position::of(Some(object), behind);
+        true
     }
+}
 
+impl<T, L: XorLinkedListOps> Sliced<L> for XorLinkedList<T> {
     #[inline]
-    pub(crate) fn splice_after<L: XorLinkedListOps>(
-        &mut self,
-        links: &mut L,
-        at: &mut Position,
-        given: XorLinkedList<T>,
-    )
-        requires stands { Knows (Shows L.linked L.Joins) L.table links.old self.old at.old }
-        requires given { ShowsSome L.linked L.Joins (L.table links.old) given }
-        ensures spliced { SplicesBeside (Shows L.linked L.Joins) L.table L.Does IsAfter
-            (site links.old self.old at.old.current) given (site links.new self.new at.new.current) }
-        ensures kept { (gap : Cut) (t : List Place) → Shows L.linked L.Joins (L.table links.old) self.old (join gap)
-            → IsAfter gap at.old.current → Shows L.linked L.Joins (L.table links.old) given t → IsDisjoint t (join gap)
-            → Knows (Shows L.linked L.Joins) L.table links.new self.new at.new }
-    {
+    fn splice_after_at(&mut self, links: &mut L, at: &mut Position, given: XorLinkedList<T>) {
         let behind = at.next();
         let first = given.head();
         self.splice_between(links, at.current(), given, behind);
@@ -138,53 +112,24 @@ impl<T> XorLinkedList<T> {
     }
 
     #[inline]
-    pub(crate) fn splice_before<L: XorLinkedListOps>(
-        &mut self,
-        links: &mut L,
-        at: &mut Position,
-        given: XorLinkedList<T>,
-    )
-        requires stands { Knows (Shows L.linked L.Joins) L.table links.old self.old at.old }
-        requires given { ShowsSome L.linked L.Joins (L.table links.old) given }
-        ensures spliced { SplicesBeside (Shows L.linked L.Joins) L.table L.Does IsBefore
-            (site links.old self.old at.old.current) given (site links.new self.new at.new.current) }
-        ensures kept { (gap : Cut) (t : List Place) → Shows L.linked L.Joins (L.table links.old) self.old (join gap)
-            → IsBefore gap at.old.current → Shows L.linked L.Joins (L.table links.old) given t → IsDisjoint t (join gap)
-            → Knows (Shows L.linked L.Joins) L.table links.new self.new at.new }
-    {
-        let before = self.moved_back(&*links, at).current();
+    fn split_after_at(&mut self, links: &mut L, at: &mut Position) -> XorLinkedList<T> {
+        let rest = self.split_between(links, at.current(), at.next());
+        at.set_next(None);
+        rest
+    }
+}
+
+impl<T, L: XorLinkedListOps> TwoWaySliced<L> for XorLinkedList<T> {
+    #[inline]
+    fn splice_before_at(&mut self, links: &mut L, at: &mut Position, given: XorLinkedList<T>) {
+        let before = self.prev_of(&*links, at).current();
         self.splice_between(links, before, given, at.current());
         at.stay(&*self);
     }
 
     #[inline]
-    pub(crate) fn split_after<L: XorLinkedListOps>(
-        &mut self,
-        links: &mut L,
-        at: &mut Position,
-    ) -> XorLinkedList<T>
-        requires stands { Knows (Shows L.linked L.Joins) L.table links.old self.old at.old }
-        ensures split { SplitsAfter (Shows L.linked L.Joins) L.table L.Does
-            (site links.old self.old at.old.current) result (site links.new self.new at.new.current) }
-        ensures kept { Knows (Shows L.linked L.Joins) L.table links.new self.new at.new }
-    {
-        let rest = self.split_between(links, at.current(), at.next());
-        at.set_next(None);
-        rest
-    }
-
-    #[inline]
-    pub(crate) fn split_before<L: XorLinkedListOps>(
-        &mut self,
-        links: &mut L,
-        at: &mut Position,
-    ) -> XorLinkedList<T>
-        requires stands { Knows (Shows L.linked L.Joins) L.table links.old self.old at.old }
-        ensures split { SplitsBefore (Shows L.linked L.Joins) L.table L.Does
-            (site links.old self.old at.old.current) result (site links.new self.new at.new.current) }
-        ensures kept { Knows (Shows L.linked L.Joins) L.table links.new self.new at.new }
-    {
-        let before = self.moved_back(&*links, at).current();
+    fn split_before_at(&mut self, links: &mut L, at: &mut Position) -> XorLinkedList<T> {
+        let before = self.prev_of(&*links, at).current();
         let rest = self.split_between(links, before, at.current());
         let front = mem::replace(self, rest);
         at.stay(&*self);

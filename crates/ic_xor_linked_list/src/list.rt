@@ -8,6 +8,7 @@
 ghost use Rattle.std.specs.Prelude.{◌≡◌, ◌≢◌, ◌↔◌, ◌++◌, ◌∷◌, List, [], Option, Some, None, IsTrue, OnOk, OnErr, IfErr, IfSome, IfNone};
 ghost use Rattle.ic_unsafe_ref.specs.declared.place.Place.{Place};
 ghost use Rattle.ic_link_ops.specs.Sequences.{Cut, join, first, last, IsAbsent, IsDisjoint, IsAfter, IsBefore, at_front, at_back, insert, remove, but_last};
+ghost use Rattle.std.specs.Bool.{OnTrue, OnFalse};
 ghost use Rattle.ic_link_ops.specs.Tables.{IsCovered, IsLinked, KeepsBeside};
 ghost use Rattle.ic_link_ops.specs.LinkSteps.{acquires, releases};
 ghost use Rattle.ic_link_ops.specs.Chains.{no_members};
@@ -139,7 +140,10 @@ impl<T> XorLinkedList<T> {
             → KeepsBeside (L.table links.old) (L.table links.new) (object ∷ s) }
     {
         let tail = self.tail();
-        self.insert_between(links, tail, object, None)
+        if !self.insert_between(links, tail, object.place(), None) {
+            return Err(AlreadyLinked(object));
+        }
+        Ok(())
     }
 
     /// Puts the object at the front of the list, unless its link is refused. O(1), and it takes no memory.
@@ -163,7 +167,10 @@ impl<T> XorLinkedList<T> {
             → KeepsBeside (L.table links.old) (L.table links.new) (object ∷ s) }
     {
         let head = self.head();
-        self.insert_between(links, None, object, head)
+        if !self.insert_between(links, None, object.place(), head) {
+            return Err(AlreadyLinked(object));
+        }
+        Ok(())
     }
 
     /// Takes the object at the front off the list and answers it, or `None` if the list is empty. O(1).
@@ -238,37 +245,33 @@ impl<T> XorLinkedList<T> {
         links.release_link(place);
     }
 
-    // Puts the object into the gap between two neighbours, unless its link is refused.
+    // Puts the place into the gap between two neighbours, and answers whether its link was acquired.
     #[inline]
     pub(crate) fn insert_between<L: XorLinkedListOps>(
         &mut self,
         links: &mut L,
         before: Option<Place>,
-        object: UnsafeRef<T>,
+        place: Place,
         behind: Option<Place>,
-    ) -> Result<(), AlreadyLinked<T>>
-        requires covered { IsCovered (L.table links.old) object }
+    ) -> bool
+        requires covered { IsCovered (L.table links.old) place }
         requires shown { (gap : Cut) × Shows L.linked L.Joins (L.table links.old) self.old (join gap)
             × IsAfter gap before × IsBefore gap behind }
         ensures inserted { (gap : Cut) → Shows L.linked L.Joins (L.table links.old) self.old (join gap)
-            → IsAfter gap before → IsBefore gap behind → OnOk result (Inserts (Shows L.linked L.Joins)
-            (L.table links.old) (L.table links.new) self.new gap object) }
-        ensures acquired { OnOk result (L.Does links.old links.new (acquires object ∷ [])) }
-        ensures refused { OnErr result (L.Refused links.old links.new object) }
-        ensures unchanged { IfErr result (λ refused. (refused.0 ≡ object) × (self.new ≡ self.old)) }
-        ensures shown { (gap : Cut) → Shows L.linked L.Joins (L.table links.old) self.old (join gap)
-            → IsAfter gap before → IsBefore gap behind
-            → OnOk result (Shows L.linked L.Joins (L.table links.new) self.new (insert gap object)) }
+            → IsAfter gap before → IsBefore gap behind → OnTrue result (Inserts (Shows L.linked L.Joins)
+            (L.table links.old) (L.table links.new) self.new gap place) }
+        ensures acquired { OnTrue result (L.Does links.old links.new (acquires place ∷ [])) }
+        ensures refused { OnFalse result (L.Refused links.old links.new place) }
+        ensures unchanged { OnFalse result (self.new ≡ self.old) }
         ensures frame { (gap : Cut) → Shows L.linked L.Joins (L.table links.old) self.old (join gap)
             → IsAfter gap before → IsBefore gap behind
-            → KeepsBeside (L.table links.old) (L.table links.new) (object ∷ join gap) }
+            → KeepsBeside (L.table links.old) (L.table links.new) (place ∷ join gap) }
     {
-        let place = object.place();
         if !links.acquire_link(place) {
-            return Err(AlreadyLinked(object));
+            return false;
         }
         self.put_between(links, before, place, behind);
-        Ok(())
+        true
     }
 
     // Puts the linked place into the gap between two neighbours.

@@ -8,10 +8,10 @@ ghost use Rattle.std.specs.Prelude.{◌≡◌, Option};
 ghost use Rattle.ic_unsafe_ref.specs.declared.place.Place.{Place};
 ghost use Rattle.ic_link_ops.specs.Sequences.{Cut, join, IsAfter, IsBefore};
 ghost use Rattle.ic_link_ops.specs.XorLinkedList.{Shows};
-ghost use Rattle.ic_link_ops.specs.Positions.{site, MovesOn, MovesBack};
-ghost use Rattle.ic_xor_linked_list.specs.Position.{Knows, spot, null_of, spot_then};
+ghost use Rattle.ic_xor_linked_list.specs.Position.{Knows, spot, spot_then};
 
 use crate::XorLinkedList;
+use ic_cursors::Collection;
 use ic_link_ops::xor_linked_list::XorLinkedListOps;
 use ic_link_ops::{End, LinkOps, Word};
 use ic_unsafe_ref::{Place, UnsafeRef};
@@ -22,7 +22,7 @@ use std::marker::Model;
 /// On a member that is the next one, `None` at the back. At null it is the first one. A clause sees the two places; what is
 /// kept is the word of the one and the exclusive or of both.
 #[derive(Drop)]
-pub(crate) struct Position {
+pub struct Position {
     current: End,
     both: Word,
 }
@@ -44,6 +44,20 @@ pub(crate) fn place_of<T>(object: Option<UnsafeRef<T>>) -> Option<Place>
     ensures { result ≡ object }
 {
     Some(object?.place())
+}
+
+impl ic_cursors::Position for Position {
+    ghost member = { λ at. at.current };
+
+    #[inline]
+    fn get(&self) -> Option<Place> {
+        self.current.get()
+    }
+
+    #[inline]
+    fn again(&self) -> Position {
+        Position::of(self.current(), self.next())
+    }
 }
 
 impl Position {
@@ -74,14 +88,6 @@ impl Position {
         self.both.other(self.current.get())
     }
 
-    // The same once more.
-    #[inline]
-    pub(crate) fn again(&self) -> Position
-        ensures { result ≡ self.now }
-    {
-        Position::of(self.current(), self.next())
-    }
-
     // Another place stands behind the position now.
     #[inline]
     pub(crate) fn set_next(&mut self, next: Option<Place>)
@@ -103,14 +109,6 @@ impl Position {
 }
 
 impl<T> XorLinkedList<T> {
-    // Null: the first member is behind it.
-    #[inline]
-    pub(crate) fn null_position(&self) -> Position
-        ensures { result ≡ null_of self.now }
-    {
-        Position::of(None, self.head())
-    }
-
     // The position behind a gap, whose two sides are told: what stands behind it is read, or is the head at null.
     #[inline]
     pub(crate) fn position_behind<L: XorLinkedListOps>(
@@ -145,28 +143,5 @@ impl<T> XorLinkedList<T> {
     {
         let _ = links;
         Position::of(current, next)
-    }
-
-    // Where a move on leads.
-    #[inline]
-    pub(crate) fn moved_on<L: XorLinkedListOps>(&self, links: &L, at: &Position) -> Position
-        requires stands { Knows (Shows L.linked L.Joins) L.table links.now self.now at.now }
-        ensures moved { MovesOn (Shows L.linked L.Joins) L.table (site links.now self.now at.now.current) result.current }
-        ensures kept { Knows (Shows L.linked L.Joins) L.table links.now self.now result }
-    {
-        self.position_behind(links, at.current(), at.next())
-    }
-
-    // Where a move back leads: to what the entry of the member tells who knows what is behind it, or to the tail from null.
-    #[inline]
-    pub(crate) fn moved_back<L: XorLinkedListOps>(&self, links: &L, at: &Position) -> Position
-        requires stands { Knows (Shows L.linked L.Joins) L.table links.now self.now at.now }
-        ensures moved { MovesBack (Shows L.linked L.Joins) L.table (site links.now self.now at.now.current) result.current }
-        ensures kept { Knows (Shows L.linked L.Joins) L.table links.now self.now result }
-    {
-        match at.current() {
-            None => Position::of(self.tail_from_null(), None),
-            Some(place) => Position::of(links.prev(place, at.next()), Some(place)),
-        }
     }
 }

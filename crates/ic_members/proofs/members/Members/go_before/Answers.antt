@@ -10,7 +10,7 @@ returns-in-TwoWay g c =
     let given = rw (c.in-Doubly.is, c.in-TwoWay.is) at c.requires.given in
     let apart = rw (c.in-Doubly.is, c.in-Doubly-list.is, c.in-TwoWay.is) at c.requires.apart in
     let at = before_at held.stands in
-    let e = c.splice_before.ensures in
+    let e = c.splice_before.ensures.spliced in
     rw (c.in-Doubly.is, c.in-Doubly-list.is, c.in-TwoWay.is)
     (at.0, at.1, (at.2, puts_all doubly_list two.look held at.0 at.1 at.2 _ e (rw c.into_inner.ensures given.shown) apart (λ here was away shown. at_put_before at.0 _ here)))
 

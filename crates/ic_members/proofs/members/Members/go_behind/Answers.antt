@@ -10,7 +10,7 @@ returns-in-Singly-list g c =
     let given = rw c.in-Singly.is at c.requires.given in
     let apart = rw (c.in-Singly.is, c.in-Singly-list.is) at c.requires.apart in
     let at = held.stands in
-    let e = c.splice_after.ensures in
+    let e = c.splice_after.ensures.spliced in
     rw (c.in-Singly.is, c.in-Singly-list.is)
     (at.0, at.1, (at.2, puts_all singly_list look held at.0 at.1 at.2 _ e (rw c.into_inner.ensures given.shown) apart (λ here was away shown. at_put_behind at.0 _ here)))
 
@@ -20,7 +20,7 @@ returns-in-TwoWay g c =
     let given = rw (c.in-Doubly.is, c.in-TwoWay.is) at c.requires.given in
     let apart = rw (c.in-Doubly.is, c.in-Doubly-list.is, c.in-TwoWay.is) at c.requires.apart in
     let at = held.stands in
-    let e = c.splice_after-in-TwoWay.ensures in
+    let e = c.splice_after-in-TwoWay.ensures.spliced in
     rw (c.in-Doubly.is, c.in-Doubly-list.is, c.in-TwoWay.is)
     (at.0, at.1, (at.2, puts_all doubly_list two.look held at.0 at.1 at.2 _ e (rw c.into_inner-in-TwoWay.ensures given.shown) apart (λ here was away shown. at_put_behind at.0 _ here)))
 

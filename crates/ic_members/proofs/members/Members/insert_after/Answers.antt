@@ -10,14 +10,14 @@ insert_after-requires-in-Xor-clause-stands g c =
 pub returns-in-Singly : goal.returns-in-Singly
 returns-in-Singly g c =
     let held = rw c.in-Singly.is at c.requires.held in
-    let e = c.insert_after.ensures in
+    let e = c.insert_after.ensures.inserted in
     rw (c.in-Singly.is, ← c.new-object.ensures) (puts e (singly_turned e.stands) held (gap_after_cursor _ held) (rw c.new-object.ensures c.requires.unlinked))
 
 pub returns-in-TwoWay : goal.returns-in-TwoWay
 returns-in-TwoWay g c =
     let held = rw (c.in-Doubly.is, c.in-TwoWay.is) at c.requires.held in
     let unlinked = rw c.in-TwoWay.is at c.requires.unlinked in
-    let e = c.insert_after-in-TwoWay.ensures in
+    let e = c.insert_after-in-TwoWay.ensures.inserted in
     rw (c.in-Doubly.is, c.in-TwoWay.is, ← c.new-object.ensures) (puts e (doubly_turned e.stands) held (gap_after_cursor _ held) (rw c.new-object.ensures unlinked))
 
 pub returns-in-Xor : goal.returns-in-Xor

@@ -11,7 +11,7 @@ pub returns-in-TwoWay : goal.returns-in-TwoWay
 returns-in-TwoWay g c =
     let held = rw (c.in-Doubly.is, c.in-TwoWay.is) at c.requires.held in
     let unlinked = rw c.in-TwoWay.is at c.requires.unlinked in
-    let e = c.insert_before.ensures in
+    let e = c.insert_before.ensures.inserted in
     rw (c.in-Doubly.is, c.in-TwoWay.is, ← c.new-object.ensures) (puts e (doubly_turned e.stands) held (gap_before_cursor _ held) (rw c.new-object.ensures unlinked))
 
 pub returns-in-Xor : goal.returns-in-Xor

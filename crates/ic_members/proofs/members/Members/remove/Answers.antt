@@ -10,7 +10,7 @@ remove-requires-in-Xor g c =
 pub returns-in-TwoWay-clause-taken : goal.returns-in-TwoWay-clause-taken
 returns-in-TwoWay-clause-taken g c =
     let held = rw (c.in-Doubly.is, c.in-TwoWay.is) at c.requires.held in
-    let e = c.remove.ensures in
+    let e = c.remove.ensures.removed in
     rw (c.in-Doubly.is, c.in-TwoWay.is, c.place_of.ensures) (takes e (doubly_turned e.stands) held (gap_before_cursor _ held))
 
 pub returns-in-Xor-clause-taken : goal.returns-in-Xor-clause-taken

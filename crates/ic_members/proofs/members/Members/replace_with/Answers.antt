@@ -10,7 +10,7 @@ replace_with-requires-in-Xor-clause-stands g c =
 pub returns-in-TwoWay-clause-swapped : goal.returns-in-TwoWay-clause-swapped
 returns-in-TwoWay-clause-swapped g c =
     let held = rw (c.in-Doubly.is, c.in-TwoWay.is) at c.requires.held in
-    let e = c.replace_with.ensures in
+    let e = c.replace_with.ensures.replaced in
     rw (c.in-Doubly.is, c.in-TwoWay.is, c.place_of.ensures, c.ok.ensures.value, ← c.new-object.ensures) (swaps e (doubly_turned e.stands) held (gap_before_cursor _ held))
 
 pub returns-in-Xor-clause-swapped : goal.returns-in-Xor-clause-swapped

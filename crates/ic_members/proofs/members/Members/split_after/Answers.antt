@@ -16,13 +16,13 @@ returns-in-Singly g c =
     let at = held.stands in
     let part = c.cursor_owning.ensures in
     rw c.in-Singly.is
-    (at.0, at.1, (at.2, parts singly_list look held at.0 at.1 at.2 c.split_after.ensures (λ here shown. at_end at.0 here) part.list part.null (λ shown. at_null part.null)))
+    (at.0, at.1, (at.2, parts singly_list look held at.0 at.1 at.2 c.split_after.ensures.split (λ here shown. at_end at.0 here) part.list part.null (λ shown. at_null part.null)))
 
 pub returns-in-TwoWay : goal.returns-in-TwoWay
 returns-in-TwoWay g c =
     let held = rw (c.in-Doubly.is, c.in-TwoWay.is) at c.requires.held in
     let at = held.stands in
-    let e = c.split_after-in-TwoWay.ensures in
+    let e = c.split_after-in-TwoWay.ensures.split in
     let part = c.cursor_owning-in-TwoWay.ensures in
     rw (c.in-Doubly.is, c.in-TwoWay.is)
     (at.0, at.1, (at.2, parts doubly_list two.look held at.0 at.1 at.2 e (λ here shown. at_end at.0 here) part.list part.null (λ shown. at_null part.null)))

@@ -14,7 +14,7 @@ pub returns-in-TwoWay : goal.returns-in-TwoWay
 returns-in-TwoWay g c =
     let held = rw (c.in-Doubly.is, c.in-TwoWay.is) at c.requires.held in
     let at = before_at held.stands in
-    let e = c.split_before.ensures in
+    let e = c.split_before.ensures.split in
     let part = c.cursor_owning.ensures in
     rw (c.in-Doubly.is, c.in-TwoWay.is)
     (at.0, at.1, (at.2, parts doubly_list two.look held at.0 at.1 at.2 e (λ here shown. at_start at.0 here) part.list part.null (λ shown. at_null part.null)))

@@ -23,23 +23,17 @@ returns-clause-frame g c gap shown before behind =
     let a = c.if-not-acquire_link.ensures in record {
       extent = c.put_between.ensures.extent ∙ a.frame.extent;
       others = λ q out.
-          let n = rw (← c.place-place.ensures) at out.0 in
           let beside = gap_not gap.front gap.back before behind out.1 in
-          c.put_between.ensures.others q beside.0 n beside.1 ∙ a.frame.others q n;
+          c.put_between.ensures.others q beside.0 out.0 beside.1 ∙ a.frame.others q out.0;
     }
 
 pub returns-clause-acquired : goal.returns-clause-acquired
-returns-clause-acquired g c =
-    rw (← c.place-place.ensures) (g.met.L.LinkOps.does_on _ _ _ _ _ c.if-not-acquire_link.ensures.acquired c.put_between.ensures.no_step)
-
-pub returns-clause-shown : goal.returns-clause-shown
-returns-clause-shown g c gap shown before behind =
-    let a = c.if-not-acquire_link.ensures in
-    let out = free_absent joined_linked shown (g.met.L.LinkOps.does_replay _ _ _ a.acquired).was in
-    rw (← c.place-place.ensures) (c.put_between.ensures.shows gap.front gap.back (shows_beside shown out a.frame.others) out before behind)
+returns-clause-acquired g c = g.met.L.LinkOps.does_on _ _ _ _ _ c.if-not-acquire_link.ensures.acquired c.put_between.ensures.no_step
 
 pub returns-clause-inserted : goal.returns-clause-inserted
-returns-clause-inserted g c gap shown before behind = record {
-  shows = returns-clause-shown g c gap shown before behind;
-  frame = returns-clause-frame g c gap shown before behind;
-}
+returns-clause-inserted g c gap shown before behind =
+    let a = c.if-not-acquire_link.ensures in
+    let out = free_absent joined_linked shown (g.met.L.LinkOps.does_replay _ _ _ a.acquired).was in record {
+      shows = c.put_between.ensures.shows gap.front gap.back (shows_beside shown out a.frame.others) out before behind;
+      frame = returns-clause-frame g c gap shown before behind;
+    }

@@ -10,9 +10,9 @@ insert_between-requires-clause-shown g c =
 
 pub returns-clause-inserted : goal.returns-clause-inserted
 returns-clause-inserted g c s shown =
-    c.insert_between.ensures.shown (at_back s) (rw append-nil shown) (c.tail-tail.ensures ∙ shown.tail) refl
+    rw (← c.place.ensures) (c.if-not-insert_between.ensures.inserted (at_back s) (rw append-nil shown) (c.tail-tail.ensures ∙ shown.tail) refl).shows
 
 pub returns-clause-frame : goal.returns-clause-frame
 returns-clause-frame g c s shown =
     let frame = c.insert_between.ensures.frame (at_back s) (rw append-nil shown) (c.tail-tail.ensures ∙ shown.tail) refl in
-    record { extent = frame.extent; others = λ q out. frame.others q (out.0, absent_both q s [] out.1 tt) }
+    record { extent = frame.extent; others = λ q out. frame.others q (rw c.place.ensures out.0, absent_both q s [] out.1 tt) }

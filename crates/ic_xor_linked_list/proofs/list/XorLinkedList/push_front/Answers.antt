@@ -8,7 +8,7 @@ insert_between-requires-clause-shown g c =
     (at_front s.0, s.1, refl, c.head-head.ensures ∙ s.1.head)
 
 pub returns-clause-inserted : goal.returns-clause-inserted
-returns-clause-inserted g c s shown = c.insert_between.ensures.shown (at_front s) shown refl (c.head-head.ensures ∙ shown.head)
+returns-clause-inserted g c s shown = rw (← c.place.ensures) (c.if-not-insert_between.ensures.inserted (at_front s) shown refl (c.head-head.ensures ∙ shown.head)).shows
 
 pub returns-clause-frame : goal.returns-clause-frame
-returns-clause-frame g c s shown = c.insert_between.ensures.frame (at_front s) shown refl (c.head-head.ensures ∙ shown.head)
+returns-clause-frame g c s shown = rw (← c.place.ensures) (c.insert_between.ensures.frame (at_front s) shown refl (c.head-head.ensures ∙ shown.head))

@@ -1,0 +1,4 @@
+pub mod Answers
+pub mod Cursor
+pub mod CursorMut
+pub mod CursorOwning

@@ -1,0 +1,167 @@
+//! A cursor that reads.
+//!
+//! ```text
+//! let mut cursor = list.cursor(&links); // null
+//! cursor.move_next();                   // the first member, null in an empty list
+//! let second = cursor.peek_next().get_ptr();
+//! ```
+
+ghost use Rattle.std.specs.Prelude.{◌≡◌, ◌↔◌, None, IsTrue, ⊤};
+ghost use Rattle.std.specs.Option.{option_copied};
+ghost use Rattle.ic_link_ops.specs.Positions.{MovesOn, MovesBack, object_there};
+
+use crate::{Collection, Kind, Position, TwoWay};
+use ic_link_ops::LinkOps;
+use ic_unsafe_ref::{Objects, Place, UnsafeRef};
+use std::alloc::{AllocError, Allocator};
+
+/// A position in a collection: on a member, or null, which stands between the last and the first.
+pub struct Cursor<'a, C: Collection, L> {
+    list: &'a C,
+    links: &'a L,
+    current: C::Position,
+}
+
+impl<C: Collection, L> Drop for Cursor<'_, C, L> {
+    fn drop(self) {
+        let Cursor {
+            list: _,
+            links: _,
+            current: _,
+        } = self;
+    }
+}
+
+impl<'a, C: Collection, L> Cursor<'a, C, L> {
+    ghost use Rattle.ic_cursors.specs.Cursor.{list_of, links_of, place_of, position};
+
+    /// A cursor at that position of the collection, as the kinds make their own.
+    #[inline]
+    pub fn new(list: &'a C, links: &'a L, current: C::Position) -> Cursor<'a, C, L>
+        ensures list { list_of result ≡ list.now }
+        ensures links { links_of result ≡ links.now }
+        ensures position { place_of result ≡ current }
+    {
+        Cursor {
+            list,
+            links,
+            current,
+        }
+    }
+
+    /// Whether the cursor is on no member.
+    #[inline]
+    pub fn is_null(&self) -> bool
+        ensures { IsTrue result ↔ (position C.Position.member self.now ≡ None) }
+    {
+        self.current.get().is_none()
+    }
+
+    /// The place of the member that the cursor is on, `None` at null.
+    #[inline]
+    pub fn get_ptr(&self) -> Option<Place>
+        ensures { result ≡ position C.Position.member self.now }
+    {
+        self.current.get()
+    }
+
+    /// The object that the cursor is on, `None` at null. One look-up, O(1).
+    #[inline]
+    pub fn get<'b, A: Allocator>(&self, objects: &'b Objects<C::Object, A>) -> Option<&'b C::Object>
+        ensures { option_copied result ≡ object_there objects.now (position C.Position.member self.now) }
+    {
+        objects.get(self.current.get()?)
+    }
+
+    /// A reference to the object that the cursor is on, `None` at null.
+    #[inline]
+    pub fn clone_pointer(&self) -> Option<UnsafeRef<C::Object>>
+        ensures { result ≡ position C.Position.member self.now }
+    {
+        let place = self.current.get()?;
+        Some(UnsafeRef::new(place))
+    }
+}
+
+impl<'a, L: LinkOps, C: Kind<L>> Cursor<'a, C, L> {
+    ghost use Rattle.ic_cursors.specs.Cursor.{list_of, links_of, position, site_of, IsStanding};
+
+    /// Moves to the next member, from null to the first one, and from the last one to null.
+    ///
+    /// The gap that was after the cursor is then before it.
+    #[inline]
+    pub fn move_next(&mut self)
+        requires stands { IsStanding C.StandsAt self.old }
+        ensures moved { MovesOn C.Shows L.table (site_of C.head_of C.Position.member self.old) (position C.Position.member self.new) }
+        ensures kept { IsStanding C.StandsAt self.new }
+        ensures list { list_of self.new ≡ list_of self.old }
+        ensures links { links_of self.new ≡ links_of self.old }
+    {
+        self.current = self.list.next_of(self.links, &self.current);
+    }
+
+    /// A cursor where [`Cursor::move_next`] would stand.
+    #[inline]
+    pub fn peek_next(&self) -> Cursor<'a, C, L>
+        requires stands { IsStanding C.StandsAt self.now }
+        ensures moved { MovesOn C.Shows L.table (site_of C.head_of C.Position.member self.now) (position C.Position.member result) }
+        ensures kept { IsStanding C.StandsAt result }
+        ensures list { list_of result ≡ list_of self.now }
+        ensures links { links_of result ≡ links_of self.now }
+    {
+        Cursor {
+            list: self.list,
+            links: self.links,
+            current: self.list.next_of(self.links, &self.current),
+        }
+    }
+}
+
+impl<'a, L: LinkOps, C: TwoWay<L>> Cursor<'a, C, L> {
+    ghost use Rattle.ic_cursors.specs.Cursor.{list_of, links_of, position, site_of, IsStanding};
+
+    /// Moves to the previous member, from null to the last one, and from the first one to null.
+    ///
+    /// The gap that was before the cursor is then after it.
+    #[inline]
+    pub fn move_prev(&mut self)
+        requires stands { IsStanding C.StandsAt self.old }
+        ensures moved { MovesBack C.Shows L.table (site_of C.head_of C.Position.member self.old) (position C.Position.member self.new) }
+        ensures kept { IsStanding C.StandsAt self.new }
+        ensures list { list_of self.new ≡ list_of self.old }
+        ensures links { links_of self.new ≡ links_of self.old }
+    {
+        self.current = self.list.prev_of(self.links, &self.current);
+    }
+
+    /// A cursor where [`Cursor::move_prev`] would stand.
+    #[inline]
+    pub fn peek_prev(&self) -> Cursor<'a, C, L>
+        requires stands { IsStanding C.StandsAt self.now }
+        ensures moved { MovesBack C.Shows L.table (site_of C.head_of C.Position.member self.now) (position C.Position.member result) }
+        ensures kept { IsStanding C.StandsAt result }
+        ensures list { list_of result ≡ list_of self.now }
+        ensures links { links_of result ≡ links_of self.now }
+    {
+        Cursor {
+            list: self.list,
+            links: self.links,
+            current: self.list.prev_of(self.links, &self.current),
+        }
+    }
+}
+
+impl<C: Collection, L> Clone for Cursor<'_, C, L> {
+    ghost is_clone = { λ c copy. copy ≡ c };
+
+    ghost is_infallible = { λ _. ⊤ };
+
+    /// A cursor at the same position. It never fails.
+    fn clone(&self) -> Result<Self, AllocError> {
+        Ok(Cursor {
+            list: self.list,
+            links: self.links,
+            current: self.current.again(),
+        })
+    }
+}

@@ -1,0 +1,370 @@
+//! A cursor that edits.
+//!
+//! ```text
+//! let mut cursor = list.front_mut(&mut links);
+//! cursor.insert_after(object)?;  // behind the first member
+//! let rest = cursor.split_after(); // the object, and all behind it
+//! ```
+
+ghost use Rattle.std.specs.Prelude.{◌≡◌, ◌↔◌, List, None, IsTrue};
+ghost use Rattle.std.specs.Option.{option_copied};
+ghost use Rattle.ic_unsafe_ref.specs.declared.place.Place.{Place};
+ghost use Rattle.ic_link_ops.specs.Sequences.{Cut, join, IsAfter, IsBefore, IsDisjoint};
+ghost use Rattle.ic_link_ops.specs.Tables.{IsCovered};
+ghost use Rattle.ic_link_ops.specs.Positions.{MovesOn, MovesBack, object_there};
+ghost use Rattle.ic_link_ops.specs.EditsAt.{InsertsBeside, RemovesThere, ReplacesThere, RemovesNext, ReplacesNext, SplicesBeside, SplitsAfter, SplitsBefore};
+
+use crate::answers::replaced;
+use crate::{Collection, Cursor, Kind, OneWay, Position, Sliced, TwoWay, TwoWaySliced};
+use ic_link_ops::{AlreadyLinked, LinkOps, ReplaceError};
+use ic_unsafe_ref::{Objects, Place, UnsafeRef};
+use std::alloc::Allocator;
+
+/// A position in a collection that it edits, with the collection and the table of its links.
+pub struct CursorMut<'a, C: Collection, L> {
+    list: &'a mut C,
+    links: &'a mut L,
+    current: C::Position,
+}
+
+impl<C: Collection, L> Drop for CursorMut<'_, C, L> {
+    fn drop(self)
+        ensures list { self.exit.0.now ≡ self.entry.list.now }
+        ensures links { self.exit.1.0.now ≡ self.entry.links.now }
+    {
+        let CursorMut {
+            list: _,
+            links: _,
+            current: _,
+        } = self;
+    }
+}
+
+impl<'a, C: Collection, L> CursorMut<'a, C, L> {
+    ghost use Rattle.ic_cursors.specs.CursorMut.{list_of, links_of, place_of, position, IsBorrowed};
+    ghost use Rattle.ic_cursors.specs.Cursor as reading;
+
+    /// A cursor at that position of the collection, as the kinds make their own.
+    #[inline]
+    pub fn new(list: &'a mut C, links: &'a mut L, current: C::Position) -> CursorMut<'a, C, L>
+        ensures borrows { IsBorrowed list.entry links.entry result }
+        ensures position { place_of result ≡ current }
+    {
+        CursorMut {
+            list,
+            links,
+            current,
+        }
+    }
+
+    /// Whether the cursor is on no member.
+    #[inline]
+    pub fn is_null(&self) -> bool
+        ensures { IsTrue result ↔ (position C.Position.member self.now ≡ None) }
+    {
+        self.current.get().is_none()
+    }
+
+    /// The place of the member that the cursor is on, `None` at null.
+    #[inline]
+    pub fn get_ptr(&self) -> Option<Place>
+        ensures { result ≡ position C.Position.member self.now }
+    {
+        self.current.get()
+    }
+
+    /// The object that the cursor is on, `None` at null. One look-up, O(1).
+    #[inline]
+    pub fn get<'b, A: Allocator>(&self, objects: &'b Objects<C::Object, A>) -> Option<&'b C::Object>
+        ensures { option_copied result ≡ object_there objects.now (position C.Position.member self.now) }
+    {
+        objects.get(self.current.get()?)
+    }
+
+    /// Ends the edits and returns as [`CursorMut::get`]. Collection and table stay as they are.
+    #[inline]
+    pub fn into_ref<'b, A: Allocator>(
+        self,
+        objects: &'b Objects<C::Object, A>,
+    ) -> Option<&'b C::Object>
+        ensures answer { option_copied result ≡ object_there objects.now (position C.Position.member self.entry) }
+        ensures list { self.exit.0.now ≡ list_of self.entry }
+        ensures links { self.exit.1.0.now ≡ links_of self.entry }
+    {
+        self.get(objects)
+    }
+
+    /// A cursor that reads, at the same position.
+    #[inline]
+    pub fn as_cursor(&self) -> Cursor<'_, C, L>
+        ensures list { reading.list_of result ≡ list_of self.now }
+        ensures links { reading.links_of result ≡ links_of self.now }
+        ensures position { reading.place_of result ≡ place_of self.now }
+    {
+        Cursor::new(&*self.list, &*self.links, self.current.again())
+    }
+}
+
+impl<'a, L: LinkOps, C: Kind<L>> CursorMut<'a, C, L> {
+    ghost use Rattle.ic_cursors.specs.CursorMut.{list_of, links_of, position, site_of, IsStanding, SameBorrows, Stays};
+    ghost use Rattle.ic_cursors.specs.Cursor as reading;
+
+    /// Moves to the next member, from null to the first one, and from the last one to null.
+    ///
+    /// The gap that was after the cursor is then before it.
+    #[inline]
+    pub fn move_next(&mut self)
+        requires stands { IsStanding C.StandsAt self.old }
+        ensures moved { MovesOn C.Shows L.table (site_of C.head_of C.Position.member self.old) (position C.Position.member self.new) }
+        ensures kept { IsStanding C.StandsAt self.new }
+        ensures stays { Stays self.old self.new }
+    {
+        self.current = self.list.next_of(&*self.links, &self.current);
+    }
+
+    /// A cursor that reads, where [`CursorMut::move_next`] would stand.
+    #[inline]
+    pub fn peek_next(&self) -> Cursor<'_, C, L>
+        requires stands { IsStanding C.StandsAt self.now }
+        ensures moved { MovesOn C.Shows L.table (site_of C.head_of C.Position.member self.now) (reading.position C.Position.member result) }
+        ensures kept { reading.IsStanding C.StandsAt result }
+        ensures list { reading.list_of result ≡ list_of self.now }
+        ensures links { reading.links_of result ≡ links_of self.now }
+    {
+        let cursor = self.as_cursor();
+        cursor.peek_next()
+    }
+
+    /// Puts the object behind the cursor, and in front of the first member at null, unless its link is refused.
+    ///
+    /// It requires that the object's place is covered. The cursor stays where it is.
+    #[inline]
+    pub fn insert_after(
+        &mut self,
+        object: UnsafeRef<C::Object>,
+    ) -> Result<(), AlreadyLinked<C::Object>>
+        requires covered { IsCovered (L.table (links_of self.old)) object }
+        requires stands { IsStanding C.StandsAt self.old }
+        ensures inserted { InsertsBeside C.Shows L.table L.Does L.Refused IsAfter
+            (site_of C.head_of C.Position.member self.old) object result (site_of C.head_of C.Position.member self.new) }
+        ensures kept { IsStanding C.StandsAt self.new }
+        ensures rest { C.Keeps (list_of self.old) (list_of self.new) }
+        ensures borrows { SameBorrows self.old self.new }
+    {
+        if !self
+            .list
+            .insert_after_at(self.links, &mut self.current, object.place())
+        {
+            return Err(AlreadyLinked(object));
+        }
+        Ok(())
+    }
+}
+
+impl<'a, L: LinkOps, C: TwoWay<L>> CursorMut<'a, C, L> {
+    ghost use Rattle.ic_cursors.specs.CursorMut.{list_of, links_of, position, site_of, IsStanding, SameBorrows, Stays};
+    ghost use Rattle.ic_cursors.specs.Cursor as reading;
+
+    /// Moves to the previous member, from null to the last one, and from the first one to null.
+    ///
+    /// The gap that was before the cursor is then after it.
+    #[inline]
+    pub fn move_prev(&mut self)
+        requires stands { IsStanding C.StandsAt self.old }
+        ensures moved { MovesBack C.Shows L.table (site_of C.head_of C.Position.member self.old) (position C.Position.member self.new) }
+        ensures kept { IsStanding C.StandsAt self.new }
+        ensures stays { Stays self.old self.new }
+    {
+        self.current = self.list.prev_of(&*self.links, &self.current);
+    }
+
+    /// A cursor that reads, where [`CursorMut::move_prev`] would stand.
+    #[inline]
+    pub fn peek_prev(&self) -> Cursor<'_, C, L>
+        requires stands { IsStanding C.StandsAt self.now }
+        ensures moved { MovesBack C.Shows L.table (site_of C.head_of C.Position.member self.now) (reading.position C.Position.member result) }
+        ensures kept { reading.IsStanding C.StandsAt result }
+        ensures list { reading.list_of result ≡ list_of self.now }
+        ensures links { reading.links_of result ≡ links_of self.now }
+    {
+        let cursor = self.as_cursor();
+        cursor.peek_prev()
+    }
+
+    /// Puts the object in front of the cursor, and behind the last member at null, unless its link is refused.
+    ///
+    /// It requires that the object's place is covered. The cursor stays where it is.
+    #[inline]
+    pub fn insert_before(
+        &mut self,
+        object: UnsafeRef<C::Object>,
+    ) -> Result<(), AlreadyLinked<C::Object>>
+        requires covered { IsCovered (L.table (links_of self.old)) object }
+        requires stands { IsStanding C.StandsAt self.old }
+        ensures inserted { InsertsBeside C.Shows L.table L.Does L.Refused IsBefore
+            (site_of C.head_of C.Position.member self.old) object result (site_of C.head_of C.Position.member self.new) }
+        ensures kept { IsStanding C.StandsAt self.new }
+        ensures rest { C.Keeps (list_of self.old) (list_of self.new) }
+        ensures borrows { SameBorrows self.old self.new }
+    {
+        if !self
+            .list
+            .insert_before_at(self.links, &mut self.current, object.place())
+        {
+            return Err(AlreadyLinked(object));
+        }
+        Ok(())
+    }
+
+    /// Removes the member that the cursor is on and returns it, `None` at null.
+    ///
+    /// The cursor goes on to the following member, or to null.
+    #[inline]
+    pub fn remove(&mut self) -> Option<UnsafeRef<C::Object>>
+        requires stands { IsStanding C.StandsAt self.old }
+        ensures removed { RemovesThere C.Shows L.table L.Does (site_of C.head_of C.Position.member self.old) result (site_of C.head_of C.Position.member self.new) }
+        ensures kept { IsStanding C.StandsAt self.new }
+        ensures rest { C.Keeps (list_of self.old) (list_of self.new) }
+        ensures borrows { SameBorrows self.old self.new }
+    {
+        let place = self.list.remove_at(self.links, &mut self.current)?;
+        Some(UnsafeRef::new(place))
+    }
+
+    /// Puts the object in the place of the member that the cursor is on, and returns that member.
+    ///
+    /// It requires that the object's place is covered. At null it returns [`ReplaceError::Null`], whether or not the object
+    /// is linked. Then the cursor is on the object.
+    #[inline]
+    pub fn replace_with(
+        &mut self,
+        object: UnsafeRef<C::Object>,
+    ) -> Result<UnsafeRef<C::Object>, ReplaceError<C::Object>>
+        requires covered { IsCovered (L.table (links_of self.old)) object }
+        requires stands { IsStanding C.StandsAt self.old }
+        ensures replaced { ReplacesThere C.Shows L.table L.Does L.Refused
+            (site_of C.head_of C.Position.member self.old) object result (site_of C.head_of C.Position.member self.new) }
+        ensures kept { IsStanding C.StandsAt self.new }
+        ensures rest { C.Keeps (list_of self.old) (list_of self.new) }
+        ensures borrows { SameBorrows self.old self.new }
+    {
+        let (out, place) = (self.current.get(), object.place());
+        let is_acquired = self.list.replace_at(self.links, &mut self.current, place);
+        replaced(out, object, is_acquired)
+    }
+}
+
+impl<'a, L: LinkOps, C: OneWay<L>> CursorMut<'a, C, L> {
+    ghost use Rattle.ic_cursors.specs.CursorMut.{list_of, links_of, site_of, IsStanding, SameBorrows};
+
+    /// Removes the member behind the cursor and returns it, at null the first one; `None` where there is none.
+    ///
+    /// The cursor stays where it is.
+    #[inline]
+    pub fn remove_next(&mut self) -> Option<UnsafeRef<C::Object>>
+        requires stands { IsStanding C.StandsAt self.old }
+        ensures removed { RemovesNext C.Shows L.table L.Does (site_of C.head_of C.Position.member self.old) result (site_of C.head_of C.Position.member self.new) }
+        ensures kept { IsStanding C.StandsAt self.new }
+        ensures rest { C.Keeps (list_of self.old) (list_of self.new) }
+        ensures borrows { SameBorrows self.old self.new }
+    {
+        let place = self.list.remove_next_at(self.links, &mut self.current)?;
+        Some(UnsafeRef::new(place))
+    }
+
+    /// Puts the object in the place of the member behind the cursor, at null of the first one, and returns that member.
+    ///
+    /// It requires that the object's place is covered. Where nothing is there it returns [`ReplaceError::Null`], whether or not the
+    /// object is linked. The cursor stays where it is.
+    #[inline]
+    pub fn replace_next_with(
+        &mut self,
+        object: UnsafeRef<C::Object>,
+    ) -> Result<UnsafeRef<C::Object>, ReplaceError<C::Object>>
+        requires covered { IsCovered (L.table (links_of self.old)) object }
+        requires stands { IsStanding C.StandsAt self.old }
+        ensures replaced { ReplacesNext C.Shows L.table L.Does L.Refused
+            (site_of C.head_of C.Position.member self.old) object result (site_of C.head_of C.Position.member self.new) }
+        ensures kept { IsStanding C.StandsAt self.new }
+        ensures rest { C.Keeps (list_of self.old) (list_of self.new) }
+        ensures borrows { SameBorrows self.old self.new }
+    {
+        let place = object.place();
+        let (out, is_acquired) = self
+            .list
+            .replace_next_at(self.links, &mut self.current, place);
+        replaced(out, object, is_acquired)
+    }
+}
+
+impl<'a, L: LinkOps, C: Sliced<L>> CursorMut<'a, C, L> {
+    ghost use Rattle.ic_cursors.specs.CursorMut.{list_of, links_of, position, site_of, IsStanding, SameBorrows};
+
+    /// Puts all of the given collection behind the cursor, and in front of the first member at null.
+    ///
+    /// It requires that the table shows the given collection too; the two share no member. The cursor stays where it is.
+    #[inline]
+    pub fn splice_after(&mut self, given: C)
+        requires stands { IsStanding C.StandsAt self.old }
+        requires given { (s : List Place) × C.Shows (L.table (links_of self.old)) (C.head_of given) s }
+        ensures spliced { SplicesBeside C.Shows L.table L.Does IsAfter
+            (site_of C.head_of C.Position.member self.old) (C.head_of given) (site_of C.head_of C.Position.member self.new) }
+        ensures kept { (gap : Cut) (t : List Place) → C.Shows (L.table (links_of self.old)) (C.head_of (list_of self.old)) (join gap)
+            → IsAfter gap (position C.Position.member self.old) → C.Shows (L.table (links_of self.old)) (C.head_of given) t → IsDisjoint t (join gap)
+            → IsStanding C.StandsAt self.new }
+        ensures borrows { SameBorrows self.old self.new }
+    {
+        self.list
+            .splice_after_at(self.links, &mut self.current, given);
+    }
+
+    /// Hands out the members behind the cursor, and at null the whole collection.
+    ///
+    /// The cursor stays where it is.
+    #[inline]
+    pub fn split_after(&mut self) -> C
+        requires stands { IsStanding C.StandsAt self.old }
+        ensures split { SplitsAfter C.Shows L.table L.Does (site_of C.head_of C.Position.member self.old) (C.head_of result) (site_of C.head_of C.Position.member self.new) }
+        ensures kept { IsStanding C.StandsAt self.new }
+        ensures rest { C.Keeps (list_of self.old) (list_of self.new) }
+        ensures borrows { SameBorrows self.old self.new }
+    {
+        self.list.split_after_at(self.links, &mut self.current)
+    }
+}
+
+impl<'a, L: LinkOps, C: TwoWaySliced<L>> CursorMut<'a, C, L> {
+    ghost use Rattle.ic_cursors.specs.CursorMut.{list_of, links_of, position, site_of, IsStanding, SameBorrows};
+
+    /// Puts all of the given collection in front of the cursor, and behind the last member at null.
+    ///
+    /// It requires that the table shows the given collection too; the two share no member. The cursor stays where it is.
+    #[inline]
+    pub fn splice_before(&mut self, given: C)
+        requires stands { IsStanding C.StandsAt self.old }
+        requires given { (s : List Place) × C.Shows (L.table (links_of self.old)) (C.head_of given) s }
+        ensures spliced { SplicesBeside C.Shows L.table L.Does IsBefore
+            (site_of C.head_of C.Position.member self.old) (C.head_of given) (site_of C.head_of C.Position.member self.new) }
+        ensures kept { (gap : Cut) (t : List Place) → C.Shows (L.table (links_of self.old)) (C.head_of (list_of self.old)) (join gap)
+            → IsBefore gap (position C.Position.member self.old) → C.Shows (L.table (links_of self.old)) (C.head_of given) t → IsDisjoint t (join gap)
+            → IsStanding C.StandsAt self.new }
+        ensures borrows { SameBorrows self.old self.new }
+    {
+        self.list
+            .splice_before_at(self.links, &mut self.current, given);
+    }
+
+    /// Hands out the members in front of the cursor, and at null the whole collection.
+    ///
+    /// The cursor stays where it is.
+    #[inline]
+    pub fn split_before(&mut self) -> C
+        requires stands { IsStanding C.StandsAt self.old }
+        ensures split { SplitsBefore C.Shows L.table L.Does (site_of C.head_of C.Position.member self.old) (C.head_of result) (site_of C.head_of C.Position.member self.new) }
+        ensures kept { IsStanding C.StandsAt self.new }
+        ensures rest { C.Keeps (list_of self.old) (list_of self.new) }
+        ensures borrows { SameBorrows self.old self.new }
+    {
+        self.list.split_before_at(self.links, &mut self.current)
+    }
+}

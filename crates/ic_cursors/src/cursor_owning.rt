@@ -1,0 +1,337 @@
+//! A cursor that keeps its collection, and borrows nothing.
+//!
+//! ```text
+//! let mut cursor = list.cursor_owning(); // null
+//! cursor.move_next(&links);
+//! cursor.insert_before(&mut links, object)?; // in front of the first member
+//! let list = cursor.into_inner();
+//! ```
+
+ghost use Rattle.std.specs.Prelude.{◌≡◌, List, None};
+ghost use Rattle.ic_unsafe_ref.specs.declared.place.Place.{Place};
+ghost use Rattle.ic_link_ops.specs.Sequences.{Cut, join, IsAfter, IsBefore, IsDisjoint};
+ghost use Rattle.ic_link_ops.specs.Tables.{IsCovered};
+ghost use Rattle.ic_link_ops.specs.Positions.{MovesOn, MovesBack};
+ghost use Rattle.ic_link_ops.specs.EditsAt.{InsertsBeside, RemovesThere, ReplacesThere, RemovesNext, ReplacesNext, SplicesBeside, SplitsAfter, SplitsBefore};
+
+use crate::answers::replaced;
+use crate::{Collection, Cursor, Kind, OneWay, Position, Sliced, TwoWay, TwoWaySliced};
+use ic_link_ops::{AlreadyLinked, LinkOps, ReplaceError};
+use ic_unsafe_ref::{Place, UnsafeRef};
+
+/// A position in a collection that it keeps. Its calls take the table of the collection's links each time.
+pub struct CursorOwning<C: Collection> {
+    list: C,
+    current: C::Position,
+}
+
+impl<C: Collection + Drop> Drop for CursorOwning<C> {
+    fn drop(self) {
+        let CursorOwning {
+            list: _,
+            current: _,
+        } = self;
+    }
+}
+
+impl<C: Collection> CursorOwning<C> {
+    ghost use Rattle.ic_cursors.specs.CursorOwning.{list_of, place_of, position};
+    ghost use Rattle.ic_cursors.specs.Cursor as reading;
+
+    /// A cursor at that position of the collection, as the kinds make their own.
+    #[inline]
+    pub fn new(list: C, current: C::Position) -> CursorOwning<C>
+        ensures list { list_of result ≡ list }
+        ensures position { place_of result ≡ current }
+    {
+        CursorOwning { list, current }
+    }
+
+    /// The collection, as it is.
+    #[inline]
+    pub fn into_inner(self) -> C
+        ensures { result ≡ list_of self }
+    {
+        let CursorOwning { list, current: _ } = self;
+        list
+    }
+
+    /// A cursor that reads, at the same position.
+    #[inline]
+    pub fn as_cursor<'a, L>(&'a self, links: &'a L) -> Cursor<'a, C, L>
+        ensures list { reading.list_of result ≡ list_of self.now }
+        ensures links { reading.links_of result ≡ links.now }
+        ensures position { reading.place_of result ≡ place_of self.now }
+    {
+        Cursor::new(&self.list, links, self.current.again())
+    }
+
+    /// The collection that the cursor keeps, to be read while the cursor stays where it is. O(1).
+    #[inline]
+    pub fn list(&self) -> &C
+        ensures { result.now ≡ list_of self.now }
+    {
+        &self.list
+    }
+
+    /// The place of the member that the cursor is on, `None` at null. O(1).
+    #[inline]
+    pub fn get_ptr(&self) -> Option<Place>
+        ensures { result ≡ position C.Position.member self.now }
+    {
+        self.current.get()
+    }
+
+    /// Moves to that position, from wherever the cursor is, as the kinds make one on a member. It reads no entry. O(1).
+    #[inline]
+    pub fn go_to(&mut self, at: C::Position)
+        ensures list { list_of self.new ≡ list_of self.old }
+        ensures position { place_of self.new ≡ at }
+    {
+        self.current = at;
+    }
+
+    /// Moves to null, from wherever the cursor is. It reads no entry, and asks nothing. O(1).
+    #[inline]
+    pub fn go_null(&mut self)
+        ensures list { list_of self.new ≡ list_of self.old }
+        ensures null { place_of self.new ≡ C.null_of (list_of self.old) }
+        ensures position { position C.Position.member self.new ≡ None }
+    {
+        self.current = self.list.null_position();
+    }
+}
+
+impl<C: Collection> CursorOwning<C> {
+    ghost use Rattle.ic_cursors.specs.CursorOwning.{list_of, position, site_of, IsStanding};
+
+    /// Moves to the next member, from null to the first one, and from the last one to null.
+    ///
+    /// The gap that was after the cursor is then before it.
+    #[inline]
+    pub fn move_next<L: LinkOps>(&mut self, links: &L)
+    where
+        C: Kind<L>,
+        requires stands { IsStanding C.StandsAt links.now self.old }
+        ensures moved { MovesOn C.Shows L.table (site_of C.head_of C.Position.member links.now self.old) (position C.Position.member self.new) }
+        ensures kept { IsStanding C.StandsAt links.now self.new }
+        ensures list { list_of self.new ≡ list_of self.old }
+    {
+        self.current = self.list.next_of(links, &self.current);
+    }
+
+    /// Puts the object behind the cursor, and in front of the first member at null, unless its link is refused.
+    ///
+    /// It requires that the object's place is covered. The cursor stays where it is.
+    #[inline]
+    pub fn insert_after<L: LinkOps>(
+        &mut self,
+        links: &mut L,
+        object: UnsafeRef<C::Object>,
+    ) -> Result<(), AlreadyLinked<C::Object>>
+    where
+        C: Kind<L>,
+        requires covered { IsCovered (L.table links.old) object }
+        requires stands { IsStanding C.StandsAt links.old self.old }
+        ensures inserted { InsertsBeside C.Shows L.table L.Does L.Refused IsAfter
+            (site_of C.head_of C.Position.member links.old self.old) object result (site_of C.head_of C.Position.member links.new self.new) }
+        ensures kept { IsStanding C.StandsAt links.new self.new }
+        ensures rest { C.Keeps (list_of self.old) (list_of self.new) }
+    {
+        if !self
+            .list
+            .insert_after_at(links, &mut self.current, object.place())
+        {
+            return Err(AlreadyLinked(object));
+        }
+        Ok(())
+    }
+
+    /// Moves to the previous member, from null to the last one, and from the first one to null.
+    ///
+    /// The gap that was before the cursor is then after it.
+    #[inline]
+    pub fn move_prev<L: LinkOps>(&mut self, links: &L)
+    where
+        C: TwoWay<L>,
+        requires stands { IsStanding C.StandsAt links.now self.old }
+        ensures moved { MovesBack C.Shows L.table (site_of C.head_of C.Position.member links.now self.old) (position C.Position.member self.new) }
+        ensures kept { IsStanding C.StandsAt links.now self.new }
+        ensures list { list_of self.new ≡ list_of self.old }
+    {
+        self.current = self.list.prev_of(links, &self.current);
+    }
+
+    /// Puts the object in front of the cursor, and behind the last member at null, unless its link is refused.
+    ///
+    /// It requires that the object's place is covered. The cursor stays where it is.
+    #[inline]
+    pub fn insert_before<L: LinkOps>(
+        &mut self,
+        links: &mut L,
+        object: UnsafeRef<C::Object>,
+    ) -> Result<(), AlreadyLinked<C::Object>>
+    where
+        C: TwoWay<L>,
+        requires covered { IsCovered (L.table links.old) object }
+        requires stands { IsStanding C.StandsAt links.old self.old }
+        ensures inserted { InsertsBeside C.Shows L.table L.Does L.Refused IsBefore
+            (site_of C.head_of C.Position.member links.old self.old) object result (site_of C.head_of C.Position.member links.new self.new) }
+        ensures kept { IsStanding C.StandsAt links.new self.new }
+        ensures rest { C.Keeps (list_of self.old) (list_of self.new) }
+    {
+        if !self
+            .list
+            .insert_before_at(links, &mut self.current, object.place())
+        {
+            return Err(AlreadyLinked(object));
+        }
+        Ok(())
+    }
+
+    /// Removes the member that the cursor is on and returns it, `None` at null.
+    ///
+    /// The cursor goes on to the following member, or to null.
+    #[inline]
+    pub fn remove<L: LinkOps>(&mut self, links: &mut L) -> Option<UnsafeRef<C::Object>>
+    where
+        C: TwoWay<L>,
+        requires stands { IsStanding C.StandsAt links.old self.old }
+        ensures removed { RemovesThere C.Shows L.table L.Does (site_of C.head_of C.Position.member links.old self.old) result (site_of C.head_of C.Position.member links.new self.new) }
+        ensures kept { IsStanding C.StandsAt links.new self.new }
+        ensures rest { C.Keeps (list_of self.old) (list_of self.new) }
+    {
+        let place = self.list.remove_at(links, &mut self.current)?;
+        Some(UnsafeRef::new(place))
+    }
+
+    /// Puts the object in the place of the member that the cursor is on, and returns that member.
+    ///
+    /// It requires that the object's place is covered. At null it returns [`ReplaceError::Null`], whether or not the object
+    /// is linked. Then the cursor is on the object.
+    #[inline]
+    pub fn replace_with<L: LinkOps>(
+        &mut self,
+        links: &mut L,
+        object: UnsafeRef<C::Object>,
+    ) -> Result<UnsafeRef<C::Object>, ReplaceError<C::Object>>
+    where
+        C: TwoWay<L>,
+        requires covered { IsCovered (L.table links.old) object }
+        requires stands { IsStanding C.StandsAt links.old self.old }
+        ensures replaced { ReplacesThere C.Shows L.table L.Does L.Refused
+            (site_of C.head_of C.Position.member links.old self.old) object result (site_of C.head_of C.Position.member links.new self.new) }
+        ensures kept { IsStanding C.StandsAt links.new self.new }
+        ensures rest { C.Keeps (list_of self.old) (list_of self.new) }
+    {
+        let (out, place) = (self.current.get(), object.place());
+        let is_acquired = self.list.replace_at(links, &mut self.current, place);
+        replaced(out, object, is_acquired)
+    }
+
+    /// Removes the member behind the cursor and returns it, at null the first one; `None` where there is none.
+    ///
+    /// The cursor stays where it is.
+    #[inline]
+    pub fn remove_next<L: LinkOps>(&mut self, links: &mut L) -> Option<UnsafeRef<C::Object>>
+    where
+        C: OneWay<L>,
+        requires stands { IsStanding C.StandsAt links.old self.old }
+        ensures removed { RemovesNext C.Shows L.table L.Does (site_of C.head_of C.Position.member links.old self.old) result (site_of C.head_of C.Position.member links.new self.new) }
+        ensures kept { IsStanding C.StandsAt links.new self.new }
+        ensures rest { C.Keeps (list_of self.old) (list_of self.new) }
+    {
+        let place = self.list.remove_next_at(links, &mut self.current)?;
+        Some(UnsafeRef::new(place))
+    }
+
+    /// Puts the object in the place of the member behind the cursor, at null of the first one, and returns that member.
+    ///
+    /// It requires that the object's place is covered. Where nothing is there it returns [`ReplaceError::Null`], whether or not the
+    /// object is linked. The cursor stays where it is.
+    #[inline]
+    pub fn replace_next_with<L: LinkOps>(
+        &mut self,
+        links: &mut L,
+        object: UnsafeRef<C::Object>,
+    ) -> Result<UnsafeRef<C::Object>, ReplaceError<C::Object>>
+    where
+        C: OneWay<L>,
+        requires covered { IsCovered (L.table links.old) object }
+        requires stands { IsStanding C.StandsAt links.old self.old }
+        ensures replaced { ReplacesNext C.Shows L.table L.Does L.Refused
+            (site_of C.head_of C.Position.member links.old self.old) object result (site_of C.head_of C.Position.member links.new self.new) }
+        ensures kept { IsStanding C.StandsAt links.new self.new }
+        ensures rest { C.Keeps (list_of self.old) (list_of self.new) }
+    {
+        let place = object.place();
+        let (out, is_acquired) = self.list.replace_next_at(links, &mut self.current, place);
+        replaced(out, object, is_acquired)
+    }
+
+    /// Puts all of the given collection behind the cursor, and in front of the first member at null.
+    ///
+    /// It requires that the table shows the given collection too; the two share no member. The cursor stays where it is.
+    #[inline]
+    pub fn splice_after<L: LinkOps>(&mut self, links: &mut L, given: C)
+    where
+        C: Sliced<L>,
+        requires stands { IsStanding C.StandsAt links.old self.old }
+        requires given { (s : List Place) × C.Shows (L.table links.old) (C.head_of given) s }
+        ensures spliced { SplicesBeside C.Shows L.table L.Does IsAfter
+            (site_of C.head_of C.Position.member links.old self.old) (C.head_of given) (site_of C.head_of C.Position.member links.new self.new) }
+        ensures kept { (gap : Cut) (t : List Place) → C.Shows (L.table links.old) (C.head_of (list_of self.old)) (join gap)
+            → IsAfter gap (position C.Position.member self.old) → C.Shows (L.table links.old) (C.head_of given) t → IsDisjoint t (join gap)
+            → IsStanding C.StandsAt links.new self.new }
+    {
+        self.list.splice_after_at(links, &mut self.current, given);
+    }
+
+    /// Hands out the members behind the cursor, and at null the whole collection.
+    ///
+    /// The cursor stays where it is.
+    #[inline]
+    pub fn split_after<L: LinkOps>(&mut self, links: &mut L) -> C
+    where
+        C: Sliced<L>,
+        requires stands { IsStanding C.StandsAt links.old self.old }
+        ensures split { SplitsAfter C.Shows L.table L.Does (site_of C.head_of C.Position.member links.old self.old) (C.head_of result) (site_of C.head_of C.Position.member links.new self.new) }
+        ensures kept { IsStanding C.StandsAt links.new self.new }
+        ensures rest { C.Keeps (list_of self.old) (list_of self.new) }
+    {
+        self.list.split_after_at(links, &mut self.current)
+    }
+
+    /// Puts all of the given collection in front of the cursor, and behind the last member at null.
+    ///
+    /// It requires that the table shows the given collection too; the two share no member. The cursor stays where it is.
+    #[inline]
+    pub fn splice_before<L: LinkOps>(&mut self, links: &mut L, given: C)
+    where
+        C: TwoWaySliced<L>,
+        requires stands { IsStanding C.StandsAt links.old self.old }
+        requires given { (s : List Place) × C.Shows (L.table links.old) (C.head_of given) s }
+        ensures spliced { SplicesBeside C.Shows L.table L.Does IsBefore
+            (site_of C.head_of C.Position.member links.old self.old) (C.head_of given) (site_of C.head_of C.Position.member links.new self.new) }
+        ensures kept { (gap : Cut) (t : List Place) → C.Shows (L.table links.old) (C.head_of (list_of self.old)) (join gap)
+            → IsBefore gap (position C.Position.member self.old) → C.Shows (L.table links.old) (C.head_of given) t → IsDisjoint t (join gap)
+            → IsStanding C.StandsAt links.new self.new }
+    {
+        self.list.splice_before_at(links, &mut self.current, given);
+    }
+
+    /// Hands out the members in front of the cursor, and at null the whole collection.
+    ///
+    /// The cursor stays where it is.
+    #[inline]
+    pub fn split_before<L: LinkOps>(&mut self, links: &mut L) -> C
+    where
+        C: TwoWaySliced<L>,
+        requires stands { IsStanding C.StandsAt links.old self.old }
+        ensures split { SplitsBefore C.Shows L.table L.Does (site_of C.head_of C.Position.member links.old self.old) (C.head_of result) (site_of C.head_of C.Position.member links.new self.new) }
+        ensures kept { IsStanding C.StandsAt links.new self.new }
+        ensures rest { C.Keeps (list_of self.old) (list_of self.new) }
+    {
+        self.list.split_before_at(links, &mut self.current)
+    }
+}

@@ -1,0 +1,31 @@
+//! The cursors of every kind of list: each move and each edit is written once.
+//!
+//! A kind says by traits what a cursor needs of it:
+//!
+//! - [`Collection`]: what its members are objects of, and what a position is.
+//! - [`Kind`]: the move on, and the insert behind a position.
+//! - [`TwoWay`]: the move back, the insert in front, the removal and the replacement.
+//! - [`OneWay`]: the removal and the replacement behind a position, of a kind that does not lead back.
+//! - [`Sliced`], [`TwoWaySliced`]: splices and splits, behind a position and in front of it.
+//!
+//! [`Cursor`] reads, [`CursorMut`] edits, and [`CursorOwning`] edits and keeps its collection. The kinds make them.
+//!
+//! ```text
+//! let mut cursor = list.cursor_mut(&mut links); // null
+//! cursor.move_next();                           // the first member
+//! let removed = cursor.remove();                // and the cursor is on the second
+//! ```
+#![tactic(auto)]
+
+mod answers;
+mod cursor;
+mod cursor_mut;
+mod cursor_owning;
+mod kind;
+mod position;
+
+pub use cursor::Cursor;
+pub use cursor_mut::CursorMut;
+pub use cursor_owning::CursorOwning;
+pub use kind::{Collection, Kind, OneWay, Sliced, TwoWay, TwoWaySliced};
+pub use position::Position;

@@ -1,0 +1,40 @@
+//! What a cursor keeps of where it stands.
+//!
+//! ```text
+//! position.get()   // the member that it is on, `None` at null
+//! position.again() // the same position once more
+//! ```
+
+ghost use Rattle.std.specs.Prelude.{◌≡◌, Option};
+ghost use Rattle.ic_unsafe_ref.specs.declared.place.Place.{Place};
+
+use ic_link_ops::End;
+use ic_unsafe_ref::Place;
+
+/// A position: on a member, or null. A kind may keep more in it than the member.
+pub trait Position: Drop {
+    // The member, none at null.
+    ghost member: { Self → Option Place };
+
+    /// The member, `None` at null.
+    fn get(&self) -> Option<Place>
+        ensures { result ≡ member self.now };
+
+    /// The same position once more.
+    fn again(&self) -> Self
+        ensures { result ≡ self.now };
+}
+
+impl Position for End {
+    ghost member = { λ at. at };
+
+    #[inline]
+    fn get(&self) -> Option<Place> {
+        End::get(self)
+    }
+
+    #[inline]
+    fn again(&self) -> End {
+        End::of(End::get(self))
+    }
+}

@@ -1,0 +1,19 @@
+use Rattle.std.proofs.Common.{refl, ◌∙◌}
+use Rattle.ic_link_ops.proofs.Positions.{split_behind}
+use Rattle.ic_linked_list.proofs.edits.LinkedListSliced.split_after_at.Goals as goal
+
+pub split_between-requires : goal.split_between-requires
+split_between-requires g c =
+    let at = c.requires.stands in record { shown = (at.gap, at.shown, c.get.ensures ∙ at.after, c.get-behind.ensures ∙ c.next_of.ensures.moved.leads at.gap at.shown at.after) }
+
+pub returns-clause-split : goal.returns-clause-split
+returns-clause-split g c =
+    let e = c.split_between.ensures in record {
+      split = λ gap shown after. e.split gap shown (c.get.ensures ∙ after) (c.get-behind.ensures ∙ c.next_of.ensures.moved.leads gap shown after);
+      no_step = e.no_step;
+      position = refl;
+      stands = split_behind c.requires.stands (λ gap shown after. e.split gap shown (c.get.ensures ∙ after) (c.get-behind.ensures ∙ c.next_of.ensures.moved.leads gap shown after)) refl;
+    }
+
+pub returns-clause-kept : goal.returns-clause-kept
+returns-clause-kept g c = (returns-clause-split g c).stands

@@ -1,0 +1,34 @@
+use Rattle.std.proofs.Common.{refl, ◌∙◌}
+use Rattle.ic_link_ops.specs.Sequences.{Cut, join, IsBefore}
+use Rattle.ic_link_ops.specs.Edits.{Splits}
+use Rattle.ic_link_ops.specs.LinkedList.{Shows}
+use Rattle.ic_link_ops.proofs.SequenceLemmas.{absent_turned}
+use Rattle.ic_link_ops.proofs.Positions.{gap_there, split_in_front}
+use Rattle.ic_linked_list.proofs.edits.LinkedListTwoWaySliced.split_before_at.Goals as goal
+use Rattle.ic_linked_list.proofs.edits.LinkedListTwoWaySliced.split_before_at.Given.{Over}
+
+pub split_between-rest-requires : goal.split_between-rest-requires
+split_between-rest-requires g c =
+    let k = gap_there c.requires.stands in record { shown = (k.0, k.1, c.get-before.ensures ∙ c.prev_of.ensures.moved.leads k.0 k.1 k.2, c.get.ensures ∙ k.2) }
+
+-- what is kept and what is handed out, by the gap in front of the position
+splits : (g : Over) (c : goal.After-replace g) (gap : Cut) → Shows g.L.LinkedListOps.neighbors (g.L.LinkOps.table c.args.links.now) c.args.self.now (join gap)
+    → IsBefore gap c.args.at.now
+    → Splits (Shows g.L.LinkedListOps.neighbors) (g.L.LinkOps.table c.args.links.now) (g.L.LinkOps.table c.split_between-rest.new.links) c.replace.new.dest c.replace.result gap.back gap.front
+splits g c gap shown before =
+    let split = c.split_between-rest.ensures.split gap shown (c.get-before.ensures ∙ c.prev_of.ensures.moved.leads gap shown before) (c.get.ensures ∙ before) in record {
+      keeps = rw c.replace.ensures.after split.hands_out;
+      hands_out = rw c.replace.ensures.value split.keeps;
+      frame = record { extent = split.frame.extent; others = λ q out. split.frame.others q (absent_turned q gap.front gap.back out) };
+    }
+
+pub returns-clause-split : goal.returns-clause-split
+returns-clause-split g c = record {
+  split = splits g c;
+  no_step = c.split_between-rest.ensures.no_step;
+  position = refl;
+  stands = split_in_front c.requires.stands (splits g c) refl;
+}
+
+pub returns-clause-kept : goal.returns-clause-kept
+returns-clause-kept g c = (returns-clause-split g c).stands
