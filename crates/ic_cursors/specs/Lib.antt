@@ -2,3 +2,4 @@ pub mod Answers
 pub mod Cursor
 pub mod CursorMut
 pub mod CursorOwning
+pub mod Ordered

@@ -6,16 +6,19 @@
 //! let rest = cursor.split_after(); // the object, and all behind it
 //! ```
 
-ghost use Rattle.std.specs.Prelude.{◌≡◌, ◌↔◌, List, None, IsTrue};
+ghost use Rattle.std.specs.Prelude.{◌≡◌, ◌↔◌, true, List, None, IsTrue};
 ghost use Rattle.std.specs.Option.{option_copied};
 ghost use Rattle.ic_unsafe_ref.specs.declared.place.Place.{Place};
+ghost use Rattle.ic_unsafe_ref.specs.Objects.{is_placed};
 ghost use Rattle.ic_link_ops.specs.Sequences.{Cut, join, IsAfter, IsBefore, IsDisjoint};
 ghost use Rattle.ic_link_ops.specs.Tables.{IsCovered};
 ghost use Rattle.ic_link_ops.specs.Positions.{MovesOn, MovesBack, object_there};
+ghost use Rattle.ic_link_ops.specs.PlacedObjects.{ShowsPlaced};
 ghost use Rattle.ic_link_ops.specs.EditsAt.{InsertsBeside, RemovesThere, ReplacesThere, RemovesNext, ReplacesNext, SplicesBeside, SplitsAfter, SplitsBefore};
+ghost use Rattle.ic_cursors.specs.Ordered.{InsertsAmong};
 
 use crate::answers::replaced;
-use crate::{Collection, Cursor, Kind, OneWay, Position, Sliced, TwoWay, TwoWaySliced};
+use crate::{Collection, Cursor, Kind, OneWay, Ordered, Position, Sliced, TwoWay, TwoWaySliced};
 use ic_link_ops::{AlreadyLinked, LinkOps, ReplaceError};
 use ic_unsafe_ref::{Objects, Place, UnsafeRef};
 use std::alloc::Allocator;
@@ -254,6 +257,39 @@ impl<'a, L: LinkOps, C: TwoWay<L>> CursorMut<'a, C, L> {
     }
 }
 
+impl<'a, L: LinkOps, C: Ordered<L>> CursorMut<'a, C, L> {
+    ghost use Rattle.ic_cursors.specs.CursorMut.{list_of, links_of, site_of, IsStanding, SameBorrows};
+
+    /// Puts the object where its key belongs, behind the members that are not greater, unless its link is refused.
+    ///
+    /// It requires that the object is placed, its place covered, and all members placed. The cursor stays where it is. A refused
+    /// object comes back, and nothing else has changed.
+    #[inline]
+    pub fn insert<B: Allocator>(
+        &mut self,
+        objects: &Objects<C::Object, B>,
+        object: UnsafeRef<C::Object>,
+    ) -> Result<(), AlreadyLinked<C::Object>>
+        requires covered { IsCovered (L.table (links_of self.old)) object }
+        requires placed { ShowsPlaced (C.Shows (L.table (links_of self.old)) (C.head_of (list_of self.old))) objects.now }
+        requires object { is_placed objects.now object ≡ true }
+        requires stands { IsStanding C.StandsAt self.old }
+        ensures inserted { InsertsAmong C.Shows L.table L.Does L.Refused (C.order_of (list_of self.old) objects.now object)
+            (site_of C.head_of C.Position.member self.old) object result (site_of C.head_of C.Position.member self.new) }
+        ensures kept { IsStanding C.StandsAt self.new }
+        ensures rest { C.Keeps (list_of self.old) (list_of self.new) }
+        ensures borrows { SameBorrows self.old self.new }
+    {
+        if !self
+            .list
+            .insert_in_order(self.links, objects, &mut self.current, object.place())
+        {
+            return Err(AlreadyLinked(object));
+        }
+        Ok(())
+    }
+}
+
 impl<'a, L: LinkOps, C: OneWay<L>> CursorMut<'a, C, L> {
     ghost use Rattle.ic_cursors.specs.CursorMut.{list_of, links_of, site_of, IsStanding, SameBorrows};
 
@@ -312,6 +348,7 @@ impl<'a, L: LinkOps, C: Sliced<L>> CursorMut<'a, C, L> {
         ensures kept { (gap : Cut) (t : List Place) → C.Shows (L.table (links_of self.old)) (C.head_of (list_of self.old)) (join gap)
             → IsAfter gap (position C.Position.member self.old) → C.Shows (L.table (links_of self.old)) (C.head_of given) t → IsDisjoint t (join gap)
             → IsStanding C.StandsAt self.new }
+        ensures rest { C.Keeps (list_of self.old) (list_of self.new) }
         ensures borrows { SameBorrows self.old self.new }
     {
         self.list
@@ -348,6 +385,7 @@ impl<'a, L: LinkOps, C: TwoWaySliced<L>> CursorMut<'a, C, L> {
         ensures kept { (gap : Cut) (t : List Place) → C.Shows (L.table (links_of self.old)) (C.head_of (list_of self.old)) (join gap)
             → IsBefore gap (position C.Position.member self.old) → C.Shows (L.table (links_of self.old)) (C.head_of given) t → IsDisjoint t (join gap)
             → IsStanding C.StandsAt self.new }
+        ensures rest { C.Keeps (list_of self.old) (list_of self.new) }
         ensures borrows { SameBorrows self.old self.new }
     {
         self.list

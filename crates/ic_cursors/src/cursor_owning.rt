@@ -7,17 +7,22 @@
 //! let list = cursor.into_inner();
 //! ```
 
-ghost use Rattle.std.specs.Prelude.{◌≡◌, List, None};
+ghost use Rattle.std.specs.Prelude.{◌≡◌, true, List, None};
+ghost use Rattle.std.specs.Borrow.{sem, follows};
 ghost use Rattle.ic_unsafe_ref.specs.declared.place.Place.{Place};
+ghost use Rattle.ic_unsafe_ref.specs.Objects.{is_placed};
 ghost use Rattle.ic_link_ops.specs.Sequences.{Cut, join, IsAfter, IsBefore, IsDisjoint};
 ghost use Rattle.ic_link_ops.specs.Tables.{IsCovered};
 ghost use Rattle.ic_link_ops.specs.Positions.{MovesOn, MovesBack};
+ghost use Rattle.ic_link_ops.specs.PlacedObjects.{ShowsPlaced};
 ghost use Rattle.ic_link_ops.specs.EditsAt.{InsertsBeside, RemovesThere, ReplacesThere, RemovesNext, ReplacesNext, SplicesBeside, SplitsAfter, SplitsBefore};
+ghost use Rattle.ic_cursors.specs.Ordered.{InsertsAmong};
 
 use crate::answers::replaced;
-use crate::{Collection, Cursor, Kind, OneWay, Position, Sliced, TwoWay, TwoWaySliced};
+use crate::{Collection, Cursor, Kind, OneWay, Ordered, Position, Sliced, TwoWay, TwoWaySliced};
 use ic_link_ops::{AlreadyLinked, LinkOps, ReplaceError};
-use ic_unsafe_ref::{Place, UnsafeRef};
+use ic_unsafe_ref::{Objects, Place, UnsafeRef};
+use std::alloc::Allocator;
 
 /// A position in a collection that it keeps. Its calls take the table of the collection's links each time.
 pub struct CursorOwning<C: Collection> {
@@ -35,7 +40,8 @@ impl<C: Collection + Drop> Drop for CursorOwning<C> {
 }
 
 impl<C: Collection> CursorOwning<C> {
-    ghost use Rattle.ic_cursors.specs.CursorOwning.{list_of, place_of, position};
+    ghost use Rattle.ic_cursors.specs.CursorOwning.{list_of, place_of, position, with_list};
+    ghost use Rattle.ic_cursors.specs.contracts.cursor_owning.CursorOwning.{the_row};
     ghost use Rattle.ic_cursors.specs.Cursor as reading;
 
     /// A cursor at that position of the collection, as the kinds make their own.
@@ -72,6 +78,17 @@ impl<C: Collection> CursorOwning<C> {
         ensures { result.now ≡ list_of self.now }
     {
         &self.list
+    }
+
+    /// The collection that the cursor keeps, to be edited while the cursor stays where it is. O(1).
+    ///
+    /// Whether the position stands in the collection then is the caller's to see.
+    #[inline]
+    pub fn list_mut(&mut self) -> &mut C
+        ensures list { result.now ≡ list_of self.old }
+        ensures* writes_back { sem 𝓛 (follows (the_row C.row C.Object.row C.Position.row C.Head.row) C.row self.entry.ghost_name result.ghost_name (with_list self.old)) }
+    {
+        &mut self.list
     }
 
     /// The place of the member that the cursor is on, `None` at null. O(1).
@@ -229,6 +246,37 @@ impl<C: Collection> CursorOwning<C> {
         replaced(out, object, is_acquired)
     }
 
+    /// Puts the object where its key belongs, behind the members that are not greater, unless its link is refused.
+    ///
+    /// It requires that the object is placed, its place covered, and all members placed. The cursor stays where it is. A refused
+    /// object comes back, and nothing else has changed.
+    #[inline]
+    pub fn insert<L: LinkOps, B: Allocator>(
+        &mut self,
+        links: &mut L,
+        objects: &Objects<C::Object, B>,
+        object: UnsafeRef<C::Object>,
+    ) -> Result<(), AlreadyLinked<C::Object>>
+    where
+        C: Ordered<L>,
+        requires covered { IsCovered (L.table links.old) object }
+        requires placed { ShowsPlaced (C.Shows (L.table links.old) (C.head_of (list_of self.old))) objects.now }
+        requires object { is_placed objects.now object ≡ true }
+        requires stands { IsStanding C.StandsAt links.old self.old }
+        ensures inserted { InsertsAmong C.Shows L.table L.Does L.Refused (C.order_of (list_of self.old) objects.now object)
+            (site_of C.head_of C.Position.member links.old self.old) object result (site_of C.head_of C.Position.member links.new self.new) }
+        ensures kept { IsStanding C.StandsAt links.new self.new }
+        ensures rest { C.Keeps (list_of self.old) (list_of self.new) }
+    {
+        if !self
+            .list
+            .insert_in_order(links, objects, &mut self.current, object.place())
+        {
+            return Err(AlreadyLinked(object));
+        }
+        Ok(())
+    }
+
     /// Removes the member behind the cursor and returns it, at null the first one; `None` where there is none.
     ///
     /// The cursor stays where it is.
@@ -283,6 +331,7 @@ impl<C: Collection> CursorOwning<C> {
         ensures kept { (gap : Cut) (t : List Place) → C.Shows (L.table links.old) (C.head_of (list_of self.old)) (join gap)
             → IsAfter gap (position C.Position.member self.old) → C.Shows (L.table links.old) (C.head_of given) t → IsDisjoint t (join gap)
             → IsStanding C.StandsAt links.new self.new }
+        ensures rest { C.Keeps (list_of self.old) (list_of self.new) }
     {
         self.list.splice_after_at(links, &mut self.current, given);
     }
@@ -316,6 +365,7 @@ impl<C: Collection> CursorOwning<C> {
         ensures kept { (gap : Cut) (t : List Place) → C.Shows (L.table links.old) (C.head_of (list_of self.old)) (join gap)
             → IsBefore gap (position C.Position.member self.old) → C.Shows (L.table links.old) (C.head_of given) t → IsDisjoint t (join gap)
             → IsStanding C.StandsAt links.new self.new }
+        ensures rest { C.Keeps (list_of self.old) (list_of self.new) }
     {
         self.list.splice_before_at(links, &mut self.current, given);
     }

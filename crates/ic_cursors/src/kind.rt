@@ -7,17 +7,22 @@
 //! }
 //! ```
 
-ghost use Rattle.std.specs.Prelude.{◌≡◌, List, Option, None};
+ghost use Rattle.std.specs.Prelude.{◌≡◌, true, List, Option, None};
+ghost use Rattle.std.specs.declared.cmp.Ordering.{Ordering};
 ghost use Rattle.ic_unsafe_ref.specs.declared.place.Place.{Place};
+ghost use Rattle.ic_unsafe_ref.specs.Objects.{Objects, is_placed};
 ghost use Rattle.ic_link_ops.specs.Sequences.{Cut, join, IsAfter, IsBefore, IsDisjoint};
 ghost use Rattle.ic_link_ops.specs.Tables.{Table, IsCovered};
 ghost use Rattle.ic_link_ops.specs.Positions.{site, MovesOn, MovesBack};
+ghost use Rattle.ic_link_ops.specs.PlacedObjects.{ShowsPlaced};
 ghost use Rattle.ic_cursors.specs.Answers as answer;
+ghost use Rattle.ic_cursors.specs.Ordered.{InsertsAmong};
 ghost use Rattle.ic_link_ops.specs.EditsAt.{InsertsBeside, RemovesThere, ReplacesThere, RemovesNext, ReplacesNext, SplicesBeside, SplitsAfter, SplitsBefore};
 
 use crate::Position;
 use ic_link_ops::LinkOps;
-use ic_unsafe_ref::Place;
+use ic_unsafe_ref::{Objects, Place};
+use std::alloc::Allocator;
 
 /// A collection of objects, and what a cursor keeps of a position in it.
 pub trait Collection {
@@ -171,6 +176,30 @@ pub trait OneWay<L: LinkOps>: Kind<L> {
         requires stands { Self.StandsAt links.old self.old at.old }
         ensures replaced { ReplacesNext Self.Shows L.table L.Does L.Refused (site links.old (Self.head_of self.old) (Self.Position.member at.old))
             object (answer.replaced {T = Self.Object} result.0 object result.1) (site links.new (Self.head_of self.new) (Self.Position.member at.new)) }
+        ensures kept { Self.StandsAt links.new self.new at.new }
+        ensures rest { Self.Keeps self.old self.new };
+}
+
+/// A kind that keeps its members in the order of their keys.
+pub trait Ordered<L: LinkOps>: Kind<L> {
+    // HOW AN OBJECT STANDS to each member: `Less` where it is less.
+    ghost order_of: { Self → Objects Self.Object → Place → Place → Ordering };
+
+    /// Puts the object where its key belongs, behind the members that are not greater, and returns whether its link was acquired.
+    /// The position stays.
+    fn insert_in_order<B: Allocator>(
+        &mut self,
+        links: &mut L,
+        objects: &Objects<Self::Object, B>,
+        at: &mut Self::Position,
+        object: Place,
+    ) -> bool
+        requires covered { IsCovered (L.table links.old) object }
+        requires placed { ShowsPlaced (Self.Shows (L.table links.old) (Self.head_of self.old)) objects.now }
+        requires object { is_placed objects.now object ≡ true }
+        requires stands { Self.StandsAt links.old self.old at.old }
+        ensures inserted { InsertsAmong Self.Shows L.table L.Does L.Refused (order_of self.old objects.now object)
+            (site links.old (Self.head_of self.old) (Self.Position.member at.old)) object (answer.inserted {T = Self.Object} object result) (site links.new (Self.head_of self.new) (Self.Position.member at.new)) }
         ensures kept { Self.StandsAt links.new self.new at.new }
         ensures rest { Self.Keeps self.old self.new };
 }

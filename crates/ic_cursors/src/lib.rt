@@ -1,4 +1,4 @@
-//! The cursors of every kind of list: each move and each edit is written once.
+//! The cursors of every kind of collection: each move and each edit is written once.
 //!
 //! A kind says by traits what a cursor needs of it:
 //!
@@ -7,6 +7,7 @@
 //! - [`TwoWay`]: the move back, the insert in front, the removal and the replacement.
 //! - [`OneWay`]: the removal and the replacement behind a position, of a kind that does not lead back.
 //! - [`Sliced`], [`TwoWaySliced`]: splices and splits, behind a position and in front of it.
+//! - [`Ordered`]: the insert where a key belongs.
 //!
 //! [`Cursor`] reads, [`CursorMut`] edits, and [`CursorOwning`] edits and keeps its collection. The kinds make them.
 //!
@@ -27,5 +28,5 @@ mod position;
 pub use cursor::Cursor;
 pub use cursor_mut::CursorMut;
 pub use cursor_owning::CursorOwning;
-pub use kind::{Collection, Kind, OneWay, Sliced, TwoWay, TwoWaySliced};
+pub use kind::{Collection, Kind, OneWay, Ordered, Sliced, TwoWay, TwoWaySliced};
 pub use position::Position;

@@ -1,31 +1,33 @@
 -- Edits by key: what the calls of a tree give, in the words of all kinds, and that the cursor is moved after an edit.
-use Rattle.std.proofs.Common.{◌≡◌, ◌∙◌, Bool, true, false, cond, append_assoc, Option, Some, None, IfSome, List, [], ◌∷◌, ◌++◌, drop, refl, sym, ap, subst}
+use Rattle.std.proofs.Common.{◌≡◌, ◌∙◌, Bool, true, false, cond, append_assoc, Option, Some, None, List, [], ◌∷◌, ◌++◌, drop, refl, sym, ap, subst}
 use Rattle.std.specs.declared.cmp.Ordering.{Ordering}
 use Rattle.ic_unsafe_ref.specs.declared.place.Place.{Place}
 use Rattle.ic_link_ops.specs.Sequences.{Cut, join, insert, at_front, first, IsBefore, IsAbsent, IsMember}
 use Rattle.ic_link_ops.specs.Tables.{Table, KeepsBeside, LinksAlso}
 use Rattle.ic_link_ops.specs.Edits.{Inserts}
-use Rattle.ic_link_ops.specs.Positions.{HasMember}
 use Rattle.ic_link_ops.specs.RedBlackTree as tree
 use Rattle.ic_link_ops.proofs.SequenceLemmas.{member_split, first_is, absent_right, absent_without, gap_after, last_of_push, none_not}
-use Rattle.ic_rbtree.specs.CursorOwning.{tree_of, position}
+use Rattle.ic_rbtree.specs.CursorOwning.{CursorOwning, tree_of, position}
 use Rattle.ic_rbtree.specs.Borders.{IsBorder, Finds, less_at, equal_at, if_passes}
 use Rattle.ic_rbtree.specs.Ordered.{InsertsInOrder}
 use Rattle.ic_rbtree.specs.Tree.{root_of, adapter_of}
 use Rattle.ic_rbtree.specs.declared.tree.RBTree.{RBTree}
-use Rattle.ic_rbtree.specs.declared.cursor_owning.CursorOwning.{CursorOwning}
 use Rattle.ic_fields.specs.declared.entry.Entry.{Entry}
 use Rattle.ic_fields.specs.Entries.{is_linked, node}
 use Rattle.ic_members.specs.declared.members.Members.{Members}
 use Rattle.ic_members.specs.declared.members.Members.TheVariants.{Tree}
-use Rattle.ic_members.specs.Members.{IsAt, cursor_in, members_in, Keeps, Held}
+use Rattle.ic_members.specs.Members.{IsAt, members_in, Keeps, Held}
 use Rattle.ic_members.specs.Edits.{AtGap, Moves, Puts}
 use Rattle.ic_members.specs.Keyed.{PutsInOrder, PutsAtKey, IsVacantFor}
 use Rattle.ic_members.proofs.AllKinds.{IsLawful, one_sequence, held_of}
-use Rattle.ic_members.proofs.Standing.{gap_before_cursor}
+use Rattle.ic_members.proofs.Standing.{before_at}
+
+-- a member of a sequence is a position of it
+on_it : {s : List Place} (front : List Place) (p : Place) (back : List Place) → front ++ p ∷ back ≡ s → IsAt s (Some p)
+on_it front p back same = (record { front = front ++ p ∷ []; back = back }, append_assoc front (p ∷ []) back ∙ same, sym (last_of_push front p))
 
 -- p IS PUT INTO A TREE, as its insert gives it
-pub puts_in_tree : {A V K : Type 0} {t t' : Table Entry} {m m' : CursorOwning A} {gap : Cut} {p : Place} {cursor : Option Place}
+pub puts_in_tree : {A V K : Type 0} {t t' : Table Entry} {m m' : CursorOwning A V} {gap : Cut} {p : Place} {cursor : Option Place}
     → Held {A = A} {V = V} {K = K} t (Tree m) → join gap ≡ members_in {A = A} {V = V} {K = K} t (Tree m) → Inserts (tree.Shows node) t t' (root_of (tree_of m')) gap p
     → LinksAlso is_linked t t' p → adapter_of (tree_of m') ≡ adapter_of (tree_of m) → IsAt (insert gap p) cursor → position m' ≡ cursor
     → Puts {A = A} {V = V} {K = K} t t' (Tree m) (Tree m') gap p cursor
@@ -39,25 +41,37 @@ puts_in_tree {t = t} {t' = t'} {p = p} held same put links adapter at there = re
   links = links;
 }
 
--- in order, where its insert answers a cursor that edits the tree r and the table u
-pub puts_in_order : {A V K : Type 0} {at at' : Place → Ordering} {t t' u : Table Entry} {m m' : CursorOwning A} {r : RBTree A} {p : Place} → at ≡ at'
-    → Held {A = A} {V = V} {K = K} t (Tree m) → ((s : List Place) → tree.Shows node t (root_of (tree_of m)) s → InsertsInOrder (tree.Shows node) at t u (root_of r) s p)
-    → LinksAlso is_linked t u p → adapter_of r ≡ adapter_of (tree_of m) → t' ≡ u → tree_of m' ≡ r → position m' ≡ None
-    → PutsInOrder {A = A} {V = V} {K = K} at' t t' (Tree m) (Tree m') p None
-puts_in_order order held inserted links adapter table head null =
+-- a position of the members is one of them with p,
+still_at : {s : List Place} (gap : Cut) (p : Place) → join gap ≡ s → (at : Option Place) → IsAt s at → IsAt (insert gap p) at
+still_at gap p same None at = (at_front _, refl, refl)
+still_at {s} gap p same (Some q) at =
+    let old = before_at at in
+    let there : IsMember q (insert gap p) =
+    λ out. (absent_right q old.0.front (q ∷ drop 1 old.0.back)
+    (subst (IsAbsent q) (same ∙ sym old.1 ∙ ap (λ b. old.0.front ++ b) (first_is old.0.back old.2)) (absent_without gap.front gap.back p q out))).0 refl in
+    let k = member_split q (insert gap p) there in
+    on_it k.0 q k.1 (sym k.2)
+
+-- and in order, while the cursor stays. `r`: the tree then
+pub puts_in_order : {A V K : Type 0} {at at' : Place → Ordering} {t t' : Table Entry} {m m' : CursorOwning A V} {r : RBTree A} {p : Place} → at ≡ at'
+    → Held {A = A} {V = V} {K = K} t (Tree m) → ((s : List Place) → tree.Shows node t (root_of (tree_of m)) s → InsertsInOrder (tree.Shows node) at t t' (root_of r) s p)
+    → LinksAlso is_linked t t' p → adapter_of r ≡ adapter_of (tree_of m) → tree_of m' ≡ r → position m' ≡ position m
+    → PutsInOrder {A = A} {V = V} {K = K} at' t t' (Tree m) (Tree m') p (position m)
+puts_in_order {m = m} {p = p} order held inserted links adapter head stays =
     let put = inserted _ held.shown in (
       put.gap,
       put.same,
       (
         subst (λ at. IsBorder (less_at at) put.gap) order put.border,
-        puts_in_tree held put.same (rw (table, head) put.inserted) (rw table links) (ap adapter_of head ∙ adapter) (at_front _, refl, refl) null,
+        puts_in_tree held put.same (rw head put.inserted) links (ap adapter_of head ∙ adapter) (still_at put.gap p put.same (position m) held.stands) stays,
       ),
     )
 
 -- WHAT AN EDIT THROUGH A BORROW LEFT: the root and the table that the borrow ended as are those that the edit answered
 module _ {t t' : Table Entry} {root root' : Option Place} where
-  pub member_left : {p p' : Place} → p ≡ p' → HasMember (tree.Shows node t root) p → t' ≡ t → root' ≡ root → HasMember (tree.Shows node t' root') p'
-  member_left place member table head = subst (HasMember (tree.Shows node t' root')) place (rw (table, head) member)
+  pub in_order_left : {at : Place → Ordering} {old : Table Entry} {s : List Place} {p : Place} → InsertsInOrder (tree.Shows node) at old t root s p
+      → t' ≡ t → root' ≡ root → InsertsInOrder (tree.Shows node) at old t' root' s p
+  in_order_left put table head = rw (table, head) put
 
   pub inserts_left : {old old' : Table Entry} {gap : Cut} {p p' : Place} → old ≡ old' → p ≡ p' → Inserts (tree.Shows node) old t root gap p
       → t' ≡ t → root' ≡ root → Inserts (tree.Shows node) old' t' root' gap p'
@@ -69,17 +83,6 @@ links_left same place linked table = rw (table, ← same, ← place) linked
 pub adapter_left : {A : Type 0} {x y z : A} → y ≡ z → x ≡ y → x ≡ z
 adapter_left same left = left ∙ same
 
--- THE MEMBER that a cursor of a tree is on
-pub member_at : {A V K : Type 0} {t : Table Entry} {m : CursorOwning A} → Held {A = A} {V = V} {K = K} t (Tree m) → (at : Option Place) → position m ≡ at
-    → IfSome at (HasMember (tree.Shows node t (root_of (tree_of m))))
-member_at held None is = tt
-member_at {V = V} {K = K} {t} {m} held (Some q) is =
-    let old = gap_before_cursor {V = V} {K = K} (Tree m) held in record {
-      front = old.0.front;
-      back = drop 1 old.0.back;
-      shown = subst (tree.Shows node t (root_of (tree_of m))) (sym old.1 ∙ ap (λ b. old.0.front ++ b) (first_is old.0.back (sym is ∙ old.2))) held.shown;
-    }
-
 -- A MEMBER WITH THE KEY is found, and the cursor is moved there
 passed : (test : Place → Bool) (o : Option Place) {p : Place} → Some p ≡ if_passes test o → Some p ≡ o
 passed test None e = e
@@ -88,7 +91,7 @@ passed test (Some q) {p} e = by (test q) e where
   by true e = e
   by false e = absurd (none_not p (sym e))
 
-pub moves_to_key : {A V K : Type 0} {at : Place → Ordering} {t : Table Entry} {m m' : CursorOwning A} {p : Place} → Held {A = A} {V = V} {K = K} t (Tree m)
+pub moves_to_key : {A V K : Type 0} {at : Place → Ordering} {t : Table Entry} {m m' : CursorOwning A V} {p : Place} → Held {A = A} {V = V} {K = K} t (Tree m)
     → Finds at (members_in {A = A} {V = V} {K = K} t (Tree m)) (Some p) → tree_of m' ≡ tree_of m → position m' ≡ Some p → Moves {A = A} {V = V} {K = K} t (Tree m) (Tree m') (Some p)
 moves_to_key {at = at} {p = p} held found same there =
     let k = gap_after found.gap (Some p) (passed (equal_at at) (first found.gap.back) found.answer) in record {
@@ -98,14 +101,12 @@ moves_to_key {at = at} {p = p} held found same there =
     }
 
 -- AN OBJECT IS PUT where the key would stand, and the cursor is put on it
-pub puts_at_key : {A V K : Type 0} (at : Place → Ordering) {t t' : Table Entry} {m m' : CursorOwning A} {r : RBTree A} {p : Place} → Held {A = A} {V = V} {K = K} t (Tree m)
+pub puts_at_key : {A V K : Type 0} (at : Place → Ordering) {t t' : Table Entry} {m m' : CursorOwning A V} {r : RBTree A} {p : Place} → Held {A = A} {V = V} {K = K} t (Tree m)
     → AtGap (members_in {A = A} {V = V} {K = K} t (Tree m)) (λ gap. IsVacantFor at gap × Inserts (tree.Shows node) t t' (root_of r) gap p) → LinksAlso is_linked t t' p
     → adapter_of r ≡ adapter_of (tree_of m) → tree_of m' ≡ r → position m' ≡ Some p → PutsAtKey {A = A} {V = V} {K = K} at t t' (Tree m) (Tree m') p (Some p)
 puts_at_key at {p = p} held put links adapter head there =
     let gap = put.0 in
-    let on : IsAt (insert gap p) (Some p) =
-    (record { front = gap.front ++ p ∷ []; back = gap.back }, append_assoc gap.front (p ∷ []) gap.back, sym (last_of_push gap.front p)) in
-    (gap, put.1, (put.2.0, puts_in_tree held put.1 (rw head put.2.1) links (ap adapter_of head ∙ adapter) on there))
+    (gap, put.1, (put.2.0, puts_in_tree held put.1 (rw head put.2.1) links (ap adapter_of head ∙ adapter) (on_it gap.front p gap.back refl) there))
 
 module _ {A V K : Type 0} {t t' : Table Entry} (law : IsLawful t') {m m' : Members A V K} {gap : Cut} {p : Place} {cursor : Option Place}
     (puts : Puts t t' m m' gap p cursor) where
@@ -116,20 +117,9 @@ module _ {A V K : Type 0} {t t' : Table Entry} (law : IsLawful t') {m m' : Membe
   pub held_after : Held t' m'
   held_after = held_of law m' (insert gap p) puts.leaves.kept
 
-  -- the object is one of them,
+  -- and the object is one of them
   pub object_there : AtGap (members_in t' m') (λ at. IsBefore at (Some p))
   object_there = (record { front = gap.front; back = p ∷ gap.back }, sym members_after, refl)
-
-  -- and the member that the cursor was on still is
-  pub cursor_there : (at : Option Place) → cursor_in m ≡ at → join gap ≡ members_in t m → Held t m → IfSome at (λ q. AtGap (members_in t' m') (λ gap. IsBefore gap (Some q)))
-  cursor_there None is same held = tt
-  cursor_there (Some q) is same held =
-      let old = gap_before_cursor m held in
-      let there : IsMember q (insert gap p) =
-      λ out. (absent_right q old.0.front (q ∷ drop 1 old.0.back)
-      (subst (IsAbsent q) (same ∙ sym old.1 ∙ ap (λ b. old.0.front ++ b) (first_is old.0.back (sym is ∙ old.2))) (absent_without gap.front gap.back p q out))).0 refl in
-      let k = member_split q (insert gap p) there in
-      (record { front = k.0; back = q ∷ k.1 }, sym (members_after ∙ k.2), refl)
 
   -- AND THEN THE CURSOR IS MOVED
   pub puts_and_moves : {m'' : Members A V K} {at : Option Place} → Moves t' m' m'' at → Puts t t' m m'' gap p at

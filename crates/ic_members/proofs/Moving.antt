@@ -14,7 +14,6 @@ use Rattle.ic_linked_list.specs.CursorOwning as doubly_cursor
 use Rattle.ic_singly_linked_list.specs.CursorOwning as singly_cursor
 use Rattle.ic_xor_linked_list.specs.CursorOwning as xor_cursor
 use Rattle.ic_rbtree.specs.CursorOwning as tree_cursor
-use Rattle.ic_rbtree.specs.declared.cursor_owning.CursorOwning as tree_owning
 use Rattle.ic_rbtree.specs.Tree.{root_of, adapter_of}
 use Rattle.ic_fields.specs.declared.entry.Entry.{Entry}
 use Rattle.ic_fields.specs.Entries.{is_linked, neighbors, successor, node, Joins}
@@ -67,7 +66,7 @@ module _ {A V K L : Type 0} {table : L → Table Entry} {new : L} {t : Table Ent
     alike = record { kind = refl; adapter = refl };
   }
 
-  pub tree_turned : {m m' : tree_owning.CursorOwning A} → adapter_of (tree_cursor.tree_of m') ≡ adapter_of (tree_cursor.tree_of m)
+  pub tree_turned : {m m' : tree_cursor.CursorOwning A V} → adapter_of (tree_cursor.tree_of m') ≡ adapter_of (tree_cursor.tree_of m)
       → position.Stands (tree.Shows node) table (tree_cursor.site_of new m')
       → Turned {A = A} {V = V} {K = K} (tree.Shows node) t (table new) (root_of (tree_cursor.tree_of m)) (root_of (tree_cursor.tree_of m')) (Tree m) (Tree m')
   tree_turned same stands = record {

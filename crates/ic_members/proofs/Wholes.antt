@@ -10,7 +10,6 @@ use Rattle.ic_singly_linked_list.specs.CursorOwning as singly_cursor
 use Rattle.ic_xor_linked_list.specs.CursorOwning as xor_cursor
 use Rattle.ic_rbtree.specs.CursorOwning as tree_cursor
 use Rattle.ic_rbtree.specs.Tree.{root_of}
-use Rattle.ic_rbtree.specs.declared.cursor_owning.CursorOwning as tree_type
 use Rattle.ic_xor_linked_list.specs.Position.{null_of}
 use Rattle.ic_xor_linked_list.specs.Turned.{turned}
 use Rattle.ic_xor_linked_list.proofs.Reversing.{reversed_is_shown}
@@ -38,7 +37,7 @@ module _ {A V K : Type 0} (t : Table Entry) where
   new_xor m carried empty null =
       let shown : xor.Shows is_linked Joins t (xor_cursor.list_of m) [] = rw empty (xor_kind.nothing t) in record { carried = carried; shown = shown; stands = xor_null m [] shown null }
 
-  pub new_tree : (m : tree_type.CursorOwning A) → carries (kind_of t) kind.Tree ≡ true → root_of (tree_cursor.tree_of m) ≡ None → tree_cursor.position m ≡ None
+  pub new_tree : (m : tree_cursor.CursorOwning A V) → carries (kind_of t) kind.Tree ≡ true → root_of (tree_cursor.tree_of m) ≡ None → tree_cursor.position m ≡ None
       → Keeps {A = A} {V = V} {K = K} t (Tree m) []
   new_tree m carried empty null = record { carried = carried; shown = rw empty (tree_kind.nothing t); stands = at_null null }
 

@@ -12,14 +12,13 @@ ghost use Rattle.ic_link_ops.specs.Sequences.{Cut, join, IsBefore};
 ghost use Rattle.ic_link_ops.specs.Edits.{Inserts};
 ghost use Rattle.ic_link_ops.specs.Tables.{IsCovered, IsLinked, IsUnlinked, LinksAlso};
 ghost use Rattle.ic_link_ops.specs.PlacedObjects.{ArePlaced, ShowsPlaced};
-ghost use Rattle.ic_link_ops.specs.Positions.{HasMember};
 ghost use Rattle.ic_link_ops.specs.RedBlackTree.{Shows};
 ghost use Rattle.ic_rbtree.specs.Borders.{Finds, IsBorder, IsLowerBorder, IsUpperBorder, less_at, at_most_at};
 ghost use Rattle.ic_rbtree.specs.Comparing.{compared, compared_within, order_of, own_order, HasRoom, Looks};
 ghost use Rattle.ic_rbtree.specs.CursorMut as editing;
-ghost use Rattle.ic_rbtree.specs.CursorOwning as owning;
 ghost use Rattle.ic_rbtree.specs.Entry as gaps;
 ghost use Rattle.ic_rbtree.specs.Iter.{rest_of, CanWalk};
+ghost use Rattle.ic_rbtree.specs.Ordered.{InsertsInOrder};
 ghost use Rattle.ic_rbtree.specs.KeyProbe.{key_order, looks_of, HasAdapter};
 ghost use Rattle.ic_rbtree.specs.Ranges.{runs_up, IsRange};
 ghost use Rattle.ic_rbtree.specs.Tree.{root_of, adapter_of};
@@ -31,13 +30,11 @@ ghost use Rattle.ic_members.specs.Keyed.{FewLooks, looks_within, HasNoLooks, IsV
 
 use crate::Members;
 use ic_fields::{Field, TreeTable, TwoWay};
+use ic_link_ops::End;
 use ic_link_ops::rbtree::RBTreeOps;
-use ic_rbtree::{
-    Bound, CursorMut, CursorOwning, Entry, InsertCursor, Iter, KeyAdapter, KeyProbe, RBTree,
-};
+use ic_rbtree::{Bound, CursorMut, Entry, InsertCursor, Iter, KeyAdapter, KeyProbe, RBTree};
 use ic_unsafe_ref::{Objects, Place, UnsafeRef};
 use std::alloc::{AllocError, Allocator};
-use std::mem;
 
 // The bound, of a search for its key that has made no look.
 #[inline]
@@ -140,7 +137,7 @@ impl<A: KeyAdapter> Members<A> {
         let mut probe = KeyProbe::new(adapter, key);
         let position = match (&*self, links) {
             (Members::Tree(cursor), Field::TwoWay(TwoWay::Tree(links))) => {
-                cursor.tree().find_by(links, objects, &mut probe).get_ptr()
+                cursor.list().find_by(links, objects, &mut probe).get_ptr()
             }
             _ => None,
         };
@@ -186,7 +183,7 @@ impl<A: KeyAdapter> Members<A> {
         let position = match (&*self, links) {
             (Members::Tree(cursor), Field::TwoWay(TwoWay::Tree(links))) => {
                 cursor
-                    .tree()
+                    .list()
                     .lower_bound_by(links, objects, &mut probe)
                     .get_ptr()
             }
@@ -221,7 +218,7 @@ impl<A: KeyAdapter> Members<A> {
         let position = match (&*self, links) {
             (Members::Tree(cursor), Field::TwoWay(TwoWay::Tree(links))) => {
                 cursor
-                    .tree()
+                    .list()
                     .upper_bound_by(links, objects, &mut probe)
                     .get_ptr()
             }
@@ -255,8 +252,8 @@ impl<A: KeyAdapter> Members<A> {
         match self {
             Members::Tree(cursor) => match links {
                 Field::TwoWay(TwoWay::Tree(links)) => {
-                    let (walk, from, to) = walk_between(cursor.tree(), links, objects, min, max);
-                    let places = list_walk(alloc, cursor.tree(), links, walk)?;
+                    let (walk, from, to) = walk_between(cursor.list(), links, objects, min, max);
+                    let places = list_walk(alloc, cursor.list(), links, walk)?;
                     Ok((places, from, to))
                 }
                 Field::TwoWay(TwoWay::Doubly(_)) | Field::Singly(_) | Field::Xor(_) => Ok((
@@ -270,42 +267,6 @@ impl<A: KeyAdapter> Members<A> {
                 0,
                 0,
             )),
-        }
-    }
-
-    // Puts the object where its own key belongs, behind members with the same key, with the cursor at null. Answers the looks.
-    fn put_in_order<M: Allocator, B: Allocator>(
-        &mut self,
-        links: &mut Field<M>,
-        objects: &Objects<A::Value, B>,
-        adapter: A,
-        object: Place,
-    ) -> u64
-        requires held { Held (look links.old) self.old }
-        requires can { is_tree (kind_in self.old) ≡ true }
-        requires placed { ArePlaced objects.now (members_in (look links.old) self.old) }
-        requires object { is_placed objects.now object ≡ true }
-        requires covered { IsCovered (look links.old) object }
-        requires unlinked { IsUnlinked is_linked (look links.old) object }
-        ensures inserted { PutsInOrder (compared (own_order A.Key.cmp (A.key_of adapter) objects.now object) objects.now)
-            (look links.old) (look links.new) self.old self.new object None }
-        ensures looks { FewLooks result (members_in (look links.old) self.old) }
-    {
-        match self {
-            Members::Tree(cursor) => match links {
-                Field::TwoWay(TwoWay::Tree(links)) => {
-                    let value = objects.get(object).unwrap(); // proved: it is placed
-                    let mut probe = KeyProbe::new(adapter, adapter.get_key(value));
-                    let empty = RBTree::new(cursor.tree().adapter()).cursor_owning();
-                    let mut tree = mem::replace(cursor, empty).into_inner();
-                    let object = UnsafeRef::new(object);
-                    tree.insert_by(links, objects, &mut probe, object).unwrap(); // proved: it is not linked
-                    *cursor = tree.cursor_owning();
-                    probe.looks()
-                }
-                Field::TwoWay(TwoWay::Doubly(_)) | Field::Singly(_) | Field::Xor(_) => 0,
-            },
-            Members::Singly(_) | Members::Doubly(_) | Members::Xor(_) => 0,
         }
     }
 
@@ -332,13 +293,12 @@ impl<A: KeyAdapter> Members<A> {
             (look links.old) (look links.new) self.old self.new object (Some object) }
         ensures looks { FewLooks result (members_in (look links.old) self.old) }
     {
-        let looks = self.put_in_order(links, objects, adapter, object);
+        let looks = self.cursor_insert(links, objects, adapter, object);
         self.stand_at(links, Some(object));
         looks
     }
 
     /// The same, but the cursor stays.
-    #[inline]
     pub fn cursor_insert<M: Allocator, B: Allocator>(
         &mut self,
         links: &mut Field<M>,
@@ -356,10 +316,18 @@ impl<A: KeyAdapter> Members<A> {
             (look links.old) (look links.new) self.old self.new object (cursor_in self.old) }
         ensures looks { FewLooks result (members_in (look links.old) self.old) }
     {
-        let position = self.cursor();
-        let looks = self.put_in_order(links, objects, adapter, object);
-        self.stand_at(links, position);
-        looks
+        match self {
+            Members::Tree(cursor) => match links {
+                Field::TwoWay(TwoWay::Tree(links)) => {
+                    let value = objects.get(object).unwrap(); // proved: it is placed
+                    let mut probe = KeyProbe::new(adapter, adapter.get_key(value));
+                    put_in_order(cursor.list_mut(), links, objects, &mut probe, object);
+                    probe.looks()
+                }
+                Field::TwoWay(TwoWay::Doubly(_)) | Field::Singly(_) | Field::Xor(_) => 0,
+            },
+            Members::Singly(_) | Members::Doubly(_) | Members::Xor(_) => 0,
+        }
     }
 
     /// Puts the cursor on the first member with this key, or puts the object into the gap where the key would stand and the cursor
@@ -394,19 +362,10 @@ impl<A: KeyAdapter> Members<A> {
             Members::Tree(cursor) => match links {
                 Field::TwoWay(TwoWay::Tree(links)) => {
                     let mut probe = KeyProbe::new(adapter, key);
-                    let position = cursor.get_ptr();
-                    let empty = RBTree::new(cursor.tree().adapter()).cursor_owning();
-                    let mut tree = mem::replace(cursor, empty).into_inner();
-                    match put_at_key(&mut tree, links, objects, &mut probe, object) {
-                        None => {
-                            *cursor = cursor_at(tree, links, position);
-                            None
-                        }
-                        Some((occupied, place)) => {
-                            *cursor = tree.cursor_owning_from_ptr(links, UnsafeRef::new(place));
-                            Some((occupied, place, probe.looks()))
-                        }
-                    }
+                    let tree = cursor.list_mut();
+                    let (occupied, place) = put_at_key(tree, links, objects, &mut probe, object)?;
+                    cursor.go_to(End::of(Some(place)));
+                    Some((occupied, place, probe.looks()))
                 }
                 Field::TwoWay(TwoWay::Doubly(_)) | Field::Singly(_) | Field::Xor(_) => None,
             },
@@ -415,21 +374,28 @@ impl<A: KeyAdapter> Members<A> {
     }
 }
 
-// A cursor that keeps the tree, on a member or at null.
-#[inline]
-fn cursor_at<A: KeyAdapter, L: RBTreeOps>(
-    tree: RBTree<A>,
-    links: &L,
-    position: Option<Place>,
-) -> CursorOwning<A>
-    requires member { IfSome position (HasMember (Shows L.node (L.table links.now) (root_of tree))) }
-    ensures tree { owning.tree_of result ≡ tree }
-    ensures position { owning.position result ≡ position }
+// Puts an unlinked object where the probe's order wants it.
+fn put_in_order<A: KeyAdapter, M: Allocator, B: Allocator>(
+    tree: &mut RBTree<A>,
+    links: &mut TreeTable<M>,
+    objects: &Objects<A::Value, B>,
+    probe: &mut KeyProbe<'_, A>,
+    object: Place,
+)
+    requires placed { ShowsPlaced (Shows node (tree_table.look links.old) (root_of tree.old)) objects.now }
+    requires room { HasRoom (looks_of probe.old) }
+    requires covered { IsCovered (tree_table.look links.old) object }
+    requires unlinked { IsUnlinked is_linked (tree_table.look links.old) object }
+    ensures inserted { (s : List Place) → Shows node (tree_table.look links.old) (root_of tree.old) s
+        → InsertsInOrder (Shows node) (compared (key_order A.Key.cmp A.key_of probe.old) objects.now)
+        (tree_table.look links.old) (tree_table.look links.new) (root_of tree.new) s object }
+    ensures linked { LinksAlso is_linked (tree_table.look links.old) (tree_table.look links.new) object }
+    ensures adapter { adapter_of tree.new ≡ adapter_of tree.old }
+    ensures looks { (s : List Place) → Shows node (tree_table.look links.old) (root_of tree.old) s
+        → Looks (key_order A.Key.cmp A.key_of) looks_of probe.old probe.new s }
 {
-    match position {
-        None => tree.cursor_owning(),
-        Some(place) => tree.cursor_owning_from_ptr(links, UnsafeRef::new(place)),
-    }
+    let object = UnsafeRef::new(object);
+    tree.insert_by(links, objects, probe, object).unwrap(); // proved: it is not linked
 }
 
 // Puts an unlinked object into the gap. The cursor that it answers is on the object.
@@ -445,7 +411,6 @@ fn put_into<'a, A: KeyAdapter, M: Allocator>(
         → Inserts (Shows node) (tree_table.look (gaps.links_of gap.entry)) (tree_table.look (editing.links_of result))
         (root_of (editing.tree_of result)) at object }
     ensures linked { LinksAlso is_linked (tree_table.look (gaps.links_of gap.entry)) (tree_table.look (editing.links_of result)) object }
-    ensures member { HasMember (Shows node (tree_table.look (editing.links_of result)) (root_of (editing.tree_of result))) object }
     ensures borrows { editing.SameNames gap.entry.tree gap.entry.links result }
 {
     gap.insert(UnsafeRef::new(object)).unwrap() // proved: it is not linked
@@ -465,7 +430,6 @@ fn put_at_key<A: KeyAdapter, M: Allocator, B: Allocator>(
     ensures found { (s : List Place) → Shows node (tree_table.look links.old) (root_of tree.old) s → IfSome result (λ e. e.0 ≡ true
         → Finds (compared (key_order A.Key.cmp A.key_of probe.old) objects.now) s (Some e.1)) }
     ensures stays { IfSome result (λ e. e.0 ≡ true → (tree.new ≡ tree.old) × (links.new ≡ links.old)) }
-    ensures member { IfSome result (λ e. HasMember (Shows node (tree_table.look links.new) (root_of tree.new)) e.1) }
     ensures put { (s : List Place) → Shows node (tree_table.look links.old) (root_of tree.old) s → IfSome result (λ e. e.0 ≡ false
         → AtGap s (λ gap. IsVacantFor (compared (key_order A.Key.cmp A.key_of probe.old) objects.now) gap
         × Inserts (Shows node) (tree_table.look links.old) (tree_table.look links.new) (root_of tree.new) gap object)) }

@@ -14,13 +14,10 @@ ghost use Rattle.ic_fields.specs.Fields.{look};
 
 use crate::Members;
 use ic_fields::{Field, TwoWay};
-use ic_linked_list::LinkedList;
-use ic_rbtree::{KeyAdapter, RBTree};
-use ic_singly_linked_list::SinglyLinkedList;
+use ic_link_ops::End;
+use ic_rbtree::KeyAdapter;
 use ic_unsafe_ref::{Place, UnsafeRef};
-use ic_xor_linked_list::XorLinkedList;
 use std::alloc::Allocator;
-use std::mem;
 
 // The object at a place.
 #[inline]
@@ -111,32 +108,14 @@ impl<A: KeyAdapter> Members<A> {
             × (is_xor (kind_in self.old) ≡ true → IsAfter gap prev)) }
         ensures { Moves (look links.now) self.old self.new (Some place) }
     {
-        let object = UnsafeRef::new(place);
         match self {
-            Members::Singly(cursor) => {
-                let list = mem::replace(
-                    cursor,
-                    SinglyLinkedList::new().cursor_owning(),
-                ).into_inner();
-                *cursor = list.cursor_owning_from_ptr(links, object);
-            }
-            Members::Doubly(cursor) => {
-                if let Field::TwoWay(links) = links {
-                    let list = mem::replace(cursor, LinkedList::new().cursor_owning()).into_inner();
-                    *cursor = list.cursor_owning_from_ptr(links, object);
-                }
-            }
+            Members::Singly(cursor) => cursor.go_to(End::of(Some(place))),
+            Members::Doubly(cursor) => cursor.go_to(End::of(Some(place))),
             Members::Xor(cursor) => {
-                let list = mem::replace(cursor, XorLinkedList::new().cursor_owning()).into_inner();
-                *cursor = list.cursor_owning_from_ptr_and_prev(links, object, object_of(prev));
+                let at = cursor.list().position_behind(links, prev, Some(place));
+                cursor.go_to(at);
             }
-            Members::Tree(cursor) => {
-                if let Field::TwoWay(TwoWay::Tree(links)) = links {
-                    let empty = RBTree::new(cursor.tree().adapter()).cursor_owning();
-                    let tree = mem::replace(cursor, empty).into_inner();
-                    *cursor = tree.cursor_owning_from_ptr(links, object);
-                }
-            }
+            Members::Tree(cursor) => cursor.go_to(End::of(Some(place))),
         }
     }
 }

@@ -36,7 +36,7 @@ impl<A: KeyAdapter> Members<A> {
             },
             Members::Xor(cursor) => cursor.list().front(links).get_ptr(),
             Members::Tree(cursor) => match links {
-                Field::TwoWay(TwoWay::Tree(links)) => cursor.tree().front(links).get_ptr(),
+                Field::TwoWay(TwoWay::Tree(links)) => cursor.list().front(links).get_ptr(),
                 Field::TwoWay(TwoWay::Doubly(_)) | Field::Singly(_) | Field::Xor(_) => None,
             },
         }
@@ -80,7 +80,7 @@ impl<A: KeyAdapter> Members<A> {
             }
             Members::Tree(cursor) => match links {
                 Field::TwoWay(TwoWay::Tree(links)) => cursor
-                    .tree()
+                    .list()
                     .cursor_from_ptr(links, object)
                     .peek_next()
                     .get_ptr(),
@@ -157,7 +157,7 @@ impl<A: KeyAdapter> Members<A> {
             },
             Members::Xor(cursor) => cursor.list().contains(links, place),
             Members::Tree(cursor) => match links {
-                Field::TwoWay(TwoWay::Tree(links)) => cursor.tree().contains(&links.0, place),
+                Field::TwoWay(TwoWay::Tree(links)) => cursor.list().contains(&links.0, place),
                 Field::TwoWay(TwoWay::Doubly(_)) | Field::Singly(_) | Field::Xor(_) => false,
             },
         }

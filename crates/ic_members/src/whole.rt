@@ -227,9 +227,8 @@ impl<A: KeyAdapter> Members<A> {
     {
         let _ = links;
         if let Members::Xor(cursor) = self {
-            let mut list = mem::replace(cursor, XorLinkedList::new().cursor_owning()).into_inner();
-            list.reverse();
-            *cursor = list.cursor_owning();
+            cursor.list_mut().reverse();
+            cursor.go_null();
         }
     }
 }

@@ -1,7 +1,7 @@
 -- A place that has just been linked is put in where a descent ends.
-use Rattle.std.proofs.Common.{◌≡◌, Option, Some, None, Result, Ok, Err, OnOk, OnErr, IfErr, List, [], ◌∷◌, ◌++◌, refl, sym, ap, ◌∙◌, subst}
+use Rattle.std.proofs.Common.{◌≡◌, Option, Some, None, Result, Bool, true, false, List, [], ◌∷◌, ◌++◌, refl, sym, ap, ◌∙◌, subst}
 use Rattle.std.specs.declared.cmp.Ordering.{Ordering}
-use Rattle.std.proofs.Common.{Bool}
+use Rattle.std.specs.Bool.{OnTrue, OnFalse}
 use Rattle.ic_unsafe_ref.specs.declared.place.Place.{Place}
 use Rattle.ic_unsafe_ref.specs.Objects.{Objects, object_at}
 use Rattle.ic_link_ops.specs.declared.side.Side.TheVariants.{Right}
@@ -16,6 +16,7 @@ use Rattle.ic_link_ops.proofs.Calling.{has_member}
 use Rattle.ic_link_ops.proofs.Positions.{stands_by_gap, stands_null, stands_on, stands_still, member_there}
 use Rattle.ic_link_ops.proofs.SequenceLemmas.{absent_without, split_member}
 use Rattle.ic_link_ops.proofs.ShownTrees.{shows_beside, free_absent}
+use Rattle.ic_cursors.specs.Answers.{inserted}
 use Rattle.ic_rbtree.specs.declared.descent.Descent.{Descent}
 use Rattle.ic_rbtree.specs.Borders.{IsBorder, less_at}
 use Rattle.ic_rbtree.specs.Comparing.{answer_at, compared, order_of, own_order}
@@ -84,18 +85,16 @@ module _ {L E H : Type 0} {Shows : Table E → H → List Place → Type 0} {tab
         λ absent. split_member m.front q m.back (subst (IsAbsent q) x.same (absent_without x.gap.front x.gap.back p q absent)) in
         stands_on (has_member (ShowsAt Shows table new) (insert x.gap p) x.inserted.shows member) (same ∙ e)
 
-  pub inserts_among : {Refused : L → L → Place → Type 0} → ((a b : L) (q : Place) → Refused a b q → table b ≡ table a) → Standing.Stands Shows table old → new.position ≡ old.position
-      → {T : Type 0} {Does : L → L → List LinkStep → Type 0} (r : Result Unit (AlreadyLinked T)) → OnOk r (Does old.links new.links (acquires p ∷ [])) → OnErr r (Refused old.links new.links p)
-      → IfErr r (λ refused. (refused.0 ≡ p) × (new.head ≡ old.head))
-      → ((s : List Place) → ShowsAt Shows table old s → OnOk r (InsertsInOrder Shows at (table old.links) (table new.links) new.head s p))
-      → InsertsAmong Shows table Does Refused at old p r new
-  inserts_among {Refused} keeps stands position {T} r acquired refused unchanged inserted =
-      record { inserted = inserted; acquired = acquired; refused = refused; unchanged = unchanged; position = position; stands = by r refused unchanged inserted }
-    where
-      by : (r : Result Unit (AlreadyLinked T)) → OnErr r (Refused old.links new.links p) → IfErr r (λ refused. (refused.0 ≡ p) × (new.head ≡ old.head))
-          → ((s : List Place) → ShowsAt Shows table old s → OnOk r (InsertsInOrder Shows at (table old.links) (table new.links) new.head s p)) → Standing.Stands Shows table new
-      by (Ok x) refused unchanged inserted = in_order_stands stands position inserted
-      by (Err e) refused unchanged inserted = stands_still stands (keeps _ _ p refused) unchanged.1 position
+  -- `X`: what else a refusal leaves
+  pub put_among : {Refused : L → L → Place → Type 0} → ((a b : L) (q : Place) → Refused a b q → table b ≡ table a) → Standing.Stands Shows table old → new.position ≡ old.position
+      → {T : Type 0} (X : Type 0) {Does : L → L → List LinkStep → Type 0} (b : Bool) → OnTrue b (Does old.links new.links (acquires p ∷ [])) → OnFalse b (Refused old.links new.links p)
+      → OnFalse b ((new.head ≡ old.head) × X)
+      → ((s : List Place) → ShowsAt Shows table old s → OnTrue b (InsertsInOrder Shows at (table old.links) (table new.links) new.head s p))
+      → InsertsAmong Shows table Does Refused at old p (inserted {T = T} p b) new
+  put_among keeps stands position X true acquired refused unchanged puts =
+      record { inserted = puts; acquired = acquired; refused = tt; unchanged = tt; position = position; stands = in_order_stands stands position puts }
+  put_among keeps stands position X false acquired refused unchanged puts =
+      record { inserted = λ _ _. tt; acquired = tt; refused = refused; unchanged = (refl, unchanged.0); position = position; stands = stands_still stands (keeps _ _ p refused) unchanged.0 position }
 
 -- a position on what was inserted
 pub inserted_stands : {L E H : Type 0} {Shows : Table E → H → List Place → Type 0} {table : L → Table E} {at : Place → Ordering} {old : Table E} {new : Site L H} {s : List Place} {p : Place} → new.position ≡ Some p

@@ -1,7 +1,7 @@
 -- What an insert beside a position says, by sides.
-use Rattle.std.proofs.Common.{◌≡◌, List, [], ◌∷◌, Result, OnOk, OnErr, IfErr}
+use Rattle.std.proofs.Common.{◌≡◌, List, [], ◌∷◌, Bool}
+use Rattle.std.specs.Bool.{OnTrue, OnFalse}
 use Rattle.ic_unsafe_ref.specs.declared.place.Place.{Place}
-use Rattle.ic_link_ops.specs.declared.errors.AlreadyLinked.{AlreadyLinked}
 use Rattle.ic_link_ops.specs.declared.side.Side.{Side}
 use Rattle.ic_link_ops.specs.declared.side.Side.TheVariants.{Left, Right}
 use Rattle.ic_link_ops.specs.Sequences.{Cut, join}
@@ -10,7 +10,9 @@ use Rattle.ic_link_ops.specs.LinkSteps.{LinkStep, acquires}
 use Rattle.ic_link_ops.specs.Edits.{Inserts}
 use Rattle.ic_link_ops.specs.EditsAt.{InsertsBeside}
 use Rattle.ic_link_ops.specs.Positions.{Site, ShowsAt, Stands}
-use Rattle.ic_link_ops.proofs.Positions.{gap_there, inserts_after, inserts_before}
+use Rattle.ic_link_ops.proofs.Positions.{gap_there}
+use Rattle.ic_cursors.specs.Answers.{inserted}
+use Rattle.ic_cursors.proofs.Placed.{put_after, put_before}
 use Rattle.ic_rbtree.specs.Sides.{IsBeside}
 
 module _ {L E H : Type 0} {Shows : Table E → H → List Place → Type 0} {table : L → Table E} where
@@ -20,9 +22,9 @@ module _ {L E H : Type 0} {Shows : Table E → H → List Place → Type 0} {tab
   gap_beside Right stands = (stands.gap, stands.shown, stands.after)
 
   pub inserts_beside : (d : Side) {Refused : L → L → Place → Type 0} → ((a b : L) (q : Place) → Refused a b q → table b ≡ table a) → {old new : Site L H} (p : Place)
-      → Stands Shows table old → new.position ≡ old.position → {T : Type 0} {Does : L → L → List LinkStep → Type 0} (r : Result Unit (AlreadyLinked T))
-      → OnOk r (Does old.links new.links (acquires p ∷ [])) → OnErr r (Refused old.links new.links p) → IfErr r (λ refused. (refused.0 ≡ p) × (new.head ≡ old.head))
-      → ((gap : Cut) → ShowsAt Shows table old (join gap) → IsBeside d gap old.position → OnOk r (Inserts Shows (table old.links) (table new.links) new.head gap p))
-      → InsertsBeside Shows table Does Refused (IsBeside d) old p r new
-  inserts_beside Left keeps p stands position r acquired refused unchanged inserted = inserts_before keeps p stands position r acquired refused unchanged inserted
-  inserts_beside Right keeps p stands position r acquired refused unchanged inserted = inserts_after keeps p stands position r acquired refused unchanged inserted
+      → Stands Shows table old → new.position ≡ old.position → {T : Type 0} {Does : L → L → List LinkStep → Type 0} (b : Bool)
+      → OnTrue b (Does old.links new.links (acquires p ∷ [])) → OnFalse b (Refused old.links new.links p) → OnFalse b (new.head ≡ old.head)
+      → ((gap : Cut) → ShowsAt Shows table old (join gap) → IsBeside d gap old.position → OnTrue b (Inserts Shows (table old.links) (table new.links) new.head gap p))
+      → InsertsBeside Shows table Does Refused (IsBeside d) old p (inserted {T = T} p b) new
+  inserts_beside Left keeps p stands position b acquired refused unchanged puts = put_before keeps p stands position b acquired refused unchanged puts
+  inserts_beside Right keeps p stands position b acquired refused unchanged puts = put_after keeps p stands position b acquired refused unchanged puts

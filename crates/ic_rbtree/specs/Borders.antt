@@ -1,18 +1,14 @@
 -- Where a key stands in a sequence of members.
-use Rattle.std.specs.Prelude.{◌≡◌, ◌≢◌, Bool, true, false, cond, Option, Some, None, List, [], ◌∷◌, ◌++◌}
+use Rattle.std.specs.Prelude.{◌≡◌, ◌≢◌, Bool, cond, Option, Some, None, List, [], ◌∷◌, ◌++◌}
 use Rattle.std.specs.List.{AllByRecursion}
 use Rattle.std.specs.declared.cmp.Ordering.{Ordering}
 use Rattle.std.specs.declared.cmp.Ordering.TheVariants.{Less, Equal, Greater}
-use Rattle.std.specs.Ordering.{is_eq, is_lt, is_le}
+use Rattle.std.specs.Ordering.{is_eq, is_le}
 use Rattle.ic_unsafe_ref.specs.declared.place.Place.{Place}
 use Rattle.ic_rbtree.specs.declared.key_adapter.Bound.{Bound}
 use Rattle.ic_rbtree.specs.Comparing.{meets_lower, is_beyond}
-use Rattle.ic_link_ops.specs.Sequences.{Cut, join, first, last, IsAfter, IsBefore}
-
--- A BORDER of a test: the member in front of the gap, if there is one, fails it, and the one behind the gap, if there is one, passes it
-pub record IsBorder (test : Place → Bool) (gap : Cut) : Type 0 where
-  pub fails : (q : Place) → last gap.front ≡ Some q → test q ≡ false
-  pub passes : (q : Place) → first gap.back ≡ Some q → test q ≡ true
+use Rattle.ic_link_ops.specs.Sequences.{Cut, join, first, IsAfter, IsBefore}
+pub use Rattle.ic_cursors.specs.Ordered.{IsBorder, less_at}
 
 -- A LOWER BORDER of a bound: a member that meets it, and whose predecessor, if any, doesn't; or null, and the last member, if any, doesn't
 pub record IsLowerBorder (bound : Bound (Place → Ordering)) (s : List Place) (position : Option Place) : Type 0 where
@@ -40,9 +36,6 @@ module _ (at : Place → Ordering) where
 
   abbrev pub at_most_at : Place → Bool
   at_most_at p = is_le (at p)
-
-  abbrev pub less_at : Place → Bool
-  less_at p = is_lt (at p)
 
   -- FOUND: at a gap with no member right in front that is not less than what is searched, and none right behind that is, the member
   -- behind it, if that is equal

@@ -10,27 +10,28 @@ use Rattle.ic_link_ops.specs.Positions.{Stands}
 use Rattle.ic_link_ops.specs.Sequences.{Cut, join}
 use Rattle.ic_link_ops.specs.Tables.{Table}
 use Rattle.ic_link_ops.specs.RedBlackTree.{Node, Shows}
-use Rattle.ic_rbtree.specs.declared.cursor_mut.CursorMut.{CursorMut}
 use Rattle.ic_rbtree.specs.declared.entry.Entry.{Entry}
 use Rattle.ic_rbtree.specs.declared.entry.Entry.TheVariants.{Occupied, Vacant}
 use Rattle.ic_rbtree.specs.declared.entry.InsertCursor.{InsertCursor}
 use Rattle.ic_rbtree.specs.declared.tree.RBTree.{RBTree}
 use Rattle.ic_rbtree.specs.Borders.{IsBorder, at_most_at, less_at}
 use Rattle.ic_rbtree.specs.CursorMut as editing
+use Rattle.ic_rbtree.specs.CursorMut.{CursorMut}
 use Rattle.ic_rbtree.specs.Insertion.{IsHole}
 use Rattle.ic_rbtree.specs.Ordered.{WasRefused}
 use Rattle.ic_rbtree.specs.Tree.{root_of}
 
-module _ {A L : Type 0} where
+module _ {A L V K : Type 0} where
   -- what holds of the cursor, if the entry is occupied, and of the gap, if it is vacant
-  abbrev pub IfOccupied : Entry A L → (CursorMut A L → Type 0) → Type 0
+  abbrev pub IfOccupied : Entry A L V K → (CursorMut A L V → Type 0) → Type 0
   IfOccupied (Occupied c) P = P c
   IfOccupied (Vacant v) P = ⊤
 
-  abbrev pub IfVacant : Entry A L → (InsertCursor A L → Type 0) → Type 0
+  abbrev pub IfVacant : Entry A L V K → (InsertCursor A L → Type 0) → Type 0
   IfVacant (Occupied c) P = ⊤
   IfVacant (Vacant v) P = P v
 
+module _ {A L : Type 0} where
   -- the tree and the table that it edits
   abbrev pub tree_of : InsertCursor A L → RBTree A
   tree_of v = v.tree.now
@@ -62,7 +63,7 @@ module _ {A L : Type 0} where
 
   -- THE OBJECT IS INSERTED at the gap, and the cursor is on it; or its link is refused, and it comes back
   module _ {E T : Type 0} (node : E → Node) (table : L → Table E) (Does : L → L → List LinkStep → Type 0) (Refused : L → L → Place → Type 0) where
-    pub record InsertsInto (v : InsertCursor A L) (object : Place) (result : Result (CursorMut A L) (AlreadyLinked T)) : Type 0 where
+    pub record InsertsInto (v : InsertCursor A L) (object : Place) (result : Result (CursorMut A L T) (AlreadyLinked T)) : Type 0 where
       pub inserted : (gap : Cut) → Shows node (table (links_of v)) (root_of (tree_of v)) (join gap) → IsVacantAt node (table (links_of v)) v gap
           → IfOk result (λ c. Inserts (Shows node) (table (links_of v)) (table (editing.links_of c)) (root_of (editing.tree_of c)) gap object)
       pub acquired : IfOk result (λ c. Does (links_of v) (editing.links_of c) (acquires object ∷ []))

@@ -48,11 +48,7 @@ impl<A: KeyAdapter> RBTree<A> {
         ensures looks { (s : List Place) → Shows L.node (L.table links.now) (root_of self.now) s
             → LooksWithin P.order P.count bound.old bound.new s }
     {
-        Cursor {
-            tree: self,
-            links,
-            current: self.lower(links, objects, bound),
-        }
+        Cursor::new(self, links, self.lower(links, objects, bound))
     }
 
     /// A cursor on the first member whose key meets the bound, null if there is none: `lower_bound_by` with a `KeyProbe`.
@@ -90,11 +86,7 @@ impl<A: KeyAdapter> RBTree<A> {
         ensures stands { Stands (Shows L.node) L.table (editing.site_of result) }
     {
         let current = self.lower(&*links, objects, &mut probe_within(self.adapter, bound));
-        CursorMut {
-            tree: self,
-            links,
-            current,
-        }
+        CursorMut::new(self, links, current)
     }
 
     /// A cursor that keeps the tree, on the first member whose key meets the bound, null if there is none. As `lower_bound`.
@@ -113,10 +105,7 @@ impl<A: KeyAdapter> RBTree<A> {
         ensures stands { Stands (Shows L.node) L.table (owning.site_of links.now result) }
     {
         let current = self.lower(links, objects, &mut probe_within(self.adapter, bound));
-        CursorOwning {
-            tree: self,
-            current,
-        }
+        CursorOwning::new(self, current)
     }
 
     /// A cursor on the last member that meets the bound, null if there is none.
@@ -141,11 +130,7 @@ impl<A: KeyAdapter> RBTree<A> {
         ensures looks { (s : List Place) → Shows L.node (L.table links.now) (root_of self.now) s
             → LooksWithin P.order P.count bound.old bound.new s }
     {
-        Cursor {
-            tree: self,
-            links,
-            current: self.upper(links, objects, bound),
-        }
+        Cursor::new(self, links, self.upper(links, objects, bound))
     }
 
     /// A cursor on the last member whose key meets the bound, null if there is none: `upper_bound_by` with a `KeyProbe`.
@@ -183,11 +168,7 @@ impl<A: KeyAdapter> RBTree<A> {
         ensures stands { Stands (Shows L.node) L.table (editing.site_of result) }
     {
         let current = self.upper(&*links, objects, &mut probe_within(self.adapter, bound));
-        CursorMut {
-            tree: self,
-            links,
-            current,
-        }
+        CursorMut::new(self, links, current)
     }
 
     /// A cursor that keeps the tree, on the last member whose key meets the bound, null if there is none. As `upper_bound`.
@@ -206,9 +187,6 @@ impl<A: KeyAdapter> RBTree<A> {
         ensures stands { Stands (Shows L.node) L.table (owning.site_of links.now result) }
     {
         let current = self.upper(links, objects, &mut probe_within(self.adapter, bound));
-        CursorOwning {
-            tree: self,
-            current,
-        }
+        CursorOwning::new(self, current)
     }
 }

@@ -1,31 +1,34 @@
-//! Moves and edits at a position in a tree, once for all cursors.
+//! What a tree gives the cursors: moves and edits at a position, each O(log n), and a replacement, O(1).
 //!
 //! "After" is the gap behind the position's member, or the first gap at null; "before" is the gap in front of it, or
-//! the last gap at null. An edit looks at no key.
+//! the last gap at null. An edit looks at no key. What each does, the traits say.
 
-ghost use Rattle.std.specs.Prelude.{◌≡◌, Option, List};
+ghost use Rattle.std.specs.Prelude.{◌≡◌, None, Option, List};
 ghost use Rattle.ic_unsafe_ref.specs.declared.place.Place.{Place};
-ghost use Rattle.ic_link_ops.specs.Sequences.{IsAfter, IsBefore, first, last};
+ghost use Rattle.ic_cursors.specs.Answers as answer;
+ghost use Rattle.ic_link_ops.specs.Sequences.{first, last};
 ghost use Rattle.ic_link_ops.specs.Tables.{IsCovered};
-ghost use Rattle.ic_link_ops.specs.RedBlackTree.{Shows, ShowsSome};
-ghost use Rattle.ic_link_ops.specs.Positions.{site, Stands, MovesOn, MovesBack};
-ghost use Rattle.ic_link_ops.specs.EditsAt.{InsertsBeside, RemovesThere, ReplacesThere};
+ghost use Rattle.ic_link_ops.specs.RedBlackTree as red_black;
+ghost use Rattle.ic_link_ops.specs.RedBlackTree.{ShowsSome};
+ghost use Rattle.ic_link_ops.specs.Positions.{site, Stands};
+ghost use Rattle.ic_link_ops.specs.EditsAt.{InsertsBeside};
 ghost use Rattle.ic_rbtree.specs.Sides.{IsBeside};
 ghost use Rattle.ic_rbtree.specs.Tree.{root_of, adapter_of};
 
 use crate::linking::{insert, remove, replace};
 use crate::steps::{end_on, hole_beside, step};
 use crate::{KeyAdapter, RBTree};
+use ic_cursors::{Collection, Kind, TwoWay};
 use ic_link_ops::rbtree::RBTreeOps;
-use ic_link_ops::{AlreadyLinked, End, LinkOps, ReplaceError, Side};
-use ic_unsafe_ref::{Place, UnsafeRef};
+use ic_link_ops::{End, LinkOps, Side};
+use ic_unsafe_ref::Place;
 
 impl<A: KeyAdapter> RBTree<A> {
     // The first member.
     #[inline]
     pub(crate) fn first<L: RBTreeOps>(&self, links: &L) -> Option<Place>
         requires shown { ShowsSome L.node (L.table links.now) (root_of self.now) }
-        ensures { (s : List Place) → Shows L.node (L.table links.now) (root_of self.now) s → result ≡ first s }
+        ensures { (s : List Place) → red_black.Shows L.node (L.table links.now) (root_of self.now) s → result ≡ first s }
     {
         end_on(links, self.root.get(), Side::Left)
     }
@@ -34,91 +37,94 @@ impl<A: KeyAdapter> RBTree<A> {
     #[inline]
     pub(crate) fn last<L: RBTreeOps>(&self, links: &L) -> Option<Place>
         requires shown { ShowsSome L.node (L.table links.now) (root_of self.now) }
-        ensures { (s : List Place) → Shows L.node (L.table links.now) (root_of self.now) s → result ≡ last s }
+        ensures { (s : List Place) → red_black.Shows L.node (L.table links.now) (root_of self.now) s → result ≡ last s }
     {
         end_on(links, self.root.get(), Side::Right)
     }
 
-    // Where the next move leads: the gap after the position is then before it.
+    // Puts the object into the gap beside the position, and returns whether its link was acquired.
     #[inline]
-    pub(crate) fn next_of<L: RBTreeOps>(&self, links: &L, current: Option<Place>) -> Option<Place>
-        requires stands { Stands (Shows L.node) L.table (site links.now (root_of self.now) current) }
-        ensures { MovesOn (Shows L.node) L.table (site links.now (root_of self.now) current) result }
-    {
-        step(links, self.root.get(), current, Side::Right)
-    }
-
-    // Where the move back leads: the gap before the position is then after it.
-    #[inline]
-    pub(crate) fn prev_of<L: RBTreeOps>(&self, links: &L, current: Option<Place>) -> Option<Place>
-        requires stands { Stands (Shows L.node) L.table (site links.now (root_of self.now) current) }
-        ensures { MovesBack (Shows L.node) L.table (site links.now (root_of self.now) current) result }
-    {
-        step(links, self.root.get(), current, Side::Left)
-    }
-
-    // Puts the object into the gap beside the position, unless its link is refused.
-    #[inline]
-    pub(crate) fn insert_beside<L: RBTreeOps>(
+    fn insert_beside<L: RBTreeOps>(
         &mut self,
         links: &mut L,
-        current: Option<Place>,
+        at: &End,
         side: Side,
-        object: UnsafeRef<A::Value>,
-    ) -> Result<(), AlreadyLinked<A::Value>>
+        object: Place,
+    ) -> bool
         requires covered { IsCovered (L.table links.old) object }
-        requires stands { Stands (Shows L.node) L.table (site links.old (root_of self.old) current) }
-        ensures inserted { InsertsBeside (Shows L.node) L.table L.Does L.Refused (IsBeside side)
-            (site links.old (root_of self.old) current) object result (site links.new (root_of self.new) current) }
+        requires stands { Stands (red_black.Shows L.node) L.table (site links.old (root_of self.old) at.now) }
+        ensures inserted { InsertsBeside (red_black.Shows L.node) L.table L.Does L.Refused (IsBeside side)
+            (site links.old (root_of self.old) at.now) object (answer.inserted {T = A.Value} object result) (site links.new (root_of self.new) at.now) }
         ensures adapter { adapter_of self.new ≡ adapter_of self.old }
     {
-        let (parent, below) = hole_beside(&*links, self.root.get(), current, side);
-        if !insert(links, &mut self.root, parent, below, object.place()) {
-            return Err(AlreadyLinked(object));
-        }
-        Ok(())
+        let (parent, below) = hole_beside(&*links, self.root.get(), at.get(), side);
+        insert(links, &mut self.root, parent, below, object)
+    }
+}
+
+impl<A: KeyAdapter> Collection for RBTree<A> {
+    type Object = A::Value;
+
+    type Position = End;
+
+    type Head = End;
+
+    ghost head_of = { root_of };
+
+    ghost Keeps = { λ old new. adapter_of new ≡ adapter_of old };
+
+    ghost null_of = { λ tree. None };
+
+    #[inline]
+    fn null_position(&self) -> End {
+        End::of(None)
+    }
+}
+
+impl<A: KeyAdapter, L: RBTreeOps> Kind<L> for RBTree<A> {
+    ghost Shows = { red_black.Shows L.node };
+
+    ghost StandsAt = { λ links tree at. Stands (red_black.Shows L.node) L.table (site links (root_of tree) at) };
+
+    #[inline]
+    fn next_of(&self, links: &L, at: &End) -> End {
+        End::of(step(links, self.root.get(), at.get(), Side::Right))
     }
 
-    // Removes the member at the position, which goes on to the one behind it.
     #[inline]
-    pub(crate) fn remove_at<L: RBTreeOps>(
-        &mut self,
-        links: &mut L,
-        current: &mut End,
-    ) -> Option<UnsafeRef<A::Value>>
-        requires stands { Stands (Shows L.node) L.table (site links.old (root_of self.old) current.old) }
-        ensures removed { RemovesThere (Shows L.node) L.table L.Does
-            (site links.old (root_of self.old) current.old) result (site links.new (root_of self.new) current.new) }
-        ensures adapter { adapter_of self.new ≡ adapter_of self.old }
-    {
-        let place = current.get()?;
-        *current = End::of(self.next_of(&*links, Some(place)));
+    fn insert_after_at(&mut self, links: &mut L, at: &mut End, object: Place) -> bool {
+        self.insert_beside(links, at, Side::Right, object)
+    }
+}
+
+impl<A: KeyAdapter, L: RBTreeOps> TwoWay<L> for RBTree<A> {
+    #[inline]
+    fn prev_of(&self, links: &L, at: &End) -> End {
+        End::of(step(links, self.root.get(), at.get(), Side::Left))
+    }
+
+    #[inline]
+    fn insert_before_at(&mut self, links: &mut L, at: &mut End, object: Place) -> bool {
+        self.insert_beside(links, at, Side::Left, object)
+    }
+
+    #[inline]
+    fn remove_at(&mut self, links: &mut L, at: &mut End) -> Option<Place> {
+        let place = at.get()?;
+        *at = self.next_of(&*links, at);
         remove(links, &mut self.root, place);
-        Some(UnsafeRef::new(place))
+        Some(place)
     }
 
-    // Replaces the member at the position, which is on the object then.
     #[inline]
-    pub(crate) fn replace_with<L: RBTreeOps>(
-        &mut self,
-        links: &mut L,
-        current: &mut End,
-        object: UnsafeRef<A::Value>,
-    ) -> Result<UnsafeRef<A::Value>, ReplaceError<A::Value>>
-        requires covered { IsCovered (L.table links.old) object }
-        requires stands { Stands (Shows L.node) L.table (site links.old (root_of self.old) current.old) }
-        ensures replaced { ReplacesThere (Shows L.node) L.table L.Does L.Refused
-            (site links.old (root_of self.old) current.old) object result (site links.new (root_of self.new) current.new) }
-        ensures adapter { adapter_of self.new ≡ adapter_of self.old }
-    {
-        let Some(out) = current.get() else {
-            return Err(ReplaceError::Null(object));
+    fn replace_at(&mut self, links: &mut L, at: &mut End, object: Place) -> bool {
+        let Some(out) = at.get() else {
+            return false;
         };
-        let place = object.place();
-        if !replace(links, &mut self.root, out, place) {
-            return Err(ReplaceError::AlreadyLinked(object));
+        if !replace(links, &mut self.root, out, object) {
+            return false;
         }
-        *current = End::of(Some(place));
-        Ok(UnsafeRef::new(out))
+        *at = End::of(Some(object));
+        true
     }
 }

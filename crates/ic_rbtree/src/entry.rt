@@ -48,7 +48,7 @@ impl<A, L> Drop for InsertCursor<'_, A, L> {
 
 /// What `entry` finds: a cursor on the first member with the key, or the gap where it would stand.
 #[derive(Drop)]
-pub enum Entry<'a, A, L> {
+pub enum Entry<'a, A: KeyAdapter, L> {
     /// A member has the key.
     Occupied(CursorMut<'a, A, L>),
     /// No member that was looked at has it.
@@ -81,11 +81,7 @@ impl<A: KeyAdapter> RBTree<A> {
         let descent = descend(&*links, self.root.get(), objects, probe, Side::Left);
         if descent.equal {
             let current = End::of(descent.back.get());
-            return Entry::Occupied(CursorMut {
-                tree: self,
-                links,
-                current,
-            });
+            return Entry::Occupied(CursorMut::new(self, links, current));
         }
         let parent = End::of(descent.parent.get());
         Entry::Vacant(InsertCursor {
@@ -142,11 +138,7 @@ impl<'a, A: KeyAdapter, L: RBTreeOps> InsertCursor<'a, A, L> {
             return Err(AlreadyLinked(object));
         }
         let current = End::of(Some(object.place()));
-        Ok(CursorMut {
-            tree,
-            links,
-            current,
-        })
+        Ok(CursorMut::new(tree, links, current))
     }
 }
 

@@ -46,11 +46,7 @@ impl<A: KeyAdapter> RBTree<A> {
         ensures looks { (s : List Place) → Shows L.node (L.table links.now) (root_of self.now) s
             → Looks P.order P.count probe.old probe.new s }
     {
-        Cursor {
-            tree: self,
-            links,
-            current: self.first_equal(links, objects, probe),
-        }
+        Cursor::new(self, links, self.first_equal(links, objects, probe))
     }
 
     /// A cursor on the first member of this key, null if there is none: `find_by` with a `KeyProbe`. O(log n).
@@ -87,11 +83,7 @@ impl<A: KeyAdapter> RBTree<A> {
         ensures stands { Stands (Shows L.node) L.table (editing.site_of result) }
     {
         let current = self.first_equal(&*links, objects, &mut KeyProbe::new(self.adapter, key));
-        CursorMut {
-            tree: self,
-            links,
-            current,
-        }
+        CursorMut::new(self, links, current)
     }
 
     /// A cursor that keeps the tree, on the first member of this key, null if there is none. As `find`.
@@ -110,9 +102,6 @@ impl<A: KeyAdapter> RBTree<A> {
         ensures stands { Stands (Shows L.node) L.table (owning.site_of links.now result) }
     {
         let current = self.first_equal(links, objects, &mut KeyProbe::new(self.adapter, key));
-        CursorOwning {
-            tree: self,
-            current,
-        }
+        CursorOwning::new(self, current)
     }
 }

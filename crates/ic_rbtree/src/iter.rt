@@ -16,8 +16,9 @@ ghost use Rattle.ic_rbtree.specs.Tree.{root_of};
 
 use crate::readings::is_at;
 use crate::{KeyAdapter, RBTree};
-use ic_link_ops::LinkOps;
+use ic_cursors::{Kind, TwoWay};
 use ic_link_ops::rbtree::RBTreeOps;
+use ic_link_ops::{End, LinkOps};
 use ic_unsafe_ref::{Objects, Place};
 use std::alloc::{AllocError, Allocator, Global};
 
@@ -67,7 +68,7 @@ impl<'a, A: KeyAdapter, L: RBTreeOps, B: Allocator> Iterator for Iter<'a, A, L, 
             self.head = None;
             self.tail = None;
         } else {
-            self.head = self.tree.next_of(self.links, Some(place));
+            self.head = self.tree.next_of(self.links, &End::of(Some(place))).get();
         }
         let objects: &'a Objects<A::Value, B> = self.objects;
         objects.get(place)
@@ -88,7 +89,7 @@ impl<'a, A: KeyAdapter, L: RBTreeOps, B: Allocator> DoubleEndedIterator for Iter
             self.head = None;
             self.tail = None;
         } else {
-            self.tail = self.tree.prev_of(self.links, Some(place));
+            self.tail = self.tree.prev_of(self.links, &End::of(Some(place))).get();
         }
         let objects: &'a Objects<A::Value, B> = self.objects;
         objects.get(place)

@@ -109,9 +109,10 @@ impl Position {
 }
 
 impl<T> XorLinkedList<T> {
-    // The position behind a gap, whose two sides are told: what stands behind it is read, or is the head at null.
+    /// The position behind a gap, whose two sides are told: `prev` is the member in front of it, `current` the one behind it, which the
+    /// position is on, and `None` is null. What stands behind it is read, or is the head at null. O(1).
     #[inline]
-    pub(crate) fn position_behind<L: XorLinkedListOps>(
+    pub fn position_behind<L: XorLinkedListOps>(
         &self,
         links: &L,
         prev: Option<Place>,

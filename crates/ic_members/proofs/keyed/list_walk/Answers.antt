@@ -17,7 +17,7 @@ move_next-requires g c = record { stands = lists_stands c.loop-places.invariant 
 pub loop-places-preserved : goal.loop-places-preserved
 loop-places-preserved g c =
     let e = c.move_next.ensures in
-    rw (e.tree, e.links)
+    rw (e.list, e.links)
     (lists_next c.loop-places.invariant c.in-Some-next.ensures.steps.0 (sym c.get_ptr-in-Some-next.ensures ∙ c.unwrap.ensures) c.in_ok-push.ensures.items e.moved.leads)
 
 pub returns : goal.returns

@@ -1,8 +1,7 @@
-use Rattle.std.proofs.Common.{rules, refl, sym, ap, ◌∙◌}
-use Rattle.ic_link_ops.proofs.Positions.{member_there}
+use Rattle.std.proofs.Common.{rules, refl, ap, ◌∙◌}
 use Rattle.ic_rbtree.specs.Tree.{adapter_of}
 use Rattle.ic_fields.specs.TreeTables.{look}
-use Rattle.ic_members.proofs.KeyedEdits.{member_left, inserts_left, links_left, adapter_left}
+use Rattle.ic_members.proofs.KeyedEdits.{inserts_left, links_left, adapter_left}
 use Rattle.ic_members.proofs.keyed.put_at_key.Goals as goal
 
 pub unwrap-requires : goal.unwrap-requires
@@ -21,13 +20,6 @@ put_into-requires-clause-vacant g c =
     let v = c.in-Vacant.ensures.vacant p.members p.shown in
     let b = c.in-Vacant.ensures.vacant_borrows in
     (v.gap, rw (b.3, b.2, v.same) p.shown, rw b.3 v.is_at)
-
-pub returns-in-Occupied-clause-member : goal.returns-in-Occupied-clause-member
-returns-in-Occupied-clause-member g c =
-    member_left refl (member_there c.in-Occupied.ensures.stands (sym c.get_ptr.ensures ∙ c.unwrap.ensures)) (search rules) (search rules)
-
-pub returns-else-linked-clause-member : goal.returns-else-linked-clause-member
-returns-else-linked-clause-member g c = member_left refl c.put_into.ensures.member (search rules) (search rules)
 
 pub returns-else-linked-clause-put : goal.returns-else-linked-clause-put
 returns-else-linked-clause-put g c s shown new =

@@ -25,4 +25,4 @@ returns-in-TwoWay-Tree g c gap cut after before =
     let is = rw c.in-TwoWay-Tree.is at c.in-TwoWay-Tree.field-0-is in
     let held = rw (c.in-Tree.is, c.in-TwoWay-Tree.is, is) at c.requires.held in
     let e = c.cursor_from_ptr-in-TwoWay-Tree.ensures in
-    c.get_ptr-in-TwoWay-Tree.ensures ∙ leads_behind c.peek_next-in-TwoWay-Tree.ensures.moved (e.position ∙ ap Some c.new-object.ensures) (rw (e.links, e.tree, c.tree.ensures) held.shown) gap (rw (c.in-Tree.is, c.in-TwoWay-Tree.is, is) at cut) before
+    c.get_ptr-in-TwoWay-Tree.ensures ∙ leads_behind c.peek_next-in-TwoWay-Tree.ensures.moved (e.position ∙ ap Some c.new-object.ensures) (rw (e.links, e.tree, c.list-in-TwoWay-Tree.ensures) held.shown) gap (rw (c.in-Tree.is, c.in-TwoWay-Tree.is, is) at cut) before

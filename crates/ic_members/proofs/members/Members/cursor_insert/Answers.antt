@@ -1,18 +1,18 @@
-use Rattle.std.proofs.Common.{sym}
-use Rattle.ic_members.proofs.AllKinds.{lawful}
-use Rattle.ic_members.proofs.KeyedEdits.{held_after, cursor_there, puts_and_moves}
+use Rattle.std.proofs.Common.{refl, sym, ap, ◌∙◌}
+use Rattle.std.specs.Option.{option_copied}
+use Rattle.ic_rbtree.specs.Comparing.{compared}
+use Rattle.ic_rbtree.specs.Tree.{adapter_of}
+use Rattle.ic_rbtree.proofs.InOrder.{own_is}
+use Rattle.ic_members.proofs.KeyedEdits.{puts_in_order}
 use Rattle.ic_members.proofs.members.Members.cursor_insert.Goals as goal
 
-pub stand_at-requires-clause-held : goal.stand_at-requires-clause-held
-stand_at-requires-clause-held g c = held_after (lawful c.put_in_order-looks.new.links) c.put_in_order-looks.ensures.inserted.2.1
-
-pub stand_at-requires-clause-member : goal.stand_at-requires-clause-member
-stand_at-requires-clause-member g c =
-    let put = c.put_in_order-looks.ensures.inserted in
-    cursor_there (lawful c.put_in_order-looks.new.links) put.2.1 c.cursor-position.result (sym c.cursor-position.ensures) put.1 c.requires.held
-
-pub returns-clause-inserted : goal.returns-clause-inserted
-returns-clause-inserted g c =
-    let put = c.put_in_order-looks.ensures.inserted in
-    let moved = rw c.cursor-position.ensures at c.stand_at.ensures in
-    (put.0, put.1, (put.2.0, puts_and_moves (lawful c.put_in_order-looks.new.links) put.2.1 moved))
+pub returns-in-TwoWay-Tree-clause-inserted : goal.returns-in-TwoWay-Tree-clause-inserted
+returns-in-TwoWay-Tree-clause-inserted g c =
+    let e = c.put_in_order.ensures in
+    let list = c.list_mut.ensures.list in
+    let held = rw (c.in-Tree.is, c.in-TwoWay-Tree.is, c.in-TwoWay-Tree.field-0-is) at c.requires.held in
+    let order =
+    own_is g.A.Key.Ord.cmp g.A.KeyAdapter.key_of c.args.objects.now c.new-probe.ensures.adapter (c.new-probe.ensures.key ∙ c.get_key.ensures) refl
+    (sym c.get.ensures ∙ ap option_copied c.unwrap-value.ensures) in
+    rw (c.in-Tree.is, c.in-TwoWay-Tree.is, c.in-TwoWay-Tree.field-0-is)
+    (puts_in_order (ap (λ order. compared order c.args.objects.now) order) held (λ s shown. e.inserted s (rw list shown)) e.linked (e.adapter ∙ ap adapter_of list) refl refl)

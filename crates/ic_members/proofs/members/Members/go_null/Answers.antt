@@ -24,4 +24,4 @@ pub returns-in-Tree-clause-kept : goal.returns-in-Tree-clause-kept
 returns-in-Tree-clause-kept g c t s kept =
     let k = rw c.in-Tree.is at kept in
     let e = c.go_null-in-Tree.ensures in
-    record { carried = k.carried; shown = rw e.tree k.shown; stands = (at_front s, refl, e.null) }
+    record { carried = k.carried; shown = rw e.list k.shown; stands = (at_front s, refl, e.null) }

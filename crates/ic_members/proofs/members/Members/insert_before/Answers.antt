@@ -26,4 +26,4 @@ returns-in-TwoWay-Tree g c =
     let unlinked = rw (c.in-TwoWay-Tree.is, c.in-TwoWay-Tree.field-0-is) at c.requires.unlinked in
     let e = c.insert_before-in-TwoWay-Tree.ensures in
     rw (c.in-Tree.is, c.in-TwoWay-Tree.is, c.in-TwoWay-Tree.field-0-is, ← c.new-object.ensures)
-    (puts e.inserted (tree_turned e.adapter e.inserted.stands) held (gap_before_cursor _ held) (rw c.new-object.ensures unlinked))
+    (puts e.inserted (tree_turned e.rest e.inserted.stands) held (gap_before_cursor _ held) (rw c.new-object.ensures unlinked))

@@ -31,6 +31,6 @@ returns-in-TwoWay-Tree g c =
     let inner = rw c.in-TwoWay-Tree.is at c.in-TwoWay-Tree.field-0-is in
     let held = rw (c.in-Tree.is, c.in-TwoWay-Tree.is, inner) at c.requires.held in
     let e = c.move_next-in-TwoWay-Tree.ensures in
-    let root = ap root_of e.tree in
+    let root = ap root_of e.list in
     rw (c.in-Tree.is, c.in-TwoWay-Tree.is, inner)
-    (goes_on e.moved (tree_turned (ap adapter_of e.tree) (with_head root e.moved.stands)) root held (gap_after_cursor _ held))
+    (goes_on e.moved (tree_turned (ap adapter_of e.list) (with_head root e.moved.stands)) root held (gap_after_cursor _ held))

@@ -25,6 +25,6 @@ returns-in-TwoWay-Tree g c =
     let inner = rw c.in-TwoWay-Tree.is at c.in-TwoWay-Tree.field-0-is in
     let held = rw (c.in-Tree.is, c.in-TwoWay-Tree.is, inner) at c.requires.held in
     let e = c.move_prev-in-TwoWay-Tree.ensures in
-    let root = ap root_of e.tree in
+    let root = ap root_of e.list in
     rw (c.in-Tree.is, c.in-TwoWay-Tree.is, inner)
-    (goes_back e.moved (tree_turned (ap adapter_of e.tree) (with_head root e.moved.stands)) root held (gap_before_cursor _ held))
+    (goes_back e.moved (tree_turned (ap adapter_of e.list) (with_head root e.moved.stands)) root held (gap_before_cursor _ held))

@@ -24,4 +24,4 @@ returns-in-TwoWay-Tree-clause-swapped g c =
     let held = rw (c.in-Tree.is, c.in-TwoWay-Tree.is, c.in-TwoWay-Tree.field-0-is) at c.requires.held in
     let e = c.replace_with-in-TwoWay-Tree.ensures in
     rw (c.in-Tree.is, c.in-TwoWay-Tree.is, c.in-TwoWay-Tree.field-0-is, c.place_of-in-TwoWay-Tree.ensures, c.ok-in-TwoWay-Tree.ensures.value, ← c.new-object.ensures)
-    (swaps e.replaced (tree_turned e.adapter e.replaced.stands) held (gap_before_cursor _ held))
+    (swaps e.replaced (tree_turned e.rest e.replaced.stands) held (gap_before_cursor _ held))

@@ -1,37 +1,37 @@
-use Rattle.std.proofs.Common.{◌∙◌, Some, ap}
-use Rattle.ic_linked_list.specs.CursorOwning as doubly_cursor
-use Rattle.ic_singly_linked_list.specs.CursorOwning as singly_cursor
-use Rattle.ic_xor_linked_list.specs.CursorOwning as xor_cursor
-use Rattle.ic_rbtree.specs.CursorOwning as tree_cursor
+use Rattle.std.proofs.Common.{◌∙◌, ap}
+use Rattle.ic_link_ops.proofs.Positions.{stands_by_gap}
 use Rattle.ic_rbtree.specs.Tree.{root_of, adapter_of}
+use Rattle.ic_fields.specs.Fields.{look}
 use Rattle.ic_members.proofs.Moving.{singly_turned, doubly_turned, xor_turned, tree_turned, moves}
 use Rattle.ic_members.proofs.members.Members.stand_on.Goals as goal
 
 pub returns-in-Singly : goal.returns-in-Singly
 returns-in-Singly g c =
     let held = rw c.in-Singly.is at c.requires.held in
-    let e = c.cursor_owning_from_ptr.ensures in
-    let same = e.list ∙ c.into_inner-list.ensures ∙ ap singly_cursor.list_of c.replace.ensures.value in
-    rw c.in-Singly.is (moves (singly_turned e.stands) same held (e.position ∙ ap Some c.new-object.ensures))
+    let gap = rw c.in-Singly.is at c.requires.member in
+    let e = c.go_to.ensures in
+    let is = e.position ∙ c.of.ensures in
+    rw c.in-Singly.is (moves (singly_turned {table = λ t. t} {new = look c.args.links.now} (stands_by_gap gap.0 (rw (e.list, gap.1) held.shown) (is ∙ gap.2.0))) e.list held is)
 
-pub returns-in-TwoWay : goal.returns-in-TwoWay
-returns-in-TwoWay g c =
-    let held = rw (c.in-Doubly.is, c.in-TwoWay.is) at c.requires.held in
-    let e = c.cursor_owning_from_ptr-in-TwoWay.ensures in
-    let same = e.list ∙ c.into_inner-list-in-TwoWay.ensures ∙ ap doubly_cursor.list_of c.replace-in-TwoWay.ensures.value in
-    rw (c.in-Doubly.is, c.in-TwoWay.is) (moves (doubly_turned e.stands) same held (e.position ∙ ap Some c.new-object.ensures))
+pub returns-in-Doubly : goal.returns-in-Doubly
+returns-in-Doubly g c =
+    let held = rw c.in-Doubly.is at c.requires.held in
+    let gap = rw c.in-Doubly.is at c.requires.member in
+    let e = c.go_to-in-Doubly.ensures in
+    let is = e.position ∙ c.of-in-Doubly.ensures in
+    rw c.in-Doubly.is (moves (doubly_turned {table = λ t. t} {new = look c.args.links.now} (stands_by_gap gap.0 (rw (e.list, gap.1) held.shown) (is ∙ gap.2.0))) e.list held is)
 
 pub returns-in-Xor : goal.returns-in-Xor
 returns-in-Xor g c =
     let held = rw c.in-Xor.is at c.requires.held in
-    let e = c.cursor_owning_from_ptr_and_prev.ensures in
-    let same = e.list ∙ c.into_inner-list-in-Xor.ensures ∙ ap xor_cursor.list_of c.replace-in-Xor.ensures.value in
-    rw c.in-Xor.is (moves (xor_turned e.kept) same held (e.position ∙ ap Some c.new-object.ensures))
+    let e = c.go_to-in-Xor.ensures in
+    rw c.in-Xor.is (moves (xor_turned {table = look} {new = c.args.links.now} (rw (e.list, e.position, ← c.list.ensures) c.position_behind-at.ensures.kept)) e.list held (ap (λ at. at.current) e.position ∙ c.position_behind-at.ensures.current))
 
-pub returns-in-TwoWay-Tree : goal.returns-in-TwoWay-Tree
-returns-in-TwoWay-Tree g c =
-    let inner = rw c.in-TwoWay-Tree.is at c.in-TwoWay-Tree.field-0-is in
-    let held = rw (c.in-Tree.is, c.in-TwoWay-Tree.is, inner) at c.requires.held in
-    let e = c.cursor_owning_from_ptr-in-TwoWay-Tree.ensures in
-    let same = e.tree ∙ c.into_inner-tree.ensures ∙ ap tree_cursor.tree_of c.replace-in-TwoWay-Tree.ensures.value in
-    rw (c.in-Tree.is, c.in-TwoWay-Tree.is, inner) (moves (tree_turned (ap adapter_of same) e.stands) (ap root_of same) held (e.position ∙ ap Some c.new-object.ensures))
+pub returns-in-Tree : goal.returns-in-Tree
+returns-in-Tree g c =
+    let held = rw c.in-Tree.is at c.requires.held in
+    let gap = rw c.in-Tree.is at c.requires.member in
+    let e = c.go_to-in-Tree.ensures in
+    let is = e.position ∙ c.of-in-Tree.ensures in
+    rw c.in-Tree.is
+    (moves (tree_turned {table = λ t. t} {new = look c.args.links.now} (ap adapter_of e.list) (stands_by_gap gap.0 (rw (ap root_of e.list, gap.1) held.shown) (is ∙ gap.2.0))) (ap root_of e.list) held is)

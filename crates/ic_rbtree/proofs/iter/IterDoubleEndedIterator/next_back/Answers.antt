@@ -5,8 +5,8 @@ use Rattle.ic_rbtree.proofs.iter.IterDoubleEndedIterator.next_back.Goals as goal
 use Rattle.ic_rbtree.proofs.iter.IterDoubleEndedIterator.next_back.Goals.{then-is_at, else-is_at}
 use Rattle.ic_rbtree.proofs.iter.IterDoubleEndedIterator.next_back.Given.{Over}
 
-pub prev_of-self-requires : goal.prev_of-self-requires
-prev_of-self-requires g c = record { stands = last_stands g.L.RBTreeOps.node g.L.LinkOps.table c.args.self.now c.in_ok-place.place c.requires c.in_ok-place.was }
+pub prev_of-requires : goal.prev_of-requires
+prev_of-requires g c = record { stands = rw c.of.ensures (last_stands g.L.RBTreeOps.node g.L.LinkOps.table c.args.self.now c.in_ok-place.place c.requires c.in_ok-place.was) }
 
 -- this call is a step of the walk
 step : (g : Over) (c : goal.After-get g) → Steps g.L.RBTreeOps.node g.L.LinkOps.table c.args.self.now c.if-is_at.self (λ w. w ++ c.in_ok-place.place ∷ [])
@@ -17,7 +17,7 @@ step g c =
           (steps_last _ _ c.args.self.now c.in_ok-place.place (λ w. w ++ c.in_ok-place.place ∷ []) refl c.requires (is_end_yes _ _ (sym w.if-is_at.ensures)) c.in_ok-place.was)
       | else-is_at w ↦
           rw w.self-is
-          (steps_less _ _ c.args.self.now c.in_ok-place.place w.prev_of-self.result c.requires c.in_ok-place.was (sym w.if-is_at.ensures) w.prev_of-self.ensures)
+          (steps_less _ _ c.args.self.now c.in_ok-place.place w.get-self.result c.requires c.in_ok-place.was (sym w.if-is_at.ensures) (rw (w.get-self.ensures, ← w.of.ensures) w.prev_of.ensures.moved))
     ]
 
 pub returns-in_err-place-clause-steps : goal.returns-in_err-place-clause-steps

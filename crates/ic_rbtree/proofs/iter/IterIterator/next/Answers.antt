@@ -5,8 +5,8 @@ use Rattle.ic_rbtree.proofs.iter.IterIterator.next.Goals as goal
 use Rattle.ic_rbtree.proofs.iter.IterIterator.next.Goals.{then-is_at, else-is_at}
 use Rattle.ic_rbtree.proofs.iter.IterIterator.next.Given.{Over}
 
-pub next_of-self-requires : goal.next_of-self-requires
-next_of-self-requires g c = record { stands = first_stands g.L.RBTreeOps.node g.L.LinkOps.table c.args.self.now c.in_ok-place.place c.requires c.in_ok-place.was }
+pub next_of-requires : goal.next_of-requires
+next_of-requires g c = record { stands = rw c.of.ensures (first_stands g.L.RBTreeOps.node g.L.LinkOps.table c.args.self.now c.in_ok-place.place c.requires c.in_ok-place.was) }
 
 -- this call is a step of the walk
 step : (g : Over) (c : goal.After-get g) → Steps g.L.RBTreeOps.node g.L.LinkOps.table c.args.self.now c.if-is_at.self (λ w. c.in_ok-place.place ∷ w)
@@ -17,7 +17,7 @@ step g c =
           (steps_last _ _ c.args.self.now c.in_ok-place.place (λ w. c.in_ok-place.place ∷ w) refl c.requires c.in_ok-place.was (is_end_yes _ _ (sym w.if-is_at.ensures)))
       | else-is_at w ↦
           rw w.self-is
-          (steps_more _ _ c.args.self.now c.in_ok-place.place w.next_of-self.result c.requires c.in_ok-place.was (sym w.if-is_at.ensures) w.next_of-self.ensures)
+          (steps_more _ _ c.args.self.now c.in_ok-place.place w.get-self.result c.requires c.in_ok-place.was (sym w.if-is_at.ensures) (rw (w.get-self.ensures, ← w.of.ensures) w.next_of.ensures.moved))
     ]
 
 pub returns-in_err-place-clause-steps : goal.returns-in_err-place-clause-steps

@@ -5,10 +5,10 @@ use Rattle.ic_rbtree.proofs.tree.RBTree.entry_by.Goals as goal
 pub returns-then-descent-clause-occupied : goal.returns-then-descent-clause-occupied
 returns-then-descent-clause-occupied g c s h =
     let n = g.L.RBTreeOps.node in
-    occupies n h (ends_at_root n c.get.ensures c.descend-descent.ensures.ends h) c.if-descent.true (c.of-current.ensures ∙ c.get-then-descent.ensures)
+    occupies n h (ends_at_root n c.get.ensures c.descend-descent.ensures.ends h) c.if-descent.true (c.new.ensures.position ∙ c.of-current.ensures ∙ c.get-then-descent.ensures)
 
 pub returns-then-descent-clause-stands : goal.returns-then-descent-clause-stands
-returns-then-descent-clause-stands g c = let r = c.requires.placed in found_stands r.shown refl (returns-then-descent-clause-occupied g c r.members r.shown).0
+returns-then-descent-clause-stands g c = let r = c.requires.placed in rw (c.new.ensures.borrows.2, c.new.ensures.borrows.3) (found_stands r.shown refl (returns-then-descent-clause-occupied g c r.members r.shown).0)
 
 pub returns-clause-vacant : goal.returns-clause-vacant
 returns-clause-vacant g c s h =

@@ -5,4 +5,4 @@ use Rattle.ic_rbtree.proofs.tree.RBTree.insert_by.Goals as goal
 pub returns-clause-stands : goal.returns-clause-stands
 returns-clause-stands g c =
     let r = c.requires.placed in
-    inserted_stands (c.of-current.ensures ∙ ap (λ p. Some p) c.place-2.ensures) (rw c.place.ensures at c.if-not-insert_in_order.ensures.inserted r.members r.shown)
+    rw (c.new.ensures.borrows.2, c.new.ensures.borrows.3) (inserted_stands (c.new.ensures.position ∙ c.of-current.ensures ∙ ap (λ p. Some p) c.place-2.ensures) (rw c.place.ensures at c.if-not-insert_in_order.ensures.inserted r.members r.shown))

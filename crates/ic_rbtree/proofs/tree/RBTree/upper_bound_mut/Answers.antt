@@ -1,9 +1,8 @@
-use Rattle.std.proofs.Common.{refl}
 use Rattle.ic_rbtree.proofs.Sending.{upper_same, upper_stands}
 use Rattle.ic_rbtree.proofs.tree.RBTree.upper_bound_mut.Goals as goal
 
 pub returns-clause-stands : goal.returns-clause-stands
-returns-clause-stands g c = let r = c.requires.placed in upper_stands r.shown refl (c.upper-current.ensures.border r.members r.shown)
+returns-clause-stands g c = let r = c.requires.placed in rw (c.new.ensures.borrows.2, c.new.ensures.borrows.3) (upper_stands r.shown c.new.ensures.position (c.upper-current.ensures.border r.members r.shown))
 
 pub returns-clause-border : goal.returns-clause-border
-returns-clause-border g c s h = upper_same (c.probe_within.ensures.order c.args.objects.now) refl (c.upper-current.ensures.border s h)
+returns-clause-border g c s h = upper_same (c.probe_within.ensures.order c.args.objects.now) c.new.ensures.position (c.upper-current.ensures.border s h)

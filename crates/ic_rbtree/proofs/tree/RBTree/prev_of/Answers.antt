@@ -1,5 +1,0 @@
-use Rattle.ic_link_ops.proofs.Positions.{moves_back}
-use Rattle.ic_rbtree.proofs.tree.RBTree.prev_of.Goals as goal
-
-pub returns : goal.returns
-returns g c = moves_back c.requires.stands (λ gap shown here. c.step.ensures.leads gap (rw c.get.ensures shown) here)
