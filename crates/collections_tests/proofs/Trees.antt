@@ -47,9 +47,9 @@ module _ {A : Type 0} (links : TreeLinkOps A) {T : Type 0} (o : Objects T) (all 
       record { members = s; shown = h; placed = each_placed s covered }
 
 -- a vacant entry of a tree that is shown has a gap where it inserts. `P` and `Q`: whatever else is known of it
-module _ {A L E : Type 0} (n : E → Node) (table : L → Table E) (at : Place → Ordering) (P Q : InsertCursor A L → Type 0) (tree : RBTree A) (links : L) {s : List Place}
+module _ {A L V K E : Type 0} (n : E → Node) (table : L → Table E) (at : Place → Ordering) (P Q : InsertCursor A L → Type 0) (tree : RBTree A) (links : L) {s : List Place}
     (shown : Shows n (table links) (root_of tree) s) where
-  pub can_insert : (e : Entry A L) → IfVacant e (IsVacantFor n at (table links) s) → IfVacant e (λ v. P v × Q v × (v.tree.now ≡ tree) × (v.links.now ≡ links))
+  pub can_insert : (e : Entry A L V K) → IfVacant e (IsVacantFor n at (table links) s) → IfVacant e (λ v. P v × Q v × (v.tree.now ≡ tree) × (v.links.now ≡ links))
       → IfVacant e (CanInsert n table)
   can_insert (Occupied c) f b = tt
   can_insert (Vacant v) f b = (f.gap, rw (b.2, b.3, f.same) shown, rw b.3 f.is_at)

@@ -19,4 +19,4 @@ write_read-requires-3 g c =
     let f = c.front_owning-cursor.ensures in
     let e = c.as_cursor.ensures in
     let whole = rw (← c.take.ensures.whole) at s.shown in
-    record { stands = rw (e.links, e.tree, e.position, f.tree) (stands_first s.members whole (f.position s.members whole)) }
+    record { stands = rw (e.links, e.list, e.position, f.tree) (stands_first s.members whole (f.position s.members whole)) }

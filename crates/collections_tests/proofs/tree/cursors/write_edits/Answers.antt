@@ -23,4 +23,4 @@ pub write_read-requires : goal.write_read-requires
 write_read-requires c =
     let e = c.as_cursor.ensures in
     let m = c.move_prev.ensures in
-    record { stands = rw (e.tree, e.links, e.position, m.stays.2, m.stays.3) m.moved.stands }
+    record { stands = rw (e.list, e.links, e.position, m.stays.2, m.stays.3) m.moved.stands }
