@@ -10,8 +10,9 @@ ghost use Rattle.ic_linked_list.specs.Iter.{CanWalk};
 
 use crate::fixtures::{eight, reference};
 use crate::notes::{same, write_looks, write_object, write_places, write_values};
+use ic_laws::linked_list as laws;
 use ic_link_ops::linked_list::{Link, LinkOps};
-use ic_linked_list::{Cursor, Iter, LinkedList, laws};
+use ic_linked_list::{Cursor, Iter, LinkedList};
 use ic_unsafe_ref::{Objects, UnsafeRef};
 use std::alloc::Global;
 use std::process::Abort;

@@ -7,8 +7,9 @@ ghost use Rattle.collections_tests.specs.SinglyLists.{successor, plain_table, Pl
 
 use crate::fixtures::{eight, reference};
 use crate::notes::{same, write_object, write_places, write_values};
+use ic_laws::singly_linked_list as laws;
 use ic_link_ops::singly_linked_list::LinkOps;
-use ic_singly_linked_list::{Iter, SinglyLinkedList, laws};
+use ic_singly_linked_list::{Iter, SinglyLinkedList};
 use ic_unsafe_ref::Objects;
 use std::alloc::Global;
 use std::process::Abort;

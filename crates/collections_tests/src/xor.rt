@@ -11,11 +11,12 @@ ghost use Rattle.ic_xor_linked_list.specs.Position.{HasMemberBehind, HasMemberBe
 
 use crate::fixtures::{eight, reference};
 use crate::notes::{same, write_object, write_places, write_values};
+use ic_laws::xor_linked_list as laws;
 use ic_link_ops::rbtree::ThreeWords;
 use ic_link_ops::xor_linked_list::{LinkOps, Xor};
 use ic_link_ops::{NextWord, OneWord, PlainTable};
 use ic_unsafe_ref::{Objects, Place, UnsafeRef};
-use ic_xor_linked_list::{Iter, XorLinkedList, laws};
+use ic_xor_linked_list::{Iter, XorLinkedList};
 use std::alloc::Global;
 use std::process::Abort;
 use test_support::notes::{Answer, Text};

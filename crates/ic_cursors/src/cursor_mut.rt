@@ -10,11 +10,11 @@ ghost use Rattle.std.specs.Prelude.{◌≡◌, ◌↔◌, true, List, None, IsTr
 ghost use Rattle.std.specs.Option.{option_copied};
 ghost use Rattle.ic_unsafe_ref.specs.declared.place.Place.{Place};
 ghost use Rattle.ic_unsafe_ref.specs.Objects.{is_placed};
-ghost use Rattle.ic_link_ops.specs.Sequences.{Cut, join, IsAfter, IsBefore, IsDisjoint};
+ghost use Rattle.ic_link_ops.specs.Sequences.{IsAfter, IsBefore};
 ghost use Rattle.ic_link_ops.specs.Tables.{IsCovered};
 ghost use Rattle.ic_link_ops.specs.Positions.{MovesOn, MovesBack, object_there};
 ghost use Rattle.ic_link_ops.specs.PlacedObjects.{ShowsPlaced};
-ghost use Rattle.ic_link_ops.specs.EditsAt.{InsertsBeside, RemovesThere, ReplacesThere, RemovesNext, ReplacesNext, SplicesBeside, SplitsAfter, SplitsBefore};
+ghost use Rattle.ic_link_ops.specs.EditsAt.{InsertsBeside, RemovesThere, ReplacesThere, RemovesNext, ReplacesNext, SplicesBeside, SplitsAfter, SplitsBefore, WhereApart};
 ghost use Rattle.ic_cursors.specs.Ordered.{InsertsAmong};
 
 use crate::answers::replaced;
@@ -109,7 +109,7 @@ impl<'a, C: Collection, L> CursorMut<'a, C, L> {
 }
 
 impl<'a, L: LinkOps, C: Kind<L>> CursorMut<'a, C, L> {
-    ghost use Rattle.ic_cursors.specs.CursorMut.{list_of, links_of, position, site_of, IsStanding, SameBorrows, Stays};
+    ghost use Rattle.ic_cursors.specs.CursorMut.{list_of, links_of, position, site_of, IsStanding, Stays, Edited};
     ghost use Rattle.ic_cursors.specs.Cursor as reading;
 
     /// Moves to the next member, from null to the first one, and from the last one to null.
@@ -150,9 +150,7 @@ impl<'a, L: LinkOps, C: Kind<L>> CursorMut<'a, C, L> {
         requires stands { IsStanding C.StandsAt self.old }
         ensures inserted { InsertsBeside C.Shows L.table L.Does L.Refused IsAfter
             (site_of C.head_of C.Position.member self.old) object result (site_of C.head_of C.Position.member self.new) }
-        ensures kept { IsStanding C.StandsAt self.new }
-        ensures rest { C.Keeps (list_of self.old) (list_of self.new) }
-        ensures borrows { SameBorrows self.old self.new }
+        ensures kept { Edited C.StandsAt C.Keeps self.old self.new }
     {
         if !self
             .list
@@ -165,7 +163,7 @@ impl<'a, L: LinkOps, C: Kind<L>> CursorMut<'a, C, L> {
 }
 
 impl<'a, L: LinkOps, C: TwoWay<L>> CursorMut<'a, C, L> {
-    ghost use Rattle.ic_cursors.specs.CursorMut.{list_of, links_of, position, site_of, IsStanding, SameBorrows, Stays};
+    ghost use Rattle.ic_cursors.specs.CursorMut.{list_of, links_of, position, site_of, IsStanding, Stays, Edited};
     ghost use Rattle.ic_cursors.specs.Cursor as reading;
 
     /// Moves to the previous member, from null to the last one, and from the first one to null.
@@ -206,9 +204,7 @@ impl<'a, L: LinkOps, C: TwoWay<L>> CursorMut<'a, C, L> {
         requires stands { IsStanding C.StandsAt self.old }
         ensures inserted { InsertsBeside C.Shows L.table L.Does L.Refused IsBefore
             (site_of C.head_of C.Position.member self.old) object result (site_of C.head_of C.Position.member self.new) }
-        ensures kept { IsStanding C.StandsAt self.new }
-        ensures rest { C.Keeps (list_of self.old) (list_of self.new) }
-        ensures borrows { SameBorrows self.old self.new }
+        ensures kept { Edited C.StandsAt C.Keeps self.old self.new }
     {
         if !self
             .list
@@ -226,9 +222,7 @@ impl<'a, L: LinkOps, C: TwoWay<L>> CursorMut<'a, C, L> {
     pub fn remove(&mut self) -> Option<UnsafeRef<C::Object>>
         requires stands { IsStanding C.StandsAt self.old }
         ensures removed { RemovesThere C.Shows L.table L.Does (site_of C.head_of C.Position.member self.old) result (site_of C.head_of C.Position.member self.new) }
-        ensures kept { IsStanding C.StandsAt self.new }
-        ensures rest { C.Keeps (list_of self.old) (list_of self.new) }
-        ensures borrows { SameBorrows self.old self.new }
+        ensures kept { Edited C.StandsAt C.Keeps self.old self.new }
     {
         let place = self.list.remove_at(self.links, &mut self.current)?;
         Some(UnsafeRef::new(place))
@@ -247,9 +241,7 @@ impl<'a, L: LinkOps, C: TwoWay<L>> CursorMut<'a, C, L> {
         requires stands { IsStanding C.StandsAt self.old }
         ensures replaced { ReplacesThere C.Shows L.table L.Does L.Refused
             (site_of C.head_of C.Position.member self.old) object result (site_of C.head_of C.Position.member self.new) }
-        ensures kept { IsStanding C.StandsAt self.new }
-        ensures rest { C.Keeps (list_of self.old) (list_of self.new) }
-        ensures borrows { SameBorrows self.old self.new }
+        ensures kept { Edited C.StandsAt C.Keeps self.old self.new }
     {
         let (out, place) = (self.current.get(), object.place());
         let is_acquired = self.list.replace_at(self.links, &mut self.current, place);
@@ -258,7 +250,7 @@ impl<'a, L: LinkOps, C: TwoWay<L>> CursorMut<'a, C, L> {
 }
 
 impl<'a, L: LinkOps, C: Ordered<L>> CursorMut<'a, C, L> {
-    ghost use Rattle.ic_cursors.specs.CursorMut.{list_of, links_of, site_of, IsStanding, SameBorrows};
+    ghost use Rattle.ic_cursors.specs.CursorMut.{list_of, links_of, site_of, IsStanding, Edited};
 
     /// Puts the object where its key belongs, behind the members that are not greater, unless its link is refused.
     ///
@@ -276,9 +268,7 @@ impl<'a, L: LinkOps, C: Ordered<L>> CursorMut<'a, C, L> {
         requires stands { IsStanding C.StandsAt self.old }
         ensures inserted { InsertsAmong C.Shows L.table L.Does L.Refused (C.order_of (list_of self.old) objects.now object)
             (site_of C.head_of C.Position.member self.old) object result (site_of C.head_of C.Position.member self.new) }
-        ensures kept { IsStanding C.StandsAt self.new }
-        ensures rest { C.Keeps (list_of self.old) (list_of self.new) }
-        ensures borrows { SameBorrows self.old self.new }
+        ensures kept { Edited C.StandsAt C.Keeps self.old self.new }
     {
         if !self
             .list
@@ -291,7 +281,7 @@ impl<'a, L: LinkOps, C: Ordered<L>> CursorMut<'a, C, L> {
 }
 
 impl<'a, L: LinkOps, C: OneWay<L>> CursorMut<'a, C, L> {
-    ghost use Rattle.ic_cursors.specs.CursorMut.{list_of, links_of, site_of, IsStanding, SameBorrows};
+    ghost use Rattle.ic_cursors.specs.CursorMut.{links_of, site_of, IsStanding, Edited};
 
     /// Removes the member behind the cursor and returns it, at null the first one; `None` where there is none.
     ///
@@ -300,9 +290,7 @@ impl<'a, L: LinkOps, C: OneWay<L>> CursorMut<'a, C, L> {
     pub fn remove_next(&mut self) -> Option<UnsafeRef<C::Object>>
         requires stands { IsStanding C.StandsAt self.old }
         ensures removed { RemovesNext C.Shows L.table L.Does (site_of C.head_of C.Position.member self.old) result (site_of C.head_of C.Position.member self.new) }
-        ensures kept { IsStanding C.StandsAt self.new }
-        ensures rest { C.Keeps (list_of self.old) (list_of self.new) }
-        ensures borrows { SameBorrows self.old self.new }
+        ensures kept { Edited C.StandsAt C.Keeps self.old self.new }
     {
         let place = self.list.remove_next_at(self.links, &mut self.current)?;
         Some(UnsafeRef::new(place))
@@ -321,9 +309,7 @@ impl<'a, L: LinkOps, C: OneWay<L>> CursorMut<'a, C, L> {
         requires stands { IsStanding C.StandsAt self.old }
         ensures replaced { ReplacesNext C.Shows L.table L.Does L.Refused
             (site_of C.head_of C.Position.member self.old) object result (site_of C.head_of C.Position.member self.new) }
-        ensures kept { IsStanding C.StandsAt self.new }
-        ensures rest { C.Keeps (list_of self.old) (list_of self.new) }
-        ensures borrows { SameBorrows self.old self.new }
+        ensures kept { Edited C.StandsAt C.Keeps self.old self.new }
     {
         let place = object.place();
         let (out, is_acquired) = self
@@ -334,7 +320,7 @@ impl<'a, L: LinkOps, C: OneWay<L>> CursorMut<'a, C, L> {
 }
 
 impl<'a, L: LinkOps, C: Sliced<L>> CursorMut<'a, C, L> {
-    ghost use Rattle.ic_cursors.specs.CursorMut.{list_of, links_of, position, site_of, IsStanding, SameBorrows};
+    ghost use Rattle.ic_cursors.specs.CursorMut.{list_of, links_of, site_of, IsStanding, SameBorrows, Edited};
 
     /// Puts all of the given collection behind the cursor, and in front of the first member at null.
     ///
@@ -345,9 +331,7 @@ impl<'a, L: LinkOps, C: Sliced<L>> CursorMut<'a, C, L> {
         requires given { (s : List Place) × C.Shows (L.table (links_of self.old)) (C.head_of given) s }
         ensures spliced { SplicesBeside C.Shows L.table L.Does IsAfter
             (site_of C.head_of C.Position.member self.old) (C.head_of given) (site_of C.head_of C.Position.member self.new) }
-        ensures kept { (gap : Cut) (t : List Place) → C.Shows (L.table (links_of self.old)) (C.head_of (list_of self.old)) (join gap)
-            → IsAfter gap (position C.Position.member self.old) → C.Shows (L.table (links_of self.old)) (C.head_of given) t → IsDisjoint t (join gap)
-            → IsStanding C.StandsAt self.new }
+        ensures kept { WhereApart C.Shows L.table IsAfter (site_of C.head_of C.Position.member self.old) (C.head_of given) (λ gap t. IsStanding C.StandsAt self.new) }
         ensures rest { C.Keeps (list_of self.old) (list_of self.new) }
         ensures borrows { SameBorrows self.old self.new }
     {
@@ -362,16 +346,14 @@ impl<'a, L: LinkOps, C: Sliced<L>> CursorMut<'a, C, L> {
     pub fn split_after(&mut self) -> C
         requires stands { IsStanding C.StandsAt self.old }
         ensures split { SplitsAfter C.Shows L.table L.Does (site_of C.head_of C.Position.member self.old) (C.head_of result) (site_of C.head_of C.Position.member self.new) }
-        ensures kept { IsStanding C.StandsAt self.new }
-        ensures rest { C.Keeps (list_of self.old) (list_of self.new) }
-        ensures borrows { SameBorrows self.old self.new }
+        ensures kept { Edited C.StandsAt C.Keeps self.old self.new }
     {
         self.list.split_after_at(self.links, &mut self.current)
     }
 }
 
 impl<'a, L: LinkOps, C: TwoWaySliced<L>> CursorMut<'a, C, L> {
-    ghost use Rattle.ic_cursors.specs.CursorMut.{list_of, links_of, position, site_of, IsStanding, SameBorrows};
+    ghost use Rattle.ic_cursors.specs.CursorMut.{list_of, links_of, site_of, IsStanding, SameBorrows, Edited};
 
     /// Puts all of the given collection in front of the cursor, and behind the last member at null.
     ///
@@ -382,9 +364,7 @@ impl<'a, L: LinkOps, C: TwoWaySliced<L>> CursorMut<'a, C, L> {
         requires given { (s : List Place) × C.Shows (L.table (links_of self.old)) (C.head_of given) s }
         ensures spliced { SplicesBeside C.Shows L.table L.Does IsBefore
             (site_of C.head_of C.Position.member self.old) (C.head_of given) (site_of C.head_of C.Position.member self.new) }
-        ensures kept { (gap : Cut) (t : List Place) → C.Shows (L.table (links_of self.old)) (C.head_of (list_of self.old)) (join gap)
-            → IsBefore gap (position C.Position.member self.old) → C.Shows (L.table (links_of self.old)) (C.head_of given) t → IsDisjoint t (join gap)
-            → IsStanding C.StandsAt self.new }
+        ensures kept { WhereApart C.Shows L.table IsBefore (site_of C.head_of C.Position.member self.old) (C.head_of given) (λ gap t. IsStanding C.StandsAt self.new) }
         ensures rest { C.Keeps (list_of self.old) (list_of self.new) }
         ensures borrows { SameBorrows self.old self.new }
     {
@@ -399,9 +379,7 @@ impl<'a, L: LinkOps, C: TwoWaySliced<L>> CursorMut<'a, C, L> {
     pub fn split_before(&mut self) -> C
         requires stands { IsStanding C.StandsAt self.old }
         ensures split { SplitsBefore C.Shows L.table L.Does (site_of C.head_of C.Position.member self.old) (C.head_of result) (site_of C.head_of C.Position.member self.new) }
-        ensures kept { IsStanding C.StandsAt self.new }
-        ensures rest { C.Keeps (list_of self.old) (list_of self.new) }
-        ensures borrows { SameBorrows self.old self.new }
+        ensures kept { Edited C.StandsAt C.Keeps self.old self.new }
     {
         self.list.split_before_at(self.links, &mut self.current)
     }

@@ -11,11 +11,11 @@ ghost use Rattle.std.specs.Prelude.{◌≡◌, true, List, None};
 ghost use Rattle.std.specs.Borrow.{sem, follows};
 ghost use Rattle.ic_unsafe_ref.specs.declared.place.Place.{Place};
 ghost use Rattle.ic_unsafe_ref.specs.Objects.{is_placed};
-ghost use Rattle.ic_link_ops.specs.Sequences.{Cut, join, IsAfter, IsBefore, IsDisjoint};
+ghost use Rattle.ic_link_ops.specs.Sequences.{IsAfter, IsBefore};
 ghost use Rattle.ic_link_ops.specs.Tables.{IsCovered};
 ghost use Rattle.ic_link_ops.specs.Positions.{MovesOn, MovesBack};
 ghost use Rattle.ic_link_ops.specs.PlacedObjects.{ShowsPlaced};
-ghost use Rattle.ic_link_ops.specs.EditsAt.{InsertsBeside, RemovesThere, ReplacesThere, RemovesNext, ReplacesNext, SplicesBeside, SplitsAfter, SplitsBefore};
+ghost use Rattle.ic_link_ops.specs.EditsAt.{InsertsBeside, RemovesThere, ReplacesThere, RemovesNext, ReplacesNext, SplicesBeside, SplitsAfter, SplitsBefore, WhereApart};
 ghost use Rattle.ic_cursors.specs.Ordered.{InsertsAmong};
 
 use crate::answers::replaced;
@@ -120,7 +120,7 @@ impl<C: Collection> CursorOwning<C> {
 }
 
 impl<C: Collection> CursorOwning<C> {
-    ghost use Rattle.ic_cursors.specs.CursorOwning.{list_of, position, site_of, IsStanding};
+    ghost use Rattle.ic_cursors.specs.CursorOwning.{list_of, position, site_of, IsStanding, Edited};
 
     /// Moves to the next member, from null to the first one, and from the last one to null.
     ///
@@ -152,8 +152,7 @@ impl<C: Collection> CursorOwning<C> {
         requires stands { IsStanding C.StandsAt links.old self.old }
         ensures inserted { InsertsBeside C.Shows L.table L.Does L.Refused IsAfter
             (site_of C.head_of C.Position.member links.old self.old) object result (site_of C.head_of C.Position.member links.new self.new) }
-        ensures kept { IsStanding C.StandsAt links.new self.new }
-        ensures rest { C.Keeps (list_of self.old) (list_of self.new) }
+        ensures kept { Edited C.StandsAt C.Keeps self.old links.new self.new }
     {
         if !self
             .list
@@ -194,8 +193,7 @@ impl<C: Collection> CursorOwning<C> {
         requires stands { IsStanding C.StandsAt links.old self.old }
         ensures inserted { InsertsBeside C.Shows L.table L.Does L.Refused IsBefore
             (site_of C.head_of C.Position.member links.old self.old) object result (site_of C.head_of C.Position.member links.new self.new) }
-        ensures kept { IsStanding C.StandsAt links.new self.new }
-        ensures rest { C.Keeps (list_of self.old) (list_of self.new) }
+        ensures kept { Edited C.StandsAt C.Keeps self.old links.new self.new }
     {
         if !self
             .list
@@ -215,8 +213,7 @@ impl<C: Collection> CursorOwning<C> {
         C: TwoWay<L>,
         requires stands { IsStanding C.StandsAt links.old self.old }
         ensures removed { RemovesThere C.Shows L.table L.Does (site_of C.head_of C.Position.member links.old self.old) result (site_of C.head_of C.Position.member links.new self.new) }
-        ensures kept { IsStanding C.StandsAt links.new self.new }
-        ensures rest { C.Keeps (list_of self.old) (list_of self.new) }
+        ensures kept { Edited C.StandsAt C.Keeps self.old links.new self.new }
     {
         let place = self.list.remove_at(links, &mut self.current)?;
         Some(UnsafeRef::new(place))
@@ -238,8 +235,7 @@ impl<C: Collection> CursorOwning<C> {
         requires stands { IsStanding C.StandsAt links.old self.old }
         ensures replaced { ReplacesThere C.Shows L.table L.Does L.Refused
             (site_of C.head_of C.Position.member links.old self.old) object result (site_of C.head_of C.Position.member links.new self.new) }
-        ensures kept { IsStanding C.StandsAt links.new self.new }
-        ensures rest { C.Keeps (list_of self.old) (list_of self.new) }
+        ensures kept { Edited C.StandsAt C.Keeps self.old links.new self.new }
     {
         let (out, place) = (self.current.get(), object.place());
         let is_acquired = self.list.replace_at(links, &mut self.current, place);
@@ -265,8 +261,7 @@ impl<C: Collection> CursorOwning<C> {
         requires stands { IsStanding C.StandsAt links.old self.old }
         ensures inserted { InsertsAmong C.Shows L.table L.Does L.Refused (C.order_of (list_of self.old) objects.now object)
             (site_of C.head_of C.Position.member links.old self.old) object result (site_of C.head_of C.Position.member links.new self.new) }
-        ensures kept { IsStanding C.StandsAt links.new self.new }
-        ensures rest { C.Keeps (list_of self.old) (list_of self.new) }
+        ensures kept { Edited C.StandsAt C.Keeps self.old links.new self.new }
     {
         if !self
             .list
@@ -286,8 +281,7 @@ impl<C: Collection> CursorOwning<C> {
         C: OneWay<L>,
         requires stands { IsStanding C.StandsAt links.old self.old }
         ensures removed { RemovesNext C.Shows L.table L.Does (site_of C.head_of C.Position.member links.old self.old) result (site_of C.head_of C.Position.member links.new self.new) }
-        ensures kept { IsStanding C.StandsAt links.new self.new }
-        ensures rest { C.Keeps (list_of self.old) (list_of self.new) }
+        ensures kept { Edited C.StandsAt C.Keeps self.old links.new self.new }
     {
         let place = self.list.remove_next_at(links, &mut self.current)?;
         Some(UnsafeRef::new(place))
@@ -309,8 +303,7 @@ impl<C: Collection> CursorOwning<C> {
         requires stands { IsStanding C.StandsAt links.old self.old }
         ensures replaced { ReplacesNext C.Shows L.table L.Does L.Refused
             (site_of C.head_of C.Position.member links.old self.old) object result (site_of C.head_of C.Position.member links.new self.new) }
-        ensures kept { IsStanding C.StandsAt links.new self.new }
-        ensures rest { C.Keeps (list_of self.old) (list_of self.new) }
+        ensures kept { Edited C.StandsAt C.Keeps self.old links.new self.new }
     {
         let place = object.place();
         let (out, is_acquired) = self.list.replace_next_at(links, &mut self.current, place);
@@ -328,9 +321,8 @@ impl<C: Collection> CursorOwning<C> {
         requires given { (s : List Place) × C.Shows (L.table links.old) (C.head_of given) s }
         ensures spliced { SplicesBeside C.Shows L.table L.Does IsAfter
             (site_of C.head_of C.Position.member links.old self.old) (C.head_of given) (site_of C.head_of C.Position.member links.new self.new) }
-        ensures kept { (gap : Cut) (t : List Place) → C.Shows (L.table links.old) (C.head_of (list_of self.old)) (join gap)
-            → IsAfter gap (position C.Position.member self.old) → C.Shows (L.table links.old) (C.head_of given) t → IsDisjoint t (join gap)
-            → IsStanding C.StandsAt links.new self.new }
+        ensures kept { WhereApart C.Shows L.table IsAfter (site_of C.head_of C.Position.member links.old self.old) (C.head_of given)
+            (λ gap t. IsStanding C.StandsAt links.new self.new) }
         ensures rest { C.Keeps (list_of self.old) (list_of self.new) }
     {
         self.list.splice_after_at(links, &mut self.current, given);
@@ -345,8 +337,7 @@ impl<C: Collection> CursorOwning<C> {
         C: Sliced<L>,
         requires stands { IsStanding C.StandsAt links.old self.old }
         ensures split { SplitsAfter C.Shows L.table L.Does (site_of C.head_of C.Position.member links.old self.old) (C.head_of result) (site_of C.head_of C.Position.member links.new self.new) }
-        ensures kept { IsStanding C.StandsAt links.new self.new }
-        ensures rest { C.Keeps (list_of self.old) (list_of self.new) }
+        ensures kept { Edited C.StandsAt C.Keeps self.old links.new self.new }
     {
         self.list.split_after_at(links, &mut self.current)
     }
@@ -362,9 +353,8 @@ impl<C: Collection> CursorOwning<C> {
         requires given { (s : List Place) × C.Shows (L.table links.old) (C.head_of given) s }
         ensures spliced { SplicesBeside C.Shows L.table L.Does IsBefore
             (site_of C.head_of C.Position.member links.old self.old) (C.head_of given) (site_of C.head_of C.Position.member links.new self.new) }
-        ensures kept { (gap : Cut) (t : List Place) → C.Shows (L.table links.old) (C.head_of (list_of self.old)) (join gap)
-            → IsBefore gap (position C.Position.member self.old) → C.Shows (L.table links.old) (C.head_of given) t → IsDisjoint t (join gap)
-            → IsStanding C.StandsAt links.new self.new }
+        ensures kept { WhereApart C.Shows L.table IsBefore (site_of C.head_of C.Position.member links.old self.old) (C.head_of given)
+            (λ gap t. IsStanding C.StandsAt links.new self.new) }
         ensures rest { C.Keeps (list_of self.old) (list_of self.new) }
     {
         self.list.splice_before_at(links, &mut self.current, given);
@@ -379,8 +369,7 @@ impl<C: Collection> CursorOwning<C> {
         C: TwoWaySliced<L>,
         requires stands { IsStanding C.StandsAt links.old self.old }
         ensures split { SplitsBefore C.Shows L.table L.Does (site_of C.head_of C.Position.member links.old self.old) (C.head_of result) (site_of C.head_of C.Position.member links.new self.new) }
-        ensures kept { IsStanding C.StandsAt links.new self.new }
-        ensures rest { C.Keeps (list_of self.old) (list_of self.new) }
+        ensures kept { Edited C.StandsAt C.Keeps self.old links.new self.new }
     {
         self.list.split_before_at(links, &mut self.current)
     }

@@ -11,13 +11,14 @@ ghost use Rattle.std.specs.Prelude.{◌≡◌, true, List, Option, None};
 ghost use Rattle.std.specs.declared.cmp.Ordering.{Ordering};
 ghost use Rattle.ic_unsafe_ref.specs.declared.place.Place.{Place};
 ghost use Rattle.ic_unsafe_ref.specs.Objects.{Objects, is_placed};
-ghost use Rattle.ic_link_ops.specs.Sequences.{Cut, join, IsAfter, IsBefore, IsDisjoint};
+ghost use Rattle.ic_link_ops.specs.Sequences.{IsAfter, IsBefore};
 ghost use Rattle.ic_link_ops.specs.Tables.{Table, IsCovered};
 ghost use Rattle.ic_link_ops.specs.Positions.{site, MovesOn, MovesBack};
 ghost use Rattle.ic_link_ops.specs.PlacedObjects.{ShowsPlaced};
 ghost use Rattle.ic_cursors.specs.Answers as answer;
+ghost use Rattle.ic_cursors.specs.Edited.{Edited};
 ghost use Rattle.ic_cursors.specs.Ordered.{InsertsAmong};
-ghost use Rattle.ic_link_ops.specs.EditsAt.{InsertsBeside, RemovesThere, ReplacesThere, RemovesNext, ReplacesNext, SplicesBeside, SplitsAfter, SplitsBefore};
+ghost use Rattle.ic_link_ops.specs.EditsAt.{InsertsBeside, RemovesThere, ReplacesThere, RemovesNext, ReplacesNext, SplicesBeside, SplitsAfter, SplitsBefore, WhereApart};
 
 use crate::Position;
 use ic_link_ops::LinkOps;
@@ -70,8 +71,7 @@ pub trait Kind<L: LinkOps>: Collection {
         requires stands { StandsAt links.old self.old at.old }
         ensures inserted { InsertsBeside Shows L.table L.Does L.Refused IsAfter
             (site links.old (Self.head_of self.old) (Self.Position.member at.old)) object (answer.inserted {T = Self.Object} object result) (site links.new (Self.head_of self.new) (Self.Position.member at.new)) }
-        ensures kept { StandsAt links.new self.new at.new }
-        ensures rest { Self.Keeps self.old self.new };
+        ensures kept { Edited StandsAt Self.Keeps self.old links.new self.new at.new };
 }
 
 /// A kind that leads both ways.
@@ -88,26 +88,23 @@ pub trait TwoWay<L: LinkOps>: Kind<L> {
         requires stands { Self.StandsAt links.old self.old at.old }
         ensures inserted { InsertsBeside Self.Shows L.table L.Does L.Refused IsBefore
             (site links.old (Self.head_of self.old) (Self.Position.member at.old)) object (answer.inserted {T = Self.Object} object result) (site links.new (Self.head_of self.new) (Self.Position.member at.new)) }
-        ensures kept { Self.StandsAt links.new self.new at.new }
-        ensures rest { Self.Keeps self.old self.new };
+        ensures kept { Edited Self.StandsAt Self.Keeps self.old links.new self.new at.new };
 
     /// Removes the member at the position, which goes on to the one behind it.
     fn remove_at(&mut self, links: &mut L, at: &mut Self::Position) -> Option<Place>
         requires stands { Self.StandsAt links.old self.old at.old }
         ensures removed { RemovesThere Self.Shows L.table L.Does
             (site links.old (Self.head_of self.old) (Self.Position.member at.old)) result (site links.new (Self.head_of self.new) (Self.Position.member at.new)) }
-        ensures kept { Self.StandsAt links.new self.new at.new }
-        ensures rest { Self.Keeps self.old self.new };
+        ensures kept { Edited Self.StandsAt Self.Keeps self.old links.new self.new at.new };
 
     /// Puts the object in the place of the member at the position, which is on the object then, and returns whether its link was
-    /// acquired. At null it returns `false`, and changes nothing.
+    /// acquired. At null it changes nothing, and what it returns says nothing.
     fn replace_at(&mut self, links: &mut L, at: &mut Self::Position, object: Place) -> bool
         requires covered { IsCovered (L.table links.old) object }
         requires stands { Self.StandsAt links.old self.old at.old }
         ensures replaced { ReplacesThere Self.Shows L.table L.Does L.Refused
             (site links.old (Self.head_of self.old) (Self.Position.member at.old)) object (answer.replaced {T = Self.Object} (Self.Position.member at.old) object result) (site links.new (Self.head_of self.new) (Self.Position.member at.new)) }
-        ensures kept { Self.StandsAt links.new self.new at.new }
-        ensures rest { Self.Keeps self.old self.new };
+        ensures kept { Edited Self.StandsAt Self.Keeps self.old links.new self.new at.new };
 }
 
 /// A kind whose collections are spliced and split behind a position.
@@ -118,9 +115,8 @@ pub trait Sliced<L: LinkOps>: Kind<L> {
         requires given { (s : List Place) × Self.Shows (L.table links.old) (Self.head_of given) s }
         ensures spliced { SplicesBeside Self.Shows L.table L.Does IsAfter
             (site links.old (Self.head_of self.old) (Self.Position.member at.old)) (Self.head_of given) (site links.new (Self.head_of self.new) (Self.Position.member at.new)) }
-        ensures kept { (gap : Cut) (t : List Place) → Self.Shows (L.table links.old) (Self.head_of self.old) (join gap)
-            → IsAfter gap (Self.Position.member at.old) → Self.Shows (L.table links.old) (Self.head_of given) t → IsDisjoint t (join gap)
-            → Self.StandsAt links.new self.new at.new }
+        ensures kept { WhereApart Self.Shows L.table IsAfter (site links.old (Self.head_of self.old) (Self.Position.member at.old)) (Self.head_of given)
+            (λ gap t. Self.StandsAt links.new self.new at.new) }
         ensures rest { Self.Keeps self.old self.new };
 
     /// Hands out the members behind the position, which stays.
@@ -128,8 +124,7 @@ pub trait Sliced<L: LinkOps>: Kind<L> {
         requires stands { Self.StandsAt links.old self.old at.old }
         ensures split { SplitsAfter Self.Shows L.table L.Does
             (site links.old (Self.head_of self.old) (Self.Position.member at.old)) (Self.head_of result) (site links.new (Self.head_of self.new) (Self.Position.member at.new)) }
-        ensures kept { Self.StandsAt links.new self.new at.new }
-        ensures rest { Self.Keeps self.old self.new };
+        ensures kept { Edited Self.StandsAt Self.Keeps self.old links.new self.new at.new };
 }
 
 /// A kind whose collections are spliced and split in front of a position too.
@@ -140,9 +135,8 @@ pub trait TwoWaySliced<L: LinkOps>: Sliced<L> {
         requires given { (s : List Place) × Self.Shows (L.table links.old) (Self.head_of given) s }
         ensures spliced { SplicesBeside Self.Shows L.table L.Does IsBefore
             (site links.old (Self.head_of self.old) (Self.Position.member at.old)) (Self.head_of given) (site links.new (Self.head_of self.new) (Self.Position.member at.new)) }
-        ensures kept { (gap : Cut) (t : List Place) → Self.Shows (L.table links.old) (Self.head_of self.old) (join gap)
-            → IsBefore gap (Self.Position.member at.old) → Self.Shows (L.table links.old) (Self.head_of given) t → IsDisjoint t (join gap)
-            → Self.StandsAt links.new self.new at.new }
+        ensures kept { WhereApart Self.Shows L.table IsBefore (site links.old (Self.head_of self.old) (Self.Position.member at.old)) (Self.head_of given)
+            (λ gap t. Self.StandsAt links.new self.new at.new) }
         ensures rest { Self.Keeps self.old self.new };
 
     /// Hands out the members in front of the position, which stays.
@@ -150,8 +144,7 @@ pub trait TwoWaySliced<L: LinkOps>: Sliced<L> {
         requires stands { Self.StandsAt links.old self.old at.old }
         ensures split { SplitsBefore Self.Shows L.table L.Does
             (site links.old (Self.head_of self.old) (Self.Position.member at.old)) (Self.head_of result) (site links.new (Self.head_of self.new) (Self.Position.member at.new)) }
-        ensures kept { Self.StandsAt links.new self.new at.new }
-        ensures rest { Self.Keeps self.old self.new };
+        ensures kept { Edited Self.StandsAt Self.Keeps self.old links.new self.new at.new };
 }
 
 /// A kind whose members are taken out and replaced behind a position.
@@ -161,8 +154,7 @@ pub trait OneWay<L: LinkOps>: Kind<L> {
         requires stands { Self.StandsAt links.old self.old at.old }
         ensures removed { RemovesNext Self.Shows L.table L.Does
             (site links.old (Self.head_of self.old) (Self.Position.member at.old)) result (site links.new (Self.head_of self.new) (Self.Position.member at.new)) }
-        ensures kept { Self.StandsAt links.new self.new at.new }
-        ensures rest { Self.Keeps self.old self.new };
+        ensures kept { Edited Self.StandsAt Self.Keeps self.old links.new self.new at.new };
 
     /// Puts the object in the place of the member behind the position, at null of the first one. Returns that member, none where
     /// nothing is there, and whether the object's link was acquired. The position stays.
@@ -176,8 +168,7 @@ pub trait OneWay<L: LinkOps>: Kind<L> {
         requires stands { Self.StandsAt links.old self.old at.old }
         ensures replaced { ReplacesNext Self.Shows L.table L.Does L.Refused (site links.old (Self.head_of self.old) (Self.Position.member at.old))
             object (answer.replaced {T = Self.Object} result.0 object result.1) (site links.new (Self.head_of self.new) (Self.Position.member at.new)) }
-        ensures kept { Self.StandsAt links.new self.new at.new }
-        ensures rest { Self.Keeps self.old self.new };
+        ensures kept { Edited Self.StandsAt Self.Keeps self.old links.new self.new at.new };
 }
 
 /// A kind that keeps its members in the order of their keys.
@@ -200,6 +191,5 @@ pub trait Ordered<L: LinkOps>: Kind<L> {
         requires stands { Self.StandsAt links.old self.old at.old }
         ensures inserted { InsertsAmong Self.Shows L.table L.Does L.Refused (order_of self.old objects.now object)
             (site links.old (Self.head_of self.old) (Self.Position.member at.old)) object (answer.inserted {T = Self.Object} object result) (site links.new (Self.head_of self.new) (Self.Position.member at.new)) }
-        ensures kept { Self.StandsAt links.new self.new at.new }
-        ensures rest { Self.Keeps self.old self.new };
+        ensures kept { Edited Self.StandsAt Self.Keeps self.old links.new self.new at.new };
 }

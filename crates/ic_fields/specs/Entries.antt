@@ -1,5 +1,5 @@
 -- What an entry says, whatever table keeps it.
-use Rattle.std.specs.Prelude.{◌≡◌, Bool, Option, None, List, [], ◌∷◌, bit_xor}
+use Rattle.std.specs.Prelude.{◌≡◌, Bool, Option, None, [], ◌∷◌, bit_xor}
 use Rattle.ic_unsafe_ref.specs.declared.place.Place.{Place}
 use Rattle.ic_unsafe_ref.specs.Places.{place_at, word_of}
 use Rattle.ic_link_ops.specs.Tables.{Table}

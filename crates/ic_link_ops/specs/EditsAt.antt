@@ -10,6 +10,12 @@ use Rattle.ic_link_ops.specs.Edits.{Inserts, Removes, Replaces, Splices, Splits}
 use Rattle.ic_link_ops.specs.Errors.{object_of, ByCause}
 use Rattle.ic_link_ops.specs.Positions.{Site, ShowsAt, Stands, IsBehind}
 
+-- WHAT IS SAID OF A SPLICE: of each gap beside the position and all members of the given collection, where the two share no member
+module _ {L E H : Type 0} (Shows : Table E → H → List Place → Type 0) (table : L → Table E) where
+  abbrev pub WhereApart : (Cut → Option Place → Type 0) → Site L H → H → (Cut → List Place → Type 0) → Type 0
+  WhereApart IsBeside old given Holds = (gap : Cut) (t : List Place) → ShowsAt Shows table old (join gap) → IsBeside gap old.position
+      → Shows (table old.links) given t → IsDisjoint t (join gap) → Holds gap t
+
 -- `Shows`: the kind's shows-relation. `table`, `Does`: what clauses see of the table, and its steps. `old`, `new`: before the call and after it
 module _ {L E H : Type 0} (Shows : Table E → H → List Place → Type 0) (table : L → Table E) (Does : L → L → List LinkStep → Type 0) where
   -- the object is put into the gap beside the position, or its link is refused and nothing else has changed. The position stays
@@ -75,12 +81,10 @@ module _ {L E H : Type 0} (Shows : Table E → H → List Place → Type 0) (tab
 
   -- all of the given collection, which shares no member with this one, is put into the gap beside the position, which stays
   pub record SplicesBeside (IsBeside : Cut → Option Place → Type 0) (old : Site L H) (given : H) (new : Site L H) : Type 0 where
-    pub spliced : (gap : Cut) (t : List Place) → ShowsAt Shows table old (join gap) → IsBeside gap old.position
-        → Shows (table old.links) given t → IsDisjoint t (join gap) → Splices Shows (table old.links) (table new.links) new.head gap t
+    pub spliced : WhereApart Shows table IsBeside old given (Splices Shows (table old.links) (table new.links) new.head)
     pub no_step : Does old.links new.links []
     pub position : new.position ≡ old.position
-    pub stands : (gap : Cut) (t : List Place) → ShowsAt Shows table old (join gap) → IsBeside gap old.position
-        → Shows (table old.links) given t → IsDisjoint t (join gap) → Stands Shows table new
+    pub stands : WhereApart Shows table IsBeside old given (λ gap t. Stands Shows table new)
 
   -- the members of one part stay and those of the other are handed out, where the gap beside the position cuts them. The position stays
   pub record SplitsBeside (IsBeside : Cut → Option Place → Type 0) (kept handed : Cut → List Place)

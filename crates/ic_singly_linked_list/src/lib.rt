@@ -22,7 +22,7 @@
 //! let removed = cursor.remove_next();   // and taken off again
 //! ```
 //!
-//! [`Iter`] lends the objects, and [`IntoIter`] takes the members off. [`laws`] has what follows for every table.
+//! [`Iter`] lends the objects, and [`IntoIter`] takes the members off.
 #![tactic(auto)]
 
 mod contains;
@@ -32,7 +32,6 @@ mod cursor_owning;
 mod edits;
 mod into_iter;
 mod iter;
-pub mod laws;
 mod list;
 mod surgery;
 mod whole;

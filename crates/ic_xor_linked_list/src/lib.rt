@@ -24,8 +24,7 @@
 //! let rest = cursor.split_after(); // the list ends with the first now
 //! ```
 //!
-//! [`Iter`] lends the objects, and [`IntoIter`] takes the members off, each from both ends. [`laws`] has what follows
-//! for every table.
+//! [`Iter`] lends the objects, and [`IntoIter`] takes the members off, each from both ends.
 #![tactic(auto)]
 
 mod contains;
@@ -35,7 +34,6 @@ mod cursor_owning;
 mod edits;
 mod into_iter;
 mod iter;
-pub mod laws;
 mod list;
 mod position;
 mod surgery;

@@ -70,7 +70,7 @@ loop-object-preserved-then-keeps g c =
 pub loop-object-preserved-else-keeps : goal.loop-object-preserved-else-keeps
 loop-object-preserved-else-keeps g c =
     let b = c.loop-object.invariant.borrows in
-    let m = c.remove.ensures.borrows in
+    let m = c.remove.ensures.kept.borrows in
     let turn = gone g c in
     record { borrows = (m.0 ∙ b.0, m.1 ∙ b.1); shown = c.loop-object.invariant.shown; retains = (turn.1, turn.3) }
 

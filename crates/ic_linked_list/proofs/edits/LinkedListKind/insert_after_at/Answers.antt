@@ -13,4 +13,4 @@ returns-clause-inserted g c =
     (λ gap shown after. e.inserted gap shown (c.get.ensures ∙ after) (c.get-behind.ensures ∙ c.next_of.ensures.moved.leads gap shown after))
 
 pub returns-clause-kept : goal.returns-clause-kept
-returns-clause-kept g c = (returns-clause-inserted g c).stands
+returns-clause-kept g c = record { stands = (returns-clause-inserted g c).stands; keeps = tt }

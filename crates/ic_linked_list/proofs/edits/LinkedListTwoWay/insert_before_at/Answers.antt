@@ -14,4 +14,4 @@ returns-clause-inserted g c =
     (λ gap shown before. e.inserted gap shown (c.get-before.ensures ∙ c.prev_of.ensures.moved.leads gap shown before) (c.get.ensures ∙ before))
 
 pub returns-clause-kept : goal.returns-clause-kept
-returns-clause-kept g c = (returns-clause-inserted g c).stands
+returns-clause-kept g c = record { stands = (returns-clause-inserted g c).stands; keeps = tt }

@@ -1,4 +1,4 @@
-use Rattle.std.proofs.Common.{Some, [], ◌∷◌, drop, ap, ◌∙◌, sym}
+use Rattle.std.proofs.Common.{[], ◌∷◌, drop, ◌∙◌, sym}
 use Rattle.ic_link_ops.specs.Sequences.{Cut, join, IsBefore}
 use Rattle.ic_link_ops.specs.Edits.{Replaces}
 use Rattle.ic_link_ops.specs.LinkedList.{Shows}
@@ -70,4 +70,4 @@ returns-clause-replaced g c =
     })
 
 pub returns-clause-kept : goal.returns-clause-kept
-returns-clause-kept g c = replaced_stands c.requires.stands c.of.ensures (replaces g c)
+returns-clause-kept g c = record { stands = replaced_stands c.requires.stands c.of.ensures (replaces g c); keeps = tt }

@@ -31,4 +31,4 @@ returns-clause-split g c = record {
 }
 
 pub returns-clause-kept : goal.returns-clause-kept
-returns-clause-kept g c = (returns-clause-split g c).stands
+returns-clause-kept g c = record { stands = (returns-clause-split g c).stands; keeps = tt }

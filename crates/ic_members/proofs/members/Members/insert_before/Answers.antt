@@ -18,7 +18,7 @@ pub returns-in-Xor : goal.returns-in-Xor
 returns-in-Xor g c =
     let held = rw c.in-Xor.is at c.requires.held in
     let e = c.insert_before-in-Xor.ensures in
-    rw (c.in-Xor.is, ← c.new-object.ensures) (puts e.inserted (xor_turned e.kept) held (gap_before_cursor _ held) (rw c.new-object.ensures c.requires.unlinked))
+    rw (c.in-Xor.is, ← c.new-object.ensures) (puts e.inserted (xor_turned e.kept.stands) held (gap_before_cursor _ held) (rw c.new-object.ensures c.requires.unlinked))
 
 pub returns-in-TwoWay-Tree : goal.returns-in-TwoWay-Tree
 returns-in-TwoWay-Tree g c =
@@ -26,4 +26,4 @@ returns-in-TwoWay-Tree g c =
     let unlinked = rw (c.in-TwoWay-Tree.is, c.in-TwoWay-Tree.field-0-is) at c.requires.unlinked in
     let e = c.insert_before-in-TwoWay-Tree.ensures in
     rw (c.in-Tree.is, c.in-TwoWay-Tree.is, c.in-TwoWay-Tree.field-0-is, ← c.new-object.ensures)
-    (puts e.inserted (tree_turned e.rest e.inserted.stands) held (gap_before_cursor _ held) (rw c.new-object.ensures unlinked))
+    (puts e.inserted (tree_turned e.kept.keeps e.inserted.stands) held (gap_before_cursor _ held) (rw c.new-object.ensures unlinked))

@@ -17,11 +17,11 @@ pub returns-in-Xor-clause-taken : goal.returns-in-Xor-clause-taken
 returns-in-Xor-clause-taken g c =
     let held = rw c.in-Xor.is at c.requires.held in
     let e = c.remove-in-Xor.ensures in
-    rw (c.in-Xor.is, c.place_of-in-Xor.ensures) (takes e.removed (xor_turned e.kept) held (gap_before_cursor _ held))
+    rw (c.in-Xor.is, c.place_of-in-Xor.ensures) (takes e.removed (xor_turned e.kept.stands) held (gap_before_cursor _ held))
 
 pub returns-in-TwoWay-Tree-clause-taken : goal.returns-in-TwoWay-Tree-clause-taken
 returns-in-TwoWay-Tree-clause-taken g c =
     let held = rw (c.in-Tree.is, c.in-TwoWay-Tree.is, c.in-TwoWay-Tree.field-0-is) at c.requires.held in
     let e = c.remove-in-TwoWay-Tree.ensures in
     rw (c.in-Tree.is, c.in-TwoWay-Tree.is, c.in-TwoWay-Tree.field-0-is, c.place_of-in-TwoWay-Tree.ensures)
-    (takes e.removed (tree_turned e.rest e.removed.stands) held (gap_before_cursor _ held))
+    (takes e.removed (tree_turned e.kept.keeps e.removed.stands) held (gap_before_cursor _ held))

@@ -17,11 +17,11 @@ pub returns-in-Xor-clause-swapped : goal.returns-in-Xor-clause-swapped
 returns-in-Xor-clause-swapped g c =
     let held = rw c.in-Xor.is at c.requires.held in
     let e = c.replace_with-in-Xor.ensures in
-    rw (c.in-Xor.is, c.place_of-in-Xor.ensures, c.ok-in-Xor.ensures.value, ← c.new-object.ensures) (swaps e.replaced (xor_turned e.kept) held (gap_before_cursor _ held))
+    rw (c.in-Xor.is, c.place_of-in-Xor.ensures, c.ok-in-Xor.ensures.value, ← c.new-object.ensures) (swaps e.replaced (xor_turned e.kept.stands) held (gap_before_cursor _ held))
 
 pub returns-in-TwoWay-Tree-clause-swapped : goal.returns-in-TwoWay-Tree-clause-swapped
 returns-in-TwoWay-Tree-clause-swapped g c =
     let held = rw (c.in-Tree.is, c.in-TwoWay-Tree.is, c.in-TwoWay-Tree.field-0-is) at c.requires.held in
     let e = c.replace_with-in-TwoWay-Tree.ensures in
     rw (c.in-Tree.is, c.in-TwoWay-Tree.is, c.in-TwoWay-Tree.field-0-is, c.place_of-in-TwoWay-Tree.ensures, c.ok-in-TwoWay-Tree.ensures.value, ← c.new-object.ensures)
-    (swaps e.replaced (tree_turned e.rest e.replaced.stands) held (gap_before_cursor _ held))
+    (swaps e.replaced (tree_turned e.kept.keeps e.replaced.stands) held (gap_before_cursor _ held))

@@ -38,7 +38,7 @@ returns-in-Xor g c =
       at.1,
       (
         at.2,
-        parts xor_list look held at.0 at.1 at.2 e.split (λ here shown. known c.split_after-in-Xor.new.self _ shown e.kept) part.ensures.list (ap (λ z. z.current) part.ensures.null)
+        parts xor_list look held at.0 at.1 at.2 e.split (λ here shown. known c.split_after-in-Xor.new.self _ shown e.kept.stands) part.ensures.list (ap (λ z. z.current) part.ensures.null)
             (λ shown. xor_null part.result _ shown (rw part.ensures.list part.ensures.null)),
       ),
     )

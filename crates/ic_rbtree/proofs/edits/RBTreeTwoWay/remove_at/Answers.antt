@@ -1,4 +1,4 @@
-use Rattle.std.proofs.Common.{[], ◌∷◌, ◌++◌, List, drop, ◌≡◌, ap, ◌∙◌, sym, append_assoc}
+use Rattle.std.proofs.Common.{refl, [], ◌∷◌, ◌++◌, List, drop, ◌≡◌, ap, ◌∙◌, sym, append_assoc}
 use Rattle.ic_unsafe_ref.specs.declared.place.Place.{Place}
 use Rattle.ic_link_ops.specs.Sequences.{Cut, join, IsBefore}
 use Rattle.ic_link_ops.specs.Edits.{Removes}
@@ -40,4 +40,4 @@ returns-clause-removed g c = record {
 }
 
 pub returns-clause-kept : goal.returns-clause-kept
-returns-clause-kept g c = (returns-clause-removed g c).stands
+returns-clause-kept g c = record { stands = (returns-clause-removed g c).stands; keeps = refl }

@@ -1,4 +1,4 @@
-use Rattle.std.proofs.Common.{sym, ◌∙◌}
+use Rattle.std.proofs.Common.{refl, sym, ◌∙◌}
 use Rattle.ic_link_ops.specs.Sequences.{Cut, join, IsBefore}
 use Rattle.ic_link_ops.specs.Edits.{Replaces}
 use Rattle.ic_link_ops.specs.RedBlackTree.{Shows}
@@ -28,4 +28,4 @@ returns-clause-replaced g c = put_there (sym c.get.ensures ∙ c.in-Some.is) (re
 })
 
 pub returns-clause-kept : goal.returns-clause-kept
-returns-clause-kept g c = replaced_stands c.requires.stands c.of.ensures (replaces g c)
+returns-clause-kept g c = record { stands = replaced_stands c.requires.stands c.of.ensures (replaces g c); keeps = refl }

@@ -12,4 +12,4 @@ returns-clause-inserted g c =
     (put_among g.met.L.LinkOps.refused_keeps c.requires.stands refl _ _ e.acquired e.refused e.unchanged e.inserted)
 
 pub returns-clause-kept : goal.returns-clause-kept
-returns-clause-kept g c = (returns-clause-inserted g c).stands
+returns-clause-kept g c = record { stands = (returns-clause-inserted g c).stands; keeps = refl }

@@ -36,4 +36,4 @@ returns-clause-removed g c = record {
 }
 
 pub returns-clause-kept : goal.returns-clause-kept
-returns-clause-kept g c = (returns-clause-removed g c).stands
+returns-clause-kept g c = record { stands = (returns-clause-removed g c).stands; keeps = tt }

@@ -85,4 +85,4 @@ returns-clause-replaced g c =
     }
 
 pub returns-clause-kept : goal.returns-clause-kept
-returns-clause-kept g c = next_replaced_stands c.requires.stands refl (replaces g c)
+returns-clause-kept g c = record { stands = next_replaced_stands c.requires.stands refl (replaces g c); keeps = tt }

@@ -13,7 +13,9 @@ returns-clause-inserted g c =
 pub returns-clause-kept : goal.returns-clause-kept
 returns-clause-kept g c =
     let at = c.requires.stands.stands in
-    let put = c.if-not-insert_between.ensures.inserted at.gap at.shown (c.current.ensures ∙ at.after) (c.next.ensures ∙ c.requires.stands.on.leads at.gap at.shown at.after) in
-    rw c.set_next.ensures
-    (stands_before (xor_lists {linked = g.L.LinkOps.linked} g.met.L.XorLinkedListOps.one_other) (record { front = at.gap.front; back = c.args.object ∷ at.gap.back }) put.shows at.after
-    refl)
+    let put = c.if-not-insert_between.ensures.inserted at.gap at.shown (c.current.ensures ∙ at.after) (c.next.ensures ∙ c.requires.stands.on.leads at.gap at.shown at.after) in record {
+      stands = rw c.set_next.ensures
+          (stands_before (xor_lists {linked = g.L.LinkOps.linked} g.met.L.XorLinkedListOps.one_other) (record { front = at.gap.front; back = c.args.object ∷ at.gap.back }) put.shows at.after
+          refl);
+      keeps = tt;
+    }

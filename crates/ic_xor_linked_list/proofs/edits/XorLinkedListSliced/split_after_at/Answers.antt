@@ -19,6 +19,8 @@ returns-clause-split g c =
 pub returns-clause-kept : goal.returns-clause-kept
 returns-clause-kept g c =
     let at = c.requires.stands.stands in
-    let parts = c.split_between-rest.ensures.split at.gap at.shown (c.current.ensures ∙ at.after) (c.next.ensures ∙ c.requires.stands.on.leads at.gap at.shown at.after) in
-    rw c.set_next.ensures
-    (stands_before (xor_lists {linked = g.L.LinkOps.linked} g.met.L.XorLinkedListOps.one_other) (at_back at.gap.front) (rw (append-nil at.gap.front) parts.keeps) at.after refl)
+    let parts = c.split_between-rest.ensures.split at.gap at.shown (c.current.ensures ∙ at.after) (c.next.ensures ∙ c.requires.stands.on.leads at.gap at.shown at.after) in record {
+      stands = rw c.set_next.ensures
+          (stands_before (xor_lists {linked = g.L.LinkOps.linked} g.met.L.XorLinkedListOps.one_other) (at_back at.gap.front) (rw (append-nil at.gap.front) parts.keeps) at.after refl);
+      keeps = tt;
+    }

@@ -18,7 +18,9 @@ returns-clause-inserted g c =
 pub returns-clause-kept : goal.returns-clause-kept
 returns-clause-kept g c =
     let k = gap_there c.requires.stands.stands in
-    let put = c.if-not-insert_between.ensures.inserted k.0 k.1 (c.current-before.ensures ∙ c.prev_of.ensures.moved.leads k.0 k.1 k.2) (c.current.ensures ∙ k.2) in
-    rw c.stay.ensures
-    (knows_then (xor_lists {linked = g.L.LinkOps.linked} g.met.L.XorLinkedListOps.one_other) c.requires.stands k.0 k.1 k.2 (k.0.front ++ c.args.object ∷ [])
-    (rw (append_assoc k.0.front (c.args.object ∷ []) k.0.back) put.shows))
+    let put = c.if-not-insert_between.ensures.inserted k.0 k.1 (c.current-before.ensures ∙ c.prev_of.ensures.moved.leads k.0 k.1 k.2) (c.current.ensures ∙ k.2) in record {
+      stands = rw c.stay.ensures
+          (knows_then (xor_lists {linked = g.L.LinkOps.linked} g.met.L.XorLinkedListOps.one_other) c.requires.stands k.0 k.1 k.2 (k.0.front ++ c.args.object ∷ [])
+          (rw (append_assoc k.0.front (c.args.object ∷ []) k.0.back) put.shows));
+      keeps = tt;
+    }

@@ -76,7 +76,9 @@ returns-clause-kept g c =
     let on = sym c.current.ensures ∙ c.in-Some.is in
     let k = gap_there c.requires.stands.stands in
     let whole = rw (first_is k.0.back (sym on ∙ k.2)) at k.1 in
-    let behind = c.next-behind.ensures ∙ behind_member k.0.front (drop 1 k.0.back) c.in-Some.out c.requires.stands whole on in
-    rw c.of.ensures
-    (knows_member (xor_lists {linked = g.L.LinkOps.linked} g.met.L.XorLinkedListOps.one_other) k.0.front (drop 1 k.0.back) c.args.object (replaces g c k.0 k.1 k.2).shows
-    refl behind)
+    let behind = c.next-behind.ensures ∙ behind_member k.0.front (drop 1 k.0.back) c.in-Some.out c.requires.stands whole on in record {
+      stands = rw c.of.ensures
+          (knows_member (xor_lists {linked = g.L.LinkOps.linked} g.met.L.XorLinkedListOps.one_other) k.0.front (drop 1 k.0.back) c.args.object (replaces g c k.0 k.1 k.2).shows
+          refl behind);
+      keeps = tt;
+    }

@@ -35,6 +35,8 @@ returns-clause-split g c =
 
 pub returns-clause-kept : goal.returns-clause-kept
 returns-clause-kept g c =
-    let k = gap_there c.requires.stands.stands in
-    rw c.stay.ensures
-    (knows_then (xor_lists {linked = g.L.LinkOps.linked} g.met.L.XorLinkedListOps.one_other) c.requires.stands k.0 k.1 k.2 [] (splits g c k.0 k.1 k.2).keeps)
+    let k = gap_there c.requires.stands.stands in record {
+      stands = rw c.stay.ensures
+          (knows_then (xor_lists {linked = g.L.LinkOps.linked} g.met.L.XorLinkedListOps.one_other) c.requires.stands k.0 k.1 k.2 [] (splits g c k.0 k.1 k.2).keeps);
+      keeps = tt;
+    }

@@ -1,10 +1,8 @@
-//! What follows of several calls together, each law as the contract of a function that makes them.
+//! What follows of several calls of a list together, each law as the contract of a function that makes them.
 //!
 //! ```text
-//! laws::split_then_splice(&mut cursor); // the list is what it was
+//! singly_linked_list::split_then_splice(&mut cursor); // the list is what it was
 //! ```
-//!
-//! What holds of collections of every kind stands with the tables, as lemmas for proofs.
 
 ghost use Rattle.std.specs.Prelude.{◌≡◌, List, [], ◌∷◌, Some, IsTrue};
 ghost use Rattle.ic_unsafe_ref.specs.declared.place.Place.{Place};
@@ -16,9 +14,9 @@ ghost use Rattle.ic_link_ops.specs.PlainTables.{table, linked_by};
 ghost use Rattle.ic_link_ops.specs.Positions.{Stands};
 ghost use Rattle.ic_singly_linked_list.specs.CursorMut as edits;
 
-use crate::{CursorMut, SinglyLinkedList};
 use ic_link_ops::singly_linked_list::SinglyLinkedListOps;
 use ic_link_ops::{NextWord, PlainTable};
+use ic_singly_linked_list::{CursorMut, SinglyLinkedList};
 use ic_unsafe_ref::{Place, UnsafeRef};
 use std::alloc::Allocator;
 

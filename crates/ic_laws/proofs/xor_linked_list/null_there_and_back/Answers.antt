@@ -1,6 +1,6 @@
 use Rattle.std.proofs.Common.{◌∙◌, append-nil}
 use Rattle.ic_link_ops.specs.Sequences.{at_front, at_back, join}
-use Rattle.ic_xor_linked_list.proofs.laws.null_there_and_back.Goals as goal
+use Rattle.ic_laws.proofs.xor_linked_list.null_there_and_back.Goals as goal
 
 pub returns-clause-there : goal.returns-clause-there
 returns-clause-there g c s shown = c.get_ptr-front.ensures ∙ c.move_next.ensures.moved.leads (at_front s) shown c.requires.null

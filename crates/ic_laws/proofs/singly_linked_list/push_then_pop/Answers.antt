@@ -2,7 +2,7 @@ use Rattle.std.proofs.Common.{◌∷◌}
 use Rattle.ic_link_ops.specs.PlainTables.{table, linked_by}
 use Rattle.ic_link_ops.proofs.Covering.{frames_join}
 use Rattle.ic_link_ops.proofs.LinkedSets.{unlinked_again}
-use Rattle.ic_singly_linked_list.proofs.laws.push_then_pop.Goals as goal
+use Rattle.ic_laws.proofs.singly_linked_list.push_then_pop.Goals as goal
 
 pub returns-clause-answer : goal.returns-clause-answer
 returns-clause-answer g c =

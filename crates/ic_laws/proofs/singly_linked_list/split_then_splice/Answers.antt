@@ -5,8 +5,8 @@ use Rattle.ic_link_ops.specs.SinglyLinkedList.{Shows}
 use Rattle.ic_link_ops.proofs.CollectionLaws as laws
 use Rattle.ic_link_ops.proofs.SinglyLists.{singly_lists}
 use Rattle.ic_singly_linked_list.specs.CursorMut as edits
-use Rattle.ic_singly_linked_list.proofs.laws.split_then_splice.Goals as goal
-use Rattle.ic_singly_linked_list.proofs.laws.split_then_splice.Given.{Over}
+use Rattle.ic_laws.proofs.singly_linked_list.split_then_splice.Goals as goal
+use Rattle.ic_laws.proofs.singly_linked_list.split_then_splice.Given.{Over}
 
 -- what is shown then, and the frame, of any sequence that was shown: it is that at whose gap the cursor stands
 together : (g : Over) (c : goal.After-splice_after g) (s : List Place)

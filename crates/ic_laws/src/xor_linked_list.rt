@@ -1,11 +1,8 @@
-//! What follows of several calls together, each law as the contract of a function that makes them.
+//! What follows of several calls of a list together, each law as the contract of a function that makes them.
 //!
 //! ```text
-//! laws::split_then_splice(&mut cursor); // the list is what it was
+//! xor_linked_list::split_then_splice(&mut cursor); // the list is what it was
 //! ```
-//!
-//! What holds of collections of every kind stands with the tables, as lemmas for proofs: every table shows nothing for
-//! a new collection, no table shows two sequences for one, and an edit leaves all others.
 
 ghost use Rattle.std.specs.Prelude.{◌≡◌, List, [], ◌∷◌, None, Some, IsTrue, reverse};
 ghost use Rattle.ic_unsafe_ref.specs.declared.place.Place.{Place};
@@ -17,10 +14,10 @@ ghost use Rattle.ic_xor_linked_list.specs.PlainLists.{PlainShows, PlainShowsSome
 ghost use Rattle.ic_xor_linked_list.specs.Cursor as reads;
 ghost use Rattle.ic_xor_linked_list.specs.CursorMut as edits;
 
-use crate::{Cursor, CursorMut, XorLinkedList};
 use ic_link_ops::xor_linked_list::XorLinkedListOps;
 use ic_link_ops::{NextWord, PlainTable};
 use ic_unsafe_ref::{Place, UnsafeRef};
+use ic_xor_linked_list::{Cursor, CursorMut, XorLinkedList};
 use std::alloc::Allocator;
 
 /// Moves a cursor from null on and back again, and then back and on: it was at the front and at the back, which are the

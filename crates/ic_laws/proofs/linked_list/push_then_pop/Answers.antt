@@ -1,10 +1,10 @@
 use Rattle.std.proofs.Common.{[], ◌∷◌, ◌∙◌}
 use Rattle.ic_link_ops.proofs.Covering.{frames_join}
 use Rattle.ic_link_ops.specs.Sequences.{insert, at_back}
-use Rattle.ic_link_ops.specs.PlainTables.{table, linked_by}
+use Rattle.ic_link_ops.specs.DoublyEntries.{entries, is_linked, table_of}
 use Rattle.ic_link_ops.proofs.SequenceLemmas.{last_of_push, but_last_of_push, absent_both}
 use Rattle.ic_link_ops.proofs.LinkedSets.{unlinked_again}
-use Rattle.ic_xor_linked_list.proofs.laws.push_then_pop.Goals as goal
+use Rattle.ic_laws.proofs.linked_list.push_then_pop.Goals as goal
 
 pub returns-clause-answer : goal.returns-clause-answer
 returns-clause-answer g c =
@@ -18,7 +18,7 @@ returns-clause-sequence g c s shown =
 pub returns-clause-linked : goal.returns-clause-linked
 returns-clause-linked g c q =
     let off = rw (returns-clause-answer g c) at c.pop_back.ensures.released in
-    unlinked_again {linked = linked_by g.W.Words.is_linked} (table g.W.Words.unlinked c.args.links.now) (table g.W.Words.unlinked c.push_back.new.links) (table g.W.Words.unlinked c.pop_back.new.links)
+    unlinked_again {linked = is_linked} (table_of (entries c.args.links.now)) (table_of (entries c.push_back.new.links)) (table_of (entries c.pop_back.new.links))
     c.args.object c.in-Ok.ensures.acquired off q
 
 pub returns-clause-frame : goal.returns-clause-frame

@@ -1,11 +1,8 @@
-//! What follows of several calls together, each law as the contract of a function that makes them.
+//! What follows of several calls of a list together, each law as the contract of a function that makes them.
 //!
 //! ```text
-//! laws::split_then_splice(&mut cursor); // the list is what it was
+//! linked_list::split_then_splice(&mut cursor); // the list is what it was
 //! ```
-//!
-//! What holds of collections of every kind stands with the tables, as lemmas for proofs: every table shows nothing for
-//! a new collection, no table shows two sequences for one, and an edit leaves all others.
 
 ghost use Rattle.std.specs.Prelude.{◌≡◌, List, [], ◌∷◌, None, Some, IsTrue};
 ghost use Rattle.ic_unsafe_ref.specs.declared.place.Place.{Place};
@@ -17,8 +14,8 @@ ghost use Rattle.ic_link_ops.specs.Positions.{Stands};
 ghost use Rattle.ic_linked_list.specs.Cursor as reads;
 ghost use Rattle.ic_linked_list.specs.CursorMut as edits;
 
-use crate::{Cursor, CursorMut, LinkedList};
 use ic_link_ops::linked_list::{LinkOps, LinkedListOps};
+use ic_linked_list::{Cursor, CursorMut, LinkedList};
 use ic_unsafe_ref::{Place, UnsafeRef};
 use std::alloc::Allocator;
 

@@ -1,7 +1,7 @@
 use Rattle.std.proofs.Common.{◌∙◌, append-nil}
 use Rattle.ic_link_ops.specs.Sequences.{at_front, at_back}
 use Rattle.ic_link_ops.proofs.Positions.{stands_null}
-use Rattle.ic_linked_list.proofs.laws.null_there_and_back.Goals as goal
+use Rattle.ic_laws.proofs.linked_list.null_there_and_back.Goals as goal
 
 pub move_next-requires : goal.move_next-requires
 move_next-requires g c = record { stands = stands_null c.requires.shown.0 c.requires.shown.1 c.requires.null }

@@ -1,0 +1,13 @@
+//! What follows of several calls of a list together, each law as the contract of a function.
+//!
+//! ```text
+//! linked_list::split_then_splice(&mut cursor); // the list is what it was
+//! ```
+//!
+//! What holds of collections of every kind stands with the tables, as lemmas for proofs (`CollectionLaws` of `ic_link_ops`): every
+//! table shows nothing for a new collection, no table shows two sequences for one, and an edit leaves all others.
+#![tactic(auto)]
+
+pub mod linked_list;
+pub mod singly_linked_list;
+pub mod xor_linked_list;
