@@ -39,6 +39,8 @@ fn next_links<'c, W: Words>(
 struct Open;
 
 impl Gate for Open {
+    ghost Told = { λ gate worker answered. Unit {0} };
+
     fn passed(&self, _worker: usize, _answered: usize) {}
 }
 

@@ -24,30 +24,45 @@ const ROWS: &[(usize, usize)] = &[
 // As many as there are.
 const MOST_PLACES: usize = 4_294_967_296;
 
+// What is noted of a worker: that it came, and that it met the other one.
+const CAME: u64 = 1;
+
+const MET: u64 = 2;
+
 // Notes each worker's first answer, and holds the worker up until the other one's is noted, for so many turns at most.
 #[derive(Drop)]
 struct Meeting<'c, C> {
     clock: &'c C,
     first: AtomicU64,
     second: AtomicU64,
-    given_up: AtomicU64,
 }
 
 impl<C: Clock> Meeting<'_, C> {
     // A turn is one reading of the other's note, and a millisecond.
     fn meet(&self, own: &AtomicU64, other: &AtomicU64) {
-        own.store(1, Ordering::SeqCst);
+        own.store(CAME, Ordering::SeqCst);
         for _turn in 0..TURNS {
-            if other.load(Ordering::SeqCst) == 1 {
+            if other.load(Ordering::SeqCst) != 0 {
+                own.store(MET, Ordering::SeqCst);
                 return;
             }
             thread::sleep(self.clock, Duration::from_millis(1));
         }
-        self.given_up.store(1, Ordering::SeqCst);
+    }
+
+    // Whether each of the two met the other.
+    fn is_met(&self) -> bool {
+        let (first, second) = (
+            self.first.load(Ordering::SeqCst),
+            self.second.load(Ordering::SeqCst),
+        );
+        (first == MET) & (second == MET)
     }
 }
 
 impl<C: Clock> Gate for Meeting<'_, C> {
+    ghost Told = { λ gate worker answered. Unit {0} };
+
     fn passed(&self, worker: usize, answered: usize) {
         match (worker, answered) {
             (1, 1) => self.meet(&self.first, &self.second),
@@ -57,8 +72,8 @@ impl<C: Clock> Gate for Meeting<'_, C> {
     }
 }
 
-// Whether so many workers meet, and each of the places stands in just one of their lists, or these are too many places. Where workers came one
-// after the other, the first would come to its last turn.
+// Whether two of so many workers meet where there is a place to claim, and each of the places stands in just one of their lists, or these are
+// too many places. Where workers came one after the other, or a gate was not told of them, they would not meet.
 fn is_shared<R: Threads + Wait + Clock + Sync>(
     rt: &R,
     alloc: Global,
@@ -69,7 +84,6 @@ fn is_shared<R: Threads + Wait + Clock + Sync>(
         clock: rt,
         first: AtomicU64::new(0),
         second: AtomicU64::new(0),
-        given_up: AtomicU64::new(0),
     };
     let lists = match fan_out(rt, alloc, workers, places, &gate) {
         Ok(lists) => lists,
@@ -80,7 +94,8 @@ fn is_shared<R: Threads + Wait + Clock + Sync>(
         listed = listed.saturating_add(list.len());
     }
     let is_each_once = (listed == places) & (doubles(places, &lists) == 0);
-    is_each_once & (lists.len() == workers) & (gate.given_up.load(Ordering::SeqCst) == 0)
+    let is_met = gate.is_met() | (workers < 2) | (places == 0);
+    is_each_once & (lists.len() == workers) & is_met
 }
 
 // Whether each row is.

@@ -1,5 +1,5 @@
--- Claims of several places by one holder, and which of them it got.
-use Rattle.std.specs.Prelude.{Bool, if◌then◌else◌, List, [], ◌∷◌}
+-- Claims of several places by one holder, which of them it got, and in which order a gate is told of them.
+use Rattle.std.specs.Prelude.{ℕ, zero, suc, Bool, if◌then◌else◌, List, [], ◌∷◌}
 use Rattle.ic_unsafe_ref.specs.declared.place.Place.{Place}
 use Rattle.ic_atomic.specs.declared.step.Step.TheVariants.{Claim}
 use Rattle.ic_atomic.specs.declared.step.Event.{Event}
@@ -16,3 +16,8 @@ abbrev pub chosen : List Place → List Bool → List Place
 chosen [] got = []
 chosen (p ∷ ps) [] = []
 chosen (p ∷ ps) (b ∷ got) = if b then p ∷ chosen ps got else chosen ps got
+
+-- so many answers may be told next: none, or one more than was told
+abbrev pub IsNext : (ℕ → Type 0) → ℕ → Type 0
+IsNext Told zero = Unit {0}
+IsNext Told (suc n) = Told n

@@ -9,7 +9,7 @@ use Rattle.ic_atomic.specs.declared.step.Event.{Event}
 use Rattle.ic_atomic.specs.declared.hand.Size.{Size}
 use Rattle.ic_atomic.specs.declared.hand.Hand.{Hand}
 use Rattle.ic_atomic.specs.Records.{event, holds}
-use Rattle.ic_atomic.specs.OneList.{record_at, IsOneList, AtOneMoment}
+use Rattle.ic_atomic.specs.OneList.{record_at, IsOneList}
 use Rattle.ic_atomic.specs.Hands.{hand, records_in}
 
 -- there are so many words and so many records in all hands, and these records are one list
@@ -30,10 +30,9 @@ Mine = Me (Unit {0}) Hand
 abbrev pub mine : Hand → List Event
 mine v = record_at v.records 0
 
--- the one record in hand gains the step with the word that it found, at one moment
+-- the one record in hand gains the step with the word that it found
 pub record Gains (s : Step) (found : ℕ) (old new : Hand) : Type 0 where
   pub gained : new ≡ hand old.size ((mine old ++ event s found ∷ []) ∷ [])
-  pub moment : AtOneMoment old.size.holders s found (mine old) (mine old ++ event s found ∷ [])
 
 -- a compare-exchange finds 0 only where this holder doesn't hold the place
 abbrev pub claimed : TableStep (Unit {0}) → Mine → ℕ → Mine → Type 0

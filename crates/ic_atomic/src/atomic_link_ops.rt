@@ -12,7 +12,7 @@ ghost use Rattle.ic_unsafe_ref.specs.declared.place.Place.{Place};
 ghost use Rattle.ic_link_ops.specs.Tables.{IsCovered, IsUnlinked, ChangesOnly};
 ghost use Rattle.ic_link_ops.specs.LinkSteps.{releases};
 ghost use Rattle.ic_atomic.specs.Records.{event, holds};
-ghost use Rattle.ic_atomic.specs.Holders.{places_of, holders_of, IsSeatOf, hand_of, hand_with, record_of, IsOf};
+ghost use Rattle.ic_atomic.specs.Holders.{places_of, IsSeatOf, hand_of, hand_with, record_of, IsOf};
 
 use crate::claims::{Claims, Holder};
 use crate::plain_link_ops::PlainLinkOps;
@@ -38,7 +38,6 @@ pub struct AtomicLinkOps<'c, L: PlainLinkOps, A: Allocator = Global> {
 
 impl<'c, L: PlainLinkOps, A: Allocator> AtomicLinkOps<'c, L, A> {
     ghost use Rattle.ic_atomic.specs.AtomicLinks.{claims_of, holder_of, record_in, links_of, Gains};
-    ghost use Rattle.ic_atomic.specs.OneList.{AtOneMoment};
     ghost use Rattle.ic_atomic.specs.declared.step.Step.TheVariants.{Look};
 
     /// The table, as one whose places its holder claims.
@@ -87,8 +86,6 @@ impl<'c, L: PlainLinkOps, A: Allocator> AtomicLinkOps<'c, L, A> {
     pub fn is_linked(&mut self, place: Place) -> bool
         requires covered { IsCovered (L.table (links_of self.old)) place }
         ensures step { record_in self.new ≡ record_in self.old ++ event (Look place) (if result then 1 else 0) ∷ [] }
-        ensures moment { AtOneMoment (holders_of (claims_of self.old)) (Look place) (if result then 1 else 0)
-            (record_in self.old) (record_in self.new) }
         ensures claims { claims_of self.new ≡ claims_of self.old }
         ensures links { links_of self.new ≡ links_of self.old }
     {

@@ -108,7 +108,6 @@ impl<A: Allocator + Copy> Claims<A> {
 impl<A: Allocator> Claims<A> {
     ghost use Rattle.ic_atomic.specs.declared.step.Step.TheVariants.{Claim, Release, Look};
     ghost use Rattle.ic_atomic.specs.Records.{event, holds, HoldsAlso, GivesUp, HoldsTheSame};
-    ghost use Rattle.ic_atomic.specs.OneList.{AtOneMoment};
     ghost use Rattle.ic_atomic.specs.Hands.{without_first, only_first, both_hands};
     ghost use Rattle.ic_atomic.specs.Holders.{places_of, holders_of, IsSeatOf, hand_of, HasNoSlot, record_of, IsOf, AreOneList, AreWholeList, NoneTwice};
 
@@ -153,8 +152,6 @@ impl<A: Allocator> Claims<A> {
         ensures made { IsOf self.now holder.new }
         ensures step { record_of holder.new
             ≡ record_of holder.old ++ event (Claim place) (if result then 0 else 1) ∷ [] }
-        ensures moment { AtOneMoment (holders_of self.now) (Claim place) (if result then 0 else 1)
-            (record_of holder.old) (record_of holder.new) }
         ensures claimed { OnTrue result (HoldsAlso (record_of holder.old) (record_of holder.new) place) }
         ensures refused { OnFalse result (HoldsTheSame (record_of holder.old) (record_of holder.new)) }
     {
@@ -175,8 +172,6 @@ impl<A: Allocator> Claims<A> {
         ensures made { IsOf self.now holder.new }
         ensures step { record_of holder.new
             ≡ record_of holder.old ++ event (Release place) 1 ∷ [] }
-        ensures moment { AtOneMoment (holders_of self.now) (Release place) 1
-            (record_of holder.old) (record_of holder.new) }
         ensures released { GivesUp (record_of holder.old) (record_of holder.new) place }
     {
         let words = &self.table.shared;
@@ -194,8 +189,6 @@ impl<A: Allocator> Claims<A> {
         ensures made { IsOf self.now holder.new }
         ensures step { record_of holder.new
             ≡ record_of holder.old ++ event (Look place) (if result then 1 else 0) ∷ [] }
-        ensures moment { AtOneMoment (holders_of self.now) (Look place) (if result then 1 else 0)
-            (record_of holder.old) (record_of holder.new) }
         ensures kept { HoldsTheSame (record_of holder.old) (record_of holder.new) }
     {
         let words = &self.table.shared;

@@ -28,10 +28,6 @@ module _ {E H : Type 0} (Shows : Table E → H → List Place → Type 0) (at : 
     pub border : IsBorder (less_at at) gap
     pub inserted : Inserts Shows old new head gap p
 
--- the link of p was refused, from this state on
-abbrev pub WasRefused : {L : Type 0} → (L → L → Place → Type 0) → L → Place → Type 0
-WasRefused {L} Refused old p = (now : L) × Refused old now p
-
 -- `Shows`: the kind's shows-relation. `table`, `Does`: what clauses see of the table, and its steps. `old`, `new`: before the call and after it
 module _ {L E H : Type 0} (Shows : Table E → H → List Place → Type 0) (table : L → Table E) (Does : L → L → List LinkStep → Type 0) where
   -- the object is inserted in order, or its link is refused and nothing else has changed. The position stays

@@ -69,10 +69,6 @@ puts_in_order {m = m} {p = p} order held inserted links adapter head stays =
 
 -- WHAT AN EDIT THROUGH A BORROW LEFT: the root and the table that the borrow ended as are those that the edit answered
 module _ {t t' : Table Entry} {root root' : Option Place} where
-  pub in_order_left : {at : Place → Ordering} {old : Table Entry} {s : List Place} {p : Place} → InsertsInOrder (tree.Shows node) at old t root s p
-      → t' ≡ t → root' ≡ root → InsertsInOrder (tree.Shows node) at old t' root' s p
-  in_order_left put table head = rw (table, head) put
-
   pub inserts_left : {old old' : Table Entry} {gap : Cut} {p p' : Place} → old ≡ old' → p ≡ p' → Inserts (tree.Shows node) old t root gap p
       → t' ≡ t → root' ≡ root → Inserts (tree.Shows node) old' t' root' gap p'
   inserts_left same place put table head = rw (table, head, ← same, ← place) put

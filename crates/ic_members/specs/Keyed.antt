@@ -1,5 +1,5 @@
 -- What keyed calls of a tree leave and answer.
-use Rattle.std.specs.Prelude.{◌≡◌, ℕ, ◌+◌, ◌^◌, ◌≤◌, Option, List, length}
+use Rattle.std.specs.Prelude.{◌≡◌, ℕ, Option, List}
 use Rattle.std.specs.declared.cmp.Ordering.{Ordering}
 use Rattle.ic_unsafe_ref.specs.declared.place.Place.{Place}
 use Rattle.ic_link_ops.specs.Sequences.{Cut}
@@ -7,6 +7,7 @@ use Rattle.ic_link_ops.specs.Tables.{Table}
 use Rattle.ic_rbtree.specs.declared.key_adapter.Bound.{Bound}
 use Rattle.ic_rbtree.specs.declared.key_adapter.Bound.TheVariants.{Included, Excluded, Unbounded}
 use Rattle.ic_rbtree.specs.declared.probe.KeyProbe.{KeyProbe}
+pub use Rattle.ic_rbtree.specs.Comparing.{FewLooks}
 use Rattle.ic_rbtree.specs.KeyProbe.{looks_of}
 use Rattle.ic_rbtree.specs.Borders.{IsBorder, less_at, at_most_at}
 use Rattle.ic_fields.specs.declared.entry.Entry.{Entry}
@@ -14,9 +15,11 @@ use Rattle.ic_members.specs.declared.members.Members.{Members}
 use Rattle.ic_members.specs.Members.{members_in}
 use Rattle.ic_members.specs.Edits.{AtGap, Puts}
 
--- so few looks are those of one descent in a tree with the members s
-abbrev pub FewLooks : ℕ → List Place → Type 0
-FewLooks looks s = 2 ^ looks ≤ (length s + 1) ^ 2
+-- SO FEW LOOKS as a search within this bound makes in a tree with the members s: none by `Unbounded`
+abbrev pub FewLooksWithin : {B : Type 0} → Bound B → ℕ → List Place → Type 0
+FewLooksWithin (Included _) looks s = FewLooks looks s
+FewLooksWithin (Excluded _) looks s = FewLooks looks s
+FewLooksWithin Unbounded looks s = looks ≡ 0
 
 module _ {A V K : Type 0} where
   -- the looks of a search within a bound

@@ -18,7 +18,6 @@ ghost use Rattle.ic_rbtree.specs.Comparing.{compared, compared_within, order_of,
 ghost use Rattle.ic_rbtree.specs.CursorMut as editing;
 ghost use Rattle.ic_rbtree.specs.Entry as gaps;
 ghost use Rattle.ic_rbtree.specs.Iter.{rest_of, CanWalk};
-ghost use Rattle.ic_rbtree.specs.Ordered.{InsertsInOrder};
 ghost use Rattle.ic_rbtree.specs.KeyProbe.{key_order, looks_of, HasAdapter};
 ghost use Rattle.ic_rbtree.specs.Ranges.{runs_up, IsRange};
 ghost use Rattle.ic_rbtree.specs.Tree.{root_of, adapter_of};
@@ -26,7 +25,7 @@ ghost use Rattle.ic_fields.specs.Entries.{is_linked, node};
 ghost use Rattle.ic_fields.specs.Fields.{look};
 ghost use Rattle.ic_fields.specs.TreeTables as tree_table;
 ghost use Rattle.ic_members.specs.Edits.{AtGap};
-ghost use Rattle.ic_members.specs.Keyed.{FewLooks, looks_within, HasNoLooks, IsVacantFor};
+ghost use Rattle.ic_members.specs.Keyed.{FewLooks, FewLooksWithin, looks_within, HasNoLooks, IsVacantFor};
 
 use crate::Members;
 use ic_fields::{Field, TreeTable, TwoWay};
@@ -36,7 +35,7 @@ use ic_rbtree::{Bound, CursorMut, Entry, InsertCursor, Iter, KeyAdapter, KeyProb
 use ic_unsafe_ref::{Objects, Place, UnsafeRef};
 use std::alloc::{AllocError, Allocator};
 
-// The bound, of a search for its key that has made no look.
+// The bound, of a search for its key that has made no look, and makes none where there is no key.
 #[inline]
 fn probe_for<'k, A: KeyAdapter>(adapter: A, bound: &'k Bound<A::Key>) -> Bound<KeyProbe<'k, A>>
     ensures order { (objects : Placed A.Value) → compared_within (key_order A.Key.cmp A.key_of) objects result
@@ -78,7 +77,7 @@ fn walk_between<'a, A: KeyAdapter, L: RBTreeOps, B: Allocator>(
         (runs_up A.Key.cmp (A.key_of (adapter_of tree.now)) objects.now) s (rest_of L.node L.table result.0) }
     ensures can_walk { CanWalk L.node L.table result.0 }
     ensures looks { (s : List Place) → Shows L.node (L.table links.now) (root_of tree.now) s
-        → FewLooks result.1 s × FewLooks result.2 s }
+        → FewLooksWithin min.now result.1 s × FewLooksWithin max.now result.2 s }
 {
     let adapter = tree.adapter();
     let mut from = probe_for(adapter, min);
@@ -176,7 +175,7 @@ impl<A: KeyAdapter> Members<A> {
         requires placed { ArePlaced objects.now (members_in (look links.now) self.old) }
         ensures border { IsLowerBorder (compared_within (order_of A.Key.cmp (A.key_of adapter)) objects.now bound.now)
             (members_in (look links.now) self.old) result.0 }
-        ensures looks { FewLooks result.1 (members_in (look links.now) self.old) }
+        ensures looks { FewLooksWithin bound.now result.1 (members_in (look links.now) self.old) }
         ensures moved { Moves (look links.now) self.old self.new result.0 }
     {
         let mut probe = probe_for(adapter, bound);
@@ -211,7 +210,7 @@ impl<A: KeyAdapter> Members<A> {
         requires placed { ArePlaced objects.now (members_in (look links.now) self.old) }
         ensures border { IsUpperBorder (compared_within (order_of A.Key.cmp (A.key_of adapter)) objects.now bound.now)
             (members_in (look links.now) self.old) result.0 }
-        ensures looks { FewLooks result.1 (members_in (look links.now) self.old) }
+        ensures looks { FewLooksWithin bound.now result.1 (members_in (look links.now) self.old) }
         ensures moved { Moves (look links.now) self.old self.new result.0 }
     {
         let mut probe = probe_for(adapter, bound);
@@ -246,8 +245,8 @@ impl<A: KeyAdapter> Members<A> {
         ensures range { IfOk result (λ answer. IsRange (compared_within (order_of A.Key.cmp (A.key_of adapter)) objects.now min.now)
             (compared_within (order_of A.Key.cmp (A.key_of adapter)) objects.now max.now) (runs_up A.Key.cmp (A.key_of adapter) objects.now)
             (members_in (look links.now) self.now) answer.0.items) }
-        ensures looks { IfOk result (λ answer. FewLooks answer.1 (members_in (look links.now) self.now)
-            × FewLooks answer.2 (members_in (look links.now) self.now)) }
+        ensures looks { IfOk result (λ answer. FewLooksWithin min.now answer.1 (members_in (look links.now) self.now)
+            × FewLooksWithin max.now answer.2 (members_in (look links.now) self.now)) }
     {
         match self {
             Members::Tree(cursor) => match links {
@@ -321,7 +320,11 @@ impl<A: KeyAdapter> Members<A> {
                 Field::TwoWay(TwoWay::Tree(links)) => {
                     let value = objects.get(object).unwrap(); // proved: it is placed
                     let mut probe = KeyProbe::new(adapter, adapter.get_key(value));
-                    put_in_order(cursor.list_mut(), links, objects, &mut probe, object);
+                    let object = UnsafeRef::new(object);
+                    let inserted = cursor
+                        .list_mut()
+                        .insert_by(links, objects, &mut probe, object);
+                    inserted.unwrap(); // proved: it is not linked
                     probe.looks()
                 }
                 Field::TwoWay(TwoWay::Doubly(_)) | Field::Singly(_) | Field::Xor(_) => 0,
@@ -374,30 +377,6 @@ impl<A: KeyAdapter> Members<A> {
     }
 }
 
-// Puts an unlinked object where the probe's order wants it.
-fn put_in_order<A: KeyAdapter, M: Allocator, B: Allocator>(
-    tree: &mut RBTree<A>,
-    links: &mut TreeTable<M>,
-    objects: &Objects<A::Value, B>,
-    probe: &mut KeyProbe<'_, A>,
-    object: Place,
-)
-    requires placed { ShowsPlaced (Shows node (tree_table.look links.old) (root_of tree.old)) objects.now }
-    requires room { HasRoom (looks_of probe.old) }
-    requires covered { IsCovered (tree_table.look links.old) object }
-    requires unlinked { IsUnlinked is_linked (tree_table.look links.old) object }
-    ensures inserted { (s : List Place) → Shows node (tree_table.look links.old) (root_of tree.old) s
-        → InsertsInOrder (Shows node) (compared (key_order A.Key.cmp A.key_of probe.old) objects.now)
-        (tree_table.look links.old) (tree_table.look links.new) (root_of tree.new) s object }
-    ensures linked { LinksAlso is_linked (tree_table.look links.old) (tree_table.look links.new) object }
-    ensures adapter { adapter_of tree.new ≡ adapter_of tree.old }
-    ensures looks { (s : List Place) → Shows node (tree_table.look links.old) (root_of tree.old) s
-        → Looks (key_order A.Key.cmp A.key_of) looks_of probe.old probe.new s }
-{
-    let object = UnsafeRef::new(object);
-    tree.insert_by(links, objects, probe, object).unwrap(); // proved: it is not linked
-}
-
 // Puts an unlinked object into the gap. The cursor that it answers is on the object.
 fn put_into<'a, A: KeyAdapter, M: Allocator>(
     gap: InsertCursor<'a, A, TreeTable<M>>,
@@ -413,7 +392,10 @@ fn put_into<'a, A: KeyAdapter, M: Allocator>(
     ensures linked { LinksAlso is_linked (tree_table.look (gaps.links_of gap.entry)) (tree_table.look (editing.links_of result)) object }
     ensures borrows { editing.SameNames gap.entry.tree gap.entry.links result }
 {
-    gap.insert(UnsafeRef::new(object)).unwrap() // proved: it is not linked
+    match gap.insert(UnsafeRef::new(object)) {
+        Ok(cursor) => cursor,
+        Err(_) => unreachable!(), // proved: it is not linked
+    }
 }
 
 // The first member that compares equal, or the object, which goes into the gap where the search ended; `None` where it is linked.

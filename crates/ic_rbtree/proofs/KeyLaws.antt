@@ -9,13 +9,11 @@ use Rattle.std.specs.Ordering.{is_eq, is_lt, is_le, is_gt, ordering_reverse}
 use Rattle.ic_unsafe_ref.specs.declared.place.Place.{Place}
 use Rattle.ic_unsafe_ref.specs.Objects.{Objects, object_at}
 use Rattle.ic_link_ops.specs.PlacedObjects.{ArePlaced, values_at}
-use Rattle.ic_link_ops.specs.Tables.{Table}
 use Rattle.ic_link_ops.specs.Sequences.{Cut, join, insert, first, last}
 use Rattle.ic_link_ops.proofs.SequenceLemmas.{none_not}
 use Rattle.ic_rbtree.specs.declared.key_adapter.Bound.{Bound}
 use Rattle.ic_rbtree.specs.Borders.{IsBorder, IsLowerBorder, IsUpperBorder, Finds, IsSorted, IsSortedFor, equal_at, at_most_at, less_at, if_passes}
 use Rattle.ic_rbtree.specs.Comparing.{answer_at, compared, order_of, meets_lower, meets_upper, is_beyond}
-use Rattle.ic_rbtree.specs.Ordered.{InsertsInOrder}
 
 -- a test cuts the sequence: it fails in front of a gap, and passes behind
 pub record Cuts (test : Place → Bool) (s : List Place) : Type 0 where
@@ -123,17 +121,6 @@ module _ {at : Place → Ordering} {s : List Place} (sorted : IsSortedFor at s) 
       by [] [] he hl = refl
       by [] (p ∷ larger) he hl = ap (λ o. cond (is_eq o) (Some p) None) hl.0
       by (p ∷ equal) larger he hl = ap (λ o. cond (is_eq o) (Some p) None) he.0
-
-  -- INSERTED IN ORDER behind all that are not greater: members with the same key stand in the order of their insertion
-  pub in_order_is : {E H : Type 0} {Shows : Table E → H → List Place → Type 0} {old new : Table E} {head : H} {p : Place} → InsertsInOrder Shows at old new head s p
-      → Shows new head (filter (λ q. not (less_at at q)) s ++ p ∷ filter (less_at at) s)
-  in_order_is {Shows = Shows} {new = new} {head} {p} x =
-      let k = cuts_less in
-      let r = one_border (less_at at) k.front k.back x.gap.front x.gap.back (k.same ∙ sym x.same) k.fail k.pass x.border.fails x.border.passes in
-      let front : x.gap.front ≡ filter (λ q. not (less_at at q)) s =
-      r.0 ∙ sym (ap (filter (λ q. not (less_at at q))) (sym k.same) ∙ filter_front (λ q. not (less_at at q)) k.front k.back (all_map (λ q h. ap not h) k.front k.fail) (all_map (λ q h. ap not h) k.back k.pass)) in
-      let back : x.gap.back ≡ filter (less_at at) s = r.1 ∙ sym (ap (filter (less_at at)) (sym k.same) ∙ filter_fail (less_at at) k.front k.back k.fail ∙ filter_pass (less_at at) k.back k.pass) in
-      subst (λ t. Shows new head (t ++ p ∷ filter (less_at at) s)) front (subst (λ t. Shows new head (x.gap.front ++ p ∷ t)) back x.inserted.shows)
 
 -- A SORTED SEQUENCE is sorted for every key
 module _ {V K : Type 0} {cmp : K → K → Ordering} (total : IsTotalOrder cmp) (key_of : V → K) (objects : Objects V) where

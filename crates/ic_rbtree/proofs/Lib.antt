@@ -30,6 +30,7 @@ pub mod InOrder
 pub mod Ranges
 pub mod KeyLaws
 pub mod RangeLaws
+pub mod SortedAnswers
 pub mod PlainTrees
 pub mod Passing
 pub mod SortedKeys

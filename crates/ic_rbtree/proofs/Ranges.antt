@@ -79,14 +79,14 @@ module _ {K : Type 0} {cmp : K → K → Ordering} (total : IsTotalOrder cmp) wh
   turned : (k x : K) → cmp k x ≡ Greater → cmp x k ≡ Less
   turned k x e = total.antisymm x k ∙ ap ordering_reverse e
 
-  le_fails : (k x y : K) (r q : Ordering) → cmp k x ≡ r → cmp k y ≡ q → is_le r ≡ false → is_le q ≡ true → cmp x y ≡ Less
+  pub le_fails : (k x y : K) (r q : Ordering) → cmp k x ≡ r → cmp k y ≡ q → is_le r ≡ false → is_le q ≡ true → cmp x y ≡ Less
   le_fails k x y Less q er eq h g = absurd (true≢false h)
   le_fails k x y Equal q er eq h g = absurd (true≢false h)
   le_fails k x y Greater Less er eq h g = total.trans x k y (turned k x er) eq
   le_fails k x y Greater Equal er eq h g = sym (alike_right total k y x eq) ∙ turned k x er
   le_fails k x y Greater Greater er eq h g = absurd (true≢false (sym g))
 
-  lt_fails : (k x y : K) (r q : Ordering) → cmp k x ≡ r → cmp k y ≡ q → is_lt r ≡ false → is_lt q ≡ true → cmp x y ≡ Less
+  pub lt_fails : (k x y : K) (r q : Ordering) → cmp k x ≡ r → cmp k y ≡ q → is_lt r ≡ false → is_lt q ≡ true → cmp x y ≡ Less
   lt_fails k x y Less q er eq h g = absurd (true≢false h)
   lt_fails k x y Equal Less er eq h g = sym (total.congr k x y er) ∙ eq
   lt_fails k x y Greater Less er eq h g = total.trans x k y (turned k x er) eq

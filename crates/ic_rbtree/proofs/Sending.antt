@@ -209,6 +209,13 @@ module _ {E : Type 0} (n : E → Node) where
           equal_is = x.equal_is;
         }
 
+        -- there was a look at the root, if there is one
+        pub sent_some : {s : List Place} (h : Shows n v root s) → h.tree ≡ tree → 1 ≤ length s → 1 ≤ length x.fs
+        sent_some {s} h same some = by x.fs (sym h.held.order ∙ ap in_order (same ∙ sym x.same ∙ ap (plug x.fs) bare)) where
+          by : (fs : List Frame) → s ≡ in_order (plug fs leaf) → 1 ≤ length fs
+          by [] empty = omega (arith, some, ap length empty)
+          by (f ∷ fs) there = omega arith
+
       -- as many looks as members on the way
       pub sent_few : {s : List Place} (h : Shows n v root s) → h.tree ≡ tree → 2 ^ length x.fs ≤ (length s + 1) ^ 2
       sent_few {s} h same =

@@ -1,14 +1,15 @@
 -- Sequences whose objects stand by their keys: with one more, and with one less.
 use Rattle.std.proofs.Common.{◌≡◌, ◌≢◌, ℕ, ◌≤◌, Bool, true, false, cond, ltb, eqb, Option, Some, None, IsSome, Result, Ok, Err, List, [], ◌∷◌, ◌++◌, map, filter, drop, refl, sym, ap, ◌∙◌, subst, arith, ltb-true, ltb-false, eqb-true, true≢false}
 use Rattle.std.proofs.lemmas.Bool.{eqb-false}
-use Rattle.std.specs.List.{AllByRecursion}
-use Rattle.std.specs.Ordering.{nat_cmp, is_lt}
+use Rattle.std.proofs.lemmas.Cmp.{nat_cmp_total}
+use Rattle.std.specs.List.{AllByRecursion, cons_option}
+use Rattle.std.specs.Ordering.{nat_cmp}
 use Rattle.std.specs.declared.cmp.Ordering.TheVariants.{Less, Equal, Greater}
 use Rattle.ic_unsafe_ref.specs.declared.place.Place.{Place}
 use Rattle.ic_unsafe_ref.specs.Objects.{Objects, object_at}
 use Rattle.ic_link_ops.specs.declared.errors.AlreadyLinked.{AlreadyLinked}
-use Rattle.ic_link_ops.specs.Sequences.{join, first, last}
-use Rattle.ic_link_ops.specs.PlacedObjects.{ArePlaced}
+use Rattle.ic_link_ops.specs.Sequences.{join, insert}
+use Rattle.ic_link_ops.specs.PlacedObjects.{ArePlaced, values_at}
 use Rattle.ic_link_ops.specs.Tables.{Table}
 use Rattle.ic_link_ops.specs.RedBlackTree as Trees
 use Rattle.ic_link_ops.specs.RedBlackTree.{Node}
@@ -18,10 +19,11 @@ use Rattle.ic_link_ops.specs.Positions.{Site, ShowsAt, Stands}
 use Rattle.ic_link_ops.proofs.Positions.{gap_there}
 use Rattle.ic_link_ops.proofs.SequenceLemmas.{first_is}
 use Rattle.ic_link_ops.proofs.ShownTrees.{shows_nothing}
-use Rattle.ic_rbtree.specs.Borders.{IsSorted}
-use Rattle.ic_rbtree.specs.Comparing.{answer_at}
+use Rattle.ic_rbtree.specs.Borders.{IsBorder, IsSorted, less_at}
 use Rattle.ic_rbtree.specs.Ordered.{InsertsInOrder, InsertsAmong}
 use Rattle.ic_rbtree.specs.SortedObjects.{key_or, key_at, keys_at, against, ShowsSorted}
+use Rattle.ic_rbtree.proofs.KeyLaws.{value_there, stays_sorted}
+use Rattle.ic_rbtree.proofs.SortedValues.{own_order_is}
 
 -- `not greater`, as numbers have it
 up_by : (k l : ℕ) (a b : Bool) → ltb k l ≡ a → eqb k l ≡ b → cond a Less (cond b Equal Greater) ≢ Greater → k ≤ l
@@ -39,16 +41,6 @@ is_up_by k l false false p q h = let x : l ≤ k = ltb-false k l p in let y = eq
 
 is_up : (k l : ℕ) → k ≤ l → nat_cmp k l ≢ Greater
 is_up k l h = is_up_by k l (ltb k l) (eqb k l) refl refl h
-
--- a comparison, as numbers have it
-less_is : (k l : ℕ) (a b : Bool) → ltb k l ≡ a → eqb k l ≡ b → is_lt (cond a Less (cond b Equal Greater)) ≡ true → k ≤ l
-less_is k l true b p q h = let x = ltb-true k l p in omega arith
-less_is k l false true p q h = cc
-less_is k l false false p q h = cc
-
-not_less_is : (k l : ℕ) (a b : Bool) → ltb k l ≡ a → eqb k l ≡ b → is_lt (cond a Less (cond b Equal Greater)) ≡ false → l ≤ k
-not_less_is k l true b p q h = cc
-not_less_is k l false b p q h = ltb-false k l p
 
 -- WHAT RISES BY ITS KEYS, with one less
 module _ {T : Type 0} (key : T → ℕ) where
@@ -98,32 +90,13 @@ module _ {T : Type 0} (key : T → ℕ) (objects : Objects T) where
   pub new_is_sorted : {E : Type 0} {n : E → Node} {t : Table E} {root : Option Place} → root ≡ None → ShowsSorted key (Trees.Shows n t root) objects
   new_is_sorted {n = n} {t} e = record { placed = record { members = []; shown = rw e (shows_nothing {n = n} t); placed = tt }; sorted = tt }
 
-  -- between placed objects it is one of their keys
-  of_keys : (a b : Option T) → IsSome a → IsSome b → answer_at (λ v. answer_at (λ own. nat_cmp (key own) (key v)) a) b ≡ nat_cmp (key_or key a) (key_or key b)
-  of_keys (Some x) (Some y) h k = refl
-  of_keys None b h k = absurd (true≢false (sym h))
-  of_keys (Some x) None h k = absurd (true≢false (sym k))
-
-  module _ (p q : Place) (here : IsSome (object_at objects p)) (there : IsSome (object_at objects q)) where
-    after : is_lt (against key objects p q) ≡ true → key_at key objects p ≤ key_at key objects q
-    after h = less_is (key_at key objects p) (key_at key objects q) _ _ refl refl (sym (ap is_lt (of_keys (object_at objects p) (object_at objects q) here there)) ∙ h)
-
-    before : is_lt (against key objects p q) ≡ false → key_at key objects q ≤ key_at key objects p
-    before h = not_less_is (key_at key objects p) (key_at key objects q) _ _ refl refl (sym (ap is_lt (of_keys (object_at objects p) (object_at objects q) here there)) ∙ h)
-
-  -- ONE MORE, where the one in front has no greater key, and the one behind a greater
-  put : (p : Place) → IsSome (object_at objects p) → (front back : List Place) → ArePlaced objects (front ++ back)
-      → ((q : Place) → last front ≡ Some q → is_lt (against key objects p q) ≡ false) → ((q : Place) → first back ≡ Some q → is_lt (against key objects p q) ≡ true)
-      → IsSorted nat_cmp (keys_at key objects (front ++ back)) → IsSorted nat_cmp (keys_at key objects (front ++ p ∷ back))
-  put p here [] [] placed fails passes sorted = tt
-  put p here [] (b ∷ back) placed fails passes sorted = (is_up _ _ (after p b here placed.0 (passes b refl)), sorted)
-  put p here (f ∷ []) back placed fails passes sorted =
-      (is_up _ _ (before p f here placed.0 (fails f refl)), put p here [] back placed.1 (λ q e. cc) passes (tail f back sorted))
-    where
-      tail : (f : Place) (s : List Place) → IsSorted nat_cmp (keys_at key objects (f ∷ s)) → IsSorted nat_cmp (keys_at key objects s)
-      tail f [] h = tt
-      tail f (x ∷ s) h = h.1
-  put p here (f ∷ g ∷ front) back placed fails passes sorted = (sorted.0, put p here (g ∷ front) back placed.1 fails passes sorted.1)
+  -- the keys of the placed objects, as the laws of sorted sequences have them
+  keys_are : (s : List Place) → ArePlaced objects s → keys_at key objects s ≡ map key (values_at objects s)
+  keys_are [] placed = refl
+  keys_are (p ∷ s) placed = by (object_at objects p) placed.0 (keys_are s placed.1) where
+    by : (o : Option T) → IsSome o → keys_at key objects s ≡ map key (values_at objects s) → key_or key o ∷ keys_at key objects s ≡ map key (cons_option o (values_at objects s))
+    by None h rest = absurd (true≢false (sym h))
+    by (Some v) h rest = ap (λ l. key v ∷ l) rest
 
   -- as for the placed ones
   placed_with : (front : List Place) (p : Place) (back : List Place) → IsSome (object_at objects p) → ArePlaced objects (front ++ back) → ArePlaced objects (front ++ p ∷ back)
@@ -138,10 +111,14 @@ module _ {T : Type 0} (key : T → ℕ) (objects : Objects T) where
       → (q : ShowsSorted key (Shows old head) objects) → InsertsInOrder Shows (against key objects p) old new new_head q.placed.members p → ShowsSorted key (Shows new new_head) objects
   inserted Shows old new head new_head {p} here q x =
       let placed : ArePlaced objects (join x.gap) = subst (ArePlaced objects) (sym x.same) q.placed.placed in
-      let sorted : IsSorted nat_cmp (keys_at key objects (join x.gap)) = subst (λ s. IsSorted nat_cmp (keys_at key objects s)) (sym x.same) q.sorted in
+      let all : ArePlaced objects (insert x.gap p) = placed_with x.gap.front p x.gap.back here placed in
+      let sorted : IsSorted nat_cmp (map key (values_at objects (join x.gap))) =
+      subst (λ s. IsSorted nat_cmp (map key (values_at objects s))) (sym x.same) (subst (IsSorted nat_cmp) (keys_are q.placed.members q.placed.placed) q.sorted) in
+      let own = value_there nat_cmp_total key objects (object_at objects p) here in
+      let border = subst (λ at. IsBorder (less_at at) x.gap) (own_order_is nat_cmp key objects p own.1) x.border in
       record {
-        placed = record { members = x.gap.front ++ p ∷ x.gap.back; shown = x.inserted.shows; placed = placed_with x.gap.front p x.gap.back here placed };
-        sorted = put p here x.gap.front x.gap.back placed x.border.fails x.border.passes sorted;
+        placed = record { members = insert x.gap p; shown = x.inserted.shows; placed = all };
+        sorted = subst (IsSorted nat_cmp) (sym (keys_are (insert x.gap p) all)) (stays_sorted nat_cmp_total key objects p own.1 x.gap placed sorted border);
       }
 
   module _ {L E H : Type 0} {Shows : Table E → H → List Place → Type 0} {table : L → Table E} {Does : L → L → List LinkStep → Type 0} {old new : Site L H} where

@@ -72,12 +72,17 @@ most_looks = 66
 abbrev pub HasRoom : ℕ → Type 0
 HasRoom count = count + most_looks ≤ 18446744073709551615
 
+-- SO FEW LOOKS as one descent makes in a tree with the members s, and one at least if there is a member
+pub record FewLooks (looks : ℕ) (s : List Place) : Type 0 where
+  pub few : 2 ^ looks ≤ (length s + 1) ^ 2
+  pub some : 1 ≤ length s → 1 ≤ looks
+
 module _ {P V : Type 0} (order : P → V → Ordering) (count : P → ℕ) where
-  -- THE LOOKS OF ONE DESCENT in a tree with the members s: v of them, where 2 ^ v <= (n + 1) ^ 2. The probe compares as before
+  -- THE LOOKS OF ONE DESCENT in a tree with the members s. The probe compares as before
   pub record Looks (old new : P) (s : List Place) : Type 0 where
     pub looks : ℕ
     pub counted : count new ≡ count old + looks
-    pub few : 2 ^ looks ≤ (length s + 1) ^ 2
+    pub few : FewLooks looks s
     pub order_is : order new ≡ order old
 
   -- the same of the probe in a bound. Without a bound there is none, and no look

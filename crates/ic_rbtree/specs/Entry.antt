@@ -1,9 +1,8 @@
 -- What clauses see of an entry: a member with a key, or a gap where it would stand.
-use Rattle.std.specs.Prelude.{◌≡◌, ⊤, Some, Result, OnErr, IfOk, IfErr, List, [], ◌∷◌}
+use Rattle.std.specs.Prelude.{◌≡◌, ⊤, Some, Result, IfOk, IfErr, List, [], ◌∷◌}
 use Rattle.std.specs.declared.cmp.Ordering.{Ordering}
 use Rattle.std.specs.Borrow.{MutBor}
 use Rattle.ic_unsafe_ref.specs.declared.place.Place.{Place}
-use Rattle.ic_link_ops.specs.declared.errors.AlreadyLinked.{AlreadyLinked}
 use Rattle.ic_link_ops.specs.Edits.{Inserts}
 use Rattle.ic_link_ops.specs.LinkSteps.{LinkStep, acquires}
 use Rattle.ic_link_ops.specs.Positions.{Stands}
@@ -13,12 +12,12 @@ use Rattle.ic_link_ops.specs.RedBlackTree.{Node, Shows}
 use Rattle.ic_rbtree.specs.declared.entry.Entry.{Entry}
 use Rattle.ic_rbtree.specs.declared.entry.Entry.TheVariants.{Occupied, Vacant}
 use Rattle.ic_rbtree.specs.declared.entry.InsertCursor.{InsertCursor}
+use Rattle.ic_rbtree.specs.declared.entry.RefusedInsert.{RefusedInsert}
 use Rattle.ic_rbtree.specs.declared.tree.RBTree.{RBTree}
 use Rattle.ic_rbtree.specs.Borders.{IsBorder, at_most_at, less_at}
 use Rattle.ic_rbtree.specs.CursorMut as editing
 use Rattle.ic_rbtree.specs.CursorMut.{CursorMut}
 use Rattle.ic_rbtree.specs.Insertion.{IsHole}
-use Rattle.ic_rbtree.specs.Ordered.{WasRefused}
 use Rattle.ic_rbtree.specs.Tree.{root_of}
 
 module _ {A L V K : Type 0} where
@@ -61,14 +60,19 @@ module _ {A L : Type 0} where
       pub smaller : IsBorder (at_most_at at) gap
       pub larger : IsBorder (less_at at) gap
 
-  -- THE OBJECT IS INSERTED at the gap, and the cursor is on it; or its link is refused, and it comes back
-  module _ {E T : Type 0} (node : E → Node) (table : L → Table E) (Does : L → L → List LinkStep → Type 0) (Refused : L → L → Place → Type 0) where
-    pub record InsertsInto (v : InsertCursor A L) (object : Place) (result : Result (CursorMut A L T) (AlreadyLinked T)) : Type 0 where
-      pub inserted : (gap : Cut) → Shows node (table (links_of v)) (root_of (tree_of v)) (join gap) → IsVacantAt node (table (links_of v)) v gap
-          → IfOk result (λ c. Inserts (Shows node) (table (links_of v)) (table (editing.links_of c)) (root_of (editing.tree_of c)) gap object)
-      pub acquired : IfOk result (λ c. Does (links_of v) (editing.links_of c) (acquires object ∷ []))
-      pub position : IfOk result (λ c. editing.position c ≡ Some object)
-      pub stands : IfOk result (λ c. Stands (Shows node) table (editing.site_of c))
-      pub borrows : IfOk result (editing.SameNames v.tree v.links)
-      pub refused : OnErr result (WasRefused Refused (links_of v) object)
-      pub unchanged : IfErr result (λ refused. refused.0 ≡ object)
+  -- the same gap of the same tree and table, and the tree is as it was
+  abbrev pub IsLeft : InsertCursor A L → InsertCursor A L → Type 0
+  IsLeft old v = (v.tree.ghost_name ≡ old.tree.ghost_name) × (v.links.ghost_name ≡ old.links.ghost_name) × (tree_of v ≡ tree_of old)
+      × (v.parent ≡ old.parent) × (v.side ≡ old.side)
+
+-- THE OBJECT IS INSERTED at the gap, and the cursor is on it; or its link is refused, and it comes back with the gap, of which nothing has changed
+module _ {A L T K E : Type 0} (node : E → Node) (table : L → Table E) (Does : L → L → List LinkStep → Type 0) (Refused : L → L → Place → Type 0) where
+  pub record InsertsInto (v : InsertCursor A L) (object : Place) (result : Result (CursorMut A L T) (RefusedInsert A L T K)) : Type 0 where
+    pub inserted : (gap : Cut) → Shows node (table (links_of v)) (root_of (tree_of v)) (join gap) → IsVacantAt node (table (links_of v)) v gap
+        → IfOk result (λ c. Inserts (Shows node) (table (links_of v)) (table (editing.links_of c)) (root_of (editing.tree_of c)) gap object)
+    pub acquired : IfOk result (λ c. Does (links_of v) (editing.links_of c) (acquires object ∷ []))
+    pub position : IfOk result (λ c. editing.position c ≡ Some object)
+    pub stands : IfOk result (λ c. Stands (Shows node) table (editing.site_of c))
+    pub borrows : IfOk result (editing.SameNames v.tree v.links)
+    pub refused : IfErr result (λ e. Refused (links_of v) (links_of e.gap) object)
+    pub unchanged : IfErr result (λ e. (e.object ≡ object) × IsLeft v e.gap)

@@ -20,7 +20,7 @@ use crate::descent::descend;
 use crate::linking::insert;
 use crate::{CursorMut, KeyAdapter, KeyProbe, Probe, RBTree};
 use ic_link_ops::rbtree::RBTreeOps;
-use ic_link_ops::{AlreadyLinked, End, LinkOps, Side};
+use ic_link_ops::{End, LinkOps, Side};
 use ic_unsafe_ref::{Objects, UnsafeRef};
 use std::alloc::Allocator;
 
@@ -44,6 +44,15 @@ impl<A, L> Drop for InsertCursor<'_, A, L> {
             side: _,
         } = self;
     }
+}
+
+/// An insert that was refused, since the object is linked: the gap, as it was, and the object.
+#[derive(Drop)]
+pub struct RefusedInsert<'a, A: KeyAdapter, L> {
+    /// The gap, in a tree and a table as they were.
+    pub gap: InsertCursor<'a, A, L>,
+    /// The object that came back.
+    pub object: UnsafeRef<A::Value>,
 }
 
 /// What `entry` finds: a cursor on the first member with the key, or the gap where it would stand.
@@ -118,12 +127,12 @@ impl<A: KeyAdapter> RBTree<A> {
 impl<'a, A: KeyAdapter, L: RBTreeOps> InsertCursor<'a, A, L> {
     /// Inserts the object at the gap, whatever its key is, unless its link is refused. The cursor that it answers is on the object.
     ///
-    /// It asks that the object's place is covered. A refused object comes back, and nothing else has changed (a caller that has to
-    /// prove that of what both borrows end as inserts by a cursor). O(log n): no look, and the repair.
+    /// It asks that the object's place is covered. A refused object comes back with the gap, and tree and table are as they were.
+    /// O(log n): no look, and the repair.
     pub fn insert(
         self,
         object: UnsafeRef<A::Value>,
-    ) -> Result<CursorMut<'a, A, L>, AlreadyLinked<A::Value>>
+    ) -> Result<CursorMut<'a, A, L>, RefusedInsert<'a, A, L>>
         requires covered { IsCovered (L.table (links_of self)) object }
         requires vacant { CanInsert L.node L.table self }
         ensures { InsertsInto L.node L.table L.Does L.Refused self.entry object result }
@@ -135,7 +144,13 @@ impl<'a, A: KeyAdapter, L: RBTreeOps> InsertCursor<'a, A, L> {
             side,
         } = self;
         if !insert(links, &mut tree.root, parent.get(), side, object.place()) {
-            return Err(AlreadyLinked(object));
+            let gap = InsertCursor {
+                tree,
+                links,
+                parent,
+                side,
+            };
+            return Err(RefusedInsert { gap, object });
         }
         let current = End::of(Some(object.place()));
         Ok(CursorMut::new(tree, links, current))
@@ -145,12 +160,12 @@ impl<'a, A: KeyAdapter, L: RBTreeOps> InsertCursor<'a, A, L> {
 impl<'a, A: KeyAdapter, L: RBTreeOps> Entry<'a, A, L> {
     /// The cursor on the member that has the key, or on the object, which is inserted where the key would stand.
     ///
-    /// Where the entry is vacant, it asks that the object's place is covered; a refused object comes back, and nothing else has
-    /// changed, as `InsertCursor::insert` has it. Where it is occupied, nothing is linked.
+    /// Where the entry is vacant, it asks that the object's place is covered; a refused object comes back with the gap, and tree
+    /// and table are as they were. Where it is occupied, nothing is linked.
     pub fn or_insert(
         self,
         object: UnsafeRef<A::Value>,
-    ) -> Result<CursorMut<'a, A, L>, AlreadyLinked<A::Value>>
+    ) -> Result<CursorMut<'a, A, L>, RefusedInsert<'a, A, L>>
         requires covered { IfVacant self (λ v. IsCovered (L.table (links_of v)) object) }
         requires vacant { IfVacant self (CanInsert L.node L.table) }
         ensures occupied { IfOccupied self.entry (λ c. result ≡ Ok c) }
@@ -166,7 +181,7 @@ impl<'a, A: KeyAdapter, L: RBTreeOps> Entry<'a, A, L> {
     pub fn or_insert_with<F: FnOnce() -> UnsafeRef<A::Value>>(
         self,
         make: F,
-    ) -> Result<CursorMut<'a, A, L>, AlreadyLinked<A::Value>>
+    ) -> Result<CursorMut<'a, A, L>, RefusedInsert<'a, A, L>>
         requires callable { IfVacant self (λ v. F.pre make) }
         requires covered { IfVacant self (λ v. (object : Place) → F.post make object → IsCovered (L.table (links_of v)) object) }
         requires vacant { IfVacant self (CanInsert L.node L.table) }

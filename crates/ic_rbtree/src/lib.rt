@@ -38,7 +38,7 @@ mod writers;
 pub use cursor::Cursor;
 pub use cursor_mut::CursorMut;
 pub use cursor_owning::CursorOwning;
-pub use entry::{Entry, InsertCursor};
+pub use entry::{Entry, InsertCursor, RefusedInsert};
 pub use ic_link_ops::Color;
 pub use ic_link_ops::rbtree::{Link, LinkOps, RBTreeOps};
 pub use into_iter::IntoIter;

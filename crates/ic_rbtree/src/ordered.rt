@@ -4,20 +4,19 @@
 //! tree.insert(&mut links, &objects, object)?; // behind the members whose keys are not greater
 //! ```
 
-ghost use Rattle.std.specs.Prelude.{◌≡◌, true, Some, OnOk, OnErr, IfOk, IfErr, List, [], ◌∷◌};
+ghost use Rattle.std.specs.Prelude.{◌≡◌, true, OnOk, OnErr, IfErr, List, [], ◌∷◌};
 ghost use Rattle.ic_unsafe_ref.specs.declared.place.Place.{Place};
 ghost use Rattle.ic_unsafe_ref.specs.Objects.{is_placed};
 ghost use Rattle.ic_link_ops.specs.Tables.{IsCovered};
 ghost use Rattle.ic_link_ops.specs.LinkSteps.{acquires};
 ghost use Rattle.ic_link_ops.specs.PlacedObjects.{ShowsPlaced};
-ghost use Rattle.ic_link_ops.specs.Positions.{Stands};
 ghost use Rattle.ic_link_ops.specs.RedBlackTree.{Shows};
 ghost use Rattle.ic_rbtree.specs.Comparing.{compared, own_order, HasRoom, Looks};
-ghost use Rattle.ic_rbtree.specs.Ordered.{InsertsInOrder, WasRefused};
+ghost use Rattle.ic_rbtree.specs.Ordered.{InsertsInOrder};
 ghost use Rattle.ic_rbtree.specs.Tree.{root_of, adapter_of};
 
 use crate::linking::insert_in_order;
-use crate::{CursorMut, KeyAdapter, KeyProbe, Probe, RBTree};
+use crate::{KeyAdapter, KeyProbe, Probe, RBTree};
 use ic_cursors::Ordered;
 use ic_link_ops::rbtree::RBTreeOps;
 use ic_link_ops::{AlreadyLinked, End, LinkOps};
@@ -44,35 +43,30 @@ impl<A: KeyAdapter, L: RBTreeOps> Ordered<L> for RBTree<A> {
 }
 
 impl<A: KeyAdapter> RBTree<A> {
-    ghost use Rattle.ic_rbtree.specs.CursorMut.{tree_of, links_of, position, site_of, SameNames};
-
-    /// Inserts the object where the probe's order wants it: behind members that compare equal, unless its link is refused. The
-    /// cursor that it answers is on the object.
+    /// Inserts the object where the probe's order wants it: behind members that compare equal, unless its link is refused.
     ///
     /// It asks that the object's place is covered, that all members are placed, and that the probe's count is at most
-    /// `u64::MAX - 66`. A refused object comes back, nothing is looked at, and nothing else has changed (a caller that has to
-    /// prove that of what both borrows end as inserts by a cursor). O(log n): v looks in a tree of n members, where
-    /// `2^v <= (n + 1)^2`.
+    /// `u64::MAX - 66`. A refused object comes back, nothing is looked at, and the tree and its links are as they were. The crate
+    /// answers a cursor on the object; here that is one more call, `cursor_mut_from_ptr`. O(log n): v looks in a tree of n
+    /// members, where `2^v <= (n + 1)^2`.
     #[inline]
-    pub fn insert_by<'a, L: RBTreeOps, P: Probe<A::Value>, B: Allocator>(
-        &'a mut self,
-        links: &'a mut L,
+    pub fn insert_by<L: RBTreeOps, P: Probe<A::Value>, B: Allocator>(
+        &mut self,
+        links: &mut L,
         objects: &Objects<A::Value, B>,
         probe: &mut P,
         object: UnsafeRef<A::Value>,
-    ) -> Result<CursorMut<'a, A, L>, AlreadyLinked<A::Value>>
+    ) -> Result<(), AlreadyLinked<A::Value>>
         requires covered { IsCovered (L.table links.old) object }
         requires placed { ShowsPlaced (Shows L.node (L.table links.old) (root_of self.old)) objects.now }
         requires room { HasRoom (P.count probe.old) }
-        ensures inserted { (s : List Place) → Shows L.node (L.table links.old) (root_of self.old) s → IfOk result (λ c.
-            InsertsInOrder (Shows L.node) (compared (P.order probe.old) objects.now) (L.table links.old)
-            (L.table (links_of c)) (root_of (tree_of c)) s object) }
-        ensures acquired { IfOk result (λ c. L.Does links.old (links_of c) (acquires object ∷ [])) }
-        ensures position { IfOk result (λ c. position c ≡ Some object) }
-        ensures stands { IfOk result (λ c. Stands (Shows L.node) L.table (site_of c)) }
-        ensures borrows { IfOk result (SameNames self.entry links.entry) }
-        ensures object { IfErr result (λ refused. refused.0 ≡ object) }
-        ensures refused { OnErr result (WasRefused L.Refused links.old object) }
+        ensures inserted { (s : List Place) → Shows L.node (L.table links.old) (root_of self.old) s → OnOk result
+            (InsertsInOrder (Shows L.node) (compared (P.order probe.old) objects.now) (L.table links.old)
+            (L.table links.new) (root_of self.new) s object) }
+        ensures acquired { OnOk result (L.Does links.old links.new (acquires object ∷ [])) }
+        ensures adapter { adapter_of self.new ≡ adapter_of self.old }
+        ensures refused { OnErr result (L.Refused links.old links.new object) }
+        ensures unchanged { IfErr result (λ refused. (refused.0 ≡ object) × (self.new ≡ self.old)) }
         ensures looks { (s : List Place) → Shows L.node (L.table links.old) (root_of self.old) s
             → OnOk result (Looks P.order P.count probe.old probe.new s) }
         ensures no_look { OnErr result (probe.new ≡ probe.old) }
@@ -80,32 +74,29 @@ impl<A: KeyAdapter> RBTree<A> {
         if !insert_in_order(links, &mut self.root, objects, probe, object.place()) {
             return Err(AlreadyLinked(object));
         }
-        let current = End::of(Some(object.place()));
-        Ok(CursorMut::new(self, links, current))
+        Ok(())
     }
 
     /// Inserts the object where its own key belongs, behind members with the same key, unless its link is refused: `insert_by`
-    /// with a `KeyProbe`. It asks that the object is placed, too. The cursor that it answers is on the object. O(log n).
+    /// with a `KeyProbe`. It asks that the object is placed, too. O(log n).
     #[inline]
-    pub fn insert<'a, L: RBTreeOps, B: Allocator>(
-        &'a mut self,
-        links: &'a mut L,
+    pub fn insert<L: RBTreeOps, B: Allocator>(
+        &mut self,
+        links: &mut L,
         objects: &Objects<A::Value, B>,
         object: UnsafeRef<A::Value>,
-    ) -> Result<CursorMut<'a, A, L>, AlreadyLinked<A::Value>>
+    ) -> Result<(), AlreadyLinked<A::Value>>
         requires covered { IsCovered (L.table links.old) object }
         requires placed { ShowsPlaced (Shows L.node (L.table links.old) (root_of self.old)) objects.now }
         requires object { is_placed objects.now object ≡ true }
-        ensures inserted { (s : List Place) → Shows L.node (L.table links.old) (root_of self.old) s → IfOk result (λ c.
-            InsertsInOrder (Shows L.node)
+        ensures inserted { (s : List Place) → Shows L.node (L.table links.old) (root_of self.old) s → OnOk result
+            (InsertsInOrder (Shows L.node)
             (compared (own_order A.Key.cmp (A.key_of (adapter_of self.old)) objects.now object) objects.now)
-            (L.table links.old) (L.table (links_of c)) (root_of (tree_of c)) s object) }
-        ensures acquired { IfOk result (λ c. L.Does links.old (links_of c) (acquires object ∷ [])) }
-        ensures position { IfOk result (λ c. position c ≡ Some object) }
-        ensures stands { IfOk result (λ c. Stands (Shows L.node) L.table (site_of c)) }
-        ensures borrows { IfOk result (SameNames self.entry links.entry) }
-        ensures object { IfErr result (λ refused. refused.0 ≡ object) }
-        ensures refused { OnErr result (WasRefused L.Refused links.old object) }
+            (L.table links.old) (L.table links.new) (root_of self.new) s object) }
+        ensures acquired { OnOk result (L.Does links.old links.new (acquires object ∷ [])) }
+        ensures adapter { adapter_of self.new ≡ adapter_of self.old }
+        ensures refused { OnErr result (L.Refused links.old links.new object) }
+        ensures unchanged { IfErr result (λ refused. (refused.0 ≡ object) × (self.new ≡ self.old)) }
     {
         let value = objects.get(object.place()).unwrap();
         let mut probe = KeyProbe::new(self.adapter, self.adapter.get_key(value));

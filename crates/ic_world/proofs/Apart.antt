@@ -1,7 +1,9 @@
--- That a world's collections share no member, from what it keeps.
-use Rattle.std.proofs.Common.{◌≡◌, ℕ, List, Option, Some, None, refl, sym, ap, ◌∙◌, subst}
+-- That a world's collections share no member, and that each is placed, from what it keeps.
+use Rattle.std.proofs.Common.{◌≡◌, ℕ, List, Option, Some, None, [], ◌∷◌, refl, sym, ap, ◌∙◌, subst}
 use Rattle.ic_unsafe_ref.specs.Objects.{Objects}
+use Rattle.ic_unsafe_ref.specs.declared.place.Place.{Place}
 use Rattle.ic_link_ops.specs.Sequences.{IsDistinct, IsDisjoint}
+use Rattle.ic_link_ops.specs.PlacedObjects.{ArePlaced}
 use Rattle.ic_link_ops.specs.Tables.{Table}
 use Rattle.ic_fields.specs.declared.entry.Entry.{Entry}
 use Rattle.ic_members.proofs.AllKinds.{distinct}
@@ -9,7 +11,8 @@ use Rattle.ic_world.specs.declared.collection.Collection.{Collection}
 use Rattle.ic_world.specs.Tables.{table, sequence, seen_as, shown_as, at, family_of, IsWhole}
 use Rattle.ic_world.specs.Family.{Sequence}
 use Rattle.ic_world.specs.Step.{collection}
-use Rattle.ic_world.specs.Apart.{AreApart}
+use Rattle.ic_world.specs.Apart.{AreApart, AreAllPlaced}
+use Rattle.ic_world.proofs.Calls.{all_placed}
 use Rattle.ic_world.proofs.Steps.{some_same}
 use Rattle.ic_world.proofs.Readings.{collection_at}
 
@@ -32,3 +35,11 @@ module _ {A V K : Type 0} {adapter : A} {objects : Objects V} {room : ℕ} {ts :
         subst (λ x. IsDisjoint x.members t.members) k.2 (subst (λ x. IsDisjoint (sequence ts k.0) x.members) l.2
         (whole.apart c d k.0 l.0 differ k.1 l.1 (ap (λ x. x.field) k.2 ∙ same ∙ sym (ap (λ x. x.field) l.2))))),
   )
+
+  -- EVERY MEMBER IS PLACED
+  placed_there : (s : List Place) → ArePlaced objects s → ArePlaced (record { values = objects.values; next = 0 }) s
+  placed_there [] placed = tt
+  placed_there (p ∷ s) placed = (placed.0, placed_there s placed.1)
+
+  pub are_all_placed : AreAllPlaced (family_of adapter objects ts cs)
+  are_all_placed c s is = let k = seen_at c s is in placed_there s.members (subst (λ x. ArePlaced objects x.members) k.2 (all_placed whole c k.0 k.1))

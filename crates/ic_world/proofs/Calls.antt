@@ -79,9 +79,15 @@ module _ {A V K : Type 0} {adapter : A} {objects : Objects V} {room : ℕ} {ts :
   same_state = λ i. record { kind = kind_in k.members; members = sequence ts k; cursor = cursor_in k.members; linked = linked_at adapter objects ts cs k.field (whole.in_field c k is) i }
 
   -- an object stands at each member
-  pub placed_members : (s : List Place) → ((q : Place) → (IsAbsent q s → ⊥) → is_linked ((table ts k.field).entry q) ≡ true) → ArePlaced objects s
+  placed_members : (s : List Place) → ((q : Place) → (IsAbsent q s → ⊥) → is_linked ((table ts k.field).entry q) ≡ true) → ArePlaced objects s
   placed_members [] h = tt
   placed_members (x ∷ s) h = (whole.placed k.field x (h x (λ out. out.0 refl)), placed_members s (λ q there. h q (λ out. there out.1)))
+
+  pub all_placed : ArePlaced objects (sequence ts k)
+  all_placed = placed_members (sequence ts k) (λ q there. linked q there (is_linked ((table ts k.field).entry q)) refl) where
+    linked : (q : Place) → (IsAbsent q (sequence ts k) → ⊥) → (b : Bool) → is_linked ((table ts k.field).entry q) ≡ b → is_linked ((table ts k.field).entry q) ≡ true
+    linked q there true e = e
+    linked q there false e = absurd (there (unlinked_absent (table ts k.field) k.members (sequence ts k) (whole.held c k is).shown e))
 
   module _ {named : List Place} {Accepts : State → State → Type 0} {new : Table Entry} {m : Members A V K} (turns : Turns named Accepts (table ts k.field) new k.members m)
       (has : Each (λ p. HasObject objects (index_of p)) named) where
@@ -115,11 +121,7 @@ module _ {A V K M : Type 0} {adapter : A} {objects : Objects V} {room : ℕ} {ta
 
   -- what the call of the collection asks
   pub placed_by : ArePlaced objects (members_in (look now) k.members)
-  placed_by = subst (λ t. ArePlaced objects (members_in t k.members)) at_k.read (placed_members whole c k at_k.is (sequence ts k) (λ q there. linked q there (is_linked ((table ts k.field).entry q)) refl))
-    where
-      linked : (q : Place) → (IsAbsent q (sequence ts k) → ⊥) → (b : Bool) → is_linked ((table ts k.field).entry q) ≡ b → is_linked ((table ts k.field).entry q) ≡ true
-      linked q there true e = e
-      linked q there false e = absurd (there (unlinked_absent (table ts k.field) k.members (sequence ts k) (whole.held c k at_k.is).shown e))
+  placed_by = subst (λ t. ArePlaced objects (members_in t k.members)) at_k.read (all_placed whole c k at_k.is)
 
   -- what a call that only reads finds
   pub sees_by : {old : Family A V} → family_of adapter objects ts cs ≡ old → Sees old c (look now) k.members

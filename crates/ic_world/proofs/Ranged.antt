@@ -9,7 +9,7 @@ use Rattle.ic_rbtree.specs.Ranges.{IsRange}
 use Rattle.ic_fields.specs.declared.entry.Entry.{Entry}
 use Rattle.ic_members.specs.declared.members.Members.{Members}
 use Rattle.ic_members.specs.Members.{kind_in, members_in, is_tree}
-use Rattle.ic_members.specs.Keyed.{FewLooks}
+use Rattle.ic_members.specs.Keyed.{FewLooksWithin}
 use Rattle.ic_world.specs.declared.collection.Collection.{Collection}
 use Rattle.ic_world.specs.declared.call.Command.TheVariants.{Range}
 use Rattle.ic_world.specs.Family.{Family}
@@ -32,7 +32,7 @@ module _ {A V K : Type 0} (cmp : K → K → Ordering) (key_of : A → V → K) 
   pub ranged : (adapter : A) (objects : Objects V) (ts : List (Table Entry)) (cs : List (Option (Collection A V K))) {w : Family A V} (c : ℕ) → family_of adapter objects ts cs ≡ w
       → Sees w c t m → is_tree (kind_in m) ≡ true
       → IsRange (bound_at cmp (key_of adapter) objects min) (bound_at cmp (key_of adapter) objects max) (rises cmp (key_of adapter) objects) (members_in t m) places
-      → FewLooks first (members_in t m) × FewLooks second (members_in t m) → Step cmp key_of w (Range c min max) (range places first second) w
+      → FewLooksWithin min first (members_in t m) × FewLooksWithin max second (members_in t m) → Step cmp key_of w (Range c min max) (range places first second) w
   ranged adapter objects ts cs {w} c view sees tree is looks =
       let P : Family A V → Type 0 = λ v. RangeReplies cmp (key_of v.adapter) (objects_of v) min max (state_of t m) (range places first second) in
       step_ranged w c sees tree (subst P view (is, looks.0, looks.1))

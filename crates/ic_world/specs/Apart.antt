@@ -1,11 +1,16 @@
--- That collections share no member.
+-- That collections share no member, and have none but objects.
 use Rattle.std.specs.Prelude.{◌≡◌, ◌≢◌, ℕ, Some}
 use Rattle.ic_link_ops.specs.Sequences.{IsDistinct, IsDisjoint}
+use Rattle.ic_link_ops.specs.PlacedObjects.{ArePlaced}
 use Rattle.ic_world.specs.Family.{Family, Sequence}
-use Rattle.ic_world.specs.Step.{collection}
+use Rattle.ic_world.specs.Step.{collection, objects_of}
 
 module _ {A V : Type 0} where
   -- NO MEMBER IS SHARED: no place stands twice in a collection, nor in two of one field
   abbrev pub AreApart : Family A V → Type 0
   AreApart w = ((c : ℕ) (s : Sequence) → collection w c ≡ Some s → IsDistinct s.members)
       × ((c d : ℕ) (s t : Sequence) → c ≢ d → collection w c ≡ Some s → collection w d ≡ Some t → s.field ≡ t.field → IsDisjoint s.members t.members)
+
+  -- EVERY MEMBER IS PLACED: an object stands at each
+  abbrev pub AreAllPlaced : Family A V → Type 0
+  AreAllPlaced w = (c : ℕ) (s : Sequence) → collection w c ≡ Some s → ArePlaced (objects_of w) s.members

@@ -1,5 +1,5 @@
 -- THE KEYED CALLS OF ONE COLLECTION, which trees have: which refusal is first, and what an accepted one answers and leaves.
-use Rattle.std.specs.Prelude.{◌≡◌, Bool, true, false, List, [], ◌∷◌, Option, Some}
+use Rattle.std.specs.Prelude.{◌≡◌, ℕ, Bool, true, false, List, [], ◌∷◌, Option, Some}
 use Rattle.std.specs.declared.cmp.Ordering.{Ordering}
 use Rattle.ic_unsafe_ref.specs.declared.place.Place.{Place}
 use Rattle.ic_unsafe_ref.specs.Objects.{Objects}
@@ -8,7 +8,7 @@ use Rattle.ic_rbtree.specs.Borders.{Finds, IsBorder, IsLowerBorder, IsUpperBorde
 use Rattle.ic_rbtree.specs.Comparing.{compared, compared_within, order_of, own_order}
 use Rattle.ic_rbtree.specs.Ranges.{runs_up, IsRange}
 use Rattle.ic_members.specs.Members.{is_tree}
-use Rattle.ic_members.specs.Keyed.{FewLooks, IsVacantFor}
+use Rattle.ic_members.specs.Keyed.{FewLooks, FewLooksWithin, IsVacantFor}
 use Rattle.ic_world.specs.declared.call.Refusal.{Refusal}
 use Rattle.ic_world.specs.declared.call.Refusal.TheVariants.{WrongKind, AlreadyLinked, OutOfMemory}
 use Rattle.ic_world.specs.declared.search.Search.{Search}
@@ -29,6 +29,12 @@ keyed_refusal s = asks_kind (is_tree s.kind)
 abbrev pub insertion_refusal : Insertion → State → Option Refusal
 insertion_refusal (Insert p) s = asks (is_tree s.kind) WrongKind (asks_unlinked s p)
 insertion_refusal (CursorInsert p) s = asks (is_tree s.kind) WrongKind (asks_unlinked s p)
+
+-- so few looks as a search makes: none by `Unbounded`
+abbrev pub SearchLooks : {K : Type 0} → Search K → ℕ → List Place → Type 0
+SearchLooks (Find key) looks s = FewLooks looks s
+SearchLooks (LowerBound bound) looks s = FewLooksWithin bound looks s
+SearchLooks (UpperBound bound) looks s = FewLooksWithin bound looks s
 
 -- `cmp`: the order of the keys. `key_of`: the key of a value. `objects`: the values by place
 module _ {V K : Type 0} (cmp : K → K → Ordering) (key_of : V → K) (objects : Objects V) where
@@ -52,7 +58,7 @@ module _ {V K : Type 0} (cmp : K → K → Ordering) (key_of : V → K) (objects
   Finds_at (UpperBound bound) s position = IsUpperBorder (bound_at bound) s.members position
 
   abbrev pub SearchReplies : Search K → State → Reply → State → Type 0
-  SearchReplies call s (found position looks) t = Finds_at call s position × FewLooks looks s.members × (t ≡ moved s position)
+  SearchReplies call s (found position looks) t = Finds_at call s position × SearchLooks call looks s.members × (t ≡ moved s position)
   SearchReplies call s _ t = ⊥
 
   -- AN INSERT IN ORDER puts the object behind members with its key
@@ -72,9 +78,9 @@ module _ {V K : Type 0} (cmp : K → K → Ordering) (key_of : V → K) (objects
   EntryReplies key p s (refused AlreadyLinked) t = (is_linked_in s p ≡ true) × AtGap s (IsVacantFor (key_at key)) × (t ≡ s)
   EntryReplies key p s _ t = ⊥
 
-  -- A RANGE answers the members between two bounds, with the looks of both descents
+  -- A RANGE answers the members between two bounds, with the looks of the search for each bound, in their order
   abbrev pub RangeReplies : Bound K → Bound K → State → Reply → Type 0
   RangeReplies min max s (range places first_looks second_looks) =
-      IsRange (bound_at min) (bound_at max) rises s.members places × FewLooks first_looks s.members × FewLooks second_looks s.members
+      IsRange (bound_at min) (bound_at max) rises s.members places × FewLooksWithin min first_looks s.members × FewLooksWithin max second_looks s.members
   RangeReplies min max s (refused OutOfMemory) = Unit {0}
   RangeReplies min max s _ = ⊥

@@ -94,7 +94,7 @@ impl<A: KeyAdapter, M: Allocator + Copy> World<A, M> {
     ghost use Rattle.ic_world.specs.Step.{Step, StepSplice, collection as collection_of, field_and_kind, refusal_of_open, refusal_of_splice};
     ghost use Rattle.ic_world.specs.State.{reply_of, done, opened, items};
     ghost use Rattle.ic_world.specs.Splices.{IsBesideOf};
-    ghost use Rattle.ic_world.specs.Apart.{AreApart};
+    ghost use Rattle.ic_world.specs.Apart.{AreApart, AreAllPlaced};
 
     /// Makes an empty collection in a field, with its cursor at null, and answers its number.
     ///
@@ -289,6 +289,13 @@ impl<A: KeyAdapter, M: Allocator + Copy> World<A, M> {
         ensures { AreApart self.now }
     {
         // What is read is kept by a world, of which this is the law.
+        let _ = self.collections.len();
+    }
+
+    /// Says that an object stands at each member of each collection. It does nothing.
+    pub fn every_member_is_placed(&self)
+        ensures { AreAllPlaced self.now }
+    {
         let _ = self.collections.len();
     }
 }

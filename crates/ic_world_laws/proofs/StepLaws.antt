@@ -19,7 +19,10 @@ use Rattle.ic_world.specs.declared.insertion.Insertion.TheVariants as insertions
 use Rattle.ic_world.specs.declared.part.Part.{Part}
 use Rattle.ic_world.specs.declared.part.Part.TheVariants.{All, After, Before}
 use Rattle.ic_rbtree.specs.declared.key_adapter.Bound.{Bound}
-use Rattle.ic_world.specs.KeyedCalls.{RangeReplies}
+use Rattle.ic_members.specs.Keyed.{FewLooks}
+use Rattle.ic_world.specs.KeyedCalls.{SearchLooks, RangeReplies}
+use Rattle.ic_world.specs.declared.search.Search.{Search}
+use Rattle.ic_world.specs.declared.insertion.Insertion.{Insertion}
 use Rattle.ic_world.proofs.Steps.{some_same}
 use Rattle.ic_world.specs.Among.{next_of}
 use Rattle.ic_world.specs.Family.{Family, Sequence}
@@ -38,20 +41,31 @@ state_back w c s is =
     λ i. record { adapter = w.adapter; objects = w.objects; fields = fields i; collections = collections i }
 
 module _ {V K : Type 0} (cmp : K → K → Ordering) (key_of : V → K) (objects : Objects V) where
-  -- each descent has few looks
-  replies_few : (call : Call K) (s : State) (reply : Reply) (t : State) → Replies cmp key_of objects call s reply t → AreFew s.members reply
-  replies_few (search call) s (found p n) t h = h.1
-  replies_few (insertion (insertions.Insert p)) s (looked n) t h = h.1
-  replies_few (insertion (insertions.CursorInsert p)) s (looked n) t h = h.1
-  replies_few (enter key p) s (entry true q n) t h = h.1
-  replies_few (enter key p) s (entry false q n) t h = h.2
-  replies_few (enter key p) s (refused r) t h = tt
-  replies_few (edit c) s done t h = tt
-  replies_few (seek c) s done t h = tt
-  replies_few (pick c) s nothing t h = tt
-  replies_few (pick c) s (object p) t h = tt
-  replies_few (swap c) s (object p) t h = tt
-  replies_few _ s _ t h = absurd h
+  -- the looks of a descent, as each call tells them
+  abbrev Tells : Command V K → (State → Reply → State → Type 0) → Type 0
+  Tells command Replied = (s : State) (reply : Reply) (t : State) → Replied s reply t → AreFew s.members command reply
+
+  found_few : (command : Command V K) (call : Search K) → ((p : Option Place) (n : ℕ) (s : List Place) → SearchLooks call n s → AreFew s command (found p n))
+      → Tells command (Replies cmp key_of objects (search call))
+  found_few command call few s (found p n) t h = few p n s.members h.1
+  found_few command call few s _ t h = absurd h
+
+  looked_few : (command : Command V K) (call : Insertion) → ((n : ℕ) (s : List Place) → FewLooks n s → AreFew s command (looked n))
+      → Tells command (Replies cmp key_of objects (insertion call))
+  looked_few command (insertions.Insert p) few s (looked n) t h = few n s.members h.1
+  looked_few command (insertions.CursorInsert p) few s (looked n) t h = few n s.members h.1
+  looked_few command _ few s _ t h = absurd h
+
+  entered_few : (c : ℕ) (key : K) (p : Place) → Tells (call.Entry c key p) (Replies cmp key_of objects (enter key p))
+  entered_few c key p s (entry true q n) t h = h.1
+  entered_few c key p s (entry false q n) t h = h.2
+  entered_few c key p s (refused r) t h = tt
+  entered_few c key p s _ t h = absurd h
+
+  range_few : (c : ℕ) (min max : Bound K) → Tells (call.Range c min max) (λ s reply t. RangeReplies cmp key_of objects min max s reply)
+  range_few c min max s (range places n m) t h = (h.1, h.2)
+  range_few c min max s (refused r) t h = tt
+  range_few c min max s _ t h = absurd h
 
 module _ {A V K : Type 0} (cmp : K → K → Ordering) (key_of : A → V → K) where
   -- A REFUSED CALL CHANGES NOTHING
@@ -153,28 +167,58 @@ module _ {A V K : Type 0} (cmp : K → K → Ordering) (key_of : A → V → K) 
   insert_refused (call.Entry c key p) = entry_on c key p
   insert_refused _ = λ old new reply step. tt
 
+  -- WHAT HOLDS OF EACH REPLY of a call of one collection, if it does of a refusal and of what is accepted
+  module _ (c : ℕ) (call : Call K) (P : Reply → Type 0) (old new : Family A V) (reply : Reply) (step : StepOn cmp key_of old c call reply new) (s : Sequence) (is : collection old c ≡ Some s)
+      (none : (r : Refusal) → P (refused r)) where
+    abbrev placed : Bool
+    placed = list_all (is_placed old) (names call)
+
+    pub of_reply : (placed ≡ true → (t : State) → Replies cmp (key_of old.adapter) (objects_of old) call (state_in old s) reply t → new ≡ with_state old c s.field t → P reply) → P reply
+    of_reply accepted =
+        by _ placed refl
+        (ap (λ o. asks_collection o (λ s. asks placed NoSuchObject (refusal_of call (state_in old s)))) is) step
+      where
+        by : (o : Option Refusal) (b : Bool) → placed ≡ b → o ≡ asks b NoSuchObject (refusal_of call (state_in old s)) → StepBy o (AcceptsOn cmp key_of old c call) old reply new → P reply
+        by (Some r) b there e step = subst P (sym step.0) (none r)
+        by None false there e step = absurd cc
+        by None true there e step =
+            let same = some_same (sym step.2 ∙ is) in
+            accepted there step.1 (subst (λ x. Replies cmp (key_of old.adapter) (objects_of old) call (state_in old x) reply step.1) same step.3)
+            (step.4 ∙ ap (λ (x : Sequence). with_state old c x.field step.1) same)
+
+  -- and of a range
+  pub of_range : (c : ℕ) (min max : Bound K) (P : Reply → Type 0) (old new : Family A V) (reply : Reply) → Step cmp key_of old (call.Range c min max) reply new
+      → (s : Sequence) → collection old c ≡ Some s → ((r : Refusal) → P (refused r)) → (RangeReplies cmp (key_of old.adapter) (objects_of old) min max (state_in old s) reply → P reply) → P reply
+  of_range c min max P old new reply step s is none accepted = by _ step where
+    by : (o : Option Refusal) → StepBy o (Accepts cmp key_of old (call.Range c min max)) old reply new → P reply
+    by (Some r) step = subst P (sym step.0) (none r)
+    by None step = accepted (subst (λ x. RangeReplies cmp (key_of old.adapter) (objects_of old) min max (state_in old x) reply) (some_same (sym step.1 ∙ is)) step.2)
+
   -- LOOKS ARE FEW
-  few_by : (o : Option Refusal) (Accepted : Reply → Family A V → Type 0) (s : List Place) (old new : Family A V) (reply : Reply) → StepBy o Accepted old reply new
-      → (Accepted reply new → AreFew s reply) → AreFew s reply
-  few_by None Accepted s old new reply step few = few step
-  few_by (Some r) Accepted s old new reply step few = subst (AreFew s) (sym step.0) tt
+  few_on : (command : Command V K) (c : ℕ) (call : Call K) → ((s : List Place) (r : Refusal) → AreFew s command (refused r))
+      → ((objects : Objects V) (adapter : A) → Tells cmp (key_of adapter) objects command (Replies cmp (key_of adapter) objects call)) → (old new : Family A V) (reply : Reply)
+      → StepOn cmp key_of old c call reply new → (s : Sequence) → collection old c ≡ Some s → AreFew s.members command reply
+  few_on command c call none tells old new reply step s is =
+      of_reply c call (AreFew s.members command) old new reply step s is (none s.members) (λ there t replies left. tells (objects_of old) old.adapter (state_in old s) reply t replies)
 
-  few_on : (c : ℕ) (call : Call K) (old new : Family A V) (reply : Reply) → StepOn cmp key_of old c call reply new → HasFewLooks old (Some c) reply
-  few_on c call old new reply step s is = few_by _ (AcceptsOn cmp key_of old c call) s.members old new reply step (λ h.
-      subst (λ x. AreFew x.members reply) (some_same (sym h.2 ∙ is)) (replies_few cmp (key_of old.adapter) (objects_of old) call (state_in old h.0) reply h.1 h.3))
+  few_found : (command : Command V K) (c : ℕ) (call : Search K) → ((s : List Place) (r : Refusal) → AreFew s command (refused r))
+      → ((p : Option Place) (n : ℕ) (s : List Place) → SearchLooks call n s → AreFew s command (found p n)) → (old new : Family A V) (reply : Reply)
+      → StepOn cmp key_of old c (search call) reply new → (s : Sequence) → collection old c ≡ Some s → AreFew s.members command reply
+  few_found command c call none few = few_on command c (search call) none (λ objects a. found_few cmp (key_of a) objects command call few)
 
-  range_few : (w : Family A V) (min max : Bound K) (s : State) (reply : Reply) → RangeReplies cmp (key_of w.adapter) (objects_of w) min max s reply → AreFew s.members reply
-  range_few w min max s (range places n m) h = (h.1, h.2)
-  range_few w min max s (refused r) h = tt
-  range_few w min max s _ h = absurd h
+  few_looked : (command : Command V K) (c : ℕ) (call : Insertion) → ((s : List Place) (r : Refusal) → AreFew s command (refused r))
+      → ((n : ℕ) (s : List Place) → FewLooks n s → AreFew s command (looked n)) → (old new : Family A V) (reply : Reply)
+      → StepOn cmp key_of old c (insertion call) reply new → (s : Sequence) → collection old c ≡ Some s → AreFew s.members command reply
+  few_looked command c call none few = few_on command c (insertion call) none (λ objects a. looked_few cmp (key_of a) objects command call few)
 
-  pub looks_few : (command : Command V K) (old new : Family A V) (reply : Reply) → Step cmp key_of old command reply new → HasFewLooks old (descends command) reply
-  looks_few (call.Find c key) = few_on c (search (searches.Find key))
-  looks_few (call.LowerBound c bound) = few_on c (search (searches.LowerBound bound))
-  looks_few (call.UpperBound c bound) = few_on c (search (searches.UpperBound bound))
-  looks_few (call.Insert c p) = few_on c (insertion (insertions.Insert p))
-  looks_few (call.CursorInsert c p) = few_on c (insertion (insertions.CursorInsert p))
-  looks_few (call.Entry c key p) = few_on c (enter key p)
-  looks_few (call.Range c min max) = λ old new reply step s is. few_by _ (Accepts cmp key_of old (call.Range c min max)) s.members old new reply step
-      (λ h. subst (λ x. AreFew x.members reply) (some_same (sym h.1 ∙ is)) (range_few old min max (state_in old h.0) reply h.2))
+  pub looks_few : (command : Command V K) (old new : Family A V) (reply : Reply) → Step cmp key_of old command reply new → HasFewLooks old command reply
+  looks_few (call.Find c key) = few_found (call.Find c key) c (searches.Find key) (λ s r. tt) (λ p n s h. h)
+  looks_few (call.LowerBound c bound) = few_found (call.LowerBound c bound) c (searches.LowerBound bound) (λ s r. tt) (λ p n s h. h)
+  looks_few (call.UpperBound c bound) = few_found (call.UpperBound c bound) c (searches.UpperBound bound) (λ s r. tt) (λ p n s h. h)
+  looks_few (call.Insert c p) = few_looked (call.Insert c p) c (insertions.Insert p) (λ s r. tt) (λ n s h. h)
+  looks_few (call.CursorInsert c p) = few_looked (call.CursorInsert c p) c (insertions.CursorInsert p) (λ s r. tt) (λ n s h. h)
+  looks_few (call.Entry c key p) = few_on (call.Entry c key p) c (enter key p) (λ s r. tt) (λ objects a. entered_few cmp (key_of a) objects c key p)
+  looks_few (call.Range c min max) = λ old new reply step s is.
+      of_range c min max (AreFew {V = V} s.members (call.Range c min max)) old new reply step s is (λ r. tt)
+      (λ replies. range_few cmp (key_of old.adapter) (objects_of old) c min max (state_in old s) reply (state_in old s) replies)
   looks_few _ = λ old new reply step. tt

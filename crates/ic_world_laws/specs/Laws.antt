@@ -1,9 +1,9 @@
 -- What users rely on, whatever the calls were.
-use Rattle.std.specs.Prelude.{◌≡◌, ◌↔◌, ℕ, true, List, Option, Some, None}
+use Rattle.std.specs.Prelude.{◌≡◌, ◌↔◌, ℕ, true, List, Option, Some, None, IfSome}
 use Rattle.std.specs.FinSet as set
 use Rattle.ic_unsafe_ref.specs.declared.place.Place.{Place}
 use Rattle.ic_unsafe_ref.specs.Places.{index_of}
-use Rattle.ic_members.specs.Keyed.{FewLooks}
+use Rattle.ic_members.specs.Keyed.{FewLooks, FewLooksWithin}
 use Rattle.ic_world.specs.declared.call.Refusal.TheVariants.{AlreadyLinked}
 use Rattle.ic_world.specs.declared.call.Command.{Command}
 use Rattle.ic_world.specs.declared.call.Command.TheVariants as call
@@ -43,13 +43,17 @@ IsWellNamed (refused _) = ⊥
 IsWellNamed (entry true p looks) = ⊥
 IsWellNamed _ = Unit
 
--- the looks of a descent of the tree of s are few
-abbrev pub AreFew : List Place → Reply → Type 0
-AreFew s (found p looks) = FewLooks looks s
-AreFew s (looked looks) = FewLooks looks s
-AreFew s (range places first_looks second_looks) = FewLooks first_looks s × FewLooks second_looks s
-AreFew s (entry occupied p looks) = FewLooks looks s
-AreFew s _ = Unit
+-- so few looks as the call makes in a tree with the members s: those of one descent, none by `Unbounded`. A range tells those of
+-- its lower bound first
+module _ {V K : Type 0} (s : List Place) where
+  abbrev pub AreFew : Command V K → Reply → Type 0
+  AreFew (call.LowerBound c bound) (found p looks) = FewLooksWithin bound looks s
+  AreFew (call.UpperBound c bound) (found p looks) = FewLooksWithin bound looks s
+  AreFew (call.Range c min max) (range places first_looks second_looks) = FewLooksWithin min first_looks s × FewLooksWithin max second_looks s
+  AreFew _ (found p looks) = FewLooks looks s
+  AreFew _ (looked looks) = FewLooks looks s
+  AreFew _ (entry occupied p looks) = FewLooks looks s
+  AreFew _ _ = Unit
 
 module _ {A V : Type 0} where
   -- AN INSERT IS REFUSED EXACTLY IF its object is linked in the field of the collection
@@ -58,7 +62,6 @@ module _ {A V : Type 0} where
   RefusedIfLinked w (Some (c, p)) reply = (s : Sequence) → collection w c ≡ Some s → IsWellNamed reply
       → (reply ≡ refused AlreadyLinked) ↔ (set.contains (linked_of w s.field) (index_of p) ≡ true)
 
-  -- LOOKS ARE FEW: v of them in a tree of n members, where 2^v is at most (n + 1)^2
-  abbrev pub HasFewLooks : Family A V → Option ℕ → Reply → Type 0
-  HasFewLooks w None reply = Unit
-  HasFewLooks w (Some c) reply = (s : Sequence) → collection w c ≡ Some s → AreFew s.members reply
+  -- LOOKS ARE FEW: v of them in a tree of n members, where 2^v is at most (n + 1)^2, and one at least if there is a member
+  abbrev pub HasFewLooks : {K : Type 0} → Family A V → Command V K → Reply → Type 0
+  HasFewLooks w command reply = IfSome (descends command) (λ c. (s : Sequence) → collection w c ≡ Some s → AreFew s.members command reply)

@@ -3,5 +3,5 @@
 pub use ic_atomic::rbtree::AtomicLinkOps;
 pub use ic_rbtree::{
     Bound, Color, Cursor, CursorMut, CursorOwning, Entry, InsertCursor, IntoIter, Iter, KeyAdapter,
-    KeyProbe, Link, LinkOps, Probe, RBTree, RBTreeOps, key_adapter, rbtree_keys,
+    KeyProbe, Link, LinkOps, Probe, RBTree, RBTreeOps, RefusedInsert, key_adapter, rbtree_keys,
 };

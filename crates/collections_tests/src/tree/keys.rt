@@ -52,18 +52,38 @@ fn write_searches(notes: &mut Text, trees: &mut Trees, key: &u64)
     write_places(notes, &[found, first, cursor.get_ptr()]);
 }
 
-/// How an object is put in.
+// Puts the object in where its key belongs, and notes its place, none where it was refused, and the places that are linked.
+fn write_insert(notes: &mut Text, trees: &mut Trees, object: UnsafeRef<u64>)
+    requires covers { (plain_table trees.old.links).extent.places ≡ 8 }
+    requires placed { (q : Place) → index_of q < 8 → is_placed trees.old.objects q ≡ true }
+    requires shown { ShowsPlaced (PlainShows trees.old.links (root_of trees.old.tree)) trees.old.objects }
+    requires place { index_of object < 8 }
+{
+    let Trees {
+        objects,
+        links,
+        tree,
+    } = trees;
+    let place = object.place();
+    let at = match tree.insert(links, objects, object) {
+        Ok(()) => Some(place),
+        Err(_) => None,
+    };
+    write_places(notes, &[at]);
+    write_linked(notes, links);
+}
+
+/// How an object is put in at the entry of a key.
 #[derive(Clone, Copy)]
 enum Way {
-    Insert,
     Gap,
     OrInsert,
     OrInsertWith,
 }
 
-// Puts the object in where its key belongs, or at the entry of the key, and notes which member the cursor is on then, none where it was
-// refused, and the places that are linked.
-fn write_inserts(notes: &mut Text, trees: &mut Trees, way: Way, key: &u64, object: UnsafeRef<u64>)
+// Puts the object in at the entry of the key, and notes which member the cursor is on then, none where it was refused, and the places
+// that are linked.
+fn write_entry(notes: &mut Text, trees: &mut Trees, way: Way, key: &u64, object: UnsafeRef<u64>)
     requires covers { (plain_table trees.old.links).extent.places ≡ 8 }
     requires placed { (q : Place) → index_of q < 8 → is_placed trees.old.objects q ≡ true }
     requires shown { ShowsPlaced (PlainShows trees.old.links (root_of trees.old.tree)) trees.old.objects }
@@ -76,7 +96,6 @@ fn write_inserts(notes: &mut Text, trees: &mut Trees, way: Way, key: &u64, objec
     } = trees;
     let at = {
         let entered = match way {
-            Way::Insert => tree.insert(links, objects, object),
             Way::Gap => match tree.entry(links, objects, key) {
                 Entry::Occupied(cursor) => Ok(cursor),
                 Entry::Vacant(gap) => gap.insert(object),
@@ -103,9 +122,14 @@ fn searches_and_inserts(rt: HostRuntime) {
     for key in [10, 40, 45, 75] {
         write_searches(&mut notes, &mut tree_of(&rt, alloc, 7, false), &key);
     }
+    for index in [7, 2] {
+        write_insert(
+            &mut notes,
+            &mut tree_of(&rt, alloc, 3, false),
+            reference(index),
+        );
+    }
     for (way, key, index) in [
-        (Way::Insert, 0, 7),
-        (Way::Insert, 0, 2),
         (Way::Gap, 25, 7),
         (Way::Gap, 30, 7),
         (Way::Gap, 25, 0),
@@ -115,7 +139,7 @@ fn searches_and_inserts(rt: HostRuntime) {
         (Way::OrInsertWith, 30, 7),
     ] {
         let mut trees = tree_of(&rt, alloc, 3, false);
-        write_inserts(&mut notes, &mut trees, way, &key, reference(index));
+        write_entry(&mut notes, &mut trees, way, &key, reference(index));
     }
     same(
         &rt,

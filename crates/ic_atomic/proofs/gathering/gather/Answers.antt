@@ -13,7 +13,7 @@ use Rattle.ic_atomic.proofs.gathering.gather.Goals as goal
 use Rattle.ic_atomic.proofs.gathering.gather.Goals.{then-is_ok, else-is_ok}
 
 pub loop-object-init : goal.loop-object-init
-loop-object-init g c = record { shown = c.requires.shown; gathered = none_gathered; claims = refl; few = omega arith; answered = refl }
+loop-object-init g c = record { shown = c.requires.shown; gathered = none_gathered; claims = refl; few = omega arith; answered = refl; told = c.passed.ensures.told }
 
 pub push_back-requires-clause-covered : goal.push_back-requires-clause-covered
 push_back-requires-clause-covered g c =
@@ -53,6 +53,7 @@ loop-object-preserved g c =
             claims = gains.claims ∙ i.claims;
             few = omega (arith, i.few, w.pushed-is);
             answered = ap (λ (m : ℕ). m + 1) i.answered;
+            told = c.passed-in-loop-object.ensures.told;
           }
       | else-is_ok w ↦
           let err = sym c.is_ok.ensures.value ∙ w.if-is_ok.false in
@@ -65,6 +66,7 @@ loop-object-preserved g c =
             claims = fails.claims ∙ i.claims;
             few = omega (arith, i.few, w.pushed-is);
             answered = ap (λ (m : ℕ). m + 1) i.answered;
+            told = c.passed-in-loop-object.ensures.told;
           }
     ]
 
@@ -86,3 +88,8 @@ returns-clause-claims g c = c.loop-object.invariant.claims
 
 pub returns-clause-frame : goal.returns-clause-frame
 returns-clause-frame g c = (all_seen g c).frame
+
+pub returns-clause-told : goal.returns-clause-told
+returns-clause-told g c =
+    let all : c.loop-object.answered ≡ length c.args.offered.now = omega (arith, c.loop-object.invariant.answered, c.loop-object.auto.object-index-end, c.loop-object-test.false) in
+    subst (λ n. g.G.Gate.Told c.args.gate.now c.args.worker n) all c.loop-object.invariant.told

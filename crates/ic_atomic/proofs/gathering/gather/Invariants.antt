@@ -12,4 +12,5 @@ invariant-loop-object g l = record {
   claims : claims_of l.links ≡ claims_of l.fn.links;
   few : l.pushed ≤ l.object-index;
   answered : l.answered ≡ l.object-index;
+  told : g.G.Gate.Told l.gate l.worker l.answered;
 }

@@ -3,7 +3,7 @@ use Rattle.ic_link_ops.specs.RedBlackTree.{node_at}
 use Rattle.ic_link_ops.specs.Frames.{child_on}
 use Rattle.ic_rbtree.specs.Comparing.{compared}
 use Rattle.ic_rbtree.specs.Descents.{side_of}
-use Rattle.ic_rbtree.proofs.Sending.{sent_first, sent_linked, sent_room, sent_placed, sent_on, sent_ends, sent_few}
+use Rattle.ic_rbtree.proofs.Sending.{sent_first, sent_linked, sent_room, sent_placed, sent_on, sent_ends, sent_few, sent_some}
 use Rattle.ic_rbtree.proofs.descent.descend.Goals as goal
 
 pub loop-at-init : goal.loop-at-init
@@ -71,6 +71,6 @@ returns-clause-looks g c s h =
     record {
       looks = length x.fs;
       counted = x.counted;
-      few = sent_few g.L.RBTreeOps.node x h refl;
+      few = record { few = sent_few g.L.RBTreeOps.node x h refl; some = sent_some g.L.RBTreeOps.node x c.in_default.is h refl };
       order_is = c.loop-at.invariant.same;
     }

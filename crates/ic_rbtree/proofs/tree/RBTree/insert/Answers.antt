@@ -1,8 +1,7 @@
-use Rattle.std.proofs.Common.{IfOk, sym, ap, ◌∙◌, subst}
+use Rattle.std.proofs.Common.{OnOk, sym, ap, ◌∙◌, subst}
 use Rattle.std.specs.Option.{option_copied}
 use Rattle.ic_link_ops.specs.RedBlackTree.{Shows}
 use Rattle.ic_rbtree.specs.Comparing.{compared}
-use Rattle.ic_rbtree.specs.CursorMut.{tree_of, links_of}
 use Rattle.ic_rbtree.specs.Ordered.{InsertsInOrder}
 use Rattle.ic_rbtree.specs.Tree.{root_of}
 use Rattle.ic_rbtree.proofs.InOrder.{own_is}
@@ -11,8 +10,8 @@ use Rattle.ic_rbtree.proofs.tree.RBTree.insert.Goals as goal
 pub returns-clause-inserted : goal.returns-clause-inserted
 returns-clause-inserted g c s h =
     subst
-    (λ order. IfOk c.insert_by.result
-    (λ cursor. InsertsInOrder (Shows g.L.RBTreeOps.node) (compared order c.args.objects.now) (g.L.LinkOps.table c.args.links.now) (g.L.LinkOps.table (links_of cursor)) (root_of (tree_of cursor)) s c.args.object))
+    (λ order. OnOk c.insert_by.result
+    (InsertsInOrder (Shows g.L.RBTreeOps.node) (compared order c.args.objects.now) (g.L.LinkOps.table c.args.links.now) (g.L.LinkOps.table c.insert_by.new.links) (root_of c.insert_by.new.self) s c.args.object))
     (own_is g.A.Key.Ord.cmp g.A.KeyAdapter.key_of c.args.objects.now c.new-probe.ensures.adapter (c.new-probe.ensures.key ∙ c.get_key.ensures) c.place.ensures
     (sym c.get.ensures ∙ ap option_copied c.unwrap-value.ensures))
     (c.insert_by.ensures.inserted s h)

@@ -1,7 +1,7 @@
 use Rattle.ic_rbtree.specs.PlainTrees.{plain_table}
 use Rattle.ic_link_ops.specs.ThreeWords.{node_of}
 use Rattle.collections_tests.proofs.Trees.{can_insert}
-use Rattle.collections_tests.proofs.tree.keys.write_inserts.Goals as goal
+use Rattle.collections_tests.proofs.tree.keys.write_entry.Goals as goal
 
 pub or_insert-entered-requires-clause-vacant : goal.or_insert-entered-requires-clause-vacant
 or_insert-entered-requires-clause-vacant c =

@@ -1,0 +1,93 @@
+-- For callers: in a sorted sequence the answers of keyed calls are filters of it, whatever the bounds are.
+use Rattle.std.proofs.Common.{◌≡◌, Bool, true, false, not, ◌&&◌, Option, Some, List, [], ◌∷◌, ◌++◌, map, refl, sym, ap, ◌∙◌, append-nil, true≢false}
+use Rattle.std.specs.Cmp.{IsTotalOrder}
+use Rattle.std.specs.List.{AllByRecursion, filter}
+use Rattle.std.specs.declared.cmp.Ordering.{Ordering}
+use Rattle.std.specs.Ordering.{is_lt, is_le}
+use Rattle.ic_unsafe_ref.specs.declared.place.Place.{Place}
+use Rattle.ic_unsafe_ref.specs.Objects.{Objects, object_at}
+use Rattle.ic_link_ops.specs.PlacedObjects.{ArePlaced, values_at}
+use Rattle.ic_link_ops.specs.Sequences.{Cut, join, insert, first, last, IsDistinct}
+use Rattle.ic_rbtree.specs.declared.key_adapter.Bound.{Bound}
+use Rattle.ic_rbtree.specs.declared.key_adapter.Bound.TheVariants.{Included, Excluded, Unbounded}
+use Rattle.ic_rbtree.specs.Borders.{IsBorder, IsLowerBorder, IsUpperBorder, Finds, IsSorted, IsSortedFor, equal_at, less_at}
+use Rattle.ic_rbtree.specs.Comparing.{answer_at, compared, compared_within, order_of, meets_lower, meets_upper, is_beyond}
+use Rattle.ic_rbtree.specs.Ranges.{runs_up, IsRange}
+use Rattle.ic_rbtree.proofs.KeyLaws.{Cuts, all_map, one_border, filter_pass, filter_fail, filter_front, lower_is, upper_is, cuts_at_most, cuts_less, found_is, sorted_for}
+use Rattle.ic_rbtree.proofs.RangeLaws.{range_is}
+use Rattle.ic_rbtree.proofs.Ranges.{Rises, le_fails, lt_fails}
+use Rattle.ic_rbtree.proofs.Sending.{not_ge, not_gt}
+
+-- a test that is the same cuts alike
+same_cuts : {f g : Place → Bool} {s : List Place} → ((p : Place) → f p ≡ g p) → Cuts f s → Cuts g s
+same_cuts same k = record {
+  front = k.front;
+  back = k.back;
+  same = k.same;
+  fail = all_map (λ p h. sym (same p) ∙ h) k.front k.fail;
+  pass = all_map (λ p h. sym (same p) ∙ h) k.back k.pass;
+}
+
+-- a test that is never passed, or always
+all_same : {X : Type 0} (b : Bool) (s : List X) → AllByRecursion (λ p. b ≡ b) s
+all_same b [] = tt
+all_same b (p ∷ s) = (refl, all_same b s)
+
+-- THE GAP OF AN INSERT IN ORDER is behind all that are not greater than what is searched: members with the same key stand in the
+-- order of their insertion
+pub put_behind : {at : Place → Ordering} {s : List Place} → IsSortedFor at s → (gap : Cut) → join gap ≡ s → IsBorder (less_at at) gap → (p : Place)
+    → insert gap p ≡ filter (λ q. not (less_at at q)) s ++ p ∷ filter (less_at at) s
+put_behind {at} {s} sorted gap same border p =
+    let k = cuts_less sorted in
+    let r = one_border (less_at at) k.front k.back gap.front gap.back (k.same ∙ sym same) k.fail k.pass border.fails border.passes in
+    let front : gap.front ≡ filter (λ q. not (less_at at q)) s =
+    r.0 ∙ sym (ap (filter (λ q. not (less_at at q))) (sym k.same) ∙ filter_front (λ q. not (less_at at q)) k.front k.back (all_map (λ q h. ap not h) k.front k.fail) (all_map (λ q h. ap not h) k.back k.pass)) in
+    let back : gap.back ≡ filter (less_at at) s = r.1 ∙ sym (ap (filter (less_at at)) (sym k.same) ∙ filter_fail (less_at at) k.front k.back k.fail ∙ filter_pass (less_at at) k.back k.pass) in
+    ap (λ t. t ++ p ∷ gap.back) front ∙ ap (λ t. filter (λ q. not (less_at at q)) s ++ p ∷ t) back
+
+module _ {A V K : Type 0} {cmp : K → K → Ordering} (total : IsTotalOrder cmp) (key_of : A → V → K) (adapter : A) (objects : Objects V) where
+  abbrev within : Bound K → Bound (Place → Ordering)
+  within bound = compared_within (order_of cmp (key_of adapter)) objects bound
+
+  -- a member that doesn't meet a lower bound has a smaller key than one that does
+  seen : (key : K) (f : Ordering → Bool) (x : Place) {u : V} {b : Bool} → object_at objects x ≡ Some u → f (compared (order_of cmp (key_of adapter) key) objects x) ≡ b
+      → f (cmp key (key_of adapter u)) ≡ b
+  seen key f x is h = sym (ap (λ o. f (answer_at (order_of cmp (key_of adapter) key) o)) is) ∙ h
+
+  rises : (bound : Bound K) → Rises total key_of adapter objects (meets_lower (within bound))
+  rises (Included key) = record { less = λ x y u v ex ey h g. le_fails total key (key_of adapter u) (key_of adapter v) _ _ refl refl (seen key is_le x ex h) (seen key is_le y ey g) }
+  rises (Excluded key) = record { less = λ x y u v ex ey h g. lt_fails total key (key_of adapter u) (key_of adapter v) _ _ refl refl (seen key is_lt x ex h) (seen key is_lt y ey g) }
+  rises Unbounded = record { less = λ x y u v ex ey h g. absurd (true≢false h) }
+
+  module _ {s : List Place} (placed : ArePlaced objects s) (sorted : IsSorted cmp (map (key_of adapter) (values_at objects s))) where
+    -- it is sorted for each key
+    pub for_key : (key : K) → IsSortedFor (compared (order_of cmp (key_of adapter) key) objects) s
+    for_key key = sorted_for total (key_of adapter) objects key s placed sorted
+
+    -- THE FIRST EQUAL member is found
+    pub found_first : (key : K) {o : Option Place} → Finds (compared (order_of cmp (key_of adapter) key) objects) s o
+        → o ≡ first (filter (equal_at (compared (order_of cmp (key_of adapter) key) objects)) s)
+    found_first key finds = found_is (for_key key) finds
+
+    -- the members that meet a bound stand at an end of it
+    lower_cuts : (bound : Bound K) → Cuts (meets_lower (within bound)) s
+    lower_cuts (Included key) = cuts_at_most (for_key key)
+    lower_cuts (Excluded key) = cuts_less (for_key key)
+    lower_cuts Unbounded = record { front = []; back = s; same = refl; fail = tt; pass = all_same true s }
+
+    upper_cuts : (bound : Bound K) → Cuts (is_beyond (within bound)) s
+    upper_cuts (Included key) = same_cuts (λ p. not_ge (compared (order_of cmp (key_of adapter) key) objects p)) (cuts_less (for_key key))
+    upper_cuts (Excluded key) = same_cuts (λ p. not_gt (compared (order_of cmp (key_of adapter) key) objects p)) (cuts_at_most (for_key key))
+    upper_cuts Unbounded = record { front = s; back = []; same = append-nil s; fail = all_same false s; pass = tt }
+
+    -- THE FIRST that meets a lower bound, and the last that meets an upper one
+    pub lower_first : (bound : Bound K) {o : Option Place} → IsLowerBorder (within bound) s o → o ≡ first (filter (meets_lower (within bound)) s)
+    lower_first bound border = lower_is (lower_cuts bound) border
+
+    pub upper_last : (bound : Bound K) {o : Option Place} → IsUpperBorder (within bound) s o → o ≡ last (filter (meets_upper (within bound)) s)
+    upper_last bound border = upper_is (upper_cuts bound) border
+
+    -- A RANGE is the filter by both bounds
+    pub range_filter : (min max : Bound K) {w : List Place} → IsDistinct s → IsRange (within min) (within max) (runs_up cmp (key_of adapter) objects) s w
+        → w ≡ filter (λ p. meets_lower (within min) p && meets_upper (within max) p) s
+    range_filter min max distinct range = range_is total key_of adapter objects (rises min) (lower_cuts min) (upper_cuts max) distinct placed sorted range

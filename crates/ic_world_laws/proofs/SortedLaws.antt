@@ -1,0 +1,138 @@
+-- While a tree is sorted, the answers of its keyed calls are filters of its members.
+use Rattle.std.proofs.Common.{◌≡◌, ℕ, Bool, true, false, ◌&&◌, List, length, get_or, set, Option, Some, None, inl, inr, refl, sym, ap, ◌∙◌, subst}
+use Rattle.std.proofs.lemmas.Bool.{cases_lt}
+use Rattle.std.proofs.lemmas.List.{get_or-set_same, get_or_past}
+use Rattle.std.specs.Cmp.{IsTotalOrder}
+use Rattle.std.specs.List.{filter}
+use Rattle.std.specs.declared.cmp.Ordering.{Ordering}
+use Rattle.ic_unsafe_ref.specs.declared.place.Place.{Place}
+use Rattle.ic_unsafe_ref.specs.Objects.{object_at}
+use Rattle.ic_link_ops.specs.PlacedObjects.{ArePlaced}
+use Rattle.ic_link_ops.specs.Sequences.{insert, first, last}
+use Rattle.ic_rbtree.specs.Borders.{IsBorder, IsSortedFor, less_at}
+use Rattle.ic_rbtree.proofs.KeyLaws.{value_there, stays_sorted}
+use Rattle.ic_rbtree.proofs.SortedAnswers.{put_behind, for_key, found_first, lower_first, upper_last, range_filter}
+use Rattle.ic_rbtree.proofs.SortedValues.{own_order_is}
+use Rattle.ic_world.specs.declared.call.Command.{Command}
+use Rattle.ic_world.specs.declared.call.Command.TheVariants as call
+use Rattle.ic_world.specs.declared.insertion.Insertion.TheVariants as insertions
+use Rattle.ic_world.specs.declared.search.Search.TheVariants as searches
+use Rattle.ic_world.specs.declared.target.Call.TheVariants.{Search as search, Insertion as insertion, Enter as enter}
+use Rattle.ic_world.specs.Apart.{AreApart, AreAllPlaced}
+use Rattle.ic_world.specs.Family.{Family, Sequence}
+use Rattle.ic_world.specs.KeyedCalls.{key_at, own_at, PutsInOrder}
+use Rattle.ic_world.specs.State.{Reply, found, looked, range, entry, State}
+use Rattle.ic_world.specs.Step.{Step, StepOn, collection, objects_of, is_placed, state_in, with_state, sequence_of}
+use Rattle.ic_world.proofs.Steps.{some_same}
+use Rattle.ic_world_laws.specs.Sorted.{IsSortedIn, has_key, is_from, is_until, FindsFirst, FindsEnd, IsWithinBoth, PutsBehind, GoesBehind, IsSortedAfter, StaysSorted}
+use Rattle.ic_world_laws.proofs.StepLaws.{of_reply, of_range}
+
+-- a collection that was there is what it was set to
+set_there : {X : Type 0} (xs : List (Option X)) (i : ℕ) {x : X} (y : X) → get_or xs i None ≡ Some x → get_or (set xs i (Some y)) i None ≡ Some y
+set_there xs i y is = elim (cases_lt i (length xs)) [
+  | inl inside ↦ get_or-set_same xs i (Some y) None inside
+  | inr past ↦ let none = sym (get_or_past xs i None past) ∙ is in absurd cc
+]
+
+left_true : (a b : Bool) → (a && b) ≡ true → a ≡ true
+left_true true b e = refl
+left_true false b e = e
+
+-- what holds of what a reply tells, if it is one of these
+abbrev IfFound : (Option Place → Type 0) → Reply → Type 0
+IfFound P (found p n) = P p
+IfFound P _ = Unit
+
+abbrev IfOccupied : (Place → Type 0) → Reply → Type 0
+IfOccupied P (entry true p n) = P p
+IfOccupied P _ = Unit
+
+abbrev IfRange : (List Place → Type 0) → Reply → Type 0
+IfRange P (range places n m) = P places
+IfRange P _ = Unit
+
+module _ {A V K : Type 0} {cmp : K → K → Ordering} (total : IsTotalOrder cmp) (key_of : A → V → K) (old : Family A V) (placed : AreAllPlaced old) where
+  -- THE FIRST MEMBER OF A KEY is found
+  pub finds_first : (command : Command V K) (new : Family A V) (reply : Reply) → Step cmp key_of old command reply new → FindsFirst cmp key_of old command reply
+  finds_first (call.Find c key) new (found p n) step = λ s is sorted.
+      of_reply cmp key_of c (search (searches.Find key)) (IfFound (λ p. p ≡ first (filter (has_key cmp key_of old key) s.members))) old new (found p n) step s is (λ r. tt)
+      (λ there t replies left. found_first total key_of old.adapter (objects_of old) (placed c s is) sorted key replies.0)
+  finds_first (call.Entry c key object) new (entry true p n) step = λ s is sorted.
+      of_reply cmp key_of c (enter key object) (IfOccupied (λ p. Some p ≡ first (filter (has_key cmp key_of old key) s.members))) old new (entry true p n) step s is (λ r. tt)
+      (λ there t replies left. found_first total key_of old.adapter (objects_of old) (placed c s is) sorted key replies.0)
+  finds_first _ new _ step = tt
+
+  -- THE FIRST MEMBER within a lower bound is found, and the last one within an upper one
+  pub finds_end : (command : Command V K) (new : Family A V) (reply : Reply) → Step cmp key_of old command reply new → FindsEnd cmp key_of old command reply
+  finds_end (call.LowerBound c bound) new (found p n) step = λ s is sorted.
+      of_reply cmp key_of c (search (searches.LowerBound bound)) (IfFound (λ p. p ≡ first (filter (is_from cmp key_of old bound) s.members))) old new (found p n) step s is (λ r. tt)
+      (λ there t replies left. lower_first total key_of old.adapter (objects_of old) (placed c s is) sorted bound replies.0)
+  finds_end (call.UpperBound c bound) new (found p n) step = λ s is sorted.
+      of_reply cmp key_of c (search (searches.UpperBound bound)) (IfFound (λ p. p ≡ last (filter (is_until cmp key_of old bound) s.members))) old new (found p n) step s is (λ r. tt)
+      (λ there t replies left. upper_last total key_of old.adapter (objects_of old) (placed c s is) sorted bound replies.0)
+  finds_end _ new _ step = tt
+
+  -- A RANGE is all members within both bounds
+  pub is_within_both : AreApart old → (command : Command V K) (new : Family A V) (reply : Reply) → Step cmp key_of old command reply new → IsWithinBoth cmp key_of old command reply
+  is_within_both apart (call.Range c min max) new (range places n m) step = λ s is sorted.
+      of_range cmp key_of c min max (IfRange (λ places. places ≡ filter (λ q. is_from cmp key_of old min q && is_until cmp key_of old max q) s.members)) old new (range places n m) step s is (λ r. tt)
+      (λ replies. range_filter total key_of old.adapter (objects_of old) (placed c s is) sorted min max (apart.0 c s is) replies.0)
+  is_within_both apart _ new _ step = tt
+
+  -- AN OBJECT THAT IS PUT IN ORDER goes behind all that are not greater, and the tree stays sorted
+  module _ (c : ℕ) (p : Place) (s : Sequence) (is : collection old c ≡ Some s) (sorted : IsSortedIn cmp key_of old s.members) (there : is_placed old p ≡ true)
+      (new : Family A V) (t : State) (cursor : Option Place) (left : new ≡ with_state old c s.field t)
+      (puts : PutsInOrder cmp (key_of old.adapter) (objects_of old) (state_in old s) p cursor t) where
+    own : (v : V) × (object_at (objects_of old) p ≡ Some v)
+    own = value_there total (key_of old.adapter) (objects_of old) (object_at (objects_of old) p) there
+
+    own_is : own_at cmp (key_of old.adapter) (objects_of old) p ≡ key_at cmp (key_of old.adapter) (objects_of old) (key_of old.adapter own.0)
+    own_is = own_order_is cmp (key_of old.adapter) (objects_of old) p own.1
+
+    is_there : collection new c ≡ Some (sequence_of s.field t)
+    is_there = subst (λ w. collection w c ≡ Some (sequence_of s.field t)) (sym left) (set_there old.collections c (sequence_of s.field t) is)
+
+    members_are : t.members ≡ insert puts.0 p
+    members_are = ap (λ (x : State). x.members) puts.2.1
+
+    puts_behind : PutsBehind cmp key_of old c p new s.members
+    puts_behind = (
+      sequence_of s.field t,
+      is_there,
+      members_are ∙ put_behind (subst (λ at. IsSortedFor at s.members) (sym own_is) (for_key total key_of old.adapter (objects_of old) (placed c s is) sorted (key_of old.adapter own.0))) puts.0 puts.1 puts.2.0 p,
+    )
+
+    sorted_after : IsSortedAfter cmp key_of c new
+    sorted_after u is_u =
+        let here : IsSortedIn cmp key_of old (insert puts.0 p) =
+        stays_sorted total (key_of old.adapter) (objects_of old) p own.1 puts.0 (subst (ArePlaced (objects_of old)) (sym puts.1) (placed c s is)) (subst (IsSortedIn cmp key_of old) (sym puts.1) sorted)
+        (subst (λ at. IsBorder (less_at at) puts.0) own_is puts.2.0) in
+        subst (λ (z : Sequence). IsSortedIn cmp key_of new z.members) (some_same (sym is_there ∙ is_u))
+        (subst (λ w. IsSortedIn cmp key_of w t.members) (sym left) (subst (IsSortedIn cmp key_of old) (sym members_are) here))
+
+  abbrev IsInOrder : ℕ → Place → Family A V → Sequence → Reply → Type 0
+  IsInOrder c p new s (looked n) = PutsBehind cmp key_of old c p new s.members × IsSortedAfter cmp key_of c new
+  IsInOrder c p new s _ = Unit
+
+  -- both calls that insert in order
+  inserts : (c : ℕ) (p : Place) (new : Family A V) (n : ℕ) → StepOn cmp key_of old c (insertion (insertions.Insert p)) (looked n) new
+      → (s : Sequence) → collection old c ≡ Some s → IsSortedIn cmp key_of old s.members → IsInOrder c p new s (looked n)
+  inserts c p new n step s is sorted = of_reply cmp key_of c (insertion (insertions.Insert p)) (IsInOrder c p new s) old new (looked n) step s is (λ r. tt) (λ there t replies left.
+      let placed_p = left_true (is_placed old p) true there in
+      (puts_behind c p s is sorted placed_p new t (Some p) left replies.0, sorted_after c p s is sorted placed_p new t (Some p) left replies.0))
+
+  inserts_by_cursor : (c : ℕ) (p : Place) (new : Family A V) (n : ℕ) → StepOn cmp key_of old c (insertion (insertions.CursorInsert p)) (looked n) new
+      → (s : Sequence) → collection old c ≡ Some s → IsSortedIn cmp key_of old s.members → IsInOrder c p new s (looked n)
+  inserts_by_cursor c p new n step s is sorted = of_reply cmp key_of c (insertion (insertions.CursorInsert p)) (IsInOrder c p new s) old new (looked n) step s is (λ r. tt) (λ there t replies left.
+      let placed_p = left_true (is_placed old p) true there in
+      (puts_behind c p s is sorted placed_p new t s.cursor left replies.0, sorted_after c p s is sorted placed_p new t s.cursor left replies.0))
+
+  pub goes_behind : (command : Command V K) (new : Family A V) (reply : Reply) → Step cmp key_of old command reply new → GoesBehind cmp key_of old command reply new
+  goes_behind (call.Insert c p) new (looked n) step = λ s is sorted. (inserts c p new n step s is sorted).0
+  goes_behind (call.CursorInsert c p) new (looked n) step = λ s is sorted. (inserts_by_cursor c p new n step s is sorted).0
+  goes_behind _ new _ step = tt
+
+  pub stays : (command : Command V K) (new : Family A V) (reply : Reply) → Step cmp key_of old command reply new → StaysSorted cmp key_of old command reply new
+  stays (call.Insert c p) new (looked n) step = λ s is sorted. (inserts c p new n step s is sorted).1
+  stays (call.CursorInsert c p) new (looked n) step = λ s is sorted. (inserts_by_cursor c p new n step s is sorted).1
+  stays _ new _ step = tt

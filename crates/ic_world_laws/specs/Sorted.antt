@@ -1,0 +1,76 @@
+-- What keyed calls answer while their tree is sorted: filters of its members.
+use Rattle.std.specs.Prelude.{◌≡◌, ℕ, true, not, ◌&&◌, Bool, List, ◌∷◌, ◌++◌, map, Some}
+use Rattle.std.specs.List.{filter}
+use Rattle.std.specs.declared.cmp.Ordering.{Ordering}
+use Rattle.ic_unsafe_ref.specs.declared.place.Place.{Place}
+use Rattle.ic_link_ops.specs.PlacedObjects.{values_at}
+use Rattle.ic_link_ops.specs.Sequences.{first, last}
+use Rattle.ic_rbtree.specs.declared.key_adapter.Bound.{Bound}
+use Rattle.ic_rbtree.specs.Borders.{IsSorted, equal_at, less_at}
+use Rattle.ic_rbtree.specs.Comparing.{meets_lower, meets_upper}
+use Rattle.ic_world.specs.declared.call.Command.{Command}
+use Rattle.ic_world.specs.declared.call.Command.TheVariants as call
+use Rattle.ic_world.specs.Family.{Family, Sequence}
+use Rattle.ic_world.specs.KeyedCalls.{key_at, bound_at, own_at}
+use Rattle.ic_world.specs.State.{Reply, found, looked, range, entry}
+use Rattle.ic_world.specs.Step.{collection, objects_of}
+
+module _ {A V K : Type 0} (cmp : K → K → Ordering) (key_of : A → V → K) (w : Family A V) where
+  -- SORTED: from one member to the next the keys never fall
+  abbrev pub IsSortedIn : List Place → Type 0
+  IsSortedIn s = IsSorted cmp (map (key_of w.adapter) (values_at (objects_of w) s))
+
+  -- this holds of the members of collection c, while they are sorted
+  abbrev pub WhileSorted : ℕ → (List Place → Type 0) → Type 0
+  WhileSorted c Holds = (s : Sequence) → collection w c ≡ Some s → IsSortedIn s.members → Holds s.members
+
+  -- whether a member has the key, whether it is within a lower bound and within an upper one, and whether its key is greater than that
+  -- of the object at p
+  abbrev pub has_key : K → Place → Bool
+  has_key key = equal_at (key_at cmp (key_of w.adapter) (objects_of w) key)
+
+  abbrev pub is_from : Bound K → Place → Bool
+  is_from bound = meets_lower (bound_at cmp (key_of w.adapter) (objects_of w) bound)
+
+  abbrev pub is_until : Bound K → Place → Bool
+  is_until bound = meets_upper (bound_at cmp (key_of w.adapter) (objects_of w) bound)
+
+  abbrev pub is_greater : Place → Place → Bool
+  is_greater p = less_at (own_at cmp (key_of w.adapter) (objects_of w) p)
+
+  -- A SEARCH FOR A KEY finds the first member that has it
+  abbrev pub FindsFirst : Command V K → Reply → Type 0
+  FindsFirst (call.Find c key) (found p looks) = WhileSorted c (λ s. p ≡ first (filter (has_key key) s))
+  FindsFirst (call.Entry c key object) (entry true p looks) = WhileSorted c (λ s. Some p ≡ first (filter (has_key key) s))
+  FindsFirst _ _ = Unit
+
+  -- A SEARCH FOR A BOUND finds the first member within it, or the last
+  abbrev pub FindsEnd : Command V K → Reply → Type 0
+  FindsEnd (call.LowerBound c bound) (found p looks) = WhileSorted c (λ s. p ≡ first (filter (is_from bound) s))
+  FindsEnd (call.UpperBound c bound) (found p looks) = WhileSorted c (λ s. p ≡ last (filter (is_until bound) s))
+  FindsEnd _ _ = Unit
+
+  -- A RANGE is all members within both bounds
+  abbrev pub IsWithinBoth : Command V K → Reply → Type 0
+  IsWithinBoth (call.Range c min max) (range places first_looks second_looks) = WhileSorted c (λ s. places ≡ filter (λ q. is_from min q && is_until max q) s)
+  IsWithinBoth _ _ = Unit
+
+  -- AN INSERT goes behind all members whose keys are not greater
+  abbrev pub PutsBehind : ℕ → Place → Family A V → List Place → Type 0
+  PutsBehind c p new s = (t : Sequence) × (collection new c ≡ Some t)
+      × (t.members ≡ filter (λ q. not (is_greater p q)) s ++ p ∷ filter (is_greater p) s)
+
+  abbrev pub GoesBehind : Command V K → Reply → Family A V → Type 0
+  GoesBehind (call.Insert c p) (looked looks) new = WhileSorted c (PutsBehind c p new)
+  GoesBehind (call.CursorInsert c p) (looked looks) new = WhileSorted c (PutsBehind c p new)
+  GoesBehind _ _ new = Unit
+
+module _ {A V K : Type 0} (cmp : K → K → Ordering) (key_of : A → V → K) where
+  -- AND IT LEAVES the tree sorted
+  abbrev pub IsSortedAfter : ℕ → Family A V → Type 0
+  IsSortedAfter c new = (t : Sequence) → collection new c ≡ Some t → IsSortedIn cmp key_of new t.members
+
+  abbrev pub StaysSorted : Family A V → Command V K → Reply → Family A V → Type 0
+  StaysSorted old (call.Insert c p) (looked looks) new = WhileSorted cmp key_of old c (λ s. IsSortedAfter c new)
+  StaysSorted old (call.CursorInsert c p) (looked looks) new = WhileSorted cmp key_of old c (λ s. IsSortedAfter c new)
+  StaysSorted old _ _ new = Unit
