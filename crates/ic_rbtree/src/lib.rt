@@ -11,9 +11,7 @@
 
 mod bounds;
 mod contains;
-mod cursor;
-mod cursor_mut;
-mod cursor_owning;
+mod cursors;
 mod descent;
 mod edits;
 mod entry;
@@ -35,9 +33,7 @@ mod tree;
 mod whole;
 mod writers;
 
-pub use cursor::Cursor;
-pub use cursor_mut::CursorMut;
-pub use cursor_owning::CursorOwning;
+pub use cursors::{Cursor, CursorMut, CursorOwning};
 pub use entry::{Entry, InsertCursor, RefusedInsert};
 pub use ic_link_ops::Color;
 pub use ic_link_ops::rbtree::{Link, LinkOps, RBTreeOps};

@@ -26,9 +26,7 @@
 #![tactic(auto)]
 
 mod contains;
-mod cursor;
-mod cursor_mut;
-mod cursor_owning;
+mod cursors;
 mod edits;
 mod into_iter;
 mod iter;
@@ -36,9 +34,7 @@ mod list;
 mod surgery;
 mod whole;
 
-pub use cursor::Cursor;
-pub use cursor_mut::CursorMut;
-pub use cursor_owning::CursorOwning;
+pub use cursors::{Cursor, CursorMut, CursorOwning};
 pub use ic_link_ops::singly_linked_list::{Link, LinkOps, SinglyLinkedListOps};
 pub use into_iter::IntoIter;
 pub use iter::Iter;

@@ -28,9 +28,7 @@
 #![tactic(auto)]
 
 mod contains;
-mod cursor;
-mod cursor_mut;
-mod cursor_owning;
+mod cursors;
 mod edits;
 mod into_iter;
 mod iter;
@@ -39,9 +37,7 @@ mod position;
 mod surgery;
 mod whole;
 
-pub use cursor::Cursor;
-pub use cursor_mut::CursorMut;
-pub use cursor_owning::CursorOwning;
+pub use cursors::{Cursor, CursorMut, CursorOwning};
 pub use ic_link_ops::xor_linked_list::{Link, LinkOps, XorLinkedListOps};
 pub use into_iter::IntoIter;
 pub use iter::Iter;

@@ -1,9 +1,13 @@
 //! The program over memory of which one request is refused: `rationed N` refuses the request number N, counted from 0, and
 //! `rationed none` none. It tells on standard error how many requests there were.
 //!
-//! With `list` behind that, all calls are run as one list of commands, and lines that are no calls are passed over.
+//! With `list` behind that, all calls are run as one list of commands, and lines that are no calls are passed over. With `count` each call is
+//! made by its method, and what is written of it is how many requests it made.
 #![tactic(auto)]
 
+mod methods;
+
+use crate::methods::call;
 use ic_program::{FAULT, Line, OwnKey, push_answer, run_lines};
 use ic_world::{Answer, Command, World};
 use std::alloc::Global;
@@ -58,20 +62,48 @@ fn run_list(
     write_answers(alloc, &answers, writer)
 }
 
+// Makes the calls that the reader gives, on a world over that memory, and writes how many requests for memory each made.
+fn count_each(
+    alloc: Global,
+    memory: &Rationed,
+    reader: &mut impl BufRead,
+    writer: &mut impl Write,
+) -> io::Result<()> {
+    let mut world = World::new(memory, OwnKey);
+    for command in commands_of(alloc, reader)? {
+        let before = memory.requests();
+        call(&mut world, command);
+        writeln!(writer, "{}", memory.requests().saturating_sub(before))?;
+    }
+    writer.flush()
+}
+
+// Runs the program in the way that the word names, and answers its status.
+fn status_of(
+    alloc: Global,
+    memory: &Rationed,
+    way: Option<&String>,
+    reader: &mut impl BufRead,
+    writer: &mut impl Write,
+) -> u8 {
+    let ran = match way.map(|word| word.as_str()) {
+        Some("list") => run_list(alloc, memory, reader, writer),
+        Some("count") => count_each(alloc, memory, reader, writer),
+        _ => return run_lines(memory, reader, writer),
+    };
+    match ran {
+        Ok(()) => 0,
+        Err(_) => FAULT,
+    }
+}
+
 // Runs the program over the standard streams, and answers its status.
 fn run(rt: &(impl Env + Input + Print + Eprint + AllocGlobal), alloc: Global) -> io::Result<u8> {
     let words: Vec<String> = env::args(rt)?.skip(1).collect(alloc)?;
     let memory = Rationed::new(alloc, request_in(words.first()));
     let mut reader = BufReader::new(alloc, rt.reader())?;
     let mut writer = BufWriter::new(alloc, io::writer(rt))?;
-    let status = if words.len() > 1 {
-        match run_list(alloc, &memory, &mut reader, &mut writer) {
-            Ok(()) => 0,
-            Err(_) => FAULT,
-        }
-    } else {
-        run_lines(&memory, &mut reader, &mut writer)
-    };
+    let status = status_of(alloc, &memory, words.get(1), &mut reader, &mut writer);
     eprintln!(rt; "{} requests", memory.requests())?;
     Ok(status)
 }
