@@ -82,7 +82,9 @@ fn write_edits(rt: &impl Abort, notes: &mut Text, lists: &mut Lists)
     cursor.splice_before(behind);
     let in_front = cursor.split_before();
     cursor.splice_after(in_front);
-    laws::split_then_splice(&mut cursor);
+    laws::split_then_splice::<LinkOps>();
+    let rest = cursor.split_after();
+    cursor.splice_after(rest);
     cursor.move_next();
     write_read(notes, cursor.peek_next(), objects);
     write_read(notes, cursor.peek_prev(), objects);
@@ -153,8 +155,11 @@ fn write_whole(rt: &impl Abort, notes: &mut Text, lists: &mut Lists, field: &mut
     assert!(rt; !lists.links.is_linked(place) && !field.links.is_linked(place));
     let (front, back) = laws::null_there_and_back(&mut lists.list.cursor(&lists.links));
     write_places(notes, &[front, back]);
-    let taken = laws::push_then_pop(&mut field.list, &mut field.links, object);
-    write_object(notes, taken);
+    laws::push_then_pop::<LinkOps>();
+    let Ok(()) = field.list.push_back(&mut field.links, object) else {
+        return;
+    };
+    write_object(notes, field.list.pop_back(&mut field.links));
     let are_in = laws::fields_are_apart(
         &mut lists.list,
         &mut lists.links,

@@ -65,7 +65,9 @@ fn write_edits(rt: &impl Abort, notes: &mut Text, lists: &mut Lists)
     let object = reference(5);
     let place = object.place();
     notes.add(replaced(cursor.replace_next_with(object), place), " ");
-    laws::split_then_splice(&mut cursor);
+    laws::split_then_splice::<LinkOps>();
+    let rest = cursor.split_after();
+    cursor.splice_after(rest);
     write_values(notes, &[cursor.into_ref(objects)]);
 }
 
@@ -99,10 +101,11 @@ fn write_laws(rt: &impl Abort, notes: &mut Text, lists: &mut Lists, field: &mut 
     let object = reference(5);
     let place = object.place();
     assert!(rt; !lists.links.is_linked(place) && !field.links.is_linked(place));
-    write_object(
-        notes,
-        laws::push_then_pop(&mut field.list, &mut field.links, object),
-    );
+    laws::push_then_pop::<LinkOps>();
+    let Ok(()) = field.list.push_front(&mut field.links, object) else {
+        return;
+    };
+    write_object(notes, field.list.pop_front(&mut field.links));
     let are_in = laws::fields_are_apart(
         &mut lists.list,
         &mut lists.links,

@@ -119,7 +119,9 @@ fn write_turned(rt: &impl Abort, notes: &mut Text, lists: &mut Lists<OneWord<Xor
     let (object, prev) = second(rt, list, links);
     let removed = {
         let mut cursor = list.cursor_mut_from_ptr_and_prev(links, object, prev);
-        laws::split_then_splice(&mut cursor);
+        laws::split_then_splice::<LinkOps>();
+        let rest = cursor.split_after();
+        cursor.splice_after(rest);
         cursor.remove()
     };
     write_object(notes, removed);
@@ -172,9 +174,14 @@ fn write_whole(
     assert!(rt; !lists.links.is_linked(place) && !field.links.is_linked(place));
     let (front, back) = laws::null_there_and_back(&mut lists.list.cursor(&lists.links));
     write_places(notes, &[front, back]);
-    let taken = laws::push_then_pop(&mut field.list, &mut field.links, object);
-    write_object(notes, taken);
-    laws::reverse_twice(&mut lists.list);
+    laws::push_then_pop::<LinkOps>();
+    let Ok(()) = field.list.push_back(&mut field.links, object) else {
+        return;
+    };
+    write_object(notes, field.list.pop_back(&mut field.links));
+    lists.list.reverse();
+    lists.list.reverse();
+    laws::reverse_twice();
     let are_in = laws::fields_are_apart(
         &mut lists.list,
         &mut lists.links,

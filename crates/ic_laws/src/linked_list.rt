@@ -1,21 +1,20 @@
-//! What follows of several calls of a list together, each law as the contract of a function that makes them.
+//! What follows of several calls of a list together, each law as the contract of a function.
 //!
 //! ```text
-//! linked_list::split_then_splice(&mut cursor); // the list is what it was
+//! linked_list::split_then_splice::<LinkOps>(); // split, and spliced again, the list is what it was
 //! ```
 
-ghost use Rattle.std.specs.Prelude.{◌≡◌, List, [], ◌∷◌, None, Some, IsTrue};
+ghost use Rattle.std.specs.Prelude.{◌≡◌, List, ◌∷◌, None, IsTrue};
 ghost use Rattle.ic_unsafe_ref.specs.declared.place.Place.{Place};
-ghost use Rattle.ic_link_ops.specs.Sequences.{insert, at_back, first, last};
-ghost use Rattle.ic_link_ops.specs.Tables.{IsCovered, IsUnlinked, KeepsBeside, KeepsLinked, LinksAlso};
+ghost use Rattle.ic_link_ops.specs.Sequences.{insert, at_back, first, last, but_last};
+ghost use Rattle.ic_link_ops.specs.Tables.{IsCovered, IsUnlinked, KeepsBeside, LinksAlso};
 ghost use Rattle.ic_link_ops.specs.LinkedList.{Shows, ShowsSome};
 ghost use Rattle.ic_link_ops.specs.DoublyEntries.{is_linked, plain_table, PlainShows, PlainShowsSome};
-ghost use Rattle.ic_link_ops.specs.Positions.{Stands};
 ghost use Rattle.ic_linked_list.specs.Cursor as reads;
-ghost use Rattle.ic_linked_list.specs.CursorMut as edits;
+ghost use Rattle.ic_laws.specs.Laws.{SplitsApart, SplitThenSplice, PushThenPop};
 
 use ic_link_ops::linked_list::{LinkOps, LinkedListOps};
-use ic_linked_list::{Cursor, CursorMut, LinkedList};
+use ic_linked_list::{Cursor, LinkedList};
 use ic_unsafe_ref::{Place, UnsafeRef};
 use std::alloc::Allocator;
 
@@ -45,22 +44,15 @@ pub fn null_there_and_back<T, L: LinkedListOps>(
     (front, back)
 }
 
-/// Splits a list behind the cursor and splices what was handed out in again there: the list is what it was. O(1).
+/// The law of a split and a splice: what a split behind a position hands out, spliced in again behind that position, leaves the
+/// list as it was, over any table.
 ///
-/// It asks that the cursor stands in its list. No link is acquired or released.
-pub fn split_then_splice<T, L: LinkedListOps>(cursor: &mut CursorMut<'_, T, L>)
-    requires stands { Stands (Shows L.neighbors) L.table (edits.site_of cursor.old) }
-    ensures sequence { (s : List Place) → Shows L.neighbors (L.table (edits.links_of cursor.old)) (edits.list_of cursor.old) s
-        → Shows L.neighbors (L.table (edits.links_of cursor.new)) (edits.list_of cursor.new) s }
-    ensures frame { (s : List Place) → Shows L.neighbors (L.table (edits.links_of cursor.old)) (edits.list_of cursor.old) s
-        → KeepsBeside (L.table (edits.links_of cursor.old)) (L.table (edits.links_of cursor.new)) s }
-    ensures no_step { L.Does (edits.links_of cursor.old) (edits.links_of cursor.new) [] }
-    ensures position { edits.position cursor.new ≡ edits.position cursor.old }
-    ensures borrows { edits.SameBorrows cursor.old cursor.new }
-{
-    let rest = cursor.split_after();
-    cursor.splice_after(rest);
-}
+/// It speaks of what `split_after` and `splice_after` say, and makes no call. The two parts of the split are shown and share no
+/// member, so that the one may be spliced into the other (`apart`).
+pub fn split_then_splice<L: LinkedListOps>()
+    ensures apart { SplitsApart (Shows L.neighbors) L.table L.Does }
+    ensures as_it_was { SplitThenSplice (Shows L.neighbors) L.table L.Does }
+{}
 
 /// Puts one object at the back of a list of each of two fields, over plain tables: a link in one field is none in the
 /// other, so both take it, and the answer is true. O(1).
@@ -98,27 +90,10 @@ pub fn fields_are_apart<T, A: Allocator, B: Allocator>(
     in_first && in_second
 }
 
-/// Puts an unlinked object at the back, over a plain table, and takes it off there again: the list and the linked places
-/// are as they were, and so is every other list. O(1).
+/// The law of a push and a pop: an object that `push_back` accepted is what `pop_back` answers, and the list and the linked places
+/// are as they were, and so is every other list, over any table.
 ///
-/// It asks that the table covers the object's place, that it is not linked, and that the table shows a sequence.
-pub fn push_then_pop<T, A: Allocator>(
-    list: &mut LinkedList<T>,
-    links: &mut LinkOps<A>,
-    object: UnsafeRef<T>,
-) -> Option<UnsafeRef<T>>
-    requires covered { IsCovered (plain_table links.old) object }
-    requires unlinked { IsUnlinked is_linked (plain_table links.old) object }
-    requires shown { PlainShowsSome links.old list.old }
-    ensures answer { result ≡ Some object }
-    ensures sequence { (s : List Place) → PlainShows links.old list.old s
-        → PlainShows links.new list.new s }
-    ensures linked { KeepsLinked is_linked (plain_table links.old) (plain_table links.new) }
-    ensures frame { (s : List Place) → PlainShows links.old list.old s
-        → KeepsBeside (plain_table links.old) (plain_table links.new) (object ∷ s) }
-{
-    let Ok(()) = list.push_back(links, object) else {
-        return None;
-    };
-    list.pop_back(links)
-}
+/// It speaks of what the two calls say, and makes none.
+pub fn push_then_pop<L: LinkedListOps>()
+    ensures { PushThenPop (Shows L.neighbors) L.table L.Does L.linked at_back last but_last }
+{}

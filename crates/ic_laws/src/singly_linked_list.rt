@@ -1,42 +1,33 @@
-//! What follows of several calls of a list together, each law as the contract of a function that makes them.
+//! What follows of several calls of a list together, each law as the contract of a function.
 //!
 //! ```text
-//! singly_linked_list::split_then_splice(&mut cursor); // the list is what it was
+//! singly_linked_list::split_then_splice::<LinkOps>(); // split, and spliced again, the list is what it was
 //! ```
 
-ghost use Rattle.std.specs.Prelude.{◌≡◌, List, [], ◌∷◌, Some, IsTrue};
+ghost use Rattle.std.specs.Prelude.{List, ◌∷◌, IsTrue};
 ghost use Rattle.ic_unsafe_ref.specs.declared.place.Place.{Place};
-ghost use Rattle.ic_link_ops.specs.Sequences.{insert, at_front};
-ghost use Rattle.ic_link_ops.specs.Tables.{IsCovered, IsUnlinked, KeepsBeside, KeepsLinked, LinksAlso};
+ghost use Rattle.ic_link_ops.specs.Sequences.{insert, remove, at_front, first};
+ghost use Rattle.ic_link_ops.specs.Tables.{IsCovered, IsUnlinked, KeepsBeside, LinksAlso};
 ghost use Rattle.ic_link_ops.specs.SinglyLinkedList.{Shows, ShowsSome};
 ghost use Rattle.ic_link_ops.specs.Readings.{successor_of};
 ghost use Rattle.ic_link_ops.specs.PlainTables.{table, linked_by};
-ghost use Rattle.ic_link_ops.specs.Positions.{Stands};
-ghost use Rattle.ic_singly_linked_list.specs.CursorMut as edits;
+ghost use Rattle.ic_laws.specs.Laws.{SplitsApart, SplitThenSplice, PushThenPop};
 
 use ic_link_ops::singly_linked_list::SinglyLinkedListOps;
 use ic_link_ops::{NextWord, PlainTable};
-use ic_singly_linked_list::{CursorMut, SinglyLinkedList};
+use ic_singly_linked_list::SinglyLinkedList;
 use ic_unsafe_ref::{Place, UnsafeRef};
 use std::alloc::Allocator;
 
-/// Splits a list behind the cursor and splices what was handed out in again there: the list is what it was. O(1), since
-/// nothing follows the cursor then.
+/// The law of a split and a splice: what a split behind a position hands out, spliced in again behind that position, leaves the
+/// list as it was, over any table.
 ///
-/// It asks that the cursor stands in its list. No link is acquired or released.
-pub fn split_then_splice<T, L: SinglyLinkedListOps>(cursor: &mut CursorMut<'_, T, L>)
-    requires stands { Stands (Shows L.successor) L.table (edits.site_of cursor.old) }
-    ensures sequence { (s : List Place) → Shows L.successor (L.table (edits.links_of cursor.old)) (edits.list_of cursor.old) s
-        → Shows L.successor (L.table (edits.links_of cursor.new)) (edits.list_of cursor.new) s }
-    ensures frame { (s : List Place) → Shows L.successor (L.table (edits.links_of cursor.old)) (edits.list_of cursor.old) s
-        → KeepsBeside (L.table (edits.links_of cursor.old)) (L.table (edits.links_of cursor.new)) s }
-    ensures no_step { L.Does (edits.links_of cursor.old) (edits.links_of cursor.new) [] }
-    ensures position { edits.position cursor.new ≡ edits.position cursor.old }
-    ensures borrows { edits.SameBorrows cursor.old cursor.new }
-{
-    let rest = cursor.split_after();
-    cursor.splice_after(rest);
-}
+/// It speaks of what `split_after` and `splice_after` say, and makes no call. The two parts of the split are shown and share no
+/// member, so that the one may be spliced into the other (`apart`).
+pub fn split_then_splice<L: SinglyLinkedListOps>()
+    ensures apart { SplitsApart (Shows L.successor) L.table L.Does }
+    ensures as_it_was { SplitThenSplice (Shows L.successor) L.table L.Does }
+{}
 
 /// Puts one object at the front of a list of each of two fields, over plain tables: a link in one field is none in the
 /// other, so both take it, and the answer is true. O(1).
@@ -76,27 +67,10 @@ pub fn fields_are_apart<T, W: NextWord, V: NextWord, A: Allocator, B: Allocator>
     in_first && in_second
 }
 
-/// Puts an unlinked object at the front, over a plain table, and takes it off there again: the list and the linked places
-/// are as they were, and so is every other list. O(1).
+/// The law of a push and a pop: an object that `push_front` accepted is what `pop_front` answers, and the list and the linked places
+/// are as they were, and so is every other list, over any table.
 ///
-/// It asks that the table covers the object's place, that it is not linked, and that the table shows a sequence.
-pub fn push_then_pop<T, W: NextWord, A: Allocator>(
-    list: &mut SinglyLinkedList<T>,
-    links: &mut PlainTable<W, A>,
-    object: UnsafeRef<T>,
-) -> Option<UnsafeRef<T>>
-    requires covered { IsCovered (table W.unlinked links.old) object }
-    requires unlinked { IsUnlinked (linked_by W.is_linked) (table W.unlinked links.old) object }
-    requires shown { ShowsSome (successor_of W.next_word W.is_linked) (table W.unlinked links.old) list.old }
-    ensures answer { result ≡ Some object }
-    ensures sequence { (s : List Place) → Shows (successor_of W.next_word W.is_linked) (table W.unlinked links.old) list.old s
-        → Shows (successor_of W.next_word W.is_linked) (table W.unlinked links.new) list.new s }
-    ensures linked { KeepsLinked (linked_by W.is_linked) (table W.unlinked links.old) (table W.unlinked links.new) }
-    ensures frame { (s : List Place) → Shows (successor_of W.next_word W.is_linked) (table W.unlinked links.old) list.old s
-        → KeepsBeside (table W.unlinked links.old) (table W.unlinked links.new) (object ∷ s) }
-{
-    let Ok(()) = list.push_front(links, object) else {
-        return None;
-    };
-    list.pop_front(links)
-}
+/// It speaks of what the two calls say, and makes none.
+pub fn push_then_pop<L: SinglyLinkedListOps>()
+    ensures { PushThenPop (Shows L.successor) L.table L.Does L.linked at_front first (λ s. remove (at_front s)) }
+{}

@@ -1,23 +1,25 @@
-//! What follows of several calls of a list together, each law as the contract of a function that makes them.
+//! What follows of several calls of a list together, each law as the contract of a function.
 //!
 //! ```text
-//! xor_linked_list::split_then_splice(&mut cursor); // the list is what it was
+//! xor_linked_list::split_then_splice::<LinkOps>(); // split, and spliced again, the list is what it was
 //! ```
 
-ghost use Rattle.std.specs.Prelude.{◌≡◌, List, [], ◌∷◌, None, Some, IsTrue, reverse};
+ghost use Rattle.std.specs.Prelude.{◌≡◌, List, ◌∷◌, None, IsTrue, reverse};
 ghost use Rattle.ic_unsafe_ref.specs.declared.place.Place.{Place};
-ghost use Rattle.ic_link_ops.specs.Sequences.{insert, at_back, first, last};
-ghost use Rattle.ic_link_ops.specs.Tables.{IsCovered, IsUnlinked, KeepsBeside, KeepsLinked, LinksAlso};
-ghost use Rattle.ic_link_ops.specs.XorLinkedList.{Shows, ShowsSome};
+ghost use Rattle.ic_link_ops.specs.Sequences.{insert, at_back, first, last, but_last};
+ghost use Rattle.ic_link_ops.specs.Tables.{IsCovered, IsUnlinked, KeepsBeside, LinksAlso};
+ghost use Rattle.ic_link_ops.specs.XorLinkedList.{Shows};
 ghost use Rattle.ic_link_ops.specs.PlainTables.{table, linked_by};
 ghost use Rattle.ic_xor_linked_list.specs.PlainLists.{PlainShows, PlainShowsSome};
 ghost use Rattle.ic_xor_linked_list.specs.Cursor as reads;
-ghost use Rattle.ic_xor_linked_list.specs.CursorMut as edits;
+ghost use Rattle.ic_link_ops.specs.Chains.{Ends};
+ghost use Rattle.ic_xor_linked_list.specs.Turned.{turned};
+ghost use Rattle.ic_laws.specs.Laws.{SplitsApart, SplitThenSplice, PushThenPop};
 
 use ic_link_ops::xor_linked_list::XorLinkedListOps;
 use ic_link_ops::{NextWord, PlainTable};
 use ic_unsafe_ref::{Place, UnsafeRef};
-use ic_xor_linked_list::{Cursor, CursorMut, XorLinkedList};
+use ic_xor_linked_list::{Cursor, XorLinkedList};
 use std::alloc::Allocator;
 
 /// Moves a cursor from null on and back again, and then back and on: it was at the front and at the back, which are the
@@ -47,23 +49,16 @@ pub fn null_there_and_back<T, L: XorLinkedListOps>(
     (front, back)
 }
 
-/// Splits a list behind the cursor and splices what was handed out in again there: the list is what it was. O(1).
+/// The law of a split and a splice: what a split behind a position hands out, spliced in again behind that position, leaves the
+/// list as it was, over any table.
 ///
-/// It asks that the cursor stands in its list. No link is acquired or released.
-pub fn split_then_splice<T, L: XorLinkedListOps>(cursor: &mut CursorMut<'_, T, L>)
-    requires stands { edits.KnowsNeighbors (Shows L.linked L.Joins) L.table cursor.old }
-    ensures sequence { (s : List Place) → Shows L.linked L.Joins (L.table (edits.links_of cursor.old)) (edits.list_of cursor.old) s
-        → Shows L.linked L.Joins (L.table (edits.links_of cursor.new)) (edits.list_of cursor.new) s }
-    ensures frame { (s : List Place) → Shows L.linked L.Joins (L.table (edits.links_of cursor.old)) (edits.list_of cursor.old) s
-        → KeepsBeside (L.table (edits.links_of cursor.old)) (L.table (edits.links_of cursor.new)) s }
-    ensures no_step { L.Does (edits.links_of cursor.old) (edits.links_of cursor.new) [] }
-    ensures position { edits.position cursor.new ≡ edits.position cursor.old }
-    ensures kept { edits.KnowsNeighbors (Shows L.linked L.Joins) L.table cursor.new }
-    ensures borrows { edits.SameBorrows cursor.old cursor.new }
-{
-    let rest = cursor.split_after();
-    cursor.splice_after(rest);
-}
+/// It speaks of what `split_after` and `splice_after` say, and makes no call. The two parts of the split are shown and share no
+/// member, so that the one may be spliced into the other (`apart`). Of such a splice the clause `kept` of `splice_after` says that the
+/// place which the cursor keeps is right.
+pub fn split_then_splice<L: XorLinkedListOps>()
+    ensures apart { SplitsApart (Shows L.linked L.Joins) L.table L.Does }
+    ensures as_it_was { SplitThenSplice (Shows L.linked L.Joins) L.table L.Does }
+{}
 
 /// Turns a list round: a table that showed a sequence for it shows that sequence turned round, since no entry says which of
 /// its neighbours is in front. O(1), and the table is not written.
@@ -75,13 +70,10 @@ pub fn reversed_is_shown<T, L: XorLinkedListOps>(list: &mut XorLinkedList<T>, li
     list.reverse();
 }
 
-/// Turns a list round twice: it is what it was, and no table is read or written. O(1).
-pub fn reverse_twice<T>(list: &mut XorLinkedList<T>)
-    ensures { list.new ≡ list.old }
-{
-    list.reverse();
-    list.reverse();
-}
+/// The law: a list that is turned round twice is what it was.
+pub fn reverse_twice()
+    ensures { (list : Ends) → turned (turned list) ≡ list }
+{}
 
 /// Puts one object at the back of a list of each of two fields, over plain tables: a link in one field is none in the
 /// other, so both take it, and the answer is true. O(1).
@@ -119,27 +111,10 @@ pub fn fields_are_apart<T, W: NextWord, V: NextWord, A: Allocator, B: Allocator>
     in_first && in_second
 }
 
-/// Puts an unlinked object at the back, over a plain table, and takes it off there again: the list and the linked places
-/// are as they were, and so is every other list. O(1).
+/// The law of a push and a pop: an object that `push_back` accepted is what `pop_back` answers, and the list and the linked places
+/// are as they were, and so is every other list, over any table.
 ///
-/// It asks that the table covers the object's place, that it is not linked, and that the table shows a sequence.
-pub fn push_then_pop<T, W: NextWord, A: Allocator>(
-    list: &mut XorLinkedList<T>,
-    links: &mut PlainTable<W, A>,
-    object: UnsafeRef<T>,
-) -> Option<UnsafeRef<T>>
-    requires covered { IsCovered (table W.unlinked links.old) object }
-    requires unlinked { IsUnlinked (linked_by W.is_linked) (table W.unlinked links.old) object }
-    requires shown { PlainShowsSome W.unlinked W.is_linked W.next_word links.old list.old }
-    ensures answer { result ≡ Some object }
-    ensures sequence { (s : List Place) → PlainShows W.unlinked W.is_linked W.next_word links.old list.old s
-        → PlainShows W.unlinked W.is_linked W.next_word links.new list.new s }
-    ensures linked { KeepsLinked (linked_by W.is_linked) (table W.unlinked links.old) (table W.unlinked links.new) }
-    ensures frame { (s : List Place) → PlainShows W.unlinked W.is_linked W.next_word links.old list.old s
-        → KeepsBeside (table W.unlinked links.old) (table W.unlinked links.new) (object ∷ s) }
-{
-    let Ok(()) = list.push_back(links, object) else {
-        return None;
-    };
-    list.pop_back(links)
-}
+/// It speaks of what the two calls say, and makes none.
+pub fn push_then_pop<L: XorLinkedListOps>()
+    ensures { PushThenPop (Shows L.linked L.Joins) L.table L.Does L.linked at_back last but_last }
+{}

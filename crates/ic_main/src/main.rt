@@ -23,7 +23,7 @@ fn arguments(rt: &(impl Env + AllocGlobal)) -> io::Result<Vec<String>> {
 
 /// Runs the program over the standard streams, and answers its status.
 fn run(
-    rt: &(impl Env + Input + Print + AllocGlobal + Threads + Wait + Sync),
+    rt: &(impl Env + Input + Print + Eprint + AllocGlobal + Threads + Wait + Sync),
     alloc: Global,
 ) -> io::Result<u8> {
     let words = arguments(rt)?;

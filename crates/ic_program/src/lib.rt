@@ -9,6 +9,7 @@
 #![tactic(auto)]
 
 mod answers;
+mod fault;
 mod line;
 mod own_key;
 mod program;
@@ -17,7 +18,8 @@ mod words;
 mod workers;
 
 pub use answers::push_answer;
+pub use fault::Fault;
 pub use line::Line;
 pub use own_key::OwnKey;
-pub use program::{FAULT, run_lines, run_program};
+pub use program::{Ending, FAULT, run_lines, run_program};
 pub use workers::{Workers, workers_of};

@@ -4,6 +4,7 @@ ghost use Rattle.std.specs.Prelude.{◌≡◌, ◌≢◌, ◌⊎◌, ◌<◌, If
 ghost use Rattle.std.specs.Io.KnownBytes.{Appends};
 ghost use Rattle.ic_program.specs.Arguments.{AskFor};
 
+use crate::fault::Fault;
 use crate::session::{Session, Stop};
 use crate::workers::{Workers, run_workers, workers_of};
 use std::alloc::Allocator;
@@ -14,9 +15,9 @@ use std::thread::Threads;
 /// The status after a fault of reading or writing, input that is not UTF-8, or want of memory.
 pub const FAULT: u8 = 3;
 
-// How a run ends that meets no fault.
+/// How a run ends that meets no fault, by its status.
 #[derive(Clone, Copy)]
-enum Ending {
+pub enum Ending {
     /// At the end of the input.
     Finished = 0,
     /// At a line that is no command, or at arguments.
@@ -30,9 +31,9 @@ enum Ending {
 /// them got. Any other arguments are answered by `bad arguments`.
 ///
 /// The answer is the program's status: 0 at the end, 2 at a line that is no command and at bad arguments, 3 at a fault of reading or
-/// writing, input that is not UTF-8, or want of memory outside the world.
+/// writing, input that is not UTF-8, or want of memory outside the world. What fault it was is a line on standard error.
 pub fn run_program<
-    S: Threads + Wait + Sync,
+    S: Threads + Wait + Eprint + Sync,
     M: Allocator + Copy + Send + Sync,
     R: BufRead,
     W: Write,
@@ -43,7 +44,7 @@ pub fn run_program<
     ensures workers { (asked : Workers) → AskFor words.now asked → result ≢ 2 }
 {
     if words.is_empty() {
-        return run_lines(alloc, reader, writer);
+        return status_of(rt, run_lines(alloc, reader, writer));
     }
     let ending = match workers_of(words) {
         Some(asked) => match run_workers(rt, alloc, asked, writer) {
@@ -53,102 +54,133 @@ pub fn run_program<
         None => refuse_arguments(writer),
     };
     let flushed = writer.flush();
-    status_of(ending, flushed)
+    status_of(rt, ended(ending, flushed))
 }
 
 /// Runs the calls that `reader` gives, one a line, on a new world, and writes the answer to each on a line of its own.
 ///
-/// The answer is the program's status:
+/// It ends:
 ///
-/// - 0 at the end of the input.
-/// - 2 at a line that is no command, which is answered by its number. What was answered before is written, and nothing more is
+/// - At the end of the input.
+/// - At a line that is no command, which is answered by its number. What was answered before is written, and nothing more is
 ///   read.
-/// - 3 at a fault of reading or writing, input that is not UTF-8, or want of memory outside the world. What was answered
+/// - By a fault of reading or writing, input that is not UTF-8, or want of memory outside the world. What was answered
 ///   before is written, as far as the writer takes it.
 ///
-/// O(1) beside each call of the world, and the bytes read and written.
+/// What is answered is written and flushed before the reader waits for more. O(1) beside each call of the world, and the bytes read
+/// and written.
 pub fn run_lines<M: Allocator + Copy, R: BufRead, W: Write>(
     alloc: M,
     reader: &mut R,
     writer: &mut W,
-) -> u8
-    ensures { (result ≡ 0) ⊎ (result ≡ 2) ⊎ (result ≡ FAULT) }
-{
+) -> Result<Ending, Fault> {
     let ending = answer_lines(alloc, reader, writer);
     let flushed = writer.flush();
-    status_of(ending, flushed)
+    ended(ending, flushed)
 }
 
-// The status of a run that ended so, and whose writer was flushed then.
-fn status_of(ending: io::Result<Ending>, flushed: io::Result<()>) -> u8
-    ensures { (result ≡ FAULT) ⊎ ((ending ≡ Ok Ending.Finished) × (result ≡ 0)) ⊎ ((ending ≡ Ok Ending.NotUnderstood) × (result ≡ 2)) }
+// How a run ended whose writer was flushed then.
+fn ended(ending: Result<Ending, Fault>, flushed: io::Result<()>) -> Result<Ending, Fault>
+    ensures { IfOk result (λ end. ending ≡ Ok end) }
 {
     match (ending, flushed) {
-        (Ok(ending), Ok(())) => ending as u8,
-        _ => FAULT,
+        (Ok(_), Err(error)) => Err(Fault::of_writer(&error)),
+        (ending, _) => ending,
+    }
+}
+
+// The status of a run that ended so. A fault says what it is on standard error.
+fn status_of<S: Eprint>(rt: &S, ending: Result<Ending, Fault>) -> u8
+    ensures { (result ≡ FAULT) ⊎ ((ending ≡ Ok Ending.Finished) × (result ≡ 0)) ⊎ ((ending ≡ Ok Ending.NotUnderstood) × (result ≡ 2)) }
+{
+    match ending {
+        Ok(ending) => ending as u8,
+        Err(fault) => {
+            let _ = eprintln!(rt; "{fault}");
+            FAULT
+        }
     }
 }
 
 // There are arguments, and none are known.
-fn refuse_arguments<W: Write>(writer: &mut W) -> io::Result<Ending>
+fn refuse_arguments<W: Write>(writer: &mut W) -> Result<Ending, Fault>
     ensures status { IfOk result (λ ending. ending ≡ Ending.NotUnderstood) }
     ensures text { OnOk result (Appends (W.contents writer.old) (W.contents writer.new) (codes "bad arguments\n")) }
 {
-    writeln!(writer, "bad arguments")?;
-    Ok(Ending::NotUnderstood)
+    match writeln!(writer, "bad arguments") {
+        Ok(()) => Ok(Ending::NotUnderstood),
+        Err(error) => Err(Fault::of_writer(&error)),
+    }
 }
 
-// Answers each line in turn, until the input ends or a line is no command. After a fault the lines before it are answered.
+// Answers each line in turn, until the input ends or a line is no command. After a fault the lines before it are answered. What is
+// answered is written before the reader waits for more.
 fn answer_lines<M: Allocator + Copy, R: BufRead, W: Write>(
     alloc: M,
     reader: &mut R,
     writer: &mut W,
-) -> io::Result<Ending> {
-    let mut session = Session::new(alloc)?;
+) -> Result<Ending, Fault> {
+    let Ok(mut session) = Session::new(alloc) else {
+        return Err(Fault::Memory);
+    };
     let mut cut = Vec::new(alloc);
     for _round in 0..u64::MAX {
-        let answered = answer_lent(&mut session, reader);
-        writer.write_all(&session.answers)?;
-        session.answers.clear();
-        if let Err(stop) = answered {
-            return stopped(stop, session.lines, writer);
-        }
-        cut.clear();
-        if reader.read_until(b'\n', &mut cut)? == 0 {
-            return Ok(Ending::Finished);
-        }
-        if let Err(stop) = session.answer(&cut) {
-            return stopped(stop, session.lines, writer);
+        let read = answer_next(&mut session, &mut cut, reader);
+        write_answers(&mut session, writer)?;
+        match read {
+            Ok(true) => {}
+            Ok(false) => return Ok(Ending::Finished),
+            Err(stop) => return stopped(stop, session.lines, writer),
         }
     }
     // There are more lines than a number counts.
-    Err(io::Error::from(ErrorKind::TimedOut))
+    Err(Fault::Reading(session.lines))
 }
 
-// Answers the lines that the reader lends whole, and takes them from it.
-fn answer_lent<M: Allocator + Copy, R: BufRead>(
+// Writes the answers, and keeps none.
+fn write_answers<M: Allocator + Copy, W: Write>(
     session: &mut Session<M>,
+    writer: &mut W,
+) -> Result<(), Fault> {
+    let written = writer.write_all(&session.answers);
+    session.answers.clear();
+    match written.and_then(|()| writer.flush()) {
+        Ok(()) => Ok(()),
+        Err(error) => Err(Fault::of_writer(&error)),
+    }
+}
+
+// Answers the lines that end in what the reader has next, and tells whether there was anything. At the end of the input what is cut off
+// is a line.
+fn answer_next<M: Allocator + Copy, R: BufRead>(
+    session: &mut Session<M>,
+    cut: &mut Vec<u8, M>,
     reader: &mut R,
-) -> Result<(), Stop> {
+) -> Result<bool, Stop> {
     match reader.fill_buf() {
+        Ok([]) => {
+            session.answer(cut)?;
+            Ok(false)
+        }
         Ok(lent) => {
-            let taken = session.answer_all(lent)?;
+            session.answer_all(cut, lent)?;
+            let taken = lent.len();
             reader.consume(taken);
-            Ok(())
+            Ok(true)
         }
         // Who reads next tries again.
-        Err(fault) if fault.kind() == ErrorKind::Interrupted => Ok(()),
-        Err(fault) => Err(Stop::Fault(fault.kind())),
+        Err(error) if error.kind() == ErrorKind::Interrupted => Ok(true),
+        Err(_) => Err(Stop::Fault(Fault::Reading(session.lines))),
     }
 }
 
 // How a run ends that was stopped at the line of that number.
-fn stopped<W: Write>(stop: Stop, line: u64, writer: &mut W) -> io::Result<Ending> {
+fn stopped<W: Write>(stop: Stop, line: u64, writer: &mut W) -> Result<Ending, Fault> {
     match stop {
-        Stop::NoCommand => {
-            writeln!(writer, "line {line}: no command")?;
-            Ok(Ending::NotUnderstood)
-        }
-        Stop::Fault(kind) => Err(io::Error::from(kind)),
+        Stop::NoCommand => match writeln!(writer, "line {line}: no command") {
+            Ok(()) => Ok(Ending::NotUnderstood),
+            Err(error) => Err(Fault::of_writer(&error)),
+        },
+        Stop::Fault(fault) => Err(fault),
     }
 }

@@ -6,27 +6,28 @@
 //! session.answers // `field 0` and a line feed
 //! ```
 
+ghost use Rattle.std.specs.Prelude.{◌≤◌, IfOk, length};
 ghost use Rattle.ic_program.specs.Line.{IsTextOf};
 
 use crate::answers::push_answer;
+use crate::fault::Fault;
 use crate::line::Line;
 use crate::own_key::OwnKey;
 use ic_world::{Answer, Command, World};
 use memchr::memchr;
 use std::alloc::{AllocError, Allocator};
-use std::io::ErrorKind;
 use std::str;
 
 // How many bytes of answers there is room for at first.
 const ROOM: usize = 8192;
 
 /// Why no more lines are answered.
-#[derive(Clone, Copy, Debug)]
+#[derive(Clone, Copy)]
 pub(crate) enum Stop {
     /// The line is no command.
     NoCommand,
-    /// The line could not be read or answered: it is not UTF-8, there is no memory, or a number counts no more lines.
-    Fault(ErrorKind),
+    /// The line could not be read or answered.
+    Fault(Fault),
 }
 
 /// A world, and the lines of its answers that are not written yet.
@@ -55,13 +56,14 @@ impl<M: Allocator + Copy> Session<M> {
     #[inline]
     pub(crate) fn answer(&mut self, line: &[u8]) -> Result<(), Stop> {
         let Some(lines) = self.lines.checked_add(1) else {
-            return Err(Stop::Fault(ErrorKind::TimedOut));
+            // There are more lines than a number counts.
+            return Err(Stop::Fault(Fault::Reading(self.lines)));
         };
         self.lines = lines;
         match Line::of(without_end(line)) {
             Line::Empty => Ok(()),
             Line::Call(command) => self.call(command),
-            Line::NoCommand => Err(stop_at(line)),
+            Line::NoCommand => Err(stop_at(line, lines)),
         }
     }
 
@@ -71,14 +73,38 @@ impl<M: Allocator + Copy> Session<M> {
         push(&mut self.answers, &self.world.answer(command))
     }
 
-    /// Answers the lines that end in these bytes, and tells how many bytes they have.
-    pub(crate) fn answer_all(&mut self, bytes: &[u8]) -> Result<usize, Stop> {
-        let mut rest = bytes;
+    // Answers the line that is cut off, if it ends in these bytes, and tells which of them are behind it.
+    fn answer_cut<'b>(&mut self, cut: &mut Vec<u8, M>, bytes: &'b [u8]) -> Result<&'b [u8], Stop>
+        ensures { IfOk result (λ rest. length rest.now ≤ length bytes.now) }
+    {
+        let end = match memchr(b'\n', bytes) {
+            Some(end) if !cut.is_empty() => end + 1,
+            _ => return Ok(bytes),
+        };
+        keep(cut, &bytes[..end])?;
+        let answered = self.answer(cut);
+        cut.clear();
+        answered?;
+        Ok(&bytes[end..])
+    }
+
+    /// Answers the lines that end in these bytes, and keeps in `cut` what is read of the line that does not.
+    pub(crate) fn answer_all(&mut self, cut: &mut Vec<u8, M>, bytes: &[u8]) -> Result<(), Stop> {
+        let mut rest = self.answer_cut(cut, bytes)?;
         while let Some(end) = memchr(b'\n', rest) {
             self.answer(&rest[..end + 1])?;
             rest = &rest[end + 1..];
         }
-        Ok(bytes.len() - rest.len())
+        keep(cut, rest)
+    }
+}
+
+// Puts bytes behind those that are cut off.
+#[inline]
+fn keep<M: Allocator>(cut: &mut Vec<u8, M>, bytes: &[u8]) -> Result<(), Stop> {
+    match cut.extend_from_slice(bytes) {
+        Ok(()) => Ok(()),
+        Err(_) => Err(Stop::Fault(Fault::Memory)),
     }
 }
 
@@ -87,16 +113,16 @@ impl<M: Allocator + Copy> Session<M> {
 fn push<M: Allocator>(answers: &mut Vec<u8, M>, answer: &Answer<M>) -> Result<(), Stop> {
     match push_answer(answers, answer) {
         Ok(()) => Ok(()),
-        Err(_) => Err(Stop::Fault(ErrorKind::OutOfMemory)),
+        Err(_) => Err(Stop::Fault(Fault::Memory)),
     }
 }
 
-// Why no more lines are answered behind this one, which is no command. A command is ASCII alone, so that only here the line may be
-// other than UTF-8.
-fn stop_at(line: &[u8]) -> Stop {
+// Why no more lines are answered behind this one, the line of that number, which is no command. A command is ASCII alone, so that only
+// here the line may be other than UTF-8.
+fn stop_at(line: &[u8], number: u64) -> Stop {
     match str::from_utf8(line) {
         Ok(_) => Stop::NoCommand,
-        Err(_) => Stop::Fault(ErrorKind::InvalidData),
+        Err(_) => Stop::Fault(Fault::NotText(number)),
     }
 }
 

@@ -4,14 +4,17 @@
 //! workers_of(&words) // Some of 4 workers and 1000 places, for the words `workers 4 1000`
 //! ```
 
-ghost use Rattle.std.specs.Prelude.{IfSome, IfNone};
+ghost use Rattle.std.specs.Prelude.{IfSome, IfNone, All};
+ghost use Rattle.ic_workers.specs.SharedOut.{Rises, places_in};
 ghost use Rattle.ic_program.specs.Arguments.{AskFor};
 
+use crate::fault::Fault;
 use ic_atomic::Gate;
+use ic_unsafe_ref::Place;
 use ic_words::number;
 use ic_workers::{doubles, fan_out};
 use std::alloc::Allocator;
-use std::io::{self, ErrorKind, Write};
+use std::io::{self, Write};
 use std::sync::Wait;
 use std::thread::Threads;
 
@@ -69,10 +72,24 @@ pub(crate) fn run_workers<S: Threads + Wait + Sync, M: Allocator + Copy + Send +
     alloc: M,
     asked: Workers,
     writer: &mut W,
-) -> io::Result<()> {
+) -> Result<(), Fault> {
     let Ok(lists) = fan_out(rt, alloc, asked.workers, asked.places, &Open) else {
-        return Err(io::Error::from(ErrorKind::OutOfMemory));
+        return Err(Fault::Memory);
     };
+    match write_lists(asked.places, &lists, writer) {
+        Ok(()) => Ok(()),
+        Err(error) => Err(Fault::of_writer(&error)),
+    }
+}
+
+// Writes a line of each list, and how many of the first places stand in two of them.
+fn write_lists<M: Allocator, W: Write>(
+    places: usize,
+    lists: &[Vec<Place, M>],
+    writer: &mut W,
+) -> io::Result<()>
+    requires { All (Rises 0 places) (places_in lists.now) }
+{
     for (before, list) in lists.iter().enumerate() {
         write!(writer, "worker {} items", before + 1)?;
         for place in list {
@@ -80,5 +97,5 @@ pub(crate) fn run_workers<S: Threads + Wait + Sync, M: Allocator + Copy + Send +
         }
         writeln!(writer)?;
     }
-    writeln!(writer, "doubles {}", doubles(asked.places, &lists))
+    writeln!(writer, "doubles {}", doubles(places, lists))
 }

@@ -89,7 +89,12 @@ fn status_of(
     let ran = match way.map(|word| word.as_str()) {
         Some("list") => run_list(alloc, memory, reader, writer),
         Some("count") => count_each(alloc, memory, reader, writer),
-        _ => return run_lines(memory, reader, writer),
+        _ => {
+            return match run_lines(memory, reader, writer) {
+                Ok(ending) => ending as u8,
+                Err(_) => FAULT,
+            };
+        }
     };
     match ran {
         Ok(()) => 0,

@@ -1,8 +1,9 @@
-use Rattle.std.proofs.Common.{ap, arith, rules}
+use Rattle.std.proofs.Common.{ap, ◌∙◌, arith, rules}
 use Rattle.ic_link_ops.specs.DoublyEntries.{plain_table, PlainShows}
+use Rattle.ic_link_ops.specs.Sequences.{join}
 use Rattle.ic_link_ops.proofs.Calling.{has_member}
 use Rattle.ic_link_ops.proofs.DoublyLists.{plain_lists}
-use Rattle.collections_tests.proofs.Edits.{covered_behind, covered_in_front, stands_again, parts_behind, parts_in_front, in_front}
+use Rattle.collections_tests.proofs.Edits.{covered_behind, covered_in_front, parts_in_front, stands_behind, stands_in_front}
 use Rattle.collections_tests.proofs.doubly.write_edits.Goals as goal
 
 pub cursor_mut_from_ptr-cursor-requires : goal.cursor_mut_from_ptr-cursor-requires
@@ -20,28 +21,29 @@ replace_with-requires-clause-covered g c =
 
 pub split_before-in_front-requires : goal.split_before-in_front-requires
 split_before-in_front-requires g c =
-    let k = in_front (parts_behind plain_lists c.remove.ensures.removed.stands c.split_after-behind.ensures.split) in
-    record { stands = c.splice_before.ensures.spliced.stands k.gap k.rest k.shown k.before k.other_shown k.apart }
+    record { stands = stands_behind plain_lists c.remove.ensures.removed.stands c.split_after-behind.ensures.split c.splice_before.ensures.spliced }
 
 pub splice_after-requires-clause-given : goal.splice_after-requires-clause-given
 splice_after-requires-clause-given g c =
-    let k = in_front (parts_behind plain_lists c.remove.ensures.removed.stands c.split_after-behind.ensures.split) in
-    let stands = c.splice_before.ensures.spliced.stands k.gap k.rest k.shown k.before k.other_shown k.apart in
+    let stands = stands_behind plain_lists c.remove.ensures.removed.stands c.split_after-behind.ensures.split c.splice_before.ensures.spliced in
     let a = parts_in_front plain_lists stands c.split_before-in_front.ensures.split in
     (a.rest, a.other_shown)
 
-pub split_then_splice-requires : goal.split_then_splice-requires
-split_then_splice-requires g c =
-    let k = in_front (parts_behind plain_lists c.remove.ensures.removed.stands c.split_after-behind.ensures.split) in
-    let stands = c.splice_before.ensures.spliced.stands k.gap k.rest k.shown k.before k.other_shown k.apart in
-    let a = parts_in_front plain_lists stands c.split_before-in_front.ensures.split in
-    record { stands = c.splice_after.ensures.spliced.stands a.gap a.rest a.shown a.after a.other_shown a.apart }
+pub split_after-rest-requires : goal.split_after-rest-requires
+split_after-rest-requires g c =
+    let stands = stands_behind plain_lists c.remove.ensures.removed.stands c.split_after-behind.ensures.split c.splice_before.ensures.spliced in
+    record { stands = stands_in_front plain_lists stands c.split_before-in_front.ensures.split c.splice_after.ensures.spliced }
+
+pub splice_after-requires-2-clause-given : goal.splice_after-requires-2-clause-given
+splice_after-requires-2-clause-given g c =
+    let stands = stands_behind plain_lists c.remove.ensures.removed.stands c.split_after-behind.ensures.split c.splice_before.ensures.spliced in
+    let stands = stands_in_front plain_lists stands c.split_before-in_front.ensures.split c.splice_after.ensures.spliced in
+    let a = c.split_then_splice.ensures.apart _ _ _ stands c.split_after-rest.ensures.split in
+    (a.rest, a.other_shown)
 
 pub move_next-requires : goal.move_next-requires
 move_next-requires g c =
-    let k = in_front (parts_behind plain_lists c.remove.ensures.removed.stands c.split_after-behind.ensures.split) in
-    let stands = c.splice_before.ensures.spliced.stands k.gap k.rest k.shown k.before k.other_shown k.apart in
-    let a = parts_in_front plain_lists stands c.split_before-in_front.ensures.split in
-    let stands = c.splice_after.ensures.spliced.stands a.gap a.rest a.shown a.after a.other_shown a.apart in
-    let l = c.split_then_splice.ensures in
-    record { stands = stands_again stands l.sequence l.position }
+    let stands = stands_behind plain_lists c.remove.ensures.removed.stands c.split_after-behind.ensures.split c.splice_before.ensures.spliced in
+    let stands = stands_in_front plain_lists stands c.split_before-in_front.ensures.split c.splice_after.ensures.spliced in
+    let l = c.split_then_splice.ensures.as_it_was _ _ _ _ stands c.split_after-rest.ensures.split c.splice_after-2.ensures.spliced in
+    record { stands = record { gap = stands.gap; shown = l.sequence (join stands.gap) stands.shown; after = l.position ∙ stands.after } }

@@ -1,30 +1,31 @@
-use Rattle.std.proofs.Common.{List, ◌∙◌}
-use Rattle.ic_unsafe_ref.specs.declared.place.Place.{Place}
-use Rattle.ic_link_ops.specs.Tables.{KeepsBeside}
-use Rattle.ic_link_ops.specs.LinkedList.{Shows}
+use Rattle.std.proofs.Common.{◌∙◌, append-nil}
+use Rattle.ic_link_ops.specs.Sequences.{at_back}
 use Rattle.ic_link_ops.proofs.CollectionLaws as laws
 use Rattle.ic_link_ops.proofs.DoublyLists.{doubly_lists}
-use Rattle.ic_linked_list.specs.CursorMut as edits
+use Rattle.ic_link_ops.proofs.SequenceLemmas.{disjoint_sym, distinct_disjoint}
 use Rattle.ic_laws.proofs.linked_list.split_then_splice.Goals as goal
-use Rattle.ic_laws.proofs.linked_list.split_then_splice.Given.{Over}
 
--- what is shown then, and the frame, of any sequence that was shown: it is that at whose gap the cursor stands
-together : (g : Over) (c : goal.After-splice_after g) (s : List Place)
-    → Shows g.L.LinkedListOps.neighbors (g.L.LinkOps.table (edits.links_of c.args.cursor.now)) (edits.list_of c.args.cursor.now) s
-    → Shows g.L.LinkedListOps.neighbors (g.L.LinkOps.table (edits.links_of c.splice_after.new.self)) (edits.list_of c.splice_after.new.self) s
-    × KeepsBeside (g.L.LinkOps.table (edits.links_of c.args.cursor.now)) (g.L.LinkOps.table (edits.links_of c.splice_after.new.self)) s
-together g c s shown =
+pub returns-clause-apart : goal.returns-clause-apart
+returns-clause-apart g c old split handed stands splits =
+    let gap = stands.gap in
+    let parts = splits.split gap stands.shown stands.after in
+    record {
+      gap = at_back gap.front;
+      rest = gap.back;
+      shown = rw (append-nil gap.front) parts.keeps;
+      after = splits.position ∙ stands.after;
+      other_shown = parts.hands_out;
+      apart = rw (append-nil gap.front) (disjoint_sym gap.front gap.back (distinct_disjoint gap.front gap.back stands.shown.distinct));
+    }
+
+pub returns-clause-as_it_was : goal.returns-clause-as_it_was
+returns-clause-as_it_was g c old split new handed stands splits splices =
     let kind = doubly_lists {n = g.L.LinkedListOps.neighbors} {linked = g.L.LinkOps.linked} g.met.L.LinkedListOps.linked_alike in
-    let at = c.requires.stands in
-    rw (← laws.one_sequence_is_shown kind at.shown shown)
-    (laws.split_then_splice kind at.gap at.shown at.after c.split_after-rest.ensures.split.split
-    (λ gap t kept after handed apart. c.splice_after.ensures.spliced.spliced gap t kept (c.split_after-rest.ensures.split.position ∙ after) handed apart))
-
-pub returns-clause-sequence : goal.returns-clause-sequence
-returns-clause-sequence g c s shown = (together g c s shown).0
-
-pub returns-clause-frame : goal.returns-clause-frame
-returns-clause-frame g c s shown = (together g c s shown).1
-
-pub returns-clause-no_step : goal.returns-clause-no_step
-returns-clause-no_step g c = g.met.L.LinkOps.does_on _ _ _ _ _ c.split_after-rest.ensures.split.no_step c.splice_after.ensures.spliced.no_step
+    let whole = laws.split_then_splice kind stands.gap stands.shown stands.after splits.split
+    (λ gap s kept after given apart. splices.spliced gap s kept (splits.position ∙ after) given apart) in
+    record {
+      sequence = λ s shown. rw (← laws.one_sequence_is_shown kind stands.shown shown) whole.0;
+      frame = λ s shown. rw (← laws.one_sequence_is_shown kind stands.shown shown) whole.1;
+      position = splices.position ∙ splits.position;
+      no_step = g.met.L.LinkOps.does_on _ _ _ _ _ splits.no_step splices.no_step;
+    }

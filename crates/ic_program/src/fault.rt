@@ -1,0 +1,42 @@
+//! Why a run is cut short.
+//!
+//! ```text
+//! Fault::NotText(7) // printed as `input is not UTF-8, line 7`
+//! ```
+
+use std::fmt;
+use std::io::{self, ErrorKind};
+
+/// Why a run ends before its input does, with the status 3. Its text is a line without its line feed.
+#[derive(Clone, Copy, PartialEq, Eq)]
+pub enum Fault {
+    /// The line of this number, counted from 1, is not UTF-8.
+    NotText(u64),
+    /// No more could be read behind so many lines.
+    Reading(u64),
+    /// An answer could not be written.
+    Writing,
+    /// There was no memory outside the world.
+    Memory,
+}
+
+impl Fault {
+    /// What a fault of writing is: one of memory, if that is what the writer lacks.
+    pub(crate) fn of_writer(error: &io::Error) -> Fault {
+        match error.kind() {
+            ErrorKind::OutOfMemory => Fault::Memory,
+            _ => Fault::Writing,
+        }
+    }
+}
+
+impl fmt::Display for Fault {
+    fn fmt<W: fmt::Write>(&self, f: &mut fmt::Formatter<W>) -> fmt::Result {
+        match self {
+            Fault::NotText(line) => write!(f, "input is not UTF-8, line {line}"),
+            Fault::Reading(lines) => write!(f, "cannot read behind line {lines}"),
+            Fault::Writing => f.write_str("cannot write"),
+            Fault::Memory => f.write_str("out of memory"),
+        }
+    }
+}
