@@ -1,9 +1,9 @@
 -- Calls of one field: whether an object is linked in it, and an object unlinked by force.
-use Rattle.std.proofs.Common.{◌≡◌, ◌≢◌, ℕ, ◌<◌, inl, inr, true, false, not, ◌&&◌, List, [], ◌∷◌, length, map, get_or, Option, Some, None, refl, sym, ap, ◌∙◌, subst, arith, Bool, eq-eqb, ne_eqb, ◌↔◌, IsTrue}
+use Rattle.std.proofs.Common.{◌≡◌, ◌≢◌, ℕ, ◌<◌, inl, inr, true, false, not, ◌&&◌, List, [], ◌∷◌, length, map, get_or, Option, Some, None, refl, sym, ap, ◌∙◌, subst, arith, Bool, eq-eqb, ne_eqb, ltb-true, ◌↔◌, IsTrue}
 use Rattle.std.proofs.Common.{set as set_at}
 use Rattle.std.proofs.lemmas.Bool.{cases_eq}
-use Rattle.std.proofs.lemmas.List.{length-map, map-set, get_or_past}
-use Rattle.std.proofs.lemmas.List.Folds.{list_any_at}
+use Rattle.std.proofs.lemmas.List.{length-map, map-set, get_or_default, get_or_past}
+use Rattle.std.proofs.lemmas.List.Folds.{list_any_at, list_any_none}
 use Rattle.std.proofs.Math.ListN.{get_or-map as map_at}
 use Rattle.std.specs.declared.cmp.Ordering.{Ordering}
 use Rattle.std.specs.FinSet as set
@@ -18,23 +18,27 @@ use Rattle.ic_fields.specs.declared.field.Field.{Field}
 use Rattle.ic_fields.specs.Fields.{look}
 use Rattle.ic_fields.specs.Entries.{is_linked}
 use Rattle.ic_members.specs.Members.{Held, members_in}
-use Rattle.ic_members.proofs.AllKinds.{lawful as lawful_field}
+use Rattle.ic_members.proofs.AllKinds.{lawful as lawful_field, unlinked_absent}
 use Rattle.ic_world.specs.declared.collection.Collection.{Collection}
 use Rattle.ic_world.specs.declared.call.Command.TheVariants.{IsLinked, ForceUnlink}
 use Rattle.ic_world.specs.declared.call.Refusal.TheVariants.{NoSuchObject}
 use Rattle.ic_world.specs.declared.call.Refusal.TheVariants.{IsMember as IsMemberRefusal}
-use Rattle.ic_world.specs.Family.{Family}
+use Rattle.ic_world.specs.Family.{Family, Sequence}
 use Rattle.ic_world.specs.Among.{is_among}
 use Rattle.ic_world.specs.LinkedSets.{linked_in}
 use Rattle.ic_world.specs.State.{linked, done}
 use Rattle.ic_world.specs.Tables.{table, sequence, shown_as, at, family_of, IsWhole}
-use Rattle.ic_world.specs.Step.{Step, is_placed, has_member_in, is_member_in}
+use Rattle.ic_world.specs.Step.{Step, has_field, is_placed, has_member_in, is_member_in}
 use Rattle.ic_world.proofs.Linked.{in_linked, absent_or}
 use Rattle.ic_world.proofs.Readings.{table_read, linked_at}
 use Rattle.ic_world.proofs.Growth.{freed_whole, freed_family}
 use Rattle.ic_world.proofs.Steps.{step_accepted, field_there, passes}
 
 module _ {A V K M : Type 0} {adapter : A} {objects : Objects V} {room : ℕ} (tables : List (Field M)) {cs : List (Option (Collection A V K))} (whole : IsWhole adapter objects room (map look tables) cs) where
+  -- a field that is there has a table
+  pub within_by : (f : ℕ) → has_field (family_of adapter objects (map look tables) cs) f ≡ true → f < length tables
+  within_by f there = let low = ltb-true f _ there in rw (length-map, length-map) at low
+
   -- each table covers each object
   pub covers_object : (f : ℕ) (t : Field M) (p : Place) → f < length tables → t ≡ get_or tables f t → place_is_placed objects p ≡ true → IsCovered (look t) p
   covers_object f t p within read has =
@@ -107,6 +111,21 @@ module _ {A V K M : Type 0} {adapter : A} {objects : Objects V} {room : ℕ} (ta
 
   pub none_is : (c : ℕ) → at cs c ≡ None → has_member_in f p (get_or (map (shown_as (map look tables)) cs) c None) ≡ false
   none_is c is = has_at c ∙ ap (λ o. has_member_in f p (shown_as (map look tables) o)) is
+
+  -- AN UNLINKED OBJECT is a member of none
+  pub in_none : (t : Field M) → t ≡ get_or tables f t → IsUnlinked is_linked (look t) p → is_member_in (family_of adapter objects (map look tables) cs) f p ≡ false
+  in_none t read free =
+      list_any_none (has_member_in f p) xs (λ c d low. ap (has_member_in f p) (get_or_default xs c d None low) ∙ by c (at cs c) refl)
+    where
+      xs : List (Option Sequence)
+      xs = map (shown_as (map look tables)) cs
+
+      by : (c : ℕ) (o : Option (Collection A V K)) → at cs c ≡ o → has_member_in f p (get_or xs c None) ≡ false
+      by c None is = none_is c is
+      by c (Some k) is = elim (cases_eq k.field f) [
+        | inl same ↦ here_is c k t is same read false ((λ never. absurd (let no = never in cc)), (λ there. absurd (there (unlinked_absent (look t) k.members (members_in (look t) k.members) (held_read c k t is same read).shown free))))
+        | inr other ↦ other_is c k is other
+      ]
 
   -- AN OBJECT UNLINKED BY FORCE, where it is a member of none
   module _ (within : f < length tables) (t : Field M) (read : t ≡ get_or tables f t) (nf : Field M) (free : IsUnlinked is_linked (look nf) p) (frame : ChangesOnly (look t) (look nf) p)

@@ -59,8 +59,20 @@ impl<A: KeyAdapter, M: Allocator + Copy> World<A, M> {
         Ok(self.fields[field].is_linked(object))
     }
 
-    // Whether the object, which is placed, is a member of a collection of the field.
+    // Whether the object, which is placed, is a member of a collection of the field. One that is not linked is none, and nothing is walked.
     fn is_member(&self, field: usize, object: Place) -> bool
+        requires placed { is_placed self.now object ≡ true }
+        requires there { has_field self.now field ≡ true }
+        ensures { result ≡ is_member_in self.now field object }
+    {
+        if !self.fields[field].is_linked(object) {
+            return false;
+        }
+        self.is_listed(field, object)
+    }
+
+    // Whether the object, which is placed, stands in a collection of the field: they are asked one after the other.
+    fn is_listed(&self, field: usize, object: Place) -> bool
         requires placed { is_placed self.now object ≡ true }
         requires there { has_field self.now field ≡ true }
         ensures { result ≡ is_member_in self.now field object }
@@ -77,7 +89,8 @@ impl<A: KeyAdapter, M: Allocator + Copy> World<A, M> {
 
     /// Unlinks an object in a field where it is a member of no collection, as `fast_clear` leaves it. An unlinked one stays unlinked.
     ///
-    /// Refused: `NoSuchField`, `NoSuchObject`, `IsMember`. O(collections), and of lists O(members). It takes no memory.
+    /// Refused: `NoSuchField`, `NoSuchObject`, `IsMember`. O(1) where it is not linked, else O(collections), and of lists O(members). It
+    /// takes no memory.
     pub fn force_unlink(&mut self, field: usize, object: Place) -> Result<(), Refusal>
         ensures { Step A.Key.cmp A.key_of self.old (Command.ForceUnlink field object) (reply_of (λ _. done) result) self.new }
     {

@@ -92,10 +92,13 @@ impl<A: KeyAdapter, M: Allocator + Copy> World<A, M> {
     /// The member that the cursor is on, `None` at null. O(1).
     ///
     /// Refused: `NoSuchCollection`.
-    pub fn current(&mut self, collection: usize) -> Result<Option<Place>, Refusal>
-        ensures { Step A.Key.cmp A.key_of self.old (Command.Current collection) (reply_of object_or_nothing result) self.new }
+    pub fn current(&self, collection: usize) -> Result<Option<Place>, Refusal>
+        ensures { Step A.Key.cmp A.key_of self.now (Command.Current collection) (reply_of object_or_nothing result) self.now }
     {
-        self.call(collection, &Pick::Current)
+        match self.found(collection) {
+            Some((members, _)) => Ok(members.cursor()),
+            None => Err(Refusal::NoSuchCollection),
+        }
     }
 
     /// Puts the cursor on a member. Of lists O(members), in a tree O(log n).

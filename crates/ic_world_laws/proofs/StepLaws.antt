@@ -1,6 +1,5 @@
 -- What users rely on, from the steps of the calls.
-use Rattle.std.proofs.Common.{◌≡◌, ◌↔◌, ℕ, Bool, true, false, not, List, [], ◌∷◌, set, Option, Some, None, is_some, refl, sym, ap, ◌∙◌, subst}
-use Rattle.std.proofs.lemmas.List.{set-get_or}
+use Rattle.std.proofs.Common.{◌≡◌, ◌↔◌, ℕ, Bool, true, false, not, List, [], ◌∷◌, Option, Some, None, is_some, refl, sym, ap, ◌∙◌, subst}
 use Rattle.std.specs.List.{list_all}
 use Rattle.std.specs.declared.cmp.Ordering.{Ordering}
 use Rattle.std.specs.FinSet as finite_set
@@ -23,7 +22,7 @@ use Rattle.ic_members.specs.Keyed.{FewLooks}
 use Rattle.ic_world.specs.KeyedCalls.{SearchLooks, RangeReplies}
 use Rattle.ic_world.specs.declared.search.Search.{Search}
 use Rattle.ic_world.specs.declared.insertion.Insertion.{Insertion}
-use Rattle.ic_world.proofs.Steps.{some_same}
+use Rattle.ic_world.proofs.Steps.{some_same, state_back}
 use Rattle.ic_world.specs.Among.{next_of}
 use Rattle.ic_world.specs.Family.{Family, Sequence}
 use Rattle.ic_world.specs.State.{Reply, object, nothing, found, looked, range, entry, refused, done, asks, asks_unlinked, State}
@@ -32,13 +31,6 @@ use Rattle.ic_world.specs.declared.target.Call.TheVariants.{Edit as edit, Seek a
 use Rattle.ic_world.specs.Calls.{names, refusal_of, Replies}
 use Rattle.ic_world.specs.Step.{Step, StepOn, StepBy, Accepts, AcceptsOn, HandsOut, asks_collection, collection, linked_of, is_placed, objects_of, state_in, with_state}
 use Rattle.ic_world_laws.specs.Laws.{inserts, descends, IsWellNamed, AreFew, RefusedIfLinked, HasFewLooks}
-
--- a state that a collection has already, taken over, changes nothing
-state_back : {A V : Type 0} (w : Family A V) (c : ℕ) (s : Sequence) → collection w c ≡ Some s → with_state w c s.field (state_in w s) ≡ w
-state_back w c s is =
-    let fields = set-get_or w.fields s.field _ in
-    let collections = ap (set w.collections c) (sym is) ∙ set-get_or w.collections c None in
-    λ i. record { adapter = w.adapter; objects = w.objects; fields = fields i; collections = collections i }
 
 module _ {V K : Type 0} (cmp : K → K → Ordering) (key_of : V → K) (objects : Objects V) where
   -- the looks of a descent, as each call tells them

@@ -1,55 +1,23 @@
-use Rattle.std.proofs.Common.{◌≡◌, ◌<◌, ◌||◌, ◌+◌, ◌∙◌, false, sym, ap, subst, map, length, get_or, take, None, arith}
-use Rattle.std.proofs.lemmas.List.{length-map, get_or_default}
-use Rattle.std.proofs.lemmas.List.Folds.{list_any_at, list_any_more}
-use Rattle.std.specs.List.{list_any}
-use Rattle.ic_fields.specs.Fields.{look}
+use Rattle.std.proofs.Common.{◌≡◌, ◌<◌, ◌∙◌, true, false, length, sym, ap, subst}
 use Rattle.ic_world.specs.Family.{Family}
-use Rattle.ic_world.specs.Tables.{shown_as}
-use Rattle.ic_world.specs.Step.{has_member_in, is_member_in}
-use Rattle.ic_world.proofs.Readings.{found_at}
-use Rattle.ic_world.proofs.FieldCalls.{held_read, here_is, other_is, none_is}
+use Rattle.ic_world.specs.Step.{has_field, is_member_in, is_placed}
+use Rattle.ic_world.proofs.FieldCalls.{within_by, covers_object, in_none}
+use Rattle.ic_world.proofs.world.World.is_member.Given as given
 use Rattle.ic_world.proofs.world.World.is_member.Goals as goal
-use Rattle.ic_world.proofs.world.World.is_member.Goals.{in-Some+else-found-field, else-found-field-via-then-found-field+else-contains, else-found-field-via-else-found-field, in_default}
 
-pub contains-requires-clause-held : goal.contains-requires-clause-held
-contains-requires-clause-held g c =
-    let cs = c.self.inside.collections in
-    let fields = c.self.inside.fields.items in
-    let is = found_at cs.items c.loop-c.c c.loop-c-test.true c.len-c-end.ensures cs.ok.0 c.index.ensures c.in-Some.is in
-    held_read fields cs.items c.self.invariant c.args.field c.args.object c.loop-c.c c.in-Some.found c.index-then-found-field.result.now is c.if-found-field.true c.index-then-found-field.ensures
+pub index-requires : goal.index-requires
+index-requires g c =
+    let fields = c.self.inside.fields in
+    rw fields.ok.0 (within_by fields.items c.self.invariant c.args.field (subst (λ (w : Family _ _). has_field w c.args.field ≡ true) (sym c.self.view_is) c.requires.there))
 
-pub returns-then-contains : goal.returns-then-contains
-returns-then-contains g c =
-    let cs = c.self.inside.collections in
-    let fields = c.self.inside.fields.items in
-    let f = c.args.field in
-    let p = c.args.object in
-    let xs = map (shown_as (map look fields)) cs.items in
-    let is = found_at cs.items c.loop-c.c c.loop-c-test.true c.len-c-end.ensures cs.ok.0 c.index.ensures c.in-Some.is in
-    let within : c.loop-c.c < length xs = rw length-map (omega (arith, c.loop-c-test.true, c.len-c-end.ensures, cs.ok.0)) in
-    let here = here_is fields cs.items c.self.invariant f p c.loop-c.c c.in-Some.found c.index-then-found-field.result.now is c.if-found-field.true c.index-then-found-field.ensures c.contains.result c.contains.ensures in
-    sym (ap (λ w. is_member_in w f p) (sym c.self.view_is) ∙ list_any_at (has_member_in f p) xs c.loop-c.c None within (here ∙ c.if-contains.true))
+pub is_linked-requires : goal.is_linked-requires
+is_linked-requires g c =
+    let fields = c.self.inside.fields in
+    let within = within_by fields.items c.self.invariant c.args.field (subst (λ (w : Family _ _). has_field w c.args.field ≡ true) (sym c.self.view_is) c.requires.there) in
+    record { covered = covers_object fields.items c.self.invariant c.args.field c.index.result.now c.args.object within c.index.ensures (subst (λ (w : Family _ _). is_placed w c.args.object ≡ true) (sym c.self.view_is) c.requires.placed) }
 
-pub loop-c-preserved : goal.loop-c-preserved
-loop-c-preserved g c =
-    let cs = c.self.inside.collections in
-    let fields = c.self.inside.fields.items in
-    let f = c.args.field in
-    let p = c.args.object in
-    let xs = map (shown_as (map look fields)) cs.items in
-    let i = c.loop-c.c in
-    let within : i < length xs = rw length-map (omega (arith, c.loop-c-test.true, c.len-c-end.ensures, cs.ok.0)) in
-    let same : xs ≡ c.args.self.now.collections = ap (λ (w : Family _ _). w.collections) c.self.view_is in
-    let before = subst (λ ys. list_any (has_member_in f p) (take i ys) ≡ false) (sym same) c.loop-c.invariant.none in
-    let last : has_member_in f p (get_or xs i None) ≡ false =
-    elim c.match-index.branch [
-      | in-Some+else-found-field w ↦
-          let is = found_at cs.items i c.loop-c-test.true c.len-c-end.ensures cs.ok.0 c.index.ensures w.in-Some.is in
-          elim w.else-found-field.branch [
-            | else-found-field-via-then-found-field+else-contains v ↦
-                here_is fields cs.items c.self.invariant f p i w.in-Some.found v.index-then-found-field.result.now is v.if-found-field.true v.index-then-found-field.ensures v.contains.result v.contains.ensures ∙ v.if-contains.false
-            | else-found-field-via-else-found-field v ↦ other_is fields cs.items c.self.invariant f p i w.in-Some.found is v.if-found-field.false
-          ]
-      | in_default w ↦ none_is fields cs.items c.self.invariant f p i (get_or_default cs.items i None c.index.result.now (omega (arith, c.loop-c-test.true, c.len-c-end.ensures, cs.ok.0)) ∙ sym c.index.ensures ∙ w.in_default.is)
-    ] in
-    record { none = subst (λ ys. list_any (has_member_in f p) (take (i + 1) ys) ≡ false) same (list_any_more (has_member_in f p) xs i None within ∙ ap (λ b. b || has_member_in f p (get_or xs i None)) before ∙ last) }
+pub returns-then-not-is_linked : goal.returns-then-not-is_linked
+returns-then-not-is_linked g c =
+    let fields = c.self.inside.fields in
+    sym (ap (λ w. is_member_in w c.args.field c.args.object) (sym c.self.view_is)
+    ∙ in_none fields.items c.self.inside.collections.items c.self.invariant c.args.field c.args.object c.index.result.now c.index.ensures (sym c.is_linked.ensures ∙ c.if-not-is_linked.true))
