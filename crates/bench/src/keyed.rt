@@ -82,7 +82,7 @@ fn insert<L: RBTreeOps>(
     ensures sorted { ShowsSorted (λ v. v) (Shows L.node (L.table links.new) (root_of tree.new)) objects.now }
     ensures extent { (L.table links.new).extent ≡ (L.table links.old).extent }
 {
-    let _ = tree.cursor_mut(links).insert(objects, object);
+    let _ = tree.insert(links, objects, object);
 }
 
 // Takes a member off.

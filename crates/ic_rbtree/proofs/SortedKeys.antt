@@ -1,5 +1,5 @@
 -- Sequences whose objects stand by their keys: with one more, and with one less.
-use Rattle.std.proofs.Common.{◌≡◌, ◌≢◌, ℕ, ◌≤◌, Bool, true, false, cond, ltb, eqb, Option, Some, None, IsSome, Result, Ok, Err, List, [], ◌∷◌, ◌++◌, map, filter, drop, refl, sym, ap, ◌∙◌, subst, arith, ltb-true, ltb-false, eqb-true, true≢false}
+use Rattle.std.proofs.Common.{◌≡◌, ◌≢◌, ℕ, ◌≤◌, Bool, true, false, cond, ltb, eqb, Option, Some, None, IsSome, Result, Ok, Err, OnOk, OnErr, IfErr, List, [], ◌∷◌, ◌++◌, map, filter, drop, refl, sym, ap, ◌∙◌, subst, arith, ltb-true, ltb-false, eqb-true, true≢false}
 use Rattle.std.proofs.lemmas.Bool.{eqb-false}
 use Rattle.std.proofs.lemmas.Cmp.{nat_cmp_total}
 use Rattle.std.specs.List.{AllByRecursion, cons_option}
@@ -20,8 +20,10 @@ use Rattle.ic_link_ops.proofs.Positions.{gap_there}
 use Rattle.ic_link_ops.proofs.SequenceLemmas.{first_is}
 use Rattle.ic_link_ops.proofs.ShownTrees.{shows_nothing}
 use Rattle.ic_rbtree.specs.Borders.{IsBorder, IsSorted, less_at}
-use Rattle.ic_rbtree.specs.Ordered.{InsertsInOrder, InsertsAmong}
+use Rattle.ic_rbtree.specs.Ordered.{InsertsInOrder}
+use Rattle.ic_rbtree.specs.declared.tree.RBTree.{RBTree}
 use Rattle.ic_rbtree.specs.SortedObjects.{key_or, key_at, keys_at, against, ShowsSorted}
+use Rattle.ic_rbtree.specs.Tree.{root_of}
 use Rattle.ic_rbtree.proofs.KeyLaws.{value_there, stays_sorted}
 use Rattle.ic_rbtree.proofs.SortedValues.{own_order_is}
 
@@ -98,6 +100,14 @@ module _ {T : Type 0} (key : T → ℕ) (objects : Objects T) where
     by None h rest = absurd (true≢false (sym h))
     by (Some v) h rest = ap (λ l. key v ∷ l) rest
 
+  -- WHATEVER SEQUENCE IS SHOWN, as the laws of sorted sequences take it
+  pub shown_sorted : {shows : List Place → Type 0} → ((s u : List Place) → shows s → shows u → s ≡ u) → ShowsSorted key shows objects → {s : List Place} → shows s
+      → ArePlaced objects s × IsSorted nat_cmp (map key (values_at objects s))
+  shown_sorted one q {s} shown =
+      let same = one q.placed.members s q.placed.shown shown in
+      let sorted = subst (IsSorted nat_cmp) (keys_are q.placed.members q.placed.placed) q.sorted in
+      (subst (ArePlaced objects) same q.placed.placed, subst (λ (t : List Place). IsSorted nat_cmp (map key (values_at objects t))) same sorted)
+
   -- as for the placed ones
   placed_with : (front : List Place) (p : Place) (back : List Place) → IsSome (object_at objects p) → ArePlaced objects (front ++ back) → ArePlaced objects (front ++ p ∷ back)
   placed_with [] p back here h = (here, h)
@@ -121,18 +131,19 @@ module _ {T : Type 0} (key : T → ℕ) (objects : Objects T) where
         sorted = subst (IsSorted nat_cmp) (sym (keys_are (insert x.gap p) all)) (stays_sorted nat_cmp_total key objects p own.1 x.gap placed sorted border);
       }
 
-  module _ {L E H : Type 0} {Shows : Table E → H → List Place → Type 0} {table : L → Table E} {Does : L → L → List LinkStep → Type 0} {old new : Site L H} where
-    -- WHAT IS SHOWN STAYS SORTED when an object is put in where its key belongs, or is refused,
-    pub sorted_among : {Refused : L → L → Place → Type 0} → ((a b : L) (q : Place) → Refused a b q → table b ≡ table a) → {X : Type 0} {p : Place} → IsSome (object_at objects p)
-        → ShowsSorted key (ShowsAt Shows table old) objects → (r : Result Unit (AlreadyLinked X)) → InsertsAmong Shows table Does Refused (against key objects p) old p r new
-        → ShowsSorted key (ShowsAt Shows table new) objects
-    sorted_among keeps here q (Ok a) x = inserted Shows (table old.links) (table new.links) old.head new.head here q (x.inserted q.placed.members q.placed.shown)
-    sorted_among keeps here q (Err e) x = record {
-      placed = record { members = q.placed.members; shown = rw (keeps _ _ _ x.refused, x.unchanged.1) q.placed.shown; placed = q.placed.placed };
-      sorted = q.sorted;
-    }
+  -- WHAT IS SHOWN STAYS SORTED when a tree puts an object in where its key belongs, or refuses it,
+  pub sorted_inserted : {A L E : Type 0} {n : E → Node} {table : L → Table E} {Refused : L → L → Place → Type 0} → ((a b : L) (q : Place) → Refused a b q → table b ≡ table a)
+      → {old new : L} (tree after : RBTree A) (p : Place) → IsSome (object_at objects p) → (q : ShowsSorted key (Trees.Shows n (table old) (root_of tree)) objects)
+      → {X Y : Type 0} (r : Result X (AlreadyLinked Y)) → OnOk r (InsertsInOrder (Trees.Shows n) (against key objects p) (table old) (table new) (root_of after) q.placed.members p)
+      → OnErr r (Refused old new p) → IfErr r (λ refused. (refused.0 ≡ p) × (after ≡ tree)) → ShowsSorted key (Trees.Shows n (table new) (root_of after)) objects
+  sorted_inserted {n = n} {table} keeps {old} {new} tree after p here q (Ok a) puts refused unchanged = inserted (Trees.Shows n) (table old) (table new) (root_of tree) (root_of after) here q puts
+  sorted_inserted keeps tree after p here q (Err e) puts refused unchanged = record {
+    placed = record { members = q.placed.members; shown = rw (keeps _ _ _ refused, unchanged.1) q.placed.shown; placed = q.placed.placed };
+    sorted = q.sorted;
+  }
 
-    -- and when a member is taken off
+  module _ {L E H : Type 0} {Shows : Table E → H → List Place → Type 0} {table : L → Table E} {Does : L → L → List LinkStep → Type 0} {old new : Site L H} where
+    -- and when a member is taken off at a position
     pub sorted_taken : ((s u : List Place) → ShowsAt Shows table old s → ShowsAt Shows table old u → s ≡ u) → Stands Shows table old → (r : Option Place)
         → RemovesThere Shows table Does old r new → ShowsSorted key (ShowsAt Shows table old) objects → ShowsSorted key (ShowsAt Shows table new) objects
     sorted_taken one stands None off q = subst (λ (z : Site L H). ShowsSorted key (ShowsAt Shows table z) objects) (sym off.null) q

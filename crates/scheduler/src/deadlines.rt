@@ -38,7 +38,7 @@ pub(crate) fn wait<V, A: Allocator>(
         (plain_table links.old) (plain_table links.new) (root_of deadlines.new) s object }
     ensures linked { LinksAlso is_linked (plain_table links.old) (plain_table links.new) object }
 {
-    let _ = deadlines.cursor_mut(links).insert(objects, object); // proved: it is not linked
+    let _ = deadlines.insert(links, objects, object); // proved: it is not linked
 }
 
 // Takes the first task off, if it is due.

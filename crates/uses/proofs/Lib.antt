@@ -1,12 +1,15 @@
+pub mod Adding
 pub mod AllDue
 pub mod CutShown
 pub mod Dealing
 pub mod Draining
+pub mod Locating
 pub mod Outcomes
+pub mod Pool
 pub mod PutBack
 pub mod RaceLemmas
 pub mod Retaining
-pub mod Locating
+pub mod Rounds
+pub mod SharedJobs
 pub mod TakenOff
 pub mod TakingDue
-pub mod Pool

@@ -1,7 +1,9 @@
 //! Uses of the collections and of claims, as a caller writes them: each with a contract, and run by a test.
 #![tactic(auto)]
 
+pub mod best_fit;
 pub mod borrowed_table;
+pub mod claim_log;
 pub mod deal;
 pub mod either_table;
 pub mod first_objects;
@@ -15,5 +17,8 @@ pub mod race;
 pub mod recorded_table;
 pub mod region_map;
 pub mod retain;
+pub mod ring;
+pub mod sessions;
+pub mod shared_jobs;
 pub mod shared_pool;
 pub mod timer_queue;

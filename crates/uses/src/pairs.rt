@@ -2,10 +2,11 @@
 //!
 //! ```text
 //! let (left, right) = pairs::both(&list, &links, &objects)?;
+//! let more = pairs::larger(&bids, &bid_links, &amounts)?; // of two numbers
 //! let (low, high) = pairs::in_order(first, second);
 //! ```
 
-ghost use Rattle.std.specs.Prelude.{◌≡◌, ◌≢◌, ◌≤◌, ◌⊎◌, List, [], ◌∷◌, length, IfSome, IfNone};
+ghost use Rattle.std.specs.Prelude.{◌≡◌, ◌≢◌, ◌≤◌, ◌⊎◌, ℕ, max, Some, None, List, [], ◌∷◌, length, IfSome, IfNone};
 ghost use Rattle.ic_unsafe_ref.specs.declared.place.Place.{Place};
 ghost use Rattle.ic_unsafe_ref.specs.Places.{index_of};
 ghost use Rattle.ic_link_ops.specs.LinkSteps.{releases};
@@ -51,6 +52,24 @@ pub fn both<'a, T, L: LinkedListOps, A: Allocator>(
         return None;
     }
     Some((first, second))
+}
+
+/// The larger of the two numbers of a list that has two, `None` where it has another number of them. O(1).
+///
+/// It requires what [`both`] does.
+pub fn larger<L: LinkedListOps>(
+    list: &LinkedList<u64>,
+    links: &L,
+    objects: &Objects<u64>,
+) -> Option<u64>
+    requires placed { ShowsPlaced (Shows L.neighbors (L.table links.now) list.now) objects.now }
+    ensures larger { (s : List Place) (a b : ℕ) → Shows L.neighbors (L.table links.now) list.now s
+        → values_at objects.now s ≡ a ∷ b ∷ [] → result ≡ Some (max a b) }
+    ensures none { (s : List Place) → Shows L.neighbors (L.table links.now) list.now s
+        → length (values_at objects.now s) ≢ 2 → result ≡ None }
+{
+    let (first, second) = both(list, links, objects)?;
+    Some((*first).max(*second))
 }
 
 /// Takes the two members of a list that has two off it, `None` where it has another number of them. O(1).

@@ -87,7 +87,7 @@ pub fn add<L: RBTreeOps, B: Allocator>(
     ensures refused { OnErr result (L.Refused links.old links.new region) }
     ensures unchanged { IfErr result (λ refused. (refused.0 ≡ region) × (regions.new ≡ regions.old)) }
 {
-    regions.cursor_mut(links).insert(objects, region)
+    regions.insert(links, objects, region)
 }
 
 // Whether there is a region, and the address lies in it.

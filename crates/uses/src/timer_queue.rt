@@ -79,7 +79,7 @@ pub fn schedule<L: RBTreeOps, B: Allocator>(
     ensures refused { OnErr result (L.Refused links.old links.new timer) }
     ensures unchanged { IfErr result (λ refused. (refused.0 ≡ timer) × (timers.new ≡ timers.old)) }
 {
-    timers.cursor_mut(links).insert(objects, timer)
+    timers.insert(links, objects, timer)
 }
 
 // Whether there is a timer, and it is due.

@@ -4,6 +4,8 @@
 #[cfg(test)]
 mod fixtures;
 #[cfg(test)]
+mod keyed;
+#[cfg(test)]
 mod lists;
 #[cfg(test)]
 mod threads;

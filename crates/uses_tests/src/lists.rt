@@ -4,7 +4,7 @@ ghost use Rattle.ic_link_ops.specs.DoublyEntries.{PlainShows};
 ghost use Rattle.ic_link_ops.specs.PlacedObjects.{ShowsPlaced};
 
 use crate::fixtures::{
-    UNLINKED, check, covering, index, index_of_object, object, placed, reference, two,
+    MEMORY, UNLINKED, check, covering, index, index_of_object, object, placed, reference, two,
 };
 use ic_link_ops::linked_list::LinkOps;
 use ic_linked_list::LinkedList;
@@ -16,6 +16,7 @@ use uses::either_table::EitherTable;
 use uses::first_objects::{ObjectsError, first_objects};
 use uses::first_steps::first_steps;
 use uses::free_list::{give_and_take, give_back, take};
+use uses::recorded_table::{Note, RecordedTable, Recorder};
 use uses::retain::retain;
 use uses::{borrowed_table, deal, jobs, lru, pairs, queue};
 
@@ -108,16 +109,71 @@ fn two_members_come_off_a_table_that_is_one_of_two(rt: HostRuntime) {
     );
 }
 
-// The objects, one behind the other.
-fn linked(rt: &impl Abort, links: &mut LinkOps, objects: &Objects<u64>) -> LinkedList<u64>
+// So many of the objects, one behind the other.
+fn linked(
+    rt: &impl Abort,
+    links: &mut LinkOps,
+    objects: &Objects<u64>,
+    members: usize,
+) -> LinkedList<u64>
     ensures members { ShowsPlaced (PlainShows links.new result) objects.now }
 {
     let mut list = LinkedList::new();
-    for index in 0..5 {
+    for index in 0..members {
         let next = object(rt, links, objects, index);
         list.push_back(links, next).expect(rt, UNLINKED);
     }
     list
+}
+
+#[test]
+fn two_numbers_are_read(rt: HostRuntime) {
+    let objects = placed(&rt, rt.alloc(), &[10, 11, 12]);
+    let mut links: LinkOps = covering(&rt, rt.alloc());
+    let list = linked(&rt, &mut links, &objects, 2);
+    let both = pairs::both(&list, &links, &objects);
+    check(&rt, matches!(both, Some((&10, &11))));
+    check(&rt, pairs::larger(&list, &links, &objects) == Some(11));
+    let mut links: LinkOps = covering(&rt, rt.alloc());
+    let list = linked(&rt, &mut links, &objects, 3);
+    check(&rt, pairs::larger(&list, &links, &objects).is_none());
+}
+
+// Notes in a vector, for which a test has memory.
+#[derive(Drop)]
+struct Log<'r, R: Abort> {
+    rt: &'r R,
+    notes: Vec<Note>,
+}
+
+impl<R: Abort> Recorder for Log<'_, R> {
+    ghost notes = { λ log. log.notes.items };
+
+    fn add(&mut self, note: Note) {
+        self.notes.push(note).expect(self.rt, MEMORY);
+    }
+}
+
+#[test]
+fn link_steps_are_noted(rt: HostRuntime) {
+    let (table, first, _) = two(&rt, rt.alloc());
+    let place = first.place();
+    let log = Log {
+        rt: &rt,
+        notes: Vec::new(rt.alloc()),
+    };
+    let (mut list, mut links) = (LinkedList::new(), RecordedTable::new(table, log));
+    links.push_back(&mut list, first).expect(&rt, UNLINKED);
+    let taken = links.pop_front(&mut list);
+    let notes = &links.recorder().notes;
+    check(
+        &rt,
+        index_of_object(taken) == 2 && notes[0] == Note::Acquired(place),
+    );
+    check(
+        &rt,
+        notes.len() == 2 && notes.last() == Some(&Note::Released(place)),
+    );
 }
 
 fn is_odd(object: &u64) -> bool {
@@ -128,7 +184,7 @@ fn is_odd(object: &u64) -> bool {
 fn what_is_kept_is_dealt_from_both_ends(rt: HostRuntime) {
     let objects = placed(&rt, rt.alloc(), &[10, 11, 12, 13, 14]);
     let mut links: LinkOps = covering(&rt, rt.alloc());
-    let mut list = linked(&rt, &mut links, &objects);
+    let mut list = linked(&rt, &mut links, &objects, 5);
     {
         let (mut fronts, mut backs) = (Vec::new(rt.alloc()), Vec::new(rt.alloc()));
         let _ = deal::show(&list, &links, &objects, &mut fronts, &mut backs);

@@ -1,0 +1,35 @@
+//! A check of a log of claims: were its calls answered as claims are?
+//!
+//! ```text
+//! let mut core = Core::new(alloc, 100)?; // nobody holds any of the places
+//! let is_right = claim_log::is_right(alloc, &mut core, &calls, &told)?;
+//! ```
+
+ghost use Rattle.std.specs.Prelude.{◌≡◌, ◌<◌, ◌↔◌, length, All, IsTrue, IfOk, OnOk, OnErr};
+ghost use Rattle.ic_unsafe_ref.specs.Places.{index_of};
+ghost use Rattle.ic_atomic.specs.ClaimMap.{target, map_of};
+ghost use Rattle.ic_atomic.specs.LastChange.{answers_read_off, map_read_off};
+
+use ic_atomic::{Core, Step};
+use std::alloc::{AllocError, Allocator};
+
+/// Whether a log is right: each call, a party and what it asked, was told what the claims answer. O(calls).
+///
+/// It requires that each call is on one of the core's places. The core says who holds them before the first call, and is left
+/// as the last one leaves it. `Err`: no memory was found for the answers, and the core is as it was.
+pub fn is_right<A: Allocator>(
+    alloc: A,
+    core: &mut Core,
+    calls: &[(usize, Step)],
+    told: &[bool],
+) -> Result<bool, AllocError>
+    requires { All (λ call. index_of (target call.1) < length core.old) calls.now }
+    ensures right { IfOk result (λ is_right. IsTrue is_right ↔ (answers_read_off (map_of core.old) calls.now ≡ told.now)) }
+    ensures holders { OnOk result (map_of core.new ≡ map_read_off (map_of core.old) calls.now) }
+    ensures places { length core.new ≡ length core.old }
+    ensures refused { OnErr result (core.new ≡ core.old) }
+{
+    let mut answers = Vec::new(alloc);
+    core.replay(calls, &mut answers)?;
+    Ok(answers.as_slice() == told)
+}
