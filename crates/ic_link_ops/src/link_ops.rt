@@ -13,6 +13,11 @@ use ic_unsafe_ref::Place;
 /// Collections are written over this trait and the trait of their kind alone. A plain table refuses a link exactly if
 /// the place is linked in it; a table whose links are claimed from others may also be refused by them.
 ///
+/// A setter of one kind changes one entry, and of that entry it promises what its own kind reads. Of what other kinds read there nothing
+/// is promised: kinds share words, so a next place that is set is another XOR word as well, and a table may keep what it likes in the
+/// words that the kind doesn't read. No collection can tell, since a linked place is a member of one collection of the field, and so of
+/// one kind. Who calls setters of two kinds at one place sets anew what it reads.
+///
 /// ```text
 /// if links.acquire_link(place) {
 ///     // the place is ours to link, and an insert writes its neighbours
