@@ -9,8 +9,7 @@ use Rattle.ic_fields.specs.declared.entry.Entry.{Entry}
 use Rattle.ic_members.proofs.AllKinds.{distinct}
 use Rattle.ic_world.specs.declared.collection.Collection.{Collection}
 use Rattle.ic_world.specs.Tables.{table, sequence, seen_as, shown_as, at, family_of, IsWhole}
-use Rattle.ic_world.specs.Family.{Sequence}
-use Rattle.ic_world.specs.Step.{collection}
+use Rattle.ic_world.specs.Family.{Sequence, collection}
 use Rattle.ic_world.specs.Apart.{AreApart, AreAllPlaced}
 use Rattle.ic_world.proofs.Calls.{all_placed}
 use Rattle.ic_world.proofs.Steps.{some_same}

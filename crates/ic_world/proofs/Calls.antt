@@ -22,16 +22,20 @@ use Rattle.ic_members.specs.declared.members.Members.{Members}
 use Rattle.ic_members.proofs.AllKinds.{unlinked_absent}
 use Rattle.ic_world.specs.declared.collection.Collection.{Collection}
 use Rattle.ic_world.specs.declared.call.Refusal.{Refusal}
-use Rattle.ic_world.specs.declared.call.Refusal.TheVariants.{NoSuchObject, AlreadyLinked}
+use Rattle.ic_world.specs.declared.call.Refusal.TheVariants.{NoSuchObject, WrongKind, AlreadyLinked}
+use Rattle.ic_world.specs.declared.one_call.Call.TheVariants as one
+use Rattle.ic_world.specs.declared.seek.Seek.TheVariants.{Null, On, With}
+use Rattle.ic_world.specs.declared.whole.Whole.TheVariants.{Clear, FastClear, Reverse}
 use Rattle.ic_world.specs.declared.insertion.Insertion.TheVariants.{Insert, CursorInsert}
 use Rattle.ic_world.specs.declared.search.Search.TheVariants.{Find, LowerBound, UpperBound}
-use Rattle.ic_world.specs.Family.{Family}
-use Rattle.ic_world.specs.State.{State, Reply, refused, found, looked, entry, reply_of, asks}
-use Rattle.ic_world.specs.Calls.{Call, edit, seek, pick, swap, search, insertion, enter, names, refusal_of, Replies}
+use Rattle.ic_world.specs.Family.{Family, is_placed, objects_of}
+use Rattle.ic_world.specs.Calls.{Call, State, Reply, refused, found, looked, entry, asks, has_call, names, own_refusal, refusal_of, Replies}
+use Rattle.ic_world.specs.Replies.{reply_of}
 use Rattle.ic_world.specs.Turns.{Each, Turns, Ran, refusal_in, state_of}
 use Rattle.ic_world.specs.Tables.{table, sequence, seen_as, at, family_of, IsWhole, HasObject}
 use Rattle.ic_world.specs.Seen.{Sees}
-use Rattle.ic_world.specs.Step.{StepOn, refusal_on, state_in, is_placed, objects_of, asks_collection}
+use Rattle.ic_world.specs.Step.{StepOn, refusal_on}
+use Rattle.ic_world.specs.Several.{state_in, asks_collection}
 use Rattle.ic_world.proofs.Readings.{Found, collection_is, linked_at, set_back}
 use Rattle.ic_world.proofs.Edits.{Edit, after, edited_family, edited_whole}
 
@@ -58,18 +62,24 @@ each_named P fresh named (inr e) h = subst (Each P) (sym e) h
 -- what a call answers is told by the values alone
 module _ {V K : Type 0} (cmp : K → K → Ordering) (key_of : V → K) (objects other : Objects V) (same : other.values ≡ objects.values) where
   replies_of : (call : Call K) (s : State) (reply : Reply) (t : State) → Replies cmp key_of objects call s reply t → Replies cmp key_of other call s reply t
-  replies_of (edit call) s reply t h = h
-  replies_of (seek call) s reply t h = h
-  replies_of (pick call) s reply t h = h
-  replies_of (swap call) s reply t h = h
-  replies_of (search (Find key)) s (found p n) t h = rw same h
-  replies_of (search (LowerBound bound)) s (found p n) t h = rw same h
-  replies_of (search (UpperBound bound)) s (found p n) t h = rw same h
-  replies_of (insertion (Insert p)) s (looked n) t h = rw same h
-  replies_of (insertion (CursorInsert p)) s (looked n) t h = rw same h
-  replies_of (enter key p) s (entry true q n) t h = rw same h
-  replies_of (enter key p) s (entry false q n) t h = rw same h
-  replies_of (enter key p) s (refused AlreadyLinked) t h = rw same h
+  replies_of (one.Put at p) s reply t h = h
+  replies_of (one.Take at) s reply t h = h
+  replies_of (one.Swap at p) s reply t h = h
+  replies_of (one.Move way) s reply t h = h
+  replies_of (one.Seek Null) s reply t h = h
+  replies_of (one.Seek (On p)) s reply t h = h
+  replies_of (one.Seek (With way p beside)) s reply t h = h
+  replies_of (one.Whole Clear) s reply t h = h
+  replies_of (one.Whole FastClear) s reply t h = h
+  replies_of (one.Whole Reverse) s reply t h = h
+  replies_of (one.Search (Find key)) s (found p n) t h = rw same h
+  replies_of (one.Search (LowerBound bound)) s (found p n) t h = rw same h
+  replies_of (one.Search (UpperBound bound)) s (found p n) t h = rw same h
+  replies_of (one.Insertion (Insert p)) s (looked n) t h = rw same h
+  replies_of (one.Insertion (CursorInsert p)) s (looked n) t h = rw same h
+  replies_of (one.Enter key p) s (entry true q n) t h = rw same h
+  replies_of (one.Enter key p) s (entry false q n) t h = rw same h
+  replies_of (one.Enter key p) s (refused AlreadyLinked) t h = rw same h
   replies_of _ s _ t h = absurd h
 
 module _ {A V K : Type 0} {adapter : A} {objects : Objects V} {room : ℕ} {ts : List (Table Entry)} {cs : List (Option (Collection A V K))} (whole : IsWhole adapter objects room ts cs)
@@ -149,8 +159,8 @@ module _ {A V K M : Type 0} {adapter : A} {objects : Objects V} {room : ℕ} {ta
   pub room_for : (s : List Place) → list_all (place_is_placed objects) s ≡ true → Each (IsCovered (look now)) s
   room_for s e = each_map (λ p. HasObject objects (index_of p)) (IsCovered (look now)) (λ p has. let a = whole.within (index_of p) has in let b = rw at_k.read at (whole.covered k.field at_k.field) in omega (arith, a, b)) s (placed_each s e)
 
-  module _ (cmp : K → K → Ordering) (key_of : A → V → K) (call : Call K) (placed : list_all (place_is_placed objects) (names call) ≡ true) {R : Type 0} (accepted : R → Reply) (r : Result R Refusal) (nf : Field M) (m : Members A V K)
-      (ran : Ran (names call) (refusal_of call) (λ a s t. Replies cmp (key_of adapter) objects call s (accepted a) t) now nf k.members m r) where
+  module _ (cmp : K → K → Ordering) (key_of : A → V → K) (call : Call K) (placed : list_all (place_is_placed objects) (names call) ≡ true) (can : has_call call (kind_in k.members) ≡ true) {R : Type 0} (accepted : R → Reply) (r : Result R Refusal) (nf : Field M) (m : Members A V K)
+      (ran : Ran (names call) (own_refusal call) (λ a s t. Replies cmp (key_of adapter) objects call s (accepted a) t) now nf k.members m r) where
     -- THE INVARIANT and THE STEP, by the result
     pub whole_by : IsWhole adapter objects room (map look (set tables k.field nf)) (set cs c (Some (after k m)))
     whole_by = by r ran.turned ran.unchanged
@@ -165,7 +175,8 @@ module _ {A V K M : Type 0} {adapter : A} {objects : Objects V} {room : ℕ} {ta
     step_by view =
         let tests : refusal_on (family_of adapter objects ts cs) c call ≡ refusal_in r = ap (λ o. asks_collection o (λ s. asks (list_all (is_placed (family_of adapter objects ts cs)) (names call)) NoSuchObject (refusal_of call (state_in (family_of adapter objects ts cs) s)))) (collection_is adapter objects ts cs c k at_k.is)
         ∙ ap (λ b. asks b NoSuchObject (refusal_of call (state_in (family_of adapter objects ts cs) (seen_as k (sequence ts k))))) placed
-        ∙ ap (refusal_of call) (same_state whole c k at_k.is ∙ ap (λ t. state_of t k.members) at_k.read) ∙ sym ran.tested in
+        ∙ ap (refusal_of call) (same_state whole c k at_k.is ∙ ap (λ t. state_of t k.members) at_k.read)
+        ∙ ap (λ b. asks b WrongKind (own_refusal call (state_of (look now) k.members))) can ∙ sym ran.tested in
         subst (λ w. StepOn cmp key_of w c call (reply_of accepted r) (family_of adapter objects (map look (set tables k.field nf)) (set cs c (Some (after k m))))) view (by r ran.turned ran.unchanged tests)
       where
         by : (r : Result R Refusal) → IfOk r (λ a. Turns (names call) (λ s t. Replies cmp (key_of adapter) objects call s (accepted a) t) (look now) (look nf) k.members m) → OnErr r ((nf ≡ now) × (m ≡ k.members))
@@ -184,14 +195,25 @@ module _ {A V K M : Type 0} {adapter : A} {objects : Objects V} {room : ℕ} {ta
             )
         by (Err x) turned same e = rw (e, same.0, same.1, at_k.table_back, at_k.list_back) (refl, refl)
 
--- an object that the call names is not placed, and the collection is as it was read
-pub step_unplaced : {A V K : Type 0} (cmp : K → K → Ordering) (key_of : A → V → K) (adapter : A) (objects : Objects V) (ts : List (Table Entry)) (cs : List (Option (Collection A V K))) (c : ℕ) (k : Collection A V K)
-    {o : Option (Collection A V K)} (call : Call K) {old : Family A V} → family_of adapter objects ts cs ≡ old
-    → at cs c ≡ Some k → o ≡ get_or cs c o → o ≡ Some k → list_all (place_is_placed objects) (names call) ≡ false
-    → StepOn cmp key_of old c call (refused NoSuchObject) (family_of adapter objects ts (set cs c (Some k)))
-step_unplaced cmp key_of adapter objects us cs c k {o} call {old} view is read there lacks =
-    let back = set_back cs c (Some k) (rw there at read) in
-    let e : refusal_on (family_of adapter objects us cs) c call ≡ Some NoSuchObject =
-    ap (λ o. asks_collection o (λ s. asks (list_all (is_placed (family_of adapter objects us cs)) (names call)) NoSuchObject (refusal_of call (state_in (family_of adapter objects us cs) s)))) (collection_is adapter objects us cs c k is)
-    ∙ ap (λ b. asks b NoSuchObject (refusal_of call (state_in (family_of adapter objects us cs) (seen_as k (sequence us k))))) lacks in
-    rw (← view, e, back) (refl, refl)
+-- the call is refused before the collection is touched, which is as it was read: an object that it names is not placed, or the kind lacks it
+module _ {A V K : Type 0} (cmp : K → K → Ordering) (key_of : A → V → K) (adapter : A) (objects : Objects V) (ts : List (Table Entry)) (cs : List (Option (Collection A V K))) (c : ℕ) (k : Collection A V K)
+    {o : Option (Collection A V K)} (call : Call K) {old : Family A V} (view : family_of adapter objects ts cs ≡ old) (is : at cs c ≡ Some k) (read : o ≡ get_or cs c o) (there : o ≡ Some k) where
+  abbrev w : Family A V
+  w = family_of adapter objects ts cs
+
+  step_early : (r : Refusal) → asks (list_all (is_placed w) (names call)) NoSuchObject (refusal_of call (state_in w (seen_as k (sequence ts k)))) ≡ Some r
+      → StepOn cmp key_of old c call (refused r) (family_of adapter objects ts (set cs c (Some k)))
+  step_early r first =
+      let back = set_back cs c (Some k) (rw there at read) in
+      let e : refusal_on w c call ≡ Some r =
+      ap (λ o. asks_collection o (λ s. asks (list_all (is_placed w) (names call)) NoSuchObject (refusal_of call (state_in w s)))) (collection_is adapter objects ts cs c k is) ∙ first in
+      rw (← view, e, back) (refl, refl)
+
+  pub step_unplaced : list_all (place_is_placed objects) (names call) ≡ false → StepOn cmp key_of old c call (refused NoSuchObject) (family_of adapter objects ts (set cs c (Some k)))
+  step_unplaced lacks = step_early NoSuchObject (ap (λ b. asks b NoSuchObject (refusal_of call (state_in w (seen_as k (sequence ts k))))) lacks)
+
+  pub step_lacking : list_all (place_is_placed objects) (names call) ≡ true → has_call call (kind_in k.members) ≡ false
+      → StepOn cmp key_of old c call (refused WrongKind) (family_of adapter objects ts (set cs c (Some k)))
+  step_lacking placed lacks =
+      step_early WrongKind (ap (λ b. asks b NoSuchObject (refusal_of call (state_in w (seen_as k (sequence ts k))))) placed
+      ∙ ap (λ b. asks b WrongKind (own_refusal call (state_in w (seen_as k (sequence ts k))))) lacks)

@@ -18,11 +18,12 @@ use Rattle.ic_members.proofs.AllKinds.{IsLawful, one_sequence}
 use Rattle.ic_members.specs.Edits.{PutsAll}
 use Rattle.ic_world.specs.declared.collection.Collection.{Collection}
 use Rattle.ic_world.specs.declared.call.Refusal.TheVariants.{WrongKind, SameCollection, OtherField}
-use Rattle.ic_world.specs.Family.{Family, kind_again}
+use Rattle.ic_world.specs.Family.{Family, same_kind}
+use Rattle.ic_world.specs.FamilyCodes.{kind_again}
 use Rattle.ic_world.specs.Splices.{IsBesideOf, can_splice, Emptied, PutsBeside, CanJoin, CanBeJoined, Joins, AreJoined}
-use Rattle.ic_world.specs.State.{done}
+use Rattle.ic_world.specs.Calls.{done}
 use Rattle.ic_world.specs.Tables.{table, sequence, seen_as, at, family_of, IsWhole}
-use Rattle.ic_world.specs.Step.{StepSplice, refusal_of_splice, same_kind}
+use Rattle.ic_world.specs.Several.{StepSplice, refusal_of_splice}
 use Rattle.ic_world.proofs.Readings.{collection_at, collection_is, table_read}
 use Rattle.ic_world.proofs.Edits.{after}
 use Rattle.ic_world.proofs.Splices.{splice_whole, splice_family}
@@ -137,6 +138,7 @@ module _ {A V K : Type 0} {adapter : A} {objects : Objects V} {room : ℕ} {ts :
             rw (j.tables, same, given_same) (
               splice_whole whole c d k l fits.is_k fits.is_l fits.differ fits.fields j.t k'.members l'.members j.emptied j.puts.0 j.puts.1 put,
               subst (λ w. StepSplice (IsBesideOf before) (can_splice before) w c d done (family_of adapter objects (set ts k.field j.t) (set (set cs d (Some (after l l'.members))) c (Some (after k k'.members))))) view (rw none_now (
+                refl,
                 seen_as k (sequence ts k),
                 j.puts.0,
                 collection_is adapter objects ts cs c k fits.is_k,

@@ -9,12 +9,13 @@ use Rattle.ic_fields.specs.declared.entry.Entry.{Entry}
 use Rattle.ic_world.specs.declared.collection.Collection.{Collection}
 use Rattle.ic_world.specs.declared.call.Refusal.{Refusal}
 use Rattle.ic_world.specs.declared.call.Command.TheVariants.{Dispose}
-use Rattle.ic_world.specs.declared.edit.Edit.TheVariants.{Clear}
-use Rattle.ic_world.specs.Family.{Family, Sequence}
-use Rattle.ic_world.specs.State.{Reply, done, refused, cleared, unlinked}
-use Rattle.ic_world.specs.Calls.{edit}
+use Rattle.ic_world.specs.declared.one_call.Call.TheVariants as one
+use Rattle.ic_world.specs.declared.whole.Whole.TheVariants.{Clear}
+use Rattle.ic_world.specs.Family.{Family, Sequence, collection, linked_of, with_collection, with_linked}
+use Rattle.ic_world.specs.Calls.{Reply, done, refused, cleared, unlinked}
 use Rattle.ic_world.specs.Tables.{shown_as, at, family_of, IsWhole}
-use Rattle.ic_world.specs.Step.{Step, StepBy, StepOn, AcceptsOn, refusal_on, asks_collection, collection, linked_of, state_in, with_state, sequence_of, with_collection, with_linked}
+use Rattle.ic_world.specs.Step.{Step, StepOn, AcceptsOn, refusal_on}
+use Rattle.ic_world.specs.Several.{StepBy, asks_collection, state_in, with_state, sequence_of}
 use Rattle.ic_world.proofs.Linked.{side}
 use Rattle.ic_world.proofs.Steps.{step_accepted}
 
@@ -54,36 +55,36 @@ taken_step (Some r) accepts old reply new e h = absurd cc
 -- `cmp`, `key_of`: the order of the keys, and the key of a value
 module _ {A V K : Type 0} (cmp : K → K → Ordering) (key_of : A → V → K) (old mid : Family A V) (c : ℕ) where
   -- THE STEP of a disposal, by that of a clear: its refusal is the same
-  pub dispose_refused : (r : Refusal) → StepOn cmp key_of old c (edit Clear) (refused r) mid → Step cmp key_of old (Dispose c) (refused r) mid
+  pub dispose_refused : (r : Refusal) → StepOn cmp key_of old c (one.Whole Clear) (refused r) mid → Step cmp key_of old (Dispose c) (refused r) mid
   dispose_refused r step = by (collection old c) refl step
     where
-      by : (o : Option Sequence) → collection old c ≡ o → StepOn cmp key_of old c (edit Clear) (refused r) mid → Step cmp key_of old (Dispose c) (refused r) mid
+      by : (o : Option Sequence) → collection old c ≡ o → StepOn cmp key_of old c (one.Whole Clear) (refused r) mid → Step cmp key_of old (Dispose c) (refused r) mid
       by None e h = rw e (rw e at h)
       by (Some s) e h =
-          let a = taken_step (refusal_on {K = K} old c (edit Clear)) (AcceptsOn {K = K} cmp key_of old c (edit Clear)) old (refused r) mid (ap (λ o. asks_collection o (λ _. None)) e) h in
-          absurd a.3
+          let a = taken_step (refusal_on {K = K} old c (one.Whole Clear)) (AcceptsOn {K = K} cmp key_of old c (one.Whole Clear)) old (refused r) mid (ap (λ o. asks_collection o (λ _. None)) e) h in
+          absurd (let no = a.3.0 in cc)
 
-  accepted : (s : Sequence) → collection old c ≡ Some s → StepOn cmp key_of old c (edit Clear) done mid → AcceptsOn cmp key_of old c (edit Clear) done mid
-  accepted s e h = taken_step (refusal_on {K = K} old c (edit Clear)) (AcceptsOn {K = K} cmp key_of old c (edit Clear)) old done mid (ap (λ o. asks_collection o (λ _. None)) e) h
+  accepted : (s : Sequence) → collection old c ≡ Some s → StepOn cmp key_of old c (one.Whole Clear) done mid → AcceptsOn cmp key_of old c (one.Whole Clear) done mid
+  accepted s e h = taken_step (refusal_on {K = K} old c (one.Whole Clear)) (AcceptsOn {K = K} cmp key_of old c (one.Whole Clear)) old done mid (ap (λ o. asks_collection o (λ _. None)) e) h
 
-  cleared_there : StepOn cmp key_of old c (edit Clear) done mid → AcceptsOn cmp key_of old c (edit Clear) done mid
+  cleared_there : StepOn cmp key_of old c (one.Whole Clear) done mid → AcceptsOn cmp key_of old c (one.Whole Clear) done mid
   cleared_there step = by (collection old c) refl step
     where
-      by : (o : Option Sequence) → collection old c ≡ o → StepOn cmp key_of old c (edit Clear) done mid → AcceptsOn cmp key_of old c (edit Clear) done mid
+      by : (o : Option Sequence) → collection old c ≡ o → StepOn cmp key_of old c (one.Whole Clear) done mid → AcceptsOn cmp key_of old c (one.Whole Clear) done mid
       by None e h = absurd (let no = (rw e at h).0 in cc)
       by (Some s) e h = accepted s e h
 
-  pub disposed : StepOn cmp key_of old c (edit Clear) done mid → Step cmp key_of old (Dispose c) done (with_collection mid c None)
+  pub disposed : StepOn cmp key_of old c (one.Whole Clear) done mid → Step cmp key_of old (Dispose c) done (with_collection mid c None)
   disposed step =
       let a = cleared_there step in
       let s = a.0 in
       let last : with_collection (with_state old c s.field (cleared (state_in old s))) c None ≡ with_linked (with_collection old c None) s.field (unlinked (linked_of old s.field) s.members) =
       λ i. record (with_linked (with_collection old c None) s.field (unlinked (linked_of old s.field) s.members)) { collections = set-set old.collections c (Some (sequence_of s.field (cleared (state_in old s)))) None i } in
       step_accepted cmp key_of old (Dispose c) done (with_collection mid c None) (ap (λ o. asks_collection o (λ _. None)) a.2)
-      (s, a.2, ap (λ w. with_collection w c None) (a.4 ∙ ap (with_state old c s.field) a.3) ∙ last)
+      (s, a.2, refl, ap (λ w. with_collection w c None) (a.4 ∙ ap (with_state old c s.field) a.3.1) ∙ last)
 
   -- its number is one of the family's
-  pub still_in : StepOn cmp key_of old c (edit Clear) done mid → c < length mid.collections
+  pub still_in : StepOn cmp key_of old c (one.Whole Clear) done mid → c < length mid.collections
   still_in step =
       let a = cleared_there step in
       let there : c < length old.collections = in_family old.collections c a.0 a.2 in

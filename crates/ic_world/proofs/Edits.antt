@@ -14,11 +14,10 @@ use Rattle.ic_fields.specs.Kinds.{kind_with}
 use Rattle.ic_world.specs.declared.collection.Collection.{Collection}
 use Rattle.ic_members.specs.declared.members.Members.{Members}
 use Rattle.ic_members.specs.Members.{Keeps, Alike, members_in}
-use Rattle.ic_world.specs.Family.{Sequence, LinkField}
+use Rattle.ic_world.specs.Family.{Sequence, LinkField, with_linked, with_collection, field_of}
 use Rattle.ic_members.proofs.AllKinds.{IsLawful}
 use Rattle.ic_world.specs.LinkedSets.{linked_in}
 use Rattle.ic_world.specs.Tables.{table, no_table, field_in, sequence, seen_as, shown_as, at, family_of, IsWhole, HasObject}
-use Rattle.ic_world.specs.Step.{with_linked, with_collection, field_of}
 use Rattle.ic_members.proofs.AllKinds.{one_sequence, keeps_frame}
 use Rattle.ic_world.proofs.Linked.{side}
 

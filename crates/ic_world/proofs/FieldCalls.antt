@@ -23,12 +23,11 @@ use Rattle.ic_world.specs.declared.collection.Collection.{Collection}
 use Rattle.ic_world.specs.declared.call.Command.TheVariants.{IsLinked, ForceUnlink}
 use Rattle.ic_world.specs.declared.call.Refusal.TheVariants.{NoSuchObject}
 use Rattle.ic_world.specs.declared.call.Refusal.TheVariants.{IsMember as IsMemberRefusal}
-use Rattle.ic_world.specs.Family.{Family, Sequence}
-use Rattle.ic_world.specs.Among.{is_among}
+use Rattle.ic_world.specs.Family.{Family, Sequence, is_among, has_field, is_placed, has_member_in, is_member_in}
 use Rattle.ic_world.specs.LinkedSets.{linked_in}
-use Rattle.ic_world.specs.State.{linked, done}
+use Rattle.ic_world.specs.Calls.{linked, done}
 use Rattle.ic_world.specs.Tables.{table, sequence, shown_as, at, family_of, IsWhole}
-use Rattle.ic_world.specs.Step.{Step, has_field, is_placed, has_member_in, is_member_in}
+use Rattle.ic_world.specs.Step.{Step}
 use Rattle.ic_world.proofs.Linked.{in_linked, absent_or}
 use Rattle.ic_world.proofs.Readings.{table_read, linked_at}
 use Rattle.ic_world.proofs.Growth.{freed_whole, freed_family}
@@ -55,7 +54,7 @@ module _ {A V K M : Type 0} {adapter : A} {objects : Objects V} {room : ℕ} (ta
       let in_map : f < length (map look tables) = rw length-map within in
       let set_is = linked_at adapter objects (map look tables) cs f in_map in
       let same = ap (λ l. set.contains l (index_of p)) (set_is ∙ ap linked_in (table_read tables f t within read)) ∙ in_linked (look t) (lawful_field t) p in
-      step_accepted cmp key_of w (IsLinked f p) (linked answer) w (field_there w f _ (rw length-map in_map) ∙ passes (is_placed w p) NoSuchObject None has) (is ∙ sym same, refl)
+      step_accepted cmp key_of w (IsLinked f p) (linked answer) w (field_there w f _ (rw length-map in_map) ∙ passes (is_placed w p) NoSuchObject None has) (ap linked (is ∙ sym same), refl)
 
 -- whether a place is among the members, told as calls tell it
 absent_among : (p : Place) (s : List Place) → IsAbsent p s → is_among p s ≡ false
@@ -157,5 +156,5 @@ module _ {A V K M : Type 0} {adapter : A} {objects : Objects V} {room : ℕ} (ta
         rw (← view, map-set) (
           freed_whole whole f in_map (look nf) p free changes absent,
           step_accepted cmp key_of w (ForceUnlink f p) done _ (field_there w f _ (rw length-map in_map) ∙ passes (is_placed w p) NoSuchObject _ has ∙ passes _ IsMemberRefusal None (ap not (rw (← view) at none)))
-              (freed_family whole f in_map (look nf) p free changes absent),
+              (refl, freed_family whole f in_map (look nf) p free changes absent),
         )

@@ -22,14 +22,15 @@ use Rattle.ic_members.specs.Members.{Keeps}
 use Rattle.ic_members.proofs.AllKinds.{lawful as lawful_field}
 use Rattle.ic_members.proofs.AllKinds.{IsLawful, one_sequence, shown_frame, keeps_frame}
 use Rattle.ic_world.specs.declared.collection.Collection.{Collection}
-use Rattle.ic_world.specs.Family.{Family, Sequence, LinkField}
+use Rattle.ic_world.specs.Family.{Family, Sequence, LinkField, with_linked, linked_of, field_of}
 use Rattle.ic_world.specs.LinkedSets.{linked_in}
 use Rattle.ic_world.specs.Tables.{table, no_table, field_in, sequence, seen_as, shown_as, at, family_of, IsWhole, HasObject}
 use Rattle.ic_world.specs.declared.call.Refusal.{Refusal}
 use Rattle.ic_world.specs.declared.call.Command.TheVariants.{AddField}
-use Rattle.ic_world.specs.State.{reply_of, field}
+use Rattle.ic_world.specs.Replies.{reply_of}
+use Rattle.ic_world.specs.Calls.{field}
 use Rattle.ic_world.specs.Pieces.{Appends, IsFresh}
-use Rattle.ic_world.specs.Step.{Step, with_linked, linked_of, field_of}
+use Rattle.ic_world.specs.Step.{Step}
 use Rattle.ic_world.proofs.Readings.{field_at}
 use Rattle.ic_world.specs.Growth.{Cover, GrowsTo, Grown, Grows}
 use Rattle.ic_world.proofs.Steps.{from_ok}

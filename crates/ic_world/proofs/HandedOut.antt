@@ -13,14 +13,12 @@ use Rattle.ic_members.specs.Members.{Held, members_in, kind_in, adapter_in, adap
 use Rattle.ic_world.specs.declared.collection.Collection.{Collection}
 use Rattle.ic_world.specs.declared.part.Part.{Part}
 use Rattle.ic_world.specs.declared.call.Refusal.{Refusal}
-use Rattle.ic_world.specs.declared.call.Refusal.TheVariants.{OutOfMemory}
-use Rattle.ic_world.specs.Family.{Family}
-use Rattle.ic_world.specs.State.{opened, refused}
-use Rattle.ic_world.specs.Handing.{part_refusal, PartsOf}
+use Rattle.ic_world.specs.declared.call.Refusal.TheVariants.{WrongKind, OutOfMemory}
+use Rattle.ic_world.specs.Family.{Family, with_opened}
+use Rattle.ic_world.specs.Calls.{opened, refused, asks}
+use Rattle.ic_world.specs.Several.{has_part, PartsOf, OpensWith, StepOut, refusal_of_part, asks_collection}
 use Rattle.ic_world.specs.Turns.{HandsOut, asks_room, state_of}
 use Rattle.ic_world.specs.Tables.{table, sequence, seen_as, at, family_of, IsWhole}
-use Rattle.ic_world.specs.Step.{StepOut, refusal_of_hand_out, asks_collection, state_in, sequence_of, with_opened}
-use Rattle.ic_world.specs.Step as step
 use Rattle.ic_world.proofs.Readings.{Found, collection_is}
 use Rattle.ic_world.proofs.Edits.{Edit, after, at_after, here, new_sequence, same_sequence, edited_family, edited_whole}
 use Rattle.ic_world.proofs.Opened.{appended_whole, appended_family}
@@ -72,7 +70,7 @@ module _ {A V K : Type 0} {adapter : A} {objects : Objects V} {room : ℕ} {ts :
   pub part_whole : IsWhole adapter objects room tables (between ++ Some more ∷ [])
   part_whole = appended_whole (edited_whole whole part_edit) more field_there held adapted others
 
-  pub part_hands : (n : ℕ) → n ≡ length cs → step.HandsOut (family_of adapter objects ts cs) c part (opened n) (family_of adapter objects tables (between ++ Some more ∷ []))
+  pub part_hands : (n : ℕ) → n ≡ length cs → OpensWith (family_of adapter objects ts cs) c part (opened n) (family_of adapter objects tables (between ++ Some more ∷ []))
   part_hands n number = (
     rw length-map number,
     seen_as k (sequence ts k),
@@ -87,24 +85,25 @@ module _ {A V K : Type 0} {adapter : A} {objects : Objects V} {room : ℕ} {ts :
 
 module _ {A V K M : Type 0} {adapter : A} {objects : Objects V} {room : ℕ} {tables : List (Field M)} {cs : List (Option (Collection A V K))} (whole : IsWhole adapter objects room (map look tables) cs)
     {c : ℕ} {k : Collection A V K} {now : Field M} (at_k : Found tables cs c k now) {old : Family A V} (view : family_of adapter objects (map look tables) cs ≡ old) (part : Part) (has_room : Bool) (nf : Field M) (m : Members A V K) where
-  asks : refusal_of_hand_out (family_of adapter objects (map look tables) cs) c part ≡ part_refusal part (state_of (look now) k.members)
-  asks =
-      ap (λ o. asks_collection o (λ s. part_refusal part (state_in (family_of adapter objects (map look tables) cs) s))) (collection_is adapter objects (map look tables) cs c k at_k.is)
-      ∙ ap (part_refusal part) (same_state whole c k at_k.is ∙ ap (λ t. state_of t k.members) at_k.read)
+  abbrev tests : Option Refusal
+  tests = asks (has_part part (kind_in k.members)) WrongKind None
+
+  tested_by : refusal_of_part (family_of adapter objects (map look tables) cs) c part ≡ tests
+  tested_by = ap (λ o. asks_collection o (λ s. asks (has_part part s.kind) WrongKind None)) (collection_is adapter objects (map look tables) cs c k at_k.is)
 
   -- where it is refused
   module _ (same : (nf ≡ now) × (m ≡ k.members)) where
     pub refused_whole : IsWhole adapter objects room (map look (set tables k.field nf)) (set cs c (Some (after k m)))
     refused_whole = rw (same.0, same.1, at_k.table_back, at_k.list_back) whole
 
-    pub refused_step : (x : Refusal) → Some x ≡ asks_room has_room (part_refusal part (state_of (look now) k.members))
+    pub refused_step : (x : Refusal) → Some x ≡ asks_room has_room tests
         → StepOut old c part (refused x) (family_of adapter objects (map look (set tables k.field nf)) (set cs c (Some (after k m))))
     refused_step x tested =
         let P : List (Field M) → List (Option (Collection A V K)) → Type 0 = λ xs ys. StepOut old c part (refused x) (family_of adapter objects (map look xs) ys) in
-        let at_list = subst (P tables) (sym (ap (λ z. set cs c (Some (after k z))) same.1 ∙ at_k.list_back)) (subst (λ w. StepOut w c part (refused x) (family_of adapter objects (map look tables) cs)) view (by _ has_room asks tested)) in
+        let at_list = subst (P tables) (sym (ap (λ z. set cs c (Some (after k z))) same.1 ∙ at_k.list_back)) (subst (λ w. StepOut w c part (refused x) (family_of adapter objects (map look tables) cs)) view (by _ has_room tested_by tested)) in
         subst (λ xs. P xs (set cs c (Some (after k m)))) (sym (ap (set tables k.field) same.0 ∙ at_k.table_back)) at_list
       where
-        by : (o : Option Refusal) (room : Bool) → refusal_of_hand_out (family_of adapter objects (map look tables) cs) c part ≡ o → Some x ≡ asks_room room o
+        by : (o : Option Refusal) (room : Bool) → refusal_of_part (family_of adapter objects (map look tables) cs) c part ≡ o → Some x ≡ asks_room room o
             → StepOut (family_of adapter objects (map look tables) cs) c part (refused x) (family_of adapter objects (map look tables) cs)
         by (Some r) room e h = rw e (ap refused (some_same h), refl)
         by None true e h = absurd cc
@@ -118,11 +117,11 @@ module _ {A V K M : Type 0} {adapter : A} {objects : Objects V} {room : ℕ} {ta
     pub handed_whole : IsWhole adapter objects room (map look (set tables k.field nf)) (set cs c (Some (after k m)) ++ Some (record { field = k.field; members = handed }) ∷ [])
     handed_whole = rw map-set (part_whole whole c k at_k.is part there)
 
-    pub handed_step : (n : ℕ) → n ≡ length cs → None ≡ asks_room has_room (part_refusal part (state_of (look now) k.members))
+    pub handed_step : (n : ℕ) → n ≡ length cs → None ≡ asks_room has_room tests
         → StepOut old c part (opened n) (family_of adapter objects (map look (set tables k.field nf)) (set cs c (Some (after k m)) ++ Some (record { field = k.field; members = handed }) ∷ []))
     handed_step n number tested =
         subst (λ w. StepOut w c part (opened n) (family_of adapter objects (map look (set tables k.field nf)) (set cs c (Some (after k m)) ++ Some (record { field = k.field; members = handed }) ∷ []))) view
-        (rw (asks ∙ sym (passed has_room _ tested), map-set) (part_hands whole c k at_k.is part there n number))
+        (rw (tested_by ∙ sym (passed has_room _ tested), map-set) (part_hands whole c k at_k.is part there n number))
       where
         passed : (room : Bool) (o : Option Refusal) → None ≡ asks_room room o → None ≡ o
         passed room (Some r) h = absurd cc
@@ -130,7 +129,7 @@ module _ {A V K M : Type 0} {adapter : A} {objects : Objects V} {room : ℕ} {ta
         passed false None h = refl
 
     -- there is room, where it was not refused
-    pub had_room : None ≡ asks_room has_room (part_refusal part (state_of (look now) k.members)) → has_room ≡ true
+    pub had_room : None ≡ asks_room has_room tests → has_room ≡ true
     had_room tested = by has_room _ tested
       where
         by : (room : Bool) (o : Option Refusal) → None ≡ asks_room room o → room ≡ true

@@ -1,5 +1,5 @@
 -- What keyed calls leave to the world, from what the tree's own calls give.
-use Rattle.std.proofs.Common.{◌≡◌, ◌∙◌, ℕ, inl, Bool, true, false, Option, Some, None, List, [], ◌∷◌, refl, sym, ap, Ok, IfSome, IfNone}
+use Rattle.std.proofs.Common.{◌≡◌, ◌∙◌, ℕ, inl, Bool, true, false, Option, Some, None, List, [], ◌∷◌, refl, sym, Ok, IfSome, IfNone}
 use Rattle.std.specs.FinSet as set
 use Rattle.std.specs.declared.cmp.Ordering.{Ordering}
 use Rattle.ic_unsafe_ref.specs.declared.place.Place.{Place}
@@ -9,26 +9,19 @@ use Rattle.ic_link_ops.specs.Sequences.{Cut, join}
 use Rattle.ic_link_ops.specs.Tables.{IsLinked}
 use Rattle.ic_rbtree.specs.Borders.{Finds, IsBorder, less_at}
 use Rattle.ic_fields.specs.declared.field.Field.{Field}
-use Rattle.ic_fields.specs.declared.kind.Kind.{Kind}
 use Rattle.ic_fields.specs.Fields.{look}
 use Rattle.ic_fields.specs.Entries.{is_linked}
 use Rattle.ic_members.specs.declared.members.Members.{Members}
-use Rattle.ic_members.specs.Members.{kind_in, cursor_in, members_in, is_tree, Held}
+use Rattle.ic_members.specs.Members.{cursor_in, members_in, Held}
 use Rattle.ic_members.specs.Edits.{AtGap, Moves}
 use Rattle.ic_members.specs.Keyed.{FewLooks, IsVacantFor, PutsInOrder, PutsAtKey}
 use Rattle.ic_members.proofs.AllKinds.{lawful}
-use Rattle.ic_world.specs.declared.call.Refusal.TheVariants.{WrongKind}
 use Rattle.ic_world.specs.LinkedSets.{linked_in}
-use Rattle.ic_world.specs.State.{State, put, moved, asks, asks_unlinked}
-use Rattle.ic_world.specs.KeyedCalls.{keyed_refusal, key_at, EntryReplies}
+use Rattle.ic_world.specs.Calls.{State, put, moved, asks_unlinked, key_at, Enters}
 use Rattle.ic_world.specs.Replies.{entry_or_linked}
 use Rattle.ic_world.specs.Turns.{Turns, Ran, state_of}
 use Rattle.ic_world.proofs.Linked.{in_linked}
 use Rattle.ic_world.proofs.Turned.{turns_by, turns_put}
-
--- the test of the kind was made of this collection
-pub kind_tested : {k kind : Kind} {b answer : Bool} → k ≡ kind → b ≡ is_tree k → b ≡ answer → is_tree kind ≡ answer
-kind_tested e is tested = ap is_tree (sym e) ∙ sym is ∙ tested
 
 -- the cursor alone has moved, in a call that names what it may
 still : {A V K M : Type 0} (links : Field M) {m m' : Members A V K} {names : List Place} {cursor : Option Place} {Accepts : State → State → Type 0} → (e : Moves (look links) m m' cursor)
@@ -41,20 +34,19 @@ still links {m' = m'} e accepts =
 
 module _ {A V K M : Type 0} {links : Field M} {m : Members A V K} where
   -- A SEARCH
-  pub searched : {R : Type 0} {names : List Place} {m' : Members A V K} {cursor : Option Place} {accepts : R → State → State → Type 0} (answer : R) → is_tree (kind_in m) ≡ true
-      → Moves (look links) m m' cursor
+  pub searched : {R : Type 0} {names : List Place} {m' : Members A V K} {cursor : Option Place} {accepts : R → State → State → Type 0} (answer : R) → Moves (look links) m m' cursor
       → (state_of (look links) m' ≡ moved (state_of (look links) m) cursor → accepts answer (state_of (look links) m) (state_of (look links) m'))
-      → Ran names keyed_refusal accepts links links m m' (Ok answer)
-  searched answer tree e accepts = record { tested = rw tree refl; turned = still links e accepts; unchanged = tt }
+      → Ran names (λ s. None) accepts links links m m' (Ok answer)
+  searched answer e accepts = record { tested = refl; turned = still links e accepts; unchanged = tt }
 
   -- AN INSERT IN ORDER
   pub inserted : {R : Type 0} {links' : Field M} {m' : Members A V K} {cursor : Option Place} {accepts : R → State → State → Type 0} {b : Bool} (at : Place → Ordering) (p : Place) (answer : R)
-      → is_tree (kind_in m) ≡ true → b ≡ set.contains (linked_in (look links)) (index_of p) → b ≡ false → PutsInOrder at (look links) (look links') m m' p cursor
+      → b ≡ set.contains (linked_in (look links)) (index_of p) → b ≡ false → PutsInOrder at (look links) (look links') m m' p cursor
       → ((gap : Cut) → join gap ≡ members_in (look links) m → IsBorder (less_at at) gap → state_of (look links') m' ≡ put (state_of (look links) m) gap p cursor
       → accepts answer (state_of (look links) m) (state_of (look links') m'))
-      → Ran (p ∷ []) (λ s. asks (is_tree s.kind) WrongKind (asks_unlinked s p)) accepts links links' m m' (Ok answer)
-  inserted {links'} at p answer tree is free e accepts = record {
-    tested = rw (tree, sym is ∙ free) refl;
+      → Ran (p ∷ []) (λ s. asks_unlinked s p) accepts links links' m m' (Ok answer)
+  inserted {links'} at p answer is free e accepts = record {
+    tested = rw (sym is ∙ free) refl;
     turned = turns_put (lawful links) (lawful links') e.0 p e.1 e.2.1 (accepts e.0 e.1 e.2.0);
     unchanged = tt;
   }
@@ -64,8 +56,8 @@ module _ {V K : Type 0} (cmp : K → K → Ordering) (key_of : V → K) (objects
   abbrev at : Place → Ordering
   at = key_at cmp key_of objects key
 
-  abbrev Enters : Option (Bool × Place × ℕ) → State → State → Type 0
-  Enters answer s t = EntryReplies cmp key_of objects key p s (entry_or_linked answer) t
+  abbrev Answers : Option (Bool × Place × ℕ) → State → State → Type 0
+  Answers answer s t = Enters cmp key_of objects key p s (entry_or_linked answer) t
 
   module _ {A M : Type 0} (links links' : Field M) (m m' : Members A V K) where
     abbrev Occupied : Bool → Place → Type 0
@@ -75,7 +67,7 @@ module _ {V K : Type 0} (cmp : K → K → Ordering) (key_of : V → K) (objects
     Vacant b q = b ≡ false → (q ≡ p) × PutsAtKey at (look links) (look links') m m' p (Some p)
 
     entered_at : (b : Bool) (q : Place) (n : ℕ) → Occupied b q → Vacant b q → FewLooks n (members_in (look links) m)
-        → Turns (p ∷ []) (Enters (Some (b, q, n))) (look links) (look links') m m'
+        → Turns (p ∷ []) (Answers (Some (b, q, n))) (look links) (look links') m m'
     entered_at true q n occupied vacant looks =
         let e = occupied refl in
         rw e.1 (still links e.2 (λ same. (e.0, looks, same)))
@@ -85,16 +77,16 @@ module _ {V K : Type 0} (cmp : K → K → Ordering) (key_of : V → K) (objects
         turns_put (lawful links) (lawful links') e.1.0 p e.1.1 put
         (λ same. (e.0, in_linked (look links) (lawful links) p ∙ put.links.was, looks, (e.1.0, e.1.1, (e.1.2.0, same))))
 
-    pub entered : (answer : Option (Bool × Place × ℕ)) → Held (look links) m → is_tree (kind_in m) ≡ true
+    pub entered : (answer : Option (Bool × Place × ℕ)) → Held (look links) m
         → IfSome answer (λ e. Occupied e.0 e.1) → IfSome answer (λ e. Vacant e.0 e.1) → IfSome answer (λ e. FewLooks e.2 (members_in (look links) m))
         → IfNone answer (IsLinked is_linked (look links) p × AtGap (members_in (look links) m) (IsVacantFor at) × (m' ≡ m) × (links' ≡ links))
-        → Ran (p ∷ []) keyed_refusal Enters links links' m m' (Ok answer)
-    entered (Some e) held tree occupied vacant looks none =
-        record { tested = rw tree refl; turned = entered_at e.0 e.1 e.2 occupied vacant looks; unchanged = tt }
-    entered None held tree occupied vacant looks none =
+        → Ran (p ∷ []) (λ s. None) Answers links links' m m' (Ok answer)
+    entered (Some e) held occupied vacant looks none =
+        record { tested = refl; turned = entered_at e.0 e.1 e.2 occupied vacant looks; unchanged = tt }
+    entered None held occupied vacant looks none =
         let stays : Moves (look links) m m (cursor_in m) = record { kept = held; alike = record { kind = refl; adapter = refl }; cursor_is = refl } in
         record {
-          tested = rw tree refl;
+          tested = refl;
           turned = rw (none.2, none.3) (still links stays (λ same. (in_linked (look links) (lawful links) p ∙ none.0, none.1, same)));
           unchanged = tt;
         }

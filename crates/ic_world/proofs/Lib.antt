@@ -18,9 +18,9 @@ pub mod FieldCalls
 pub mod Disposed
 pub mod Tested
 pub mod Ends
-pub mod Picked
+pub mod Taken
 pub mod Neighbors
 pub mod Seeking
 pub mod Inserted
 pub mod Apart
-pub mod Targets
+pub mod Meant

@@ -15,7 +15,7 @@ use Rattle.ic_link_ops.specs.Tables.{Table, with_extent, IsCovered, LinksAlso, U
 use Rattle.ic_fields.specs.declared.entry.Entry.{Entry}
 use Rattle.ic_fields.specs.Entries.{is_linked}
 use Rattle.ic_members.proofs.AllKinds.{IsLawful}
-use Rattle.ic_world.specs.State.{unlinked}
+use Rattle.ic_world.specs.Calls.{unlinked}
 use Rattle.ic_world.specs.LinkedSets.{linked_there, linked_index, linked_below, linked_in}
 use Rattle.ic_world.specs.Tables.{no_table}
 

@@ -5,7 +5,7 @@ use Rattle.ic_unsafe_ref.specs.Places.{index_of}
 use Rattle.ic_unsafe_ref.proofs.PlaceLemmas.{same_index}
 use Rattle.ic_link_ops.specs.Sequences.{Cut, join, first, last, last_or, but_last, IsAfter, IsBefore, IsAbsent, IsMember, IsDistinct}
 use Rattle.ic_link_ops.proofs.SequenceLemmas.{absent_left, distinct_middle, first_is, split_last, member_split}
-use Rattle.ic_world.specs.Among.{same_place, is_among, before_or, before_of, behind_of, next_of}
+use Rattle.ic_world.specs.Family.{same_place, is_among, before_or, behind_of, next_of}
 use Rattle.ic_world.proofs.Ends.{front_is}
 use Rattle.ic_world.proofs.Linked.{absent_or}
 
@@ -47,8 +47,8 @@ module _ (gap : Cut) {s : List Place} {p : Place} (cut : join gap ≡ s) (is : I
     in_front : IsAbsent p gap.front
     in_front = absent_left p gap.front (drop 1 gap.back) (distinct_middle gap.front (drop 1 gap.back) p (subst IsDistinct whole distinct))
 
-    pub before_gap : before_of s p ≡ last gap.front
-    before_gap = ap (λ t. before_of t p) whole ∙ before_at gap.front (drop 1 gap.back) p None in_front
+    pub before_gap : before_or None s p ≡ last gap.front
+    before_gap = ap (λ t. before_or None t p) whole ∙ before_at gap.front (drop 1 gap.back) p None in_front
 
     pub behind_gap : behind_of s p ≡ first (drop 1 gap.back)
     behind_gap = ap (λ t. behind_of t p) whole ∙ behind_at gap.front (drop 1 gap.back) p in_front

@@ -28,7 +28,8 @@ use Rattle.ic_world.specs.declared.call.Refusal.TheVariants.{NoSuchObject}
 use Rattle.ic_world.specs.declared.call.Command.TheVariants.{SetValue}
 use Rattle.ic_world.specs.declared.call.Command.TheVariants.{Place as PlaceCall}
 use Rattle.ic_world.specs.Family.{Family, LinkField}
-use Rattle.ic_world.specs.State.{reply_of_value, object, done}
+use Rattle.ic_world.specs.Replies.{reply_of_value}
+use Rattle.ic_world.specs.Calls.{object, done}
 use Rattle.ic_world.specs.Growth.{Grows}
 use Rattle.ic_world.specs.Pieces.{PlacesValue, SwapsValue}
 use Rattle.ic_world.specs.Step.{Step}
@@ -142,7 +143,7 @@ module _ {A V K : Type 0} (cmp : K → K → Ordering) (key_of : A → V → K) 
   value_swapped p v (Ok was) new e =
       let has : place_is_placed objects p ≡ true = ap is_some e.0 in (
         put_whole whole p v (ap (λ (o : Objects V). o.values) e.1) (whole.within (index_of p) has),
-        rw (← view, e.1) (step_accepted cmp key_of (family_of adapter objects ts cs) (SetValue p v) done _ (passes _ NoSuchObject None has) refl),
+        rw (← view, e.1) (step_accepted cmp key_of (family_of adapter objects ts cs) (SetValue p v) done _ (passes _ NoSuchObject None has) (refl, refl)),
       )
   value_swapped p v (Err x) new e =
       rw (e.1, e.2) (whole, rw view (step_refused cmp key_of old (SetValue p v) NoSuchObject (rw (← view) (fails _ NoSuchObject None (ap is_some e.0)))))

@@ -20,13 +20,15 @@ use Rattle.ic_world.specs.declared.collection.Collection.{Collection}
 use Rattle.ic_members.specs.declared.members.Members.{Members}
 use Rattle.ic_world.specs.declared.call.Refusal.{Refusal}
 use Rattle.ic_world.specs.declared.call.Refusal.TheVariants.{NoSuchField, WrongKind, OutOfMemory}
-use Rattle.ic_world.specs.Family.{Family}
+use Rattle.ic_world.specs.Family.{Family, has_field, field_of, with_opened}
 use Rattle.ic_world.specs.Pieces.{Appends}
 use Rattle.ic_world.specs.declared.call.Command.TheVariants.{Open}
 use Rattle.ic_members.specs.Members.{Keeps, Held, kind_in, cursor_in, adapter_in, adapter_for}
 use Rattle.ic_world.specs.Tables.{table, field_in, sequence, seen_as, shown_as, at, family_of, IsWhole}
-use Rattle.ic_world.specs.State.{reply_of, opened, refused, asks}
-use Rattle.ic_world.specs.Step.{Step, refusal_of_open, has_field, field_of, with_opened}
+use Rattle.ic_world.specs.Replies.{reply_of}
+use Rattle.ic_world.specs.Calls.{opened, refused, asks}
+use Rattle.ic_world.specs.Step.{Step}
+use Rattle.ic_world.specs.Several.{refusal_of_open}
 use Rattle.ic_link_ops.proofs.SequenceLemmas.{disjoint_sym}
 use Rattle.ic_members.proofs.AllKinds.{one_sequence}
 use Rattle.ic_world.proofs.Edits.{lawful}

@@ -10,9 +10,9 @@ use Rattle.ic_members.specs.declared.members.Members.{Members}
 use Rattle.ic_members.specs.Members.{cursor_in, members_in, Keeps, Held, Alike}
 use Rattle.ic_members.specs.Edits.{Parts}
 use Rattle.ic_members.proofs.AllKinds.{IsLawful, one_sequence, distinct, held_of}
-use Rattle.ic_world.specs.State.{State, having}
+use Rattle.ic_world.specs.Calls.{State, having}
 use Rattle.ic_world.specs.Turns.{HandsOut, state_of}
-use Rattle.ic_world.specs.Handing.{PartsOf}
+use Rattle.ic_world.specs.Several.{PartsOf}
 use Rattle.ic_world.specs.declared.part.Part.TheVariants.{All, After, Before}
 use Rattle.ic_world.proofs.Linked.{linked_same}
 

@@ -11,7 +11,7 @@ use Rattle.ic_world.specs.declared.collection.Collection.{Collection}
 use Rattle.ic_members.specs.Members.{Held}
 use Rattle.ic_world.specs.Tables.{table, no_table, field_in, sequence, seen_as, shown_as, at, family_of, IsWhole}
 use Rattle.ic_world.specs.LinkedSets.{linked_in}
-use Rattle.ic_world.specs.Step.{collection, field_of, linked_of}
+use Rattle.ic_world.specs.Family.{collection, field_of, linked_of}
 
 -- what a read of the vector of tables found
 pub table_read : {M : Type 0} (tables : List (Field M)) (f : ℕ) (t : Field M) → f < length tables → t ≡ get_or tables f t → table (map look tables) f ≡ look t

@@ -4,9 +4,8 @@ use Rattle.std.proofs.lemmas.List.{take_more, map-append}
 use Rattle.std.specs.declared.cmp.Ordering.{Ordering}
 use Rattle.ic_world.specs.declared.call.Command.{Command}
 use Rattle.ic_world.specs.Family.{Family}
-use Rattle.ic_world.specs.State.{Reply}
-use Rattle.ic_world.specs.Step.{Step}
-use Rattle.ic_world.specs.Runs.{Runs}
+use Rattle.ic_world.specs.Calls.{Reply}
+use Rattle.ic_world.specs.Step.{Step, Runs}
 
 module _ {A V K : Type 0} (cmp : K → K → Ordering) (key_of : A → V → K) where
   -- a run, and one call more

@@ -1,5 +1,6 @@
 -- A seek is a call that writes no table.
 use Rattle.std.proofs.Common.{◌≡◌, true, Some, Result, Ok, Err, refl}
+use Rattle.ic_unsafe_ref.specs.declared.place.Place.{Place}
 use Rattle.ic_fields.specs.declared.kind.Kind.{Kind}
 use Rattle.ic_fields.specs.declared.kind.Kind.TheVariants as kind
 use Rattle.ic_fields.specs.declared.field.Field.{Field}
@@ -8,11 +9,10 @@ use Rattle.ic_members.specs.declared.members.Members.{Members}
 use Rattle.ic_members.specs.Members.{has_pointer, is_xor}
 use Rattle.ic_members.proofs.AllKinds.{lawful}
 use Rattle.ic_world.specs.declared.call.Refusal.{Refusal}
+use Rattle.ic_world.specs.declared.one_call.Call.TheVariants.{Seek as seek}
 use Rattle.ic_world.specs.declared.seek.Seek.{Seek}
-use Rattle.ic_world.specs.declared.seek.Seek.TheVariants.{On, WithPrev, WithNext}
-use Rattle.ic_world.specs.State.{State, done, moved}
-use Rattle.ic_world.specs.ListCalls.{seek_names, seek_refusal, SeekAccepts, SeekReplies}
-use Rattle.ic_world.specs.Seeks.{Sought, sought}
+use Rattle.ic_world.specs.Calls.{done, moved, names, own_refusal}
+use Rattle.ic_world.specs.Seeks.{Sought}
 use Rattle.ic_world.specs.Turns.{Ran}
 use Rattle.ic_world.proofs.Turned.{turns_still}
 
@@ -23,12 +23,7 @@ pointer_not_xor kind.Doubly e h = cc
 pointer_not_xor kind.Xor e h = cc
 pointer_not_xor kind.Tree e h = cc
 
-accepted : (call : Seek) (s t : State) → t ≡ moved s (Some (sought call)) → SeekAccepts call s t
-accepted (On p) s t h = h
-accepted (WithPrev p prev) s t h = h
-accepted (WithNext p next) s t h = h
-
-pub ran_seek : {A V K M : Type 0} (links : Field M) {m m' : Members A V K} (call : Seek) (result : Result Unit Refusal) → Sought call (look links) m result m'
-    → Ran (seek_names call) (seek_refusal call) (λ a s t. SeekReplies call s done t) links links m m' result
-ran_seek links call (Ok a) e = record { tested = e.tested; turned = turns_still (lawful links) e.moved (λ same. accepted call _ _ same); unchanged = tt }
-ran_seek links call (Err r) e = record { tested = e.tested; turned = tt; unchanged = (refl, e.unchanged) }
+pub ran_seek : {A V K M : Type 0} (links : Field M) {m m' : Members A V K} (call : Seek) (p : Place) (result : Result Unit Refusal) → Sought call p (look links) m result m'
+    → Ran (names {K = K} (seek call)) (own_refusal {K = K} (seek call)) (λ a s t. (done ≡ done) × (t ≡ moved s (Some p))) links links m m' result
+ran_seek links call p (Ok a) e = record { tested = e.tested; turned = turns_still (lawful links) e.moved (λ same. (refl, same)); unchanged = tt }
+ran_seek links call p (Err r) e = record { tested = e.tested; turned = tt; unchanged = (refl, e.unchanged) }

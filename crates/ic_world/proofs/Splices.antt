@@ -12,10 +12,10 @@ use Rattle.ic_members.specs.Members.{Alike, cursor_in}
 use Rattle.ic_members.specs.Edits.{PutsAll}
 use Rattle.ic_members.proofs.AllKinds.{one_sequence}
 use Rattle.ic_world.specs.declared.collection.Collection.{Collection}
-use Rattle.ic_world.specs.Family.{Family, Sequence}
+use Rattle.ic_world.specs.Family.{Family, Sequence, with_collection}
 use Rattle.ic_world.specs.Splices.{Emptied}
 use Rattle.ic_world.specs.Tables.{table, no_table, sequence, seen_as, at, family_of, IsWhole}
-use Rattle.ic_world.specs.Step.{with_collection, with_members}
+use Rattle.ic_world.specs.Several.{with_members}
 use Rattle.ic_world.proofs.Linked.{linked_same}
 use Rattle.ic_world.proofs.Edits.{Edit, after, lawful, edited_lawful, edited_whole, unlinked_family, at_after}
 use Rattle.ic_world.proofs.Opened.{disjoint_none}

@@ -9,7 +9,7 @@ use Rattle.ic_fields.specs.Entries.{is_linked}
 use Rattle.ic_world.specs.declared.call.Refusal.{Refusal}
 use Rattle.ic_world.specs.declared.call.Refusal.TheVariants.{AlreadyLinked}
 use Rattle.ic_world.specs.LinkedSets.{linked_in}
-use Rattle.ic_world.specs.State.{asks}
+use Rattle.ic_world.specs.Calls.{asks}
 use Rattle.ic_world.proofs.Linked.{in_linked_covered}
 
 -- the first test holds, and the rest does

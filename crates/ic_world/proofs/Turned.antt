@@ -17,7 +17,7 @@ use Rattle.ic_members.specs.Members.{kind_in, cursor_in, members_in, Keeps, Held
 use Rattle.ic_members.specs.Edits.{Leaves, Moves, Puts, Takes, Swaps, Empties}
 use Rattle.ic_members.proofs.AllKinds.{IsLawful, one_sequence, held_of}
 use Rattle.ic_world.specs.LinkedSets.{linked_in}
-use Rattle.ic_world.specs.State.{State, put, taken, swapped, moved, having, cleared}
+use Rattle.ic_world.specs.Calls.{State, put, taken, swapped, moved, having, cleared}
 use Rattle.ic_world.specs.Turns.{Each, Turns, state_of}
 use Rattle.ic_world.proofs.Linked.{absent_or, linked_gains, linked_loses, linked_swaps, linked_unlinks}
 

@@ -1,7 +1,7 @@
 -- What an answer says of the call that it answers.
 use Rattle.ic_world.specs.declared.call.Answer.{Answer}
 use Rattle.ic_world.specs.declared.call.Answer.TheVariants as answer
-use Rattle.ic_world.specs.State.{Reply, done, nothing, object, field, opened, items, linked, found, looked, range, entry, refused}
+use Rattle.ic_world.specs.Calls.{Reply, done, nothing, object, field, opened, items, linked, found, looked, range, entry, refused}
 
 -- the reply of the world that an answer prints
 abbrev pub reply_in : {M : Type 0} → Answer M → Reply

@@ -2,8 +2,7 @@
 use Rattle.std.specs.Prelude.{◌≡◌, ◌≢◌, ℕ, Some}
 use Rattle.ic_link_ops.specs.Sequences.{IsDistinct, IsDisjoint}
 use Rattle.ic_link_ops.specs.PlacedObjects.{ArePlaced}
-use Rattle.ic_world.specs.Family.{Family, Sequence}
-use Rattle.ic_world.specs.Step.{collection, objects_of}
+use Rattle.ic_world.specs.Family.{Family, Sequence, collection, objects_of}
 
 module _ {A V : Type 0} where
   -- NO MEMBER IS SHARED: no place stands twice in a collection, nor in two of one field

@@ -1,14 +1,16 @@
--- What a world is, whatever tables keep it: objects, fields and collections.
-use Rattle.std.specs.Prelude.{◌≡◌, ℕ, List, [], ◌∷◌, Option, refl}
+-- WHAT A WORLD IS, whatever tables keep it: objects, fields and collections.
+use Rattle.std.specs.Prelude.{ℕ, Bool, true, false, cond, ◌&&◌, List, [], ◌∷◌, ◌++◌, length, slice_index_or, slice_set, Option, Some, None, is_some, nat_lt, nat_eq}
+use Rattle.std.specs.List.{list_any}
 use Rattle.std.specs.Ordering.{nat_cmp}
 use Rattle.std.specs.FinSet as set
 use Rattle.std.specs.FinMap as map
-use Rattle.std.specs.Coded.{Coded, code_by, coded×, coded_ℕ, coded_list, coded_option}
 use Rattle.ic_unsafe_ref.specs.declared.place.Place.{Place}
-use Rattle.ic_unsafe_ref.specs.Places.{place_code}
+use Rattle.ic_unsafe_ref.specs.Places.{index_of}
+use Rattle.ic_unsafe_ref.specs.Objects.{Objects}
+use Rattle.ic_link_ops.specs.Sequences.{first}
 use Rattle.ic_fields.specs.declared.kind.Kind.{Kind}
-use Rattle.ic_fields.specs.declared.kind.Kind.TheVariants.{Singly, Doubly, Xor, Tree}
-use Rattle.ic_fields.specs.Kinds.{number_of, kind_with}
+use Rattle.ic_fields.specs.declared.kind.Kind.TheVariants.{Singly}
+use Rattle.ic_fields.specs.Kinds.{number_of}
 
 -- a field: the kind of its table, and its linked places by index
 pub record LinkField : Type 0 where
@@ -29,30 +31,76 @@ pub record Family (A V : Type 0) : Type 0 where
   pub fields : List LinkField
   pub collections : List (Option Sequence)
 
--- a kind is stored as its number
-pub kind_again : (k : Kind) → kind_with (number_of k ∷ []) ≡ k
-kind_again Singly = refl
-kind_again Doubly = refl
-kind_again Xor = refl
-kind_again Tree = refl
+-- two kinds are one; two places are; two positions are
+abbrev pub same_kind : Kind → Kind → Bool
+same_kind k l = nat_eq (number_of k) (number_of l)
 
-abbrev pub kind_code : Coded Kind
-kind_code = code_by ℕ coded_ℕ number_of (λ n. kind_with (n ∷ [])) kind_again
+abbrev pub same_place : Place → Place → Bool
+same_place p q = nat_eq (index_of p) (index_of q)
 
-abbrev pub field_code : Coded LinkField
-field_code = code_by (Kind × set.FinSet nat_cmp) (coded× kind_code (set.code coded_ℕ)) (λ f. (f.kind, f.linked)) (λ p. record { kind = p.0; linked = p.1 }) (λ _. refl)
+abbrev pub same_position : Option Place → Option Place → Bool
+same_position None None = true
+same_position (Some p) (Some q) = same_place p q
+same_position _ _ = false
 
-abbrev pub sequence_code : Coded Sequence
-sequence_code =
-    code_by (ℕ × (Kind × (List Place × Option Place))) (coded× coded_ℕ (coded× kind_code (coded× (coded_list place_code) (coded_option place_code))))
-    (λ s. (s.field, (s.kind, (s.members, s.cursor)))) (λ p. record { field = p.0; kind = p.1.0; members = p.1.1.0; cursor = p.1.1.1 }) (λ _. refl)
+-- p stands in s
+abbrev pub is_among : Place → List Place → Bool
+is_among p [] = false
+is_among p (x ∷ s) = cond (same_place x p) true (is_among p s)
 
--- a family is stored as the tuple of its fields
-abbrev pub family_code : {A V : Type 0} → Coded A → Coded V → Coded (Family A V)
-family_code {A} {V} adapter value =
-    code_by
-    (A × (map.FinMap nat_cmp V × (List LinkField × List (Option Sequence))))
-    (coded× adapter (coded× (map.code coded_ℕ value) (coded× (coded_list field_code) (coded_list (coded_option sequence_code)))))
-    (λ w. (w.adapter, (w.objects, (w.fields, w.collections))))
-    (λ p. record { adapter = p.0; objects = p.1.0; fields = p.1.1.0; collections = p.1.1.1 })
-    (λ _. refl)
+-- the member in front of p, `b` where p is the first; the one behind it, none at the back
+abbrev pub before_or : Option Place → List Place → Place → Option Place
+before_or b [] p = None
+before_or b (x ∷ s) p = cond (same_place x p) b (before_or (Some x) s p)
+
+abbrev pub behind_of : List Place → Place → Option Place
+behind_of [] p = None
+behind_of (x ∷ s) p = cond (same_place x p) (first s) (behind_of s p)
+
+-- the member behind a position, at null the first one
+abbrev pub next_of : List Place → Option Place → Option Place
+next_of s None = first s
+next_of s (Some p) = behind_of s p
+
+-- the collection is of that field and has that member
+abbrev pub has_member_in : ℕ → Place → Option Sequence → Bool
+has_member_in f p None = false
+has_member_in f p (Some s) = nat_eq s.field f && is_among p s.members
+
+module _ {A V : Type 0} where
+  -- collection number c; field f; its linked set; whether there is a field f; whether an object stands at p
+  abbrev pub collection : Family A V → ℕ → Option Sequence
+  collection w c = slice_index_or w.collections c None
+
+  abbrev pub field_of : Family A V → ℕ → LinkField
+  field_of w f = slice_index_or w.fields f (record { kind = Singly; linked = set.empty })
+
+  abbrev pub linked_of : Family A V → ℕ → set.FinSet nat_cmp
+  linked_of w f = (field_of w f).linked
+
+  abbrev pub has_field : Family A V → ℕ → Bool
+  has_field w f = nat_lt f (length w.fields)
+
+  abbrev pub is_placed : Family A V → Place → Bool
+  is_placed w p = is_some (map.get w.objects (index_of p))
+
+  -- p is linked in some field; p is a member of some collection of field f
+  abbrev pub is_linked_somewhere : Family A V → Place → Bool
+  is_linked_somewhere w p = list_any (λ (f : LinkField). set.contains f.linked (index_of p)) w.fields
+
+  abbrev pub is_member_in : Family A V → ℕ → Place → Bool
+  is_member_in w f p = list_any (has_member_in f p) w.collections
+
+  -- the values by place, as keyed calls see them
+  abbrev pub objects_of : Family A V → Objects V
+  objects_of w = record { values = w.objects; next = 0 }
+
+  -- field f has these linked places now; collection c is s now, or none; there is one collection more. All else stays
+  abbrev pub with_linked : Family A V → ℕ → set.FinSet nat_cmp → Family A V
+  with_linked w f l = record w { fields = slice_set w.fields f (record { kind = (field_of w f).kind; linked = l }) }
+
+  abbrev pub with_collection : Family A V → ℕ → Option Sequence → Family A V
+  with_collection w c s = record w { collections = slice_set w.collections c s }
+
+  abbrev pub with_opened : Family A V → Sequence → Family A V
+  with_opened w s = record w { collections = w.collections ++ Some s ∷ [] }

@@ -1,10 +1,28 @@
--- The replies that some answers stand for.
-use Rattle.std.specs.Prelude.{Bool, ℕ, Option, Some, None}
+-- The replies that the results of methods stand for.
+use Rattle.std.specs.Prelude.{Bool, ℕ, Option, Some, None, Result, Ok, Err}
 use Rattle.ic_unsafe_ref.specs.declared.place.Place.{Place}
+use Rattle.ic_fields.specs.declared.kind.Kind.{Kind}
+use Rattle.ic_world.specs.declared.call.Refusal.{Refusal}
 use Rattle.ic_world.specs.declared.call.Refusal.TheVariants.{AlreadyLinked}
-use Rattle.ic_world.specs.State.{Reply, entry, refused}
+use Rattle.ic_world.specs.Calls.{Reply, entry, refused}
+use Rattle.ic_world.specs.Family.{Sequence}
+
+-- of a result, where the call was accepted and where it was refused
+abbrev pub reply_of : {A : Type 0} → (A → Reply) → Result A Refusal → Reply
+reply_of accepted (Ok a) = accepted a
+reply_of accepted (Err r) = refused r
+
+-- the same where a refusal hands a value back
+abbrev pub reply_of_value : {A V : Type 0} → (A → Reply) → Result A (Refusal × V) → Reply
+reply_of_value accepted (Ok a) = accepted a
+reply_of_value accepted (Err e) = refused e.0
 
 -- of an entry: none stands for a vacant one of an object that is linked
 abbrev pub entry_or_linked : Option (Bool × Place × ℕ) → Reply
 entry_or_linked (Some e) = entry e.0 e.1 e.2
 entry_or_linked None = refused AlreadyLinked
+
+-- the field and the kind of a collection that is there
+abbrev pub field_and_kind : Option Sequence → Option (ℕ × Kind)
+field_and_kind None = None
+field_and_kind (Some s) = Some (s.field, s.kind)

@@ -12,7 +12,7 @@ use Rattle.ic_members.specs.Members.{kind_in, cursor_in, members_in, Held, Alike
 use Rattle.ic_world.specs.declared.call.Refusal.{Refusal}
 use Rattle.ic_world.specs.declared.call.Refusal.TheVariants.{OutOfMemory}
 use Rattle.ic_world.specs.LinkedSets.{linked_in}
-use Rattle.ic_world.specs.State.{State}
+use Rattle.ic_world.specs.Calls.{State}
 
 -- the refusal that a result is, if it is one
 abbrev pub refusal_in : {A : Type 0} → Result A Refusal → Option Refusal

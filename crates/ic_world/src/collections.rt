@@ -15,9 +15,9 @@ ghost use Rattle.ic_world.specs.Splices.{can_splice, PutsBeside, CanBeJoined, Ar
 use crate::World;
 use crate::call::{Command, Refusal};
 use crate::collection::Collection;
-use crate::edit::Edit;
 use crate::kinds::{has_before, is_list, is_two_way_list, same_kind};
 use crate::part::Part;
+use crate::whole::Whole;
 use crate::world::append;
 use ic_fields::{Field, Kind};
 use ic_members::Members;
@@ -91,8 +91,11 @@ fn join<A: KeyAdapter, M: Allocator>(
 }
 
 impl<A: KeyAdapter, M: Allocator + Copy> World<A, M> {
-    ghost use Rattle.ic_world.specs.Step.{Step, StepSplice, collection as collection_of, field_and_kind, refusal_of_open, refusal_of_splice};
-    ghost use Rattle.ic_world.specs.State.{reply_of, done, opened, items};
+    ghost use Rattle.ic_world.specs.Family.{collection as collection_of};
+    ghost use Rattle.ic_world.specs.Several.{StepSplice, refusal_of_open, refusal_of_splice};
+    ghost use Rattle.ic_world.specs.Step.{Step};
+    ghost use Rattle.ic_world.specs.Calls.{done, opened, items};
+    ghost use Rattle.ic_world.specs.Replies.{reply_of, field_and_kind};
     ghost use Rattle.ic_world.specs.Splices.{IsBesideOf};
     ghost use Rattle.ic_world.specs.Apart.{AreApart, AreAllPlaced};
 
@@ -128,7 +131,7 @@ impl<A: KeyAdapter, M: Allocator + Copy> World<A, M> {
     pub fn dispose(&mut self, collection: usize) -> Result<(), Refusal>
         ensures { Step A.Key.cmp A.key_of self.old (Command.Dispose collection) (reply_of (λ _. done) result) self.new }
     {
-        match self.call(collection, &Edit::Clear) {
+        match self.call(collection, &Whole::Clear) {
             Err(refusal) => Err(refusal),
             Ok(()) => {
                 self.collections[collection] = None;

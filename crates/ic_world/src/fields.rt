@@ -29,8 +29,10 @@ fn covering<M: Allocator>(alloc: M, kind: Kind, room: usize) -> Option<Field<M>>
 }
 
 impl<A: KeyAdapter, M: Allocator + Copy> World<A, M> {
-    ghost use Rattle.ic_world.specs.Step.{Step, is_placed, is_member_in, has_field};
-    ghost use Rattle.ic_world.specs.State.{reply_of, field, done, linked};
+    ghost use Rattle.ic_world.specs.Step.{Step};
+    ghost use Rattle.ic_world.specs.Family.{is_placed, is_member_in, has_field};
+    ghost use Rattle.ic_world.specs.Replies.{reply_of};
+    ghost use Rattle.ic_world.specs.Calls.{field, done, linked};
 
     /// Makes a field with no collection, which covers the objects that are there, and answers its number.
     ///

@@ -8,16 +8,17 @@
 ghost use Rattle.std.specs.Prelude.{◌≡◌};
 
 use crate::call::Refusal;
+use crate::gaps::is_linked;
 use crate::kinds::is_tree;
-use crate::one_call::{OneCall, is_linked};
-use ic_fields::Field;
+use crate::one_call::OneCall;
+use ic_fields::{Field, Kind};
 use ic_members::Members;
 use ic_rbtree::KeyAdapter;
 use ic_unsafe_ref::{Objects, Place};
 use std::alloc::Allocator;
 
 /// An object goes where its own key belongs, behind members with the same key.
-#[derive(Clone, Copy, Debug)]
+#[derive(Clone, Copy)]
 pub enum Insertion {
     /// The cursor goes to the object.
     Insert(Place),
@@ -26,14 +27,19 @@ pub enum Insertion {
 }
 
 impl<A: KeyAdapter> OneCall<A> for Insertion {
-    ghost use Rattle.ic_world.specs.Calls.{insertion};
-    ghost use Rattle.ic_world.specs.State.{looked};
+    ghost use Rattle.ic_world.specs.declared.one_call.Call.TheVariants.{Insertion as insertion};
+    ghost use Rattle.ic_world.specs.Calls.{looked};
 
     type Answer = u64;
 
     ghost call = { insertion };
 
     ghost reply = { looked };
+
+    #[inline]
+    fn is_of(&self, kind: Kind) -> bool {
+        is_tree(kind)
+    }
 
     #[inline]
     fn is_placed<M: Allocator>(&self, objects: &Objects<A::Value, M>) -> bool {
@@ -50,9 +56,6 @@ impl<A: KeyAdapter> OneCall<A> for Insertion {
         objects: &Objects<A::Value, M>,
         adapter: A,
     ) -> Result<u64, Refusal> {
-        if !is_tree(members.kind()) {
-            return Err(Refusal::WrongKind);
-        }
         match *self {
             Insertion::Insert(object) => {
                 if is_linked(links, object) {
@@ -71,14 +74,14 @@ impl<A: KeyAdapter> OneCall<A> for Insertion {
 }
 
 /// The entry of a key, and the object that goes in where no member has it.
-#[derive(Clone, Copy, Debug)]
+#[derive(Clone, Copy)]
 pub struct EntryAt<K> {
     pub key: K,
     pub object: Place,
 }
 
 impl<A: KeyAdapter> OneCall<A> for EntryAt<A::Key> {
-    ghost use Rattle.ic_world.specs.Calls.{enter};
+    ghost use Rattle.ic_world.specs.declared.one_call.Call.TheVariants.{Enter as enter};
     ghost use Rattle.ic_world.specs.Replies.{entry_or_linked};
 
     // `None`: no member has the key, and the object is linked.
@@ -87,6 +90,11 @@ impl<A: KeyAdapter> OneCall<A> for EntryAt<A::Key> {
     ghost call = { λ e. enter e.key e.object };
 
     ghost reply = { entry_or_linked };
+
+    #[inline]
+    fn is_of(&self, kind: Kind) -> bool {
+        is_tree(kind)
+    }
 
     #[inline]
     fn is_placed<M: Allocator>(&self, objects: &Objects<A::Value, M>) -> bool {
@@ -100,9 +108,6 @@ impl<A: KeyAdapter> OneCall<A> for EntryAt<A::Key> {
         objects: &Objects<A::Value, M>,
         adapter: A,
     ) -> Result<Option<(bool, Place, u64)>, Refusal> {
-        if !is_tree(members.kind()) {
-            return Err(Refusal::WrongKind);
-        }
         Ok(members.entry(links, objects, adapter, &self.key, self.object))
     }
 }

@@ -22,7 +22,8 @@ where
     A::Key: Drop,
 {
     ghost use Rattle.ic_world.specs.Step.{Step};
-    ghost use Rattle.ic_world.specs.State.{reply_of, found, looked, entry, range};
+    ghost use Rattle.ic_world.specs.Replies.{reply_of};
+    ghost use Rattle.ic_world.specs.Calls.{found, looked, entry, range};
 
     /// Puts the cursor on the first member of this key, to null if there is none, and answers it with the looks. O(log n).
     ///

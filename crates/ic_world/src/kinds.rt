@@ -6,8 +6,7 @@
 
 ghost use Rattle.std.specs.Prelude.{◌≡◌};
 ghost use Rattle.ic_members.specs.Members as kinds;
-ghost use Rattle.ic_world.specs.Step as step;
-ghost use Rattle.ic_world.specs.Among as among;
+ghost use Rattle.ic_world.specs.Family as family;
 
 use ic_fields::Kind;
 use ic_unsafe_ref::Place;
@@ -68,7 +67,7 @@ pub(crate) fn has_pointer(kind: Kind) -> bool
 // Whether two kinds are one.
 #[inline]
 pub(crate) fn same_kind(kind: Kind, other: Kind) -> bool
-    ensures { result ≡ step.same_kind kind other }
+    ensures { result ≡ family.same_kind kind other }
 {
     kind as u8 == other as u8
 }
@@ -76,7 +75,7 @@ pub(crate) fn same_kind(kind: Kind, other: Kind) -> bool
 // Whether two positions are one.
 #[inline]
 pub(crate) fn same_position(position: Option<Place>, other: Option<Place>) -> bool
-    ensures { result ≡ among.same_position position other }
+    ensures { result ≡ family.same_position position other }
 {
     match (position, other) {
         (None, None) => true,

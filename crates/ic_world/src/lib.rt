@@ -13,8 +13,8 @@
 mod call;
 mod collection;
 mod collections;
-mod edit;
 mod fields;
+mod gaps;
 mod insertion;
 mod keyed_calls;
 mod kinds;
@@ -22,12 +22,10 @@ mod list_calls;
 mod objects;
 mod one_call;
 mod part;
-mod pick;
 mod run;
 mod search;
 mod seek;
-mod swap;
-mod target;
+mod whole;
 mod world;
 
 pub use call::{Answer, Command, Refusal};

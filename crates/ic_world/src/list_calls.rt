@@ -10,18 +10,19 @@ ghost use Rattle.std.specs.Prelude.{◌≡◌};
 
 use crate::World;
 use crate::call::{Command, Refusal};
-use crate::edit::Edit;
-use crate::pick::Pick;
-use crate::seek::Seek;
-use crate::swap::Swap;
+use crate::gaps::{Put, Swap, Take};
+use crate::one_call::{Direction, Where};
+use crate::seek::{Move, Seek};
+use crate::whole::Whole;
 use ic_rbtree::KeyAdapter;
 use ic_unsafe_ref::Place;
 use std::alloc::Allocator;
 
 impl<A: KeyAdapter, M: Allocator + Copy> World<A, M> {
     ghost use Rattle.ic_world.specs.Step.{Step};
-    ghost use Rattle.ic_world.specs.State as state;
-    ghost use Rattle.ic_world.specs.State.{reply_of, done, object_or_nothing};
+    ghost use Rattle.ic_world.specs.Calls as state;
+    ghost use Rattle.ic_world.specs.Calls.{done, object_or_nothing};
+    ghost use Rattle.ic_world.specs.Replies.{reply_of};
 
     /// Puts an object in front of all members of a list, and the cursor to null. O(1).
     ///
@@ -29,7 +30,7 @@ impl<A: KeyAdapter, M: Allocator + Copy> World<A, M> {
     pub fn push_front(&mut self, collection: usize, object: Place) -> Result<(), Refusal>
         ensures { Step A.Key.cmp A.key_of self.old (Command.PushFront collection object) (reply_of (λ _. done) result) self.new }
     {
-        self.call(collection, &Edit::PushFront(object))
+        self.call(collection, &Put(Where::Front, object))
     }
 
     /// Puts an object behind all members of a doubly linked or an XOR list, and the cursor to null. O(1).
@@ -38,7 +39,7 @@ impl<A: KeyAdapter, M: Allocator + Copy> World<A, M> {
     pub fn push_back(&mut self, collection: usize, object: Place) -> Result<(), Refusal>
         ensures { Step A.Key.cmp A.key_of self.old (Command.PushBack collection object) (reply_of (λ _. done) result) self.new }
     {
-        self.call(collection, &Edit::PushBack(object))
+        self.call(collection, &Put(Where::Back, object))
     }
 
     /// Takes the first member out of a list and answers it, `None` where there is none, and puts the cursor to null. O(1).
@@ -47,7 +48,7 @@ impl<A: KeyAdapter, M: Allocator + Copy> World<A, M> {
     pub fn pop_front(&mut self, collection: usize) -> Result<Option<Place>, Refusal>
         ensures { Step A.Key.cmp A.key_of self.old (Command.PopFront collection) (reply_of object_or_nothing result) self.new }
     {
-        self.call(collection, &Pick::PopFront)
+        self.call(collection, &Take(Where::Front))
     }
 
     /// Takes the last member out of a doubly linked or an XOR list and answers it, `None` where there is none, and puts the cursor to
@@ -57,7 +58,7 @@ impl<A: KeyAdapter, M: Allocator + Copy> World<A, M> {
     pub fn pop_back(&mut self, collection: usize) -> Result<Option<Place>, Refusal>
         ensures { Step A.Key.cmp A.key_of self.old (Command.PopBack collection) (reply_of object_or_nothing result) self.new }
     {
-        self.call(collection, &Pick::PopBack)
+        self.call(collection, &Take(Where::Back))
     }
 
     /// Moves the cursor to the next member, from null to the first one and from the last one to null, and answers where it is. O(1), in
@@ -67,7 +68,7 @@ impl<A: KeyAdapter, M: Allocator + Copy> World<A, M> {
     pub fn move_next(&mut self, collection: usize) -> Result<Option<Place>, Refusal>
         ensures { Step A.Key.cmp A.key_of self.old (Command.MoveNext collection) (reply_of object_or_nothing result) self.new }
     {
-        self.call(collection, &Pick::MoveNext)
+        self.call(collection, &Move(Direction::Next))
     }
 
     /// Moves the cursor to the previous member, from null to the last one and from the first one to null, and answers where it is. O(1),
@@ -77,7 +78,7 @@ impl<A: KeyAdapter, M: Allocator + Copy> World<A, M> {
     pub fn move_prev(&mut self, collection: usize) -> Result<Option<Place>, Refusal>
         ensures { Step A.Key.cmp A.key_of self.old (Command.MovePrev collection) (reply_of object_or_nothing result) self.new }
     {
-        self.call(collection, &Pick::MovePrev)
+        self.call(collection, &Move(Direction::Prev))
     }
 
     /// Moves the cursor to null. O(1).
@@ -86,7 +87,7 @@ impl<A: KeyAdapter, M: Allocator + Copy> World<A, M> {
     pub fn go_null(&mut self, collection: usize) -> Result<(), Refusal>
         ensures { Step A.Key.cmp A.key_of self.old (Command.GoNull collection) (reply_of (λ _. done) result) self.new }
     {
-        self.call(collection, &Edit::GoNull)
+        self.call(collection, &Seek::Null)
     }
 
     /// The member that the cursor is on, `None` at null. O(1).
@@ -121,7 +122,7 @@ impl<A: KeyAdapter, M: Allocator + Copy> World<A, M> {
     ) -> Result<(), Refusal>
         ensures { Step A.Key.cmp A.key_of self.old (Command.SeekWithPrev collection object prev) (reply_of (λ _. done) result) self.new }
     {
-        self.call(collection, &Seek::WithPrev(object, prev))
+        self.call(collection, &Seek::With(Direction::Prev, object, prev))
     }
 
     /// Puts the cursor of an XOR list on a member, with the one behind it, `None` at the back. O(members).
@@ -135,7 +136,7 @@ impl<A: KeyAdapter, M: Allocator + Copy> World<A, M> {
     ) -> Result<(), Refusal>
         ensures { Step A.Key.cmp A.key_of self.old (Command.SeekWithNext collection object next) (reply_of (λ _. done) result) self.new }
     {
-        self.call(collection, &Seek::WithNext(object, next))
+        self.call(collection, &Seek::With(Direction::Next, object, next))
     }
 
     /// Puts an object behind the cursor, at null in front of all. The cursor stays. O(1), in a tree O(log n).
@@ -144,7 +145,7 @@ impl<A: KeyAdapter, M: Allocator + Copy> World<A, M> {
     pub fn insert_after(&mut self, collection: usize, object: Place) -> Result<(), Refusal>
         ensures { Step A.Key.cmp A.key_of self.old (Command.InsertAfter collection object) (reply_of (λ _. done) result) self.new }
     {
-        self.call(collection, &Edit::InsertAfter(object))
+        self.call(collection, &Put(Where::After, object))
     }
 
     /// Puts an object in front of the cursor, at null behind all. The cursor stays. O(1), in a tree O(log n).
@@ -153,7 +154,7 @@ impl<A: KeyAdapter, M: Allocator + Copy> World<A, M> {
     pub fn insert_before(&mut self, collection: usize, object: Place) -> Result<(), Refusal>
         ensures { Step A.Key.cmp A.key_of self.old (Command.InsertBefore collection object) (reply_of (λ _. done) result) self.new }
     {
-        self.call(collection, &Edit::InsertBefore(object))
+        self.call(collection, &Put(Where::Before, object))
     }
 
     /// Takes the member out that the cursor is on and answers it, `None` at null. The cursor goes on to the next member. O(1), in a tree
@@ -163,7 +164,7 @@ impl<A: KeyAdapter, M: Allocator + Copy> World<A, M> {
     pub fn remove(&mut self, collection: usize) -> Result<Option<Place>, Refusal>
         ensures { Step A.Key.cmp A.key_of self.old (Command.Remove collection) (reply_of object_or_nothing result) self.new }
     {
-        self.call(collection, &Pick::Remove)
+        self.call(collection, &Take(Where::Before))
     }
 
     /// Takes the member behind the cursor of a singly linked list out and answers it, at null the first one; `None` where there is none.
@@ -173,7 +174,7 @@ impl<A: KeyAdapter, M: Allocator + Copy> World<A, M> {
     pub fn remove_next(&mut self, collection: usize) -> Result<Option<Place>, Refusal>
         ensures { Step A.Key.cmp A.key_of self.old (Command.RemoveNext collection) (reply_of object_or_nothing result) self.new }
     {
-        self.call(collection, &Pick::RemoveNext)
+        self.call(collection, &Take(Where::After))
     }
 
     /// Puts an object in the place of the member that the cursor is on, which it answers. The cursor is on the object then. O(1).
@@ -182,7 +183,7 @@ impl<A: KeyAdapter, M: Allocator + Copy> World<A, M> {
     pub fn replace_with(&mut self, collection: usize, object: Place) -> Result<Place, Refusal>
         ensures { Step A.Key.cmp A.key_of self.old (Command.ReplaceWith collection object) (reply_of (λ p. state.object p) result) self.new }
     {
-        self.call(collection, &Swap::ReplaceWith(object))
+        self.call(collection, &Swap(Where::Before, object))
     }
 
     /// Puts an object in the place of the member behind the cursor of a singly linked list, at null of the first one, which it answers.
@@ -192,7 +193,7 @@ impl<A: KeyAdapter, M: Allocator + Copy> World<A, M> {
     pub fn replace_next_with(&mut self, collection: usize, object: Place) -> Result<Place, Refusal>
         ensures { Step A.Key.cmp A.key_of self.old (Command.ReplaceNextWith collection object) (reply_of (λ p. state.object p) result) self.new }
     {
-        self.call(collection, &Swap::ReplaceNextWith(object))
+        self.call(collection, &Swap(Where::After, object))
     }
 
     /// Turns an XOR list round, and puts the cursor to null. O(1).
@@ -201,7 +202,7 @@ impl<A: KeyAdapter, M: Allocator + Copy> World<A, M> {
     pub fn reverse(&mut self, collection: usize) -> Result<(), Refusal>
         ensures { Step A.Key.cmp A.key_of self.old (Command.Reverse collection) (reply_of (λ _. done) result) self.new }
     {
-        self.call(collection, &Edit::Reverse)
+        self.call(collection, &Whole::Reverse)
     }
 
     /// Takes all members out, and puts the cursor to null. O(members).
@@ -210,7 +211,7 @@ impl<A: KeyAdapter, M: Allocator + Copy> World<A, M> {
     pub fn clear(&mut self, collection: usize) -> Result<(), Refusal>
         ensures { Step A.Key.cmp A.key_of self.old (Command.Clear collection) (reply_of (λ _. done) result) self.new }
     {
-        self.call(collection, &Edit::Clear)
+        self.call(collection, &Whole::Clear)
     }
 
     /// Takes all members out and leaves them linked, until [`World::force_unlink`], and puts the cursor to null. O(1).
@@ -219,6 +220,6 @@ impl<A: KeyAdapter, M: Allocator + Copy> World<A, M> {
     pub fn fast_clear(&mut self, collection: usize) -> Result<(), Refusal>
         ensures { Step A.Key.cmp A.key_of self.old (Command.FastClear collection) (reply_of (λ _. done) result) self.new }
     {
-        self.call(collection, &Edit::FastClear)
+        self.call(collection, &Whole::FastClear)
     }
 }

@@ -92,7 +92,8 @@ fn is_linked_in_any<M: Allocator>(tables: &[Field<M>], object: Place) -> bool
 
 impl<A: KeyAdapter, M: Allocator + Copy> World<A, M> {
     ghost use Rattle.ic_world.specs.Step.{Step};
-    ghost use Rattle.ic_world.specs.State.{reply_of, reply_of_value, object, done};
+    ghost use Rattle.ic_world.specs.Replies.{reply_of, reply_of_value};
+    ghost use Rattle.ic_world.specs.Calls.{object, done};
 
     /// Places a value where no object stands, with room for it in each field first, and answers the place.
     ///

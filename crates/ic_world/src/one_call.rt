@@ -1,7 +1,8 @@
-//! The calls of one collection: each type of answer has a type of calls of its own.
+//! The calls of one collection. Each type of answer has a type of calls of its own.
 //!
 //! ```text
-//! Pick::PopFront.run(&mut members, &mut links, &objects, adapter)? // the first member, or none
+//! call_of(Command::PopFront(2)) // Some((2, Call::Take(Where::Front)))
+//! call_of(Command::Show(2))     // None: its answer takes memory
 //! ```
 
 ghost use Rattle.std.specs.Prelude.{◌≡◌, true};
@@ -10,38 +11,88 @@ ghost use Rattle.ic_unsafe_ref.specs.Objects.{is_placed as place_is_placed};
 ghost use Rattle.ic_link_ops.specs.Tables.{IsCovered};
 ghost use Rattle.ic_link_ops.specs.PlacedObjects.{ArePlaced};
 ghost use Rattle.ic_fields.specs.Fields.{look};
-ghost use Rattle.ic_fields.specs.Entries.{is_linked as entry_is_linked};
-ghost use Rattle.ic_unsafe_ref.specs.Places.{index_of};
-ghost use Rattle.std.specs.FinSet as set;
-ghost use Rattle.ic_world.specs.LinkedSets.{linked_in};
 ghost use Rattle.ic_members.specs.Members.{kind_in, adapter_in, adapter_for, members_in, Held};
 ghost use Rattle.ic_world.specs.Turns.{Each, Ran};
-ghost use Rattle.ic_world.specs.State.{Reply};
-ghost use Rattle.ic_world.specs.Calls.{Call, names, refusal_of, Replies};
+ghost use Rattle.ic_world.specs.Calls.{Reply, names, has_call, own_refusal, Replies};
+ghost use Rattle.ic_world.specs.Step.{call_of as call_meant};
 
-use crate::call::Refusal;
-use ic_fields::Field;
+use crate::call::{Command, Refusal};
+use crate::insertion::Insertion;
+use crate::search::Search;
+use crate::seek::Seek;
+use crate::whole::Whole;
+use ic_fields::{Field, Kind};
 use ic_members::Members;
 use ic_rbtree::KeyAdapter;
 use ic_unsafe_ref::{Objects, Place};
 use std::alloc::Allocator;
 
+/// A gap of a collection. A call that means a member means the one behind the gap, and at the back the one in front of it.
+#[derive(Clone, Copy)]
+pub enum Where {
+    /// In front of all members.
+    Front,
+    /// Behind all members.
+    Back,
+    /// In front of the cursor, at null behind all.
+    Before,
+    /// Behind the cursor, at null in front of all.
+    After,
+}
+
+/// A way through a collection.
+#[derive(Clone, Copy)]
+pub enum Direction {
+    /// To the next member.
+    Next,
+    /// To the previous member.
+    Prev,
+}
+
 /// A call of one collection.
+pub enum Call<K> {
+    /// An object goes into a gap.
+    Put(Where, Place),
+    /// A member goes out.
+    Take(Where),
+    /// An object takes the place of a member.
+    Swap(Where, Place),
+    /// The cursor moves to a neighbor.
+    Move(Direction),
+    /// The cursor goes to null or to a member that is named.
+    Seek(Seek),
+    /// All members go out, or are turned round.
+    Whole(Whole),
+    /// A key is searched for.
+    Search(Search<K>),
+    /// An object goes where its key belongs.
+    Insertion(Insertion),
+    /// The entry of a key: a member, or the object that goes in there.
+    Enter(K, Place),
+}
+
+/// A call of one collection, with the type of what it answers.
 pub trait OneCall<A: KeyAdapter> {
     /// What it answers.
     type Answer;
+
+    ghost use Rattle.ic_world.specs.declared.one_call.Call.{Call};
 
     // The call, and the reply that an answer stands for.
     ghost call: { Self → Call A.Key };
 
     ghost reply: { Self.Answer → Reply };
 
+    /// Whether a kind has the call.
+    fn is_of(&self, kind: Kind) -> bool
+        ensures { result ≡ has_call (call self.now) kind };
+
     /// Whether an object stands at each place that the call names.
     fn is_placed<M: Allocator>(&self, objects: &Objects<A::Value, M>) -> bool
         ensures { result ≡ list_all (place_is_placed objects.now) (names (call self.now)) };
 
-    /// Does the call. It asks that the table keeps the collection, that an object stands at each member and at each place that the
-    /// call names, and that these are covered. A refusal changes nothing.
+    /// Does the call. It asks that the kind has it, that the table keeps the collection, that an object stands at each member and at
+    /// each place that the call names, and that these are covered. A refusal changes nothing.
     fn run<M: Allocator>(
         &self,
         members: &mut Members<A>,
@@ -51,20 +102,66 @@ pub trait OneCall<A: KeyAdapter> {
     ) -> Result<Self::Answer, Refusal>
         requires held { Held (look links.old) members.old }
         requires adapter { adapter_in members.old ≡ adapter_for (kind_in members.old) adapter }
+        requires can { has_call (call self.now) (kind_in members.old) ≡ true }
         requires covered { Each (IsCovered (look links.old)) (names (call self.now)) }
-        requires named { list_all (place_is_placed objects.now) (names (call self.now)) ≡ true }
         requires placed { ArePlaced objects.now (members_in (look links.old) members.old) }
-        ensures { Ran (names (call self.now)) (refusal_of (call self.now))
+        requires named { list_all (place_is_placed objects.now) (names (call self.now)) ≡ true }
+        ensures { Ran (names (call self.now)) (own_refusal (call self.now))
             (λ a s t. Replies A.Key.cmp (A.key_of adapter) objects.now (call self.now) s (reply a) t)
             links.old links.new members.old members.new result };
 }
 
-/// Whether the object is linked in the field of a table.
+/// The call of one collection that the command is, with the collection's number. None of the other commands.
 #[inline]
-pub(crate) fn is_linked<M: Allocator>(links: &Field<M>, object: Place) -> bool
-    requires covered { IsCovered (look links.now) object }
-    ensures entry { result ≡ entry_is_linked ((look links.now).entry object) }
-    ensures set { result ≡ set.contains (linked_in (look links.now)) (index_of object) }
+pub(crate) fn call_of<V: Copy, K: Copy>(command: Command<V, K>) -> Option<(usize, Call<K>)>
+    ensures { result ≡ call_meant command }
 {
-    links.is_linked(object)
+    match command {
+        Command::PushFront(c, o) => Some((c, Call::Put(Where::Front, o))),
+        Command::PushBack(c, o) => Some((c, Call::Put(Where::Back, o))),
+        Command::InsertBefore(c, o) => Some((c, Call::Put(Where::Before, o))),
+        Command::InsertAfter(c, o) => Some((c, Call::Put(Where::After, o))),
+        Command::PopFront(c) => Some((c, Call::Take(Where::Front))),
+        Command::PopBack(c) => Some((c, Call::Take(Where::Back))),
+        Command::Remove(c) => Some((c, Call::Take(Where::Before))),
+        Command::RemoveNext(c) => Some((c, Call::Take(Where::After))),
+        Command::ReplaceWith(c, o) => Some((c, Call::Swap(Where::Before, o))),
+        Command::ReplaceNextWith(c, o) => Some((c, Call::Swap(Where::After, o))),
+        Command::MoveNext(c) => Some((c, Call::Move(Direction::Next))),
+        Command::MovePrev(c) => Some((c, Call::Move(Direction::Prev))),
+        Command::GoNull(c) => Some((c, Call::Seek(Seek::Null))),
+        Command::Seek(c, o) => Some((c, Call::Seek(Seek::On(o)))),
+        Command::SeekWithPrev(c, o, prev) => {
+            Some((c, Call::Seek(Seek::With(Direction::Prev, o, prev))))
+        }
+        Command::SeekWithNext(c, o, next) => {
+            Some((c, Call::Seek(Seek::With(Direction::Next, o, next))))
+        }
+        Command::Clear(c) => Some((c, Call::Whole(Whole::Clear))),
+        Command::FastClear(c) => Some((c, Call::Whole(Whole::FastClear))),
+        Command::Reverse(c) => Some((c, Call::Whole(Whole::Reverse))),
+        Command::Find(c, key) => Some((c, Call::Search(Search::Find(key)))),
+        Command::LowerBound(c, bound) => Some((c, Call::Search(Search::LowerBound(bound)))),
+        Command::UpperBound(c, bound) => Some((c, Call::Search(Search::UpperBound(bound)))),
+        Command::Insert(c, o) => Some((c, Call::Insertion(Insertion::Insert(o)))),
+        Command::CursorInsert(c, o) => Some((c, Call::Insertion(Insertion::CursorInsert(o)))),
+        Command::Entry(c, key, o) => Some((c, Call::Enter(key, o))),
+        Command::Place(_)
+        | Command::RemoveObject(_)
+        | Command::SetValue(..)
+        | Command::AddField(_)
+        | Command::Open(..)
+        | Command::Dispose(_)
+        | Command::Take(_)
+        | Command::Show(_)
+        | Command::ShowBack(_)
+        | Command::Current(_)
+        | Command::SpliceAfter(..)
+        | Command::SpliceBefore(..)
+        | Command::SplitAfter(_)
+        | Command::SplitBefore(_)
+        | Command::Range(..)
+        | Command::IsLinked(..)
+        | Command::ForceUnlink(..) => None,
+    }
 }

@@ -1,10 +1,11 @@
 //! Which members are handed out to a collection more.
 
-ghost use Rattle.std.specs.Prelude.{◌≡◌, IfOk, OnErr};
+ghost use Rattle.std.specs.Prelude.{◌≡◌, None, IfOk, OnErr};
 ghost use Rattle.ic_fields.specs.Fields.{look};
 ghost use Rattle.ic_members.specs.Members.{kind_in, adapter_in, adapter_for, Held};
-ghost use Rattle.ic_world.specs.Turns.{HandsOut, refusal_in, asks_room, state_of};
-ghost use Rattle.ic_world.specs.Handing.{part_refusal, PartsOf};
+ghost use Rattle.ic_world.specs.Turns.{HandsOut, refusal_in, asks_room};
+ghost use Rattle.ic_world.specs.Calls.{asks};
+ghost use Rattle.ic_world.specs.Several.{has_part, PartsOf};
 
 use crate::call::Refusal;
 use crate::kinds::{is_list, is_two_way_list};
@@ -14,7 +15,7 @@ use ic_rbtree::KeyAdapter;
 use std::alloc::Allocator;
 
 /// Which members are handed out.
-#[derive(Clone, Copy, Debug)]
+#[derive(Clone, Copy)]
 pub enum Part {
     /// All of them. The cursor goes to null.
     All,
@@ -35,7 +36,7 @@ impl Part {
     ) -> Result<Members<A>, Refusal>
         requires held { Held (look links.old) members.old }
         requires adapter { adapter_in members.old ≡ adapter_for (kind_in members.old) adapter }
-        ensures tested { refusal_in result ≡ asks_room has_room (part_refusal self (state_of (look links.old) members.old)) }
+        ensures tested { refusal_in result ≡ asks_room has_room (asks (has_part self (kind_in members.old)) Refusal.WrongKind None) }
         ensures parted { IfOk result (λ handed. HandsOut (PartsOf self) (look links.old) (look links.new) members.old members.new handed) }
         ensures unchanged { OnErr result ((links.new ≡ links.old) × (members.new ≡ members.old)) }
     {

@@ -7,13 +7,15 @@
 
 ghost use Rattle.std.specs.Prelude.{◌≡◌, ◌++◌, List, map as map_list, OnOk, OnErr};
 ghost use Rattle.ic_world.specs.Answers.{reply_in};
-ghost use Rattle.ic_world.specs.State as state;
-ghost use Rattle.ic_world.specs.State.{reply_of};
+ghost use Rattle.ic_world.specs.Calls as state;
+ghost use Rattle.ic_world.specs.Replies.{reply_of};
 
 use crate::World;
 use crate::call::{Answer, Command, Refusal};
+use crate::gaps::{Put, Swap, Take};
 use crate::insertion::EntryAt;
-use crate::target::{Call, target};
+use crate::one_call::{Call, call_of};
+use crate::seek::Move;
 use ic_rbtree::KeyAdapter;
 use ic_unsafe_ref::Place;
 use std::alloc::{AllocError, Allocator};
@@ -25,6 +27,18 @@ fn done<M: Allocator>(answer: Result<(), Refusal>) -> Answer<M>
 {
     match answer {
         Ok(()) => Answer::Done,
+        Err(refusal) => Answer::Refused(refusal),
+    }
+}
+
+// A call that answers an object, or none.
+#[inline]
+fn object<M: Allocator>(answer: Result<Option<Place>, Refusal>) -> Answer<M>
+    ensures { reply_in result ≡ reply_of state.object_or_nothing answer }
+{
+    match answer {
+        Ok(Some(place)) => Answer::Object(place),
+        Ok(None) => Answer::Nothing,
         Err(refusal) => Answer::Refused(refusal),
     }
 }
@@ -56,8 +70,7 @@ where
     A::Value: Copy,
     A::Key: Copy,
 {
-    ghost use Rattle.ic_world.specs.Step.{Step, StepOn};
-    ghost use Rattle.ic_world.specs.Runs.{Runs};
+    ghost use Rattle.ic_world.specs.Step.{Step, StepOn, Runs};
 
     // Makes a call of one collection, and answers what it answered.
     #[inline(always)]
@@ -65,14 +78,12 @@ where
         ensures { StepOn A.Key.cmp A.key_of self.old c call (reply_in result) self.new }
     {
         match call {
-            Call::Edit(edit) => done(self.call(c, &edit)),
+            Call::Put(at, object) => done(self.call(c, &Put(at, object))),
             Call::Seek(seek) => done(self.call(c, &seek)),
-            Call::Pick(pick) => match self.call(c, &pick) {
-                Ok(Some(place)) => Answer::Object(place),
-                Ok(None) => Answer::Nothing,
-                Err(refusal) => Answer::Refused(refusal),
-            },
-            Call::Swap(swap) => match self.call(c, &swap) {
+            Call::Whole(whole) => done(self.call(c, &whole)),
+            Call::Take(at) => object(self.call(c, &Take(at))),
+            Call::Move(way) => object(self.call(c, &Move(way))),
+            Call::Swap(at, object) => match self.call(c, &Swap(at, object)) {
                 Ok(place) => Answer::Object(place),
                 Err(refusal) => Answer::Refused(refusal),
             },
@@ -96,7 +107,7 @@ where
     pub fn answer(&mut self, command: Command<A::Value, A::Key>) -> Answer<M>
         ensures { Step A.Key.cmp A.key_of self.old command (reply_in result) self.new }
     {
-        if let Some((c, call)) = target(command) {
+        if let Some((c, call)) = call_of(command) {
             return self.answer_on(c, call);
         }
         match command {
@@ -124,6 +135,7 @@ where
                 Ok((places, first, second)) => Answer::Range(places, first, second),
                 Err(refusal) => Answer::Refused(refusal),
             },
+            Command::Current(c) => object(self.current(c)),
             Command::ForceUnlink(field, o) => done(self.force_unlink(field, o)),
             Command::Dispose(c) => done(self.dispose(c)),
             Command::SpliceAfter(c, d) => done(self.splice_after(c, d)),

@@ -9,14 +9,14 @@ ghost use Rattle.std.specs.Prelude.{◌≡◌};
 use crate::call::Refusal;
 use crate::kinds::is_tree;
 use crate::one_call::OneCall;
-use ic_fields::Field;
+use ic_fields::{Field, Kind};
 use ic_members::Members;
 use ic_rbtree::{Bound, KeyAdapter};
 use ic_unsafe_ref::{Objects, Place};
 use std::alloc::Allocator;
 
 /// What is searched.
-#[derive(Clone, Copy, Debug)]
+#[derive(Clone, Copy)]
 pub enum Search<K> {
     /// The first member with a key.
     Find(K),
@@ -27,14 +27,19 @@ pub enum Search<K> {
 }
 
 impl<A: KeyAdapter> OneCall<A> for Search<A::Key> {
-    ghost use Rattle.ic_world.specs.Calls.{search};
-    ghost use Rattle.ic_world.specs.State.{found};
+    ghost use Rattle.ic_world.specs.declared.one_call.Call.TheVariants.{Search as search};
+    ghost use Rattle.ic_world.specs.Calls.{found};
 
     type Answer = (Option<Place>, u64);
 
     ghost call = { search };
 
     ghost reply = { λ answer. found answer.0 answer.1 };
+
+    #[inline]
+    fn is_of(&self, kind: Kind) -> bool {
+        is_tree(kind)
+    }
 
     #[inline]
     fn is_placed<M: Allocator>(&self, objects: &Objects<A::Value, M>) -> bool {
@@ -49,9 +54,6 @@ impl<A: KeyAdapter> OneCall<A> for Search<A::Key> {
         objects: &Objects<A::Value, M>,
         adapter: A,
     ) -> Result<(Option<Place>, u64), Refusal> {
-        if !is_tree(members.kind()) {
-            return Err(Refusal::WrongKind);
-        }
         match self {
             Search::Find(key) => Ok(members.find(links, objects, adapter, key)),
             Search::LowerBound(bound) => Ok(members.lower_bound(links, objects, adapter, bound)),

@@ -3,7 +3,8 @@
 ghost use Rattle.std.specs.Prelude.{◌≡◌, [], Some, None, IfSome, IfNone};
 ghost use Rattle.ic_fields.specs.Fields.{look};
 ghost use Rattle.std.specs.FinMap as map;
-ghost use Rattle.ic_world.specs.State.{reply_of, opened};
+ghost use Rattle.ic_world.specs.Calls.{opened};
+ghost use Rattle.ic_world.specs.Replies.{reply_of};
 ghost use Rattle.ic_world.specs.Pieces.{Appends};
 
 use crate::call::Refusal;
@@ -46,7 +47,8 @@ pub(crate) fn append<T: Drop, M: Allocator>(list: &mut Vec<T, M>, item: T) -> Re
 
 impl<A: KeyAdapter, M: Allocator + Copy> Model for World<A, M> {
     ghost use Rattle.std.specs.Prelude.{map};
-    ghost use Rattle.ic_world.specs.Family.{Family, family_code};
+    ghost use Rattle.ic_world.specs.Family.{Family};
+    ghost use Rattle.ic_world.specs.FamilyCodes.{family_code};
 
     ghost Value = { Family A A.Value };
 
@@ -61,7 +63,9 @@ impl<A: KeyAdapter, M: Allocator + Copy> Model for World<A, M> {
 }
 
 impl<A: KeyAdapter, M: Allocator + Copy> World<A, M> {
-    ghost use Rattle.ic_world.specs.Step.{collection as collection_of, StepOn, StepOut};
+    ghost use Rattle.ic_world.specs.Family.{collection as collection_of};
+    ghost use Rattle.ic_world.specs.Several.{StepOut};
+    ghost use Rattle.ic_world.specs.Step.{StepOn};
     ghost use Rattle.ic_world.specs.Seen.{Sees};
 
     /// A world with no object, field or collection. It takes no memory.
@@ -107,6 +111,9 @@ impl<A: KeyAdapter, M: Allocator + Copy> World<A, M> {
             Some(found) => {
                 if !placed {
                     return Err(Refusal::NoSuchObject);
+                }
+                if !call.is_of(found.members.kind()) {
+                    return Err(Refusal::WrongKind);
                 }
                 let links = &mut self.fields[found.field];
                 call.run(&mut found.members, links, &self.objects, self.adapter)

@@ -1,9 +1,9 @@
 -- While a tree is sorted, the answers of its keyed calls are filters of its members.
-use Rattle.std.proofs.Common.{◌≡◌, ℕ, Bool, true, false, ◌&&◌, List, length, get_or, set, Option, Some, None, inl, inr, refl, sym, ap, ◌∙◌, subst}
+use Rattle.std.proofs.Common.{◌≡◌, ℕ, Bool, true, false, ◌&&◌, List, [], ◌∷◌, length, get_or, set, Option, Some, None, inl, inr, refl, sym, ap, ◌∙◌, subst}
 use Rattle.std.proofs.lemmas.Bool.{cases_lt}
 use Rattle.std.proofs.lemmas.List.{get_or-set_same, get_or_past}
 use Rattle.std.specs.Cmp.{IsTotalOrder}
-use Rattle.std.specs.List.{filter}
+use Rattle.std.specs.List.{filter, list_all}
 use Rattle.std.specs.declared.cmp.Ordering.{Ordering}
 use Rattle.ic_unsafe_ref.specs.declared.place.Place.{Place}
 use Rattle.ic_unsafe_ref.specs.Objects.{object_at}
@@ -15,14 +15,15 @@ use Rattle.ic_rbtree.proofs.SortedAnswers.{put_behind, for_key, found_first, low
 use Rattle.ic_rbtree.proofs.SortedValues.{own_order_is}
 use Rattle.ic_world.specs.declared.call.Command.{Command}
 use Rattle.ic_world.specs.declared.call.Command.TheVariants as call
+use Rattle.ic_world.specs.declared.insertion.Insertion.{Insertion}
 use Rattle.ic_world.specs.declared.insertion.Insertion.TheVariants as insertions
 use Rattle.ic_world.specs.declared.search.Search.TheVariants as searches
-use Rattle.ic_world.specs.declared.target.Call.TheVariants.{Search as search, Insertion as insertion, Enter as enter}
+use Rattle.ic_world.specs.declared.one_call.Call.TheVariants.{Search as search, Insertion as insertion, Enter as enter}
 use Rattle.ic_world.specs.Apart.{AreApart, AreAllPlaced}
-use Rattle.ic_world.specs.Family.{Family, Sequence}
-use Rattle.ic_world.specs.KeyedCalls.{key_at, own_at, PutsInOrder}
-use Rattle.ic_world.specs.State.{Reply, found, looked, range, entry, State}
-use Rattle.ic_world.specs.Step.{Step, StepOn, collection, objects_of, is_placed, state_in, with_state, sequence_of}
+use Rattle.ic_world.specs.Family.{Family, Sequence, collection, objects_of, is_placed}
+use Rattle.ic_world.specs.Calls.{Reply, found, looked, range, entry, State, key_at, own_at, names, PutsInOrder, Replies}
+use Rattle.ic_world.specs.Step.{Step, StepOn}
+use Rattle.ic_world.specs.Several.{state_in, with_state, sequence_of}
 use Rattle.ic_world.proofs.Steps.{some_same}
 use Rattle.ic_world_laws.specs.Sorted.{IsSortedIn, has_key, is_from, is_until, FindsFirst, FindsEnd, IsWithinBoth, PutsBehind, GoesBehind, IsSortedAfter, StaysSorted}
 use Rattle.ic_world_laws.proofs.StepLaws.{of_reply, of_range}
@@ -82,7 +83,7 @@ module _ {A V K : Type 0} {cmp : K → K → Ordering} (total : IsTotalOrder cmp
   -- AN OBJECT THAT IS PUT IN ORDER goes behind all that are not greater, and the tree stays sorted
   module _ (c : ℕ) (p : Place) (s : Sequence) (is : collection old c ≡ Some s) (sorted : IsSortedIn cmp key_of old s.members) (there : is_placed old p ≡ true)
       (new : Family A V) (t : State) (cursor : Option Place) (left : new ≡ with_state old c s.field t)
-      (puts : PutsInOrder cmp (key_of old.adapter) (objects_of old) (state_in old s) p cursor t) where
+      (n : ℕ) (puts : PutsInOrder cmp (key_of old.adapter) (objects_of old) p cursor (state_in old s) (looked n) t) where
     own : (v : V) × (object_at (objects_of old) p ≡ Some v)
     own = value_there total (key_of old.adapter) (objects_of old) (object_at (objects_of old) p) there
 
@@ -92,21 +93,21 @@ module _ {A V K : Type 0} {cmp : K → K → Ordering} (total : IsTotalOrder cmp
     is_there : collection new c ≡ Some (sequence_of s.field t)
     is_there = subst (λ w. collection w c ≡ Some (sequence_of s.field t)) (sym left) (set_there old.collections c (sequence_of s.field t) is)
 
-    members_are : t.members ≡ insert puts.0 p
-    members_are = ap (λ (x : State). x.members) puts.2.1
+    members_are : t.members ≡ insert puts.0.0 p
+    members_are = ap (λ (x : State). x.members) puts.0.2.1
 
     puts_behind : PutsBehind cmp key_of old c p new s.members
     puts_behind = (
       sequence_of s.field t,
       is_there,
-      members_are ∙ put_behind (subst (λ at. IsSortedFor at s.members) (sym own_is) (for_key total key_of old.adapter (objects_of old) (placed c s is) sorted (key_of old.adapter own.0))) puts.0 puts.1 puts.2.0 p,
+      members_are ∙ put_behind (subst (λ at. IsSortedFor at s.members) (sym own_is) (for_key total key_of old.adapter (objects_of old) (placed c s is) sorted (key_of old.adapter own.0))) puts.0.0 puts.0.1 puts.0.2.0 p,
     )
 
     sorted_after : IsSortedAfter cmp key_of c new
     sorted_after u is_u =
-        let here : IsSortedIn cmp key_of old (insert puts.0 p) =
-        stays_sorted total (key_of old.adapter) (objects_of old) p own.1 puts.0 (subst (ArePlaced (objects_of old)) (sym puts.1) (placed c s is)) (subst (IsSortedIn cmp key_of old) (sym puts.1) sorted)
-        (subst (λ at. IsBorder (less_at at) puts.0) own_is puts.2.0) in
+        let here : IsSortedIn cmp key_of old (insert puts.0.0 p) =
+        stays_sorted total (key_of old.adapter) (objects_of old) p own.1 puts.0.0 (subst (ArePlaced (objects_of old)) (sym puts.0.1) (placed c s is)) (subst (IsSortedIn cmp key_of old) (sym puts.0.1) sorted)
+        (subst (λ at. IsBorder (less_at at) puts.0.0) own_is puts.0.2.0) in
         subst (λ (z : Sequence). IsSortedIn cmp key_of new z.members) (some_same (sym is_there ∙ is_u))
         (subst (λ w. IsSortedIn cmp key_of w t.members) (sym left) (subst (IsSortedIn cmp key_of old) (sym members_are) here))
 
@@ -114,25 +115,29 @@ module _ {A V K : Type 0} {cmp : K → K → Ordering} (total : IsTotalOrder cmp
   IsInOrder c p new s (looked n) = PutsBehind cmp key_of old c p new s.members × IsSortedAfter cmp key_of c new
   IsInOrder c p new s _ = Unit
 
-  -- both calls that insert in order
-  inserts : (c : ℕ) (p : Place) (new : Family A V) (n : ℕ) → StepOn cmp key_of old c (insertion (insertions.Insert p)) (looked n) new
-      → (s : Sequence) → collection old c ≡ Some s → IsSortedIn cmp key_of old s.members → IsInOrder c p new s (looked n)
-  inserts c p new n step s is sorted = of_reply cmp key_of c (insertion (insertions.Insert p)) (IsInOrder c p new s) old new (looked n) step s is (λ r. tt) (λ there t replies left.
-      let placed_p = left_true (is_placed old p) true there in
-      (puts_behind c p s is sorted placed_p new t (Some p) left replies.0, sorted_after c p s is sorted placed_p new t (Some p) left replies.0))
+  -- a call that inserts in order, wherever it leaves the cursor
+  inserts : (c : ℕ) (p : Place) (call : Insertion) (cursor : State → Option Place) → names {K = K} (insertion call) ≡ p ∷ []
+      → ((s t : State) (n : ℕ) → Replies cmp (key_of old.adapter) (objects_of old) (insertion call) s (looked n) t → PutsInOrder cmp (key_of old.adapter) (objects_of old) p (cursor s) s (looked n) t)
+      → (new : Family A V) (n : ℕ) → StepOn cmp key_of old c (insertion call) (looked n) new → (s : Sequence) → collection old c ≡ Some s → IsSortedIn cmp key_of old s.members → IsInOrder c p new s (looked n)
+  inserts c p call cursor named puts new n step s is sorted = of_reply cmp key_of c (insertion call) (IsInOrder c p new s) old new (looked n) step s is (λ r. tt) (λ there t replies left.
+      let placed_p = left_true (is_placed old p) true (subst (λ ps. list_all (is_placed old) ps ≡ true) named there) in
+      let put = puts (state_in old s) t n replies in
+      (puts_behind c p s is sorted placed_p new t (cursor (state_in old s)) left n put, sorted_after c p s is sorted placed_p new t (cursor (state_in old s)) left n put))
 
-  inserts_by_cursor : (c : ℕ) (p : Place) (new : Family A V) (n : ℕ) → StepOn cmp key_of old c (insertion (insertions.CursorInsert p)) (looked n) new
+  put_by_key : (c : ℕ) (p : Place) (new : Family A V) (n : ℕ) → StepOn cmp key_of old c (insertion (insertions.Insert p)) (looked n) new
       → (s : Sequence) → collection old c ≡ Some s → IsSortedIn cmp key_of old s.members → IsInOrder c p new s (looked n)
-  inserts_by_cursor c p new n step s is sorted = of_reply cmp key_of c (insertion (insertions.CursorInsert p)) (IsInOrder c p new s) old new (looked n) step s is (λ r. tt) (λ there t replies left.
-      let placed_p = left_true (is_placed old p) true there in
-      (puts_behind c p s is sorted placed_p new t s.cursor left replies.0, sorted_after c p s is sorted placed_p new t s.cursor left replies.0))
+  put_by_key c p = inserts c p (insertions.Insert p) (λ s. Some p) refl (λ s t n h. h)
+
+  put_by_cursor : (c : ℕ) (p : Place) (new : Family A V) (n : ℕ) → StepOn cmp key_of old c (insertion (insertions.CursorInsert p)) (looked n) new
+      → (s : Sequence) → collection old c ≡ Some s → IsSortedIn cmp key_of old s.members → IsInOrder c p new s (looked n)
+  put_by_cursor c p = inserts c p (insertions.CursorInsert p) (λ s. s.cursor) refl (λ s t n h. h)
 
   pub goes_behind : (command : Command V K) (new : Family A V) (reply : Reply) → Step cmp key_of old command reply new → GoesBehind cmp key_of old command reply new
-  goes_behind (call.Insert c p) new (looked n) step = λ s is sorted. (inserts c p new n step s is sorted).0
-  goes_behind (call.CursorInsert c p) new (looked n) step = λ s is sorted. (inserts_by_cursor c p new n step s is sorted).0
+  goes_behind (call.Insert c p) new (looked n) step = λ s is sorted. (put_by_key c p new n step s is sorted).0
+  goes_behind (call.CursorInsert c p) new (looked n) step = λ s is sorted. (put_by_cursor c p new n step s is sorted).0
   goes_behind _ new _ step = tt
 
   pub stays : (command : Command V K) (new : Family A V) (reply : Reply) → Step cmp key_of old command reply new → StaysSorted cmp key_of old command reply new
-  stays (call.Insert c p) new (looked n) step = λ s is sorted. (inserts c p new n step s is sorted).1
-  stays (call.CursorInsert c p) new (looked n) step = λ s is sorted. (inserts_by_cursor c p new n step s is sorted).1
+  stays (call.Insert c p) new (looked n) step = λ s is sorted. (put_by_key c p new n step s is sorted).1
+  stays (call.CursorInsert c p) new (looked n) step = λ s is sorted. (put_by_cursor c p new n step s is sorted).1
   stays _ new _ step = tt

@@ -7,9 +7,8 @@ use Rattle.ic_members.specs.Keyed.{FewLooks, FewLooksWithin}
 use Rattle.ic_world.specs.declared.call.Refusal.TheVariants.{AlreadyLinked}
 use Rattle.ic_world.specs.declared.call.Command.{Command}
 use Rattle.ic_world.specs.declared.call.Command.TheVariants as call
-use Rattle.ic_world.specs.Family.{Family, Sequence}
-use Rattle.ic_world.specs.State.{Reply, found, looked, range, entry, refused}
-use Rattle.ic_world.specs.Step.{collection, linked_of}
+use Rattle.ic_world.specs.Family.{Family, Sequence, collection, linked_of}
+use Rattle.ic_world.specs.Calls.{Reply, found, looked, range, entry, refused}
 
 module _ {V K : Type 0} where
   -- the collection that a call puts an object into, and the object

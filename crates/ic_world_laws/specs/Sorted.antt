@@ -10,10 +10,8 @@ use Rattle.ic_rbtree.specs.Borders.{IsSorted, equal_at, less_at}
 use Rattle.ic_rbtree.specs.Comparing.{meets_lower, meets_upper}
 use Rattle.ic_world.specs.declared.call.Command.{Command}
 use Rattle.ic_world.specs.declared.call.Command.TheVariants as call
-use Rattle.ic_world.specs.Family.{Family, Sequence}
-use Rattle.ic_world.specs.KeyedCalls.{key_at, bound_at, own_at}
-use Rattle.ic_world.specs.State.{Reply, found, looked, range, entry}
-use Rattle.ic_world.specs.Step.{collection, objects_of}
+use Rattle.ic_world.specs.Family.{Family, Sequence, collection, objects_of}
+use Rattle.ic_world.specs.Calls.{key_at, bound_at, own_at, Reply, found, looked, range, entry}
 
 module _ {A V K : Type 0} (cmp : K → K → Ordering) (key_of : A → V → K) (w : Family A V) where
   -- SORTED: from one member to the next the keys never fall

@@ -8,7 +8,7 @@
 ghost use Rattle.std.specs.Prelude.{◌≡◌};
 ghost use Rattle.ic_world.specs.declared.call.Refusal.{Refusal};
 ghost use Rattle.ic_world.specs.Answers.{reply_in};
-ghost use Rattle.ic_world.specs.State.{refused};
+ghost use Rattle.ic_world.specs.Calls.{refused};
 ghost use Rattle.ic_world.specs.Step.{Step};
 ghost use Rattle.ic_world_laws.specs.Laws.{inserts, RefusedIfLinked, HasFewLooks};
 ghost use Rattle.ic_world_laws.specs.Sorted.{FindsFirst, FindsEnd, IsWithinBoth, GoesBehind, StaysSorted};

@@ -5,8 +5,8 @@ ghost use Rattle.std.specs.FinSet as set;
 ghost use Rattle.ic_unsafe_ref.specs.Places.{index_of};
 ghost use Rattle.ic_link_ops.specs.Sequences.{IsDisjoint};
 ghost use Rattle.ic_world.specs.Answers.{reply_in};
-ghost use Rattle.ic_world.specs.Family.{Sequence};
-ghost use Rattle.ic_world.specs.Step.{Step, collection as collection_of, linked_of};
+ghost use Rattle.ic_world.specs.Family.{Sequence, collection as collection_of, linked_of};
+ghost use Rattle.ic_world.specs.Step.{Step};
 
 use ic_program::OwnKey;
 use ic_rbtree::KeyAdapter;

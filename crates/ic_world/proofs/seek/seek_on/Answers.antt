@@ -1,6 +1,6 @@
-use Rattle.std.proofs.Common.{◌∙◌, refl, sym, ap}
+use Rattle.std.proofs.Common.{◌∙◌, refl}
 use Rattle.ic_fields.specs.Fields.{look}
-use Rattle.ic_members.specs.Members.{members_in, kind_in, has_pointer}
+use Rattle.ic_members.specs.Members.{members_in, kind_in}
 use Rattle.ic_world.proofs.Neighbors.{member_gap, contains_tells}
 use Rattle.ic_world.proofs.Seeking.{pointer_not_xor}
 use Rattle.ic_world.proofs.Tested.{goes_on, stops}
@@ -8,18 +8,15 @@ use Rattle.ic_world.proofs.seek.seek_on.Goals as goal
 
 pub returns-then-not-contains : goal.returns-then-not-contains
 returns-then-not-contains g c =
-    let can = ap has_pointer (sym c.kind.ensures) ∙ sym c.has_pointer.ensures ∙ c.if-not-has_pointer.false in
     let out = contains_tells (members_in (look c.args.links.now) c.args.members.now) c.args.object c.contains.result c.contains.ensures ∙ c.if-not-contains.true in
-    record { tested = goes_on _ _ _ can (stops _ _ _ out); moved = tt; unchanged = refl }
+    record { tested = stops _ _ _ out; moved = tt; unchanged = refl }
 
 pub stand_on-requires-clause-member : goal.stand_on-requires-clause-member
 stand_on-requires-clause-member g c =
-    let can = ap has_pointer (sym c.kind.ensures) ∙ sym c.has_pointer.ensures ∙ c.if-not-has_pointer.false in
     let gap = member_gap (members_in (look c.args.links.now) c.args.members.now) c.args.object (c.contains.ensures.0 c.if-not-contains.false) in
-    (gap.0, gap.1, (gap.2, λ is. absurd (pointer_not_xor (kind_in c.args.members.now) can is)))
+    (gap.0, gap.1, (gap.2, λ is. absurd (pointer_not_xor (kind_in c.args.members.now) c.requires.can is)))
 
 pub returns : goal.returns
 returns g c =
-    let can = ap has_pointer (sym c.kind.ensures) ∙ sym c.has_pointer.ensures ∙ c.if-not-has_pointer.false in
     let there = contains_tells (members_in (look c.args.links.now) c.args.members.now) c.args.object c.contains.result c.contains.ensures ∙ c.if-not-contains.false in
-    record { tested = goes_on _ _ _ can (goes_on _ _ _ there refl); moved = c.stand_on.ensures; unchanged = tt }
+    record { tested = goes_on _ _ _ there refl; moved = c.stand_on.ensures; unchanged = tt }

@@ -1,9 +1,9 @@
-use Rattle.std.proofs.Common.{◌∙◌, sym, arith, map}
+use Rattle.std.proofs.Common.{◌∙◌, Some, sym, ap, arith, map}
 use Rattle.std.proofs.lemmas.List.{length-map}
 use Rattle.ic_fields.specs.Fields.{look}
-use Rattle.ic_world.specs.Calls.{names}
-use Rattle.ic_world.proofs.Readings.{found, found_at}
-use Rattle.ic_world.proofs.Calls.{room_for, placed_by, whole_by, step_by, step_unplaced}
+use Rattle.ic_world.specs.Calls.{names, has_call}
+use Rattle.ic_world.proofs.Readings.{found, found_at, set_back}
+use Rattle.ic_world.proofs.Calls.{room_for, placed_by, whole_by, step_by, step_unplaced, step_lacking}
 use Rattle.ic_world.proofs.world.World.call.Goals as goal
 
 pub returns-then-not-placed : goal.returns-then-not-placed
@@ -11,6 +11,17 @@ returns-then-not-placed g c =
     let cs = c.self.inside.collections in
     let is = found_at cs.items c.args.collection c.if-collection-len.false c.len.ensures cs.ok.0 c.index_mut.ensures.value c.in-Some.is in
     step_unplaced g.A.Key.Ord.cmp g.A.KeyAdapter.key_of c.self.inside.adapter c.self.inside.objects (map look c.self.inside.fields.items) cs.items c.args.collection c.in-Some.found (g.C.OneCall.call c.args.call.now) c.self.view_is is c.index_mut.ensures.value c.in-Some.is (sym c.is_placed-placed.ensures ∙ c.if-not-placed.true)
+
+pub returns-then-not-is_of : goal.returns-then-not-is_of
+returns-then-not-is_of g c =
+    let cs = c.self.inside.collections in
+    let is = found_at cs.items c.args.collection c.if-collection-len.false c.len.ensures cs.ok.0 c.index_mut.ensures.value c.in-Some.is in
+    let lacks = ap (has_call (g.C.OneCall.call c.args.call.now)) (sym c.kind.ensures) ∙ sym c.is_of.ensures ∙ c.if-not-is_of.true in
+    step_lacking g.A.Key.Ord.cmp g.A.KeyAdapter.key_of c.self.inside.adapter c.self.inside.objects (map look c.self.inside.fields.items) cs.items c.args.collection c.in-Some.found (g.C.OneCall.call c.args.call.now) c.self.view_is is c.index_mut.ensures.value c.in-Some.is (sym c.is_placed-placed.ensures ∙ c.if-not-placed.false) lacks
+
+pub invariant_of-self-then-not-is_of : goal.invariant_of-self-then-not-is_of
+invariant_of-self-then-not-is_of g c =
+    rw (set_back c.self.inside.collections.items c.args.collection (Some c.in-Some.found) (rw c.in-Some.is at c.index_mut.ensures.value)) c.self.invariant
 
 pub index_mut-links-requires : goal.index_mut-links-requires
 index_mut-links-requires g c =
@@ -27,6 +38,7 @@ run-requires g c =
     record {
       held = at_k.held;
       adapter = c.self.invariant.adapted c.args.collection c.in-Some.found at_k.is;
+      can = ap (has_call (g.C.OneCall.call c.args.call.now)) (sym c.kind.ensures) ∙ sym c.is_of.ensures ∙ c.if-not-is_of.false;
       covered = room_for c.self.invariant at_k (names (g.C.OneCall.call c.args.call.now)) placed;
       named = placed;
       placed = placed_by c.self.invariant at_k;
@@ -36,10 +48,10 @@ pub invariant_of-self-in-Some : goal.invariant_of-self-in-Some
 invariant_of-self-in-Some g c =
     let cs = c.self.inside.collections in
     let at_k = found c.self.inside.fields.items c.self.invariant c.if-collection-len.false c.len.ensures cs.ok.0 c.index_mut.ensures.value c.in-Some.is c.index_mut-links.ensures.value in
-    whole_by c.self.invariant at_k g.A.Key.Ord.cmp g.A.KeyAdapter.key_of (g.C.OneCall.call c.args.call.now) (sym c.is_placed-placed.ensures ∙ c.if-not-placed.false) g.C.OneCall.reply c.run.result c.run.new.links c.run.new.members c.run.ensures
+    whole_by c.self.invariant at_k g.A.Key.Ord.cmp g.A.KeyAdapter.key_of (g.C.OneCall.call c.args.call.now) (sym c.is_placed-placed.ensures ∙ c.if-not-placed.false) (ap (has_call (g.C.OneCall.call c.args.call.now)) (sym c.kind.ensures) ∙ sym c.is_of.ensures ∙ c.if-not-is_of.false) g.C.OneCall.reply c.run.result c.run.new.links c.run.new.members c.run.ensures
 
-pub returns-else-not-placed : goal.returns-else-not-placed
-returns-else-not-placed g c =
+pub returns-else-not-is_of : goal.returns-else-not-is_of
+returns-else-not-is_of g c =
     let cs = c.self.inside.collections in
     let at_k = found c.self.inside.fields.items c.self.invariant c.if-collection-len.false c.len.ensures cs.ok.0 c.index_mut.ensures.value c.in-Some.is c.index_mut-links.ensures.value in
-    step_by c.self.invariant at_k g.A.Key.Ord.cmp g.A.KeyAdapter.key_of (g.C.OneCall.call c.args.call.now) (sym c.is_placed-placed.ensures ∙ c.if-not-placed.false) g.C.OneCall.reply c.run.result c.run.new.links c.run.new.members c.run.ensures c.self.view_is
+    step_by c.self.invariant at_k g.A.Key.Ord.cmp g.A.KeyAdapter.key_of (g.C.OneCall.call c.args.call.now) (sym c.is_placed-placed.ensures ∙ c.if-not-placed.false) (ap (has_call (g.C.OneCall.call c.args.call.now)) (sym c.kind.ensures) ∙ sym c.is_of.ensures ∙ c.if-not-is_of.false) g.C.OneCall.reply c.run.result c.run.new.links c.run.new.members c.run.ensures c.self.view_is

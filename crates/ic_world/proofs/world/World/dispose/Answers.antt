@@ -1,11 +1,11 @@
 use Rattle.std.proofs.Common.{◌∙◌, sym, ap, subst, map, length, None, arith}
 use Rattle.std.proofs.lemmas.List.{length-map}
 use Rattle.ic_fields.specs.Fields.{look}
-use Rattle.ic_world.specs.Family.{Family}
+use Rattle.ic_world.specs.Family.{Family, with_collection}
 use Rattle.ic_world.specs.declared.call.Command.TheVariants.{Dispose}
-use Rattle.ic_world.specs.State.{done}
+use Rattle.ic_world.specs.Calls.{done}
 use Rattle.ic_world.specs.Tables.{shown_as}
-use Rattle.ic_world.specs.Step.{Step, with_collection}
+use Rattle.ic_world.specs.Step.{Step}
 use Rattle.ic_world.proofs.Disposed.{dropped_whole, dropped_family, dispose_refused, disposed, still_in}
 use Rattle.ic_world.proofs.world.World.dispose.Goals as goal
 

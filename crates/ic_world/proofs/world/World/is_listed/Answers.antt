@@ -3,9 +3,8 @@ use Rattle.std.proofs.lemmas.List.{length-map, get_or_default}
 use Rattle.std.proofs.lemmas.List.Folds.{list_any_at, list_any_more}
 use Rattle.std.specs.List.{list_any}
 use Rattle.ic_fields.specs.Fields.{look}
-use Rattle.ic_world.specs.Family.{Family}
+use Rattle.ic_world.specs.Family.{Family, has_member_in, is_member_in}
 use Rattle.ic_world.specs.Tables.{shown_as}
-use Rattle.ic_world.specs.Step.{has_member_in, is_member_in}
 use Rattle.ic_world.proofs.Readings.{found_at}
 use Rattle.ic_world.proofs.FieldCalls.{held_read, here_is, other_is, none_is}
 use Rattle.ic_world.proofs.world.World.is_listed.Goals as goal

@@ -1,6 +1,6 @@
 use Rattle.std.proofs.Common.{◌≡◌, false, take}
 use Rattle.std.specs.List.{list_any}
-use Rattle.ic_world.specs.Step.{has_member_in}
+use Rattle.ic_world.specs.Family.{has_member_in}
 use Rattle.ic_world.proofs.world.World.is_listed.Given as goal
 
 abbrev pub invariant-loop-c : goal.invariant-loop-c

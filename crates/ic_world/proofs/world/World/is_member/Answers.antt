@@ -1,8 +1,6 @@
-use Rattle.std.proofs.Common.{◌≡◌, ◌<◌, ◌∙◌, true, false, length, sym, ap, subst}
-use Rattle.ic_world.specs.Family.{Family}
-use Rattle.ic_world.specs.Step.{has_field, is_member_in, is_placed}
+use Rattle.std.proofs.Common.{◌≡◌, ◌∙◌, true, sym, ap, subst}
+use Rattle.ic_world.specs.Family.{Family, has_field, is_member_in, is_placed}
 use Rattle.ic_world.proofs.FieldCalls.{within_by, covers_object, in_none}
-use Rattle.ic_world.proofs.world.World.is_member.Given as given
 use Rattle.ic_world.proofs.world.World.is_member.Goals as goal
 
 pub index-requires : goal.index-requires

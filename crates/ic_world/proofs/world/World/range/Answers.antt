@@ -1,5 +1,4 @@
-use Rattle.ic_world.proofs.Keyed.{kind_tested}
-use Rattle.ic_world.proofs.Ranged.{ranged}
+use Rattle.ic_world.proofs.Ranged.{kind_tested, ranged}
 use Rattle.ic_world.proofs.world.World.range.Goals as goal
 
 pub returns-in-Ok : goal.returns-in-Ok

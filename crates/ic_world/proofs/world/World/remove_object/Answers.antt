@@ -1,10 +1,10 @@
-use Rattle.std.proofs.Common.{◌∙◌, sym, ap, subst, map, not}
+use Rattle.std.proofs.Common.{◌∙◌, refl, sym, ap, subst, map, not}
 use Rattle.std.specs.FinMap as map_of
 use Rattle.ic_unsafe_ref.specs.Places.{index_of}
 use Rattle.ic_fields.specs.Fields.{look}
 use Rattle.ic_world.specs.declared.call.Command.TheVariants.{RemoveObject}
 use Rattle.ic_world.specs.declared.call.Refusal.TheVariants.{NoSuchObject, StillLinked}
-use Rattle.ic_world.specs.State.{done}
+use Rattle.ic_world.specs.Calls.{done}
 use Rattle.ic_world.specs.Tables.{family_of}
 use Rattle.ic_world.specs.Step.{Step}
 use Rattle.ic_world.proofs.ObjectChanges.{removed_whole}
@@ -23,4 +23,4 @@ returns-clause-step g c =
     let none = passes _ NoSuchObject _ (sym c.is_placed.ensures ∙ c.if-not-is_placed.false) ∙ passes _ StillLinked _ (ap not linked) in
     let values = c.into_box.ensures.freed.values ∙ ap (λ p. map_of.remove c.self.inside.objects.values (index_of p)) c.new.ensures in
     subst (λ old. Step g.A.Key.Ord.cmp g.A.KeyAdapter.key_of old (RemoveObject c.args.object) done (family_of c.self.inside.adapter c.into_box.new.objects (map look c.self.inside.fields.items) c.self.inside.collections.items)) c.self.view_is
-    (step_accepted g.A.Key.Ord.cmp g.A.KeyAdapter.key_of w (RemoveObject c.args.object) done _ none (λ i. record w { objects = values i }))
+    (step_accepted g.A.Key.Ord.cmp g.A.KeyAdapter.key_of w (RemoveObject c.args.object) done _ none (refl, λ i. record w { objects = values i }))

@@ -2,7 +2,7 @@ use Rattle.std.proofs.Common.{◌≡◌, ◌+◌, ◌≤◌, ◌++◌, List, len
 use Rattle.std.specs.Vec.{vec_len, vec_capacity}
 use Rattle.ic_world.specs.declared.call.Answer.{Answer}
 use Rattle.ic_world.specs.Answers.{reply_in}
-use Rattle.ic_world.specs.Runs.{Runs}
+use Rattle.ic_world.specs.Step.{Runs}
 use Rattle.ic_world.proofs.world.World.run.Given as goal
 
 abbrev pub invariant-loop-command : goal.invariant-loop-command

@@ -1,0 +1,80 @@
+-- THE CALLS OF SEVERAL COLLECTIONS: one is opened, hands a part out to one more, or is put into another.
+use Rattle.std.specs.Prelude.{◌≡◌, ℕ, Bool, true, not, List, [], length, Option, Some, None, MatchOption, nat_eq}
+use Rattle.ic_unsafe_ref.specs.declared.place.Place.{Place}
+use Rattle.ic_link_ops.specs.Sequences.{Cut, join, splice, IsAfter, IsBefore}
+use Rattle.ic_fields.specs.declared.kind.Kind.{Kind}
+use Rattle.ic_fields.specs.Kinds.{carries}
+use Rattle.ic_members.specs.Members.{is_list, is_two_way_list}
+use Rattle.ic_world.specs.declared.call.Refusal.{Refusal}
+use Rattle.ic_world.specs.declared.call.Refusal.TheVariants.{NoSuchField, NoSuchCollection, WrongKind, SameCollection, OtherField, OutOfMemory}
+use Rattle.ic_world.specs.declared.part.Part.{Part}
+use Rattle.ic_world.specs.declared.part.Part.TheVariants.{All, After, Before}
+use Rattle.ic_world.specs.Calls.{State, Reply, done, opened, refused, having, AtGap, asks}
+use Rattle.ic_world.specs.Family.{Family, Sequence, same_kind, collection, field_of, linked_of, has_field, with_linked, with_collection, with_opened}
+
+-- no such collection, or the tests that know it
+abbrev pub asks_collection : Option Sequence → (Sequence → Option Refusal) → Option Refusal
+asks_collection None rest = Some NoSuchCollection
+asks_collection (Some s) rest = rest s
+
+-- the collection of field f that is in this state; a collection with other members and its cursor elsewhere
+abbrev pub sequence_of : ℕ → State → Sequence
+sequence_of f t = record { field = f; kind = t.kind; members = t.members; cursor = t.cursor }
+
+abbrev pub with_members : Sequence → List Place → Option Place → Sequence
+with_members s members cursor = record s { members = members; cursor = cursor }
+
+-- A PART is all, or what is on one side of the cursor: which kinds hand it out, and what stays and what is handed out
+abbrev pub has_part : Part → Kind → Bool
+has_part All k = true
+has_part After k = is_list k
+has_part Before k = is_two_way_list k
+
+abbrev pub PartsOf : Part → (old new handed : State) → Type 0
+PartsOf All old new handed = (new ≡ having old [] None) × (handed ≡ having old old.members None)
+PartsOf After old new handed = AtGap old (λ gap. IsAfter gap old.cursor × (new ≡ having old gap.front old.cursor) × (handed ≡ having old gap.back None))
+PartsOf Before old new handed = AtGap old (λ gap. IsBefore gap old.cursor × (new ≡ having old gap.back old.cursor) × (handed ≡ having old gap.front None))
+
+module _ {A V : Type 0} where
+  -- A CALL OF ONE COLLECTION sees of a world its state, and changes nothing else
+  abbrev pub state_in : Family A V → Sequence → State
+  state_in w s = record { kind = s.kind; members = s.members; cursor = s.cursor; linked = linked_of w s.field }
+
+  abbrev pub with_state : Family A V → ℕ → ℕ → State → Family A V
+  with_state w c f t = with_linked (with_collection w c (Some (sequence_of f t))) f t.linked
+
+  -- A STEP, by the first refusal and what is accepted where there is none
+  abbrev pub StepBy : Option Refusal → (Reply → Family A V → Type 0) → Family A V → Reply → Family A V → Type 0
+  StepBy refusal accepts old reply new = MatchOption refusal (accepts reply new) (λ r. (reply ≡ refused r) × (new ≡ old))
+
+  -- a collection is opened
+  abbrev pub refusal_of_open : Family A V → ℕ → Kind → Option Refusal
+  refusal_of_open w f k = asks (has_field w f) NoSuchField (asks (carries (field_of w f).kind k) WrongKind None)
+
+  -- A PART OF ONE IS HANDED OUT to a collection more, of the same field
+  abbrev pub refusal_of_part : Family A V → ℕ → Part → Option Refusal
+  refusal_of_part w c part = asks_collection (collection w c) (λ s. asks (has_part part s.kind) WrongKind None)
+
+  abbrev pub OpensWith : Family A V → ℕ → Part → Reply → Family A V → Type 0
+  OpensWith old c part (opened d) new = (d ≡ length old.collections) × (s : Sequence) × (t handed : State) × (collection old c ≡ Some s)
+      × PartsOf part (state_in old s) t handed × (new ≡ with_opened (with_state old c s.field t) (sequence_of s.field handed))
+  OpensWith old c part (refused OutOfMemory) new = new ≡ old
+  OpensWith old c part _ new = ⊥
+
+  -- ALL OF ONE IS PUT INTO ANOTHER of the same field and kind, and is empty then
+  abbrev pub refusal_of_splice : Family A V → (Kind → Bool) → (c d : ℕ) → Option Refusal
+  refusal_of_splice w has c d = asks_collection (collection w c) (λ s. asks_collection (collection w d) (λ t.
+      asks (has s.kind) WrongKind (asks (same_kind s.kind t.kind) WrongKind (asks (not (nat_eq c d)) SameCollection
+      (asks (nat_eq s.field t.field) OtherField None)))))
+
+  abbrev pub SplicesAt : (Cut → Option Place → Type 0) → Family A V → (c d : ℕ) → Reply → Family A V → Type 0
+  SplicesAt IsBeside old c d reply new = (reply ≡ done) × (s : Sequence) × (gap : Cut) × (collection old c ≡ Some s) × (join gap ≡ s.members)
+      × (t : Sequence) × (collection old d ≡ Some t) × IsBeside gap s.cursor
+      × (new ≡ with_collection (with_collection old d (Some (with_members t [] None))) c (Some (with_members s (splice gap t.members) s.cursor)))
+
+  -- the steps of both
+  abbrev pub StepOut : Family A V → ℕ → Part → Reply → Family A V → Type 0
+  StepOut old c part reply new = StepBy (refusal_of_part old c part) (OpensWith old c part) old reply new
+
+  abbrev pub StepSplice : (Cut → Option Place → Type 0) → (Kind → Bool) → Family A V → (c d : ℕ) → Reply → Family A V → Type 0
+  StepSplice IsBeside has old c d reply new = StepBy (refusal_of_splice old has c d) (SplicesAt IsBeside old c d) old reply new
