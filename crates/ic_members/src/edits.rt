@@ -81,7 +81,7 @@ impl<A: KeyAdapter> Members<A> {
     {
         let object = UnsafeRef::new(object);
         match self {
-            Members::Singly(_) => {}
+            Members::Singly(_) => unreachable!(),
             Members::Doubly(cursor) => {
                 if let Field::TwoWay(links) = links {
                     let _ = cursor.insert_before(links, object);
@@ -111,15 +111,16 @@ impl<A: KeyAdapter> Members<A> {
         ensures null { IfNone result ((self.new ≡ self.old) × (links.new ≡ links.old)) }
     {
         match self {
-            Members::Singly(_) => None,
+            Members::Singly(_) => unreachable!(),
             Members::Doubly(cursor) => match links {
                 Field::TwoWay(links) => place_of(cursor.remove(links)),
-                Field::Singly(_) | Field::Xor(_) => None,
+                Field::Singly(_) | Field::Xor(_) => unreachable!(),
             },
             Members::Xor(cursor) => place_of(cursor.remove(links)),
             Members::Tree(cursor) => match links {
                 Field::TwoWay(TwoWay::Tree(links)) => place_of(cursor.remove(links)),
-                Field::TwoWay(TwoWay::Doubly(_)) | Field::Singly(_) | Field::Xor(_) => None,
+                Field::TwoWay(TwoWay::Doubly(_)) | Field::Singly(_) | Field::Xor(_) =>
+                    unreachable!(),
             },
         }
     }
@@ -138,7 +139,7 @@ impl<A: KeyAdapter> Members<A> {
     {
         match self {
             Members::Singly(cursor) => place_of(cursor.remove_next(links)),
-            Members::Doubly(_) | Members::Xor(_) | Members::Tree(_) => None,
+            Members::Doubly(_) | Members::Xor(_) | Members::Tree(_) => unreachable!(),
         }
     }
 
@@ -163,17 +164,18 @@ impl<A: KeyAdapter> Members<A> {
     {
         let object = UnsafeRef::new(object);
         match self {
-            Members::Singly(_) => None,
+            Members::Singly(_) => unreachable!(),
             Members::Doubly(cursor) => match links {
                 Field::TwoWay(links) => place_of(cursor.replace_with(links, object).ok()),
-                Field::Singly(_) | Field::Xor(_) => None,
+                Field::Singly(_) | Field::Xor(_) => unreachable!(),
             },
             Members::Xor(cursor) => place_of(cursor.replace_with(links, object).ok()),
             Members::Tree(cursor) => match links {
                 Field::TwoWay(TwoWay::Tree(links)) => place_of(
                     cursor.replace_with(links, object).ok(),
                 ),
-                Field::TwoWay(TwoWay::Doubly(_)) | Field::Singly(_) | Field::Xor(_) => None,
+                Field::TwoWay(TwoWay::Doubly(_)) | Field::Singly(_) | Field::Xor(_) =>
+                    unreachable!(),
             },
         }
     }
@@ -200,7 +202,7 @@ impl<A: KeyAdapter> Members<A> {
         let object = UnsafeRef::new(object);
         match self {
             Members::Singly(cursor) => place_of(cursor.replace_next_with(links, object).ok()),
-            Members::Doubly(_) | Members::Xor(_) | Members::Tree(_) => None,
+            Members::Doubly(_) | Members::Xor(_) | Members::Tree(_) => unreachable!(),
         }
     }
 }

@@ -138,7 +138,7 @@ impl<A: KeyAdapter> Members<A> {
             (Members::Tree(cursor), Field::TwoWay(TwoWay::Tree(links))) => {
                 cursor.list().find_by(links, objects, &mut probe).get_ptr()
             }
-            _ => None,
+            _ => unreachable!(),
         };
         self.stand_at(links, position);
         (position, probe.looks())
@@ -186,7 +186,7 @@ impl<A: KeyAdapter> Members<A> {
                     .lower_bound_by(links, objects, &mut probe)
                     .get_ptr()
             }
-            _ => None,
+            _ => unreachable!(),
         };
         self.stand_at(links, position);
         (position, looks_in(&probe))
@@ -221,7 +221,7 @@ impl<A: KeyAdapter> Members<A> {
                     .upper_bound_by(links, objects, &mut probe)
                     .get_ptr()
             }
-            _ => None,
+            _ => unreachable!(),
         };
         self.stand_at(links, position);
         (position, looks_in(&probe))
@@ -255,17 +255,10 @@ impl<A: KeyAdapter> Members<A> {
                     let places = list_walk(alloc, cursor.list(), links, walk)?;
                     Ok((places, from, to))
                 }
-                Field::TwoWay(TwoWay::Doubly(_)) | Field::Singly(_) | Field::Xor(_) => Ok((
-                    Vec::new(alloc),
-                    0,
-                    0,
-                )),
+                Field::TwoWay(TwoWay::Doubly(_)) | Field::Singly(_) | Field::Xor(_) =>
+                    unreachable!(),
             },
-            Members::Singly(_) | Members::Doubly(_) | Members::Xor(_) => Ok((
-                Vec::new(alloc),
-                0,
-                0,
-            )),
+            Members::Singly(_) | Members::Doubly(_) | Members::Xor(_) => unreachable!(),
         }
     }
 
@@ -327,9 +320,10 @@ impl<A: KeyAdapter> Members<A> {
                     inserted.unwrap(); // proved: it is not linked
                     probe.looks()
                 }
-                Field::TwoWay(TwoWay::Doubly(_)) | Field::Singly(_) | Field::Xor(_) => 0,
+                Field::TwoWay(TwoWay::Doubly(_)) | Field::Singly(_) | Field::Xor(_) =>
+                    unreachable!(),
             },
-            Members::Singly(_) | Members::Doubly(_) | Members::Xor(_) => 0,
+            Members::Singly(_) | Members::Doubly(_) | Members::Xor(_) => unreachable!(),
         }
     }
 
@@ -370,9 +364,10 @@ impl<A: KeyAdapter> Members<A> {
                     cursor.go_to(End::of(Some(place)));
                     Some((occupied, place, probe.looks()))
                 }
-                Field::TwoWay(TwoWay::Doubly(_)) | Field::Singly(_) | Field::Xor(_) => None,
+                Field::TwoWay(TwoWay::Doubly(_)) | Field::Singly(_) | Field::Xor(_) =>
+                    unreachable!(),
             },
-            Members::Singly(_) | Members::Doubly(_) | Members::Xor(_) => None,
+            Members::Singly(_) | Members::Doubly(_) | Members::Xor(_) => unreachable!(),
         }
     }
 }

@@ -84,7 +84,7 @@ impl<A: KeyAdapter> Members<A> {
             × Moves (look links.now) self.old self.new (last gap.front)) }
     {
         match self {
-            Members::Singly(_) => {}
+            Members::Singly(_) => unreachable!(),
             Members::Doubly(cursor) => {
                 if let Field::TwoWay(links) = links {
                     cursor.move_prev(links);

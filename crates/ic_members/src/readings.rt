@@ -32,12 +32,13 @@ impl<A: KeyAdapter> Members<A> {
             Members::Singly(cursor) => cursor.list().front(links).get_ptr(),
             Members::Doubly(cursor) => match links {
                 Field::TwoWay(links) => cursor.list().front(links).get_ptr(),
-                Field::Singly(_) | Field::Xor(_) => None,
+                Field::Singly(_) | Field::Xor(_) => unreachable!(),
             },
             Members::Xor(cursor) => cursor.list().front(links).get_ptr(),
             Members::Tree(cursor) => match links {
                 Field::TwoWay(TwoWay::Tree(links)) => cursor.list().front(links).get_ptr(),
-                Field::TwoWay(TwoWay::Doubly(_)) | Field::Singly(_) | Field::Xor(_) => None,
+                Field::TwoWay(TwoWay::Doubly(_)) | Field::Singly(_) | Field::Xor(_) =>
+                    unreachable!(),
             },
         }
     }
@@ -68,7 +69,7 @@ impl<A: KeyAdapter> Members<A> {
                     .cursor_from_ptr(links, object)
                     .peek_next()
                     .get_ptr(),
-                Field::Singly(_) | Field::Xor(_) => None,
+                Field::Singly(_) | Field::Xor(_) => unreachable!(),
             },
             Members::Xor(cursor) => {
                 let prev = object_of(prev);
@@ -84,7 +85,8 @@ impl<A: KeyAdapter> Members<A> {
                     .cursor_from_ptr(links, object)
                     .peek_next()
                     .get_ptr(),
-                Field::TwoWay(TwoWay::Doubly(_)) | Field::Singly(_) | Field::Xor(_) => None,
+                Field::TwoWay(TwoWay::Doubly(_)) | Field::Singly(_) | Field::Xor(_) =>
+                    unreachable!(),
             },
         }
     }
@@ -98,7 +100,7 @@ impl<A: KeyAdapter> Members<A> {
     {
         match self {
             Members::Singly(cursor) => cursor.as_cursor(links).peek_next().get_ptr(),
-            Members::Doubly(_) | Members::Xor(_) | Members::Tree(_) => None,
+            Members::Doubly(_) | Members::Xor(_) | Members::Tree(_) => unreachable!(),
         }
     }
 
@@ -153,12 +155,13 @@ impl<A: KeyAdapter> Members<A> {
             Members::Singly(cursor) => cursor.list().contains(links, place),
             Members::Doubly(cursor) => match links {
                 Field::TwoWay(links) => cursor.list().contains(links, place),
-                Field::Singly(_) | Field::Xor(_) => false,
+                Field::Singly(_) | Field::Xor(_) => unreachable!(),
             },
             Members::Xor(cursor) => cursor.list().contains(links, place),
             Members::Tree(cursor) => match links {
                 Field::TwoWay(TwoWay::Tree(links)) => cursor.list().contains(&links.0, place),
-                Field::TwoWay(TwoWay::Doubly(_)) | Field::Singly(_) | Field::Xor(_) => false,
+                Field::TwoWay(TwoWay::Doubly(_)) | Field::Singly(_) | Field::Xor(_) =>
+                    unreachable!(),
             },
         }
     }

@@ -19,7 +19,6 @@ ghost use Rattle.ic_fields.specs.Fields.{look};
 use crate::Members;
 use ic_fields::{Field, TwoWay};
 use ic_rbtree::KeyAdapter;
-use ic_xor_linked_list::XorLinkedList;
 use std::alloc::Allocator;
 use std::mem;
 
@@ -137,7 +136,7 @@ impl<A: KeyAdapter> Members<A> {
                     cursor.splice_after(links, given.into_inner());
                 }
             }
-            Members::Tree(_) => {}
+            Members::Tree(_) => unreachable!(),
         }
     }
 
@@ -152,7 +151,7 @@ impl<A: KeyAdapter> Members<A> {
             × PutsAll (look links.old) (look links.new) list.old list.new gap (members_in (look links.old) self)) }
     {
         match self {
-            Members::Singly(_) => {}
+            Members::Singly(_) => unreachable!(),
             Members::Doubly(given) => {
                 if let Members::Doubly(cursor) = list {
                     if let Field::TwoWay(links) = links {
@@ -165,7 +164,7 @@ impl<A: KeyAdapter> Members<A> {
                     cursor.splice_before(links, given.into_inner());
                 }
             }
-            Members::Tree(_) => {}
+            Members::Tree(_) => unreachable!(),
         }
     }
 
@@ -183,12 +182,10 @@ impl<A: KeyAdapter> Members<A> {
             Members::Singly(cursor) => Members::Singly(cursor.split_after(links).cursor_owning()),
             Members::Doubly(cursor) => match links {
                 Field::TwoWay(links) => Members::Doubly(cursor.split_after(links).cursor_owning()),
-                Field::Singly(_) | Field::Xor(_) => Members::Xor(
-                    XorLinkedList::new().cursor_owning(),
-                ),
+                Field::Singly(_) | Field::Xor(_) => unreachable!(),
             },
             Members::Xor(cursor) => Members::Xor(cursor.split_after(links).cursor_owning()),
-            Members::Tree(_) => Members::Xor(XorLinkedList::new().cursor_owning()),
+            Members::Tree(_) => unreachable!(),
         }
     }
 
@@ -205,14 +202,10 @@ impl<A: KeyAdapter> Members<A> {
         match self {
             Members::Doubly(cursor) => match links {
                 Field::TwoWay(links) => Members::Doubly(cursor.split_before(links).cursor_owning()),
-                Field::Singly(_) | Field::Xor(_) => Members::Xor(
-                    XorLinkedList::new().cursor_owning(),
-                ),
+                Field::Singly(_) | Field::Xor(_) => unreachable!(),
             },
             Members::Xor(cursor) => Members::Xor(cursor.split_before(links).cursor_owning()),
-            Members::Singly(_) | Members::Tree(_) => Members::Xor(
-                XorLinkedList::new().cursor_owning(),
-            ),
+            Members::Singly(_) | Members::Tree(_) => unreachable!(),
         }
     }
 

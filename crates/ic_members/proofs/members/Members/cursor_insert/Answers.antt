@@ -6,8 +6,8 @@ use Rattle.ic_rbtree.proofs.InOrder.{own_is}
 use Rattle.ic_members.proofs.KeyedEdits.{puts_in_order}
 use Rattle.ic_members.proofs.members.Members.cursor_insert.Goals as goal
 
-pub returns-in-TwoWay-Tree-clause-inserted : goal.returns-in-TwoWay-Tree-clause-inserted
-returns-in-TwoWay-Tree-clause-inserted g c =
+pub returns-clause-inserted : goal.returns-clause-inserted
+returns-clause-inserted g c =
     let e = c.insert_by-inserted.ensures in
     let list = c.list_mut.ensures.list in
     let held = rw (c.in-Tree.is, c.in-TwoWay-Tree.is, c.in-TwoWay-Tree.field-0-is) at c.requires.held in

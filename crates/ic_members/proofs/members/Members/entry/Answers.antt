@@ -24,8 +24,8 @@ returns-in_err-occupied-in-TwoWay-Tree-clause-refused g c =
       ap (λ l. TwoWay (Tree l)) e.unchanged.2,
     )
 
-pub returns-in_ok-occupied-in-TwoWay-Tree-clause-occupied : goal.returns-in_ok-occupied-in-TwoWay-Tree-clause-occupied
-returns-in_ok-occupied-in-TwoWay-Tree-clause-occupied g c had =
+pub returns-clause-occupied : goal.returns-clause-occupied
+returns-clause-occupied g c had =
     let held = rw (c.in-Tree.is, c.in-TwoWay-Tree.is, c.in-TwoWay-Tree.field-0-is) at c.requires.held in
     let list = c.list_mut-tree.ensures.list in
     let s = members node (look c.in-TwoWay-Tree.links) (root_of (tree_of c.in-Tree.cursor)) in
@@ -37,8 +37,8 @@ returns-in_ok-occupied-in-TwoWay-Tree-clause-occupied g c had =
     rw (c.in-Tree.is, c.in-TwoWay-Tree.is, c.in-TwoWay-Tree.field-0-is)
     (found, ap (λ l. TwoWay (Tree l)) same.1, moves_to_key held found (on.list ∙ same.0 ∙ list) (on.position ∙ c.of.ensures))
 
-pub returns-in_ok-occupied-in-TwoWay-Tree-clause-vacant : goal.returns-in_ok-occupied-in-TwoWay-Tree-clause-vacant
-returns-in_ok-occupied-in-TwoWay-Tree-clause-vacant g c new =
+pub returns-clause-vacant : goal.returns-clause-vacant
+returns-clause-vacant g c new =
     let held = rw (c.in-Tree.is, c.in-TwoWay-Tree.is, c.in-TwoWay-Tree.field-0-is) at c.requires.held in
     let list = c.list_mut-tree.ensures.list in
     let s = members node (look c.in-TwoWay-Tree.links) (root_of (tree_of c.in-Tree.cursor)) in

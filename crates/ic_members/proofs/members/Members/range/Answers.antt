@@ -15,8 +15,8 @@ list_walk-requires-clause-shown g c =
     let range = c.walk_between-from.ensures.range s (rw c.list.ensures held.shown) in
     rw c.list-in-TwoWay-Tree.ensures (range_shown (Shows node (look c.in-TwoWay-Tree.links) (root_of (tree_of c.in-Tree.cursor))) range held.shown)
 
-pub returns-in_ok-places-in-TwoWay-Tree-clause-range : goal.returns-in_ok-places-in-TwoWay-Tree-clause-range
-returns-in_ok-places-in-TwoWay-Tree-clause-range g c =
+pub returns-clause-range : goal.returns-clause-range
+returns-clause-range g c =
     let inner = rw c.in-TwoWay-Tree.is at c.in-TwoWay-Tree.field-0-is in
     let held = rw (c.in-Tree.is, c.in-TwoWay-Tree.is, inner) at c.requires.held in
     let s = members node (look c.in-TwoWay-Tree.links) (root_of (tree_of c.in-Tree.cursor)) in

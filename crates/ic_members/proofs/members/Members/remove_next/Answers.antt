@@ -3,8 +3,8 @@ use Rattle.ic_members.proofs.Moving.{singly_turned}
 use Rattle.ic_members.proofs.Editing.{takes_next}
 use Rattle.ic_members.proofs.members.Members.remove_next.Goals as goal
 
-pub returns-in-Singly-clause-taken : goal.returns-in-Singly-clause-taken
-returns-in-Singly-clause-taken g c =
+pub returns-clause-taken : goal.returns-clause-taken
+returns-clause-taken g c =
     let held = rw c.in-Singly.is at c.requires.held in
     let e = c.remove_next.ensures.removed in
     rw (c.in-Singly.is, c.place_of.ensures) (takes_next e (singly_turned e.stands) held (gap_after_cursor _ held))
