@@ -1,16 +1,17 @@
 -- For callers: in a sorted sequence the answers of keyed calls are filters of it, whatever the bounds are.
-use Rattle.std.proofs.Common.{◌≡◌, Bool, true, false, not, ◌&&◌, Option, Some, List, [], ◌∷◌, ◌++◌, map, refl, sym, ap, ◌∙◌, append-nil, true≢false}
+use Rattle.std.proofs.Common.{◌≡◌, Bool, true, false, not, cond, ◌&&◌, Option, Some, None, List, [], ◌∷◌, ◌++◌, map, refl, sym, ap, ◌∙◌, append-nil, true≢false}
 use Rattle.std.specs.Cmp.{IsTotalOrder}
 use Rattle.std.specs.List.{AllByRecursion, filter}
 use Rattle.std.specs.declared.cmp.Ordering.{Ordering}
-use Rattle.std.specs.Ordering.{is_lt, is_le}
+use Rattle.std.specs.declared.cmp.Ordering.TheVariants.{Less, Equal, Greater}
+use Rattle.std.specs.Ordering.{is_eq, is_lt, is_le}
 use Rattle.ic_unsafe_ref.specs.declared.place.Place.{Place}
 use Rattle.ic_unsafe_ref.specs.Objects.{Objects, object_at}
 use Rattle.ic_link_ops.specs.PlacedObjects.{ArePlaced, values_at}
 use Rattle.ic_link_ops.specs.Sequences.{Cut, join, insert, first, last, IsDistinct}
 use Rattle.ic_rbtree.specs.declared.key_adapter.Bound.{Bound}
 use Rattle.ic_rbtree.specs.declared.key_adapter.Bound.TheVariants.{Included, Excluded, Unbounded}
-use Rattle.ic_rbtree.specs.Borders.{IsBorder, IsLowerBorder, IsUpperBorder, Finds, IsSorted, IsSortedFor, equal_at, less_at}
+use Rattle.ic_rbtree.specs.Borders.{IsBorder, IsLowerBorder, IsUpperBorder, Finds, IsSorted, IsSortedFor, equal_at, at_most_at, less_at, if_passes}
 use Rattle.ic_rbtree.specs.Comparing.{answer_at, compared, compared_within, order_of, meets_lower, meets_upper, is_beyond}
 use Rattle.ic_rbtree.specs.Ranges.{runs_up, IsRange}
 use Rattle.ic_rbtree.proofs.KeyLaws.{Cuts, all_map, one_border, filter_pass, filter_fail, filter_front, lower_is, upper_is, cuts_at_most, cuts_less, found_is, sorted_for}
@@ -44,6 +45,19 @@ put_behind {at} {s} sorted gap same border p =
     r.0 ∙ sym (ap (filter (λ q. not (less_at at q))) (sym k.same) ∙ filter_front (λ q. not (less_at at q)) k.front k.back (all_map (λ q h. ap not h) k.front k.fail) (all_map (λ q h. ap not h) k.back k.pass)) in
     let back : gap.back ≡ filter (less_at at) s = r.1 ∙ sym (ap (filter (less_at at)) (sym k.same) ∙ filter_fail (less_at at) k.front k.back k.fail ∙ filter_pass (less_at at) k.back k.pass) in
     ap (λ t. t ++ p ∷ gap.back) front ∙ ap (λ t. filter (λ q. not (less_at at q)) s ++ p ∷ t) back
+
+not_equal : (o : Ordering) → is_lt o ≡ true → is_eq o ≡ false
+not_equal Less h = refl
+not_equal Equal h = cc
+not_equal Greater h = cc
+
+-- WHERE WHAT IS SEARCHED WOULD STAND, between smaller members and greater ones, a search for it finds none
+pub vacant_finds : {at : Place → Ordering} {s : List Place} (gap : Cut) → join gap ≡ s → IsBorder (at_most_at at) gap → IsBorder (less_at at) gap → Finds at s None
+vacant_finds {at} gap same smaller larger = record { gap = gap; same = same; border = smaller; answer = nobody (first gap.back) refl }
+  where
+    nobody : (o : Option Place) → first gap.back ≡ o → None ≡ if_passes (equal_at at) o
+    nobody None e = refl
+    nobody (Some p) e = sym (ap (λ b. cond b (Some p) None) (not_equal _ (larger.passes p e)))
 
 module _ {A V K : Type 0} {cmp : K → K → Ordering} (total : IsTotalOrder cmp) (key_of : A → V → K) (adapter : A) (objects : Objects V) where
   abbrev within : Bound K → Bound (Place → Ordering)

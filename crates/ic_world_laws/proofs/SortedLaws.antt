@@ -8,10 +8,10 @@ use Rattle.std.specs.declared.cmp.Ordering.{Ordering}
 use Rattle.ic_unsafe_ref.specs.declared.place.Place.{Place}
 use Rattle.ic_unsafe_ref.specs.Objects.{object_at}
 use Rattle.ic_link_ops.specs.PlacedObjects.{ArePlaced}
-use Rattle.ic_link_ops.specs.Sequences.{insert, first, last}
+use Rattle.ic_link_ops.specs.Sequences.{Cut, join, insert, first, last}
 use Rattle.ic_rbtree.specs.Borders.{IsBorder, IsSortedFor, less_at}
 use Rattle.ic_rbtree.proofs.KeyLaws.{value_there, stays_sorted}
-use Rattle.ic_rbtree.proofs.SortedAnswers.{put_behind, for_key, found_first, lower_first, upper_last, range_filter}
+use Rattle.ic_rbtree.proofs.SortedAnswers.{put_behind, for_key, found_first, vacant_finds, lower_first, upper_last, range_filter}
 use Rattle.ic_rbtree.proofs.SortedValues.{own_order_is}
 use Rattle.ic_world.specs.declared.call.Command.{Command}
 use Rattle.ic_world.specs.declared.call.Command.TheVariants as call
@@ -25,7 +25,7 @@ use Rattle.ic_world.specs.Calls.{Reply, found, looked, range, entry, State, key_
 use Rattle.ic_world.specs.Step.{Step, StepOn}
 use Rattle.ic_world.specs.Several.{state_in, with_state, sequence_of}
 use Rattle.ic_world.proofs.Steps.{some_same}
-use Rattle.ic_world_laws.specs.Sorted.{IsSortedIn, has_key, is_from, is_until, FindsFirst, FindsEnd, IsWithinBoth, PutsBehind, GoesBehind, IsSortedAfter, StaysSorted}
+use Rattle.ic_world_laws.specs.Sorted.{IsSortedIn, has_key, has_greater, is_greater, is_from, is_until, FindsFirst, FindsEnd, IsWithinBoth, PutsBehind, GoesBehind, IsSortedAfter, StaysSorted}
 use Rattle.ic_world_laws.proofs.StepLaws.{of_reply, of_range}
 
 -- a collection that was there is what it was set to
@@ -48,6 +48,10 @@ abbrev IfOccupied : (Place → Type 0) → Reply → Type 0
 IfOccupied P (entry true p n) = P p
 IfOccupied P _ = Unit
 
+abbrev IfVacant : Type 0 → Reply → Type 0
+IfVacant P (entry false p n) = P
+IfVacant P _ = Unit
+
 abbrev IfRange : (List Place → Type 0) → Reply → Type 0
 IfRange P (range places n m) = P places
 IfRange P _ = Unit
@@ -61,6 +65,10 @@ module _ {A V K : Type 0} {cmp : K → K → Ordering} (total : IsTotalOrder cmp
   finds_first (call.Entry c key object) new (entry true p n) step = λ s is sorted.
       of_reply cmp key_of c (enter key object) (IfOccupied (λ p. Some p ≡ first (filter (has_key cmp key_of old key) s.members))) old new (entry true p n) step s is (λ r. tt)
       (λ there t replies left. found_first total key_of old.adapter (objects_of old) (placed c s is) sorted key replies.0)
+  finds_first (call.Entry c key object) new (entry false p n) step = λ s is sorted.
+      of_reply cmp key_of c (enter key object) (IfVacant (None ≡ first (filter (has_key cmp key_of old key) s.members))) old new (entry false p n) step s is (λ r. tt)
+      (λ there t replies left. let at = replies.3 in
+      found_first total key_of old.adapter (objects_of old) (placed c s is) sorted key (vacant_finds at.0 at.1 at.2.0.0 at.2.0.1))
   finds_first _ new _ step = tt
 
   -- THE FIRST MEMBER within a lower bound is found, and the last one within an upper one
@@ -80,6 +88,14 @@ module _ {A V K : Type 0} {cmp : K → K → Ordering} (total : IsTotalOrder cmp
       (λ replies. range_filter total key_of old.adapter (objects_of old) (placed c s is) sorted min max (apart.0 c s is) replies.0)
   is_within_both apart _ new _ step = tt
 
+  -- an object that is put into such a gap stands behind all that are not greater than what was searched
+  there_is : (c : ℕ) (s : Sequence) → collection old c ≡ Some s → (new : Family A V) (t : State) → new ≡ with_state old c s.field t → collection new c ≡ Some (sequence_of s.field t)
+  there_is c s is new t left = subst (λ w. collection w c ≡ Some (sequence_of s.field t)) (sym left) (set_there old.collections c (sequence_of s.field t) is)
+
+  behind : (c : ℕ) (p : Place) (s : Sequence) → collection old c ≡ Some s → (new : Family A V) (t : State) → new ≡ with_state old c s.field t
+      → (at : Place → Ordering) → IsSortedFor at s.members → (gap : Cut) → join gap ≡ s.members → IsBorder (less_at at) gap → t.members ≡ insert gap p → PutsBehind cmp key_of old (less_at at) c p new s.members
+  behind c p s is new t left at sorted gap cut border members = (sequence_of s.field t, there_is c s is new t left, members ∙ put_behind sorted gap cut border p)
+
   -- AN OBJECT THAT IS PUT IN ORDER goes behind all that are not greater, and the tree stays sorted
   module _ (c : ℕ) (p : Place) (s : Sequence) (is : collection old c ≡ Some s) (sorted : IsSortedIn cmp key_of old s.members) (there : is_placed old p ≡ true)
       (new : Family A V) (t : State) (cursor : Option Place) (left : new ≡ with_state old c s.field t)
@@ -90,29 +106,23 @@ module _ {A V K : Type 0} {cmp : K → K → Ordering} (total : IsTotalOrder cmp
     own_is : own_at cmp (key_of old.adapter) (objects_of old) p ≡ key_at cmp (key_of old.adapter) (objects_of old) (key_of old.adapter own.0)
     own_is = own_order_is cmp (key_of old.adapter) (objects_of old) p own.1
 
-    is_there : collection new c ≡ Some (sequence_of s.field t)
-    is_there = subst (λ w. collection w c ≡ Some (sequence_of s.field t)) (sym left) (set_there old.collections c (sequence_of s.field t) is)
-
     members_are : t.members ≡ insert puts.0.0 p
     members_are = ap (λ (x : State). x.members) puts.0.2.1
 
-    puts_behind : PutsBehind cmp key_of old c p new s.members
-    puts_behind = (
-      sequence_of s.field t,
-      is_there,
-      members_are ∙ put_behind (subst (λ at. IsSortedFor at s.members) (sym own_is) (for_key total key_of old.adapter (objects_of old) (placed c s is) sorted (key_of old.adapter own.0))) puts.0.0 puts.0.1 puts.0.2.0 p,
-    )
+    puts_behind : PutsBehind cmp key_of old (is_greater cmp key_of old p) c p new s.members
+    puts_behind = behind c p s is new t left (own_at cmp (key_of old.adapter) (objects_of old) p)
+        (subst (λ at. IsSortedFor at s.members) (sym own_is) (for_key total key_of old.adapter (objects_of old) (placed c s is) sorted (key_of old.adapter own.0))) puts.0.0 puts.0.1 puts.0.2.0 members_are
 
     sorted_after : IsSortedAfter cmp key_of c new
     sorted_after u is_u =
         let here : IsSortedIn cmp key_of old (insert puts.0.0 p) =
         stays_sorted total (key_of old.adapter) (objects_of old) p own.1 puts.0.0 (subst (ArePlaced (objects_of old)) (sym puts.0.1) (placed c s is)) (subst (IsSortedIn cmp key_of old) (sym puts.0.1) sorted)
         (subst (λ at. IsBorder (less_at at) puts.0.0) own_is puts.0.2.0) in
-        subst (λ (z : Sequence). IsSortedIn cmp key_of new z.members) (some_same (sym is_there ∙ is_u))
+        subst (λ (z : Sequence). IsSortedIn cmp key_of new z.members) (some_same (sym (there_is c s is new t left) ∙ is_u))
         (subst (λ w. IsSortedIn cmp key_of w t.members) (sym left) (subst (IsSortedIn cmp key_of old) (sym members_are) here))
 
   abbrev IsInOrder : ℕ → Place → Family A V → Sequence → Reply → Type 0
-  IsInOrder c p new s (looked n) = PutsBehind cmp key_of old c p new s.members × IsSortedAfter cmp key_of c new
+  IsInOrder c p new s (looked n) = PutsBehind cmp key_of old (is_greater cmp key_of old p) c p new s.members × IsSortedAfter cmp key_of c new
   IsInOrder c p new s _ = Unit
 
   -- a call that inserts in order, wherever it leaves the cursor
@@ -135,6 +145,11 @@ module _ {A V K : Type 0} {cmp : K → K → Ordering} (total : IsTotalOrder cmp
   pub goes_behind : (command : Command V K) (new : Family A V) (reply : Reply) → Step cmp key_of old command reply new → GoesBehind cmp key_of old command reply new
   goes_behind (call.Insert c p) new (looked n) step = λ s is sorted. (put_by_key c p new n step s is sorted).0
   goes_behind (call.CursorInsert c p) new (looked n) step = λ s is sorted. (put_by_cursor c p new n step s is sorted).0
+  goes_behind (call.Entry c key p) new (entry false q n) step = λ s is sorted.
+      of_reply cmp key_of c (enter key p) (IfVacant (PutsBehind cmp key_of old (has_greater cmp key_of old key) c p new s.members)) old new (entry false q n) step s is (λ r. tt)
+      (λ there t replies left. let at = replies.3 in
+      behind c p s is new t left (key_at cmp (key_of old.adapter) (objects_of old) key) (for_key total key_of old.adapter (objects_of old) (placed c s is) sorted key) at.0 at.1 at.2.0.1
+      (ap (λ (x : State). x.members) at.2.1))
   goes_behind _ new _ step = tt
 
   pub stays : (command : Command V K) (new : Family A V) (reply : Reply) → Step cmp key_of old command reply new → StaysSorted cmp key_of old command reply new

@@ -1,5 +1,5 @@
 -- What keyed calls answer while their tree is sorted: filters of its members.
-use Rattle.std.specs.Prelude.{◌≡◌, ℕ, true, not, ◌&&◌, Bool, List, ◌∷◌, ◌++◌, map, Some}
+use Rattle.std.specs.Prelude.{◌≡◌, ℕ, true, false, not, ◌&&◌, Bool, List, ◌∷◌, ◌++◌, map, Some, None}
 use Rattle.std.specs.List.{filter}
 use Rattle.std.specs.declared.cmp.Ordering.{Ordering}
 use Rattle.ic_unsafe_ref.specs.declared.place.Place.{Place}
@@ -22,10 +22,13 @@ module _ {A V K : Type 0} (cmp : K → K → Ordering) (key_of : A → V → K) 
   abbrev pub WhileSorted : ℕ → (List Place → Type 0) → Type 0
   WhileSorted c Holds = (s : Sequence) → collection w c ≡ Some s → IsSortedIn s.members → Holds s.members
 
-  -- whether a member has the key, whether it is within a lower bound and within an upper one, and whether its key is greater than that
-  -- of the object at p
+  -- whether a member has the key or a greater one, whether it is within a lower bound and within an upper one, and whether its key is
+  -- greater than that of the object at p
   abbrev pub has_key : K → Place → Bool
   has_key key = equal_at (key_at cmp (key_of w.adapter) (objects_of w) key)
+
+  abbrev pub has_greater : K → Place → Bool
+  has_greater key = less_at (key_at cmp (key_of w.adapter) (objects_of w) key)
 
   abbrev pub is_from : Bound K → Place → Bool
   is_from bound = meets_lower (bound_at cmp (key_of w.adapter) (objects_of w) bound)
@@ -36,10 +39,11 @@ module _ {A V K : Type 0} (cmp : K → K → Ordering) (key_of : A → V → K) 
   abbrev pub is_greater : Place → Place → Bool
   is_greater p = less_at (own_at cmp (key_of w.adapter) (objects_of w) p)
 
-  -- A SEARCH FOR A KEY finds the first member that has it
+  -- A SEARCH FOR A KEY finds the first member that has it, and none has it where an entry is vacant
   abbrev pub FindsFirst : Command V K → Reply → Type 0
   FindsFirst (call.Find c key) (found p looks) = WhileSorted c (λ s. p ≡ first (filter (has_key key) s))
   FindsFirst (call.Entry c key object) (entry true p looks) = WhileSorted c (λ s. Some p ≡ first (filter (has_key key) s))
+  FindsFirst (call.Entry c key object) (entry false p looks) = WhileSorted c (λ s. None ≡ first (filter (has_key key) s))
   FindsFirst _ _ = Unit
 
   -- A SEARCH FOR A BOUND finds the first member within it, or the last
@@ -53,14 +57,14 @@ module _ {A V K : Type 0} (cmp : K → K → Ordering) (key_of : A → V → K) 
   IsWithinBoth (call.Range c min max) (range places first_looks second_looks) = WhileSorted c (λ s. places ≡ filter (λ q. is_from min q && is_until max q) s)
   IsWithinBoth _ _ = Unit
 
-  -- AN INSERT goes behind all members whose keys are not greater
-  abbrev pub PutsBehind : ℕ → Place → Family A V → List Place → Type 0
-  PutsBehind c p new s = (t : Sequence) × (collection new c ≡ Some t)
-      × (t.members ≡ filter (λ q. not (is_greater p q)) s ++ p ∷ filter (is_greater p) s)
+  -- AN INSERT goes behind all members whose keys are not greater than the object's, and into a vacant entry than the key
+  abbrev pub PutsBehind : (Place → Bool) → ℕ → Place → Family A V → List Place → Type 0
+  PutsBehind greater c p new s = (t : Sequence) × (collection new c ≡ Some t) × (t.members ≡ filter (λ q. not (greater q)) s ++ p ∷ filter greater s)
 
   abbrev pub GoesBehind : Command V K → Reply → Family A V → Type 0
-  GoesBehind (call.Insert c p) (looked looks) new = WhileSorted c (PutsBehind c p new)
-  GoesBehind (call.CursorInsert c p) (looked looks) new = WhileSorted c (PutsBehind c p new)
+  GoesBehind (call.Insert c p) (looked looks) new = WhileSorted c (PutsBehind (is_greater p) c p new)
+  GoesBehind (call.CursorInsert c p) (looked looks) new = WhileSorted c (PutsBehind (is_greater p) c p new)
+  GoesBehind (call.Entry c key p) (entry false q looks) new = WhileSorted c (PutsBehind (has_greater key) c p new)
   GoesBehind _ _ new = Unit
 
 module _ {A V K : Type 0} (cmp : K → K → Ordering) (key_of : A → V → K) where

@@ -24,9 +24,10 @@ use std::alloc::Allocator;
 ///   linked in the field; of an entry where it is vacant.
 /// - Where it descends a tree of n members, it tells v looks, where `2^v <= (n + 1)^2`, and one at least if there is a member; a
 ///   range tells those of its two searches. A search by `Unbounded` makes none.
-/// - While the tree is sorted, `find` and an occupied `entry` answer the first member of the key; `lower_bound` and `upper_bound` the first
-///   and the last member within the bound; `range` all members within both.
-/// - An insert in order goes behind all members whose keys are not greater, and leaves a sorted tree sorted.
+/// - While the tree is sorted, `find` and an occupied `entry` answer the first member of the key, and no member has the key of a vacant
+///   one; `lower_bound` and `upper_bound` answer the first and the last member within the bound; `range` all members within both.
+/// - An insert in order goes behind all members whose keys are not greater, and leaves a sorted tree sorted. An object goes into a vacant
+///   entry behind all members whose keys are not greater than the key.
 pub fn answer<A: KeyAdapter, M: Allocator + Copy>(
     world: &mut World<A, M>,
     command: Command<A::Value, A::Key>,

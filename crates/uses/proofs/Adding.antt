@@ -1,15 +1,14 @@
 -- What a search for an id and the insert behind it leave.
-use Rattle.std.proofs.Common.{◌≡◌, ℕ, true, false, cond, Option, Some, None, IsSome, is_some, Result, Ok, Err, IfOk, List, refl, sym, ap, ◌∙◌, subst}
+use Rattle.std.proofs.Common.{◌≡◌, ℕ, true, Option, Some, None, IsSome, is_some, Result, Ok, Err, IfOk, List, refl, sym, ap, ◌∙◌, subst}
 use Rattle.std.proofs.lemmas.Cmp.{nat_cmp_total}
-use Rattle.std.specs.Ordering.{nat_cmp, is_eq, is_lt}
+use Rattle.std.specs.Ordering.{nat_cmp}
 use Rattle.std.specs.declared.cmp.Ordering.{Ordering}
-use Rattle.std.specs.declared.cmp.Ordering.TheVariants.{Less, Equal, Greater}
 use Rattle.ic_unsafe_ref.specs.declared.place.Place.{Place}
 use Rattle.ic_unsafe_ref.specs.Objects.{Objects, object_at}
 use Rattle.ic_link_ops.specs.declared.errors.AlreadyLinked.{AlreadyLinked}
 use Rattle.ic_link_ops.specs.LinkSteps.{LinkStep}
 use Rattle.ic_link_ops.specs.RedBlackTree.{Node, Shows}
-use Rattle.ic_link_ops.specs.Sequences.{Cut, first}
+use Rattle.ic_link_ops.specs.Sequences.{Cut}
 use Rattle.ic_link_ops.specs.Tables.{Table}
 use Rattle.ic_link_ops.proofs.SequenceLemmas.{some_same}
 use Rattle.ic_link_ops.proofs.ShownTrees.{one_sequence}
@@ -18,7 +17,7 @@ use Rattle.ic_rbtree.specs.declared.entry.Entry.TheVariants.{Occupied, Vacant}
 use Rattle.ic_rbtree.specs.declared.entry.InsertCursor.{InsertCursor}
 use Rattle.ic_rbtree.specs.declared.entry.RefusedInsert.{RefusedInsert}
 use Rattle.ic_rbtree.specs.declared.tree.RBTree.{RBTree}
-use Rattle.ic_rbtree.specs.Borders.{IsBorder, Finds, equal_at, less_at, if_passes}
+use Rattle.ic_rbtree.specs.Borders.{IsBorder, Finds, less_at}
 use Rattle.ic_rbtree.specs.Comparing.{compared, order_of}
 use Rattle.ic_rbtree.specs.CursorMut as editing
 use Rattle.ic_rbtree.specs.CursorMut.{CursorMut}
@@ -26,17 +25,12 @@ use Rattle.ic_rbtree.specs.Entry.{IfOccupied, IfVacant, InsertsInto, IsVacantFor
 use Rattle.ic_rbtree.specs.SortedObjects.{against, key_or, ShowsSorted}
 use Rattle.ic_rbtree.specs.Tree.{root_of, adapter_of}
 use Rattle.ic_rbtree.proofs.KeyLaws.{value_there}
-use Rattle.ic_rbtree.proofs.SortedAnswers.{found_first}
+use Rattle.ic_rbtree.proofs.SortedAnswers.{found_first, vacant_finds}
 use Rattle.ic_rbtree.proofs.SortedKeys.{shown_sorted, sorted_inserted}
 use Rattle.ic_rbtree.proofs.SortedValues.{own_order_is}
 use Rattle.uses.specs.Sessions.{id_of, id_at, with_id, HasId, Adds, GetsOrAdds}
 use Rattle.uses.specs.declared.sessions.ById.{ById}
 use Rattle.uses.specs.declared.sessions.Session.{Session}
-
-not_equal : (o : Ordering) → is_lt o ≡ true → is_eq o ≡ false
-not_equal Less h = refl
-not_equal Equal h = cc
-not_equal Greater h = cc
 
 abbrev at_id : Objects Session → ℕ → Place → Ordering
 at_id objects id = compared (order_of nat_cmp id_of id) objects
@@ -70,10 +64,7 @@ module _ {L E : Type 0} (node : E → Node) (table : L → Table E) (objects : O
 
     -- none has the id where the entry is vacant
     none_known : (v : InsertCursor ById L) → IsVacantFor node (at_id objects id) (table links) s v → with_id objects id s ≡ None
-    none_known v x = sym (known_is (record { gap = x.gap; same = x.same; border = x.smaller; answer = nobody (first x.gap.back) refl })) where
-      nobody : (o : Option Place) → first x.gap.back ≡ o → None ≡ if_passes (equal_at (at_id objects id)) o
-      nobody None e = refl
-      nobody (Some p) e = sym (ap (λ b. cond b (Some p) None) (not_equal _ (x.larger.passes p e)))
+    none_known v x = sym (known_is (vacant_finds x.gap x.same x.smaller x.larger))
 
     -- and the gap is that of the session's id
     own_gap : {gap : Cut} (session : Place) → IsSome (object_at objects session) → id_at objects session ≡ id → IsBorder (less_at (at_id objects id)) gap
