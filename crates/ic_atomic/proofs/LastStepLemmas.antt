@@ -6,7 +6,7 @@ use Rattle.ic_atomic.specs.declared.step.Step.{Step}
 use Rattle.ic_atomic.specs.declared.step.Step.TheVariants.{Claim}
 use Rattle.ic_atomic.specs.declared.step.Event.{Event}
 use Rattle.ic_atomic.specs.ClaimMap.{no_claims, target, holder_after, map_after, last_map}
-use Rattle.ic_atomic.specs.OneList.{Entry, call_of, found_by, steps_of, record_at, word_for, words_found, IsHeld, IsOneList}
+use Rattle.ic_atomic.specs.OneList.{Entry, request_of, found_by, steps_of, record_at, word_for, words_found, IsHeld, IsOneList}
 use Rattle.ic_atomic.proofs.Lists.{map-snoc, last_map-snoc, words_found-snoc}
 use Rattle.ic_atomic.proofs.OneListLemmas.{end_map, ends_of, someone, steps_of-mine}
 
@@ -56,8 +56,8 @@ module _ (words : List ℕ) (records : List (List Event)) (one : IsOneList words
   last_of : (before : List Entry) (x : Entry) → one.order ≡ before ++ x ∷ [] → LastStep records
   last_of before x ended =
       let found : x.event.found ≡ word_for (end_map before (target x.event.step)) =
-      same_last (map found_by before) (words_found no_claims (map call_of before)) x.event.found (word_for (end_map before (target x.event.step)))
-      (sym (map-snoc found_by before x) ∙ (ap (map found_by) (sym ended) ∙ (one.found ∙ (ap (λ (order : List Entry). words_found no_claims (map call_of order)) ended ∙ (ap (words_found no_claims) (map-snoc call_of before x) ∙ words_found-snoc no_claims (map call_of before) (call_of x)))))) in
+      same_last (map found_by before) (words_found no_claims (map request_of before)) x.event.found (word_for (end_map before (target x.event.step)))
+      (sym (map-snoc found_by before x) ∙ (ap (map found_by) (sym ended) ∙ (one.found ∙ (ap (λ (order : List Entry). words_found no_claims (map request_of order)) ended ∙ (ap (words_found no_claims) (map-snoc request_of before x) ∙ words_found-snoc no_claims (map request_of before) (request_of x)))))) in
       record {
         holder = x.holder;
         before = steps_of x.holder before;
@@ -67,7 +67,7 @@ module _ (words : List ℕ) (records : List (List Event)) (one : IsOneList words
             let i : ℕ = index_of p in
             let was : word_for (end_map before p) ≡ 1 = ap (λ (s : Step). word_for (end_map before (target s))) (sym claims) ∙ (sym found ∙ one_found) in
             let step : end_map one.order ≡ map_after (end_map before) x.holder (Claim p) =
-            ap end_map ended ∙ (ap (last_map no_claims) (map-snoc call_of before x) ∙ (last_map-snoc no_claims (map call_of before) (call_of x) ∙ ap (map_after (end_map before) x.holder) claims)) in
+            ap end_map ended ∙ (ap (last_map no_claims) (map-snoc request_of before x) ∙ (last_map-snoc no_claims (map request_of before) (request_of x) ∙ ap (map_after (end_map before) x.holder) claims)) in
             let end : end_map one.order p ≡ end_map before p =
             ap (λ m. m p) step ∙ (ap (λ b. cond b (holder_after (end_map before p) x.holder (Claim p)) (end_map before p)) (eq-eqb i i refl) ∙ refused_leaves (end_map before p) x.holder p was) in
             let by = someone (end_map one.order p) (ap word_for end ∙ was) in

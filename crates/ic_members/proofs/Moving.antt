@@ -19,7 +19,7 @@ use Rattle.ic_fields.specs.declared.entry.Entry.{Entry}
 use Rattle.ic_fields.specs.Entries.{is_linked, neighbors, successor, node, Joins}
 use Rattle.ic_members.specs.declared.members.Members.{Members}
 use Rattle.ic_members.specs.declared.members.Members.TheVariants.{Singly, Doubly, Xor, Tree}
-use Rattle.ic_members.specs.Members.{IsAt, Stands, ShowsIn, cursor_in, members_in, Keeps, Held, Alike}
+use Rattle.ic_members.specs.Members.{IsAt, StandsIn, ShowsIn, cursor_in, members_in, Keeps, Held, Alike}
 use Rattle.ic_members.specs.Edits.{AtGap, Moves}
 use Rattle.ic_members.proofs.AllKinds.{singly_kind, doubly_kind, tree_kind}
 use Rattle.ic_members.proofs.Standing.{known}
@@ -29,7 +29,7 @@ use Rattle.ic_members.proofs.Standing.{known}
 pub record Turned {A V K H : Type 0} (Shows : Table Entry → H → List Place → Type 0) (t t' : Table Entry) (head head' : H) (m m' : Members A V K) : Type 0 where
   pub reads : (s : List Place) → ShowsIn t m s → Shows t head s
   pub shows : (s : List Place) → Shows t' head' s → ShowsIn t' m' s
-  pub stands : (s : List Place) → Shows t' head' s → Stands s m'
+  pub stands : (s : List Place) → Shows t' head' s → StandsIn s m'
   pub alike : Alike m m'
 
 -- a position that stands is one of what is shown

@@ -18,7 +18,7 @@ use Rattle.ic_fields.specs.declared.entry.Entry.{Entry}
 use Rattle.ic_fields.specs.Entries.{is_linked, neighbors, successor, Joins}
 use Rattle.ic_members.specs.declared.members.Members.{Members}
 use Rattle.ic_members.specs.declared.members.Members.TheVariants.{Singly, Doubly, Xor}
-use Rattle.ic_members.specs.Members.{IsAt, IsAtBefore, ShowsIn, Stands, cursor_in, Keeps, Alike}
+use Rattle.ic_members.specs.Members.{IsAt, IsAtBefore, ShowsIn, StandsIn, cursor_in, Keeps, Alike}
 use Rattle.ic_members.specs.Edits.{PutsAll, Parts}
 
 -- WHERE A CURSOR STANDS: at null,
@@ -72,7 +72,7 @@ module _ {A V K C H : Type 0} {made : C → Members A V K} {Shows : Table Entry 
 
   -- a table with the same extent keeps what it shows for another list of the kind
   keeps : {t t' : Table Entry} {m m' : C} {s u touched : List Place} → Keeps t (made m) s → KeepsBeside t t' touched
-      → Shows t' (head m') u → Stands u (made m') → Keeps t' (made m') u
+      → Shows t' (head m') u → StandsIn u (made m') → Keeps t' (made m') u
   keeps {t' = t'} {m = m} {m' = m'} {u = u} held frame shown stands = record {
     carried = rw (frame.extent, (kind.alike m m').kind) held.carried;
     shown = kind.shows t' m' u shown;
@@ -85,8 +85,8 @@ module _ {A V K C H : Type 0} {made : C → Members A V K} {Shows : Table Entry 
     pub parts : {kept handed : Cut → List Place} {result : H} {part : C}
         → SplitsBeside Shows table (λ a b steps. Replays is_linked (table a) (table b) steps) IsBeside kept handed
         (site links (head m) (cursor_in (made m))) result (site links' (head m') (cursor_in (made m')))
-        → (IsBeside gap (cursor_in (made m')) → Shows (table links') (head m') (kept gap) → Stands (kept gap) (made m'))
-        → head part ≡ result → cursor_in (made part) ≡ None → (Shows (table links') (head part) (handed gap) → Stands (handed gap) (made part))
+        → (IsBeside gap (cursor_in (made m')) → Shows (table links') (head m') (kept gap) → StandsIn (kept gap) (made m'))
+        → head part ≡ result → cursor_in (made part) ≡ None → (Shows (table links') (head part) (handed gap) → StandsIn (handed gap) (made part))
         → Parts (table links) (table links') (made m) (made m') (kept gap) (handed gap) (made part)
     parts {handed = handed} {part = part} e stands list null part_stands =
         let splits = e.split gap (shown_cut held gap cut) there in
@@ -103,7 +103,7 @@ module _ {A V K C H : Type 0} {made : C → Members A V K} {Shows : Table Entry 
         → SplicesBeside Shows table (λ a b steps. Replays is_linked (table a) (table b) steps) IsBeside
         (site links (head m) (cursor_in (made m))) given (site links' (head m') (cursor_in (made m')))
         → Shows (table links) given r → IsDisjoint r s
-        → (IsBeside gap (cursor_in (made m')) → Shows (table links) (head m) (join gap) → IsDisjoint r (join gap) → Shows (table links') (head m') (splice gap r) → Stands (splice gap r) (made m'))
+        → (IsBeside gap (cursor_in (made m')) → Shows (table links) (head m) (join gap) → IsDisjoint r (join gap) → Shows (table links') (head m') (splice gap r) → StandsIn (splice gap r) (made m'))
         → PutsAll (table links) (table links') (made m) (made m') gap r
     puts_all r e shown apart stands =
         let was = shown_cut held gap cut in

@@ -12,7 +12,7 @@ use Rattle.ic_fields.specs.declared.entry.Entry.{Entry}
 use Rattle.ic_fields.specs.Entries.{is_linked, Joins}
 use Rattle.ic_members.specs.declared.members.Members.{Members}
 use Rattle.ic_members.specs.declared.members.Members.TheVariants.{Singly, Doubly, Xor, Tree}
-use Rattle.ic_members.specs.Members.{IsAt, IsAtBefore, Stands, cursor_in, members_in, Held}
+use Rattle.ic_members.specs.Members.{IsAt, IsAtBefore, StandsIn, cursor_in, members_in, Held}
 use Rattle.ic_members.proofs.AllKinds.{xor_kind}
 
 -- the gap before a position
@@ -21,7 +21,7 @@ before_at {s} {position} at = let prev = gap_before at.0 position at.2 in (prev.
 
 module _ {A V K : Type 0} where
   -- whatever the kind, the cursor is at a position of s
-  pub stands_at : (s : List Place) (m : Members A V K) → Stands s m → IsAt s (cursor_in m)
+  pub stands_at : (s : List Place) (m : Members A V K) → StandsIn s m → IsAt s (cursor_in m)
   stands_at s (Singly m) at = at
   stands_at s (Doubly m) at = at
   stands_at s (Xor m) at = (at.0, at.1, at.2)

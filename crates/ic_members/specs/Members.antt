@@ -115,17 +115,17 @@ module _ {A V K : Type 0} where
   members_in t (Xor m) = xor.members other t (xor_cursor.list_of m)
   members_in t (Tree m) = tree_members.members node t (root_of (tree_cursor.tree_of m))
 
-  abbrev pub Stands : List Place → Members A V K → Type 0
-  Stands s (Singly m) = IsAt s (singly_cursor.position m)
-  Stands s (Doubly m) = IsAt s (doubly_cursor.position m)
-  Stands s (Xor m) = IsAtBefore s (xor_cursor.position m) (xor_cursor.place_of m).next
-  Stands s (Tree m) = IsAt s (tree_cursor.position m)
+  abbrev pub StandsIn : List Place → Members A V K → Type 0
+  StandsIn s (Singly m) = IsAt s (singly_cursor.position m)
+  StandsIn s (Doubly m) = IsAt s (doubly_cursor.position m)
+  StandsIn s (Xor m) = IsAtBefore s (xor_cursor.position m) (xor_cursor.place_of m).next
+  StandsIn s (Tree m) = IsAt s (tree_cursor.position m)
 
   -- THE TABLE KEEPS s for the collection: it carries its kind, shows s, and the cursor stands in s
   pub record Keeps (t : Table Entry) (m : Members A V K) (s : List Place) : Type 0 where
     pub carried : carries (kind_of t) (kind_in m) ≡ true
     pub shown : ShowsIn t m s
-    pub stands : Stands s m
+    pub stands : StandsIn s m
 
   -- it keeps what the walk finds: what every call asks
   abbrev pub Held : Table Entry → Members A V K → Type 0

@@ -13,7 +13,7 @@ use Rattle.ic_link_ops.specs.Sequences.{Cut, join, insert, IsAbsent, IsMember}
 use Rattle.ic_link_ops.specs.Tables.{Table, IsLinked, IsUnlinked, ChangesOnly}
 use Rattle.ic_link_ops.specs.RedBlackTree.{Node, Shows}
 use Rattle.ic_link_ops.proofs.Calling.{has_member}
-use Rattle.ic_link_ops.proofs.Positions.{stands_by_gap, stands_null, stands_on, stands_still, member_there}
+use Rattle.ic_link_ops.proofs.Positions.{stands_null, stands_on, stands_still, member_there}
 use Rattle.ic_link_ops.proofs.SequenceLemmas.{absent_without, split_member}
 use Rattle.ic_link_ops.proofs.ShownTrees.{shows_beside, free_absent}
 use Rattle.ic_cursors.specs.Answers.{inserted}
@@ -95,11 +95,6 @@ module _ {L E H : Type 0} {Shows : Table E → H → List Place → Type 0} {tab
       record { inserted = puts; acquired = acquired; refused = tt; unchanged = tt; position = position; stands = in_order_stands stands position puts }
   put_among keeps stands position X false acquired refused unchanged puts =
       record { inserted = λ _ _. tt; acquired = tt; refused = refused; unchanged = (refl, unchanged.0); position = position; stands = stands_still stands (keeps _ _ p refused) unchanged.0 position }
-
--- a position on what was inserted
-pub inserted_stands : {L E H : Type 0} {Shows : Table E → H → List Place → Type 0} {table : L → Table E} {at : Place → Ordering} {old : Table E} {new : Site L H} {s : List Place} {p : Place} → new.position ≡ Some p
-    → InsertsInOrder Shows at old (table new.links) new.head s p → Standing.Stands Shows table new
-inserted_stands {p = p} is x = stands_by_gap (record { front = x.gap.front; back = p ∷ x.gap.back }) x.inserted.shows is
 
 -- what is searched, in other words
 pub among_by : {L E H : Type 0} {Shows : Table E → H → List Place → Type 0} {table : L → Table E} {Does : L → L → List LinkStep → Type 0} {Refused : L → L → Place → Type 0} {T V : Type 0}

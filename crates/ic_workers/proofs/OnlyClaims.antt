@@ -6,7 +6,7 @@ use Rattle.ic_atomic.specs.declared.step.Step.{Step}
 use Rattle.ic_atomic.specs.declared.step.Step.TheVariants.{Claim, Release, Look}
 use Rattle.ic_atomic.specs.declared.step.Event.{Event}
 use Rattle.ic_atomic.specs.ClaimMap.{ClaimMap, target, is_party, holder_after, map_after, last_map, no_claims}
-use Rattle.ic_atomic.specs.OneList.{Entry, call_of, steps_of, record_at, IsHeld, IsOneList}
+use Rattle.ic_atomic.specs.OneList.{Entry, request_of, steps_of, record_at, IsHeld, IsOneList}
 use Rattle.ic_atomic.proofs.OneListLemmas.{ends_of}
 
 -- the step is a claim
@@ -79,7 +79,7 @@ some_either : (b : Bool) (o k : Option ℕ) → is_some o ≡ true → is_some k
 some_either true o k e f = e
 some_either false o k e f = f
 
-stay_held : (m : ClaimMap) (order : List Entry) (p : Place) → AllClaims order → is_some (m p) ≡ true → is_some (last_map m (map call_of order) p) ≡ true
+stay_held : (m : ClaimMap) (order : List Entry) (p : Place) → AllClaims order → is_some (m p) ≡ true → is_some (last_map m (map request_of order) p) ≡ true
 stay_held m [] p all e = e
 stay_held m (x ∷ xs) p all e =
     stay_held (map_after m x.holder x.event.step) xs p all.1
@@ -99,13 +99,13 @@ claim_holds m a (Claim q) p e = held_then (eqb (index_of p) (index_of q)) (holde
 claim_holds m a (Release q) p e = absurd (true≢false (sym e))
 claim_holds m a (Look q) p e = absurd (true≢false (sym e))
 
-held_at_end : (m : ClaimMap) (order : List Entry) (p : Place) → AllClaims order → asked (index_of p) order ≡ true → is_some (last_map m (map call_of order) p) ≡ true
+held_at_end : (m : ClaimMap) (order : List Entry) (p : Place) → AllClaims order → asked (index_of p) order ≡ true → is_some (last_map m (map request_of order) p) ≡ true
 held_at_end m [] p all e = absurd (true≢false (sym e))
 held_at_end m (x ∷ xs) p all e =
     by_first (claims_at (index_of p) x.event.step) refl (λ rest. held_at_end (map_after m x.holder x.event.step) xs p all.1 rest)
   where
-    by_first : (b : Bool) → claims_at (index_of p) x.event.step ≡ b → (asked (index_of p) xs ≡ true → is_some (last_map (map_after m x.holder x.event.step) (map call_of xs) p) ≡ true)
-        → is_some (last_map (map_after m x.holder x.event.step) (map call_of xs) p) ≡ true
+    by_first : (b : Bool) → claims_at (index_of p) x.event.step ≡ b → (asked (index_of p) xs ≡ true → is_some (last_map (map_after m x.holder x.event.step) (map request_of xs) p) ≡ true)
+        → is_some (last_map (map_after m x.holder x.event.step) (map request_of xs) p) ≡ true
     by_first true is later = stay_held (map_after m x.holder x.event.step) xs p all.1 (claim_holds m x.holder x.event.step p is)
     by_first false is later = later (sym (ap (λ c. c || asked (index_of p) xs) is) ∙ e)
 
@@ -119,5 +119,5 @@ pub claimed_is_held : (words : List ℕ) (records : List (List Event)) → IsOne
 claimed_is_held words records one only h p ask =
     let all = all_claims one.order (λ k. subst OnlyClaims (sym (one.own k)) (only k)) in
     let there = is_asked h (index_of p) one.order (ap (asks (index_of p)) (one.own h) ∙ ask) in
-    let by = some_party (last_map no_claims (map call_of one.order) p) (held_at_end no_claims one.order p all there) in
+    let by = some_party (last_map no_claims (map request_of one.order) p) (held_at_end no_claims one.order p all there) in
     (by.0, sym (ends_of words records one by.0 p) ∙ by.1)

@@ -20,7 +20,7 @@ use Rattle.ic_world.specs.declared.collection.Collection.{Collection}
 use Rattle.ic_world.specs.declared.call.Refusal.TheVariants.{WrongKind, SameCollection, OtherField}
 use Rattle.ic_world.specs.Family.{Family, same_kind}
 use Rattle.ic_world.specs.FamilyCodes.{kind_again}
-use Rattle.ic_world.specs.Splices.{IsBesideOf, can_splice, Emptied, PutsBeside, CanJoin, CanBeJoined, Joins, AreJoined}
+use Rattle.ic_world.specs.Splices.{IsBesideOf, can_splice, Emptied, PutsBeside, CanJoin, CanBeJoined, PutsTogether, AreJoined}
 use Rattle.ic_world.specs.Calls.{done}
 use Rattle.ic_world.specs.Tables.{table, sequence, seen_as, at, family_of, IsWhole}
 use Rattle.ic_world.specs.Several.{StepSplice, refusal_of_splice}
@@ -153,7 +153,7 @@ module _ {A V K : Type 0} {adapter : A} {objects : Objects V} {room : ℕ} {ts :
 -- what the members of a joined list say of both lists: `taken` has those of l
 pub joins : {A V K M : Type 0} {adapter : A} (before : Bool) (tables : List (Field M)) (k l : Collection A V K) → CanJoin before adapter (map look tables) k l → (now : Field M) → now ≡ get_or tables k.field now → (nf : Field M)
     (m emptied taken : Members A V K) → ((t : Table Entry) (s : List Place) → Keeps t l.members s → Keeps t taken s) → Emptied l.members emptied → PutsBeside before (look now) (look nf) k.members m (members_in (look now) taken)
-    → Joins before (map look tables) (map look (set tables k.field nf)) k l (after k m) (after l emptied)
+    → PutsTogether before (map look tables) (map look (set tables k.field nf)) k l (after k m) (after l emptied)
 joins before tables k l can now links nf m emptied taken same e puts =
     let t = table (map look tables) k.field in
     let read : t ≡ look now = table_read tables k.field now (rw length-map at can.there) links in

@@ -12,14 +12,14 @@ use Rattle.ic_members.specs.Edits.{AtGap, Puts}
 use Rattle.ic_members.proofs.AllKinds.{lawful}
 use Rattle.ic_world.specs.declared.one_call.Where.{Where}
 use Rattle.ic_world.specs.declared.one_call.Where.TheVariants.{Front, Back, Before, After}
-use Rattle.ic_world.specs.Calls.{State, done}
+use Rattle.ic_world.specs.Calls.{done}
 use Rattle.ic_world.specs.Calls as calls
 use Rattle.ic_world.specs.Turns.{Turns}
 use Rattle.ic_world.proofs.Turned.{nulled, turns_put, turns_put_null}
 
 -- what putting p there leaves
 abbrev pub PutAt : {A V K M : Type 0} → Where → Place → (old new : Field M) (m m' : Members A V K) → Type 0
-PutAt at p old new m m' = Turns (p ∷ []) (λ s t. calls.Puts at p s done t) (look old) (look new) m m'
+PutAt at p old new m m' = Turns (p ∷ []) (λ s t. calls.PutReplies at p s done t) (look old) (look new) m m'
 
 -- the cursor went to null, if anything
 abbrev pub Nulls : {A V K : Type 0} → (m m' : Members A V K) → Type 0

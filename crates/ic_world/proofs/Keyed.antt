@@ -17,7 +17,7 @@ use Rattle.ic_members.specs.Edits.{AtGap, Moves}
 use Rattle.ic_members.specs.Keyed.{FewLooks, IsVacantFor, PutsInOrder, PutsAtKey}
 use Rattle.ic_members.proofs.AllKinds.{lawful}
 use Rattle.ic_world.specs.LinkedSets.{linked_in}
-use Rattle.ic_world.specs.Calls.{State, put, moved, asks_unlinked, key_at, Enters}
+use Rattle.ic_world.specs.Calls.{State, put, moved, asks_unlinked, key_at, EntryReplies}
 use Rattle.ic_world.specs.Replies.{entry_or_linked}
 use Rattle.ic_world.specs.Turns.{Turns, Ran, state_of}
 use Rattle.ic_world.proofs.Linked.{in_linked}
@@ -57,7 +57,7 @@ module _ {V K : Type 0} (cmp : K → K → Ordering) (key_of : V → K) (objects
   at = key_at cmp key_of objects key
 
   abbrev Answers : Option (Bool × Place × ℕ) → State → State → Type 0
-  Answers answer s t = Enters cmp key_of objects key p s (entry_or_linked answer) t
+  Answers answer s t = EntryReplies cmp key_of objects key p s (entry_or_linked answer) t
 
   module _ {A M : Type 0} (links links' : Field M) (m m' : Members A V K) where
     abbrev Occupied : Bool → Place → Type 0

@@ -22,7 +22,7 @@ use Rattle.ic_world.proofs.Turned.{still_members, still_held, moves_on, turns_mo
 
 -- the cursor moves, and the answer is where it is
 abbrev pub MovedTo : {A V K M : Type 0} → Direction → (links : Field M) (m m' : Members A V K) → Option Place → Type 0
-MovedTo way links m m' r = Turns [] (λ s t. calls.Moves way s (object_or_nothing r) t) (look links) (look links) m m'
+MovedTo way links m m' r = Turns [] (λ s t. calls.MoveReplies way s (object_or_nothing r) t) (look links) (look links) m m'
 
 module _ {A V K M : Type 0} (links : Field M) {m m' : Members A V K} (r : Option Place) where
   pub moved_next : AtGap (members_in (look links) m) (λ gap. IsAfter gap (cursor_in m) × Moves (look links) m m' (first gap.back)) → r ≡ cursor_in m' → MovedTo Next links m m' r
@@ -52,7 +52,7 @@ module _ {A V K M : Type 0} (links : Field M) where
 
 -- what a call there leaves, with the member that it answered
 abbrev pub TakenAt : {A V K M : Type 0} → Where → (links links' : Field M) (m m' : Members A V K) → Option Place → Type 0
-TakenAt at links links' m m' r = Turns [] (λ s t. calls.Takes at s (object_or_nothing r) t) (look links) (look links') m m'
+TakenAt at links links' m m' r = Turns [] (λ s t. calls.TakeReplies at s (object_or_nothing r) t) (look links) (look links') m m'
 
 -- the gap with nothing behind it, and the one with p behind it
 none_out : (s : State) (gap : Cut) (cursor : Option Place) → None ≡ first gap.back → moved s cursor ≡ without s gap cursor (first gap.back)
@@ -102,21 +102,21 @@ module _ {A V K M : Type 0} (links links' : Field M) where
 
 -- the first member, if there is one
 first_goes : (s : State) (p : Place) (t : State) → IsDistinct s.members → first s.members ≡ Some p → (gap : Cut) → join gap ≡ s.members → Some p ≡ first gap.back
-    → t ≡ taken s gap p None → calls.Takes Front s (object_or_nothing (Some p)) t
+    → t ≡ taken s gap p None → calls.TakeReplies Front s (object_or_nothing (Some p)) t
 first_goes s p t distinct is gap cut there same =
     (gap, cut, (ap (λ (g : Cut). last g.front) (sym (first_gap gap distinct cut is there)), ap object_or_nothing there, same ∙ some_out s gap None p there))
 
-first_lacks : (s t : State) → None ≡ first s.members → t ≡ moved s None → calls.Takes Front s (object_or_nothing None) t
+first_lacks : (s t : State) → None ≡ first s.members → t ≡ moved s None → calls.TakeReplies Front s (object_or_nothing None) t
 first_lacks s t empty same = (at_front s.members, refl, (refl, ap object_or_nothing empty, same ∙ none_out s (at_front s.members) None empty))
 
 -- the last member, if there is one
-last_goes : (s : State) (p : Place) (t : State) (gap : Cut) → join gap ≡ s.members → gap.back ≡ p ∷ [] → t ≡ taken s gap p None → calls.Takes Back s (object_or_nothing (Some p)) t
+last_goes : (s : State) (p : Place) (t : State) (gap : Cut) → join gap ≡ s.members → gap.back ≡ p ∷ [] → t ≡ taken s gap p None → calls.TakeReplies Back s (object_or_nothing (Some p)) t
 last_goes s p t gap cut back same =
     let front : gap.front ≡ but_last s.members = sym (but_last_of_push gap.front p) ∙ ap (λ b. but_last (gap.front ++ b)) (sym back) ∙ ap but_last cut in
     let there : Some p ≡ first gap.back = sym (ap first back) in
     (gap, cut, (front, ap object_or_nothing there, same ∙ some_out s gap None p there))
 
-last_lacks : (s t : State) → None ≡ last s.members → t ≡ moved s None → calls.Takes Back s (object_or_nothing None) t
+last_lacks : (s t : State) → None ≡ last s.members → t ≡ moved s None → calls.TakeReplies Back s (object_or_nothing None) t
 last_lacks s t empty same =
     let none = last_none s.members empty in
     (at_front s.members, refl, (sym (ap but_last none), ap (λ u. object_or_nothing (first u)) (sym none), same ∙ none_out s (at_front s.members) None (sym (ap first none))))

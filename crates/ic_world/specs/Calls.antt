@@ -185,8 +185,8 @@ module _ {K : Type 0} where
   refusal_of call s = asks (has_call call s.kind) WrongKind (own_refusal call s)
 
 -- WHAT AN ACCEPTED CALL answers and leaves. AN OBJECT IS PUT into a gap
-abbrev pub Puts : Where → Place → State → Reply → State → Type 0
-Puts at p s reply t = (reply ≡ done) × AtGap s (λ gap. IsAt at s.cursor gap × (t ≡ put s gap p (rests at s.cursor)))
+abbrev pub PutReplies : Where → Place → State → Reply → State → Type 0
+PutReplies at p s reply t = (reply ≡ done) × AtGap s (λ gap. IsAt at s.cursor gap × (t ≡ put s gap p (rests at s.cursor)))
 
 -- A MEMBER IS TAKEN OUT, if there is one. A cursor that was on it goes on to the next
 abbrev pub onward : Where → Option Place → Cut → Option Place
@@ -197,26 +197,26 @@ abbrev pub without : State → Cut → Option Place → Option Place → State
 without s gap cursor None = moved s cursor
 without s gap cursor (Some p) = taken s gap p cursor
 
-abbrev pub Takes : Where → State → Reply → State → Type 0
-Takes at s reply t = AtGap s (λ gap. IsFrontOf at s gap × (reply ≡ object_or_nothing (first gap.back)) × (t ≡ without s gap (onward at s.cursor gap) (first gap.back)))
+abbrev pub TakeReplies : Where → State → Reply → State → Type 0
+TakeReplies at s reply t = AtGap s (λ gap. IsFrontOf at s gap × (reply ≡ object_or_nothing (first gap.back)) × (t ≡ without s gap (onward at s.cursor gap) (first gap.back)))
 
 -- A MEMBER IS SWAPPED for p. A cursor that was on it is on p
 abbrev pub onto : Where → Option Place → Place → Option Place
 onto Before cursor p = Some p
 onto at cursor p = rests at cursor
 
-abbrev pub Swaps : Where → Place → State → Reply → State → Type 0
-Swaps at p s reply t = AtGap s (λ gap. IsFrontOf at s gap × (out : Place) × (first gap.back ≡ Some out) × (reply ≡ object out) × (t ≡ swapped s gap p out (onto at s.cursor p)))
+abbrev pub SwapReplies : Where → Place → State → Reply → State → Type 0
+SwapReplies at p s reply t = AtGap s (λ gap. IsFrontOf at s gap × (out : Place) × (first gap.back ≡ Some out) × (reply ≡ object out) × (t ≡ swapped s gap p out (onto at s.cursor p)))
 
 -- THE CURSOR MOVES
-abbrev pub Moves : Direction → State → Reply → State → Type 0
-Moves Next s reply t = AtGap s (λ gap. IsAfter gap s.cursor × (reply ≡ object_or_nothing (first gap.back)) × (t ≡ moved s (first gap.back)))
-Moves Prev s reply t = AtGap s (λ gap. IsBefore gap s.cursor × (reply ≡ object_or_nothing (last gap.front)) × (t ≡ moved s (last gap.front)))
+abbrev pub MoveReplies : Direction → State → Reply → State → Type 0
+MoveReplies Next s reply t = AtGap s (λ gap. IsAfter gap s.cursor × (reply ≡ object_or_nothing (first gap.back)) × (t ≡ moved s (first gap.back)))
+MoveReplies Prev s reply t = AtGap s (λ gap. IsBefore gap s.cursor × (reply ≡ object_or_nothing (last gap.front)) × (t ≡ moved s (last gap.front)))
 
 -- A SEARCH answers a member or none, with the looks of a descent, and puts the cursor there
-abbrev pub Searches : (Option Place → Type 0) → (ℕ → Type 0) → State → Reply → State → Type 0
-Searches IsFound AreFew s (found position looks) t = IsFound position × AreFew looks × (t ≡ moved s position)
-Searches IsFound AreFew s _ t = ⊥
+abbrev pub SearchReplies : (Option Place → Type 0) → (ℕ → Type 0) → State → Reply → State → Type 0
+SearchReplies IsFound AreFew s (found position looks) t = IsFound position × AreFew looks × (t ≡ moved s position)
+SearchReplies IsFound AreFew s _ t = ⊥
 
 -- `cmp`: the order of the keys. `key_of`: the key of a value. `objects`: the values by place
 module _ {V K : Type 0} (cmp : K → K → Ordering) (key_of : V → K) (objects : Objects V) where
@@ -231,32 +231,32 @@ module _ {V K : Type 0} (cmp : K → K → Ordering) (key_of : V → K) (objects
   own_at p = compared (own_order cmp key_of objects p) objects
 
   -- AN OBJECT IS PUT BY ITS KEY: behind members with that key
-  abbrev pub PutsInOrder : Place → Option Place → State → Reply → State → Type 0
-  PutsInOrder p cursor s (looked looks) t = AtGap s (λ gap. IsBorder (less_at (own_at p)) gap × (t ≡ put s gap p cursor)) × FewLooks looks s.members
-  PutsInOrder p cursor s _ t = ⊥
+  abbrev pub InsertionReplies : Place → Option Place → State → Reply → State → Type 0
+  InsertionReplies p cursor s (looked looks) t = AtGap s (λ gap. IsBorder (less_at (own_at p)) gap × (t ≡ put s gap p cursor)) × FewLooks looks s.members
+  InsertionReplies p cursor s _ t = ⊥
 
   -- AN ENTRY is occupied by a member with the key; or vacant, at the gap where it would stand, and the object goes there if it is unlinked
-  abbrev pub Enters : K → Place → State → Reply → State → Type 0
-  Enters key p s (entry true q looks) t = Finds (key_at key) s.members (Some q) × FewLooks looks s.members × (t ≡ moved s (Some q))
-  Enters key p s (entry false q looks) t =
+  abbrev pub EntryReplies : K → Place → State → Reply → State → Type 0
+  EntryReplies key p s (entry true q looks) t = Finds (key_at key) s.members (Some q) × FewLooks looks s.members × (t ≡ moved s (Some q))
+  EntryReplies key p s (entry false q looks) t =
       (q ≡ p) × (is_linked_in s p ≡ false) × FewLooks looks s.members × AtGap s (λ gap. IsVacantFor (key_at key) gap × (t ≡ put s gap p (Some p)))
-  Enters key p s (refused AlreadyLinked) t = (is_linked_in s p ≡ true) × AtGap s (IsVacantFor (key_at key)) × (t ≡ s)
-  Enters key p s _ t = ⊥
+  EntryReplies key p s (refused AlreadyLinked) t = (is_linked_in s p ≡ true) × AtGap s (IsVacantFor (key_at key)) × (t ≡ s)
+  EntryReplies key p s _ t = ⊥
 
   abbrev pub Replies : Call K → State → Reply → State → Type 0
-  Replies (one.Put at p) s reply t = Puts at p s reply t
-  Replies (one.Take at) s reply t = Takes at s reply t
-  Replies (one.Swap at p) s reply t = Swaps at p s reply t
-  Replies (one.Move way) s reply t = Moves way s reply t
+  Replies (one.Put at p) s reply t = PutReplies at p s reply t
+  Replies (one.Take at) s reply t = TakeReplies at s reply t
+  Replies (one.Swap at p) s reply t = SwapReplies at p s reply t
+  Replies (one.Move way) s reply t = MoveReplies way s reply t
   Replies (one.Seek Null) s reply t = (reply ≡ done) × (t ≡ moved s None)
   Replies (one.Seek (On p)) s reply t = (reply ≡ done) × (t ≡ moved s (Some p))
   Replies (one.Seek (With way p beside)) s reply t = (reply ≡ done) × (t ≡ moved s (Some p))
   Replies (one.Whole Clear) s reply t = (reply ≡ done) × (t ≡ cleared s)
   Replies (one.Whole FastClear) s reply t = (reply ≡ done) × (t ≡ having s [] None)
   Replies (one.Whole Reverse) s reply t = (reply ≡ done) × (t ≡ having s (reverse s.members) None)
-  Replies (one.Search (Find key)) s reply t = Searches (Finds (key_at key) s.members) (λ n. FewLooks n s.members) s reply t
-  Replies (one.Search (LowerBound bound)) s reply t = Searches (IsLowerBorder (bound_at bound) s.members) (λ n. FewLooksWithin bound n s.members) s reply t
-  Replies (one.Search (UpperBound bound)) s reply t = Searches (IsUpperBorder (bound_at bound) s.members) (λ n. FewLooksWithin bound n s.members) s reply t
-  Replies (one.Insertion (Insert p)) s reply t = PutsInOrder p (Some p) s reply t
-  Replies (one.Insertion (CursorInsert p)) s reply t = PutsInOrder p s.cursor s reply t
-  Replies (one.Enter key p) s reply t = Enters key p s reply t
+  Replies (one.Search (Find key)) s reply t = SearchReplies (Finds (key_at key) s.members) (λ n. FewLooks n s.members) s reply t
+  Replies (one.Search (LowerBound bound)) s reply t = SearchReplies (IsLowerBorder (bound_at bound) s.members) (λ n. FewLooksWithin bound n s.members) s reply t
+  Replies (one.Search (UpperBound bound)) s reply t = SearchReplies (IsUpperBorder (bound_at bound) s.members) (λ n. FewLooksWithin bound n s.members) s reply t
+  Replies (one.Insertion (Insert p)) s reply t = InsertionReplies p (Some p) s reply t
+  Replies (one.Insertion (CursorInsert p)) s reply t = InsertionReplies p s.cursor s reply t
+  Replies (one.Enter key p) s reply t = EntryReplies key p s reply t

@@ -47,7 +47,7 @@ module _ {A V K : Type 0} where
   CanBeJoined before adapter ts _ _ = ⊥
 
   -- THE MEMBERS OF l ARE PUT beside the cursor of k, and of all tables that of k's field alone is changed
-  pub record Joins (before : Bool) (ts us : List (Table Entry)) (k l k' l' : Collection A V K) : Type 0 where
+  pub record PutsTogether (before : Bool) (ts us : List (Table Entry)) (k l k' l' : Collection A V K) : Type 0 where
     pub t : Table Entry
     pub tables : us ≡ slice_set ts k.field t
     pub field : k'.field ≡ k.field
@@ -56,5 +56,5 @@ module _ {A V K : Type 0} where
     pub puts : PutsBeside before (table ts k.field) t k.members k'.members (members_in (table ts k.field) l.members)
 
   abbrev pub AreJoined : Bool → (ts us : List (Table Entry)) (k l k' l' : Option (Collection A V K)) → Type 0
-  AreJoined before ts us (Some k) (Some l) (Some k') (Some l') = Joins before ts us k l k' l'
+  AreJoined before ts us (Some k) (Some l) (Some k') (Some l') = PutsTogether before ts us k l k' l'
   AreJoined before ts us _ _ _ _ = ⊥

@@ -101,7 +101,7 @@ fn put_in<A: KeyAdapter, M: Allocator>(
     requires can { calls.has_call {K = A.Key} (one.Put at object) (kind_in members.old) ≡ true }
     requires covered { IsCovered (look links.old) object }
     requires unlinked { IsUnlinked entry_is_linked (look links.old) object }
-    ensures { Turns (object ∷ []) (λ s t. calls.Puts at object s calls.done t) (look links.old) (look links.new) members.old members.new }
+    ensures { Turns (object ∷ []) (λ s t. calls.PutReplies at object s calls.done t) (look links.old) (look links.new) members.old members.new }
 {
     match at {
         Where::Front => {
@@ -167,7 +167,7 @@ fn pop_front<A: KeyAdapter, M: Allocator>(
 ) -> Option<Place>
     requires held { Held (look links.old) members.old }
     requires can { kinds.is_list (kind_in members.old) ≡ true }
-    ensures { Turns [] (λ s t. calls.Takes Where.Front s (calls.object_or_nothing result) t) (look links.old) (look links.new) members.old members.new }
+    ensures { Turns [] (λ s t. calls.TakeReplies Where.Front s (calls.object_or_nothing result) t) (look links.old) (look links.new) members.old members.new }
 {
     members.go_null();
     if is_singly(members.kind()) {
@@ -187,7 +187,7 @@ fn pop_back<A: KeyAdapter, M: Allocator>(
 ) -> Option<Place>
     requires held { Held (look links.old) members.old }
     requires can { kinds.is_two_way_list (kind_in members.old) ≡ true }
-    ensures { Turns [] (λ s t. calls.Takes Where.Back s (calls.object_or_nothing result) t) (look links.old) (look links.new) members.old members.new }
+    ensures { Turns [] (λ s t. calls.TakeReplies Where.Back s (calls.object_or_nothing result) t) (look links.old) (look links.new) members.old members.new }
 {
     members.go_null();
     members.move_prev(links);
@@ -242,7 +242,7 @@ fn replace_with<A: KeyAdapter, M: Allocator>(
     requires held { Held (look links.old) members.old }
     requires can { kinds.has_before (kind_in members.old) ≡ true }
     requires covered { IsCovered (look links.old) object }
-    ensures { Ran (object ∷ []) (calls.own_refusal {K = A.Key} (one.Swap Where.Before object)) (λ out s t. calls.Swaps Where.Before object s (calls.object out) t)
+    ensures { Ran (object ∷ []) (calls.own_refusal {K = A.Key} (one.Swap Where.Before object)) (λ out s t. calls.SwapReplies Where.Before object s (calls.object out) t)
         links.old links.new members.old members.new result }
 {
     if members.cursor().is_none() {
@@ -266,7 +266,7 @@ fn replace_next_with<A: KeyAdapter, M: Allocator>(
     requires held { Held (look links.old) members.old }
     requires can { kinds.is_singly (kind_in members.old) ≡ true }
     requires covered { IsCovered (look links.old) object }
-    ensures { Ran (object ∷ []) (calls.own_refusal {K = A.Key} (one.Swap Where.After object)) (λ out s t. calls.Swaps Where.After object s (calls.object out) t)
+    ensures { Ran (object ∷ []) (calls.own_refusal {K = A.Key} (one.Swap Where.After object)) (λ out s t. calls.SwapReplies Where.After object s (calls.object out) t)
         links.old links.new members.old members.new result }
 {
     if members.peek_next(links).is_none() {

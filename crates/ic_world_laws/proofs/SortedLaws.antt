@@ -21,7 +21,7 @@ use Rattle.ic_world.specs.declared.search.Search.TheVariants as searches
 use Rattle.ic_world.specs.declared.one_call.Call.TheVariants.{Search as search, Insertion as insertion, Enter as enter}
 use Rattle.ic_world.specs.Apart.{AreApart, AreAllPlaced}
 use Rattle.ic_world.specs.Family.{Family, Sequence, collection, objects_of, is_placed}
-use Rattle.ic_world.specs.Calls.{Reply, found, looked, range, entry, State, key_at, own_at, names, PutsInOrder, Replies}
+use Rattle.ic_world.specs.Calls.{Reply, found, looked, range, entry, State, key_at, own_at, names, InsertionReplies, Replies}
 use Rattle.ic_world.specs.Step.{Step, StepOn}
 use Rattle.ic_world.specs.Several.{state_in, with_state, sequence_of}
 use Rattle.ic_world.proofs.Steps.{some_same}
@@ -99,7 +99,7 @@ module _ {A V K : Type 0} {cmp : K → K → Ordering} (total : IsTotalOrder cmp
   -- AN OBJECT THAT IS PUT IN ORDER goes behind all that are not greater, and the tree stays sorted
   module _ (c : ℕ) (p : Place) (s : Sequence) (is : collection old c ≡ Some s) (sorted : IsSortedIn cmp key_of old s.members) (there : is_placed old p ≡ true)
       (new : Family A V) (t : State) (cursor : Option Place) (left : new ≡ with_state old c s.field t)
-      (n : ℕ) (puts : PutsInOrder cmp (key_of old.adapter) (objects_of old) p cursor (state_in old s) (looked n) t) where
+      (n : ℕ) (puts : InsertionReplies cmp (key_of old.adapter) (objects_of old) p cursor (state_in old s) (looked n) t) where
     own : (v : V) × (object_at (objects_of old) p ≡ Some v)
     own = value_there total (key_of old.adapter) (objects_of old) (object_at (objects_of old) p) there
 
@@ -127,7 +127,7 @@ module _ {A V K : Type 0} {cmp : K → K → Ordering} (total : IsTotalOrder cmp
 
   -- a call that inserts in order, wherever it leaves the cursor
   inserts : (c : ℕ) (p : Place) (call : Insertion) (cursor : State → Option Place) → names {K = K} (insertion call) ≡ p ∷ []
-      → ((s t : State) (n : ℕ) → Replies cmp (key_of old.adapter) (objects_of old) (insertion call) s (looked n) t → PutsInOrder cmp (key_of old.adapter) (objects_of old) p (cursor s) s (looked n) t)
+      → ((s t : State) (n : ℕ) → Replies cmp (key_of old.adapter) (objects_of old) (insertion call) s (looked n) t → InsertionReplies cmp (key_of old.adapter) (objects_of old) p (cursor s) s (looked n) t)
       → (new : Family A V) (n : ℕ) → StepOn cmp key_of old c (insertion call) (looked n) new → (s : Sequence) → collection old c ≡ Some s → IsSortedIn cmp key_of old s.members → IsInOrder c p new s (looked n)
   inserts c p call cursor named puts new n step s is sorted = of_reply cmp key_of c (insertion call) (IsInOrder c p new s) old new (looked n) step s is (λ r. tt) (λ there t replies left.
       let placed_p = left_true (is_placed old p) true (subst (λ ps. list_all (is_placed old) ps ≡ true) named there) in
