@@ -1,8 +1,8 @@
-//! The calls of one collection. Each type of answer has a type of calls of its own.
+//! The calls of one collection. Each has a type of its own, which knows the type of its answer.
 //!
 //! ```text
 //! call_of(Command::PopFront(2)) // Some((2, Call::Take(Where::Front)))
-//! call_of(Command::Show(2))     // None: its answer takes memory
+//! call_of(Command::Show(2))     // None: it only reads
 //! ```
 
 ghost use Rattle.std.specs.Prelude.{◌≡◌, true};
@@ -111,7 +111,8 @@ pub trait OneCall<A: KeyAdapter> {
             links.old links.new members.old members.new result };
 }
 
-/// The call of one collection that the command is, with the collection's number. None of the other commands.
+/// The call of one collection that the command is, with the collection's number. None of the other commands, of which `current` and `show`
+/// read one collection, and lend the world alone.
 #[inline]
 pub(crate) fn call_of<V: Copy, K: Copy>(command: Command<V, K>) -> Option<(usize, Call<K>)>
     ensures { result ≡ call_meant command }
