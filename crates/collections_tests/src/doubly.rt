@@ -94,7 +94,7 @@ fn write_edits(rt: &impl Abort, notes: &mut Text, lists: &mut Lists)
 
 // Notes what a walk gives at the front once, at the back twice, and at both ends until neither gives one, and first what a copy gives.
 fn write_walk(notes: &mut Text, mut walk: Iter<'_, u64, LinkOps>)
-    requires can { CanWalk neighbors_of (λ links. plain_table links) walk }
+    requires can { CanWalk neighbors_of (λ links. plain_table links) (λ objects. objects) walk }
 {
     if let Ok(mut copy) = walk.clone() {
         write_values(notes, &[copy.next_back()]);
@@ -112,7 +112,7 @@ fn write_walk(notes: &mut Text, mut walk: Iter<'_, u64, LinkOps>)
 
 // Notes the debug text of the objects that a walk gives.
 fn write_text(notes: &mut Text, alloc: Global, walk: Iter<'_, u64, LinkOps>)
-    requires can { CanWalk neighbors_of (λ links. plain_table links) walk }
+    requires can { CanWalk neighbors_of (λ links. plain_table links) (λ objects. objects) walk }
 {
     let mut found = Vec::new(alloc);
     for given in walk {

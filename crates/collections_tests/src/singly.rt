@@ -83,7 +83,7 @@ fn write_taken(notes: &mut Text, list: SinglyLinkedList<u64>, links: &mut LinkOp
 
 // Notes what a walk gives, and first what a copy of it gives.
 fn write_walk(notes: &mut Text, mut walk: Iter<'_, u64, LinkOps>)
-    requires can { CanWalk successor (λ links. plain_table links) walk }
+    requires can { CanWalk successor (λ links. plain_table links) (λ objects. objects) walk }
 {
     if let Ok(mut copy) = walk.clone() {
         write_values(notes, &[copy.next()]);

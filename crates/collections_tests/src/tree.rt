@@ -1,5 +1,6 @@
 //! The red-black tree.
 
+mod arrays;
 mod cursors;
 mod keys;
 mod shape;

@@ -130,7 +130,7 @@ fn write_turned(rt: &impl Abort, notes: &mut Text, lists: &mut Lists<OneWord<Xor
 
 // Notes what a walk gives at the front once, at the back twice, and at both ends until neither gives one, and first what a copy gives.
 fn write_walk(notes: &mut Text, mut walk: Iter<'_, u64, LinkOps>)
-    requires can { CanWalk (linked_by has_word) (XorJoins next_word_of) (λ links. table no_word links) walk }
+    requires can { CanWalk (linked_by has_word) (XorJoins next_word_of) (λ links. table no_word links) (λ objects. objects) walk }
 {
     if let Ok(mut copy) = walk.clone() {
         write_values(notes, &[copy.next_back()]);

@@ -20,7 +20,7 @@ ghost use Rattle.ic_cursors.specs.Ordered.{InsertsAmong};
 use crate::answers::replaced;
 use crate::{Collection, Cursor, Kind, OneWay, Ordered, Position, Sliced, TwoWay, TwoWaySliced};
 use ic_link_ops::{AlreadyLinked, LinkOps, ReplaceError};
-use ic_unsafe_ref::{Objects, Place, UnsafeRef};
+use ic_unsafe_ref::{Objects, Place, UnsafeRef, Values};
 use std::alloc::Allocator;
 
 /// A position in a collection that it edits, with the collection and the table of its links.
@@ -257,16 +257,16 @@ impl<'a, L: LinkOps, C: Ordered<L>> CursorMut<'a, C, L> {
     /// It requires that the object is placed, its place covered, and all members placed. The cursor stays where it is. A refused
     /// object comes back, and nothing else has changed.
     #[inline]
-    pub fn insert<B: Allocator>(
+    pub fn insert<O: Values<C::Object>>(
         &mut self,
-        objects: &Objects<C::Object, B>,
+        objects: &O,
         object: UnsafeRef<C::Object>,
     ) -> Result<(), AlreadyLinked<C::Object>>
         requires covered { IsCovered (L.table (links_of self.old)) object }
-        requires placed { ShowsPlaced (C.Shows (L.table (links_of self.old)) (C.head_of (list_of self.old))) objects.now }
-        requires object { is_placed objects.now object ≡ true }
+        requires placed { ShowsPlaced (C.Shows (L.table (links_of self.old)) (C.head_of (list_of self.old))) (O.values objects.now) }
+        requires object { is_placed (O.values objects.now) object ≡ true }
         requires stands { IsStanding C.StandsAt self.old }
-        ensures inserted { InsertsAmong C.Shows L.table L.Does L.Refused (C.order_of (list_of self.old) objects.now object)
+        ensures inserted { InsertsAmong C.Shows L.table L.Does L.Refused (C.order_of (list_of self.old) (O.values objects.now) object)
             (site_of C.head_of C.Position.member self.old) object result (site_of C.head_of C.Position.member self.new) }
         ensures kept { Edited C.StandsAt C.Keeps self.old self.new }
     {

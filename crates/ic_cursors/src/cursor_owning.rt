@@ -21,8 +21,7 @@ ghost use Rattle.ic_cursors.specs.Ordered.{InsertsAmong};
 use crate::answers::replaced;
 use crate::{Collection, Cursor, Kind, OneWay, Ordered, Position, Sliced, TwoWay, TwoWaySliced};
 use ic_link_ops::{AlreadyLinked, LinkOps, ReplaceError};
-use ic_unsafe_ref::{Objects, Place, UnsafeRef};
-use std::alloc::Allocator;
+use ic_unsafe_ref::{Place, UnsafeRef, Values};
 
 /// A position in a collection that it keeps. Its calls take the table of the collection's links each time.
 pub struct CursorOwning<C: Collection> {
@@ -247,19 +246,19 @@ impl<C: Collection> CursorOwning<C> {
     /// It requires that the object is placed, its place covered, and all members placed. The cursor stays where it is. A refused
     /// object comes back, and nothing else has changed.
     #[inline]
-    pub fn insert<L: LinkOps, B: Allocator>(
+    pub fn insert<L: LinkOps, O: Values<C::Object>>(
         &mut self,
         links: &mut L,
-        objects: &Objects<C::Object, B>,
+        objects: &O,
         object: UnsafeRef<C::Object>,
     ) -> Result<(), AlreadyLinked<C::Object>>
     where
         C: Ordered<L>,
         requires covered { IsCovered (L.table links.old) object }
-        requires placed { ShowsPlaced (C.Shows (L.table links.old) (C.head_of (list_of self.old))) objects.now }
-        requires object { is_placed objects.now object ≡ true }
+        requires placed { ShowsPlaced (C.Shows (L.table links.old) (C.head_of (list_of self.old))) (O.values objects.now) }
+        requires object { is_placed (O.values objects.now) object ≡ true }
         requires stands { IsStanding C.StandsAt links.old self.old }
-        ensures inserted { InsertsAmong C.Shows L.table L.Does L.Refused (C.order_of (list_of self.old) objects.now object)
+        ensures inserted { InsertsAmong C.Shows L.table L.Does L.Refused (C.order_of (list_of self.old) (O.values objects.now) object)
             (site_of C.head_of C.Position.member links.old self.old) object result (site_of C.head_of C.Position.member links.new self.new) }
         ensures kept { Edited C.StandsAt C.Keeps self.old links.new self.new }
     {

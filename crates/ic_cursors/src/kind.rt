@@ -22,8 +22,7 @@ ghost use Rattle.ic_link_ops.specs.EditsAt.{InsertsBeside, RemovesThere, Replace
 
 use crate::Position;
 use ic_link_ops::LinkOps;
-use ic_unsafe_ref::{Objects, Place};
-use std::alloc::Allocator;
+use ic_unsafe_ref::{Place, Values};
 
 /// A collection of objects, and what a cursor keeps of a position in it.
 pub trait Collection {
@@ -178,18 +177,18 @@ pub trait Ordered<L: LinkOps>: Kind<L> {
 
     /// Puts the object where its key belongs, behind the members that are not greater, and returns whether its link was acquired.
     /// The position stays.
-    fn insert_in_order<B: Allocator>(
+    fn insert_in_order<O: Values<Self::Object>>(
         &mut self,
         links: &mut L,
-        objects: &Objects<Self::Object, B>,
+        objects: &O,
         at: &mut Self::Position,
         object: Place,
     ) -> bool
         requires covered { IsCovered (L.table links.old) object }
-        requires placed { ShowsPlaced (Self.Shows (L.table links.old) (Self.head_of self.old)) objects.now }
-        requires object { is_placed objects.now object ≡ true }
+        requires placed { ShowsPlaced (Self.Shows (L.table links.old) (Self.head_of self.old)) (O.values objects.now) }
+        requires object { is_placed (O.values objects.now) object ≡ true }
         requires stands { Self.StandsAt links.old self.old at.old }
-        ensures inserted { InsertsAmong Self.Shows L.table L.Does L.Refused (order_of self.old objects.now object)
+        ensures inserted { InsertsAmong Self.Shows L.table L.Does L.Refused (order_of self.old (O.values objects.now) object)
             (site links.old (Self.head_of self.old) (Self.Position.member at.old)) object (answer.inserted {T = Self.Object} object result) (site links.new (Self.head_of self.new) (Self.Position.member at.new)) }
         ensures kept { Edited Self.StandsAt Self.Keeps self.old links.new self.new at.new };
 }

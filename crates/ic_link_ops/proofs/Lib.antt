@@ -27,6 +27,7 @@ pub mod Frames
 pub mod EntryLemmas
 pub mod LentTables
 pub mod TreeWordLemmas
+pub mod PlacedEnds
 pub mod PlacedValues
 pub mod TwoFields
 pub mod NumberedCollections

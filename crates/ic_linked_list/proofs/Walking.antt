@@ -1,11 +1,11 @@
 -- The walk over a list's objects: one step of it, and its end.
 use Rattle.std.proofs.Common.{◌≡◌, Option, Some, None, List, [], ◌∷◌, ◌++◌, true, false, Bor, refl, sym, ◌∙◌, ap}
 use Rattle.std.specs.Option.{option_copied}
-use Rattle.std.specs.List.{AllByRecursion, cons_option}
+use Rattle.std.specs.List.{cons_option}
 use Rattle.std.specs.Iterator.{MakesProgress, item_count}
 use Rattle.std.proofs.lemmas.List.Elements.{filter_map-append}
 use Rattle.ic_unsafe_ref.specs.declared.place.Place.{Place}
-use Rattle.ic_unsafe_ref.specs.Objects.{object_at}
+use Rattle.ic_unsafe_ref.specs.Objects.{Objects, object_at}
 use Rattle.ic_link_ops.specs.Tables.{Table, IsCovered}
 use Rattle.ic_link_ops.specs.LinkedList.{Neighbors, IsWalk}
 use Rattle.ic_link_ops.specs.Walk.{is_end, GivesFirst, GivesLast}
@@ -14,23 +14,19 @@ use Rattle.ic_link_ops.proofs.DoublyLists.{walk_shown, walk_last, walk_more, wal
 use Rattle.ic_linked_list.specs.declared.iter.Iter.{Iter}
 use Rattle.ic_link_ops.specs.PlacedObjects.{ArePlaced, values_at}
 use Rattle.ic_linked_list.specs.Iter.{objects_left, CanWalk}
+use Rattle.ic_link_ops.proofs.PlacedEnds.{all_but_last}
 
--- what holds of all members holds of all but the last, and of the last
-all_but_last : (P : Place → Type 0) (w : List Place) (p : Place) → AllByRecursion P (w ++ p ∷ []) → AllByRecursion P w × P p
-all_but_last P [] p h = (tt, h.0)
-all_but_last P (x ∷ w) p h = let k = all_but_last P w p h.1 in ((h.0, k.0), k.1)
-
-module _ {T L A E : Type 0} (n : E → Neighbors) (table : L → Table E) where
+module _ {T L O E : Type 0} (n : E → Neighbors) (table : L → Table E) (values : O → Objects T) where
   -- the walk gave out the member at p, and goes on behind it
-  pub record Steps (old new : Iter T L A) (p : Place) : Type 0 where
+  pub record Steps (old new : Iter T L O) (p : Place) : Type 0 where
     pub members : List Place
     pub walk : IsWalk n (table new.links.now).entry new.head new.tail members
     pub whole : IsWalk n (table old.links.now).entry old.head old.tail (p ∷ members)
-    pub placed : ArePlaced old.objects.now (p ∷ members)
-    pub objects : new.objects.now ≡ old.objects.now
+    pub placed : ArePlaced (values old.objects.now) (p ∷ members)
+    pub objects : values new.objects.now ≡ values old.objects.now
 
   -- it ends at the last member
-  pub steps_last : (t : Iter T L A) (p : Place) → CanWalk n table t → t.head ≡ Some p → is_end t.tail p ≡ true
+  pub steps_last : (t : Iter T L O) (p : Place) → CanWalk n table values t → t.head ≡ Some p → is_end t.tail p ≡ true
       → Steps t (record t { head = None; tail = None }) p
   steps_last t p can at end =
       let k = rw (at, is_end_yes t.tail p end) at can.1 in
@@ -44,7 +40,7 @@ module _ {T L A E : Type 0} (n : E → Neighbors) (table : L → Table E) where
       }
 
   -- else it goes on at the next one
-  pub steps_more : (t : Iter T L A) (p : Place) (next : Option Place) → CanWalk n table t → t.head ≡ Some p → is_end t.tail p ≡ false
+  pub steps_more : (t : Iter T L O) (p : Place) (next : Option Place) → CanWalk n table values t → t.head ≡ Some p → is_end t.tail p ≡ false
       → next ≡ (n ((table t.links.now).entry p)).next → Steps t (record t { head = next }) p
   steps_more t p next can at end is_next =
       let k = rw at at can.1 in
@@ -58,14 +54,14 @@ module _ {T L A E : Type 0} (n : E → Neighbors) (table : L → Table E) where
       }
 
   -- the same from the back: it gave out the member at p, and ends before it
-  pub record StepsBack (old new : Iter T L A) (p : Place) : Type 0 where
+  pub record StepsBack (old new : Iter T L O) (p : Place) : Type 0 where
     pub members : List Place
     pub walk : IsWalk n (table new.links.now).entry new.head new.tail members
     pub whole : IsWalk n (table old.links.now).entry old.head old.tail (members ++ p ∷ [])
-    pub placed : ArePlaced old.objects.now (members ++ p ∷ [])
-    pub objects : new.objects.now ≡ old.objects.now
+    pub placed : ArePlaced (values old.objects.now) (members ++ p ∷ [])
+    pub objects : values new.objects.now ≡ values old.objects.now
 
-  pub steps_back_last : (t : Iter T L A) (p : Place) → CanWalk n table t → t.tail ≡ Some p → is_end t.head p ≡ true
+  pub steps_back_last : (t : Iter T L O) (p : Place) → CanWalk n table values t → t.tail ≡ Some p → is_end t.head p ≡ true
       → StepsBack t (record t { head = None; tail = None }) p
   steps_back_last t p can at end =
       let k = rw (at, is_end_yes t.head p end) at can.1 in
@@ -78,7 +74,7 @@ module _ {T L A E : Type 0} (n : E → Neighbors) (table : L → Table E) where
         objects = refl;
       }
 
-  pub steps_back_more : (t : Iter T L A) (p : Place) (prev : Option Place) → CanWalk n table t → t.tail ≡ Some p → is_end t.head p ≡ false
+  pub steps_back_more : (t : Iter T L O) (p : Place) (prev : Option Place) → CanWalk n table values t → t.tail ≡ Some p → is_end t.head p ≡ false
       → prev ≡ (n ((table t.links.now).entry p)).prev → StepsBack t (record t { tail = prev }) p
   steps_back_more t p prev can at end is_prev =
       let k = rw at at can.1 in
@@ -92,48 +88,48 @@ module _ {T L A E : Type 0} (n : E → Neighbors) (table : L → Table E) where
       }
 
   -- the walk can go on
-  pub can_walk_back : {old new : Iter T L A} {p : Place} → StepsBack old new p → CanWalk n table new
+  pub can_walk_back : {old new : Iter T L O} {p : Place} → StepsBack old new p → CanWalk n table values new
   can_walk_back k = (k.members, k.walk, rw k.objects (all_but_last _ k.members _ k.placed).0)
 
-  pub can_walk : {old new : Iter T L A} {p : Place} → Steps old new p → CanWalk n table new
+  pub can_walk : {old new : Iter T L O} {p : Place} → Steps old new p → CanWalk n table values new
   can_walk k = (k.members, k.walk, rw k.objects k.placed.1)
 
   module _ (law : (t : L) (q : Place) → (n ((table t).entry q)).linked ≡ true → IsCovered (table t) q) where
     -- what is left is what stands at the members of the walk
-    pub left_is : (t : Iter T L A) (w : List Place) → IsWalk n (table t.links.now).entry t.head t.tail w
-        → objects_left n table t ≡ values_at t.objects.now w
-    left_is t w k = ap (values_at t.objects.now) (walk_shown (table t.links.now) (law t.links.now) t.head t.tail w k)
+    pub left_is : (t : Iter T L O) (w : List Place) → IsWalk n (table t.links.now).entry t.head t.tail w
+        → objects_left n table values t ≡ values_at (values t.objects.now) w
+    left_is t w k = ap (values_at (values t.objects.now)) (walk_shown (table t.links.now) (law t.links.now) t.head t.tail w k)
 
     -- where it has no first member, nothing is left
-    pub none_left : (t : Iter T L A) → CanWalk n table t → t.head ≡ None → objects_left n table t ≡ []
-    none_left t can at = left_is t can.0 can.1 ∙ ap (values_at t.objects.now) (walk_empty _ t.head t.tail can.0 at can.1)
+    pub none_left : (t : Iter T L O) → CanWalk n table values t → t.head ≡ None → objects_left n table values t ≡ []
+    none_left t can at = left_is t can.0 can.1 ∙ ap (values_at (values t.objects.now)) (walk_empty _ t.head t.tail can.0 at can.1)
 
     -- the step gives the object at p
-    pub gives : {old new : Iter T L A} {p : Place} (r : Option (Bor T)) → Steps old new p → option_copied r ≡ object_at new.objects.now p
-        → GivesFirst (objects_left n table) old r new
+    pub gives : {old new : Iter T L O} {p : Place} (r : Option (Bor T)) → Steps old new p → option_copied r ≡ object_at (values old.objects.now) p
+        → GivesFirst (objects_left n table values) old r new
     gives {old} {new} {p} r k is =
-        yields_placed (objects_left n table) old new r (object_at old.objects.now p) k.placed.0 (rw k.objects at is)
+        yields_placed (objects_left n table values) old new r (object_at (values old.objects.now) p) k.placed.0 is
         (left_is old (p ∷ k.members) k.whole
-        ∙ ap (cons_option (object_at old.objects.now p)) (sym (left_is new k.members k.walk ∙ ap (λ o. values_at o k.members) k.objects)))
+        ∙ ap (cons_option (object_at (values old.objects.now) p)) (sym (left_is new k.members k.walk ∙ ap (λ o. values_at o k.members) k.objects)))
 
     -- and leaves one less
-    pub goes : {old new : Iter T L A} {p : Place} (r : Option (Bor T)) → Steps old new p → option_copied r ≡ object_at new.objects.now p
-        → MakesProgress (CanWalk n table) (item_count (objects_left n table)) old r new
-    goes {old} {new} {p} r k is = makes_progress (objects_left n table) (CanWalk n table) old new r (can_walk k) (gives r k is)
+    pub goes : {old new : Iter T L O} {p : Place} (r : Option (Bor T)) → Steps old new p → option_copied r ≡ object_at (values old.objects.now) p
+        → MakesProgress (CanWalk n table values) (item_count (objects_left n table values)) old r new
+    goes {old} {new} {p} r k is = makes_progress (objects_left n table values) (CanWalk n table values) old new r (can_walk k) (gives r k is)
 
     -- the same from the back
-    pub none_left_back : (t : Iter T L A) → CanWalk n table t → t.tail ≡ None → objects_left n table t ≡ []
-    none_left_back t can at = left_is t can.0 can.1 ∙ ap (values_at t.objects.now) (walk_empty_back _ t.head t.tail can.0 at can.1)
+    pub none_left_back : (t : Iter T L O) → CanWalk n table values t → t.tail ≡ None → objects_left n table values t ≡ []
+    none_left_back t can at = left_is t can.0 can.1 ∙ ap (values_at (values t.objects.now)) (walk_empty_back _ t.head t.tail can.0 at can.1)
 
-    pub gives_back : {old new : Iter T L A} {p : Place} (r : Option (Bor T)) → StepsBack old new p → option_copied r ≡ object_at new.objects.now p
-        → GivesLast (objects_left n table) old r new
+    pub gives_back : {old new : Iter T L O} {p : Place} (r : Option (Bor T)) → StepsBack old new p → option_copied r ≡ object_at (values old.objects.now) p
+        → GivesLast (objects_left n table values) old r new
     gives_back {old} {new} {p} r k is =
-        yields_placed_back (objects_left n table) old new r (object_at old.objects.now p) (all_but_last _ k.members p k.placed).1 (rw k.objects at is)
+        yields_placed_back (objects_left n table values) old new r (object_at (values old.objects.now) p) (all_but_last _ k.members p k.placed).1 is
         (left_is old (k.members ++ p ∷ []) k.whole
-        ∙ filter_map-append (object_at old.objects.now) k.members (p ∷ [])
-        ∙ ap (λ (l : List T). l ++ cons_option (object_at old.objects.now p) []) (sym (left_is new k.members k.walk ∙ ap (λ o. values_at o k.members) k.objects)))
+        ∙ filter_map-append (object_at (values old.objects.now)) k.members (p ∷ [])
+        ∙ ap (λ (l : List T). l ++ cons_option (object_at (values old.objects.now) p) []) (sym (left_is new k.members k.walk ∙ ap (λ o. values_at o k.members) k.objects)))
 
-    pub goes_back : {old new : Iter T L A} {p : Place} (r : Option (Bor T)) → StepsBack old new p → option_copied r ≡ object_at new.objects.now p
-        → MakesProgress (CanWalk n table) (item_count (objects_left n table)) old r new
+    pub goes_back : {old new : Iter T L O} {p : Place} (r : Option (Bor T)) → StepsBack old new p → option_copied r ≡ object_at (values old.objects.now) p
+        → MakesProgress (CanWalk n table values) (item_count (objects_left n table values)) old r new
     goes_back {old} {new} {p} r k is =
-        makes_progress_back (objects_left n table) (CanWalk n table) old new r (can_walk_back k) (gives_back r k is)
+        makes_progress_back (objects_left n table values) (CanWalk n table values) old new r (can_walk_back k) (gives_back r k is)

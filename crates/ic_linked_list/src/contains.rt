@@ -20,7 +20,7 @@ impl<T> LinkedList<T> {
         requires shown { ShowsSome L.neighbors (L.table links.now) self.now }
         ensures { (s : List Place) → Shows L.neighbors (L.table links.now) self.now s → IsTrue result ↔ IsMember place s }
     {
-        let mut current = self.head();
+        let mut current = self.first();
         while let Some(member) = current {
             if member == place {
                 return true;

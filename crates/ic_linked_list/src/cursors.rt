@@ -63,7 +63,7 @@ impl<T> LinkedList<T> {
         ensures position { (s : List Place) → Shows L.neighbors (L.table links.now) self.now s
             → position result ≡ first s }
     {
-        Cursor::new(self, links, End::of(self.head()))
+        Cursor::new(self, links, End::of(self.first()))
     }
 
     /// A cursor on the last member, null in an empty list.
@@ -74,7 +74,7 @@ impl<T> LinkedList<T> {
         ensures position { (s : List Place) → Shows L.neighbors (L.table links.now) self.now s
             → position result ≡ last s }
     {
-        Cursor::new(self, links, End::of(self.tail()))
+        Cursor::new(self, links, End::of(self.last()))
     }
 }
 
@@ -116,7 +116,7 @@ impl<T> LinkedList<T> {
         ensures position { (s : List Place) → Shows L.neighbors (L.table links.old) self.old s
             → position result ≡ first s }
     {
-        let current = End::of(self.head());
+        let current = End::of(self.first());
         CursorMut::new(self, links, current)
     }
 
@@ -127,7 +127,7 @@ impl<T> LinkedList<T> {
         ensures position { (s : List Place) → Shows L.neighbors (L.table links.old) self.old s
             → position result ≡ last s }
     {
-        let current = End::of(self.tail());
+        let current = End::of(self.last());
         CursorMut::new(self, links, current)
     }
 }
@@ -171,7 +171,7 @@ impl<T> LinkedList<T> {
             → position result ≡ first s }
     {
         let _ = links;
-        let at = End::of(self.head());
+        let at = End::of(self.first());
         CursorOwning::new(self, at)
     }
 
@@ -183,7 +183,7 @@ impl<T> LinkedList<T> {
             → position result ≡ last s }
     {
         let _ = links;
-        let at = End::of(self.tail());
+        let at = End::of(self.last());
         CursorOwning::new(self, at)
     }
 }

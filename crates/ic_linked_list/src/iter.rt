@@ -16,24 +16,27 @@ ghost use Rattle.ic_link_ops.specs.Walk.{is_end, GivesFirst, GivesLast};
 use crate::LinkedList;
 use ic_link_ops::LinkOps;
 use ic_link_ops::linked_list::LinkedListOps;
-use ic_unsafe_ref::{Objects, Place};
-use std::alloc::{AllocError, Allocator, Global};
+use ic_unsafe_ref::{Objects, Place, Values};
+use std::alloc::AllocError;
+use std::marker::PhantomData;
 
 /// The objects of a list that are not given out yet: from the front by `next`, from the back by `next_back`.
 ///
 /// When the two ends meet, both are exhausted.
-pub struct Iter<'a, T, L, A: Allocator = Global> {
+pub struct Iter<'a, T, L, O = Objects<T>> {
     links: &'a L,
-    objects: &'a Objects<T, A>,
+    objects: &'a O,
+    of: PhantomData<&'a T>,
     head: Option<Place>,
     tail: Option<Place>,
 }
 
-impl<T, L, A: Allocator> Drop for Iter<'_, T, L, A> {
+impl<T, L, O> Drop for Iter<'_, T, L, O> {
     fn drop(self) {
         let Iter {
             links: _,
             objects: _,
+            of: _,
             head: _,
             tail: _,
         } = self;
@@ -51,54 +54,56 @@ fn is_at(end: Option<Place>, place: Place) -> bool
     }
 }
 
-impl<'a, T, L: LinkedListOps, A: Allocator> Iterator for Iter<'a, T, L, A> {
+impl<'a, T, L: LinkedListOps, O: Values<T>> Iterator for Iter<'a, T, L, O> {
     type Item = &'a T;
 
     ghost use Rattle.std.specs.Iterator.{item_count};
     ghost use Rattle.ic_linked_list.specs.Iter.{objects_left, CanWalk};
 
-    ghost can_next = { CanWalk L.neighbors L.table };
+    ghost can_next = { CanWalk L.neighbors L.table O.values };
 
-    ghost next_gives = { GivesFirst (objects_left L.neighbors L.table) };
+    ghost next_gives = { GivesFirst (objects_left L.neighbors L.table O.values) };
 
-    ghost remaining = { item_count (objects_left L.neighbors L.table) };
+    ghost remaining = { item_count (objects_left L.neighbors L.table O.values) };
 
     /// The next object. O(1): one reading of a neighbour, and one look-up of the object.
     fn next(&mut self) -> Option<&'a T> {
         let place = self.head?;
+        let objects: &'a O = self.objects;
+        let value = objects.value(place);
         if is_at(self.tail, place) {
             self.head = None;
             self.tail = None;
         } else {
             self.head = self.links.next(place);
         }
-        let objects: &'a Objects<T, A> = self.objects;
-        objects.get(place)
+        Some(value)
     }
 }
 
-impl<'a, T, L: LinkedListOps, A: Allocator> DoubleEndedIterator for Iter<'a, T, L, A> {
+impl<'a, T, L: LinkedListOps, O: Values<T>> DoubleEndedIterator for Iter<'a, T, L, O> {
     ghost use Rattle.ic_linked_list.specs.Iter.{objects_left, CanWalk};
 
-    ghost can_next_back = { CanWalk L.neighbors L.table };
+    ghost can_next_back = { CanWalk L.neighbors L.table O.values };
 
-    ghost next_back_gives = { GivesLast (objects_left L.neighbors L.table) };
+    ghost next_back_gives = { GivesLast (objects_left L.neighbors L.table O.values) };
 
     /// The next object from the back. O(1), as `next`.
     fn next_back(&mut self) -> Option<&'a T> {
         let place = self.tail?;
+        let objects: &'a O = self.objects;
+        let value = objects.value(place);
         if is_at(self.head, place) {
             self.head = None;
             self.tail = None;
         } else {
             self.tail = self.links.prev(place);
         }
-        let objects: &'a Objects<T, A> = self.objects;
-        objects.get(place)
+        Some(value)
     }
 }
 
-impl<T, L, A: Allocator> Clone for Iter<'_, T, L, A> {
+impl<T, L, O> Clone for Iter<'_, T, L, O> {
     ghost is_clone = { λ t copy. copy ≡ t };
 
     ghost is_infallible = { λ _. ⊤ };
@@ -108,6 +113,7 @@ impl<T, L, A: Allocator> Clone for Iter<'_, T, L, A> {
         Ok(Iter {
             links: self.links,
             objects: self.objects,
+            of: PhantomData,
             head: self.head,
             tail: self.tail,
         })
@@ -119,21 +125,22 @@ impl<T> LinkedList<T> {
     ghost use Rattle.ic_linked_list.specs.Iter.{objects_left, CanWalk};
 
     /// A walk over the objects of the list, from either end. It asks that all members are placed.
-    pub fn iter<'a, L: LinkedListOps, A: Allocator>(
+    pub fn iter<'a, L: LinkedListOps, O: Values<T>>(
         &self,
         links: &'a L,
-        objects: &'a Objects<T, A>,
-    ) -> Iter<'a, T, L, A>
-        requires placed { ShowsPlaced (Shows L.neighbors (L.table links.now) self.now) objects.now }
+        objects: &'a O,
+    ) -> Iter<'a, T, L, O>
+        requires placed { ShowsPlaced (Shows L.neighbors (L.table links.now) self.now) (O.values objects.now) }
         ensures walks { (s : List Place) → Shows L.neighbors (L.table links.now) self.now s
-            → objects_left L.neighbors L.table result ≡ values_at objects.now s }
-        ensures can_walk { CanWalk L.neighbors L.table result }
+            → objects_left L.neighbors L.table O.values result ≡ values_at (O.values objects.now) s }
+        ensures can_walk { CanWalk L.neighbors L.table O.values result }
     {
         Iter {
             links,
             objects,
-            head: self.head(),
-            tail: self.tail(),
+            of: PhantomData,
+            head: self.first(),
+            tail: self.last(),
         }
     }
 }

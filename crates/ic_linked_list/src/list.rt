@@ -80,17 +80,17 @@ impl<T> LinkedList<T> {
         self.head.get().is_none()
     }
 
-    // The first member.
+    /// The first member, `None` in an empty list. It reads no links. O(1).
     #[inline]
-    pub(crate) fn head(&self) -> Option<Place>
+    pub fn first(&self) -> Option<Place>
         ensures { result ≡ self.now.head }
     {
         self.head.get()
     }
 
-    // The last member.
+    /// The last member, `None` in an empty list. It reads no links. O(1).
     #[inline]
-    pub(crate) fn tail(&self) -> Option<Place>
+    pub fn last(&self) -> Option<Place>
         ensures { result ≡ self.now.tail }
     {
         self.tail.get()
@@ -103,7 +103,7 @@ impl<T> LinkedList<T> {
     pub(crate) fn head_from_null(&self) -> Option<Place>
         ensures { result ≡ self.now.head }
     {
-        self.head()
+        self.first()
     }
 
     // The last member, as a cursor comes to it from null.
@@ -112,7 +112,7 @@ impl<T> LinkedList<T> {
     pub(crate) fn tail_from_null(&self) -> Option<Place>
         ensures { result ≡ self.now.tail }
     {
-        self.tail()
+        self.last()
     }
 }
 
@@ -138,7 +138,7 @@ impl<T> LinkedList<T> {
         ensures frame { (s : List Place) → Shows L.neighbors (L.table links.old) self.old s
             → KeepsBeside (L.table links.old) (L.table links.new) (object ∷ s) }
     {
-        let tail = self.tail();
+        let tail = self.last();
         if !self.insert_between(links, tail, object.place(), None) {
             return Err(AlreadyLinked(object));
         }
@@ -165,7 +165,7 @@ impl<T> LinkedList<T> {
         ensures frame { (s : List Place) → Shows L.neighbors (L.table links.old) self.old s
             → KeepsBeside (L.table links.old) (L.table links.new) (object ∷ s) }
     {
-        let head = self.head();
+        let head = self.first();
         if !self.insert_between(links, None, object.place(), head) {
             return Err(AlreadyLinked(object));
         }
@@ -185,7 +185,7 @@ impl<T> LinkedList<T> {
         ensures frame { (s : List Place) → Shows L.neighbors (L.table links.old) self.old s
             → KeepsBeside (L.table links.old) (L.table links.new) s }
     {
-        let front = self.head()?;
+        let front = self.first()?;
         self.take_off(links, front);
         Some(UnsafeRef::new(front))
     }
@@ -203,7 +203,7 @@ impl<T> LinkedList<T> {
         ensures frame { (s : List Place) → Shows L.neighbors (L.table links.old) self.old s
             → KeepsBeside (L.table links.old) (L.table links.new) s }
     {
-        let back = self.tail()?;
+        let back = self.last()?;
         self.take_off(links, back);
         Some(UnsafeRef::new(back))
     }

@@ -30,7 +30,7 @@ impl<T> LinkedList<T> {
         ensures frame { (s : List Place) → Shows L.neighbors (L.table links.old) self.old s
             → KeepsBeside (L.table links.old) (L.table links.new) s }
     {
-        let mut current = self.head();
+        let mut current = self.first();
         self.fast_clear();
         while let Some(place) = current {
             current = links.next(place);

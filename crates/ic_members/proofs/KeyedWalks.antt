@@ -27,10 +27,10 @@ left_count objects [] placed = refl
 left_count objects (p ∷ w) placed =
     let e = one_more (object_at objects p) (values_at objects w) placed.0 (left_count objects w placed.1) in omega (arith, e)
 
-pub walk_count : {A L B V K E : Type 0} (node : E → Node) (table : L → Table E) → ((t : L) (q : Place) → (node ((table t).entry q)).linked ≡ true → IsCovered (table t) q)
-    → (walk : Iter A L B V K) → CanWalk node table walk → length (rest_of node table walk) ≡ length (objects_left node table walk)
-walk_count node table law walk can =
-    rw (walk_members node (table walk.links.now) (law walk.links.now) can.1) (left_count walk.objects.now can.0 can.2)
+pub walk_count : {A L O V K E : Type 0} (node : E → Node) (table : L → Table E) (values : O → Objects V) → ((t : L) (q : Place) → (node ((table t).entry q)).linked ≡ true → IsCovered (table t) q)
+    → (walk : Iter A L O V K) → CanWalk node table values walk → length (rest_of node table walk) ≡ length (objects_left node table values walk)
+walk_count node table values law walk can =
+    rw (walk_members node (table walk.links.now) (law walk.links.now) can.1) (left_count (values walk.objects.now) can.0 can.2)
 
 -- WHAT IS LISTED, and what is left of the whole: as many places as the walk has objects left, the first of which the cursor is on
 pub record Lists {E V : Type 0} (node : E → Node) (t : Table E) (root : Option Place) (whole places : List Place) (position : Option Place) (left : List V) : Type 0 where

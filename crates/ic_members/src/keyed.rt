@@ -32,7 +32,7 @@ use ic_fields::{Field, TreeTable, TwoWay};
 use ic_link_ops::End;
 use ic_link_ops::rbtree::RBTreeOps;
 use ic_rbtree::{Bound, CursorMut, Entry, InsertCursor, Iter, KeyAdapter, KeyProbe, RBTree};
-use ic_unsafe_ref::{Objects, Place, UnsafeRef};
+use ic_unsafe_ref::{Objects, Place, UnsafeRef, Values};
 use std::alloc::{AllocError, Allocator};
 
 // The bound, of a search for its key that has made no look, and makes none where there is no key.
@@ -63,19 +63,19 @@ fn looks_in<A: KeyAdapter>(bound: &Bound<KeyProbe<'_, A>>) -> u64
 }
 
 // A walk over the members between two bounds, and the looks of both descents.
-fn walk_between<'a, A: KeyAdapter, L: RBTreeOps, B: Allocator>(
+fn walk_between<'a, A: KeyAdapter, L: RBTreeOps, O: Values<A::Value>>(
     tree: &'a RBTree<A>,
     links: &'a L,
-    objects: &'a Objects<A::Value, B>,
+    objects: &'a O,
     min: &Bound<A::Key>,
     max: &Bound<A::Key>,
-) -> (Iter<'a, A, L, B>, u64, u64)
-    requires placed { ShowsPlaced (Shows L.node (L.table links.now) (root_of tree.now)) objects.now }
+) -> (Iter<'a, A, L, O>, u64, u64)
+    requires placed { ShowsPlaced (Shows L.node (L.table links.now) (root_of tree.now)) (O.values objects.now) }
     ensures range { (s : List Place) → Shows L.node (L.table links.now) (root_of tree.now) s
-        → IsRange (compared_within (order_of A.Key.cmp (A.key_of (adapter_of tree.now))) objects.now min.now)
-        (compared_within (order_of A.Key.cmp (A.key_of (adapter_of tree.now))) objects.now max.now)
-        (runs_up A.Key.cmp (A.key_of (adapter_of tree.now)) objects.now) s (rest_of L.node L.table result.0) }
-    ensures can_walk { CanWalk L.node L.table result.0 }
+        → IsRange (compared_within (order_of A.Key.cmp (A.key_of (adapter_of tree.now))) (O.values objects.now) min.now)
+        (compared_within (order_of A.Key.cmp (A.key_of (adapter_of tree.now))) (O.values objects.now) max.now)
+        (runs_up A.Key.cmp (A.key_of (adapter_of tree.now)) (O.values objects.now)) s (rest_of L.node L.table result.0) }
+    ensures can_walk { CanWalk L.node L.table O.values result.0 }
     ensures looks { (s : List Place) → Shows L.node (L.table links.now) (root_of tree.now) s
         → FewLooksWithin min.now result.1 s × FewLooksWithin max.now result.2 s }
 {
@@ -87,13 +87,13 @@ fn walk_between<'a, A: KeyAdapter, L: RBTreeOps, B: Allocator>(
 }
 
 // The places of the members that a walk has left, which stand side by side in the tree, in memory of `alloc`.
-fn list_walk<A: KeyAdapter, L: RBTreeOps, B: Allocator, N: Allocator>(
+fn list_walk<A: KeyAdapter, L: RBTreeOps, O: Values<A::Value>, N: Allocator>(
     alloc: N,
     tree: &RBTree<A>,
     links: &L,
-    mut walk: Iter<'_, A, L, B>,
+    mut walk: Iter<'_, A, L, O>,
 ) -> Result<Vec<Place, N>, AllocError>
-    requires can_walk { CanWalk L.node L.table walk }
+    requires can_walk { CanWalk L.node L.table O.values walk }
     requires shown { (front back : List Place) × Shows L.node (L.table links.now) (root_of tree.now)
         (front ++ (rest_of L.node L.table walk ++ back)) }
     ensures { IfOk result (λ places. places.items ≡ rest_of L.node L.table walk.entry) }

@@ -2,18 +2,18 @@
 use Rattle.std.proofs.Common.{◌≡◌, ◌⊎◌, Bool, true, false, cond, Option, Some, None, List, [], ◌∷◌, ◌++◌, refl, sym, ap, ◌∙◌, subst, append_assoc, append-nil, inl, inr, true≢false}
 use Rattle.std.specs.Cmp.{IsTotalOrder, alike_right}
 use Rattle.std.specs.Option.{option_map}
-use Rattle.std.specs.Prelude.{is_some}
+use Rattle.std.specs.Prelude.{is_some, IfSome, drop}
 use Rattle.std.specs.declared.cmp.Ordering.{Ordering}
 use Rattle.std.specs.declared.cmp.Ordering.TheVariants.{Less, Equal, Greater}
 use Rattle.std.specs.Ordering.{is_lt, is_le, is_ge, ordering_reverse}
 use Rattle.ic_unsafe_ref.specs.declared.place.Place.{Place}
-use Rattle.ic_unsafe_ref.specs.Objects.{Objects, object_at}
+use Rattle.ic_unsafe_ref.specs.Objects.{Objects, object_at, is_placed}
 use Rattle.ic_link_ops.specs.PlacedObjects.{ArePlaced}
-use Rattle.ic_link_ops.specs.Sequences.{Cut, first, last}
+use Rattle.ic_link_ops.specs.Sequences.{Cut, join, first, last, but_last}
 use Rattle.ic_link_ops.specs.Tables.{Table, IsCovered}
 use Rattle.ic_link_ops.specs.RedBlackTree.{Node, Shows}
 use Rattle.ic_link_ops.specs.Trees.{Tree, leaf, fork, in_order}
-use Rattle.ic_link_ops.proofs.SequenceLemmas.{last_or-append}
+use Rattle.ic_link_ops.proofs.SequenceLemmas.{first_is, split_last, last_or-append}
 use Rattle.ic_rbtree.specs.declared.key_adapter.Bound.{Bound}
 use Rattle.ic_rbtree.specs.declared.key_adapter.Bound.TheVariants.{Included, Excluded, Unbounded}
 use Rattle.ic_rbtree.specs.declared.probe.KeyProbe.{KeyProbe}
@@ -26,6 +26,18 @@ use Rattle.ic_rbtree.proofs.Members.{members_shown}
 use Rattle.ic_rbtree.proofs.Walking.{walk_members}
 use Rattle.ic_rbtree.proofs.Gaps.{gap_join, gap_border}
 use Rattle.ic_rbtree.proofs.Sending.{not_ge, not_gt, placed_there}
+
+-- a member beside a gap is placed
+pub back_placed : {V : Type 0} (objects : Objects V) (gap : Cut) → ArePlaced objects (join gap) → (p : Option Place) → p ≡ first gap.back → IfSome p (λ q. is_placed objects q ≡ true)
+back_placed objects gap placed None e = tt
+back_placed objects gap placed (Some q) e =
+    placed_there objects gap.front q (drop 1 gap.back) (subst (λ s. ArePlaced objects (gap.front ++ s)) (first_is gap.back e) placed)
+
+pub front_placed : {V : Type 0} (objects : Objects V) (gap : Cut) → ArePlaced objects (join gap) → (p : Option Place) → p ≡ last gap.front → IfSome p (λ q. is_placed objects q ≡ true)
+front_placed objects gap placed None e = tt
+front_placed objects gap placed (Some q) e =
+    placed_there objects (but_last gap.front) q gap.back
+    (subst (ArePlaced objects) (ap (λ s. s ++ gap.back) (split_last gap.front (sym e)) ∙ append_assoc (but_last gap.front) (q ∷ []) gap.back) placed)
 
 -- THE GAP of the one test is in front of that of the other, or the same, and w stands between;
 pub record IsInFront (one other : Cut) : Type 0 where

@@ -15,7 +15,7 @@ use Rattle.ic_link_ops.specs.RedBlackTree as Trees
 use Rattle.ic_link_ops.specs.RedBlackTree.{Node}
 use Rattle.ic_link_ops.specs.LinkSteps.{LinkStep}
 use Rattle.ic_link_ops.specs.EditsAt.{RemovesThere}
-use Rattle.ic_link_ops.specs.Positions.{Site, ShowsAt, Stands}
+use Rattle.ic_link_ops.specs.Positions.{Site, ShowsAt, Stands, HasMember}
 use Rattle.ic_link_ops.proofs.Positions.{gap_there}
 use Rattle.ic_link_ops.proofs.SequenceLemmas.{first_is}
 use Rattle.ic_link_ops.proofs.ShownTrees.{shows_nothing}
@@ -141,6 +141,17 @@ module _ {T : Type 0} (key : T → ℕ) (objects : Objects T) where
     placed = record { members = q.placed.members; shown = rw (keeps _ _ _ refused, unchanged.1) q.placed.shown; placed = q.placed.placed };
     sorted = q.sorted;
   }
+
+  -- and when a member is taken off
+  module _ {old new : List Place → Type 0} (one : (s u : List Place) → old s → old u → s ≡ u) where
+    pub sorted_less : {p : Place} → HasMember old p → ((front back : List Place) → old (front ++ p ∷ back) → new (front ++ back))
+        → ShowsSorted key old objects → ShowsSorted key new objects
+    sorted_less {p} m off q =
+        let same : q.placed.members ≡ m.front ++ p ∷ m.back = one q.placed.members (m.front ++ p ∷ m.back) q.placed.shown m.shown in
+        record {
+          placed = record { members = m.front ++ m.back; shown = off m.front m.back m.shown; placed = placed_without m.front p m.back (subst (ArePlaced objects) same q.placed.placed) };
+          sorted = sorted_without (key_at key objects) m.front p m.back (subst (λ s. IsSorted nat_cmp (keys_at key objects s)) same q.sorted);
+        }
 
   module _ {L E H : Type 0} {Shows : Table E → H → List Place → Type 0} {table : L → Table E} {Does : L → L → List LinkStep → Type 0} {old new : Site L H} where
     -- and when a member is taken off at a position

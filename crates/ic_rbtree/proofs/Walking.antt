@@ -1,11 +1,11 @@
 -- The walk over a tree's objects: one step of it, from either end.
 use Rattle.std.proofs.Common.{◌≡◌, ◌≢◌, Bool, true, false, Option, Some, None, List, [], ◌∷◌, ◌++◌, Bor, refl, sym, ◌∙◌, ap, append-nil, append_assoc, drop}
 use Rattle.std.specs.Option.{option_copied}
-use Rattle.std.specs.List.{AllByRecursion, cons_option}
+use Rattle.std.specs.List.{cons_option}
 use Rattle.std.specs.Iterator.{MakesProgress, item_count}
 use Rattle.std.proofs.lemmas.List.Elements.{filter_map-append}
 use Rattle.ic_unsafe_ref.specs.declared.place.Place.{Place}
-use Rattle.ic_unsafe_ref.specs.Objects.{object_at}
+use Rattle.ic_unsafe_ref.specs.Objects.{Objects, object_at}
 use Rattle.ic_link_ops.specs.Sequences.{Cut, join, IsAbsent, IsDistinct, IsAfter, IsBefore, first, last, last_or, but_last}
 use Rattle.ic_link_ops.specs.Tables.{Table, IsCovered}
 use Rattle.ic_link_ops.specs.RedBlackTree.{Node, Shows}
@@ -15,6 +15,7 @@ use Rattle.ic_link_ops.specs.Positions.{site, Stands, MovesOn, MovesBack}
 use Rattle.ic_link_ops.proofs.SequenceLemmas.{first_is, none_not, some_same, last_not, last_some, last_or-append, last_of_push, split_last, absent_left, absent_right, distinct_left, distinct_right}
 use Rattle.ic_link_ops.proofs.Walks.{is_end_yes, is_end_no, yields_placed, makes_progress, yields_placed_back, makes_progress_back}
 use Rattle.ic_link_ops.proofs.Positions.{stands_on}
+use Rattle.ic_link_ops.proofs.PlacedEnds.{all_but_last}
 use Rattle.ic_rbtree.specs.declared.iter.Iter.{Iter}
 use Rattle.ic_rbtree.specs.Tree.{root_of}
 use Rattle.ic_rbtree.specs.Members.{up_to, between, IsWalk, members}
@@ -47,11 +48,6 @@ pub between_ends : (front w back : List Place) → IsDistinct (front ++ (w ++ ba
 between_ends [] [] back d = none_between back
 between_ends [] (x ∷ w) back d = rw (is_end_there {p = x} refl) (up_to_last x w back d)
 between_ends (x ∷ front) w back d = rw (is_end_off (first w) x (first_off x front w back d.0)) (between_ends front w back d.1)
-
--- what holds of all members holds of all but the last, and of the last
-all_but_last : (P : Place → Type 0) (w : List Place) (p : Place) → AllByRecursion P (w ++ p ∷ []) → AllByRecursion P w × P p
-all_but_last P [] p h = (tt, h.0)
-all_but_last P (x ∷ w) p h = let k = all_but_last P w p h.1 in ((h.0, k.0), k.1)
 
 -- the members of a tree between the ends of a walk are those of the walk
 pub walk_members : {E : Type 0} (n : E → Node) (t : Table E) → ((q : Place) → (n (t.entry q)).linked ≡ true → IsCovered t q)
@@ -125,20 +121,20 @@ module _ {E : Type 0} {n : E → Node} {t : Table E} {root : Option Place} where
         },
       )
 
-module _ {A L B V K E : Type 0} (n : E → Node) (table : L → Table E) where
+module _ {A L O V K E : Type 0} (n : E → Node) (table : L → Table E) (values : O → Objects V) where
   -- the walk stands between the ends of w, all of which are placed
-  abbrev Reaches : Iter A L B V K → List Place → Type 0
-  Reaches t w = IsWalk n (table t.links.now) (root_of t.tree.now) t.head t.tail w × ArePlaced t.objects.now w
+  abbrev Reaches : Iter A L O V K → List Place → Type 0
+  Reaches t w = IsWalk n (table t.links.now) (root_of t.tree.now) t.head t.tail w × ArePlaced (values t.objects.now) w
 
   -- a call gave out one of the members that it reached, and reaches the others
-  pub record Steps (old new : Iter A L B V K) (with_it : List Place → List Place) : Type 0 where
+  pub record Steps (old new : Iter A L O V K) (with_it : List Place → List Place) : Type 0 where
     pub others : List Place
     pub reached : Reaches old (with_it others)
     pub reaches : Reaches new others
-    pub objects : new.objects.now ≡ old.objects.now
+    pub objects : values new.objects.now ≡ values old.objects.now
 
   -- it ends at the last member
-  pub steps_last : (t : Iter A L B V K) (p : Place) (with_it : List Place → List Place) → with_it [] ≡ p ∷ [] → CanWalk n table t
+  pub steps_last : (t : Iter A L O V K) (p : Place) (with_it : List Place → List Place) → with_it [] ≡ p ∷ [] → CanWalk n table values t
       → t.head ≡ Some p → t.tail ≡ Some p → Steps t (record t { head = None; tail = None }) with_it
   steps_last t p with_it is can at end =
       let k : IsWalk n (table t.links.now) (root_of t.tree.now) (Some p) (Some p) can.0 = rw (at, end) at can.1 in
@@ -146,35 +142,35 @@ module _ {A L B V K E : Type 0} (n : E → Node) (table : L → Table E) where
       record { others = []; reached = (rw e at can.1, rw e at can.2); reaches = (walk_none can.1, tt); objects = refl }
 
   -- else it goes on where a move leads
-  pub steps_more : (t : Iter A L B V K) (p : Place) (next : Option Place) → CanWalk n table t → t.head ≡ Some p → is_end t.tail p ≡ false
+  pub steps_more : (t : Iter A L O V K) (p : Place) (next : Option Place) → CanWalk n table values t → t.head ≡ Some p → is_end t.tail p ≡ false
       → MovesOn (Shows n) table (site t.links.now (root_of t.tree.now) (Some p)) next → Steps t (record t { head = next }) (λ w. p ∷ w)
   steps_more t p next can at end moved =
       let k : IsWalk n (table t.links.now) (root_of t.tree.now) (Some p) t.tail can.0 = rw at at can.1 in
       let r = walk_more k (is_end_no t.tail p end) moved.leads in
-      let placed : ArePlaced t.objects.now (p ∷ r.0) = rw r.1 at can.2 in
+      let placed : ArePlaced (values t.objects.now) (p ∷ r.0) = rw r.1 at can.2 in
       record { others = r.0; reached = (rw r.1 at can.1, placed); reaches = (r.2, placed.1); objects = refl }
 
   -- the same from the back
-  pub steps_less : (t : Iter A L B V K) (p : Place) (prev : Option Place) → CanWalk n table t → t.tail ≡ Some p → is_end t.head p ≡ false
+  pub steps_less : (t : Iter A L O V K) (p : Place) (prev : Option Place) → CanWalk n table values t → t.tail ≡ Some p → is_end t.head p ≡ false
       → MovesBack (Shows n) table (site t.links.now (root_of t.tree.now) (Some p)) prev → Steps t (record t { tail = prev }) (λ w. w ++ p ∷ [])
   steps_less t p prev can at end moved =
       let k : IsWalk n (table t.links.now) (root_of t.tree.now) t.head (Some p) can.0 = rw at at can.1 in
       let r = walk_less k (is_end_no t.head p end) moved.leads in
-      let placed : ArePlaced t.objects.now (r.0 ++ p ∷ []) = rw r.1 at can.2 in
+      let placed : ArePlaced (values t.objects.now) (r.0 ++ p ∷ []) = rw r.1 at can.2 in
       record { others = r.0; reached = (rw r.1 at can.1, placed); reaches = (r.2, (all_but_last _ r.0 p placed).0); objects = refl }
 
   -- the walk can go on
-  can_walk : {old new : Iter A L B V K} {with_it : List Place → List Place} → Steps old new with_it → CanWalk n table new
+  can_walk : {old new : Iter A L O V K} {with_it : List Place → List Place} → Steps old new with_it → CanWalk n table values new
   can_walk k = (k.others, k.reaches.0, k.reaches.1)
 
   -- an end that it gives out stands
-  pub first_stands : (t : Iter A L B V K) (p : Place) → CanWalk n table t → t.head ≡ Some p → Stands (Shows n) table (site t.links.now (root_of t.tree.now) (Some p))
+  pub first_stands : (t : Iter A L O V K) (p : Place) → CanWalk n table values t → t.head ≡ Some p → Stands (Shows n) table (site t.links.now (root_of t.tree.now) (Some p))
   first_stands t p can at =
       let k = can.1 in
       let w : can.0 ≡ p ∷ drop 1 can.0 = first_is can.0 (sym at ∙ k.starts) in
       stands_on (record { front = k.front; back = drop 1 can.0 ++ k.back; shown = rw w at k.shown }) refl
 
-  pub last_stands : (t : Iter A L B V K) (p : Place) → CanWalk n table t → t.tail ≡ Some p → Stands (Shows n) table (site t.links.now (root_of t.tree.now) (Some p))
+  pub last_stands : (t : Iter A L O V K) (p : Place) → CanWalk n table values t → t.tail ≡ Some p → Stands (Shows n) table (site t.links.now (root_of t.tree.now) (Some p))
   last_stands t p can at =
       let k = can.1 in
       let w : (can.0 ++ k.back) ≡ but_last can.0 ++ p ∷ k.back =
@@ -185,43 +181,43 @@ module _ {A L B V K E : Type 0} (n : E → Node) (table : L → Table E) where
 
   module _ (law : (t : L) (q : Place) → (n ((table t).entry q)).linked ≡ true → IsCovered (table t) q) where
     -- what is left is what stands at the members that it reaches
-    left_is : (t : Iter A L B V K) (w : List Place) → IsWalk n (table t.links.now) (root_of t.tree.now) t.head t.tail w → objects_left n table t ≡ values_at t.objects.now w
-    left_is t w k = ap (values_at t.objects.now) (walk_members n (table t.links.now) (law t.links.now) k)
+    left_is : (t : Iter A L O V K) (w : List Place) → IsWalk n (table t.links.now) (root_of t.tree.now) t.head t.tail w → objects_left n table values t ≡ values_at (values t.objects.now) w
+    left_is t w k = ap (values_at (values t.objects.now)) (walk_members n (table t.links.now) (law t.links.now) k)
 
-    others_left : {old new : Iter A L B V K} {with_it : List Place → List Place} (k : Steps old new with_it) → objects_left n table new ≡ values_at old.objects.now k.others
+    others_left : {old new : Iter A L O V K} {with_it : List Place → List Place} (k : Steps old new with_it) → objects_left n table values new ≡ values_at (values old.objects.now) k.others
     others_left {old} {new} k = left_is new k.others k.reaches.0 ∙ ap (λ o. values_at o k.others) k.objects
 
     -- where it has no first member, or no last, nothing is left
-    pub none_left : (t : Iter A L B V K) → CanWalk n table t → t.head ≡ None → objects_left n table t ≡ []
+    pub none_left : (t : Iter A L O V K) → CanWalk n table values t → t.head ≡ None → objects_left n table values t ≡ []
     none_left t can at =
         let k : IsWalk n (table t.links.now) (root_of t.tree.now) None t.tail can.0 = rw at at can.1 in
-        left_is t can.0 can.1 ∙ ap (values_at t.objects.now) (walk_empty k)
+        left_is t can.0 can.1 ∙ ap (values_at (values t.objects.now)) (walk_empty k)
 
-    pub none_left_back : (t : Iter A L B V K) → CanWalk n table t → t.tail ≡ None → objects_left n table t ≡ []
+    pub none_left_back : (t : Iter A L O V K) → CanWalk n table values t → t.tail ≡ None → objects_left n table values t ≡ []
     none_left_back t can at =
         let k : IsWalk n (table t.links.now) (root_of t.tree.now) t.head None can.0 = rw at at can.1 in
-        left_is t can.0 can.1 ∙ ap (values_at t.objects.now) (walk_empty_back k)
+        left_is t can.0 can.1 ∙ ap (values_at (values t.objects.now)) (walk_empty_back k)
 
     -- the step gives the object at p, and leaves one less
-    pub gives : {old new : Iter A L B V K} {p : Place} (r : Option (Bor V)) → Steps old new (λ w. p ∷ w) → option_copied r ≡ object_at new.objects.now p
-        → GivesFirst (objects_left n table) old r new
+    pub gives : {old new : Iter A L O V K} {p : Place} (r : Option (Bor V)) → Steps old new (λ w. p ∷ w) → option_copied r ≡ object_at (values old.objects.now) p
+        → GivesFirst (objects_left n table values) old r new
     gives {old} {new} {p} r k is =
-        yields_placed (objects_left n table) old new r (object_at old.objects.now p) k.reached.1.0 (rw k.objects at is)
-        (left_is old (p ∷ k.others) k.reached.0 ∙ ap (cons_option (object_at old.objects.now p)) (sym (others_left k)))
+        yields_placed (objects_left n table values) old new r (object_at (values old.objects.now) p) k.reached.1.0 is
+        (left_is old (p ∷ k.others) k.reached.0 ∙ ap (cons_option (object_at (values old.objects.now) p)) (sym (others_left k)))
 
-    pub goes : {old new : Iter A L B V K} {p : Place} (r : Option (Bor V)) → Steps old new (λ w. p ∷ w) → option_copied r ≡ object_at new.objects.now p
-        → MakesProgress (CanWalk n table) (item_count (objects_left n table)) old r new
-    goes {old} {new} {p} r k is = makes_progress (objects_left n table) (CanWalk n table) old new r (can_walk k) (gives r k is)
+    pub goes : {old new : Iter A L O V K} {p : Place} (r : Option (Bor V)) → Steps old new (λ w. p ∷ w) → option_copied r ≡ object_at (values old.objects.now) p
+        → MakesProgress (CanWalk n table values) (item_count (objects_left n table values)) old r new
+    goes {old} {new} {p} r k is = makes_progress (objects_left n table values) (CanWalk n table values) old new r (can_walk k) (gives r k is)
 
     -- the same from the back
-    pub gives_back : {old new : Iter A L B V K} {p : Place} (r : Option (Bor V)) → Steps old new (λ w. w ++ p ∷ []) → option_copied r ≡ object_at new.objects.now p
-        → GivesLast (objects_left n table) old r new
+    pub gives_back : {old new : Iter A L O V K} {p : Place} (r : Option (Bor V)) → Steps old new (λ w. w ++ p ∷ []) → option_copied r ≡ object_at (values old.objects.now) p
+        → GivesLast (objects_left n table values) old r new
     gives_back {old} {new} {p} r k is =
-        yields_placed_back (objects_left n table) old new r (object_at old.objects.now p) (all_but_last _ k.others p k.reached.1).1 (rw k.objects at is)
+        yields_placed_back (objects_left n table values) old new r (object_at (values old.objects.now) p) (all_but_last _ k.others p k.reached.1).1 is
         (left_is old (k.others ++ p ∷ []) k.reached.0
-        ∙ filter_map-append (object_at old.objects.now) k.others (p ∷ [])
-        ∙ ap (λ (l : List V). l ++ cons_option (object_at old.objects.now p) []) (sym (others_left k)))
+        ∙ filter_map-append (object_at (values old.objects.now)) k.others (p ∷ [])
+        ∙ ap (λ (l : List V). l ++ cons_option (object_at (values old.objects.now) p) []) (sym (others_left k)))
 
-    pub goes_back : {old new : Iter A L B V K} {p : Place} (r : Option (Bor V)) → Steps old new (λ w. w ++ p ∷ []) → option_copied r ≡ object_at new.objects.now p
-        → MakesProgress (CanWalk n table) (item_count (objects_left n table)) old r new
-    goes_back {old} {new} {p} r k is = makes_progress_back (objects_left n table) (CanWalk n table) old new r (can_walk k) (gives_back r k is)
+    pub goes_back : {old new : Iter A L O V K} {p : Place} (r : Option (Bor V)) → Steps old new (λ w. w ++ p ∷ []) → option_copied r ≡ object_at (values old.objects.now) p
+        → MakesProgress (CanWalk n table values) (item_count (objects_left n table values)) old r new
+    goes_back {old} {new} {p} r k is = makes_progress_back (objects_left n table values) (CanWalk n table values) old new r (can_walk k) (gives_back r k is)

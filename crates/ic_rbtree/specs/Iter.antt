@@ -1,6 +1,7 @@
 -- What clauses see of a walk over a tree's objects.
 use Rattle.std.specs.Prelude.{List}
 use Rattle.ic_unsafe_ref.specs.declared.place.Place.{Place}
+use Rattle.ic_unsafe_ref.specs.Objects.{Objects}
 use Rattle.ic_link_ops.specs.Tables.{Table}
 use Rattle.ic_link_ops.specs.RedBlackTree.{Node}
 use Rattle.ic_link_ops.specs.PlacedObjects.{ArePlaced, values_at}
@@ -8,15 +9,17 @@ use Rattle.ic_rbtree.specs.Tree.{root_of}
 use Rattle.ic_rbtree.specs.Members.{members, between, IsWalk}
 use Rattle.ic_rbtree.specs.declared.iter.Iter.{Iter}
 
-module _ {A L B V K E : Type 0} (node : E → Node) (table : L → Table E) where
+module _ {A L O V K E : Type 0} (node : E → Node) (table : L → Table E) where
   -- the members that the walk has not given out yet
-  abbrev pub rest_of : Iter A L B V K → List Place
+  abbrev pub rest_of : Iter A L O V K → List Place
   rest_of t = between t.head t.tail (members node (table t.links.now) (root_of t.tree.now))
 
+-- `values`: the values by place
+module _ {A L O V K E : Type 0} (node : E → Node) (table : L → Table E) (values : O → Objects V) where
   -- the objects that it has not given out yet
-  abbrev pub objects_left : Iter A L B V K → List V
-  objects_left t = values_at t.objects.now (rest_of t)
+  abbrev pub objects_left : Iter A L O V K → List V
+  objects_left t = values_at (values t.objects.now) (rest_of node table t)
 
   -- it stands between two members of the tree, or has met its end, and all that are left are placed
-  abbrev pub CanWalk : Iter A L B V K → Type 0
-  CanWalk t = (w : List Place) × IsWalk node (table t.links.now) (root_of t.tree.now) t.head t.tail w × ArePlaced t.objects.now w
+  abbrev pub CanWalk : Iter A L O V K → Type 0
+  CanWalk t = (w : List Place) × IsWalk node (table t.links.now) (root_of t.tree.now) t.head t.tail w × ArePlaced (values t.objects.now) w

@@ -18,8 +18,7 @@ use crate::probe::probe_within;
 use crate::{Bound, Cursor, CursorMut, CursorOwning, KeyAdapter, Probe, RBTree};
 use ic_link_ops::LinkOps;
 use ic_link_ops::rbtree::RBTreeOps;
-use ic_unsafe_ref::Objects;
-use std::alloc::Allocator;
+use ic_unsafe_ref::Values;
 
 impl<A: KeyAdapter> RBTree<A> {
     ghost use Rattle.ic_rbtree.specs.Cursor.{tree_of, links_of, position, site_of};
@@ -32,18 +31,18 @@ impl<A: KeyAdapter> RBTree<A> {
     /// isn't sorted for the probe it is on a border: a member that meets the bound and whose predecessor, if any, doesn't.
     /// O(log n): v looks in a tree of n members, where `2^v <= (n + 1)^2`, and none for `Unbounded`.
     #[inline]
-    pub fn lower_bound_by<'a, L: RBTreeOps, P: Probe<A::Value>, B: Allocator>(
+    pub fn lower_bound_by<'a, L: RBTreeOps, P: Probe<A::Value>, O: Values<A::Value>>(
         &'a self,
         links: &'a L,
-        objects: &Objects<A::Value, B>,
+        objects: &O,
         bound: &mut Bound<P>,
     ) -> Cursor<'a, A, L>
-        requires placed { ShowsPlaced (Shows L.node (L.table links.now) (root_of self.now)) objects.now }
+        requires placed { ShowsPlaced (Shows L.node (L.table links.now) (root_of self.now)) (O.values objects.now) }
         requires room { HasRoomWithin P.count bound.old }
         ensures tree { tree_of result ≡ self.now }
         ensures links { links_of result ≡ links.now }
         ensures border { (s : List Place) → Shows L.node (L.table links.now) (root_of self.now) s
-            → IsLowerBorder (compared_within P.order objects.now bound.old) s (position result) }
+            → IsLowerBorder (compared_within P.order (O.values objects.now) bound.old) s (position result) }
         ensures stands { Stands (Shows L.node) L.table (site_of result) }
         ensures looks { (s : List Place) → Shows L.node (L.table links.now) (root_of self.now) s
             → LooksWithin P.order P.count bound.old bound.new s }
@@ -53,18 +52,18 @@ impl<A: KeyAdapter> RBTree<A> {
 
     /// A cursor on the first member whose key meets the bound, null if there is none: `lower_bound_by` with a `KeyProbe`.
     #[inline]
-    pub fn lower_bound<'a, L: RBTreeOps, B: Allocator>(
+    pub fn lower_bound<'a, L: RBTreeOps, O: Values<A::Value>>(
         &'a self,
         links: &'a L,
-        objects: &Objects<A::Value, B>,
+        objects: &O,
         bound: Bound<&A::Key>,
     ) -> Cursor<'a, A, L>
-        requires placed { ShowsPlaced (Shows L.node (L.table links.now) (root_of self.now)) objects.now }
+        requires placed { ShowsPlaced (Shows L.node (L.table links.now) (root_of self.now)) (O.values objects.now) }
         ensures tree { tree_of result ≡ self.now }
         ensures links { links_of result ≡ links.now }
         ensures border { (s : List Place) → Shows L.node (L.table links.now) (root_of self.now) s
             → IsLowerBorder (compared_within
-            (order_there A.Key.cmp (A.key_of (adapter_of self.now))) objects.now bound.entry) s (position result) }
+            (order_there A.Key.cmp (A.key_of (adapter_of self.now))) (O.values objects.now) bound.entry) s (position result) }
         ensures stands { Stands (Shows L.node) L.table (site_of result) }
     {
         self.lower_bound_by(links, objects, &mut probe_within(self.adapter, bound))
@@ -72,17 +71,17 @@ impl<A: KeyAdapter> RBTree<A> {
 
     /// A cursor that edits, on the first member whose key meets the bound, null if there is none. As `lower_bound`.
     #[inline]
-    pub fn lower_bound_mut<'a, L: RBTreeOps, B: Allocator>(
+    pub fn lower_bound_mut<'a, L: RBTreeOps, O: Values<A::Value>>(
         &'a mut self,
         links: &'a mut L,
-        objects: &Objects<A::Value, B>,
+        objects: &O,
         bound: Bound<&A::Key>,
     ) -> CursorMut<'a, A, L>
-        requires placed { ShowsPlaced (Shows L.node (L.table links.old) (root_of self.old)) objects.now }
+        requires placed { ShowsPlaced (Shows L.node (L.table links.old) (root_of self.old)) (O.values objects.now) }
         ensures borrows { editing.IsBorrowed self.entry links.entry result }
         ensures border { (s : List Place) → Shows L.node (L.table links.old) (root_of self.old) s
             → IsLowerBorder (compared_within
-            (order_there A.Key.cmp (A.key_of (adapter_of self.old))) objects.now bound.entry) s (editing.position result) }
+            (order_there A.Key.cmp (A.key_of (adapter_of self.old))) (O.values objects.now) bound.entry) s (editing.position result) }
         ensures stands { Stands (Shows L.node) L.table (editing.site_of result) }
     {
         let current = self.lower(&*links, objects, &mut probe_within(self.adapter, bound));
@@ -91,17 +90,17 @@ impl<A: KeyAdapter> RBTree<A> {
 
     /// A cursor that keeps the tree, on the first member whose key meets the bound, null if there is none. As `lower_bound`.
     #[inline]
-    pub fn lower_bound_owning<L: RBTreeOps, B: Allocator>(
+    pub fn lower_bound_owning<L: RBTreeOps, O: Values<A::Value>>(
         self,
         links: &L,
-        objects: &Objects<A::Value, B>,
+        objects: &O,
         bound: Bound<&A::Key>,
     ) -> CursorOwning<A>
-        requires placed { ShowsPlaced (Shows L.node (L.table links.now) (root_of self)) objects.now }
+        requires placed { ShowsPlaced (Shows L.node (L.table links.now) (root_of self)) (O.values objects.now) }
         ensures tree { owning.tree_of result ≡ self }
         ensures border { (s : List Place) → Shows L.node (L.table links.now) (root_of self) s
             → IsLowerBorder (compared_within
-            (order_there A.Key.cmp (A.key_of (adapter_of self))) objects.now bound.entry) s (owning.position result) }
+            (order_there A.Key.cmp (A.key_of (adapter_of self))) (O.values objects.now) bound.entry) s (owning.position result) }
         ensures stands { Stands (Shows L.node) L.table (owning.site_of links.now result) }
     {
         let current = self.lower(links, objects, &mut probe_within(self.adapter, bound));
@@ -114,18 +113,18 @@ impl<A: KeyAdapter> RBTree<A> {
     /// isn't sorted for the probe it is on a border: a member that meets the bound and whose successor, if any, doesn't.
     /// O(log n): v looks in a tree of n members, where `2^v <= (n + 1)^2`, and none for `Unbounded`.
     #[inline]
-    pub fn upper_bound_by<'a, L: RBTreeOps, P: Probe<A::Value>, B: Allocator>(
+    pub fn upper_bound_by<'a, L: RBTreeOps, P: Probe<A::Value>, O: Values<A::Value>>(
         &'a self,
         links: &'a L,
-        objects: &Objects<A::Value, B>,
+        objects: &O,
         bound: &mut Bound<P>,
     ) -> Cursor<'a, A, L>
-        requires placed { ShowsPlaced (Shows L.node (L.table links.now) (root_of self.now)) objects.now }
+        requires placed { ShowsPlaced (Shows L.node (L.table links.now) (root_of self.now)) (O.values objects.now) }
         requires room { HasRoomWithin P.count bound.old }
         ensures tree { tree_of result ≡ self.now }
         ensures links { links_of result ≡ links.now }
         ensures border { (s : List Place) → Shows L.node (L.table links.now) (root_of self.now) s
-            → IsUpperBorder (compared_within P.order objects.now bound.old) s (position result) }
+            → IsUpperBorder (compared_within P.order (O.values objects.now) bound.old) s (position result) }
         ensures stands { Stands (Shows L.node) L.table (site_of result) }
         ensures looks { (s : List Place) → Shows L.node (L.table links.now) (root_of self.now) s
             → LooksWithin P.order P.count bound.old bound.new s }
@@ -135,18 +134,18 @@ impl<A: KeyAdapter> RBTree<A> {
 
     /// A cursor on the last member whose key meets the bound, null if there is none: `upper_bound_by` with a `KeyProbe`.
     #[inline]
-    pub fn upper_bound<'a, L: RBTreeOps, B: Allocator>(
+    pub fn upper_bound<'a, L: RBTreeOps, O: Values<A::Value>>(
         &'a self,
         links: &'a L,
-        objects: &Objects<A::Value, B>,
+        objects: &O,
         bound: Bound<&A::Key>,
     ) -> Cursor<'a, A, L>
-        requires placed { ShowsPlaced (Shows L.node (L.table links.now) (root_of self.now)) objects.now }
+        requires placed { ShowsPlaced (Shows L.node (L.table links.now) (root_of self.now)) (O.values objects.now) }
         ensures tree { tree_of result ≡ self.now }
         ensures links { links_of result ≡ links.now }
         ensures border { (s : List Place) → Shows L.node (L.table links.now) (root_of self.now) s
             → IsUpperBorder (compared_within
-            (order_there A.Key.cmp (A.key_of (adapter_of self.now))) objects.now bound.entry) s (position result) }
+            (order_there A.Key.cmp (A.key_of (adapter_of self.now))) (O.values objects.now) bound.entry) s (position result) }
         ensures stands { Stands (Shows L.node) L.table (site_of result) }
     {
         self.upper_bound_by(links, objects, &mut probe_within(self.adapter, bound))
@@ -154,17 +153,17 @@ impl<A: KeyAdapter> RBTree<A> {
 
     /// A cursor that edits, on the last member whose key meets the bound, null if there is none. As `upper_bound`.
     #[inline]
-    pub fn upper_bound_mut<'a, L: RBTreeOps, B: Allocator>(
+    pub fn upper_bound_mut<'a, L: RBTreeOps, O: Values<A::Value>>(
         &'a mut self,
         links: &'a mut L,
-        objects: &Objects<A::Value, B>,
+        objects: &O,
         bound: Bound<&A::Key>,
     ) -> CursorMut<'a, A, L>
-        requires placed { ShowsPlaced (Shows L.node (L.table links.old) (root_of self.old)) objects.now }
+        requires placed { ShowsPlaced (Shows L.node (L.table links.old) (root_of self.old)) (O.values objects.now) }
         ensures borrows { editing.IsBorrowed self.entry links.entry result }
         ensures border { (s : List Place) → Shows L.node (L.table links.old) (root_of self.old) s
             → IsUpperBorder (compared_within
-            (order_there A.Key.cmp (A.key_of (adapter_of self.old))) objects.now bound.entry) s (editing.position result) }
+            (order_there A.Key.cmp (A.key_of (adapter_of self.old))) (O.values objects.now) bound.entry) s (editing.position result) }
         ensures stands { Stands (Shows L.node) L.table (editing.site_of result) }
     {
         let current = self.upper(&*links, objects, &mut probe_within(self.adapter, bound));
@@ -173,17 +172,17 @@ impl<A: KeyAdapter> RBTree<A> {
 
     /// A cursor that keeps the tree, on the last member whose key meets the bound, null if there is none. As `upper_bound`.
     #[inline]
-    pub fn upper_bound_owning<L: RBTreeOps, B: Allocator>(
+    pub fn upper_bound_owning<L: RBTreeOps, O: Values<A::Value>>(
         self,
         links: &L,
-        objects: &Objects<A::Value, B>,
+        objects: &O,
         bound: Bound<&A::Key>,
     ) -> CursorOwning<A>
-        requires placed { ShowsPlaced (Shows L.node (L.table links.now) (root_of self)) objects.now }
+        requires placed { ShowsPlaced (Shows L.node (L.table links.now) (root_of self)) (O.values objects.now) }
         ensures tree { owning.tree_of result ≡ self }
         ensures border { (s : List Place) → Shows L.node (L.table links.now) (root_of self) s
             → IsUpperBorder (compared_within
-            (order_there A.Key.cmp (A.key_of (adapter_of self))) objects.now bound.entry) s (owning.position result) }
+            (order_there A.Key.cmp (A.key_of (adapter_of self))) (O.values objects.now) bound.entry) s (owning.position result) }
         ensures stands { Stands (Shows L.node) L.table (owning.site_of links.now result) }
     {
         let current = self.upper(links, objects, &mut probe_within(self.adapter, bound));

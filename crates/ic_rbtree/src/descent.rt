@@ -12,8 +12,7 @@ ghost use Rattle.ic_rbtree.specs.Descents.{at_root, passed, EndsAt};
 use crate::Probe;
 use ic_link_ops::rbtree::RBTreeOps;
 use ic_link_ops::{End, Side};
-use ic_unsafe_ref::{Objects, Place};
-use std::alloc::Allocator;
+use ic_unsafe_ref::{Place, Values};
 use std::cmp::Ordering;
 
 // Where a descent has come to: below `parent`, on a side of it, between two members. `equal` says whether the one behind
@@ -40,18 +39,14 @@ fn goes_left(order: Ordering, equals: Side) -> bool
 
 // How what is searched stands to the object of a member.
 #[inline]
-fn compare_at<V, P: Probe<V>, B: Allocator>(
-    objects: &Objects<V, B>,
-    probe: &mut P,
-    place: Place,
-) -> Ordering
-    requires placed { is_placed objects.now place ≡ true }
+fn compare_at<V, P: Probe<V>, O: Values<V>>(objects: &O, probe: &mut P, place: Place) -> Ordering
+    requires placed { is_placed (O.values objects.now) place ≡ true }
     requires room { P.count probe.old < 18446744073709551615 }
-    ensures answer { result ≡ compared (P.order probe.old) objects.now place }
+    ensures answer { result ≡ compared (P.order probe.old) (O.values objects.now) place }
     ensures counted { P.count probe.new ≡ P.count probe.old + 1 }
     ensures same { P.order probe.new ≡ P.order probe.old }
 {
-    probe.compare(objects.get(place).unwrap())
+    probe.compare(objects.value(place))
 }
 
 impl Descent {
@@ -89,17 +84,17 @@ impl Descent {
 // Goes down from the root to a gap: left of the members that are greater than what is searched, right of those that are
 // less, and past equal ones to the side `equals`.
 #[inline]
-pub(crate) fn descend<L: RBTreeOps, V, P: Probe<V>, B: Allocator>(
+pub(crate) fn descend<L: RBTreeOps, V, P: Probe<V>, O: Values<V>>(
     links: &L,
     root: Option<Place>,
-    objects: &Objects<V, B>,
+    objects: &O,
     probe: &mut P,
     equals: Side,
 ) -> Descent
-    requires placed { ShowsPlaced (Shows L.node (L.table links.now) root) objects.now }
+    requires placed { ShowsPlaced (Shows L.node (L.table links.now) root) (O.values objects.now) }
     requires room { HasRoom (P.count probe.old) }
     ensures ends { (s : List Place) (h : Shows L.node (L.table links.now) root s)
-        → EndsAt L.node (L.table links.now) (compared (P.order probe.old) objects.now) equals h.tree result }
+        → EndsAt L.node (L.table links.now) (compared (P.order probe.old) (O.values objects.now)) equals h.tree result }
     ensures looks { (s : List Place) → Shows L.node (L.table links.now) root s
         → Looks P.order P.count probe.old probe.new s }
 {

@@ -3,14 +3,15 @@
 //! "After" is the gap behind the position's member, or the first gap at null; "before" is the gap in front of it, or
 //! the last gap at null. An edit looks at no key. What each does, the traits say.
 
-ghost use Rattle.std.specs.Prelude.{◌≡◌, None, Option, List};
+ghost use Rattle.std.specs.Prelude.{◌≡◌, None, Option, List, [], ◌∷◌, ◌++◌};
 ghost use Rattle.ic_unsafe_ref.specs.declared.place.Place.{Place};
 ghost use Rattle.ic_cursors.specs.Answers as answer;
 ghost use Rattle.ic_link_ops.specs.Sequences.{first, last};
-ghost use Rattle.ic_link_ops.specs.Tables.{IsCovered};
+ghost use Rattle.ic_link_ops.specs.Tables.{IsCovered, KeepsBeside};
+ghost use Rattle.ic_link_ops.specs.LinkSteps.{releases};
 ghost use Rattle.ic_link_ops.specs.RedBlackTree as red_black;
 ghost use Rattle.ic_link_ops.specs.RedBlackTree.{ShowsSome};
-ghost use Rattle.ic_link_ops.specs.Positions.{site, Stands};
+ghost use Rattle.ic_link_ops.specs.Positions.{site, Stands, HasMember};
 ghost use Rattle.ic_link_ops.specs.EditsAt.{InsertsBeside};
 ghost use Rattle.ic_rbtree.specs.Sides.{IsBeside};
 ghost use Rattle.ic_rbtree.specs.Tree.{root_of, adapter_of};
@@ -21,25 +22,42 @@ use crate::{KeyAdapter, RBTree};
 use ic_cursors::{Collection, Kind, TwoWay};
 use ic_link_ops::rbtree::RBTreeOps;
 use ic_link_ops::{End, LinkOps, Side};
-use ic_unsafe_ref::Place;
+use ic_unsafe_ref::{Place, UnsafeRef};
 
 impl<A: KeyAdapter> RBTree<A> {
-    // The first member.
+    /// The first member, `None` in an empty tree. O(log n).
     #[inline]
-    pub(crate) fn first<L: RBTreeOps>(&self, links: &L) -> Option<Place>
+    pub fn first<L: RBTreeOps>(&self, links: &L) -> Option<Place>
         requires shown { ShowsSome L.node (L.table links.now) (root_of self.now) }
         ensures { (s : List Place) → red_black.Shows L.node (L.table links.now) (root_of self.now) s → result ≡ first s }
     {
         end_on(links, self.root.get(), Side::Left)
     }
 
-    // The last member.
+    /// The last member, `None` in an empty tree. O(log n).
     #[inline]
-    pub(crate) fn last<L: RBTreeOps>(&self, links: &L) -> Option<Place>
+    pub fn last<L: RBTreeOps>(&self, links: &L) -> Option<Place>
         requires shown { ShowsSome L.node (L.table links.now) (root_of self.now) }
         ensures { (s : List Place) → red_black.Shows L.node (L.table links.now) (root_of self.now) s → result ≡ last s }
     {
         end_on(links, self.root.get(), Side::Right)
+    }
+
+    /// Takes the object off the tree, of which it asks that it is a member. O(log n), and no look.
+    ///
+    /// The other members stay in their order, and so does every other collection of the table.
+    #[inline]
+    pub fn remove<L: RBTreeOps>(&mut self, links: &mut L, object: &UnsafeRef<A::Value>)
+        requires member { HasMember (red_black.Shows L.node (L.table links.old) (root_of self.old)) object.now }
+        ensures removed { (front back : List Place)
+            → red_black.Shows L.node (L.table links.old) (root_of self.old) (front ++ object.now ∷ back)
+            → red_black.Shows L.node (L.table links.new) (root_of self.new) (front ++ back) }
+        ensures released { L.Does links.old links.new (releases object.now ∷ []) }
+        ensures adapter { adapter_of self.new ≡ adapter_of self.old }
+        ensures frame { (s : List Place) → red_black.Shows L.node (L.table links.old) (root_of self.old) s
+            → KeepsBeside (L.table links.old) (L.table links.new) s }
+    {
+        remove(links, &mut self.root, object.place());
     }
 
     // Puts the object into the gap beside the position, and returns whether its link was acquired.

@@ -21,8 +21,7 @@ use crate::linking::insert;
 use crate::{CursorMut, KeyAdapter, KeyProbe, Probe, RBTree};
 use ic_link_ops::rbtree::RBTreeOps;
 use ic_link_ops::{End, LinkOps, Side};
-use ic_unsafe_ref::{Objects, UnsafeRef};
-use std::alloc::Allocator;
+use ic_unsafe_ref::{UnsafeRef, Values};
 
 /// The gap of a tree where a key would stand that no member has, with the tree and the table of its links.
 pub struct InsertCursor<'a, A, L> {
@@ -69,19 +68,19 @@ impl<A: KeyAdapter> RBTree<A> {
     ///
     /// It asks that all members are placed, and that the probe's count is at most `u64::MAX - 66`. It descends as `find_by`.
     /// O(log n): v looks in a tree of n members, where `2^v <= (n + 1)^2`.
-    pub fn entry_by<'a, L: RBTreeOps, P: Probe<A::Value>, B: Allocator>(
+    pub fn entry_by<'a, L: RBTreeOps, P: Probe<A::Value>, O: Values<A::Value>>(
         &'a mut self,
         links: &'a mut L,
-        objects: &Objects<A::Value, B>,
+        objects: &O,
         probe: &mut P,
     ) -> Entry<'a, A, L>
-        requires placed { ShowsPlaced (Shows L.node (L.table links.old) (root_of self.old)) objects.now }
+        requires placed { ShowsPlaced (Shows L.node (L.table links.old) (root_of self.old)) (O.values objects.now) }
         requires room { HasRoom (P.count probe.old) }
         ensures occupied { (s : List Place) → Shows L.node (L.table links.old) (root_of self.old) s → IfOccupied result (λ c.
-            Finds (compared (P.order probe.old) objects.now) s (editing.position c) × IsSome (editing.position c)) }
+            Finds (compared (P.order probe.old) (O.values objects.now)) s (editing.position c) × IsSome (editing.position c)) }
         ensures stands { IfOccupied result (λ c. Stands (Shows L.node) L.table (editing.site_of c)) }
         ensures vacant { (s : List Place) → Shows L.node (L.table links.old) (root_of self.old) s → IfVacant result (λ v.
-            IsVacantFor L.node (compared (P.order probe.old) objects.now) (L.table links.old) s v) }
+            IsVacantFor L.node (compared (P.order probe.old) (O.values objects.now)) (L.table links.old) s v) }
         ensures occupied_borrows { IfOccupied result (editing.IsBorrowed self.entry links.entry) }
         ensures vacant_borrows { IfVacant result (IsBorrowed self.entry links.entry) }
         ensures looks { (s : List Place) → Shows L.node (L.table links.old) (root_of self.old) s
@@ -102,19 +101,19 @@ impl<A: KeyAdapter> RBTree<A> {
     }
 
     /// The first member with this key, or the gap where it would stand: `entry_by` with a `KeyProbe`. O(log n).
-    pub fn entry<'a, L: RBTreeOps, B: Allocator>(
+    pub fn entry<'a, L: RBTreeOps, O: Values<A::Value>>(
         &'a mut self,
         links: &'a mut L,
-        objects: &Objects<A::Value, B>,
+        objects: &O,
         key: &A::Key,
     ) -> Entry<'a, A, L>
-        requires placed { ShowsPlaced (Shows L.node (L.table links.old) (root_of self.old)) objects.now }
+        requires placed { ShowsPlaced (Shows L.node (L.table links.old) (root_of self.old)) (O.values objects.now) }
         ensures occupied { (s : List Place) → Shows L.node (L.table links.old) (root_of self.old) s → IfOccupied result (λ c.
-            Finds (compared (order_of A.Key.cmp (A.key_of (adapter_of self.old)) key.now) objects.now) s (editing.position c)
+            Finds (compared (order_of A.Key.cmp (A.key_of (adapter_of self.old)) key.now) (O.values objects.now)) s (editing.position c)
             × IsSome (editing.position c)) }
         ensures stands { IfOccupied result (λ c. Stands (Shows L.node) L.table (editing.site_of c)) }
         ensures vacant { (s : List Place) → Shows L.node (L.table links.old) (root_of self.old) s → IfVacant result (λ v.
-            IsVacantFor L.node (compared (order_of A.Key.cmp (A.key_of (adapter_of self.old)) key.now) objects.now)
+            IsVacantFor L.node (compared (order_of A.Key.cmp (A.key_of (adapter_of self.old)) key.now) (O.values objects.now))
             (L.table links.old) s v) }
         ensures occupied_borrows { IfOccupied result (editing.IsBorrowed self.entry links.entry) }
         ensures vacant_borrows { IfVacant result (IsBorrowed self.entry links.entry) }

@@ -16,8 +16,7 @@ ghost use Rattle.ic_rbtree.specs.Tree.{root_of, adapter_of};
 use crate::{Cursor, CursorMut, CursorOwning, KeyAdapter, KeyProbe, Probe, RBTree};
 use ic_link_ops::LinkOps;
 use ic_link_ops::rbtree::RBTreeOps;
-use ic_unsafe_ref::Objects;
-use std::alloc::Allocator;
+use ic_unsafe_ref::Values;
 
 impl<A: KeyAdapter> RBTree<A> {
     ghost use Rattle.ic_rbtree.specs.Cursor.{tree_of, links_of, position, site_of};
@@ -30,18 +29,18 @@ impl<A: KeyAdapter> RBTree<A> {
     /// that is greater or equal, and right at one that is less; where the members are not sorted for the probe, it may miss
     /// equal ones. O(log n): v looks in a tree of n members, where `2^v <= (n + 1)^2`, with one look-up of an object each.
     #[inline]
-    pub fn find_by<'a, L: RBTreeOps, P: Probe<A::Value>, B: Allocator>(
+    pub fn find_by<'a, L: RBTreeOps, P: Probe<A::Value>, O: Values<A::Value>>(
         &'a self,
         links: &'a L,
-        objects: &Objects<A::Value, B>,
+        objects: &O,
         probe: &mut P,
     ) -> Cursor<'a, A, L>
-        requires placed { ShowsPlaced (Shows L.node (L.table links.now) (root_of self.now)) objects.now }
+        requires placed { ShowsPlaced (Shows L.node (L.table links.now) (root_of self.now)) (O.values objects.now) }
         requires room { HasRoom (P.count probe.old) }
         ensures tree { tree_of result ≡ self.now }
         ensures links { links_of result ≡ links.now }
         ensures found { (s : List Place) → Shows L.node (L.table links.now) (root_of self.now) s
-            → Finds (compared (P.order probe.old) objects.now) s (position result) }
+            → Finds (compared (P.order probe.old) (O.values objects.now)) s (position result) }
         ensures stands { Stands (Shows L.node) L.table (site_of result) }
         ensures looks { (s : List Place) → Shows L.node (L.table links.now) (root_of self.now) s
             → Looks P.order P.count probe.old probe.new s }
@@ -51,17 +50,17 @@ impl<A: KeyAdapter> RBTree<A> {
 
     /// A cursor on the first member of this key, null if there is none: `find_by` with a `KeyProbe`. O(log n).
     #[inline]
-    pub fn find<'a, L: RBTreeOps, B: Allocator>(
+    pub fn find<'a, L: RBTreeOps, O: Values<A::Value>>(
         &'a self,
         links: &'a L,
-        objects: &Objects<A::Value, B>,
+        objects: &O,
         key: &A::Key,
     ) -> Cursor<'a, A, L>
-        requires placed { ShowsPlaced (Shows L.node (L.table links.now) (root_of self.now)) objects.now }
+        requires placed { ShowsPlaced (Shows L.node (L.table links.now) (root_of self.now)) (O.values objects.now) }
         ensures tree { tree_of result ≡ self.now }
         ensures links { links_of result ≡ links.now }
         ensures found { (s : List Place) → Shows L.node (L.table links.now) (root_of self.now) s
-            → Finds (compared (order_of A.Key.cmp (A.key_of (adapter_of self.now)) key.now) objects.now) s (position result) }
+            → Finds (compared (order_of A.Key.cmp (A.key_of (adapter_of self.now)) key.now) (O.values objects.now)) s (position result) }
         ensures stands { Stands (Shows L.node) L.table (site_of result) }
     {
         self.find_by(links, objects, &mut KeyProbe::new(self.adapter, key))
@@ -69,16 +68,16 @@ impl<A: KeyAdapter> RBTree<A> {
 
     /// A cursor that edits, on the first member of this key, null if there is none. As `find`.
     #[inline]
-    pub fn find_mut<'a, L: RBTreeOps, B: Allocator>(
+    pub fn find_mut<'a, L: RBTreeOps, O: Values<A::Value>>(
         &'a mut self,
         links: &'a mut L,
-        objects: &Objects<A::Value, B>,
+        objects: &O,
         key: &A::Key,
     ) -> CursorMut<'a, A, L>
-        requires placed { ShowsPlaced (Shows L.node (L.table links.old) (root_of self.old)) objects.now }
+        requires placed { ShowsPlaced (Shows L.node (L.table links.old) (root_of self.old)) (O.values objects.now) }
         ensures borrows { editing.IsBorrowed self.entry links.entry result }
         ensures found { (s : List Place) → Shows L.node (L.table links.old) (root_of self.old) s
-            → Finds (compared (order_of A.Key.cmp (A.key_of (adapter_of self.old)) key.now) objects.now) s
+            → Finds (compared (order_of A.Key.cmp (A.key_of (adapter_of self.old)) key.now) (O.values objects.now)) s
             (editing.position result) }
         ensures stands { Stands (Shows L.node) L.table (editing.site_of result) }
     {
@@ -88,16 +87,16 @@ impl<A: KeyAdapter> RBTree<A> {
 
     /// A cursor that keeps the tree, on the first member of this key, null if there is none. As `find`.
     #[inline]
-    pub fn find_owning<L: RBTreeOps, B: Allocator>(
+    pub fn find_owning<L: RBTreeOps, O: Values<A::Value>>(
         self,
         links: &L,
-        objects: &Objects<A::Value, B>,
+        objects: &O,
         key: &A::Key,
     ) -> CursorOwning<A>
-        requires placed { ShowsPlaced (Shows L.node (L.table links.now) (root_of self)) objects.now }
+        requires placed { ShowsPlaced (Shows L.node (L.table links.now) (root_of self)) (O.values objects.now) }
         ensures tree { owning.tree_of result ≡ self }
         ensures found { (s : List Place) → Shows L.node (L.table links.now) (root_of self) s
-            → Finds (compared (order_of A.Key.cmp (A.key_of (adapter_of self)) key.now) objects.now) s
+            → Finds (compared (order_of A.Key.cmp (A.key_of (adapter_of self)) key.now) (O.values objects.now)) s
             (owning.position result) }
         ensures stands { Stands (Shows L.node) L.table (owning.site_of links.now result) }
     {

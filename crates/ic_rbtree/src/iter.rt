@@ -19,84 +19,90 @@ use crate::{KeyAdapter, RBTree};
 use ic_cursors::{Kind, TwoWay};
 use ic_link_ops::rbtree::RBTreeOps;
 use ic_link_ops::{End, LinkOps};
-use ic_unsafe_ref::{Objects, Place};
-use std::alloc::{AllocError, Allocator, Global};
+use ic_unsafe_ref::{Objects, Place, Values};
+use std::alloc::AllocError;
+use std::marker::PhantomData;
 
 /// The objects of a tree that are not given out yet: from the front by `next`, from the back by `next_back`.
 ///
 /// When the two ends meet, both are exhausted. `A::Key: 'a` holds of every key that is a part of its object: it is said for
 /// callers that are generic in the adapter.
-pub struct Iter<'a, A: KeyAdapter, L, B: Allocator = Global>
+pub struct Iter<'a, A: KeyAdapter, L, O = Objects<<A as KeyAdapter>::Value>>
 where
     A::Key: 'a,
 {
     pub(crate) tree: &'a RBTree<A>,
     pub(crate) links: &'a L,
-    pub(crate) objects: &'a Objects<A::Value, B>,
+    pub(crate) objects: &'a O,
+    pub(crate) of: PhantomData<&'a A::Value>,
     pub(crate) head: Option<Place>,
     pub(crate) tail: Option<Place>,
 }
 
-impl<A: KeyAdapter, L, B: Allocator> Drop for Iter<'_, A, L, B> {
+impl<A: KeyAdapter, L, O> Drop for Iter<'_, A, L, O> {
     fn drop(self) {
         let Iter {
             tree: _,
             links: _,
             objects: _,
+            of: _,
             head: _,
             tail: _,
         } = self;
     }
 }
 
-impl<'a, A: KeyAdapter, L: RBTreeOps, B: Allocator> Iterator for Iter<'a, A, L, B> {
+impl<'a, A: KeyAdapter, L: RBTreeOps, O: Values<A::Value>> Iterator for Iter<'a, A, L, O> {
     type Item = &'a A::Value;
 
     ghost use Rattle.std.specs.Iterator.{item_count};
     ghost use Rattle.ic_rbtree.specs.Iter.{objects_left, CanWalk};
 
-    ghost can_next = { CanWalk L.node L.table };
+    ghost can_next = { CanWalk L.node L.table O.values };
 
-    ghost next_gives = { GivesFirst (objects_left L.node L.table) };
+    ghost next_gives = { GivesFirst (objects_left L.node L.table O.values) };
 
-    ghost remaining = { item_count (objects_left L.node L.table) };
+    ghost remaining = { item_count (objects_left L.node L.table O.values) };
 
     /// The next object. O(log n): one step in the tree, and one look-up of the object.
     fn next(&mut self) -> Option<&'a A::Value> {
         let place = self.head?;
+        let objects: &'a O = self.objects;
+        let value = objects.value(place);
         if is_at(self.tail, place) {
             self.head = None;
             self.tail = None;
         } else {
             self.head = self.tree.next_of(self.links, &End::of(Some(place))).get();
         }
-        let objects: &'a Objects<A::Value, B> = self.objects;
-        objects.get(place)
+        Some(value)
     }
 }
 
-impl<'a, A: KeyAdapter, L: RBTreeOps, B: Allocator> DoubleEndedIterator for Iter<'a, A, L, B> {
+impl<'a, A: KeyAdapter, L: RBTreeOps, O: Values<A::Value>> DoubleEndedIterator
+    for Iter<'a, A, L, O> {
     ghost use Rattle.ic_rbtree.specs.Iter.{objects_left, CanWalk};
 
-    ghost can_next_back = { CanWalk L.node L.table };
+    ghost can_next_back = { CanWalk L.node L.table O.values };
 
-    ghost next_back_gives = { GivesLast (objects_left L.node L.table) };
+    ghost next_back_gives = { GivesLast (objects_left L.node L.table O.values) };
 
     /// The next object from the back. O(log n), as `next`.
     fn next_back(&mut self) -> Option<&'a A::Value> {
         let place = self.tail?;
+        let objects: &'a O = self.objects;
+        let value = objects.value(place);
         if is_at(self.head, place) {
             self.head = None;
             self.tail = None;
         } else {
             self.tail = self.tree.prev_of(self.links, &End::of(Some(place))).get();
         }
-        let objects: &'a Objects<A::Value, B> = self.objects;
-        objects.get(place)
+        Some(value)
     }
 }
 
-impl<A: KeyAdapter, L, B: Allocator> Clone for Iter<'_, A, L, B> {
+impl<A: KeyAdapter, L, O> Clone for Iter<'_, A, L, O> {
     ghost is_clone = { λ t copy. copy ≡ t };
 
     ghost is_infallible = { λ _. ⊤ };
@@ -107,20 +113,21 @@ impl<A: KeyAdapter, L, B: Allocator> Clone for Iter<'_, A, L, B> {
             tree: self.tree,
             links: self.links,
             objects: self.objects,
+            of: PhantomData,
             head: self.head,
             tail: self.tail,
         })
     }
 }
 
-impl<A: KeyAdapter, L: RBTreeOps, B: Allocator> Iter<'_, A, L, B> {
+impl<A: KeyAdapter, L: RBTreeOps, O: Values<A::Value>> Iter<'_, A, L, O> {
     ghost use Rattle.ic_link_ops.specs.Sequences.{first};
     ghost use Rattle.ic_rbtree.specs.Iter.{rest_of, CanWalk};
 
     /// The place of the member that `next` would give, `None` when the walk is exhausted. O(1).
     #[inline]
     pub fn get_ptr(&self) -> Option<Place>
-        requires can_walk { CanWalk L.node L.table self.now }
+        requires can_walk { CanWalk L.node L.table O.values self.now }
         ensures { result ≡ first (rest_of L.node L.table self.now) }
     {
         self.head
@@ -132,20 +139,21 @@ impl<A: KeyAdapter> RBTree<A> {
     ghost use Rattle.ic_rbtree.specs.Iter.{objects_left, CanWalk};
 
     /// A walk over the objects of the tree, from either end. It asks that all members are placed.
-    pub fn iter<'a, L: RBTreeOps, B: Allocator>(
+    pub fn iter<'a, L: RBTreeOps, O: Values<A::Value>>(
         &'a self,
         links: &'a L,
-        objects: &'a Objects<A::Value, B>,
-    ) -> Iter<'a, A, L, B>
-        requires placed { ShowsPlaced (Shows L.node (L.table links.now) (root_of self.now)) objects.now }
+        objects: &'a O,
+    ) -> Iter<'a, A, L, O>
+        requires placed { ShowsPlaced (Shows L.node (L.table links.now) (root_of self.now)) (O.values objects.now) }
         ensures walks { (s : List Place) → Shows L.node (L.table links.now) (root_of self.now) s
-            → objects_left L.node L.table result ≡ values_at objects.now s }
-        ensures can_walk { CanWalk L.node L.table result }
+            → objects_left L.node L.table O.values result ≡ values_at (O.values objects.now) s }
+        ensures can_walk { CanWalk L.node L.table O.values result }
     {
         Iter {
             tree: self,
             links,
             objects,
+            of: PhantomData,
             head: self.first(links),
             tail: self.last(links),
         }

@@ -24,8 +24,7 @@ use crate::removal::unlink;
 use crate::writers::take_place;
 use ic_link_ops::rbtree::RBTreeOps;
 use ic_link_ops::{End, LinkOps, Side};
-use ic_unsafe_ref::{Objects, Place};
-use std::alloc::Allocator;
+use ic_unsafe_ref::{Place, Values};
 
 // Links the place as a new member on this side of `parent`, which has no child there, and says whether the link could be
 // had. With no parent the tree is empty.
@@ -56,18 +55,18 @@ pub(crate) fn insert<L: RBTreeOps>(
 // Links the place as a new member where the probe's order wants it: behind the members that compare equal. It says whether
 // the link could be had. Where it could not, nothing is looked at.
 #[inline]
-pub(crate) fn insert_in_order<L: RBTreeOps, V, P: Probe<V>, B: Allocator>(
+pub(crate) fn insert_in_order<L: RBTreeOps, V, P: Probe<V>, O: Values<V>>(
     links: &mut L,
     root: &mut End,
-    objects: &Objects<V, B>,
+    objects: &O,
     probe: &mut P,
     object: Place,
 ) -> bool
     requires covered { IsCovered (L.table links.old) object }
-    requires placed { ShowsPlaced (Shows L.node (L.table links.old) root.old) objects.now }
+    requires placed { ShowsPlaced (Shows L.node (L.table links.old) root.old) (O.values objects.now) }
     requires room { HasRoom (P.count probe.old) }
     ensures inserted { (s : List Place) → Shows L.node (L.table links.old) root.old s → OnTrue result
-        (InsertsInOrder (Shows L.node) (compared (P.order probe.old) objects.now) (L.table links.old) (L.table links.new)
+        (InsertsInOrder (Shows L.node) (compared (P.order probe.old) (O.values objects.now)) (L.table links.old) (L.table links.new)
         root.new s object) }
     ensures acquired { OnTrue result (L.Does links.old links.new (acquires object ∷ [])) }
     ensures looks { (s : List Place) → Shows L.node (L.table links.old) root.old s

@@ -20,23 +20,22 @@ use crate::{KeyAdapter, KeyProbe, Probe, RBTree};
 use ic_cursors::Ordered;
 use ic_link_ops::rbtree::RBTreeOps;
 use ic_link_ops::{AlreadyLinked, End, LinkOps};
-use ic_unsafe_ref::{Objects, Place, UnsafeRef};
-use std::alloc::Allocator;
+use ic_unsafe_ref::{Place, UnsafeRef, Values};
 
 impl<A: KeyAdapter, L: RBTreeOps> Ordered<L> for RBTree<A> {
     ghost order_of = { λ tree objects object. compared (own_order A.Key.cmp (A.key_of (adapter_of tree)) objects object) objects };
 
     // O(log n): at most 66 looks, none where the link is refused.
     #[inline]
-    fn insert_in_order<B: Allocator>(
+    fn insert_in_order<O: Values<A::Value>>(
         &mut self,
         links: &mut L,
-        objects: &Objects<A::Value, B>,
+        objects: &O,
         at: &mut End,
         object: Place,
     ) -> bool {
         let _ = at;
-        let value = objects.get(object).unwrap();
+        let value = objects.value(object);
         let mut probe = KeyProbe::new(self.adapter, self.adapter.get_key(value));
         insert_in_order(links, &mut self.root, objects, &mut probe, object)
     }
@@ -50,18 +49,18 @@ impl<A: KeyAdapter> RBTree<A> {
     /// answers a cursor on the object; here that is one more call, `cursor_mut_from_ptr`. O(log n): v looks in a tree of n
     /// members, where `2^v <= (n + 1)^2`.
     #[inline]
-    pub fn insert_by<L: RBTreeOps, P: Probe<A::Value>, B: Allocator>(
+    pub fn insert_by<L: RBTreeOps, P: Probe<A::Value>, O: Values<A::Value>>(
         &mut self,
         links: &mut L,
-        objects: &Objects<A::Value, B>,
+        objects: &O,
         probe: &mut P,
         object: UnsafeRef<A::Value>,
     ) -> Result<(), AlreadyLinked<A::Value>>
         requires covered { IsCovered (L.table links.old) object }
-        requires placed { ShowsPlaced (Shows L.node (L.table links.old) (root_of self.old)) objects.now }
+        requires placed { ShowsPlaced (Shows L.node (L.table links.old) (root_of self.old)) (O.values objects.now) }
         requires room { HasRoom (P.count probe.old) }
         ensures inserted { (s : List Place) → Shows L.node (L.table links.old) (root_of self.old) s → OnOk result
-            (InsertsInOrder (Shows L.node) (compared (P.order probe.old) objects.now) (L.table links.old)
+            (InsertsInOrder (Shows L.node) (compared (P.order probe.old) (O.values objects.now)) (L.table links.old)
             (L.table links.new) (root_of self.new) s object) }
         ensures acquired { OnOk result (L.Does links.old links.new (acquires object ∷ [])) }
         ensures adapter { adapter_of self.new ≡ adapter_of self.old }
@@ -80,25 +79,25 @@ impl<A: KeyAdapter> RBTree<A> {
     /// Inserts the object where its own key belongs, behind members with the same key, unless its link is refused: `insert_by`
     /// with a `KeyProbe`. It asks that the object is placed, too. O(log n).
     #[inline]
-    pub fn insert<L: RBTreeOps, B: Allocator>(
+    pub fn insert<L: RBTreeOps, O: Values<A::Value>>(
         &mut self,
         links: &mut L,
-        objects: &Objects<A::Value, B>,
+        objects: &O,
         object: UnsafeRef<A::Value>,
     ) -> Result<(), AlreadyLinked<A::Value>>
         requires covered { IsCovered (L.table links.old) object }
-        requires placed { ShowsPlaced (Shows L.node (L.table links.old) (root_of self.old)) objects.now }
-        requires object { is_placed objects.now object ≡ true }
+        requires placed { ShowsPlaced (Shows L.node (L.table links.old) (root_of self.old)) (O.values objects.now) }
+        requires object { is_placed (O.values objects.now) object ≡ true }
         ensures inserted { (s : List Place) → Shows L.node (L.table links.old) (root_of self.old) s → OnOk result
             (InsertsInOrder (Shows L.node)
-            (compared (own_order A.Key.cmp (A.key_of (adapter_of self.old)) objects.now object) objects.now)
+            (compared (own_order A.Key.cmp (A.key_of (adapter_of self.old)) (O.values objects.now) object) (O.values objects.now))
             (L.table links.old) (L.table links.new) (root_of self.new) s object) }
         ensures acquired { OnOk result (L.Does links.old links.new (acquires object ∷ [])) }
         ensures adapter { adapter_of self.new ≡ adapter_of self.old }
         ensures refused { OnErr result (L.Refused links.old links.new object) }
         ensures unchanged { IfErr result (λ refused. (refused.0 ≡ object) × (self.new ≡ self.old)) }
     {
-        let value = objects.get(object.place()).unwrap();
+        let value = objects.value(object.place());
         let mut probe = KeyProbe::new(self.adapter, self.adapter.get_key(value));
         self.insert_by(links, objects, &mut probe, object)
     }

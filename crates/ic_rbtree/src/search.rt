@@ -14,22 +14,21 @@ use crate::descent::descend;
 use crate::{Bound, KeyAdapter, Probe, RBTree};
 use ic_link_ops::rbtree::RBTreeOps;
 use ic_link_ops::{End, LinkOps, Side};
-use ic_unsafe_ref::Objects;
-use std::alloc::Allocator;
+use ic_unsafe_ref::Values;
 
 impl<A: KeyAdapter> RBTree<A> {
     // The first member that compares equal.
     #[inline]
-    pub(crate) fn first_equal<L: RBTreeOps, P: Probe<A::Value>, B: Allocator>(
+    pub(crate) fn first_equal<L: RBTreeOps, P: Probe<A::Value>, O: Values<A::Value>>(
         &self,
         links: &L,
-        objects: &Objects<A::Value, B>,
+        objects: &O,
         probe: &mut P,
     ) -> End
-        requires placed { ShowsPlaced (Shows L.node (L.table links.now) (root_of self.now)) objects.now }
+        requires placed { ShowsPlaced (Shows L.node (L.table links.now) (root_of self.now)) (O.values objects.now) }
         requires room { HasRoom (P.count probe.old) }
         ensures found { (s : List Place) → Shows L.node (L.table links.now) (root_of self.now) s
-            → Finds (compared (P.order probe.old) objects.now) s result }
+            → Finds (compared (P.order probe.old) (O.values objects.now)) s result }
         ensures looks { (s : List Place) → Shows L.node (L.table links.now) (root_of self.now) s
             → Looks P.order P.count probe.old probe.new s }
     {
@@ -42,18 +41,18 @@ impl<A: KeyAdapter> RBTree<A> {
 
     // The member behind the gap to which the bound sends from below: one that meets it.
     #[inline]
-    pub(crate) fn lower<L: RBTreeOps, P: Probe<A::Value>, B: Allocator>(
+    pub(crate) fn lower<L: RBTreeOps, P: Probe<A::Value>, O: Values<A::Value>>(
         &self,
         links: &L,
-        objects: &Objects<A::Value, B>,
+        objects: &O,
         bound: &mut Bound<P>,
     ) -> End
-        requires placed { ShowsPlaced (Shows L.node (L.table links.now) (root_of self.now)) objects.now }
+        requires placed { ShowsPlaced (Shows L.node (L.table links.now) (root_of self.now)) (O.values objects.now) }
         requires room { HasRoomWithin P.count bound.old }
         ensures border { (s : List Place) → Shows L.node (L.table links.now) (root_of self.now) s
-            → IsLowerBorder (compared_within P.order objects.now bound.old) s result }
+            → IsLowerBorder (compared_within P.order (O.values objects.now) bound.old) s result }
         ensures lower { (s : List Place) (h : Shows L.node (L.table links.now) (root_of self.now) s)
-            → result ≡ first (gap_in (meets_lower (compared_within P.order objects.now bound.old)) h.tree).back }
+            → result ≡ first (gap_in (meets_lower (compared_within P.order (O.values objects.now) bound.old)) h.tree).back }
         ensures looks { (s : List Place) → Shows L.node (L.table links.now) (root_of self.now) s
             → LooksWithin P.order P.count bound.old bound.new s }
     {
@@ -70,18 +69,18 @@ impl<A: KeyAdapter> RBTree<A> {
 
     // The member in front of the gap to which the bound sends from above: one that meets it.
     #[inline]
-    pub(crate) fn upper<L: RBTreeOps, P: Probe<A::Value>, B: Allocator>(
+    pub(crate) fn upper<L: RBTreeOps, P: Probe<A::Value>, O: Values<A::Value>>(
         &self,
         links: &L,
-        objects: &Objects<A::Value, B>,
+        objects: &O,
         bound: &mut Bound<P>,
     ) -> End
-        requires placed { ShowsPlaced (Shows L.node (L.table links.now) (root_of self.now)) objects.now }
+        requires placed { ShowsPlaced (Shows L.node (L.table links.now) (root_of self.now)) (O.values objects.now) }
         requires room { HasRoomWithin P.count bound.old }
         ensures border { (s : List Place) → Shows L.node (L.table links.now) (root_of self.now) s
-            → IsUpperBorder (compared_within P.order objects.now bound.old) s result }
+            → IsUpperBorder (compared_within P.order (O.values objects.now) bound.old) s result }
         ensures upper { (s : List Place) (h : Shows L.node (L.table links.now) (root_of self.now) s)
-            → result ≡ last (gap_in (is_beyond (compared_within P.order objects.now bound.old)) h.tree).front }
+            → result ≡ last (gap_in (is_beyond (compared_within P.order (O.values objects.now) bound.old)) h.tree).front }
         ensures looks { (s : List Place) → Shows L.node (L.table links.now) (root_of self.now) s
             → LooksWithin P.order P.count bound.old bound.new s }
     {

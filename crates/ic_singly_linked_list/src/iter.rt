@@ -15,48 +15,52 @@ ghost use Rattle.ic_link_ops.specs.Walk.{GivesFirst};
 use crate::SinglyLinkedList;
 use ic_link_ops::LinkOps;
 use ic_link_ops::singly_linked_list::SinglyLinkedListOps;
-use ic_unsafe_ref::{Objects, Place};
-use std::alloc::{AllocError, Allocator, Global};
+use ic_unsafe_ref::{Objects, Place, Values};
+use std::alloc::AllocError;
+use std::marker::PhantomData;
 
 /// The objects of a list that are not given out yet, from the front.
-pub struct Iter<'a, T, L, A: Allocator = Global> {
+pub struct Iter<'a, T, L, O = Objects<T>> {
     links: &'a L,
-    objects: &'a Objects<T, A>,
+    objects: &'a O,
+    of: PhantomData<&'a T>,
     head: Option<Place>,
 }
 
-impl<T, L, A: Allocator> Drop for Iter<'_, T, L, A> {
+impl<T, L, O> Drop for Iter<'_, T, L, O> {
     fn drop(self) {
         let Iter {
             links: _,
             objects: _,
+            of: _,
             head: _,
         } = self;
     }
 }
 
-impl<'a, T, L: SinglyLinkedListOps, A: Allocator> Iterator for Iter<'a, T, L, A> {
+impl<'a, T, L: SinglyLinkedListOps, O: Values<T>> Iterator for Iter<'a, T, L, O> {
     type Item = &'a T;
 
     ghost use Rattle.std.specs.Iterator.{item_count};
     ghost use Rattle.ic_singly_linked_list.specs.Iter.{objects_left, CanWalk};
 
-    ghost can_next = { CanWalk L.successor L.table };
+    ghost can_next = { CanWalk L.successor L.table O.values };
 
-    ghost next_gives = { GivesFirst (objects_left L.successor L.table) };
+    ghost next_gives = { GivesFirst (objects_left L.successor L.table O.values) };
 
-    ghost remaining = { item_count (objects_left L.successor L.table) };
+    ghost remaining = { item_count (objects_left L.successor L.table O.values) };
 
     /// The next object. O(1): one reading of a neighbour, and one look-up of the object.
     fn next(&mut self) -> Option<&'a T> {
         let place = self.head?;
+        let objects: &'a O = self.objects;
+        let value = objects.value(place);
         self.head = self.links.next(place);
-        let objects: &'a Objects<T, A> = self.objects;
-        objects.get(place)
+        Some(value)
     }
 }
 
-impl<T, L, A: Allocator> Clone for Iter<'_, T, L, A> {
+impl<T, L, O> Clone for Iter<'_, T, L, O> {
     ghost is_clone = { λ t copy. copy ≡ t };
 
     ghost is_infallible = { λ _. ⊤ };
@@ -66,6 +70,7 @@ impl<T, L, A: Allocator> Clone for Iter<'_, T, L, A> {
         Ok(Iter {
             links: self.links,
             objects: self.objects,
+            of: PhantomData,
             head: self.head,
         })
     }
@@ -76,19 +81,20 @@ impl<T> SinglyLinkedList<T> {
     ghost use Rattle.ic_singly_linked_list.specs.Iter.{objects_left, CanWalk};
 
     /// A walk over the objects of the list, from the front. It asks that all members are placed.
-    pub fn iter<'a, L: SinglyLinkedListOps, A: Allocator>(
+    pub fn iter<'a, L: SinglyLinkedListOps, O: Values<T>>(
         &self,
         links: &'a L,
-        objects: &'a Objects<T, A>,
-    ) -> Iter<'a, T, L, A>
-        requires placed { ShowsPlaced (Shows L.successor (L.table links.now) self.now) objects.now }
+        objects: &'a O,
+    ) -> Iter<'a, T, L, O>
+        requires placed { ShowsPlaced (Shows L.successor (L.table links.now) self.now) (O.values objects.now) }
         ensures walks { (s : List Place) → Shows L.successor (L.table links.now) self.now s
-            → objects_left L.successor L.table result ≡ values_at objects.now s }
-        ensures can_walk { CanWalk L.successor L.table result }
+            → objects_left L.successor L.table O.values result ≡ values_at (O.values objects.now) s }
+        ensures can_walk { CanWalk L.successor L.table O.values result }
     {
         Iter {
             links,
             objects,
+            of: PhantomData,
             head: self.head(),
         }
     }

@@ -2,3 +2,4 @@ pub mod PlaceLemmas
 pub mod OrderLemmas
 pub mod ObjectLemmas
 pub mod Placing
+pub mod IndexLemmas

@@ -1,5 +1,6 @@
 -- Objects: a finite map from places to values, and where the next value will stand.
-use Rattle.std.specs.Prelude.{◌≡◌, ℕ, Option, None, Bool, is_some, refl}
+use Rattle.std.specs.Prelude.{◌≡◌, ℕ, List, length, Option, None, Bool, is_some, refl}
+use Rattle.std.specs.List.{enumerate_from}
 use Rattle.std.specs.Ordering.{nat_cmp}
 use Rattle.std.specs.FinMap as map
 use Rattle.std.specs.Coded.{Coded, code_by, coded×, coded_ℕ}
@@ -40,3 +41,7 @@ module _ {T : Type 0} where
   -- the objects with this value at p
   abbrev pub with_object : Objects T → Place → T → Objects T
   with_object objects p value = record { values = map.insert objects.values (index_of p) value; next = objects.next }
+
+  -- the values of a list, each at the place with its index
+  abbrev pub at_indexes : List T → Objects T
+  at_indexes values = record { values = map.from_entries (enumerate_from 0 values); next = length values }

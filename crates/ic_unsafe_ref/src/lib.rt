@@ -14,7 +14,9 @@
 mod objects;
 mod place;
 mod unsafe_ref;
+mod values;
 
 pub use objects::Objects;
 pub use place::Place;
 pub use unsafe_ref::UnsafeRef;
+pub use values::Values;

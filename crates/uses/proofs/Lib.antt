@@ -11,5 +11,4 @@ pub mod RaceLemmas
 pub mod Retaining
 pub mod Rounds
 pub mod SharedJobs
-pub mod TakenOff
 pub mod TakingDue

@@ -166,5 +166,5 @@ pub fn cancel<L: RBTreeOps>(timers: &mut RBTree<ByDeadline>, links: &mut L, time
     ensures frame { (s : List Place) → Shows L.node (L.table links.old) (root_of timers.old) s
         → KeepsBeside (L.table links.old) (L.table links.new) s }
 {
-    timers.cursor_mut_from_ptr(links, timer).remove();
+    timers.remove(links, &timer);
 }

@@ -5,7 +5,7 @@ use Rattle.ic_members.proofs.keyed.list_walk.Goals as goal
 pub loop-places-init : goal.loop-places-init
 loop-places-init g c =
     let e = c.cursor_from_ptr-cursor.ensures in
-    let count = walk_count g.L.RBTreeOps.node g.L.LinkOps.table (λ t q h. g.met.L.LinkOps.linked_is_covered t q (sym (g.met.L.RBTreeOps.linked_alike _) ∙ h)) c.args.walk c.requires.can_walk in
+    let count = walk_count g.L.RBTreeOps.node g.L.LinkOps.table g.O.Values.values (λ t q h. g.met.L.LinkOps.linked_is_covered t q (sym (g.met.L.RBTreeOps.linked_alike _) ∙ h)) c.args.walk c.requires.can_walk in
     rw (e.tree, e.links, c.new-places.ensures.items) (lists_first c.requires.shown c.in-Some.ensures (e.position ∙ ap Some c.new.ensures) count)
 
 pub unwrap-requires : goal.unwrap-requires

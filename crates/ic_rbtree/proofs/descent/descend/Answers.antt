@@ -15,7 +15,7 @@ loop-at-init g c = record {
 pub compare_at-order-requires-clause-placed : goal.compare_at-order-requires-clause-placed
 compare_at-order-requires-clause-placed g c =
     let r = c.requires.placed in
-    sent_placed g.L.RBTreeOps.node (c.loop-at.invariant.each r.members r.shown) c.in-Some.is c.args.objects.now r.shown refl r.placed
+    sent_placed g.L.RBTreeOps.node (c.loop-at.invariant.each r.members r.shown) c.in-Some.is (g.O.Values.values c.args.objects.now) r.shown refl r.placed
 
 pub compare_at-order-requires-clause-room : goal.compare_at-order-requires-clause-room
 compare_at-order-requires-clause-room g c =
@@ -48,7 +48,7 @@ pub loop-at-preserved-then-left : goal.loop-at-preserved-then-left
 loop-at-preserved-then-left g c = record {
   each = λ s h.
       sent_on g.L.RBTreeOps.node (c.loop-at.invariant.each s h) c.in-Some.is c.goes_left-left.result c.pass.ensures
-      (c.compare_at-order.ensures.answer ∙ ap (λ o. compared o c.args.objects.now c.in-Some.place) c.loop-at.invariant.same) c.goes_left-left.ensures c.is_eq.ensures
+      (c.compare_at-order.ensures.answer ∙ ap (λ o. compared o (g.O.Values.values c.args.objects.now) c.in-Some.place) c.loop-at.invariant.same) c.goes_left-left.ensures c.is_eq.ensures
       (c.left-at.ensures ∙ ap (λ left. child_on (side_of left) (node_at g.L.RBTreeOps.node (g.L.LinkOps.table c.args.links.now) c.in-Some.place)) (sym c.if-left.true)) c.compare_at-order.ensures.counted;
   same = c.compare_at-order.ensures.same ∙ c.loop-at.invariant.same;
 }
@@ -57,7 +57,7 @@ pub loop-at-preserved : goal.loop-at-preserved
 loop-at-preserved g c = record {
   each = λ s h.
       sent_on g.L.RBTreeOps.node (c.loop-at.invariant.each s h) c.in-Some.is c.goes_left-left.result c.pass.ensures
-      (c.compare_at-order.ensures.answer ∙ ap (λ o. compared o c.args.objects.now c.in-Some.place) c.loop-at.invariant.same) c.goes_left-left.ensures c.is_eq.ensures
+      (c.compare_at-order.ensures.answer ∙ ap (λ o. compared o (g.O.Values.values c.args.objects.now) c.in-Some.place) c.loop-at.invariant.same) c.goes_left-left.ensures c.is_eq.ensures
       (c.right-at.ensures ∙ ap (λ left. child_on (side_of left) (node_at g.L.RBTreeOps.node (g.L.LinkOps.table c.args.links.now) c.in-Some.place)) (sym c.if-left.false)) c.compare_at-order.ensures.counted;
   same = c.compare_at-order.ensures.same ∙ c.loop-at.invariant.same;
 }

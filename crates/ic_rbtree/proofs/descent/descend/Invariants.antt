@@ -10,7 +10,7 @@ invariant-loop-at g l =
     let n = g.L.RBTreeOps.node in
     let v = g.L.LinkOps.table l.links in
     record {
-      each : (s : List Place) (h : Shows n v l.fn.root s) → Sent n v l.fn.root (compared (g.P.Probe.order l.fn.probe) l.objects) l.equals h.tree l.at l.descent (g.P.Probe.count l.fn.probe) (g.P.Probe.count l.probe);
+      each : (s : List Place) (h : Shows n v l.fn.root s) → Sent n v l.fn.root (compared (g.P.Probe.order l.fn.probe) (g.O.Values.values l.objects)) l.equals h.tree l.at l.descent (g.P.Probe.count l.fn.probe) (g.P.Probe.count l.probe);
       same : g.P.Probe.order l.probe ≡ g.P.Probe.order l.fn.probe;
     }
 

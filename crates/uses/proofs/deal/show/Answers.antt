@@ -10,7 +10,7 @@ pub returns-clause-shows : goal.returns-clause-shows
 returns-clause-shows g c s shown =
     let neighbors = g.L.LinkedListOps.neighbors in
     let table = g.L.LinkOps.table in
-    let left = objects_left neighbors table in
+    let left = objects_left neighbors table (λ objects. objects) in
     let e = c.in_turns.ensures.dealt in
     on_ok_weaker c.in_turns.result (λ over.
     let none : left e.0 ≡ [] = elim over.2 [ inl gives ↦ gives.0.0 | inr gives ↦ gives.0.0 ] in
@@ -21,12 +21,12 @@ pub returns-clause-fronts_keep : goal.returns-clause-fronts_keep
 returns-clause-fronts_keep g c =
     let neighbors = g.L.LinkedListOps.neighbors in
     let table = g.L.LinkOps.table in
-    let left = objects_left neighbors table in
+    let left = objects_left neighbors table (λ objects. objects) in
     fronts_kept (GivesFirst left) (GivesLast left) c.in_turns.ensures.dealt.1
 
 pub returns-clause-backs_keep : goal.returns-clause-backs_keep
 returns-clause-backs_keep g c =
     let neighbors = g.L.LinkedListOps.neighbors in
     let table = g.L.LinkOps.table in
-    let left = objects_left neighbors table in
+    let left = objects_left neighbors table (λ objects. objects) in
     backs_kept (GivesFirst left) (GivesLast left) c.in_turns.ensures.dealt.1

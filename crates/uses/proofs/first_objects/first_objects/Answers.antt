@@ -25,7 +25,7 @@ returns g c =
     let pop = c.pop_front.ensures in
     let after = has_taken (λ e. refl) has pop.answer pop.removed pop.released c.unwrap-oldest.ensures c.into_box-taken.ensures.value c.into_box-taken.ensures.freed in
     record {
-      seen = rw c.in_ok-seen.was at (items_from_collect _ c.collect.ensures.ran (walk_copied (objects_left neighbors_of plain_table) c.copied.ensures.source (c.iter.ensures.walks has.members has.shown ∙ has.are)));
+      seen = rw c.in_ok-seen.was at (items_from_collect _ c.collect.ensures.ran (walk_copied (objects_left neighbors_of plain_table (λ objects. objects)) c.copied.ensures.source (c.iter.ensures.walks has.members has.shown ∙ has.are)));
       taken = after.0;
       left = c.copied-left.ensures ∙ c.get.ensures ∙ (has_first after.1 c.front.ensures.position).1;
     }

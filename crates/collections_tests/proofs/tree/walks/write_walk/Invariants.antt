@@ -4,4 +4,4 @@ use Rattle.ic_rbtree.specs.PlainTrees.{plain_table}
 use Rattle.collections_tests.proofs.tree.walks.write_walk.Given as goal
 
 abbrev pub invariant-loop : goal.invariant-loop
-invariant-loop l = record { can : CanWalk node_of (λ links. plain_table links) l.walk }
+invariant-loop g l = record { can : CanWalk node_of (λ links. plain_table links) g.O.Values.values l.walk }

@@ -5,7 +5,7 @@ use Rattle.ic_link_ops.proofs.Membership.{seeks_none, seeks_more, found, nowhere
 use Rattle.ic_linked_list.proofs.list.LinkedList.contains.Goals as goal
 
 pub loop-current-init : goal.loop-current-init
-loop-current-init g c = record { sought = λ s shown. seeks_none shown.chain (c.head-current.ensures ∙ shown.head) }
+loop-current-init g c = record { sought = λ s shown. seeks_none shown.chain (c.first-current.ensures ∙ shown.head) }
 
 pub loop-current-smaller : goal.loop-current-smaller
 loop-current-smaller g c =

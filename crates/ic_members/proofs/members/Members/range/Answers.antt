@@ -12,7 +12,7 @@ list_walk-requires-clause-shown g c =
     let inner = rw c.in-TwoWay-Tree.is at c.in-TwoWay-Tree.field-0-is in
     let held = rw (c.in-Tree.is, c.in-TwoWay-Tree.is, inner) at c.requires.held in
     let s = members node (look c.in-TwoWay-Tree.links) (root_of (tree_of c.in-Tree.cursor)) in
-    let range = c.walk_between-from.ensures.range s (rw c.list.ensures held.shown) in
+    let range = c.walk_between-walk.ensures.range s (rw c.list.ensures held.shown) in
     rw c.list-in-TwoWay-Tree.ensures (range_shown (Shows node (look c.in-TwoWay-Tree.links) (root_of (tree_of c.in-Tree.cursor))) range held.shown)
 
 pub returns-clause-range : goal.returns-clause-range
@@ -21,5 +21,5 @@ returns-clause-range g c =
     let held = rw (c.in-Tree.is, c.in-TwoWay-Tree.is, inner) at c.requires.held in
     let s = members node (look c.in-TwoWay-Tree.links) (root_of (tree_of c.in-Tree.cursor)) in
     let adapter = same_adapter (rw c.in-Tree.is at c.requires.adapter) in
-    let range = rw (c.list.ensures, adapter) at (c.walk_between-from.ensures.range s (rw c.list.ensures held.shown)) in
+    let range = rw (c.list.ensures, adapter) at (c.walk_between-walk.ensures.range s (rw c.list.ensures held.shown)) in
     rw (c.in-Tree.is, c.in-TwoWay-Tree.is, inner, c.in_ok-places-in-TwoWay-Tree.ensures) range

@@ -1,4 +1,5 @@
-use Rattle.std.proofs.Common.{[], ◌∷◌, ◌++◌, refl, sym, ◌∙◌}
+use Rattle.std.proofs.Common.{Some, [], ◌∷◌, ◌++◌, refl, sym, ◌∙◌}
+use Rattle.ic_link_ops.proofs.PlacedEnds.{last_placed}
 use Rattle.ic_link_ops.proofs.Walks.{is_end_yes}
 use Rattle.ic_rbtree.proofs.Walking.{Steps, steps_last, steps_less, last_stands, none_left_back, gives_back, goes_back}
 use Rattle.ic_rbtree.proofs.iter.IterDoubleEndedIterator.next_back.Goals as goal
@@ -6,29 +7,32 @@ use Rattle.ic_rbtree.proofs.iter.IterDoubleEndedIterator.next_back.Goals.{then-i
 use Rattle.ic_rbtree.proofs.iter.IterDoubleEndedIterator.next_back.Given.{Over}
 
 pub prev_of-requires : goal.prev_of-requires
-prev_of-requires g c = record { stands = rw c.of.ensures (last_stands g.L.RBTreeOps.node g.L.LinkOps.table c.args.self.now c.in_ok-place.place c.requires c.in_ok-place.was) }
+prev_of-requires g c = record { stands = rw c.of.ensures (last_stands g.L.RBTreeOps.node g.L.LinkOps.table g.O.Values.values c.args.self.now c.in_ok-place.place c.requires c.in_ok-place.was) }
+
+pub value-value-requires : goal.value-value-requires
+value-value-requires g c = let k = c.requires in record { placed = last_placed (g.O.Values.values c.args.self.now.objects.now) k.0 k.2 (sym c.in_ok-place.was ∙ k.1.ends) }
 
 -- this call is a step of the walk
-step : (g : Over) (c : goal.After-get g) → Steps g.L.RBTreeOps.node g.L.LinkOps.table c.args.self.now c.if-is_at.self (λ w. w ++ c.in_ok-place.place ∷ [])
+step : (g : Over) (c : goal.Joined-is_at g) → Steps g.L.RBTreeOps.node g.L.LinkOps.table g.O.Values.values c.args.self.now c.if-is_at.self (λ w. w ++ c.in_ok-place.place ∷ [])
 step g c =
     elim c.if-is_at.branch [
       | then-is_at w ↦
           rw w.self-is
-          (steps_last _ _ c.args.self.now c.in_ok-place.place (λ w. w ++ c.in_ok-place.place ∷ []) refl c.requires (is_end_yes _ _ (sym w.if-is_at.ensures)) c.in_ok-place.was)
+          (steps_last _ _ _ c.args.self.now c.in_ok-place.place (λ w. w ++ c.in_ok-place.place ∷ []) refl c.requires (is_end_yes _ _ (sym w.if-is_at.ensures)) c.in_ok-place.was)
       | else-is_at w ↦
           rw w.self-is
-          (steps_less _ _ c.args.self.now c.in_ok-place.place w.get-self.result c.requires c.in_ok-place.was (sym w.if-is_at.ensures) (rw (w.get-self.ensures, ← w.of.ensures) w.prev_of.ensures.moved))
+          (steps_less _ _ _ c.args.self.now c.in_ok-place.place w.get-self.result c.requires c.in_ok-place.was (sym w.if-is_at.ensures) (rw (w.get-self.ensures, ← w.of.ensures) w.prev_of.ensures.moved))
     ]
 
 pub returns-in_err-place-clause-steps : goal.returns-in_err-place-clause-steps
 returns-in_err-place-clause-steps g c =
-    let none = none_left_back g.L.RBTreeOps.node g.L.LinkOps.table
+    let none = none_left_back g.L.RBTreeOps.node g.L.LinkOps.table g.O.Values.values
     (λ t q e. g.met.L.LinkOps.linked_is_covered t q (sym (g.met.L.RBTreeOps.linked_alike _) ∙ e))
     c.args.self.now c.requires c.in_err-place.was in
     rw c.from_residual.ensures ((none, none), refl)
 
 pub returns-clause-steps : goal.returns-clause-steps
-returns-clause-steps g c = gives_back _ _ (λ t q e. g.met.L.LinkOps.linked_is_covered t q (sym (g.met.L.RBTreeOps.linked_alike _) ∙ e)) c.get.result (step g c) c.get.ensures
+returns-clause-steps g c = gives_back _ _ _ (λ t q e. g.met.L.LinkOps.linked_is_covered t q (sym (g.met.L.RBTreeOps.linked_alike _) ∙ e)) (Some c.value-value.result) (step g c) (sym c.value-value.ensures)
 
 pub returns-clause-goes : goal.returns-clause-goes
-returns-clause-goes g c = goes_back _ _ (λ t q e. g.met.L.LinkOps.linked_is_covered t q (sym (g.met.L.RBTreeOps.linked_alike _) ∙ e)) c.get.result (step g c) c.get.ensures
+returns-clause-goes g c = goes_back _ _ _ (λ t q e. g.met.L.LinkOps.linked_is_covered t q (sym (g.met.L.RBTreeOps.linked_alike _) ∙ e)) (Some c.value-value.result) (step g c) (sym c.value-value.ensures)

@@ -1,5 +1,4 @@
-use Rattle.std.proofs.Common.{OnOk, sym, ap, ◌∙◌, subst}
-use Rattle.std.specs.Option.{option_copied}
+use Rattle.std.proofs.Common.{OnOk, ◌∙◌, subst}
 use Rattle.ic_link_ops.specs.RedBlackTree.{Shows}
 use Rattle.ic_rbtree.specs.Comparing.{compared}
 use Rattle.ic_rbtree.specs.Ordered.{InsertsInOrder}
@@ -11,7 +10,6 @@ pub returns-clause-inserted : goal.returns-clause-inserted
 returns-clause-inserted g c s h =
     subst
     (λ order. OnOk c.insert_by.result
-    (InsertsInOrder (Shows g.L.RBTreeOps.node) (compared order c.args.objects.now) (g.L.LinkOps.table c.args.links.now) (g.L.LinkOps.table c.insert_by.new.links) (root_of c.insert_by.new.self) s c.args.object))
-    (own_is g.A.Key.Ord.cmp g.A.KeyAdapter.key_of c.args.objects.now c.new-probe.ensures.adapter (c.new-probe.ensures.key ∙ c.get_key.ensures) c.place.ensures
-    (sym c.get.ensures ∙ ap option_copied c.unwrap-value.ensures))
+    (InsertsInOrder (Shows g.L.RBTreeOps.node) (compared order (g.O.Values.values c.args.objects.now)) (g.L.LinkOps.table c.args.links.now) (g.L.LinkOps.table c.insert_by.new.links) (root_of c.insert_by.new.self) s c.args.object))
+    (own_is g.A.Key.Ord.cmp g.A.KeyAdapter.key_of (g.O.Values.values c.args.objects.now) c.new-probe.ensures.adapter (c.new-probe.ensures.key ∙ c.get_key.ensures) c.place.ensures c.value-value.ensures)
     (c.insert_by.ensures.inserted s h)

@@ -5,7 +5,7 @@ use Rattle.ic_rbtree.proofs.tree.RBTree.iter.Goals as goal
 
 pub returns-clause-walks : goal.returns-clause-walks
 returns-clause-walks g c s shown =
-    ap (values_at c.args.objects.now)
+    ap (values_at (g.O.Values.values c.args.objects.now))
     (walk_members g.L.RBTreeOps.node (g.L.LinkOps.table c.args.links.now)
     (λ q e. g.met.L.LinkOps.linked_is_covered c.args.links.now q (sym (g.met.L.RBTreeOps.linked_alike _) ∙ e))
     (walk_all s shown (c.first.ensures s shown) (c.last.ensures s shown)))

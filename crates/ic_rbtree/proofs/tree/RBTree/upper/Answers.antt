@@ -15,10 +15,10 @@ pub returns-in-Unbounded-clause-upper : goal.returns-in-Unbounded-clause-upper
 returns-in-Unbounded-clause-upper g c s h = rw c.in-Unbounded.is (upper_unbounded g.L.RBTreeOps.node h (c.of.ensures ∙ c.last.ensures s h))
 
 pub returns-in-Included-clause-border : goal.returns-in-Included-clause-border
-returns-in-Included-clause-border g c s h = upper_border g.L.RBTreeOps.node h (compared_within g.P.Probe.order c.args.objects.now c.args.bound.now) (returns-in-Included-clause-upper g c s h)
+returns-in-Included-clause-border g c s h = upper_border g.L.RBTreeOps.node h (compared_within g.P.Probe.order (g.O.Values.values c.args.objects.now) c.args.bound.now) (returns-in-Included-clause-upper g c s h)
 
 pub returns-in-Excluded-clause-border : goal.returns-in-Excluded-clause-border
-returns-in-Excluded-clause-border g c s h = upper_border g.L.RBTreeOps.node h (compared_within g.P.Probe.order c.args.objects.now c.args.bound.now) (returns-in-Excluded-clause-upper g c s h)
+returns-in-Excluded-clause-border g c s h = upper_border g.L.RBTreeOps.node h (compared_within g.P.Probe.order (g.O.Values.values c.args.objects.now) c.args.bound.now) (returns-in-Excluded-clause-upper g c s h)
 
 pub returns-in-Unbounded-clause-border : goal.returns-in-Unbounded-clause-border
-returns-in-Unbounded-clause-border g c s h = upper_border g.L.RBTreeOps.node h (compared_within g.P.Probe.order c.args.objects.now c.args.bound.now) (returns-in-Unbounded-clause-upper g c s h)
+returns-in-Unbounded-clause-border g c s h = upper_border g.L.RBTreeOps.node h (compared_within g.P.Probe.order (g.O.Values.values c.args.objects.now) c.args.bound.now) (returns-in-Unbounded-clause-upper g c s h)

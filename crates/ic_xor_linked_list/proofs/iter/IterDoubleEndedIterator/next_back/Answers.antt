@@ -1,4 +1,5 @@
-use Rattle.std.proofs.Common.{refl, sym}
+use Rattle.std.proofs.Common.{refl, sym, Some, ◌∙◌}
+use Rattle.ic_link_ops.proofs.PlacedEnds.{last_placed}
 use Rattle.ic_link_ops.proofs.Walks.{stretch_last}
 use Rattle.ic_xor_linked_list.proofs.Walking.{StepsBack, steps_back_last, steps_back_more, none_left_back, gives_back, goes_back}
 use Rattle.ic_xor_linked_list.proofs.iter.IterDoubleEndedIterator.next_back.Goals as goal
@@ -8,27 +9,30 @@ use Rattle.ic_xor_linked_list.proofs.iter.IterDoubleEndedIterator.next_back.Give
 pub prev-self-requires : goal.prev-self-requires
 prev-self-requires g c = record { linked = (stretch_last (rw c.in_ok-place.was at c.requires.1)).linked }
 
+pub value-value-requires : goal.value-value-requires
+value-value-requires g c = let k = c.requires in record { placed = last_placed (g.O.Values.values c.args.self.now.objects.now) k.0 k.2 (sym c.in_ok-place.was ∙ k.1.ends) }
+
 -- this call is a step of the walk
-step : (g : Over) (c : goal.After-get g) → StepsBack g.L.LinkOps.linked g.L.XorLinkedListOps.Joins g.L.LinkOps.table c.args.self.now c.if-is_at.self c.in_ok-place.place
+step : (g : Over) (c : goal.Joined-is_at g) → StepsBack g.L.LinkOps.linked g.L.XorLinkedListOps.Joins g.L.LinkOps.table g.O.Values.values c.args.self.now c.if-is_at.self c.in_ok-place.place
 step g c =
     elim c.if-is_at.branch [
       | then-is_at w ↦
-          rw w.self-is (steps_back_last _ _ _ c.args.self.now c.in_ok-place.place c.requires c.in_ok-place.was (sym w.if-is_at.ensures))
+          rw w.self-is (steps_back_last _ _ _ _ c.args.self.now c.in_ok-place.place c.requires c.in_ok-place.was (sym w.if-is_at.ensures))
       | else-is_at w ↦
           rw w.self-is
-          (steps_back_more _ _ _ g.L.XorLinkedListOps.other g.met.L.XorLinkedListOps.finds_other g.met.L.XorLinkedListOps.symmetric c.args.self.now c.in_ok-place.place
+          (steps_back_more _ _ _ _ g.L.XorLinkedListOps.other g.met.L.XorLinkedListOps.finds_other g.met.L.XorLinkedListOps.symmetric c.args.self.now c.in_ok-place.place
           w.prev-self.result c.requires c.in_ok-place.was (sym w.if-is_at.ensures) w.prev-self.ensures)
     ]
 
 pub returns-in_err-place-clause-steps : goal.returns-in_err-place-clause-steps
 returns-in_err-place-clause-steps g c =
-    let none = none_left_back _ _ g.L.LinkOps.table g.L.XorLinkedListOps.other g.met.L.XorLinkedListOps.finds_other g.met.L.LinkOps.linked_is_covered c.args.self.now c.requires c.in_err-place.was in
+    let none = none_left_back _ _ g.L.LinkOps.table g.O.Values.values g.L.XorLinkedListOps.other g.met.L.XorLinkedListOps.finds_other g.met.L.LinkOps.linked_is_covered c.args.self.now c.requires c.in_err-place.was in
     rw c.from_residual.ensures ((none, none), refl)
 
 pub returns-clause-steps : goal.returns-clause-steps
 returns-clause-steps g c =
-    gives_back _ _ _ g.L.XorLinkedListOps.other g.met.L.XorLinkedListOps.finds_other g.met.L.LinkOps.linked_is_covered c.get.result (step g c) c.get.ensures
+    gives_back _ _ _ _ g.L.XorLinkedListOps.other g.met.L.XorLinkedListOps.finds_other g.met.L.LinkOps.linked_is_covered (Some c.value-value.result) (step g c) (sym c.value-value.ensures)
 
 pub returns-clause-goes : goal.returns-clause-goes
 returns-clause-goes g c =
-    goes_back _ _ _ g.L.XorLinkedListOps.other g.met.L.XorLinkedListOps.finds_other g.met.L.LinkOps.linked_is_covered c.get.result (step g c) c.get.ensures
+    goes_back _ _ _ _ g.L.XorLinkedListOps.other g.met.L.XorLinkedListOps.finds_other g.met.L.LinkOps.linked_is_covered (Some c.value-value.result) (step g c) (sym c.value-value.ensures)
