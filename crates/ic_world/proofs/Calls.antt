@@ -15,7 +15,7 @@ use Rattle.ic_link_ops.specs.PlacedObjects.{ArePlaced}
 use Rattle.ic_link_ops.proofs.SequenceLemmas.{disjoint_cons}
 use Rattle.ic_fields.specs.declared.entry.Entry.{Entry}
 use Rattle.ic_fields.specs.declared.field.Field.{Field}
-use Rattle.ic_fields.specs.Fields.{look}
+use Rattle.ic_world.specs.declared.field.WorldField.{WorldField}
 use Rattle.ic_fields.specs.Entries.{is_linked}
 use Rattle.ic_members.specs.Members.{kind_in, cursor_in, members_in}
 use Rattle.ic_members.specs.declared.members.Members.{Members}
@@ -25,19 +25,21 @@ use Rattle.ic_world.specs.declared.call.Refusal.{Refusal}
 use Rattle.ic_world.specs.declared.call.Refusal.TheVariants.{NoSuchObject, WrongKind, AlreadyLinked}
 use Rattle.ic_world.specs.declared.one_call.Call.TheVariants as one
 use Rattle.ic_world.specs.declared.seek.Seek.TheVariants.{Null, On, With}
-use Rattle.ic_world.specs.declared.whole.Whole.TheVariants.{Clear, FastClear, Reverse}
+use Rattle.ic_world.specs.declared.whole.Whole.TheVariants.{Clear, Reverse}
 use Rattle.ic_world.specs.declared.insertion.Insertion.TheVariants.{Insert, CursorInsert}
 use Rattle.ic_world.specs.declared.search.Search.TheVariants.{Find, LowerBound, UpperBound}
 use Rattle.ic_world.specs.Family.{Family, is_placed, objects_of}
 use Rattle.ic_world.specs.Calls.{Call, State, Reply, refused, found, looked, entry, asks, has_call, names, own_refusal, refusal_of, Replies}
 use Rattle.ic_world.specs.Replies.{reply_of}
 use Rattle.ic_world.specs.Turns.{Each, Turns, Ran, refusal_in, state_of}
-use Rattle.ic_world.specs.Tables.{table, sequence, seen_as, at, family_of, IsWhole, HasObject}
+use Rattle.ic_world.specs.LeftLinked.{IsKept}
+use Rattle.ic_world.specs.Tables.{table, table_of, sequence, seen_as, at, family_of, IsWhole, HasObject}
 use Rattle.ic_world.specs.Seen.{Sees}
 use Rattle.ic_world.specs.Step.{StepOn, refusal_on}
 use Rattle.ic_world.specs.Several.{state_in, asks_collection}
-use Rattle.ic_world.proofs.Readings.{Found, collection_is, linked_at, set_back}
+use Rattle.ic_world.proofs.Readings.{Found, left_back, collection_is, linked_at, set_back}
 use Rattle.ic_world.proofs.Edits.{Edit, after, edited_family, edited_whole}
+use Rattle.ic_world.proofs.LeftLinked.{none_on}
 
 -- a place is not among some, or has what each of them has
 each_or : (P : Place → Type 0) (s : List Place) (q : Place) → Each P s → IsAbsent q s ⊎ P q
@@ -70,7 +72,6 @@ module _ {V K : Type 0} (cmp : K → K → Ordering) (key_of : V → K) (objects
   replies_of (one.Seek (On p)) s reply t h = h
   replies_of (one.Seek (With way p beside)) s reply t h = h
   replies_of (one.Whole Clear) s reply t h = h
-  replies_of (one.Whole FastClear) s reply t h = h
   replies_of (one.Whole Reverse) s reply t h = h
   replies_of (one.Search (Find key)) s (found p n) t h = rw same h
   replies_of (one.Search (LowerBound bound)) s (found p n) t h = rw same h
@@ -124,18 +125,21 @@ module _ {A V K : Type 0} {adapter : A} {objects : Objects V} {room : ℕ} {ts :
     pub turn_whole : IsWhole adapter objects room (set ts k.field new) (set cs c (Some (after k m)))
     turn_whole = edited_whole whole turn_edit
 
-module _ {A V K M : Type 0} {adapter : A} {objects : Objects V} {room : ℕ} {tables : List (Field M)} {cs : List (Option (Collection A V K))} (whole : IsWhole adapter objects room (map look tables) cs)
-    {c : ℕ} {k : Collection A V K} {now : Field M} (at_k : Found tables cs c k now) where
+module _ {A V K M : Type 0} {adapter : A} {objects : Objects V} {room : ℕ} {tables : List (WorldField M)} {cs : List (Option (Collection A V K))} (kept : IsKept adapter objects room tables cs)
+    {c : ℕ} {k : Collection A V K} {now : WorldField M} (at_k : Found tables cs c k now) where
   abbrev ts : List (Table Entry)
-  ts = map look tables
+  ts = map table_of tables
+
+  abbrev whole : IsWhole adapter objects room ts cs
+  whole = kept.0
 
   -- what the call of the collection asks
-  pub placed_by : ArePlaced objects (members_in (look now) k.members)
+  pub placed_by : ArePlaced objects (members_in (table_of now) k.members)
   placed_by = subst (λ t. ArePlaced objects (members_in t k.members)) at_k.read (all_placed whole c k at_k.is)
 
   -- what a call that only reads finds
-  pub sees_by : {old : Family A V} → family_of adapter objects ts cs ≡ old → Sees old c (look now) k.members
-  sees_by view = subst (λ w. Sees w c (look now) k.members) view (record {
+  pub sees_by : {old : Family A V} → family_of adapter objects ts cs ≡ old → Sees old c (table_of now) k.members
+  sees_by view = subst (λ w. Sees w c (table_of now) k.members) view (record {
     s = seen_as k (sequence ts k);
     is = collection_is adapter objects ts cs c k at_k.is;
     state = same_state whole c k at_k.is ∙ ap (λ t. state_of t k.members) at_k.read;
@@ -156,44 +160,51 @@ module _ {A V K M : Type 0} {adapter : A} {objects : Objects V} {room : ℕ} {ta
       both_right true b e = e
       both_right false b e = cc
 
-  pub room_for : (s : List Place) → list_all (place_is_placed objects) s ≡ true → Each (IsCovered (look now)) s
-  room_for s e = each_map (λ p. HasObject objects (index_of p)) (IsCovered (look now)) (λ p has. let a = whole.within (index_of p) has in let b = rw at_k.read at (whole.covered k.field at_k.field) in omega (arith, a, b)) s (placed_each s e)
+  pub room_for : (s : List Place) → list_all (place_is_placed objects) s ≡ true → Each (IsCovered (table_of now)) s
+  room_for s e = each_map (λ p. HasObject objects (index_of p)) (IsCovered (table_of now)) (λ p has. let a = whole.within (index_of p) has in let b = rw at_k.read at (whole.covered k.field at_k.field) in omega (arith, a, b)) s (placed_each s e)
 
-  module _ (cmp : K → K → Ordering) (key_of : A → V → K) (call : Call K) (placed : list_all (place_is_placed objects) (names call) ≡ true) (can : has_call call (kind_in k.members) ≡ true) {R : Type 0} (accepted : R → Reply) (r : Result R Refusal) (nf : Field M) (m : Members A V K)
-      (ran : Ran (names call) (own_refusal call) (λ a s t. Replies cmp (key_of adapter) objects call s (accepted a) t) now nf k.members m r) where
-    -- THE INVARIANT and THE STEP, by the result
-    pub whole_by : IsWhole adapter objects room (map look (set tables k.field nf)) (set cs c (Some (after k m)))
+  module _ (cmp : K → K → Ordering) (key_of : A → V → K) (call : Call K) (placed : list_all (place_is_placed objects) (names call) ≡ true) (can : has_call call (kind_in k.members) ≡ true) {R : Type 0} (accepted : R → Reply) (r : Result R Refusal) (links : Field M) (m : Members A V K)
+      (ran : Ran (names call) (own_refusal call) (λ a s t. Replies cmp (key_of adapter) objects call s (accepted a) t) now.links links k.members m r) where
+    abbrev nf : WorldField M
+    nf = record now { links = links }
+
+    -- THE STEP and THE INVARIANT, by the result
+    whole_by : IsWhole adapter objects room (map table_of (set tables k.field nf)) (set cs c (Some (after k m)))
     whole_by = by r ran.turned ran.unchanged
       where
-        by : (r : Result R Refusal) → IfOk r (λ a. Turns (names call) (λ s t. Replies cmp (key_of adapter) objects call s (accepted a) t) (look now) (look nf) k.members m) → OnErr r ((nf ≡ now) × (m ≡ k.members))
-            → IsWhole adapter objects room (map look (set tables k.field nf)) (set cs c (Some (after k m)))
+        by : (r : Result R Refusal) → IfOk r (λ a. Turns (names call) (λ s t. Replies cmp (key_of adapter) objects call s (accepted a) t) (table_of now) (table_of nf) k.members m) → OnErr r ((links ≡ now.links) × (m ≡ k.members))
+            → IsWhole adapter objects room (map table_of (set tables k.field nf)) (set cs c (Some (after k m)))
         by (Ok a) turned same = rw map-set (turn_whole whole c k at_k.is {named = names call} {Accepts = λ s t. Replies cmp (key_of adapter) objects call s (accepted a) t} (rw at_k.read turned) (placed_each (names call) placed))
         by (Err x) turned same = rw (same.0, same.1, at_k.table_back, at_k.list_back) whole
 
     pub step_by : {old : Family A V} → family_of adapter objects ts cs ≡ old
-        → StepOn cmp key_of old c call (reply_of accepted r) (family_of adapter objects (map look (set tables k.field nf)) (set cs c (Some (after k m))))
+        → StepOn cmp key_of old c call (reply_of accepted r) (family_of adapter objects (map table_of (set tables k.field nf)) (set cs c (Some (after k m))))
     step_by view =
         let tests : refusal_on (family_of adapter objects ts cs) c call ≡ refusal_in r = ap (λ o. asks_collection o (λ s. asks (list_all (is_placed (family_of adapter objects ts cs)) (names call)) NoSuchObject (refusal_of call (state_in (family_of adapter objects ts cs) s)))) (collection_is adapter objects ts cs c k at_k.is)
         ∙ ap (λ b. asks b NoSuchObject (refusal_of call (state_in (family_of adapter objects ts cs) (seen_as k (sequence ts k))))) placed
         ∙ ap (refusal_of call) (same_state whole c k at_k.is ∙ ap (λ t. state_of t k.members) at_k.read)
-        ∙ ap (λ b. asks b WrongKind (own_refusal call (state_of (look now) k.members))) can ∙ sym ran.tested in
-        subst (λ w. StepOn cmp key_of w c call (reply_of accepted r) (family_of adapter objects (map look (set tables k.field nf)) (set cs c (Some (after k m))))) view (by r ran.turned ran.unchanged tests)
+        ∙ ap (λ b. asks b WrongKind (own_refusal call (state_of (table_of now) k.members))) can ∙ sym ran.tested in
+        subst (λ w. StepOn cmp key_of w c call (reply_of accepted r) (family_of adapter objects (map table_of (set tables k.field nf)) (set cs c (Some (after k m))))) view (by r ran.turned ran.unchanged tests)
       where
-        by : (r : Result R Refusal) → IfOk r (λ a. Turns (names call) (λ s t. Replies cmp (key_of adapter) objects call s (accepted a) t) (look now) (look nf) k.members m) → OnErr r ((nf ≡ now) × (m ≡ k.members))
+        by : (r : Result R Refusal) → IfOk r (λ a. Turns (names call) (λ s t. Replies cmp (key_of adapter) objects call s (accepted a) t) (table_of now) (table_of nf) k.members m) → OnErr r ((links ≡ now.links) × (m ≡ k.members))
             → refusal_on (family_of adapter objects ts cs) c call ≡ refusal_in r
-            → StepOn cmp key_of (family_of adapter objects ts cs) c call (reply_of accepted r) (family_of adapter objects (map look (set tables k.field nf)) (set cs c (Some (after k m))))
+            → StepOn cmp key_of (family_of adapter objects ts cs) c call (reply_of accepted r) (family_of adapter objects (map table_of (set tables k.field nf)) (set cs c (Some (after k m))))
         by (Ok a) turned same e =
             let Accepts : State → State → Type 0 = λ s t. Replies cmp (key_of adapter) objects call s (accepted a) t in
-            let here : Turns (names call) Accepts (table ts k.field) (look nf) k.members m = rw at_k.read turned in
+            let here : Turns (names call) Accepts (table ts k.field) (table_of nf) k.members m = rw at_k.read turned in
             let edit = turn_edit whole c k at_k.is {named = names call} {Accepts = Accepts} here (placed_each (names call) placed) in
             rw (e, map-set) (
               seen_as k (sequence ts k),
-              state_of (look nf) m,
+              state_of (table_of nf) m,
               collection_is adapter objects ts cs c k at_k.is,
-              replies_of cmp (key_of adapter) objects (objects_of (family_of adapter objects ts cs)) refl call _ (accepted a) _ (subst (λ s. Accepts s (state_of (look nf) m)) (sym (same_state whole c k at_k.is)) here.accepts),
+              replies_of cmp (key_of adapter) objects (objects_of (family_of adapter objects ts cs)) refl call _ (accepted a) _ (subst (λ s. Accepts s (state_of (table_of nf) m)) (sym (same_state whole c k at_k.is)) here.accepts),
               edited_family whole edit _ refl,
             )
         by (Err x) turned same e = rw (e, same.0, same.1, at_k.table_back, at_k.list_back) (refl, refl)
+
+    pub kept_by : IsKept adapter objects room (set tables k.field nf) (set cs c (Some (after k m)))
+    kept_by =
+        (whole_by, rw (left_back tables k.field now links at_k.table_back) (none_on kept.1 cmp key_of c call (reply_of accepted r) (step_by refl)))
 
 -- the call is refused before the collection is touched, which is as it was read: an object that it names is not placed, or the kind lacks it
 module _ {A V K : Type 0} (cmp : K → K → Ordering) (key_of : A → V → K) (adapter : A) (objects : Objects V) (ts : List (Table Entry)) (cs : List (Option (Collection A V K))) (c : ℕ) (k : Collection A V K)

@@ -9,8 +9,7 @@ use Rattle.ic_link_ops.specs.Tables.{Table}
 use Rattle.ic_fields.specs.declared.entry.Entry.{Entry}
 use Rattle.ic_fields.specs.declared.kind.Kind.{Kind}
 use Rattle.ic_fields.specs.Kinds.{number_of, kind_with}
-use Rattle.ic_fields.specs.declared.field.Field.{Field}
-use Rattle.ic_fields.specs.Fields.{look}
+use Rattle.ic_world.specs.declared.field.WorldField.{WorldField}
 use Rattle.ic_members.specs.declared.members.Members.{Members}
 use Rattle.ic_members.specs.Members.{Keeps, Held, kind_in, members_in}
 use Rattle.ic_members.proofs.AllKinds.{lawful as lawful_field}
@@ -22,14 +21,14 @@ use Rattle.ic_world.specs.Family.{Family, same_kind}
 use Rattle.ic_world.specs.FamilyCodes.{kind_again}
 use Rattle.ic_world.specs.Splices.{IsBesideOf, can_splice, Emptied, PutsBeside, CanJoin, CanBeJoined, PutsTogether, AreJoined}
 use Rattle.ic_world.specs.Calls.{done}
-use Rattle.ic_world.specs.Tables.{table, sequence, seen_as, at, family_of, IsWhole}
+use Rattle.ic_world.specs.Tables.{table, table_of, sequence, seen_as, at, family_of, IsWhole}
 use Rattle.ic_world.specs.Several.{StepSplice, refusal_of_splice}
 use Rattle.ic_world.proofs.Readings.{collection_at, collection_is, table_read}
 use Rattle.ic_world.proofs.Edits.{after}
 use Rattle.ic_world.proofs.Splices.{splice_whole, splice_family}
 use Rattle.ic_world.proofs.Steps.{asks_none}
 
-eq_of : (m n : ℕ) → nat_eq m n ≡ true → m ≡ n
+pub eq_of : (m n : ℕ) → nat_eq m n ≡ true → m ≡ n
 eq_of m n t = elim (cases_eq m n) [ inl e ↦ e | inr d ↦ absurd (let f : nat_eq m n ≡ false = ne_eqb m n d in cc) ]
 
 not_true : (b : Bool) → not b ≡ true → b ≡ false
@@ -151,19 +150,19 @@ module _ {A V K : Type 0} {adapter : A} {objects : Objects V} {room : ℕ} {ts :
             )
 
 -- what the members of a joined list say of both lists: `taken` has those of l
-pub joins : {A V K M : Type 0} {adapter : A} (before : Bool) (tables : List (Field M)) (k l : Collection A V K) → CanJoin before adapter (map look tables) k l → (now : Field M) → now ≡ get_or tables k.field now → (nf : Field M)
-    (m emptied taken : Members A V K) → ((t : Table Entry) (s : List Place) → Keeps t l.members s → Keeps t taken s) → Emptied l.members emptied → PutsBeside before (look now) (look nf) k.members m (members_in (look now) taken)
-    → PutsTogether before (map look tables) (map look (set tables k.field nf)) k l (after k m) (after l emptied)
+pub joins : {A V K M : Type 0} {adapter : A} (before : Bool) (tables : List (WorldField M)) (k l : Collection A V K) → CanJoin before adapter (map table_of tables) k l → (now : WorldField M) → now ≡ get_or tables k.field now → (nf : WorldField M)
+    (m emptied taken : Members A V K) → ((t : Table Entry) (s : List Place) → Keeps t l.members s → Keeps t taken s) → Emptied l.members emptied → PutsBeside before (table_of now) (table_of nf) k.members m (members_in (table_of now) taken)
+    → PutsTogether before (map table_of tables) (map table_of (set tables k.field nf)) k l (after k m) (after l emptied)
 joins before tables k l can now links nf m emptied taken same e puts =
-    let t = table (map look tables) k.field in
-    let read : t ≡ look now = table_read tables k.field now (rw length-map at can.there) links in
-    let lawful_t : IsLawful t = subst IsLawful (sym read) (lawful_field now) in
+    let t = table (map table_of tables) k.field in
+    let read : t ≡ table_of now = table_read tables k.field now (rw length-map at can.there) links in
+    let lawful_t : IsLawful t = subst IsLawful (sym read) (lawful_field now.links) in
     let all : members_in t taken ≡ members_in t l.members = one_sequence t lawful_t taken (members_in t l.members) (same t (members_in t l.members) can.given).shown in
     record {
-      t = look nf;
-      tables = map-set look tables k.field nf;
+      t = table_of nf;
+      tables = map-set table_of tables k.field nf;
       field = refl;
       given_field = refl;
       emptied = e;
-      puts = subst (PutsBeside before t (look nf) k.members m) all (rw read puts);
+      puts = subst (PutsBeside before t (table_of nf) k.members m) all (rw read puts);
     }

@@ -1,5 +1,5 @@
 -- A collection less, which was cleared.
-use Rattle.std.proofs.Common.{◌≡◌, ℕ, ◌<◌, inl, inr, List, length, get_or, set, Option, Some, None, refl, sym, ap, ◌∙◌, arith}
+use Rattle.std.proofs.Common.{◌≡◌, ℕ, ◌<◌, inl, inr, Bool, List, length, set, Option, Some, None, refl, sym, ap, ◌∙◌, arith}
 use Rattle.std.proofs.lemmas.Bool.{cases_eq}
 use Rattle.std.proofs.lemmas.List.{get_or-set_same, get_or-set_other, get_or_past, length-set, map-set, set-set}
 use Rattle.std.specs.declared.cmp.Ordering.{Ordering}
@@ -12,12 +12,15 @@ use Rattle.ic_world.specs.declared.call.Command.TheVariants.{Dispose}
 use Rattle.ic_world.specs.declared.one_call.Call.TheVariants as one
 use Rattle.ic_world.specs.declared.whole.Whole.TheVariants.{Clear}
 use Rattle.ic_world.specs.Family.{Family, Sequence, collection, linked_of, with_collection, with_linked}
-use Rattle.ic_world.specs.Calls.{Reply, done, refused, cleared, unlinked}
+use Rattle.ic_world.specs.Calls.{State, Reply, done, refused, cleared, unlinked}
+use Rattle.ic_world.specs.LeftLinked.{NoneLeftLinked}
 use Rattle.ic_world.specs.Tables.{shown_as, at, family_of, IsWhole}
 use Rattle.ic_world.specs.Step.{Step, StepOn, AcceptsOn, refusal_on}
 use Rattle.ic_world.specs.Several.{StepBy, asks_collection, state_in, with_state, sequence_of}
 use Rattle.ic_world.proofs.Linked.{side}
 use Rattle.ic_world.proofs.Steps.{step_accepted}
+use Rattle.ic_world.proofs.LeftLinked.{none_dropped}
+use Rattle.ic_world.proofs.Readings.{some_within}
 
 module _ {A V K : Type 0} where
   at_dropped : (cs : List (Option (Collection A V K))) (c d : ℕ) (l : Collection A V K) → at (set cs c None) d ≡ Some l → at cs d ≡ Some l
@@ -87,9 +90,13 @@ module _ {A V K : Type 0} (cmp : K → K → Ordering) (key_of : A → V → K) 
   pub still_in : StepOn cmp key_of old c (one.Whole Clear) done mid → c < length mid.collections
   still_in step =
       let a = cleared_there step in
-      let there : c < length old.collections = in_family old.collections c a.0 a.2 in
+      let there : c < length old.collections = some_within old.collections c a.2 in
       let same = ap (λ (w : Family A V). length w.collections) a.4 ∙ length-set old.collections c (Some (sequence_of a.0.field a.1)) in
       omega (arith, there, same)
-    where
-      in_family : (xs : List (Option Sequence)) (c : ℕ) (s : Sequence) → get_or xs c None ≡ Some s → c < length xs
-      in_family xs c s is = grind (arith, get_or_past)
+
+  -- and nothing is left linked, since it had no member any more
+  pub none_disposed : {left : List Bool} → StepOn cmp key_of old c (one.Whole Clear) done mid → NoneLeftLinked left mid → NoneLeftLinked left (with_collection mid c None)
+  none_disposed step none =
+      let a = cleared_there step in
+      let is : collection mid c ≡ Some (sequence_of a.0.field a.1) = ap (λ (w : Family A V). collection w c) a.4 ∙ get_or-set_same old.collections c (Some (sequence_of a.0.field a.1)) None (some_within old.collections c a.2) in
+      none_dropped none c (sequence_of a.0.field a.1) is (ap (λ (t : State). t.members) a.3.1)

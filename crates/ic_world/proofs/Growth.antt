@@ -22,9 +22,11 @@ use Rattle.ic_members.specs.Members.{Keeps}
 use Rattle.ic_members.proofs.AllKinds.{lawful as lawful_field}
 use Rattle.ic_members.proofs.AllKinds.{IsLawful, one_sequence, shown_frame, keeps_frame}
 use Rattle.ic_world.specs.declared.collection.Collection.{Collection}
+use Rattle.ic_world.specs.declared.field.WorldField.{WorldField}
 use Rattle.ic_world.specs.Family.{Family, Sequence, LinkField, with_linked, linked_of, field_of}
+use Rattle.ic_world.specs.LeftLinked.{IsKept}
 use Rattle.ic_world.specs.LinkedSets.{linked_in}
-use Rattle.ic_world.specs.Tables.{table, no_table, field_in, sequence, seen_as, shown_as, at, family_of, IsWhole, HasObject}
+use Rattle.ic_world.specs.Tables.{table, table_of, no_table, field_in, sequence, seen_as, shown_as, at, family_of, IsWhole, HasObject}
 use Rattle.ic_world.specs.declared.call.Refusal.{Refusal}
 use Rattle.ic_world.specs.declared.call.Command.TheVariants.{AddField}
 use Rattle.ic_world.specs.Replies.{reply_of}
@@ -37,6 +39,7 @@ use Rattle.ic_world.proofs.Steps.{from_ok}
 use Rattle.ic_world.proofs.Linked.{side, linked_empty, linked_same, linked_loses}
 use Rattle.ic_world.proofs.Edits.{lawful}
 use Rattle.ic_world.proofs.Opened.{disjoint_none}
+use Rattle.ic_world.proofs.LeftLinked.{none_added}
 
 -- the first f of the tables cover so many places already
 pub record GrownTo (ts us : List (Table Entry)) (f count : ℕ) : Type 0 where
@@ -83,20 +86,23 @@ Covering count r said old new is_enough = record {
 }
 
 -- it is table f, which was read
-module _ {M A E : Type 0} {said is_enough : Type 0} (ts : List (Table Entry)) (tables : List (Field M)) (f count : ℕ) (within : f < length tables) (x u : Field M) (r : Result A E)
-    (e : Covering count r said (look (get_or tables f x)) (look u) is_enough) where
-  pub covered_more : Grown ts (map look tables) → Grown ts (map look (set tables f u))
-  covered_more so =
-      let t = look (get_or tables f x) in
-      let more : GrowsTo t (look u) = record { longer = covers_more r t.extent (look u).extent count e.covers e.refused; identity = e.identity; entries = e.stays } in
-      rw map-set (grown_more ts (map look tables) f (look u) so (rw length-map within) (subst (λ v. GrowsTo v (look u)) (sym (get_or-map look tables f x no_table within)) more))
+module _ {M A E : Type 0} {said is_enough : Type 0} (ts : List (Table Entry)) (tables : List (WorldField M)) (f count : ℕ) (within : f < length tables) (x : WorldField M) (links : Field M) (r : Result A E)
+    (e : Covering count r said (table_of (get_or tables f x)) (look links) is_enough) where
+  abbrev u : WorldField M
+  u = record (get_or tables f x) { links = links }
 
-  pub covered_next : is_ok r ≡ true → GrownTo ts (map look tables) f count → GrownTo ts (map look (set tables f u)) (f + 1) count
+  pub covered_more : Grown ts (map table_of tables) → Grown ts (map table_of (set tables f u))
+  covered_more so =
+      let t = table_of (get_or tables f x) in
+      let more : GrowsTo t (table_of u) = record { longer = covers_more r t.extent (table_of u).extent count e.covers e.refused; identity = e.identity; entries = e.stays } in
+      rw map-set (grown_more ts (map table_of tables) f (table_of u) so (rw length-map within) (subst (λ v. GrowsTo v (table_of u)) (sym (get_or-map table_of tables f x no_table within)) more))
+
+  pub covered_next : is_ok r ≡ true → GrownTo ts (map table_of tables) f count → GrownTo ts (map table_of (set tables f u)) (f + 1) count
   covered_next ok so = record {
     grown = covered_more so.grown;
     done = λ g h. elim (cases_eq g f) [
-      | inl same ↦ let all = from_ok r ok e.covers in rw (map-set, same, get_or-set_same (map look tables) f (look u) no_table (rw length-map within)) (omega (arith, all))
-      | inr d ↦ rw (map-set, get_or-set_other (map look tables) f g (look u) no_table d) (so.done g (omega (arith, h, d)))
+      | inl same ↦ let all = from_ok r ok e.covers in rw (map-set, same, get_or-set_same (map table_of tables) f (table_of u) no_table (rw length-map within)) (omega (arith, all))
+      | inr d ↦ rw (map-set, get_or-set_other (map table_of tables) f g (table_of u) no_table d) (so.done g (omega (arith, h, d)))
     ];
   }
 
@@ -232,15 +238,18 @@ module _ {A V K : Type 0} {adapter : A} {objects : Objects V} {room : ℕ} {ts :
       ])
 
 -- and what adding it comes to
-module _ {A V K M : Type 0} {adapter : A} {objects : Objects V} {room : ℕ} (tables : List (Field M)) {cs : List (Option (Collection A V K))} (whole : IsWhole adapter objects room (map look tables) cs)
-    {old : Family A V} (view : family_of adapter objects (map look tables) cs ≡ old) (cmp : K → K → Ordering) (key_of : A → V → K) where
-  pub field_added : (kind : Kind) (links : Field M) → IsFresh kind room (look links) → (r : Result ℕ Refusal) (news : List (Field M)) → Appends tables links r news
-      → IsWhole adapter objects room (map look news) cs × Step cmp key_of old (AddField kind) (reply_of (λ f. field f) r) (family_of adapter objects (map look news) cs)
-  field_added kind links fresh (Ok f) news e = rw (← view, e.1, map-append) (
-    field_whole whole (look links) fresh.free fresh.covers,
-    (rw (length-map, length-map) e.0, field_family whole (look links) fresh.free kind fresh.kind_is),
-  )
-  field_added kind links fresh (Err r) news e = rw (e.0, e.1) (whole, view)
+module _ {A V K M : Type 0} {adapter : A} {objects : Objects V} {room : ℕ} (tables : List (WorldField M)) {cs : List (Option (Collection A V K))} (kept : IsKept adapter objects room tables cs)
+    {old : Family A V} (view : family_of adapter objects (map table_of tables) cs ≡ old) (cmp : K → K → Ordering) (key_of : A → V → K) where
+  pub field_added : (kind : Kind) (links : Field M) → IsFresh kind room (look links) → (r : Result ℕ Refusal) (news : List (WorldField M)) → Appends tables (record { links = links; left_linked = false }) r news
+      → IsKept adapter objects room news cs × Step cmp key_of old (AddField kind) (reply_of (λ f. field f) r) (family_of adapter objects (map table_of news) cs)
+  field_added kind links fresh (Ok f) news e =
+      let new : WorldField M = record { links = links; left_linked = false } in
+      let tables_are = map-append table_of tables (new ∷ []) in
+      let left_are = map-append (λ (x : WorldField M). x.left_linked) tables (new ∷ []) in
+      let family = field_family kept.0 (look links) fresh.free kind fresh.kind_is in
+      let none = none_added kept.1 (length-map tables _ ∙ sym (length-map (map table_of tables) field_in ∙ length-map tables table_of)) kind in
+      rw (← view, e.1, tables_are, left_are) ((field_whole kept.0 (look links) fresh.free fresh.covers, rw family none), (rw (length-map, length-map) e.0, family))
+  field_added kind links fresh (Err r) news e = rw (e.0, e.1) (kept, view)
 
 -- A PLACE LESS LINKED in the table of field f, that of no member of a collection there
 module _ {A V K : Type 0} {adapter : A} {objects : Objects V} {room : ℕ} {ts : List (Table Entry)} {cs : List (Option (Collection A V K))} (whole : IsWhole adapter objects room ts cs) (f : ℕ) (within : f < length ts)

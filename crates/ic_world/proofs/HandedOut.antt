@@ -7,7 +7,7 @@ use Rattle.ic_link_ops.specs.Tables.{Table}
 use Rattle.ic_link_ops.proofs.SequenceLemmas.{absent_swap}
 use Rattle.ic_fields.specs.declared.entry.Entry.{Entry}
 use Rattle.ic_fields.specs.declared.field.Field.{Field}
-use Rattle.ic_fields.specs.Fields.{look}
+use Rattle.ic_world.specs.declared.field.WorldField.{WorldField}
 use Rattle.ic_members.specs.declared.members.Members.{Members}
 use Rattle.ic_members.specs.Members.{Held, members_in, kind_in, adapter_in, adapter_for}
 use Rattle.ic_world.specs.declared.collection.Collection.{Collection}
@@ -18,11 +18,13 @@ use Rattle.ic_world.specs.Family.{Family, with_opened}
 use Rattle.ic_world.specs.Calls.{opened, refused, asks}
 use Rattle.ic_world.specs.Several.{has_part, PartsOf, OpensWith, StepOut, refusal_of_part, asks_collection}
 use Rattle.ic_world.specs.Turns.{HandsOut, asks_room, state_of}
-use Rattle.ic_world.specs.Tables.{table, sequence, seen_as, at, family_of, IsWhole}
-use Rattle.ic_world.proofs.Readings.{Found, collection_is}
+use Rattle.ic_world.specs.LeftLinked.{NoneLeftLinked, IsKept}
+use Rattle.ic_world.specs.Tables.{table, table_of, left_in, sequence, seen_as, at, family_of, IsWhole}
+use Rattle.ic_world.proofs.Readings.{Found, left_back, collection_is}
 use Rattle.ic_world.proofs.Edits.{Edit, after, at_after, here, new_sequence, same_sequence, edited_family, edited_whole}
 use Rattle.ic_world.proofs.Opened.{appended_whole, appended_family}
 use Rattle.ic_world.proofs.Calls.{same_state}
+use Rattle.ic_world.proofs.LeftLinked.{none_out}
 use Rattle.ic_world.proofs.Steps.{some_same}
 
 module _ {A V K : Type 0} {adapter : A} {objects : Objects V} {room : ℕ} {ts : List (Table Entry)} {cs : List (Option (Collection A V K))} (whole : IsWhole adapter objects room ts cs)
@@ -83,50 +85,55 @@ module _ {A V K : Type 0} {adapter : A} {objects : Objects V} {room : ℕ} {ts :
         ∙ ap (λ w. with_opened w (seen_as more (members_in new handed))) (edited_family whole part_edit _ refl),
   )
 
-module _ {A V K M : Type 0} {adapter : A} {objects : Objects V} {room : ℕ} {tables : List (Field M)} {cs : List (Option (Collection A V K))} (whole : IsWhole adapter objects room (map look tables) cs)
-    {c : ℕ} {k : Collection A V K} {now : Field M} (at_k : Found tables cs c k now) {old : Family A V} (view : family_of adapter objects (map look tables) cs ≡ old) (part : Part) (has_room : Bool) (nf : Field M) (m : Members A V K) where
+module _ {A V K M : Type 0} {adapter : A} {objects : Objects V} {room : ℕ} {tables : List (WorldField M)} {cs : List (Option (Collection A V K))} (kept : IsKept adapter objects room tables cs)
+    {c : ℕ} {k : Collection A V K} {now : WorldField M} (at_k : Found tables cs c k now) {old : Family A V} (view : family_of adapter objects (map table_of tables) cs ≡ old) (part : Part) (has_room : Bool) (links : Field M) (m : Members A V K) where
+  abbrev nf : WorldField M
+  nf = record now { links = links }
+
   abbrev tests : Option Refusal
   tests = asks (has_part part (kind_in k.members)) WrongKind None
 
-  tested_by : refusal_of_part (family_of adapter objects (map look tables) cs) c part ≡ tests
-  tested_by = ap (λ o. asks_collection o (λ s. asks (has_part part s.kind) WrongKind None)) (collection_is adapter objects (map look tables) cs c k at_k.is)
+  tested_by : refusal_of_part (family_of adapter objects (map table_of tables) cs) c part ≡ tests
+  tested_by = ap (λ o. asks_collection o (λ s. asks (has_part part s.kind) WrongKind None)) (collection_is adapter objects (map table_of tables) cs c k at_k.is)
 
   -- where it is refused
-  module _ (same : (nf ≡ now) × (m ≡ k.members)) where
-    pub refused_whole : IsWhole adapter objects room (map look (set tables k.field nf)) (set cs c (Some (after k m)))
-    refused_whole = rw (same.0, same.1, at_k.table_back, at_k.list_back) whole
+  module _ (same : (links ≡ now.links) × (m ≡ k.members)) where
+    pub refused_kept : IsKept adapter objects room (set tables k.field nf) (set cs c (Some (after k m)))
+    refused_kept = rw (same.0, same.1, at_k.table_back, at_k.list_back) kept
 
     pub refused_step : (x : Refusal) → Some x ≡ asks_room has_room tests
-        → StepOut old c part (refused x) (family_of adapter objects (map look (set tables k.field nf)) (set cs c (Some (after k m))))
+        → StepOut old c part (refused x) (family_of adapter objects (map table_of (set tables k.field nf)) (set cs c (Some (after k m))))
     refused_step x tested =
-        let P : List (Field M) → List (Option (Collection A V K)) → Type 0 = λ xs ys. StepOut old c part (refused x) (family_of adapter objects (map look xs) ys) in
-        let at_list = subst (P tables) (sym (ap (λ z. set cs c (Some (after k z))) same.1 ∙ at_k.list_back)) (subst (λ w. StepOut w c part (refused x) (family_of adapter objects (map look tables) cs)) view (by _ has_room tested_by tested)) in
-        subst (λ xs. P xs (set cs c (Some (after k m)))) (sym (ap (set tables k.field) same.0 ∙ at_k.table_back)) at_list
+        let P : List (WorldField M) → List (Option (Collection A V K)) → Type 0 = λ xs ys. StepOut old c part (refused x) (family_of adapter objects (map table_of xs) ys) in
+        let at_list = subst (P tables) (sym (ap (λ z. set cs c (Some (after k z))) same.1 ∙ at_k.list_back)) (subst (λ w. StepOut w c part (refused x) (family_of adapter objects (map table_of tables) cs)) view (by _ has_room tested_by tested)) in
+        subst (λ xs. P xs (set cs c (Some (after k m)))) (sym (ap (λ x. set tables k.field (record now { links = x })) same.0 ∙ at_k.table_back)) at_list
       where
-        by : (o : Option Refusal) (room : Bool) → refusal_of_part (family_of adapter objects (map look tables) cs) c part ≡ o → Some x ≡ asks_room room o
-            → StepOut (family_of adapter objects (map look tables) cs) c part (refused x) (family_of adapter objects (map look tables) cs)
+        by : (o : Option Refusal) (room : Bool) → refusal_of_part (family_of adapter objects (map table_of tables) cs) c part ≡ o → Some x ≡ asks_room room o
+            → StepOut (family_of adapter objects (map table_of tables) cs) c part (refused x) (family_of adapter objects (map table_of tables) cs)
         by (Some r) room e h = rw e (ap refused (some_same h), refl)
         by None true e h = absurd cc
         by None false e h = let f : x ≡ OutOfMemory = some_same h in rw (e, f) refl
 
   -- where it is not
-  module _ (handed : Members A V K) (parts : HandsOut (PartsOf part) (look now) (look nf) k.members m handed) where
-    there : HandsOut (PartsOf part) (table (map look tables) k.field) (look nf) k.members m handed
+  module _ (handed : Members A V K) (parts : HandsOut (PartsOf part) (table_of now) (table_of nf) k.members m handed) where
+    there : HandsOut (PartsOf part) (table (map table_of tables) k.field) (table_of nf) k.members m handed
     there = rw at_k.read parts
 
-    pub handed_whole : IsWhole adapter objects room (map look (set tables k.field nf)) (set cs c (Some (after k m)) ++ Some (record { field = k.field; members = handed }) ∷ [])
-    handed_whole = rw map-set (part_whole whole c k at_k.is part there)
-
     pub handed_step : (n : ℕ) → n ≡ length cs → None ≡ asks_room has_room tests
-        → StepOut old c part (opened n) (family_of adapter objects (map look (set tables k.field nf)) (set cs c (Some (after k m)) ++ Some (record { field = k.field; members = handed }) ∷ []))
+        → StepOut old c part (opened n) (family_of adapter objects (map table_of (set tables k.field nf)) (set cs c (Some (after k m)) ++ Some (record { field = k.field; members = handed }) ∷ []))
     handed_step n number tested =
-        subst (λ w. StepOut w c part (opened n) (family_of adapter objects (map look (set tables k.field nf)) (set cs c (Some (after k m)) ++ Some (record { field = k.field; members = handed }) ∷ []))) view
-        (rw (tested_by ∙ sym (passed has_room _ tested), map-set) (part_hands whole c k at_k.is part there n number))
+        subst (λ w. StepOut w c part (opened n) (family_of adapter objects (map table_of (set tables k.field nf)) (set cs c (Some (after k m)) ++ Some (record { field = k.field; members = handed }) ∷ []))) view
+        (rw (tested_by ∙ sym (passed has_room _ tested), map-set) (part_hands kept.0 c k at_k.is part there n number))
       where
         passed : (room : Bool) (o : Option Refusal) → None ≡ asks_room room o → None ≡ o
         passed room (Some r) h = absurd cc
         passed true None h = refl
         passed false None h = refl
+
+    pub handed_kept : (n : ℕ) → n ≡ length cs → None ≡ asks_room has_room tests
+        → IsKept adapter objects room (set tables k.field nf) (set cs c (Some (after k m)) ++ Some (record { field = k.field; members = handed }) ∷ [])
+    handed_kept n number tested =
+        (rw map-set (part_whole kept.0 c k at_k.is part there), rw (left_back tables k.field now links at_k.table_back) (none_out (subst (NoneLeftLinked (left_in tables)) view kept.1) c part (opened n) (handed_step n number tested)))
 
     -- there is room, where it was not refused
     pub had_room : None ≡ asks_room has_room tests → has_room ≡ true

@@ -14,6 +14,8 @@ pub mod ObjectChanges
 pub mod HandedOut
 pub mod Splices
 pub mod CanSplice
+pub mod LeftLinked
+pub mod FastCleared
 pub mod FieldCalls
 pub mod Disposed
 pub mod Tested

@@ -15,7 +15,6 @@ module _ {A V K : Type 0} (cmp : K → K → Ordering) (key_of : A → V → K) 
 
   pub step_on_call : (one : Command V K) {u : ℕ × Call K} → call_of one ≡ Some u → StepOn cmp key_of old u.0 u.1 reply new → Step cmp key_of old one reply new
   step_on_call (call.Clear c) e h = meant _ e h
-  step_on_call (call.FastClear c) e h = meant _ e h
   step_on_call (call.PushFront c p) e h = meant _ e h
   step_on_call (call.PushBack c p) e h = meant _ e h
   step_on_call (call.PopFront c) e h = meant _ e h

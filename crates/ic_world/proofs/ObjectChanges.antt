@@ -1,7 +1,7 @@
 -- An object more, another value in an object's place, and an object less.
-use Rattle.std.proofs.Common.{◌≡◌, ◌≢◌, ℕ, ◌<◌, ◌⊎◌, inl, inr, Bool, true, false, cond, List, length, map, get_or, Option, Some, None, is_some, refl, sym, ap, ◌∙◌, eq-eqb, ne_eqb, arith, Result, Ok, Err, IfOk}
+use Rattle.std.proofs.Common.{◌≡◌, ◌≢◌, ℕ, ◌<◌, ◌⊎◌, inl, inr, Bool, true, false, cond, List, length, map, get_or, Option, Some, None, is_some, refl, sym, ap, subst, ◌∙◌, eq-eqb, ne_eqb, arith, Result, Ok, Err, IfOk}
 use Rattle.std.proofs.lemmas.Bool.{cases_eq}
-use Rattle.std.proofs.lemmas.List.{get_or_past, length-map}
+use Rattle.std.proofs.lemmas.List.{get_or_past, get_or-map, length-map}
 use Rattle.std.proofs.lemmas.List.Folds.{list_any_at}
 use Rattle.std.proofs.Math.ListN.{get_or-map as map_at}
 use Rattle.std.specs.List.{list_any}
@@ -19,8 +19,7 @@ use Rattle.ic_unsafe_ref.proofs.PlaceLemmas.{same_index}
 use Rattle.ic_link_ops.specs.Tables.{Table}
 use Rattle.ic_fields.specs.declared.entry.Entry.{Entry}
 use Rattle.ic_fields.specs.Entries.{is_linked}
-use Rattle.ic_fields.specs.declared.field.Field.{Field}
-use Rattle.ic_fields.specs.Fields.{look}
+use Rattle.ic_world.specs.declared.field.WorldField.{WorldField}
 use Rattle.ic_members.proofs.AllKinds.{lawful as lawful_field}
 use Rattle.ic_world.specs.declared.collection.Collection.{Collection}
 use Rattle.ic_world.specs.declared.call.Refusal.{Refusal}
@@ -32,19 +31,20 @@ use Rattle.ic_world.specs.Replies.{reply_of_value}
 use Rattle.ic_world.specs.Calls.{object, done}
 use Rattle.ic_world.specs.Growth.{Grows}
 use Rattle.ic_world.specs.Pieces.{PlacesValue, SwapsValue}
+use Rattle.ic_world.specs.LeftLinked.{NoneLeftLinked}
 use Rattle.ic_world.specs.Step.{Step}
-use Rattle.ic_world.specs.Tables.{table, no_table, field_in, shown_as, family_of, IsWhole, HasObject}
+use Rattle.ic_world.specs.Tables.{table, table_of, no_table, field_in, shown_as, family_of, IsWhole, HasObject}
 use Rattle.ic_world.proofs.Linked.{side, in_linked}
 use Rattle.ic_world.proofs.Edits.{lawful}
-use Rattle.ic_world.proofs.Readings.{table_read}
 use Rattle.ic_world.proofs.Growth.{grown_whole, grown_family}
 use Rattle.ic_world.proofs.Steps.{step_accepted, step_refused, passes, fails}
 
 -- whether p is linked in a field of the family, by its table
-pub field_has : {M : Type 0} (tables : List (Field M)) (p : Place) (f : ℕ) (t : Field M) → f < length tables → t ≡ get_or tables f t
-    → set_of.contains (get_or (map field_in (map look tables)) f (field_in no_table)).linked (index_of p) ≡ is_linked ((look t).entry p)
-field_has tables p f t within read =
-    ap (λ (x : LinkField). set_of.contains x.linked (index_of p)) (map_at field_in (map look tables) f no_table ∙ ap field_in (table_read tables f t within read)) ∙ in_linked (look t) (lawful_field t) p
+pub field_has : {M : Type 0} (tables : List (WorldField M)) (p : Place) (f : ℕ) (x : WorldField M) → f < length tables
+    → set_of.contains (get_or (map field_in (map table_of tables)) f (field_in no_table)).linked (index_of p) ≡ is_linked ((table_of (get_or tables f x)).entry p)
+field_has tables p f x within =
+    ap (λ (t : LinkField). set_of.contains t.linked (index_of p)) (map_at field_in (map table_of tables) f no_table ∙ ap field_in (get_or-map table_of tables f x no_table within))
+    ∙ in_linked (table_of (get_or tables f x)) (lawful_field (get_or tables f x).links) p
 
 -- what stands at an index after a value was put at p
 put_at : {V : Type 0} (old new : Objects V) (p : Place) (v : V) → new.values ≡ map_of.insert old.values (index_of p) v → (i : ℕ)
@@ -155,6 +155,9 @@ module _ {A V K : Type 0} (cmp : K → K → Ordering) (key_of : A → V → K) 
 
     same_family : family_of adapter objects us cs ≡ old
     same_family = grown_family adapter objects ts us cs whole grows.grown ∙ view
+
+    pub none_grown : {left : List Bool} → NoneLeftLinked left old → (new : Objects V) → NoneLeftLinked left (family_of adapter new us cs)
+    none_grown {left} none new = record { none = (subst (NoneLeftLinked left) (sym same_family) none).none }
 
     pub value_placed : (has_room : Bool) → (has_room ≡ true → objects.next < room') → (v : V) (r : Result Place (Refusal × V)) (new : Objects V) → PlacesValue has_room objects v r new
         → IsWhole adapter new room' us cs × Step cmp key_of old (PlaceCall v) (reply_of_value (λ p. object p) r) (family_of adapter new us cs)

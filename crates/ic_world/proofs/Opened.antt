@@ -11,8 +11,7 @@ use Rattle.ic_unsafe_ref.specs.Objects.{Objects}
 use Rattle.ic_link_ops.specs.Sequences.{IsDisjoint}
 use Rattle.ic_link_ops.specs.Tables.{Table}
 use Rattle.ic_fields.specs.declared.entry.Entry.{Entry}
-use Rattle.ic_fields.specs.declared.field.Field.{Field}
-use Rattle.ic_fields.specs.Fields.{look}
+use Rattle.ic_world.specs.declared.field.WorldField.{WorldField}
 use Rattle.ic_fields.specs.declared.kind.Kind.{Kind}
 use Rattle.ic_fields.specs.Kinds.{carries}
 use Rattle.ic_fields.specs.Entries.{kind_of}
@@ -24,7 +23,7 @@ use Rattle.ic_world.specs.Family.{Family, has_field, field_of, with_opened}
 use Rattle.ic_world.specs.Pieces.{Appends}
 use Rattle.ic_world.specs.declared.call.Command.TheVariants.{Open}
 use Rattle.ic_members.specs.Members.{Keeps, Held, kind_in, cursor_in, adapter_in, adapter_for}
-use Rattle.ic_world.specs.Tables.{table, field_in, sequence, seen_as, shown_as, at, family_of, IsWhole}
+use Rattle.ic_world.specs.Tables.{table, table_of, field_in, sequence, seen_as, shown_as, at, family_of, IsWhole}
 use Rattle.ic_world.specs.Replies.{reply_of}
 use Rattle.ic_world.specs.Calls.{opened, refused, asks}
 use Rattle.ic_world.specs.Step.{Step}
@@ -87,11 +86,11 @@ module _ {A V K : Type 0} {adapter : A} {objects : Objects V} {room : ℕ} {ts :
   appended_family = λ i. record { adapter = adapter; objects = objects.values; fields = (family_of adapter objects ts cs).fields; collections = map-append (shown_as ts) cs (Some k ∷ []) i }
 
 -- what a test of an opening tells of the field, of the table that was read
-pub open_tests : {A V K M : Type 0} (adapter : A) (objects : Objects V) (tables : List (Field M)) (cs : List (Option (Collection A V K))) {old : Family A V} → family_of adapter objects (map look tables) cs ≡ old → (f : ℕ) (kind : Kind) (t : Field M)
-    → f < length tables → t ≡ get_or tables f t → refusal_of_open old f kind ≡ asks (carries (kind_of (look t)) kind) WrongKind None
+pub open_tests : {A V K M : Type 0} (adapter : A) (objects : Objects V) (tables : List (WorldField M)) (cs : List (Option (Collection A V K))) {old : Family A V} → family_of adapter objects (map table_of tables) cs ≡ old → (f : ℕ) (kind : Kind) (t : WorldField M)
+    → f < length tables → t ≡ get_or tables f t → refusal_of_open old f kind ≡ asks (carries (kind_of (table_of t)) kind) WrongKind None
 open_tests adapter objects tables cs view f kind t within read =
-    rw (← view) (field_there (family_of adapter objects (map look tables) cs) f _ (rw (length-map, length-map) within)
-    ∙ ap (λ x. asks (carries x.kind kind) WrongKind None) (field_at adapter objects (map look tables) cs f (rw length-map within) ∙ ap field_in (table_read tables f t within read)))
+    rw (← view) (field_there (family_of adapter objects (map table_of tables) cs) f _ (rw (length-map, length-map) within)
+    ∙ ap (λ x. asks (carries x.kind kind) WrongKind None) (field_at adapter objects (map table_of tables) cs f (rw length-map within) ∙ ap field_in (table_read tables f t within read)))
 
 -- members of a kind that were made new
 abbrev New : {A V K : Type 0} → Kind → A → Members A V K → Type 0

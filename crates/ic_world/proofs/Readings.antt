@@ -1,21 +1,22 @@
 -- What the family of some parts has at a place, in a field and under a number.
-use Rattle.std.proofs.Common.{◌≡◌, ℕ, ◌<◌, ◌≤◌, List, length, map, set, get_or, Option, Some, None, sym, ap, subst, ◌∙◌, arith}
-use Rattle.std.proofs.lemmas.List.{length-map, get_or_default, get_or_past, get_or-map, set-get_or}
+use Rattle.std.proofs.Common.{◌≡◌, ℕ, Bool, ◌<◌, ◌≤◌, List, length, map, set, get_or, Option, Some, None, refl, sym, ap, subst, ◌∙◌, arith}
+use Rattle.std.proofs.lemmas.List.{length-map, get_or_default, get_or_past, get_or-map, map-set, set-get_or}
 use Rattle.std.proofs.Math.ListN.{get_or-map as map_at}
 use Rattle.ic_unsafe_ref.specs.Objects.{Objects}
 use Rattle.ic_link_ops.specs.Tables.{Table}
 use Rattle.ic_fields.specs.declared.entry.Entry.{Entry}
 use Rattle.ic_fields.specs.declared.field.Field.{Field}
-use Rattle.ic_fields.specs.Fields.{look}
+use Rattle.ic_world.specs.declared.field.WorldField.{WorldField}
 use Rattle.ic_world.specs.declared.collection.Collection.{Collection}
 use Rattle.ic_members.specs.Members.{Held}
-use Rattle.ic_world.specs.Tables.{table, no_table, field_in, sequence, seen_as, shown_as, at, family_of, IsWhole}
+use Rattle.ic_world.specs.Tables.{table, table_of, left_in, no_table, field_in, sequence, seen_as, shown_as, at, family_of}
+use Rattle.ic_world.specs.LeftLinked.{IsKept}
 use Rattle.ic_world.specs.LinkedSets.{linked_in}
-use Rattle.ic_world.specs.Family.{collection, field_of, linked_of}
+use Rattle.ic_world.specs.Family.{Family, collection, field_of, linked_of}
 
 -- what a read of the vector of tables found
-pub table_read : {M : Type 0} (tables : List (Field M)) (f : ℕ) (t : Field M) → f < length tables → t ≡ get_or tables f t → table (map look tables) f ≡ look t
-table_read tables f t h e = get_or-map look tables f t no_table h ∙ ap look (sym e)
+pub table_read : {M : Type 0} (tables : List (WorldField M)) (f : ℕ) (t : WorldField M) → f < length tables → t ≡ get_or tables f t → table (map table_of tables) f ≡ table_of t
+table_read tables f t h e = get_or-map table_of tables f t no_table h ∙ ap table_of (sym e)
 
 -- a number below the length that was read is one of the list's
 pub in_list : {X : Type 0} (xs : List X) {i n len : ℕ} → i < n → n ≡ len → len ≡ length xs → i < length xs
@@ -25,33 +26,43 @@ in_list xs {i} {n} {len} h e l = omega (arith, h, e, l)
 pub set_back : {X : Type 0} (xs : List X) (i : ℕ) (x : X) → x ≡ get_or xs i x → set xs i x ≡ xs
 set_back xs i x e = ap (set xs i) e ∙ set-get_or xs i x
 
+-- a table in the place of one of a field: the field says what it said
+pub left_back : {M : Type 0} (tables : List (WorldField M)) (f : ℕ) (now : WorldField M) (links : Field M) → set tables f now ≡ tables → left_in (set tables f (record now { links = links })) ≡ left_in tables
+left_back {M} tables f now links back =
+    let says : WorldField M → Bool = λ x. x.left_linked in
+    map-set says tables f (record now { links = links }) ∙ sym (map-set says tables f now) ∙ ap left_in back
+
+-- a number under which something stands is one of the list's
+pub some_within : {X : Type 0} (xs : List (Option X)) (c : ℕ) {x : X} → get_or xs c None ≡ Some x → c < length xs
+some_within xs c is = grind (arith, get_or_past)
+
 module _ {A V K : Type 0} where
   -- what is known where a call has found k under number c, and has read the table of its field
-  pub record Found {M : Type 0} (tables : List (Field M)) (cs : List (Option (Collection A V K))) (c : ℕ) (k : Collection A V K) (now : Field M) : Type 0 where
+  pub record Found {M : Type 0} (tables : List (WorldField M)) (cs : List (Option (Collection A V K))) (c : ℕ) (k : Collection A V K) (now : WorldField M) : Type 0 where
     pub is : at cs c ≡ Some k
-    pub field : k.field < length (map look tables)
-    pub read : table (map look tables) k.field ≡ look now
-    pub held : Held (look now) k.members
+    pub field : k.field < length (map table_of tables)
+    pub read : table (map table_of tables) k.field ≡ table_of now
+    pub held : Held (table_of now) k.members
     pub table_back : set tables k.field now ≡ tables
     pub list_back : set cs c (Some k) ≡ cs
 
-  pub found_at : (cs : List (Option (Collection A V K))) (c : ℕ) {n len : ℕ} {o : Option (Collection A V K)} {k : Collection A V K}
-      → c < n → n ≡ len → len ≡ length cs → o ≡ get_or cs c o → o ≡ Some k → at cs c ≡ Some k
-  found_at cs c {n} {len} {o} {k} h e l read is = get_or_default cs c None o (omega (arith, h, e, l)) ∙ sym read ∙ is
+  pub found_at : (cs : List (Option (Collection A V K))) (c : ℕ) {n len : ℕ} {o x : Option (Collection A V K)}
+      → c < n → n ≡ len → len ≡ length cs → o ≡ get_or cs c o → o ≡ x → at cs c ≡ x
+  found_at cs c {n} {len} {o} {x} h e l read is = get_or_default cs c None o (omega (arith, h, e, l)) ∙ sym read ∙ is
 
-  pub found : {M : Type 0} {adapter : A} {objects : Objects V} {room : ℕ} (tables : List (Field M)) {cs : List (Option (Collection A V K))} {c n len : ℕ} {o : Option (Collection A V K)} {k : Collection A V K} {now : Field M}
-      → IsWhole adapter objects room (map look tables) cs → c < n → n ≡ len → len ≡ length cs → o ≡ get_or cs c o → o ≡ Some k → now ≡ get_or tables k.field now
+  pub found : {M : Type 0} {adapter : A} {objects : Objects V} {room : ℕ} (tables : List (WorldField M)) {cs : List (Option (Collection A V K))} {c n len : ℕ} {o : Option (Collection A V K)} {k : Collection A V K} {now : WorldField M}
+      → IsKept adapter objects room tables cs → c < n → n ≡ len → len ≡ length cs → o ≡ get_or cs c o → o ≡ Some k → now ≡ get_or tables k.field now
       → Found tables cs c k now
-  found {M} {objects} {room} tables {cs} {c} {n} {len} {o} {k} {now} whole h e l collection is links =
+  found {M} {objects} {room} tables {cs} {c} {n} {len} {o} {k} {now} kept h e l collection is links =
       let at_c = found_at cs c h e l collection is in
-      let field = whole.in_field c k at_c in
+      let field = kept.0.in_field c k at_c in
       let read = table_read tables k.field now (rw length-map at field) links in
       let P : Table Entry → Type 0 = λ t. Held t k.members in
       record {
         is = at_c;
         field = field;
         read = read;
-        held = subst P read (whole.held c k at_c);
+        held = subst P read (kept.0.held c k at_c);
         table_back = set_back tables k.field now links;
         list_back = set_back cs c (Some k) (rw is at collection);
       }
@@ -74,3 +85,8 @@ module _ {A V K : Type 0} where
 
     pub linked_at : (f : ℕ) → f < length ts → linked_of (family_of adapter objects ts cs) f ≡ linked_in (table ts f)
     linked_at f h = ap (λ x. x.linked) (field_at f h)
+
+    -- where nothing stands under a number, what was read there and is written back changes nothing
+    pub missing : (c : ℕ) (o : Option (Collection A V K)) → at cs c ≡ None → o ≡ get_or cs c o → {old : Family A V} → family_of adapter objects ts cs ≡ old
+        → (collection old c ≡ None) × (family_of adapter objects ts (set cs c o) ≡ old)
+    missing c o is read view = rw (← view, set_back cs c o read) (collection_not c is, refl)

@@ -22,7 +22,7 @@ use Rattle.ic_world.specs.declared.one_call.Where.TheVariants.{Front, Back, Befo
 use Rattle.ic_world.specs.declared.one_call.Direction.{Direction}
 use Rattle.ic_world.specs.declared.one_call.Direction.TheVariants.{Next, Prev}
 use Rattle.ic_world.specs.declared.seek.Seek.TheVariants.{Null, On, With}
-use Rattle.ic_world.specs.declared.whole.Whole.TheVariants.{Clear, FastClear, Reverse}
+use Rattle.ic_world.specs.declared.whole.Whole.TheVariants.{Clear, Reverse}
 use Rattle.ic_world.specs.declared.search.Search.TheVariants.{Find, LowerBound, UpperBound}
 use Rattle.ic_world.specs.declared.insertion.Insertion.TheVariants.{Insert, CursorInsert}
 use Rattle.ic_world.specs.Family.{same_position, is_among, before_or, behind_of, next_of}
@@ -252,7 +252,6 @@ module _ {V K : Type 0} (cmp : K → K → Ordering) (key_of : V → K) (objects
   Replies (one.Seek (On p)) s reply t = (reply ≡ done) × (t ≡ moved s (Some p))
   Replies (one.Seek (With way p beside)) s reply t = (reply ≡ done) × (t ≡ moved s (Some p))
   Replies (one.Whole Clear) s reply t = (reply ≡ done) × (t ≡ cleared s)
-  Replies (one.Whole FastClear) s reply t = (reply ≡ done) × (t ≡ having s [] None)
   Replies (one.Whole Reverse) s reply t = (reply ≡ done) × (t ≡ having s (reverse s.members) None)
   Replies (one.Search (Find key)) s reply t = SearchReplies (Finds (key_at key) s.members) (λ n. FewLooks n s.members) s reply t
   Replies (one.Search (LowerBound bound)) s reply t = SearchReplies (IsLowerBorder (bound_at bound) s.members) (λ n. FewLooksWithin bound n s.members) s reply t

@@ -19,13 +19,13 @@ use Rattle.ic_world.specs.declared.one_call.Call.TheVariants as one
 use Rattle.ic_world.specs.declared.one_call.Where.TheVariants as at
 use Rattle.ic_world.specs.declared.one_call.Direction.TheVariants.{Next, Prev}
 use Rattle.ic_world.specs.declared.seek.Seek.TheVariants.{Null, On, With}
-use Rattle.ic_world.specs.declared.whole.Whole.TheVariants.{Clear, FastClear, Reverse}
+use Rattle.ic_world.specs.declared.whole.Whole.TheVariants.{Clear, Reverse}
 use Rattle.ic_world.specs.declared.search.Search.TheVariants.{Find, LowerBound, UpperBound}
 use Rattle.ic_world.specs.declared.insertion.Insertion.TheVariants.{Insert, CursorInsert}
 use Rattle.ic_world.specs.declared.part.Part.TheVariants.{All, After, Before}
 use Rattle.ic_world.specs.Family.{Family, Sequence, collection, linked_of, has_field, is_placed, is_linked_somewhere, is_member_in, objects_of, with_linked, with_collection, with_opened}
 use Rattle.ic_world.specs.Calls.{State, Reply, done, object, field, opened, items, linked, range, refused, object_or_nothing, asks, unlinked, bound_at, names, refusal_of, Replies}
-use Rattle.ic_world.specs.Several.{asks_collection, state_in, with_state, StepBy, refusal_of_open, refusal_of_part, OpensWith, refusal_of_splice, SplicesAt}
+use Rattle.ic_world.specs.Several.{asks_collection, with_members, state_in, with_state, StepBy, refusal_of_open, refusal_of_part, OpensWith, refusal_of_splice, SplicesAt}
 
 module _ {V K : Type 0} where
   -- A COMMAND THAT IS A CALL OF ONE COLLECTION, with the collection's number
@@ -47,7 +47,6 @@ module _ {V K : Type 0} where
   call_of (call.SeekWithPrev c p prev) = Some (c, one.Seek (With Prev p prev))
   call_of (call.SeekWithNext c p next) = Some (c, one.Seek (With Next p next))
   call_of (call.Clear c) = Some (c, one.Whole Clear)
-  call_of (call.FastClear c) = Some (c, one.Whole FastClear)
   call_of (call.Reverse c) = Some (c, one.Whole Reverse)
   call_of (call.Find c key) = Some (c, one.Search (Find key))
   call_of (call.LowerBound c bound) = Some (c, one.Search (LowerBound bound))
@@ -69,6 +68,7 @@ module _ {A V K : Type 0} where
   refusal w (call.RemoveObject p) = asks (is_placed w p) NoSuchObject (asks (not (is_linked_somewhere w p)) StillLinked None)
   refusal w (call.SetValue p v) = asks (is_placed w p) NoSuchObject None
   refusal w (call.Dispose c) = asks_collection (collection w c) (λ s. None)
+  refusal w (call.FastClear c) = asks_collection (collection w c) (λ s. None)
   refusal w (call.Take c) = refusal_of_part w c All
   refusal w (call.SplitAfter c) = refusal_of_part w c After
   refusal w (call.SplitBefore c) = refusal_of_part w c Before
@@ -117,6 +117,7 @@ module _ {A V K : Type 0} (cmp : K → K → Ordering) (key_of : A → V → K) 
   Accepts old (call.SetValue p v) reply new = (reply ≡ done) × (new ≡ record old { objects = map.insert old.objects (index_of p) v })
   Accepts old (call.Dispose c) reply new = (s : Sequence) × (collection old c ≡ Some s) × (reply ≡ done)
       × (new ≡ with_linked (with_collection old c None) s.field (unlinked (linked_of old s.field) s.members))
+  Accepts old (call.FastClear c) reply new = (s : Sequence) × (collection old c ≡ Some s) × (reply ≡ done) × (new ≡ with_collection old c (Some (with_members s [] None)))
   Accepts old (call.Take c) reply new = OpensWith old c All reply new
   Accepts old (call.SplitAfter c) reply new = OpensWith old c After reply new
   Accepts old (call.SplitBefore c) reply new = OpensWith old c Before reply new

@@ -1,5 +1,5 @@
 -- The family that tables show: nothing of it is stored beside them but the cursors.
-use Rattle.std.specs.Prelude.{◌≡◌, ◌≢◌, ℕ, ◌<◌, ◌≤◌, true, false, List, [], map, length, Option, Some, None, IsSome, slice_index_or}
+use Rattle.std.specs.Prelude.{◌≡◌, ◌≢◌, ℕ, ◌<◌, ◌≤◌, Bool, true, false, List, [], map, length, Option, Some, None, IsSome, slice_index_or}
 use Rattle.std.specs.FinMap as map_of
 use Rattle.ic_unsafe_ref.specs.declared.place.Place.{Place}
 use Rattle.ic_unsafe_ref.specs.Places.{index_of}
@@ -8,11 +8,20 @@ use Rattle.ic_link_ops.specs.Tables.{Table}
 use Rattle.ic_link_ops.specs.Sequences.{IsDisjoint}
 use Rattle.ic_link_ops.specs.declared.color.Color.TheVariants.{Red}
 use Rattle.ic_fields.specs.declared.entry.Entry.{Entry}
+use Rattle.ic_fields.specs.Fields.{look}
 use Rattle.ic_fields.specs.Entries.{is_linked, kind_of}
 use Rattle.ic_members.specs.Members.{kind_in, cursor_in, adapter_in, adapter_for, members_in, Held}
 use Rattle.ic_world.specs.declared.collection.Collection.{Collection}
+use Rattle.ic_world.specs.declared.field.WorldField.{WorldField}
 use Rattle.ic_world.specs.Family.{Family, Sequence, LinkField}
 use Rattle.ic_world.specs.LinkedSets.{linked_in}
+
+-- the table of a field of a world, and in which fields members were left linked
+abbrev pub table_of : {M : Type 0} → WorldField M → Table Entry
+table_of f = look f.links
+
+abbrev pub left_in : {M : Type 0} → List (WorldField M) → List Bool
+left_in fields = map (λ f. f.left_linked) fields
 
 -- where there is no field
 abbrev pub no_table : Table Entry

@@ -11,10 +11,12 @@ ghost use Rattle.ic_link_ops.specs.Sequences.{IsDisjoint};
 ghost use Rattle.ic_fields.specs.Fields.{look};
 ghost use Rattle.ic_members.specs.Members.{kind_in, members_in, Held};
 ghost use Rattle.ic_world.specs.Splices.{can_splice, PutsBeside, CanBeJoined, AreJoined};
+ghost use Rattle.ic_world.specs.Tables.{table_of, left_in};
 
 use crate::World;
 use crate::call::{Command, Refusal};
 use crate::collection::Collection;
+use crate::field::WorldField;
 use crate::kinds::{has_before, is_list, is_two_way_list, same_kind};
 use crate::part::Part;
 use crate::whole::Whole;
@@ -75,17 +77,19 @@ fn put_beside<A: KeyAdapter, M: Allocator>(
 fn join<A: KeyAdapter, M: Allocator>(
     list: &mut Option<Collection<A>>,
     given: &mut Option<Collection<A>>,
-    tables: &mut Vec<Field<M>, M>,
+    tables: &mut Vec<WorldField<M>, M>,
     adapter: A,
     before: bool,
 )
-    requires { CanBeJoined before adapter (map look tables.old.items) list.old given.old }
-    ensures { AreJoined before (map look tables.old.items) (map look tables.new.items) list.old given.old list.new given.new }
+    requires { CanBeJoined before adapter (map table_of tables.old.items) list.old given.old }
+    ensures joined { AreJoined before (map table_of tables.old.items) (map table_of tables.new.items) list.old given.old list.new given.new }
+    ensures left { left_in tables.new.items ≡ left_in tables.old.items }
 {
     if let Some(list) = list {
         if let Some(given) = given {
             let taken = given.members.take(adapter);
-            put_beside(&mut list.members, &mut tables[list.field], taken, before);
+            let links = &mut tables[list.field].links;
+            put_beside(&mut list.members, links, taken, before);
         }
     }
 }
@@ -119,7 +123,7 @@ impl<A: KeyAdapter, M: Allocator + Copy> World<A, M> {
         if field >= self.fields.len() {
             return Some(Refusal::NoSuchField);
         }
-        if !self.fields[field].kind().carries(kind) {
+        if !self.fields[field].links.kind().carries(kind) {
             return Some(Refusal::WrongKind);
         }
         None

@@ -11,6 +11,7 @@ ghost use Rattle.ic_world.specs.Pieces.{IsFresh};
 
 use crate::World;
 use crate::call::{Command, Refusal};
+use crate::field::WorldField;
 use crate::world::append;
 use ic_fields::{Field, Kind};
 use ic_rbtree::KeyAdapter;
@@ -43,7 +44,11 @@ impl<A: KeyAdapter, M: Allocator + Copy> World<A, M> {
         let Some(links) = covering(self.alloc, kind, self.room) else {
             return Err(Refusal::OutOfMemory);
         };
-        append(&mut self.fields, links)
+        let field = WorldField {
+            links,
+            left_linked: false,
+        };
+        append(&mut self.fields, field)
     }
 
     /// Whether the object is linked in the field: a member of one of its collections, or left linked by `fast_clear`. O(1).
@@ -58,19 +63,21 @@ impl<A: KeyAdapter, M: Allocator + Copy> World<A, M> {
         if !self.objects.is_placed(object) {
             return Err(Refusal::NoSuchObject);
         }
-        Ok(self.fields[field].is_linked(object))
+        Ok(self.fields[field].links.is_linked(object))
     }
 
-    // Whether the object, which is placed, is a member of a collection of the field. One that is not linked is none, and nothing is walked.
+    // Whether the object, which is placed, is a member of a collection of the field. An unlinked one is none, and where none was left
+    // linked a linked one is one: nothing is walked then.
     fn is_member(&self, field: usize, object: Place) -> bool
         requires placed { is_placed self.now object ≡ true }
         requires there { has_field self.now field ≡ true }
         ensures { result ≡ is_member_in self.now field object }
     {
-        if !self.fields[field].is_linked(object) {
+        let found = &self.fields[field];
+        if !found.links.is_linked(object) {
             return false;
         }
-        self.is_listed(field, object)
+        !found.left_linked || self.is_listed(field, object)
     }
 
     // Whether the object, which is placed, stands in a collection of the field: they are asked one after the other.
@@ -81,7 +88,9 @@ impl<A: KeyAdapter, M: Allocator + Copy> World<A, M> {
     {
         for c in 0..self.collections.len() {
             if let Some(found) = &self.collections[c] {
-                if found.field == field && found.members.contains(&self.fields[field], object) {
+                if found.field == field
+                    && found.members.contains(&self.fields[field].links, object)
+                {
                     return true;
                 }
             }
@@ -91,8 +100,8 @@ impl<A: KeyAdapter, M: Allocator + Copy> World<A, M> {
 
     /// Unlinks an object in a field where it is a member of no collection, as `fast_clear` leaves it. An unlinked one stays unlinked.
     ///
-    /// Refused: `NoSuchField`, `NoSuchObject`, `IsMember`. O(1) where it is not linked, else O(collections), and of lists O(members). It
-    /// takes no memory.
+    /// Refused: `NoSuchField`, `NoSuchObject`, `IsMember`. O(1) where it is not linked, or no [`World::fast_clear`] was made in the field;
+    /// else O(collections), and of lists O(members). It takes no memory.
     pub fn force_unlink(&mut self, field: usize, object: Place) -> Result<(), Refusal>
         ensures { Step A.Key.cmp A.key_of self.old (Command.ForceUnlink field object) (reply_of (λ _. done) result) self.new }
     {
@@ -105,7 +114,7 @@ impl<A: KeyAdapter, M: Allocator + Copy> World<A, M> {
         if self.is_member(field, object) {
             return Err(Refusal::IsMember);
         }
-        self.fields[field].force_unlink(object);
+        self.fields[field].links.force_unlink(object);
         Ok(())
     }
 }

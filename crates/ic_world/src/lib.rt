@@ -13,6 +13,7 @@
 mod call;
 mod collection;
 mod collections;
+mod field;
 mod fields;
 mod gaps;
 mod insertion;

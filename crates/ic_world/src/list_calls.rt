@@ -214,12 +214,23 @@ impl<A: KeyAdapter, M: Allocator + Copy> World<A, M> {
         self.call(collection, &Whole::Clear)
     }
 
-    /// Takes all members out and leaves them linked, until [`World::force_unlink`], and puts the cursor to null. O(1).
+    /// Takes all members out and leaves them linked, until [`World::force_unlink`], and puts the cursor to null. The field knows from then
+    /// on that a linked object may be no member. O(1).
     ///
     /// Refused: `NoSuchCollection`.
     pub fn fast_clear(&mut self, collection: usize) -> Result<(), Refusal>
         ensures { Step A.Key.cmp A.key_of self.old (Command.FastClear collection) (reply_of (λ _. done) result) self.new }
     {
-        self.call(collection, &Whole::FastClear)
+        if collection >= self.collections.len() {
+            return Err(Refusal::NoSuchCollection);
+        }
+        match &mut self.collections[collection] {
+            None => Err(Refusal::NoSuchCollection),
+            Some(found) => {
+                let _ = found.members.take(self.adapter);
+                self.fields[found.field].left_linked = true;
+                Ok(())
+            }
+        }
     }
 }

@@ -10,16 +10,15 @@ ghost use Rattle.std.specs.List.{list_any};
 ghost use Rattle.std.specs.FinMap as map;
 ghost use Rattle.std.specs.FinSet as set;
 ghost use Rattle.ic_unsafe_ref.specs.Places.{index_of};
-ghost use Rattle.ic_fields.specs.Fields.{look};
 ghost use Rattle.ic_link_ops.specs.Tables.{IsCovered};
 ghost use Rattle.ic_world.specs.Family.{LinkField};
-ghost use Rattle.ic_world.specs.Tables.{table, field_in};
+ghost use Rattle.ic_world.specs.Tables.{table, table_of, left_in, field_in};
 ghost use Rattle.ic_world.specs.Growth.{Grows};
 ghost use Rattle.ic_world.specs.Pieces.{PlacesValue, SwapsValue};
 
 use crate::World;
 use crate::call::{Command, Refusal};
-use ic_fields::Field;
+use crate::field::WorldField;
 use ic_rbtree::KeyAdapter;
 use ic_unsafe_ref::{Objects, Place, UnsafeRef};
 use std::alloc::{AllocError, Allocator};
@@ -27,15 +26,16 @@ use std::mem;
 
 // Covers the first `count` places in each table, as far as memory is found. Each covers `room` of them, before and after.
 fn cover_all<M: Allocator>(
-    tables: &mut [Field<M>],
+    tables: &mut [WorldField<M>],
     room: &mut usize,
     count: usize,
 ) -> Result<(), AllocError>
-    ensures grows { Grows room.old (map_list look tables.old) room.new (map_list look tables.new) }
+    ensures grows { Grows room.old (map_list table_of tables.old) room.new (map_list table_of tables.new) }
+    ensures left { left_in tables.new ≡ left_in tables.old }
     ensures reaches { OnOk result (count ≤ room.new) }
 {
     for f in 0..tables.len() {
-        if tables[f].cover(count).is_err() {
+        if tables[f].links.cover(count).is_err() {
             return Err(AllocError);
         }
     }
@@ -78,12 +78,12 @@ fn swap_value<V, M: Allocator>(
 }
 
 // Whether the object, which each table covers, is linked in one of them.
-fn is_linked_in_any<M: Allocator>(tables: &[Field<M>], object: Place) -> bool
-    requires covered { (f : ℕ) → f < length tables.now → IsCovered (table (map_list look tables.now) f) object }
-    ensures { result ≡ list_any (λ (x : LinkField). set.contains x.linked (index_of object)) (map_list field_in (map_list look tables.now)) }
+fn is_linked_in_any<M: Allocator>(tables: &[WorldField<M>], object: Place) -> bool
+    requires covered { (f : ℕ) → f < length tables.now → IsCovered (table (map_list table_of tables.now) f) object }
+    ensures { result ≡ list_any (λ (x : LinkField). set.contains x.linked (index_of object)) (map_list field_in (map_list table_of tables.now)) }
 {
     for f in 0..tables.len() {
-        if tables[f].is_linked(object) {
+        if tables[f].links.is_linked(object) {
             return true;
         }
     }

@@ -111,8 +111,8 @@ pub trait OneCall<A: KeyAdapter> {
             links.old links.new members.old members.new result };
 }
 
-/// The call of one collection that the command is, with the collection's number. None of the other commands, of which `current` and `show`
-/// read one collection, and lend the world alone.
+/// The call of one collection that the command is, with the collection's number. None of the other commands. Of these `current` and `show`
+/// read one collection, and lend the world alone, and `fast_clear` writes in the field besides.
 #[inline]
 pub(crate) fn call_of<V: Copy, K: Copy>(command: Command<V, K>) -> Option<(usize, Call<K>)>
     ensures { result ≡ call_meant command }
@@ -139,7 +139,6 @@ pub(crate) fn call_of<V: Copy, K: Copy>(command: Command<V, K>) -> Option<(usize
             Some((c, Call::Seek(Seek::With(Direction::Next, o, next))))
         }
         Command::Clear(c) => Some((c, Call::Whole(Whole::Clear))),
-        Command::FastClear(c) => Some((c, Call::Whole(Whole::FastClear))),
         Command::Reverse(c) => Some((c, Call::Whole(Whole::Reverse))),
         Command::Find(c, key) => Some((c, Call::Search(Search::Find(key)))),
         Command::LowerBound(c, bound) => Some((c, Call::Search(Search::LowerBound(bound)))),
@@ -153,6 +152,7 @@ pub(crate) fn call_of<V: Copy, K: Copy>(command: Command<V, K>) -> Option<(usize
         | Command::AddField(_)
         | Command::Open(..)
         | Command::Dispose(_)
+        | Command::FastClear(_)
         | Command::Take(_)
         | Command::Show(_)
         | Command::ShowBack(_)

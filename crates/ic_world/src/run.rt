@@ -138,6 +138,7 @@ where
             Command::Current(c) => object(self.current(c)),
             Command::ForceUnlink(field, o) => done(self.force_unlink(field, o)),
             Command::Dispose(c) => done(self.dispose(c)),
+            Command::FastClear(c) => done(self.fast_clear(c)),
             Command::SpliceAfter(c, d) => done(self.splice_after(c, d)),
             Command::SpliceBefore(c, d) => done(self.splice_before(c, d)),
             Command::Open(field, kind) => opened(self.open(field, kind)),

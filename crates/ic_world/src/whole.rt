@@ -20,8 +20,6 @@ use std::alloc::Allocator;
 pub enum Whole {
     /// They go out.
     Clear,
-    /// They go out, and stay linked.
-    FastClear,
     /// They are turned round.
     Reverse,
 }
@@ -39,7 +37,7 @@ impl<A: KeyAdapter> OneCall<A> for Whole {
     #[inline]
     fn is_of(&self, kind: Kind) -> bool {
         match self {
-            Whole::Clear | Whole::FastClear => true,
+            Whole::Clear => true,
             Whole::Reverse => is_xor(kind),
         }
     }
@@ -62,10 +60,6 @@ impl<A: KeyAdapter> OneCall<A> for Whole {
         match self {
             Whole::Clear => {
                 members.unlink_all(links, adapter);
-                Ok(())
-            }
-            Whole::FastClear => {
-                let _ = members.take(adapter);
                 Ok(())
             }
             Whole::Reverse => {

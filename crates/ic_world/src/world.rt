@@ -9,6 +9,7 @@ ghost use Rattle.ic_world.specs.Pieces.{Appends};
 
 use crate::call::Refusal;
 use crate::collection::Collection;
+use crate::field::WorldField;
 use crate::one_call::OneCall;
 use crate::part::Part;
 use ic_fields::Field;
@@ -21,7 +22,7 @@ use std::marker::Model;
 /// Objects by place, and link fields and collections by number.
 ///
 /// A field is a table of links, and a collection is the head of a list or tree in one, with a cursor. No sequence is stored: the
-/// family that a clause sees is what the tables show. Fields are numbered 0, 1, 2 in the order of `add_field`, and collections over
+/// family that a clause sees is what the tables show. A field also knows whether members were ever left linked in it. Fields are numbered 0, 1, 2 in the order of `add_field`, and collections over
 /// all fields in the order in which `open`, `take` and the splits make them. A number is never used again.
 #[derive(Drop)]
 pub struct World<A: KeyAdapter, M: Allocator + Copy = Global> {
@@ -30,7 +31,7 @@ pub struct World<A: KeyAdapter, M: Allocator + Copy = Global> {
     pub(crate) objects: Objects<A::Value, M>,
     // How many places each field covers at least.
     pub(crate) room: usize,
-    pub(crate) fields: Vec<Field<M>, M>,
+    pub(crate) fields: Vec<WorldField<M>, M>,
     pub(crate) collections: Vec<Option<Collection<A>>, M>,
 }
 
@@ -54,12 +55,12 @@ impl<A: KeyAdapter, M: Allocator + Copy> Model for World<A, M> {
 
     ghost coded = { family_code A.code A.Value.code };
 
-    ghost use Rattle.ic_fields.specs.Fields.{look};
-    ghost use Rattle.ic_world.specs.Tables.{family_of, IsWhole};
+    ghost use Rattle.ic_world.specs.Tables.{table_of, family_of};
+    ghost use Rattle.ic_world.specs.LeftLinked.{IsKept};
 
-    ghost view = { λ w. family_of w.adapter w.objects (map look w.fields.items) w.collections.items };
+    ghost view = { λ w. family_of w.adapter w.objects (map table_of w.fields.items) w.collections.items };
 
-    ghost invariant = { λ w. IsWhole w.adapter w.objects w.room (map look w.fields.items) w.collections.items };
+    ghost invariant = { λ w. IsKept w.adapter w.objects w.room w.fields.items w.collections.items };
 }
 
 impl<A: KeyAdapter, M: Allocator + Copy> World<A, M> {
@@ -115,7 +116,7 @@ impl<A: KeyAdapter, M: Allocator + Copy> World<A, M> {
                 if !call.is_of(found.members.kind()) {
                     return Err(Refusal::WrongKind);
                 }
-                let links = &mut self.fields[found.field];
+                let links = &mut self.fields[found.field].links;
                 call.run(&mut found.members, links, &self.objects, self.adapter)
             }
         }
@@ -134,7 +135,7 @@ impl<A: KeyAdapter, M: Allocator + Copy> World<A, M> {
             None => Err(Refusal::NoSuchCollection),
             Some(found) => {
                 let field = found.field;
-                let links = &mut self.fields[field];
+                let links = &mut self.fields[field].links;
                 match part.hand_out(&mut found.members, links, self.adapter, has_room) {
                     Err(refusal) => Err(refusal),
                     Ok(members) => {
@@ -156,7 +157,7 @@ impl<A: KeyAdapter, M: Allocator + Copy> World<A, M> {
         }
         match &self.collections[collection] {
             None => None,
-            Some(found) => Some((&found.members, &self.fields[found.field])),
+            Some(found) => Some((&found.members, &self.fields[found.field].links)),
         }
     }
 }

@@ -19,7 +19,7 @@ use Rattle.ic_world.specs.declared.one_call.Where.{Where}
 use Rattle.ic_world.specs.declared.one_call.Where.TheVariants as at
 use Rattle.ic_world.specs.declared.one_call.Direction.TheVariants.{Next, Prev}
 use Rattle.ic_world.specs.declared.seek.Seek.TheVariants.{Null, On, With}
-use Rattle.ic_world.specs.declared.whole.Whole.TheVariants.{Clear, FastClear, Reverse}
+use Rattle.ic_world.specs.declared.whole.Whole.TheVariants.{Clear, Reverse}
 use Rattle.ic_world.specs.declared.search.Search.TheVariants.{Find, LowerBound, UpperBound}
 use Rattle.ic_world.specs.declared.insertion.Insertion.TheVariants.{Insert, CursorInsert}
 use Rattle.ic_world.specs.declared.part.Part.{Part}
@@ -78,7 +78,6 @@ module _ {V K : Type 0} (cmp : K → K → Ordering) (key_of : V → K) (objects
   replies_stay (one.Seek (On p)) s r t h = absurd (let no = h.0 in cc)
   replies_stay (one.Seek (With way p beside)) s r t h = absurd (let no = h.0 in cc)
   replies_stay (one.Whole Clear) s r t h = absurd (let no = h.0 in cc)
-  replies_stay (one.Whole FastClear) s r t h = absurd (let no = h.0 in cc)
   replies_stay (one.Whole Reverse) s r t h = absurd (let no = h.0 in cc)
   replies_stay (one.Search (Find key)) s r t h = absurd h
   replies_stay (one.Search (LowerBound bound)) s r t h = absurd h
@@ -115,6 +114,7 @@ module _ {A V K : Type 0} (cmp : K → K → Ordering) (key_of : A → V → K) 
   accepted_stays (call.RemoveObject p) old new r h = absurd (let no = h.0 in cc)
   accepted_stays (call.SetValue p v) old new r h = absurd (let no = h.0 in cc)
   accepted_stays (call.Dispose c) old new r h = absurd (let no = h.2 in cc)
+  accepted_stays (call.FastClear c) old new r h = absurd (let no = h.2 in cc)
   accepted_stays (call.Take c) old new r h = out_stays c All old new r h
   accepted_stays (call.SplitAfter c) old new r h = out_stays c After old new r h
   accepted_stays (call.SplitBefore c) old new r h = out_stays c Before old new r h

@@ -1,4 +1,4 @@
-use Rattle.std.proofs.Common.{[], refl}
+use Rattle.std.proofs.Common.{refl}
 use Rattle.ic_link_ops.proofs.SequenceLemmas.{absent_reverse}
 use Rattle.ic_members.proofs.AllKinds.{lawful}
 use Rattle.ic_world.proofs.Turned.{turns_clear, turns_kept}
@@ -7,11 +7,6 @@ use Rattle.ic_world.proofs.whole.WholeOneCall.run.Goals as goal
 pub returns-in-Clear : goal.returns-in-Clear
 returns-in-Clear g c =
     rw c.in-Clear.is (record { tested = refl; turned = turns_clear (lawful c.args.links.now) (lawful c.unlink_all.new.links) c.unlink_all.ensures (λ same. (refl, same)); unchanged = tt })
-
-pub returns-in-FastClear : goal.returns-in-FastClear
-returns-in-FastClear g c =
-    let e = c.take.ensures in
-    rw c.in-FastClear.is (record { tested = refl; turned = turns_kept (lawful c.args.links.now) [] (e.empty _ _ c.requires.held) e.empty_alike e.empty_null (λ q out. tt) (λ same. (refl, same)); unchanged = tt })
 
 pub returns-in-Reverse : goal.returns-in-Reverse
 returns-in-Reverse g c =

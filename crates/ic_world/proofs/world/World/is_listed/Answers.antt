@@ -2,9 +2,8 @@ use Rattle.std.proofs.Common.{◌≡◌, ◌<◌, ◌||◌, ◌+◌, ◌∙◌, 
 use Rattle.std.proofs.lemmas.List.{length-map, get_or_default}
 use Rattle.std.proofs.lemmas.List.Folds.{list_any_at, list_any_more}
 use Rattle.std.specs.List.{list_any}
-use Rattle.ic_fields.specs.Fields.{look}
 use Rattle.ic_world.specs.Family.{Family, has_member_in, is_member_in}
-use Rattle.ic_world.specs.Tables.{shown_as}
+use Rattle.ic_world.specs.Tables.{table_of, shown_as}
 use Rattle.ic_world.proofs.Readings.{found_at}
 use Rattle.ic_world.proofs.FieldCalls.{held_read, here_is, other_is, none_is}
 use Rattle.ic_world.proofs.world.World.is_listed.Goals as goal
@@ -23,7 +22,7 @@ returns-then-contains g c =
     let fields = c.self.inside.fields.items in
     let f = c.args.field in
     let p = c.args.object in
-    let xs = map (shown_as (map look fields)) cs.items in
+    let xs = map (shown_as (map table_of fields)) cs.items in
     let is = found_at cs.items c.loop-c.c c.loop-c-test.true c.len-c-end.ensures cs.ok.0 c.index.ensures c.in-Some.is in
     let within : c.loop-c.c < length xs = rw length-map (omega (arith, c.loop-c-test.true, c.len-c-end.ensures, cs.ok.0)) in
     let here = here_is fields cs.items c.self.invariant f p c.loop-c.c c.in-Some.found c.index-then-found-field.result.now is c.if-found-field.true c.index-then-found-field.ensures c.contains.result c.contains.ensures in
@@ -35,7 +34,7 @@ loop-c-preserved g c =
     let fields = c.self.inside.fields.items in
     let f = c.args.field in
     let p = c.args.object in
-    let xs = map (shown_as (map look fields)) cs.items in
+    let xs = map (shown_as (map table_of fields)) cs.items in
     let i = c.loop-c.c in
     let within : i < length xs = rw length-map (omega (arith, c.loop-c-test.true, c.len-c-end.ensures, cs.ok.0)) in
     let same : xs ≡ c.args.self.now.collections = ap (λ (w : Family _ _). w.collections) c.self.view_is in

@@ -1,10 +1,10 @@
 use Rattle.std.proofs.Common.{◌≡◌, ◌∙◌, true, sym, ap, subst}
 use Rattle.ic_world.specs.Family.{Family, has_field, is_member_in, is_placed}
-use Rattle.ic_world.proofs.FieldCalls.{within_by, covers_object, in_none}
+use Rattle.ic_world.proofs.FieldCalls.{within_by, covers_object, in_none, in_some}
 use Rattle.ic_world.proofs.world.World.is_member.Goals as goal
 
-pub index-requires : goal.index-requires
-index-requires g c =
+pub index-found-requires : goal.index-found-requires
+index-found-requires g c =
     let fields = c.self.inside.fields in
     rw fields.ok.0 (within_by fields.items c.self.invariant c.args.field (subst (λ (w : Family _ _). has_field w c.args.field ≡ true) (sym c.self.view_is) c.requires.there))
 
@@ -12,10 +12,17 @@ pub is_linked-requires : goal.is_linked-requires
 is_linked-requires g c =
     let fields = c.self.inside.fields in
     let within = within_by fields.items c.self.invariant c.args.field (subst (λ (w : Family _ _). has_field w c.args.field ≡ true) (sym c.self.view_is) c.requires.there) in
-    record { covered = covers_object fields.items c.self.invariant c.args.field c.index.result.now c.args.object within c.index.ensures (subst (λ (w : Family _ _). is_placed w c.args.object ≡ true) (sym c.self.view_is) c.requires.placed) }
+    record { covered = covers_object fields.items c.self.invariant c.args.field c.index-found.result.now c.args.object within c.index-found.ensures (subst (λ (w : Family _ _). is_placed w c.args.object ≡ true) (sym c.self.view_is) c.requires.placed) }
 
 pub returns-then-not-is_linked : goal.returns-then-not-is_linked
 returns-then-not-is_linked g c =
     let fields = c.self.inside.fields in
     sym (ap (λ w. is_member_in w c.args.field c.args.object) (sym c.self.view_is)
-    ∙ in_none fields.items c.self.inside.collections.items c.self.invariant c.args.field c.args.object c.index.result.now c.index.ensures (sym c.is_linked.ensures ∙ c.if-not-is_linked.true))
+    ∙ in_none fields.items c.self.inside.collections.items c.self.invariant c.args.field c.args.object c.index-found.result.now c.index-found.ensures (sym c.is_linked.ensures ∙ c.if-not-is_linked.true))
+
+pub returns-then-not-found : goal.returns-then-not-found
+returns-then-not-found g c =
+    let fields = c.self.inside.fields in
+    let within = within_by fields.items c.self.invariant c.args.field (subst (λ (w : Family _ _). has_field w c.args.field ≡ true) (sym c.self.view_is) c.requires.there) in
+    rw c.if-not-found.true (sym (ap (λ w. is_member_in w c.args.field c.args.object) (sym c.self.view_is)
+    ∙ in_some fields.items c.self.inside.collections.items c.self.invariant c.args.field c.args.object c.index-found.result.now within c.index-found.ensures (sym c.is_linked.ensures ∙ c.if-not-is_linked.false) c.if-not-found.true))

@@ -1,0 +1,44 @@
+-- A collection of which all members went out and stay linked.
+use Rattle.std.proofs.Common.{◌≡◌, ℕ, true, List, map, set, Option, Some, None, refl, sym, ap, ◌∙◌}
+use Rattle.std.proofs.lemmas.List.{map-set}
+use Rattle.std.specs.declared.cmp.Ordering.{Ordering}
+use Rattle.ic_unsafe_ref.specs.Objects.{Objects}
+use Rattle.ic_members.specs.declared.members.Members.{Members}
+use Rattle.ic_world.specs.declared.call.Command.TheVariants.{FastClear}
+use Rattle.ic_world.specs.declared.collection.Collection.{Collection}
+use Rattle.ic_world.specs.declared.field.WorldField.{WorldField}
+use Rattle.ic_world.specs.Calls.{done}
+use Rattle.ic_world.specs.Family.{Family}
+use Rattle.ic_world.specs.LeftLinked.{IsKept}
+use Rattle.ic_world.specs.Several.{asks_collection}
+use Rattle.ic_world.specs.Splices.{Emptied}
+use Rattle.ic_world.specs.Step.{Step}
+use Rattle.ic_world.specs.Tables.{table_of, sequence, seen_as, family_of}
+use Rattle.ic_world.proofs.Edits.{after}
+use Rattle.ic_world.proofs.LeftLinked.{none_cleared}
+use Rattle.ic_world.proofs.Readings.{Found, collection_is}
+use Rattle.ic_world.proofs.Splices.{emptied_whole, emptied_family}
+use Rattle.ic_world.proofs.Steps.{step_accepted}
+
+module _ {A V K M : Type 0} {adapter : A} {objects : Objects V} {room : ℕ} {tables : List (WorldField M)} {cs : List (Option (Collection A V K))} (kept : IsKept adapter objects room tables cs)
+    {c : ℕ} {k : Collection A V K} {now : WorldField M} (at_k : Found tables cs c k now) (m : Members A V K) (e : Emptied k.members m) where
+  abbrev nf : WorldField M
+  nf = record now { left_linked = true }
+
+  same_tables : map table_of (set tables k.field nf) ≡ map table_of tables
+  same_tables = map-set table_of tables k.field nf ∙ sym (map-set table_of tables k.field now) ∙ ap (map table_of) at_k.table_back
+
+  -- THE INVARIANT and THE STEP
+  pub fast_cleared_kept : IsKept adapter objects room (set tables k.field nf) (set cs c (Some (after k m)))
+  fast_cleared_kept =
+      let left = map-set (λ (x : WorldField M). x.left_linked) tables k.field nf in
+      let none = none_cleared kept.1 c (seen_as k (sequence (map table_of tables) k)) (collection_is adapter objects (map table_of tables) cs c k at_k.is) in
+      rw (same_tables, left) (emptied_whole kept.0 c k at_k.is m e, rw (emptied_family kept.0 c k at_k.is m e) none)
+
+  pub fast_cleared_step : (cmp : K → K → Ordering) (key_of : A → V → K) {old : Family A V} → family_of adapter objects (map table_of tables) cs ≡ old
+      → Step cmp key_of old (FastClear c) done (family_of adapter objects (map table_of (set tables k.field nf)) (set cs c (Some (after k m))))
+  fast_cleared_step cmp key_of view =
+      let w = family_of adapter objects (map table_of tables) cs in
+      let is = collection_is adapter objects (map table_of tables) cs c k at_k.is in
+      rw (← view, same_tables) (step_accepted cmp key_of w (FastClear c) done _ (ap (λ o. asks_collection o (λ _. None)) is)
+      (seen_as k (sequence (map table_of tables) k), is, refl, emptied_family kept.0 c k at_k.is m e))

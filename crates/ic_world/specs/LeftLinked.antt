@@ -1,0 +1,25 @@
+-- Places that are linked and no member's, as `fast_clear` leaves them.
+use Rattle.std.specs.Prelude.{◌≡◌, ℕ, Bool, true, false, List, map, Option, Some, slice_index_or}
+use Rattle.std.specs.FinSet as set
+use Rattle.ic_unsafe_ref.specs.declared.place.Place.{Place}
+use Rattle.ic_unsafe_ref.specs.Places.{index_of}
+use Rattle.ic_unsafe_ref.specs.Objects.{Objects}
+use Rattle.ic_link_ops.specs.Sequences.{IsAbsent}
+use Rattle.ic_world.specs.declared.collection.Collection.{Collection}
+use Rattle.ic_world.specs.declared.field.WorldField.{WorldField}
+use Rattle.ic_world.specs.Family.{Family, Sequence, collection, linked_of}
+use Rattle.ic_world.specs.Tables.{table_of, left_in, family_of, IsWhole}
+
+module _ {A V : Type 0} where
+  -- p is linked in field f, and a member of none of its collections
+  abbrev pub IsLeftLinked : Family A V → ℕ → Place → Type 0
+  IsLeftLinked w f p = (set.contains (linked_of w f) (index_of p) ≡ true) × ((c : ℕ) (s : Sequence) → collection w c ≡ Some s → s.field ≡ f → IsAbsent p s.members)
+
+  -- NONE IS LEFT LINKED in a field of which `left` doesn't say so
+  pub record NoneLeftLinked (left : List Bool) (w : Family A V) : Type 0 where
+    pub none : (f : ℕ) (p : Place) → slice_index_or left f true ≡ false → IsLeftLinked w f p → ⊥
+
+-- THE INVARIANT of a world: its tables keep its collections, and none is left linked where its fields don't say so
+abbrev pub IsKept : {A V K M : Type 0} → A → Objects V → ℕ → List (WorldField M) → List (Option (Collection A V K)) → Type 0
+IsKept adapter objects room fields cs =
+    IsWhole adapter objects room (map table_of fields) cs × NoneLeftLinked (left_in fields) (family_of adapter objects (map table_of fields) cs)

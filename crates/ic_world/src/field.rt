@@ -1,0 +1,11 @@
+//! A field of a world.
+
+use ic_fields::Field;
+use std::alloc::Allocator;
+
+/// The table of its links, and whether members were ever left linked in it, by `fast_clear`. Where none was, a linked object is a member.
+#[derive(Drop)]
+pub struct WorldField<M: Allocator> {
+    pub links: Field<M>,
+    pub left_linked: bool,
+}
