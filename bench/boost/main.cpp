@@ -1,0 +1,310 @@
+// The workloads on Boost.Intrusive.
+//
+// `peer WORKLOAD MEMBERS OPERATIONS` prints the nanoseconds of all operations and a checksum. bench/README.md says what each workload
+// does. The functions timed_* are what is timed, and what callgrind counts.
+
+#include <boost/intrusive/list.hpp>
+#include <boost/intrusive/set.hpp>
+#include <boost/intrusive/slist.hpp>
+#include <chrono>
+#include <cstdint>
+#include <cstdlib>
+#include <iostream>
+#include <numeric>
+#include <string>
+#include <utility>
+#include <vector>
+
+namespace bi = boost::intrusive;
+using std::uint64_t;
+
+template <class Hook> struct object : Hook {
+    uint64_t value;
+};
+
+struct by_value {
+    using type = uint64_t;
+    template <class Object> const uint64_t &operator()(const Object &object) const { return object.value; }
+};
+
+using doubly_object = object<bi::list_base_hook<>>;
+using singly_object = object<bi::slist_base_hook<>>;
+using tree_object = object<bi::set_base_hook<bi::optimize_size<true>>>;
+using doubly_list = bi::list<doubly_object, bi::constant_time_size<false>>;
+using singly_list = bi::slist<singly_object, bi::constant_time_size<false>>;
+using tree = bi::multiset<tree_object, bi::key_of_value<by_value>, bi::constant_time_size<false>>;
+template <class Object> using references = std::vector<Object *>;
+
+// The generator that all programs share.
+struct generator {
+    uint64_t state = 1;
+
+    uint64_t below(uint64_t bound) {
+        state = state * 6364136223846793005u + 1442695040888963407u;
+        return ((state >> 32) * bound) >> 32;
+    }
+
+    // The numbers below `count`, in a random order.
+    std::vector<uint64_t> shuffled(uint64_t count) {
+        std::vector<uint64_t> numbers(count);
+        std::iota(numbers.begin(), numbers.end(), 0);
+        for (uint64_t last = count - 1; last > 0; --last)
+            std::swap(numbers[last], numbers[below(last + 1)]);
+        return numbers;
+    }
+};
+
+// Objects with the even numbers as values, in a random order.
+template <class Object> std::vector<Object> make_objects(generator &random, uint64_t members) {
+    std::vector<Object> objects(members);
+    auto values = random.shuffled(members);
+    for (uint64_t index = 0; index < members; ++index)
+        objects[index].value = 2 * values[index];
+    return objects;
+}
+
+// References to them, in another random order.
+template <class Object> references<Object> refer(generator &random, std::vector<Object> &objects) {
+    references<Object> order;
+    for (uint64_t index : random.shuffled(objects.size()))
+        order.push_back(&objects[index]);
+    return order;
+}
+
+template <class Collection> uint64_t sum(const Collection &collection) {
+    uint64_t sum = 0;
+    for (auto &object : collection)
+        sum += object.value;
+    return sum;
+}
+
+template <class Collection> uint64_t hash(const Collection &collection) {
+    uint64_t hash = 0;
+    for (auto &object : collection)
+        hash = hash * 31 + object.value;
+    return hash;
+}
+
+struct outcome {
+    std::chrono::nanoseconds time{0};
+    uint64_t checksum = 0;
+};
+
+template <class Work> outcome timed(Work work) {
+    auto start = std::chrono::steady_clock::now();
+    uint64_t result = work();
+    return {std::chrono::steady_clock::now() - start, result};
+}
+
+#define TIMED [[gnu::noinline]] static uint64_t
+
+// ---- The doubly linked list ----
+
+TIMED timed_pair(doubly_list &list, uint64_t operations) {
+    while (operations--) {
+        auto &object = list.front();
+        list.pop_front();
+        list.push_back(object);
+    }
+    return 0;
+}
+
+TIMED timed_touch(doubly_list &list, const references<doubly_object> &order, uint64_t operations) {
+    generator random;
+    while (operations--) {
+        auto &object = *order[random.below(order.size())];
+        list.erase(list.iterator_to(object));
+        list.push_back(object);
+    }
+    return 0;
+}
+
+TIMED timed_splice(doubly_list &list, const references<doubly_object> &order, uint64_t operations) {
+    generator random;
+    while (operations--) {
+        auto &object = *order[random.below(order.size())];
+        doubly_list rest;
+        rest.splice(rest.end(), list, std::next(list.iterator_to(object)), list.end());
+        list.splice(list.begin(), rest);
+    }
+    return 0;
+}
+
+// A cursor: from the end it goes to the first.
+template <class Collection> static inline uint64_t step(const Collection &collection, uint64_t operations) {
+    auto at = collection.begin();
+    while (operations--) {
+        if (at == collection.end())
+            at = collection.begin();
+        else
+            ++at;
+    }
+    return at == collection.end() ? 0 : at->value;
+}
+
+template <class Collection> static inline uint64_t iterate(const Collection &collection, uint64_t rounds) {
+    uint64_t total = 0;
+    while (rounds--)
+        total += sum(collection);
+    return total;
+}
+
+TIMED timed_step(const doubly_list &list, uint64_t operations) { return step(list, operations); }
+
+TIMED timed_iter(const doubly_list &list, uint64_t rounds) { return iterate(list, rounds); }
+
+static outcome doubly(const std::string &workload, uint64_t members, uint64_t operations) {
+    generator random;
+    auto objects = make_objects<doubly_object>(random, members);
+    auto order = refer(random, objects);
+    doubly_list list;
+    for (auto object : order)
+        list.push_back(*object);
+    outcome outcome = timed([&] {
+        return workload == "pair"     ? timed_pair(list, operations)
+               : workload == "touch"  ? timed_touch(list, order, operations)
+               : workload == "splice" ? timed_splice(list, order, operations)
+               : workload == "step"   ? timed_step(list, operations)
+                                      : timed_iter(list, operations / members);
+    });
+    outcome.checksum += hash(list);
+    return outcome;
+}
+
+// ---- The singly linked list ----
+
+TIMED timed_singly(singly_list &list, const references<singly_object> &order, uint64_t rounds) {
+    while (rounds--) {
+        while (!list.empty())
+            list.pop_front();
+        for (auto object : order)
+            list.push_front(*object);
+    }
+    return 0;
+}
+
+static outcome singly(uint64_t members, uint64_t operations) {
+    generator random;
+    auto objects = make_objects<singly_object>(random, members);
+    auto order = refer(random, objects);
+    singly_list list;
+    for (auto object : order)
+        list.push_front(*object);
+    outcome outcome = timed([&] { return timed_singly(list, order, operations / members); });
+    outcome.checksum += hash(list);
+    return outcome;
+}
+
+// ---- The tree ----
+
+TIMED timed_insert(tree &tree, const references<tree_object> &order) {
+    for (auto object : order)
+        tree.insert(*object);
+    return 0;
+}
+
+TIMED timed_remove(tree &tree, const references<tree_object> &order, uint64_t count) {
+    for (uint64_t index = 0; index < count; ++index)
+        tree.erase(tree.iterator_to(*order[index]));
+    return 0;
+}
+
+TIMED timed_find(const tree &tree, uint64_t members, uint64_t operations) {
+    generator random;
+    uint64_t sum = 0;
+    while (operations--) {
+        auto found = tree.find(2 * random.below(members));
+        if (found != tree.end())
+            sum += found->value;
+    }
+    return sum;
+}
+
+TIMED timed_lower_bound(const tree &tree, uint64_t members, uint64_t operations) {
+    generator random;
+    uint64_t sum = 0;
+    while (operations--) {
+        auto found = tree.lower_bound(2 * random.below(members) + 1);
+        if (found != tree.end())
+            sum += found->value;
+    }
+    return sum;
+}
+
+TIMED timed_turn(tree &tree, uint64_t members, uint64_t operations) {
+    generator random;
+    while (operations--) {
+        auto found = tree.find(2 * random.below(members));
+        if (found != tree.end()) {
+            auto &object = *found;
+            tree.erase(found);
+            tree.insert(object);
+        }
+    }
+    return 0;
+}
+
+TIMED timed_queue(tree &tree, uint64_t members, uint64_t operations) {
+    while (operations--) {
+        auto &object = *tree.begin();
+        tree.erase(tree.begin());
+        object.value += 2 * members;
+        tree.insert(object);
+    }
+    return 0;
+}
+
+TIMED timed_tree_step(const tree &tree, uint64_t operations) { return step(tree, operations); }
+
+TIMED timed_tree_iter(const tree &tree, uint64_t rounds) { return iterate(tree, rounds); }
+
+static outcome on_tree(const std::string &workload, uint64_t members, uint64_t operations) {
+    generator random;
+    auto objects = make_objects<tree_object>(random, members);
+    auto order = refer(random, objects);
+    auto shuffled = refer(random, objects);
+    tree tree;
+    auto fill = [&] {
+        tree.clear();
+        for (auto object : order)
+            tree.insert(*object);
+    };
+    outcome outcome;
+    fill();
+    if (workload == "insert") {
+        for (uint64_t rounds = operations / members; rounds--;) {
+            tree.clear();
+            outcome.time += timed([&] { return timed_insert(tree, order); }).time;
+        }
+    } else if (workload == "remove") {
+        for (uint64_t rounds = operations / (members / 2); rounds--;) {
+            fill();
+            outcome.time += timed([&] { return timed_remove(tree, shuffled, members / 2); }).time;
+        }
+    } else {
+        outcome = timed([&] {
+            return workload == "find"          ? timed_find(tree, members, operations)
+                   : workload == "lower_bound" ? timed_lower_bound(tree, members, operations)
+                   : workload == "turn"        ? timed_turn(tree, members, operations)
+                   : workload == "queue"       ? timed_queue(tree, members, operations)
+                   : workload == "tree_step"   ? timed_tree_step(tree, operations)
+                                               : timed_tree_iter(tree, operations / members);
+        });
+    }
+    outcome.checksum += hash(tree);
+    return outcome;
+}
+
+int main(int count, char **words) {
+    if (count != 4) {
+        std::cerr << "peer WORKLOAD MEMBERS OPERATIONS\n";
+        return 2;
+    }
+    const std::string workload = words[1];
+    const uint64_t members = std::strtoull(words[2], nullptr, 10), operations = std::strtoull(words[3], nullptr, 10);
+    const std::string on_doubly = " pair touch splice step iter ";
+    const outcome outcome = workload == "singly" ? singly(members, operations)
+                            : on_doubly.find(" " + workload + " ") != std::string::npos ? doubly(workload, members, operations)
+                                                                                        : on_tree(workload, members, operations);
+    std::cout << outcome.time.count() << ' ' << outcome.checksum << '\n';
+}

@@ -1,0 +1,181 @@
+"""The page and the plot that bench/run writes."""
+
+import dataclasses
+import math
+
+PAGE, PLOT = "beside-peers.md", "beside-peers.svg"
+OURS, LENT, RUST = "ours", "ours, lent", "Rust crate"
+COLOURS = ["#1b7837", "#2166ac", "#b2182b", "#762a83", "#8c510a"]
+
+
+@dataclasses.dataclass
+class Figures:
+    workloads: dict  # what each workload does, and how many operations a run has
+    options: object  # sizes, rounds, and the workloads that were run
+    programs: list  # the names of those that were run
+    times: dict  # (workload, members, program) -> the quartiles of nanoseconds per operation
+    counts: dict  # (workload, program) -> instructions per operation
+    machine: list
+    left_out: list
+    program: dict = dataclasses.field(default_factory=dict)  # (stream, run) -> the quartiles of nanoseconds, and instructions, per line
+
+    def ratio(self, workload, members, ours):
+        """How many times the Rust crate's median ours is."""
+        mine, theirs = (self.times.get((workload, members, name)) for name in (ours, RUST))
+        return mine[1] / theirs[1] if mine and theirs else None
+
+
+def table(head, rows):
+    lines = [head, ["---"] + ["---:"] * (len(head) - 1), *rows]
+    return ["| " + " | ".join(line) + " |" for line in lines] + [""]
+
+
+def shown(value, form="{:.2f}"):
+    return "-" if value is None else form.format(value)
+
+
+def beside_rust(figures):
+    """Ratios at each size, and the instructions of each program."""
+    ours = [name for name in (OURS, LENT) if name in figures.programs]
+    head = ["", *(f"{members:,}" for members in figures.options.sizes), *(f"instructions: {name}" for name in figures.programs)]
+    for workload in figures.options.only:
+        ratios = (" / ".join(shown(figures.ratio(workload, members, name)) for name in ours) for members in figures.options.sizes)
+        counts = (shown(figures.counts.get((workload, name)), "{:.0f}") for name in figures.programs)
+        yield head, [figures.workloads[workload][0], *ratios, *counts]
+
+
+def nanoseconds(figures, members):
+    """Medians, and the quartiles, of all programs at one size."""
+    for workload in figures.options.only:
+        found = (figures.times.get((workload, members, name)) for name in figures.programs)
+        yield [figures.workloads[workload][0], *("-" if not of else f"{of[1]:.1f} ({of[0]:.1f}–{of[2]:.1f})" for of in found)]
+
+
+def page(figures):
+    lines = [
+        "# The collections beside their peers",
+        "",
+        "`bench/run` wrote this page. `bench/README.md` says what each program and each workload is, and how to repeat it.",
+        "",
+        "Measured on:",
+        "",
+        *(f"- {line}" for line in figures.machine),
+        *(f"- left out: {line}" for line in figures.left_out),
+        "",
+        f"Each program was run {figures.options.rounds} times, in turn with the others. The figures are of one operation. Other work ran on "
+        "the machine now and then, so trust medians and instructions more than one nanosecond.",
+        "",
+    ]
+    rows = list(beside_rust(figures))
+    if rows:
+        lines += [
+            "## Beside the Rust crate",
+            "",
+            "How many times the Rust crate's time ours takes, by the number of members: over the table that is handed in, and behind the "
+            "stroke over a lent one. Below 1 ours is faster. Then the instructions of one operation with 1,000 members.",
+            "",
+            *table(rows[0][0], [row for _head, row in rows]),
+            f"![The ratios as a plot]({PLOT})",
+            "",
+        ]
+        for members in figures.options.sizes:
+            lines += [f"## Nanoseconds, {members:,} members", "", "The median, and the quartiles.", ""]
+            lines += table(["", *figures.programs], nanoseconds(figures, members))
+    if figures.program:
+        lines += [
+            "## The program",
+            "",
+            "`ic_main` on 1,000,000 commands over all pairs of kind and table, beside a loop in Rust that prints each line again "
+            "(`bench/rust/src/bin/echo.rs`). The figures are of one line.",
+            "",
+            *table(["commands", "nanoseconds: ours", "echo", "instructions: ours", "echo"], program_rows(figures.program)),
+        ]
+    return "\n".join(lines).rstrip() + "\n"
+
+
+def program_rows(program):
+    for stream in dict.fromkeys(stream for stream, _run in program):
+        runs = [program[stream, run] for run in ("ours", "echo")]
+        yield [stream, *(f"{median:.0f} ({low:.0f}–{high:.0f})" for (low, median, high), _count in runs), *(f"{count:.0f}" for _, count in runs)]
+
+
+class Plot:
+    """A row for each workload. A dot for each size and form stands at the ratio, on a log axis."""
+
+    LEFT, RIGHT, TOP, ROW, WIDTH = 300, 30, 84, 30, 860
+
+    def __init__(self, figures):
+        self.figures = figures
+        self.dots = {
+            (workload, name, members): ratio
+            for workload in figures.options.only for name in (OURS, LENT) for members in figures.options.sizes
+            if (ratio := figures.ratio(workload, members, name))
+        }
+        self.low = min([0.5, *self.dots.values()]) / 1.1
+        self.high = max([2, *self.dots.values()]) * 1.1
+        self.height = self.TOP + self.ROW * len(figures.options.only) + 44
+
+    def x(self, ratio):
+        share = math.log(ratio / self.low) / math.log(self.high / self.low)
+        return self.LEFT + share * (self.WIDTH - self.LEFT - self.RIGHT)
+
+    def dot(self, x, y, name, members):
+        colour = COLOURS[self.figures.options.sizes.index(members) % len(COLOURS)]
+        fill = colour if name == OURS else "white"
+        return f'<circle cx="{x:.1f}" cy="{y:.1f}" r="5" fill="{fill}" stroke="{colour}" stroke-width="2"/>'
+
+    @staticmethod
+    def text(x, y, words, anchor="start", more=""):
+        return f'<text x="{x:.1f}" y="{y:.1f}" text-anchor="{anchor}"{more}>{words}</text>'
+
+    def axis(self):
+        bottom = self.height - 34
+        for ratio in (0.125, 0.25, 0.5, 0.7, 1, 1.4, 2, 3, 4, 6, 8, 16):
+            if self.low <= ratio <= self.high:
+                line = 'stroke="#333" stroke-width="2"' if ratio == 1 else 'stroke="#ddd"'
+                yield f'<line x1="{self.x(ratio):.1f}" y1="{self.TOP - 8}" x2="{self.x(ratio):.1f}" y2="{bottom}" {line}/>'
+                yield self.text(self.x(ratio), bottom + 16, f"{ratio:g}", "middle")
+        yield self.text(self.x(1) - 8, self.TOP - 14, "ours is faster", "end", ' fill="#666"')
+        yield self.text(self.x(1) + 8, self.TOP - 14, "the Rust crate is faster", "start", ' fill="#666"')
+
+    def legend(self):
+        at = self.LEFT
+        for name, what in ((OURS, "table handed in"), (LENT, "lent table")):
+            for members in self.figures.options.sizes:
+                yield self.dot(at, 46, name, members)
+                at += 16
+            yield self.text(at, 50, what)
+            at += 130
+        at = self.LEFT
+        for members in self.figures.options.sizes:
+            yield self.dot(at, 26, OURS, members)
+            yield self.text(at + 12, 30, f"{members:,} members")
+            at += 150
+
+    def rows(self):
+        for row, workload in enumerate(self.figures.options.only):
+            y = self.TOP + self.ROW * (row + 0.5)
+            if row % 2 == 0:
+                yield f'<rect x="0" y="{y - self.ROW / 2}" width="{self.WIDTH}" height="{self.ROW}" fill="#f6f6f6"/>'
+            yield self.text(self.LEFT - 14, y + 4, self.figures.workloads[workload][0], "end")
+        yield from self.axis()
+        for (workload, name, members), ratio in self.dots.items():
+            y = self.TOP + self.ROW * (self.figures.options.only.index(workload) + 0.5) + (-5 if name == OURS else 5)
+            yield self.dot(self.x(ratio), y, name, members)
+
+    def svg(self):
+        yield f'<svg xmlns="http://www.w3.org/2000/svg" width="{self.WIDTH}" height="{self.height}" font-family="sans-serif" font-size="13">'
+        yield f'<rect width="{self.WIDTH}" height="{self.height}" fill="white"/>'
+        yield self.text(14, 30, "Time beside the Rust crate's", more=' font-size="16" font-weight="bold"')
+        yield self.text(14, 50, "median of one operation, log axis", more=' fill="#666"')
+        yield from self.legend()
+        yield from self.rows()
+        yield "</svg>"
+
+
+def write(figures):
+    figures.options.folder.mkdir(parents=True, exist_ok=True)
+    (figures.options.folder / PAGE).write_text(page(figures))
+    plot = Plot(figures)
+    if plot.dots:
+        (figures.options.folder / PLOT).write_text("\n".join(plot.svg()) + "\n")
