@@ -1,30 +1,24 @@
-//! Work by keys on a red-black tree: the keys are the objects, and stand in their order as at random.
+//! Work by keys on a red-black tree, over any table: the objects are the keys.
 //!
 //! ```text
-//! let objects = place_all(alloc, 1000)?;
-//! one_tree(&mut rows, alloc, &objects, 1000, 100_001)?;
+//! let checksum = on_tree("find", &mut watch, &mut links, &objects, &order, size);
 //! ```
 
-ghost use Rattle.std.specs.Prelude.{◌≡◌, ◌≤◌, true, IfSome};
+ghost use Rattle.std.specs.Prelude.{◌≡◌, ◌<◌, true, All, IfSome};
+ghost use Rattle.ic_unsafe_ref.specs.Places.{index_of};
 ghost use Rattle.ic_unsafe_ref.specs.Objects.{is_placed};
 ghost use Rattle.ic_link_ops.specs.Positions.{HasMember};
-ghost use Rattle.ic_link_ops.specs.RedBlackTree.{Shows};
+ghost use Rattle.ic_link_ops.specs.PlacedObjects.{ShowsPlaced};
+ghost use Rattle.ic_link_ops.specs.RedBlackTree.{Shows, ShowsSome};
 ghost use Rattle.ic_link_ops.specs.Tables.{IsCovered};
 ghost use Rattle.ic_rbtree.specs.Tree.{root_of};
 ghost use Rattle.ic_rbtree.specs.SortedObjects.{ShowsSorted, StaysSorted};
 
-use crate::rows::Rows;
-use ic_link_ops::LentTable;
-use ic_link_ops::rbtree::{Link, LinkOps, RBTreeOps};
-use ic_rbtree::{KeyAdapter, RBTree};
+use crate::random::Random;
+use crate::room::{Size, Watch, value_at};
+use ic_link_ops::rbtree::RBTreeOps;
+use ic_rbtree::{Bound, KeyAdapter, RBTree};
 use ic_unsafe_ref::{Objects, Place, UnsafeRef};
-use std::alloc::Global;
-
-// How far apart the keys stand of objects that are placed one after the other.
-const STRIDE: u64 = 7919;
-
-// How far apart the keys stand that are looked for one after the other.
-const LEAP: u64 = 104_729;
 
 /// The value is the key.
 #[derive(Clone, Copy)]
@@ -42,19 +36,8 @@ impl KeyAdapter for ByValue {
     }
 }
 
-/// So many objects, as far as there is memory. Their values are the numbers below `members`, in an order as at random.
-pub fn place_all(alloc: Global, members: u64) -> Objects<u64> {
-    let mut objects = Objects::new(alloc);
-    for count in 0..members {
-        if objects.next_place().is_some() {
-            let _ = UnsafeRef::from_box(&mut objects, count.wrapping_mul(STRIDE) % members);
-        }
-    }
-    objects
-}
-
 // Where the object with this key stands, if it is a member.
-#[inline(never)]
+#[inline]
 fn find<L: RBTreeOps>(
     tree: &RBTree<ByValue>,
     links: &L,
@@ -69,7 +52,7 @@ fn find<L: RBTreeOps>(
 }
 
 // Inserts the object where its key belongs, unless its link is refused.
-#[inline(never)]
+#[inline]
 fn insert<L: RBTreeOps>(
     tree: &mut RBTree<ByValue>,
     links: &mut L,
@@ -86,7 +69,7 @@ fn insert<L: RBTreeOps>(
 }
 
 // Takes a member off.
-#[inline(never)]
+#[inline]
 fn remove<L: RBTreeOps>(tree: &mut RBTree<ByValue>, links: &mut L, object: UnsafeRef<u64>)
     requires member { HasMember (Shows L.node (L.table links.old) (root_of tree.old)) object }
     ensures sorted { StaysSorted (λ v. v) (Shows L.node (L.table links.old) (root_of tree.old))
@@ -96,72 +79,199 @@ fn remove<L: RBTreeOps>(tree: &mut RBTree<ByValue>, links: &mut L, object: Unsaf
     let _ = tree.cursor_mut_from_ptr(links, object).remove();
 }
 
-// Inserts the objects at the first `members` places.
+// Inserts the objects at these places, in this order.
 #[inline(never)]
-fn insert_all<L: RBTreeOps>(
+fn timed_insert<L: RBTreeOps>(
     tree: &mut RBTree<ByValue>,
     links: &mut L,
     objects: &Objects<u64>,
-    members: usize,
+    order: &[Place],
 )
-    requires covered { members ≤ (L.table links.old).extent.places }
+    requires covered { All (λ place. index_of place < (L.table links.old).extent.places) order.now }
+    requires objects { All (λ place. is_placed objects.now place ≡ true) order.now }
     requires sorted { ShowsSorted (λ v. v) (Shows L.node (L.table links.old) (root_of tree.old)) objects.now }
     ensures sorted { ShowsSorted (λ v. v) (Shows L.node (L.table links.new) (root_of tree.new)) objects.now }
+    ensures extent { (L.table links.new).extent ≡ (L.table links.old).extent }
 {
-    for index in 0..members {
-        if let Some(place) = Place::new(index) {
-            if objects.is_placed(place) {
-                insert(tree, links, objects, UnsafeRef::new(place));
-            }
-        }
+    for place in order {
+        insert(tree, links, objects, UnsafeRef::new(*place));
     }
 }
 
-// Finds so many keys, takes each one's member off and inserts it again, and answers where the last of them stands.
-#[inline(never)]
-fn turn_all<L: RBTreeOps>(
+// Empties the tree and inserts the objects again, so often.
+fn insert_again<L: RBTreeOps>(
+    watch: &mut Watch<'_>,
     tree: &mut RBTree<ByValue>,
     links: &mut L,
     objects: &Objects<u64>,
-    members: u64,
-    times: u64,
-) -> Option<Place>
+    order: &[Place],
+    rounds: u64,
+)
+    requires covered { All (λ place. index_of place < (L.table links.old).extent.places) order.now }
+    requires objects { All (λ place. is_placed objects.now place ≡ true) order.now }
     requires sorted { ShowsSorted (λ v. v) (Shows L.node (L.table links.old) (root_of tree.old)) objects.now }
+    ensures sorted { ShowsSorted (λ v. v) (Shows L.node (L.table links.new) (root_of tree.new)) objects.now }
 {
-    let mut last = None;
-    for time in 0..times {
-        last = find(
-            &*tree,
-            &*links,
-            objects,
-            time.wrapping_mul(LEAP) % members.max(1),
-        );
-        if let Some(place) = last {
+    for round in 0..rounds {
+        tree.clear(links);
+        let start = watch.start();
+        timed_insert(tree, links, objects, order);
+        watch.stop(start);
+    }
+}
+
+// Finds keys at random, and adds up the objects found.
+#[inline(never)]
+fn timed_find<L: RBTreeOps>(
+    tree: &RBTree<ByValue>,
+    links: &L,
+    objects: &Objects<u64>,
+    size: Size,
+) -> u64
+    requires sorted { ShowsSorted (λ v. v) (Shows L.node (L.table links.now) (root_of tree.now)) objects.now }
+{
+    let mut random = Random::new();
+    let mut sum = 0_u64;
+    for operation in 0..size.operations {
+        let key = random.below(size.members).wrapping_mul(2);
+        if let Some(value) = tree.find(links, objects, &key).get(objects) {
+            sum = sum.wrapping_add(*value);
+        }
+    }
+    sum
+}
+
+// Looks for the first object above keys at random, and adds these up.
+#[inline(never)]
+fn timed_lower_bound<L: RBTreeOps>(
+    tree: &RBTree<ByValue>,
+    links: &L,
+    objects: &Objects<u64>,
+    size: Size,
+) -> u64
+    requires sorted { ShowsSorted (λ v. v) (Shows L.node (L.table links.now) (root_of tree.now)) objects.now }
+{
+    let mut random = Random::new();
+    let mut sum = 0_u64;
+    for operation in 0..size.operations {
+        let key = random.below(size.members).wrapping_mul(2).wrapping_add(1);
+        let cursor = tree.lower_bound(links, objects, Bound::Included(&key));
+        if let Some(value) = cursor.get(objects) {
+            sum = sum.wrapping_add(*value);
+        }
+    }
+    sum
+}
+
+// Finds keys at random, takes each one's member off and inserts it again.
+#[inline(never)]
+fn timed_turn<L: RBTreeOps>(
+    tree: &mut RBTree<ByValue>,
+    links: &mut L,
+    objects: &Objects<u64>,
+    size: Size,
+)
+    requires sorted { ShowsSorted (λ v. v) (Shows L.node (L.table links.old) (root_of tree.old)) objects.now }
+    ensures sorted { ShowsSorted (λ v. v) (Shows L.node (L.table links.new) (root_of tree.new)) objects.now }
+{
+    let mut random = Random::new();
+    for operation in 0..size.operations {
+        let key = random.below(size.members).wrapping_mul(2);
+        if let Some(place) = find(&*tree, &*links, objects, key) {
             remove(tree, links, UnsafeRef::new(place));
             insert(tree, links, objects, UnsafeRef::new(place));
         }
     }
-    last
 }
 
-// A tree over links that are lent, with a member at each: inserts of all of them, and then so many searches, each with a removal and an
-// insert.
-fn over_links(rows: &mut Rows<'_>, links: &mut [Link], objects: &Objects<u64>, times: u64) {
-    let mut links = LentTable::new(links);
-    let members = links.covers();
-    let mut tree = RBTree::new(ByValue);
-    rows.note("tree: made", members as u64, None, members as u64);
-    insert_all(&mut tree, &mut links, objects, members);
-    rows.note("keyed: inserted", members as u64, None, 0);
-    let end = turn_all(&mut tree, &mut links, objects, members as u64, times);
-    rows.note("keyed: found, removed and inserted", times, end, 0);
-}
-
-/// A tree of so many objects by their keys, over a lent table. Without memory there are no rows.
-pub fn one_tree(rows: &mut Rows<'_>, members: u64, times: u64) {
-    let objects = place_all(rows.alloc, members);
-    let mut links = LinkOps::new(rows.alloc);
-    if links.cover(members as usize).is_ok() {
-        over_links(rows, links.lend(), &objects, times);
+// A cursor moves round the tree. It answers the place where it ends.
+#[inline(never)]
+fn timed_tree_step<L: RBTreeOps>(
+    tree: &RBTree<ByValue>,
+    links: &L,
+    operations: u64,
+) -> Option<Place>
+    requires shown { ShowsSome L.node (L.table links.now) (root_of tree.now) }
+{
+    let mut cursor = tree.front(links);
+    for operation in 0..operations {
+        cursor.move_next();
     }
+    cursor.get_ptr()
+}
+
+// The sum of the tree's objects, so often.
+#[inline(never)]
+fn timed_tree_iter<L: RBTreeOps>(
+    tree: &RBTree<ByValue>,
+    links: &L,
+    objects: &Objects<u64>,
+    rounds: u64,
+) -> u64
+    requires placed { ShowsPlaced (Shows L.node (L.table links.now) (root_of tree.now)) objects.now }
+{
+    let mut sum = 0_u64;
+    for _round in 0..rounds {
+        for value in tree.iter(links, objects) {
+            sum = sum.wrapping_add(*value);
+        }
+    }
+    sum
+}
+
+// What the members are and in which order they stand, as one number.
+fn hash<L: RBTreeOps>(tree: &RBTree<ByValue>, links: &L, objects: &Objects<u64>) -> u64
+    requires placed { ShowsPlaced (Shows L.node (L.table links.now) (root_of tree.now)) objects.now }
+{
+    let mut hash = 0_u64;
+    for value in tree.iter(links, objects) {
+        hash = hash.wrapping_mul(31).wrapping_add(*value);
+    }
+    hash
+}
+
+// Does the work, and answers where it ended or what it added up.
+fn work<L: RBTreeOps>(
+    name: &str,
+    tree: &mut RBTree<ByValue>,
+    links: &mut L,
+    objects: &Objects<u64>,
+    size: Size,
+) -> u64
+    requires sorted { ShowsSorted (λ v. v) (Shows L.node (L.table links.old) (root_of tree.old)) objects.now }
+    ensures sorted { ShowsSorted (λ v. v) (Shows L.node (L.table links.new) (root_of tree.new)) objects.now }
+{
+    match name {
+        "find" => return timed_find(&*tree, &*links, objects, size),
+        "lower_bound" => return timed_lower_bound(&*tree, &*links, objects, size),
+        "tree_step" => return value_at(objects, timed_tree_step(&*tree, &*links, size.operations)),
+        "tree_iter" => return timed_tree_iter(&*tree, &*links, objects, size.rounds()),
+        "turn" => timed_turn(tree, links, objects, size),
+        _ => {}
+    }
+    0
+}
+
+/// A tree of these objects by their keys, inserted in this order: does the work with this name on it, and answers a checksum.
+pub fn on_tree<L: RBTreeOps>(
+    name: &str,
+    watch: &mut Watch<'_>,
+    links: &mut L,
+    objects: &Objects<u64>,
+    order: &[Place],
+    size: Size,
+) -> u64
+    requires covered { All (λ place. index_of place < (L.table links.old).extent.places) order.now }
+    requires objects { All (λ place. is_placed objects.now place ≡ true) order.now }
+{
+    let mut tree = RBTree::new(ByValue);
+    if name == "insert" {
+        insert_again(watch, &mut tree, links, objects, order, size.rounds());
+        return hash(&tree, &*links, objects);
+    }
+    timed_insert(&mut tree, links, objects, order);
+    let start = watch.start();
+    let end = work(name, &mut tree, links, objects, size);
+    watch.stop(start);
+    hash(&tree, &*links, objects).wrapping_add(end)
 }

@@ -1,34 +1,25 @@
-//! Work on a doubly linked list, so many times, over the table that is handed in, and over the links that it lends.
+//! Work on a doubly linked list, over the table that is handed in, or over the links that it lends.
 //!
 //! ```text
-//! over_table::<Turns>(&mut list, &mut table, 1000);
-//! lent::<Turns>(&mut list, &mut table, 1000); // the same, and where the links are kept is read once
+//! let checksum = on_list("pair", is_lent, &mut watch, &mut links, &objects, &order, size);
 //! ```
 
-ghost use Rattle.std.specs.Prelude.{◌≡◌, ◌≤◌, length};
-ghost use Rattle.ic_link_ops.specs.LinkedList.{ShowsSome};
+ghost use Rattle.std.specs.Prelude.{◌≡◌, ◌<◌, true, All, length};
+ghost use Rattle.std.specs.Bool.{OnTrue};
+ghost use Rattle.ic_unsafe_ref.specs.Places.{index_of};
+ghost use Rattle.ic_unsafe_ref.specs.Objects.{is_placed};
+ghost use Rattle.ic_link_ops.specs.LinkedList.{Shows, ShowsSome};
 ghost use Rattle.ic_link_ops.specs.DoublyEntries.{neighbors_of, plain_table, table_of, PlainShows, PlainShowsSome};
 ghost use Rattle.ic_link_ops.specs.PlacedObjects.{ShowsPlaced};
+ghost use Rattle.ic_link_ops.specs.Positions.{HasMember};
 ghost use Rattle.ic_link_ops.specs.Tables.{IsCovered};
 
-use crate::keyed::place_all;
-use crate::rows::Rows;
+use crate::random::Random;
+use crate::room::{Size, Watch, value_at};
 use ic_link_ops::LentTable;
 use ic_link_ops::linked_list::{Link, LinkOps, LinkedListOps};
 use ic_linked_list::LinkedList;
 use ic_unsafe_ref::{Objects, Place, UnsafeRef};
-
-// How far apart in the table neighbours stand, so that no two share a line of memory.
-const STRIDE: usize = 7919;
-
-/// A kind of work on a list, over any table.
-pub trait Work {
-    /// Does it so many times, and answers where it ended.
-    fn run<L: LinkedListOps>(list: &mut LinkedList<u64>, links: &mut L, times: u64) -> Option<Place>
-        requires shown { ShowsSome L.neighbors (L.table links.old) list.old }
-        ensures shown { ShowsSome L.neighbors (L.table links.new) list.new }
-        ensures extent { (L.table links.new).extent ≡ (L.table links.old).extent };
-}
 
 // Puts the object at the back of the list, unless its link is refused.
 #[inline]
@@ -41,137 +32,304 @@ fn put<L: LinkedListOps>(list: &mut LinkedList<u64>, links: &mut L, object: Unsa
     let _ = list.push_back(links, object);
 }
 
-/// The first member is taken off and put back at the end. It ends at the first member.
-pub struct Turns;
-
-impl Work for Turns {
-    #[inline]
-    fn run<L: LinkedListOps>(
-        list: &mut LinkedList<u64>,
-        links: &mut L,
-        times: u64,
-    ) -> Option<Place> {
-        for _time in 0..times {
-            if let Some(object) = list.pop_front(links) {
-                put(list, links, object);
-            }
-        }
-        list.front(links).get_ptr()
-    }
-}
-
-/// A cursor moves round the list. It ends where the cursor stands.
-pub struct Steps;
-
-impl Work for Steps {
-    #[inline]
-    fn run<L: LinkedListOps>(
-        list: &mut LinkedList<u64>,
-        links: &mut L,
-        times: u64,
-    ) -> Option<Place> {
-        let mut cursor = list.cursor(links);
-        for _time in 0..times {
-            cursor.move_next();
-        }
-        cursor.get_ptr()
-    }
-}
-
-// The work over the table that is handed in.
-#[inline(never)]
-fn over_table<W: Work>(list: &mut LinkedList<u64>, table: &mut LinkOps, times: u64) -> Option<Place>
-    requires { PlainShowsSome table.old list.old }
-    ensures { PlainShowsSome table.new list.new }
+// The first member is taken off and put back at the end.
+#[inline(always)]
+fn pair<L: LinkedListOps>(list: &mut LinkedList<u64>, links: &mut L, operations: u64)
+    requires shown { ShowsSome L.neighbors (L.table links.old) list.old }
+    ensures shown { ShowsSome L.neighbors (L.table links.new) list.new }
+    ensures extent { (L.table links.new).extent ≡ (L.table links.old).extent }
 {
-    W::run(list, table, times)
+    for operation in 0..operations {
+        if let Some(object) = list.pop_front(links) {
+            put(list, links, object);
+        }
+    }
 }
 
-// The work over links that are lent.
+// Takes the member off and puts it at the back. It answers whether its link was given again: over a plain table it always is.
 #[inline]
-fn over_links<W: Work>(list: &mut LinkedList<u64>, links: &mut [Link], times: u64) -> Option<Place>
-    requires { ShowsSome neighbors_of (table_of links.old) list.old }
-    ensures covers { length links.new ≡ length links.old }
-    ensures shown { ShowsSome neighbors_of (table_of links.new) list.new }
-{
-    let mut links = LentTable::new(links);
-    W::run(list, &mut links, times)
-}
-
-// The work over a lent table.
-#[inline(never)]
-fn lent<W: Work>(list: &mut LinkedList<u64>, table: &mut LinkOps, times: u64) -> Option<Place>
-    requires { PlainShowsSome table.old list.old }
-    ensures { PlainShowsSome table.new list.new }
-{
-    over_links::<W>(list, table.lend(), times)
-}
-
-// The work over both, a row for each.
-fn over_both<W: Work>(
-    rows: &mut Rows<'_>,
-    work: (&'static str, &'static str),
+fn put_last<L: LinkedListOps>(
     list: &mut LinkedList<u64>,
-    table: &mut LinkOps,
-    times: u64,
-)
-    requires { PlainShowsSome table.old list.old }
-    ensures { PlainShowsSome table.new list.new }
+    links: &mut L,
+    object: UnsafeRef<u64>,
+) -> bool
+    requires member { HasMember (Shows L.neighbors (L.table links.old) list.old) object }
+    ensures shown { ShowsSome L.neighbors (L.table links.new) list.new }
+    ensures extent { (L.table links.new).extent ≡ (L.table links.old).extent }
+    ensures kept { OnTrue result ((q : Place) → HasMember (Shows L.neighbors (L.table links.old) list.old) q
+        → HasMember (Shows L.neighbors (L.table links.new) list.new) q) }
 {
-    let end = over_table::<W>(list, table, times);
-    rows.note(work.0, times, end, 0);
-    let end = lent::<W>(list, table, times);
-    rows.note(work.1, times, end, 0);
+    list.remove(links, &object);
+    list.push_back(links, object).is_ok()
 }
 
-// Puts the objects at the first `members` places into the list, neighbours far apart in the table.
-fn fill(list: &mut LinkedList<u64>, links: &mut LinkOps, objects: &Objects<u64>, members: usize)
-    requires covered { members ≤ (plain_table links.old).extent.places }
-    requires shown { ShowsPlaced (PlainShows links.old list.old) objects.now }
-    ensures shown { ShowsPlaced (PlainShows links.new list.new) objects.now }
+// Members at random are taken off and put at the back.
+#[inline(always)]
+fn touch<L: LinkedListOps>(
+    list: &mut LinkedList<u64>,
+    links: &mut L,
+    order: &[Place],
+    operations: u64,
+)
+    requires shown { ShowsSome L.neighbors (L.table links.old) list.old }
+    requires members { All (HasMember (Shows L.neighbors (L.table links.old) list.old)) order.now }
+    ensures shown { ShowsSome L.neighbors (L.table links.new) list.new }
+    ensures extent { (L.table links.new).extent ≡ (L.table links.old).extent }
 {
-    for count in 0..members {
-        if let Some(place) = Place::new(count.wrapping_mul(STRIDE) % members) {
-            if objects.is_placed(place) {
-                let _ = list.push_back(links, UnsafeRef::new(place));
-            }
+    let mut random = Random::new();
+    for operation in 0..operations {
+        let index = random.below(order.len() as u64) as usize;
+        if index >= order.len() || !put_last(list, links, UnsafeRef::new(order[index])) {
+            break;
         }
     }
 }
 
-// The sum of the list's objects.
+// Splits the list behind the member, and splices the rest in front.
 #[inline]
-fn sum(list: &LinkedList<u64>, links: &LinkOps, objects: &Objects<u64>) -> u64
-    requires { ShowsPlaced (PlainShows links.now list.now) objects.now }
+fn turn<L: LinkedListOps>(list: &mut LinkedList<u64>, links: &mut L, member: Place)
+    requires member { HasMember (Shows L.neighbors (L.table links.old) list.old) member }
+    ensures kept { (q : Place) → HasMember (Shows L.neighbors (L.table links.old) list.old) q
+        → HasMember (Shows L.neighbors (L.table links.new) list.new) q }
+    ensures extent { (L.table links.new).extent ≡ (L.table links.old).extent }
+{
+    let rest = list
+        .cursor_mut_from_ptr(links, UnsafeRef::new(member))
+        .split_after();
+    list.cursor_mut(links).splice_after(rest);
+}
+
+// The list is split behind members at random, and the rest spliced in front.
+#[inline(always)]
+fn splice<L: LinkedListOps>(
+    list: &mut LinkedList<u64>,
+    links: &mut L,
+    order: &[Place],
+    operations: u64,
+)
+    requires shown { ShowsSome L.neighbors (L.table links.old) list.old }
+    requires members { All (HasMember (Shows L.neighbors (L.table links.old) list.old)) order.now }
+    ensures shown { ShowsSome L.neighbors (L.table links.new) list.new }
+    ensures extent { (L.table links.new).extent ≡ (L.table links.old).extent }
+{
+    let mut random = Random::new();
+    for operation in 0..operations {
+        let index = random.below(order.len() as u64) as usize;
+        if index < order.len() {
+            turn(list, links, order[index]);
+        }
+    }
+}
+
+// A cursor moves round the list. It answers the place where it ends.
+#[inline(always)]
+fn step<L: LinkedListOps>(list: &LinkedList<u64>, links: &L, operations: u64) -> Option<Place>
+    requires shown { ShowsSome L.neighbors (L.table links.now) list.now }
+{
+    let mut cursor = list.front(links);
+    for operation in 0..operations {
+        cursor.move_next();
+    }
+    cursor.get_ptr()
+}
+
+// The sum of the list's objects, so often.
+#[inline(always)]
+fn iter<L: LinkedListOps>(
+    list: &LinkedList<u64>,
+    links: &L,
+    objects: &Objects<u64>,
+    rounds: u64,
+) -> u64
+    requires placed { ShowsPlaced (Shows L.neighbors (L.table links.now) list.now) objects.now }
 {
     let mut sum = 0_u64;
-    for value in list.iter(links, objects) {
-        sum = sum.wrapping_add(*value);
+    for _round in 0..rounds {
+        for value in list.iter(links, objects) {
+            sum = sum.wrapping_add(*value);
+        }
     }
     sum
 }
 
-// The same, in a function that callgrind counts by itself.
-#[inline(never)]
-fn add(list: &LinkedList<u64>, links: &LinkOps, objects: &Objects<u64>) -> u64
-    requires { ShowsPlaced (PlainShows links.now list.now) objects.now }
+// Puts the object at the back, and answers whether it is a member then.
+fn link<L: LinkedListOps>(
+    list: &mut LinkedList<u64>,
+    links: &mut L,
+    objects: &Objects<u64>,
+    object: Place,
+) -> bool
+    requires covered { IsCovered (L.table links.old) object }
+    requires object { is_placed objects.now object ≡ true }
+    requires placed { ShowsPlaced (Shows L.neighbors (L.table links.old) list.old) objects.now }
+    ensures placed { ShowsPlaced (Shows L.neighbors (L.table links.new) list.new) objects.now }
+    ensures member { OnTrue result (HasMember (Shows L.neighbors (L.table links.new) list.new) object) }
+    ensures kept { (q : Place) → HasMember (Shows L.neighbors (L.table links.old) list.old) q
+        → HasMember (Shows L.neighbors (L.table links.new) list.new) q }
+    ensures extent { (L.table links.new).extent ≡ (L.table links.old).extent }
 {
-    sum(list, links, objects)
+    list.push_back(links, UnsafeRef::new(object)).is_ok()
 }
 
-/// A list of so many objects: one walk, and each kind of work so many times. Without memory there are no rows.
-pub fn one_list(rows: &mut Rows<'_>, members: u64, times: u64) {
-    let objects = place_all(rows.alloc, members);
-    let mut links = LinkOps::new(rows.alloc);
-    if links.cover(members as usize).is_ok() {
-        let mut list = LinkedList::new();
-        fill(&mut list, &mut links, &objects, members as usize);
-        rows.note("list: made", members, None, members);
-        let sum = add(&list, &links, &objects);
-        rows.note("iter", members, None, sum);
-        let work = ("push_back and pop_front", "push_back and pop_front, lent");
-        over_both::<Turns>(rows, work, &mut list, &mut links, times);
-        let work = ("move_next", "move_next, lent");
-        over_both::<Steps>(rows, work, &mut list, &mut links, times);
+// Puts the objects at these places into the list, in this order, up to one that is refused. It answers whether none was.
+fn fill<L: LinkedListOps>(
+    list: &mut LinkedList<u64>,
+    links: &mut L,
+    objects: &Objects<u64>,
+    order: &[Place],
+) -> bool
+    requires covered { All (λ place. index_of place < (L.table links.old).extent.places) order.now }
+    requires objects { All (λ place. is_placed objects.now place ≡ true) order.now }
+    requires placed { ShowsPlaced (Shows L.neighbors (L.table links.old) list.old) objects.now }
+    ensures placed { ShowsPlaced (Shows L.neighbors (L.table links.new) list.new) objects.now }
+    ensures members { OnTrue result (All (HasMember (Shows L.neighbors (L.table links.new) list.new)) order.now) }
+{
+    for index in 0..order.len() {
+        if !link(list, links, objects, order[index]) {
+            return false;
+        }
     }
+    true
+}
+
+// What the members are and in which order they stand, as one number.
+fn hash<L: LinkedListOps>(
+    list: &LinkedList<u64>,
+    links: &L,
+    objects: &Objects<u64>,
+    members: u64,
+) -> u64
+    requires shown { ShowsSome L.neighbors (L.table links.now) list.now }
+{
+    let mut hash = 0_u64;
+    let mut cursor = list.front(links);
+    for _member in 0..members {
+        hash = hash
+            .wrapping_mul(31)
+            .wrapping_add(value_at(objects, cursor.get_ptr()));
+        cursor.move_next();
+    }
+    hash
+}
+
+// Does the work, and answers where it ended or what it added up.
+#[inline(always)]
+fn work<L: LinkedListOps>(
+    name: &str,
+    list: &mut LinkedList<u64>,
+    links: &mut L,
+    objects: &Objects<u64>,
+    order: &[Place],
+    size: Size,
+) -> u64
+    requires placed { ShowsPlaced (Shows L.neighbors (L.table links.old) list.old) objects.now }
+    requires members { All (HasMember (Shows L.neighbors (L.table links.old) list.old)) order.now }
+    ensures shown { ShowsSome L.neighbors (L.table links.new) list.new }
+    ensures extent { (L.table links.new).extent ≡ (L.table links.old).extent }
+{
+    match name {
+        "pair" => pair(list, links, size.operations),
+        "touch" => touch(list, links, order, size.operations),
+        "splice" => splice(list, links, order, size.operations),
+        "step" => return value_at(objects, step(&*list, &*links, size.operations)),
+        "iter" => return iter(&*list, &*links, objects, size.rounds()),
+        _ => {}
+    }
+    0
+}
+
+// The work over links that are lent.
+#[inline(never)]
+fn timed_links(
+    name: &str,
+    list: &mut LinkedList<u64>,
+    links: &mut [Link],
+    objects: &Objects<u64>,
+    order: &[Place],
+    size: Size,
+) -> u64
+    requires placed { ShowsPlaced (Shows neighbors_of (table_of links.old) list.old) objects.now }
+    requires members { All (HasMember (Shows neighbors_of (table_of links.old) list.old)) order.now }
+    ensures covers { length links.new ≡ length links.old }
+    ensures shown { ShowsSome neighbors_of (table_of links.new) list.new }
+{
+    let mut links = LentTable::new(links);
+    work(name, list, &mut links, objects, order, size)
+}
+
+// The work over a lent table.
+fn lent(
+    name: &str,
+    list: &mut LinkedList<u64>,
+    table: &mut LinkOps,
+    objects: &Objects<u64>,
+    order: &[Place],
+    size: Size,
+) -> u64
+    requires placed { ShowsPlaced (PlainShows table.old list.old) objects.now }
+    requires members { All (HasMember (PlainShows table.old list.old)) order.now }
+    ensures { PlainShowsSome table.new list.new }
+{
+    timed_links(name, list, table.lend(), objects, order, size)
+}
+
+// The work over the table that is handed in.
+#[inline(never)]
+fn timed_table(
+    name: &str,
+    list: &mut LinkedList<u64>,
+    table: &mut LinkOps,
+    objects: &Objects<u64>,
+    order: &[Place],
+    size: Size,
+) -> u64
+    requires placed { ShowsPlaced (PlainShows table.old list.old) objects.now }
+    requires members { All (HasMember (PlainShows table.old list.old)) order.now }
+    ensures { PlainShowsSome table.new list.new }
+{
+    work(name, list, table, objects, order, size)
+}
+
+// The work over the table that is handed in, or over a lent one.
+fn over_either(
+    name: &str,
+    is_lent: bool,
+    list: &mut LinkedList<u64>,
+    table: &mut LinkOps,
+    objects: &Objects<u64>,
+    order: &[Place],
+    size: Size,
+) -> u64
+    requires placed { ShowsPlaced (PlainShows table.old list.old) objects.now }
+    requires members { All (HasMember (PlainShows table.old list.old)) order.now }
+    ensures { PlainShowsSome table.new list.new }
+{
+    if is_lent {
+        lent(name, list, table, objects, order, size)
+    } else {
+        timed_table(name, list, table, objects, order, size)
+    }
+}
+
+/// A list of these objects in this order: does the work with this name on it, and answers a checksum.
+pub fn on_list(
+    name: &str,
+    is_lent: bool,
+    watch: &mut Watch<'_>,
+    links: &mut LinkOps,
+    objects: &Objects<u64>,
+    order: &[Place],
+    size: Size,
+) -> u64
+    requires covered { All (λ place. index_of place < (plain_table links.old).extent.places) order.now }
+    requires objects { All (λ place. is_placed objects.now place ≡ true) order.now }
+{
+    let mut list = LinkedList::new();
+    if !fill(&mut list, links, objects, order) {
+        return 0;
+    }
+    let start = watch.start();
+    let end = over_either(name, is_lent, &mut list, links, objects, order, size);
+    watch.stop(start);
+    hash(&list, &*links, objects, size.members).wrapping_add(end)
 }

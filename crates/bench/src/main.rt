@@ -1,66 +1,89 @@
-//! Figures for the doubly linked list, for the tree by its keys, and for a list of a world.
+//! Figures for lists and trees: one workload, which `bench/run` compares with other libraries', or each for a moment.
 //!
 //! ```text
-//! rt run                   # each kind of work 100,001 times, on 1,000, 20,000 and 1,000,000 members
-//! rt run -- 100000         # so many times
-//! rt run -- lines < input  # reads lines, writes `ok` for each, and does nothing else
-//! rt run -- print < input  # reads lines, prints each again, and does nothing else
+//! rt run                            # the checksum of each workload, on 1,000 members
+//! rt run -- find 1000 100000        # 100,000 finds in a tree of 1,000: the nanoseconds of all, and a checksum
+//! rt run -- pair-lent 1000 100000   # turns of a list over a lent table
+//! rt run -- lines < input           # reads lines, writes `ok` for each, and does nothing else
+//! rt run -- print < input           # reads lines, prints each again, and does nothing else
 //! ```
 //!
-//! Where each kind of work ended, or what it added up, goes to standard output, and the nanoseconds of one operation to
-//! standard error; those of `made` are with what was let go before. The instructions of one are what callgrind counts in these
-//! functions, over how often it was done:
-//!
-//! ```text
-//! valgrind --tool=callgrind --dump-before='bench::keyed::insert_all*' out/bench 100000
-//! over_table, lent       a pop_front and push_back (Turns), a cursor's step (Steps)
-//! add                    a step of iter
-//! find, insert, remove   by keys: a search; an insert, as insert_all or turn_all calls it; a removal
-//! turn_world             a pop_front and push_back by a world
-//! ```
+//! `bench/README.md` says what each workload does. The functions `timed_*` are what is timed, and what callgrind counts.
 #![tactic(auto)]
 
 mod by_world;
 mod keyed;
 mod lines;
 mod lists;
-mod rows;
+mod random;
+mod room;
+mod singly;
+mod workloads;
+mod xor;
 
-use by_world::one_world;
-use keyed::one_tree;
 use lines::copy_lines;
-use lists::one_list;
-use rows::Rows;
-use std::time::Instant;
+use room::{Size, Watch};
 use std::{env, io};
+use workloads::checksum;
 
-// A list and a tree of each of these numbers of members, and a list of a world.
-fn measure(rt: &HostRuntime, sizes: &[u64], times: u64) -> io::Result<()> {
-    let mut rows = Rows {
-        rt,
-        alloc: rt.alloc(),
-        start: Instant::now(rt)?,
-        rows: Vec::new(rt.alloc()),
+const WORKLOADS: [&str; 19] = [
+    "pair",
+    "pair-lent",
+    "touch",
+    "touch-lent",
+    "splice",
+    "splice-lent",
+    "step",
+    "step-lent",
+    "iter",
+    "iter-lent",
+    "singly",
+    "xor",
+    "find",
+    "lower_bound",
+    "insert",
+    "turn",
+    "tree_step",
+    "tree_iter",
+    "world",
+];
+
+// Each workload for a moment: prints its checksum.
+fn each(rt: &HostRuntime) -> io::Result<()> {
+    let size = Size {
+        members: 1_000,
+        operations: 10_000,
     };
-    for members in sizes {
-        one_list(&mut rows, *members, times);
-        one_tree(&mut rows, *members, times);
+    for name in &WORKLOADS {
+        let mut watch = Watch { rt, nanos: 0 };
+        if let Some(checksum) = checksum(name, &mut watch, size) {
+            println!(rt; "{name}: {checksum}")?;
+        }
     }
-    one_world(&mut rows, 1_000, times);
-    rows.print()
+    Ok(())
+}
+
+// One workload: prints the nanoseconds that it took, and its checksum.
+fn one(rt: &HostRuntime, name: &str, size: Size) -> io::Result<()> {
+    let mut watch = Watch { rt, nanos: 0 };
+    match checksum(name, &mut watch, size) {
+        Some(checksum) => println!(rt; "{} {checksum}", watch.nanos),
+        None => eprintln!(rt; "no memory"),
+    }
 }
 
 fn main(rt: HostRuntime) -> io::Result<()> {
-    let Some(word) = env::args(&rt)?.last() else {
-        return Ok(());
-    };
-    match word.as_str() {
-        "lines" => copy_lines(&rt, false),
-        "print" => copy_lines(&rt, true),
-        word => measure(
-            &rt,
-            &[1_000, 20_000, 1_000_000],
-            word.parse().unwrap_or(100_001),
-        ),
+    let words: Vec<String> = env::args(&rt)?.skip(1).collect(rt.alloc())?;
+    match &words[..] {
+        [word] if word.as_str() == "lines" => copy_lines(&rt, false),
+        [word] if word.as_str() == "print" => copy_lines(&rt, true),
+        [name, members, operations] => {
+            let size = Size {
+                members: members.parse().unwrap_or(1_000),
+                operations: operations.parse().unwrap_or(100_000),
+            };
+            one(&rt, name.as_str(), size)
+        }
+        _ => each(&rt),
     }
 }

@@ -1,10 +1,13 @@
-use Rattle.std.proofs.Common.{◌≤◌}
-use Rattle.ic_link_ops.specs.DoublyEntries.{plain_table, PlainShows}
+use Rattle.std.proofs.Common.{◌≡◌}
+use Rattle.std.specs.List.{AllWithin}
+use Rattle.ic_link_ops.specs.LinkedList.{Shows}
 use Rattle.ic_link_ops.specs.PlacedObjects.{ShowsPlaced}
+use Rattle.ic_link_ops.specs.Positions.{HasMember}
 use Rattle.bench.proofs.lists.fill.Given as goal
 
-abbrev pub invariant-loop-count : goal.invariant-loop-count
-invariant-loop-count l = record {
-  covered : l.members ≤ (plain_table l.links).extent.places;
-  shown : ShowsPlaced (PlainShows l.links l.list) l.objects;
+abbrev pub invariant-loop-index : goal.invariant-loop-index
+invariant-loop-index g l = record {
+  extent : (g.L.LinkOps.table l.links).extent ≡ (g.L.LinkOps.table l.fn.links).extent;
+  placed : ShowsPlaced (Shows g.L.LinkedListOps.neighbors (g.L.LinkOps.table l.links) l.list) l.objects;
+  members : AllWithin (HasMember (Shows g.L.LinkedListOps.neighbors (g.L.LinkOps.table l.links) l.list)) l.order 0 l.index;
 }

@@ -1,9 +1,0 @@
-use Rattle.std.proofs.Common.{◌≡◌}
-use Rattle.ic_link_ops.specs.LinkedList.{ShowsSome}
-use Rattle.bench.proofs.lists.TurnsWork.run.Given as goal
-
-abbrev pub invariant-loop-time : goal.invariant-loop-time
-invariant-loop-time g l = record {
-  shown : ShowsSome g.L.LinkedListOps.neighbors (g.L.LinkOps.table l.links) l.list;
-  extent : (g.L.LinkOps.table l.links).extent ≡ (g.L.LinkOps.table l.fn.links).extent;
-}

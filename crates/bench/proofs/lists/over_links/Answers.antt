@@ -1,8 +1,0 @@
-use Rattle.std.proofs.Common.{rules}
-use Rattle.bench.proofs.lists.over_links.Goals as goal
-
-pub returns-clause-shown : goal.returns-clause-shown
-returns-clause-shown g c =
-    let s = c.run.ensures.shown in
-    let shown = s.1 in
-    (s.0, search rules)

@@ -1,0 +1,96 @@
+//! What a workload works on, and how long it takes.
+//!
+//! ```text
+//! let room = Room::new(alloc, 1000)?;
+//! let start = watch.start();
+//! ```
+
+ghost use Rattle.std.specs.Prelude.{◌≡◌, ◌<◌, true, All, IfOk};
+ghost use Rattle.ic_unsafe_ref.specs.Places.{index_of};
+ghost use Rattle.ic_unsafe_ref.specs.Objects.{is_placed};
+
+use crate::random::Random;
+use ic_unsafe_ref::{Objects, Place, UnsafeRef};
+use std::alloc::{AllocError, Global};
+use std::time::Instant;
+
+/// How much a workload does.
+#[derive(Clone, Copy)]
+pub struct Size {
+    pub members: u64,
+    pub operations: u64,
+}
+
+impl Size {
+    /// How often the operations go over all members.
+    pub fn rounds(&self) -> u64 {
+        self.operations / self.members.max(1)
+    }
+}
+
+/// Adds up the nanoseconds that a workload takes.
+#[derive(Drop)]
+pub struct Watch<'r> {
+    pub rt: &'r HostRuntime,
+    pub nanos: u128,
+}
+
+impl Watch<'_> {
+    /// Now, if the clock answers.
+    pub fn start(&self) -> Option<Instant> {
+        Instant::now(self.rt).ok()
+    }
+
+    /// Adds the time since then.
+    pub fn stop(&mut self, start: Option<Instant>) {
+        if let Some(start) = start {
+            if let Ok(now) = Instant::now(self.rt) {
+                let spent = now.duration_since(start).as_nanos();
+                self.nanos = self.nanos.wrapping_add(spent);
+            }
+        }
+    }
+}
+
+/// Objects with the even numbers as values, in a random order.
+pub fn place_all(alloc: Global, values: &[u64]) -> Objects<u64> {
+    let mut objects = Objects::new(alloc);
+    for value in values {
+        if objects.next_place().is_some() {
+            let _ = UnsafeRef::from_box(&mut objects, value.wrapping_mul(2));
+        }
+    }
+    objects
+}
+
+/// The places of objects that are covered, in this order.
+pub fn places_of(
+    alloc: Global,
+    objects: &Objects<u64>,
+    order: &[u64],
+    covered: usize,
+) -> Result<Vec<Place>, AllocError>
+    ensures covered { IfOk result (λ places. All (λ place. index_of place < covered) places.items) }
+    ensures placed { IfOk result (λ places. All (λ place. is_placed objects.now place ≡ true) places.items) }
+{
+    let mut places = Vec::new(alloc);
+    for index in order {
+        if let Some(place) = Place::new(*index as usize) {
+            if place.index() < covered && objects.is_placed(place) {
+                places.push(place)?;
+            }
+        }
+    }
+    Ok(places)
+}
+
+/// The value of the object at the place, 0 of none.
+#[inline]
+pub fn value_at(objects: &Objects<u64>, place: Option<Place>) -> u64 {
+    if let Some(place) = place {
+        if let Some(value) = objects.get(place) {
+            return *value;
+        }
+    }
+    0
+}

@@ -1,0 +1,117 @@
+//! Work on a singly linked list, over any table.
+//!
+//! ```text
+//! let checksum = on_singly(&mut watch, &mut links, &objects, &order, size);
+//! ```
+
+ghost use Rattle.std.specs.Prelude.{◌≡◌, ◌<◌, All};
+ghost use Rattle.ic_unsafe_ref.specs.Places.{index_of};
+ghost use Rattle.ic_link_ops.specs.SinglyLinkedList.{ShowsSome};
+ghost use Rattle.ic_link_ops.specs.Tables.{IsCovered};
+
+use crate::room::{Size, Watch, value_at};
+use ic_link_ops::singly_linked_list::SinglyLinkedListOps;
+use ic_singly_linked_list::SinglyLinkedList;
+use ic_unsafe_ref::{Objects, Place, UnsafeRef};
+
+// Puts the object at the front of the list, unless its link is refused.
+#[inline]
+fn put<L: SinglyLinkedListOps>(
+    list: &mut SinglyLinkedList<u64>,
+    links: &mut L,
+    object: UnsafeRef<u64>,
+)
+    requires covered { IsCovered (L.table links.old) object }
+    requires shown { ShowsSome L.successor (L.table links.old) list.old }
+    ensures shown { ShowsSome L.successor (L.table links.new) list.new }
+    ensures extent { (L.table links.new).extent ≡ (L.table links.old).extent }
+{
+    let _ = list.push_front(links, object);
+}
+
+// Takes all members off.
+#[inline]
+fn pop_all<L: SinglyLinkedListOps>(list: &mut SinglyLinkedList<u64>, links: &mut L, members: usize)
+    requires shown { ShowsSome L.successor (L.table links.old) list.old }
+    ensures shown { ShowsSome L.successor (L.table links.new) list.new }
+    ensures extent { (L.table links.new).extent ≡ (L.table links.old).extent }
+{
+    for member in 0..members {
+        if list.pop_front(links).is_none() {
+            break;
+        }
+    }
+}
+
+// Puts the objects at these places to the front, one after the other.
+#[inline]
+fn push_all<L: SinglyLinkedListOps>(
+    list: &mut SinglyLinkedList<u64>,
+    links: &mut L,
+    order: &[Place],
+)
+    requires covered { All (λ place. index_of place < (L.table links.old).extent.places) order.now }
+    requires shown { ShowsSome L.successor (L.table links.old) list.old }
+    ensures shown { ShowsSome L.successor (L.table links.new) list.new }
+    ensures extent { (L.table links.new).extent ≡ (L.table links.old).extent }
+{
+    for place in order {
+        put(list, links, UnsafeRef::new(*place));
+    }
+}
+
+// All members are taken off and put back, so often.
+#[inline(never)]
+fn timed_singly<L: SinglyLinkedListOps>(
+    list: &mut SinglyLinkedList<u64>,
+    links: &mut L,
+    order: &[Place],
+    rounds: u64,
+)
+    requires covered { All (λ place. index_of place < (L.table links.old).extent.places) order.now }
+    requires shown { ShowsSome L.successor (L.table links.old) list.old }
+    ensures shown { ShowsSome L.successor (L.table links.new) list.new }
+{
+    for round in 0..rounds {
+        pop_all(list, links, order.len());
+        push_all(list, links, order);
+    }
+}
+
+// What the members are and in which order they stand, as one number.
+fn hash<L: SinglyLinkedListOps>(
+    list: &SinglyLinkedList<u64>,
+    links: &L,
+    objects: &Objects<u64>,
+    members: u64,
+) -> u64
+    requires shown { ShowsSome L.successor (L.table links.now) list.now }
+{
+    let mut hash = 0_u64;
+    let mut cursor = list.front(links);
+    for member in 0..members {
+        hash = hash
+            .wrapping_mul(31)
+            .wrapping_add(value_at(objects, cursor.get_ptr()));
+        cursor.move_next();
+    }
+    hash
+}
+
+/// A list of these objects in this order: does the work on it, and answers a checksum.
+pub fn on_singly<L: SinglyLinkedListOps>(
+    watch: &mut Watch<'_>,
+    links: &mut L,
+    objects: &Objects<u64>,
+    order: &[Place],
+    size: Size,
+) -> u64
+    requires covered { All (λ place. index_of place < (L.table links.old).extent.places) order.now }
+{
+    let mut list = SinglyLinkedList::new();
+    push_all(&mut list, links, order);
+    let start = watch.start();
+    timed_singly(&mut list, links, order, size.rounds());
+    watch.stop(start);
+    hash(&list, &*links, objects, size.members)
+}

@@ -1,0 +1,101 @@
+//! The workloads by their names.
+//!
+//! ```text
+//! let checksum = checksum("find", &mut watch, size);
+//! ```
+
+use crate::by_world::on_world;
+use crate::keyed::on_tree;
+use crate::lists::on_list;
+use crate::random::Random;
+use crate::room::{Size, Watch, place_all, places_of};
+use crate::singly::on_singly;
+use crate::xor::on_xor;
+use ic_link_ops::{linked_list, rbtree, singly_linked_list, xor_linked_list};
+use ic_unsafe_ref::Objects;
+use std::alloc::Global;
+
+/// The objects of a workload, and numbers below theirs in a random order.
+#[derive(Drop)]
+pub struct Room {
+    pub objects: Objects<u64>,
+    pub order: Vec<u64>,
+}
+
+// So many objects. Without memory there is none.
+fn make_room(alloc: Global, members: u64) -> Option<Room> {
+    let mut random = Random::new();
+    let values = random.shuffled(alloc, members).ok()?;
+    let order = random.shuffled(alloc, members).ok()?;
+    let objects = place_all(alloc, &values);
+    Some(Room { objects, order })
+}
+
+// A doubly linked list of them, over the table that is handed in or over a lent one.
+fn doubly(
+    name: &str,
+    is_lent: bool,
+    watch: &mut Watch<'_>,
+    room: &Room,
+    size: Size,
+) -> Option<u64> {
+    let alloc = watch.rt.alloc();
+    let mut links = linked_list::LinkOps::new(alloc);
+    links.cover(size.members as usize).ok()?;
+    let order = places_of(alloc, &room.objects, &room.order, links.covers()).ok()?;
+    let checksum = on_list(
+        name,
+        is_lent,
+        watch,
+        &mut links,
+        &room.objects,
+        &order,
+        size,
+    );
+    Some(checksum)
+}
+
+// A singly linked list of them.
+fn singly(watch: &mut Watch<'_>, room: &Room, size: Size) -> Option<u64> {
+    let alloc = watch.rt.alloc();
+    let mut links = singly_linked_list::LinkOps::new(alloc);
+    links.cover(size.members as usize).ok()?;
+    let order = places_of(alloc, &room.objects, &room.order, links.covers()).ok()?;
+    Some(on_singly(watch, &mut links, &room.objects, &order, size))
+}
+
+// An XOR list of them.
+fn xor(watch: &mut Watch<'_>, room: &Room, size: Size) -> Option<u64> {
+    let alloc = watch.rt.alloc();
+    let mut links = xor_linked_list::LinkOps::new(alloc);
+    links.cover(size.members as usize).ok()?;
+    let order = places_of(alloc, &room.objects, &room.order, links.covers()).ok()?;
+    Some(on_xor(watch, &mut links, &room.objects, &order, size))
+}
+
+// A tree of them.
+fn tree(name: &str, watch: &mut Watch<'_>, room: &Room, size: Size) -> Option<u64> {
+    let alloc = watch.rt.alloc();
+    let mut links = rbtree::LinkOps::new(alloc);
+    links.cover(size.members as usize).ok()?;
+    let order = places_of(alloc, &room.objects, &room.order, links.covers()).ok()?;
+    let checksum = on_tree(name, watch, &mut links, &room.objects, &order, size);
+    Some(checksum)
+}
+
+/// Does the workload, and answers its checksum. Behind a doubly linked list's workload `-lent` stands for a lent table. Without
+/// memory there is no checksum.
+pub fn checksum(name: &str, watch: &mut Watch<'_>, size: Size) -> Option<u64> {
+    let room = make_room(watch.rt.alloc(), size.members)?;
+    let (work, is_lent) = match name.split_once('-') {
+        Some((work, _)) => (work, true),
+        None => (name, false),
+    };
+    match work {
+        "pair" | "touch" | "splice" | "step" | "iter" => doubly(work, is_lent, watch, &room, size),
+        "singly" => singly(watch, &room, size),
+        "xor" => xor(watch, &room, size),
+        "world" => Some(on_world(watch, &room.objects, &room.order, size)),
+        _ => tree(work, watch, &room, size),
+    }
+}
