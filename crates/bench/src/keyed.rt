@@ -4,19 +4,21 @@
 //! let checksum = on_tree("find", &mut watch, &mut links, &objects, &order, size);
 //! ```
 
-ghost use Rattle.std.specs.Prelude.{◌≡◌, ◌<◌, true, All, IfSome};
+ghost use Rattle.std.specs.Prelude.{◌≡◌, ◌≢◌, ◌<◌, true, All, AllPairs, IfSome};
+ghost use Rattle.std.specs.Bool.{OnTrue};
 ghost use Rattle.ic_unsafe_ref.specs.Places.{index_of};
 ghost use Rattle.ic_unsafe_ref.specs.Objects.{is_placed};
 ghost use Rattle.ic_link_ops.specs.Positions.{HasMember};
 ghost use Rattle.ic_link_ops.specs.PlacedObjects.{ShowsPlaced};
 ghost use Rattle.ic_link_ops.specs.RedBlackTree.{Shows, ShowsSome};
 ghost use Rattle.ic_link_ops.specs.Tables.{IsCovered};
+ghost use Rattle.ic_rbtree.specs.PlainTrees.{plain_table, PlainShows, PlainShowsSome};
 ghost use Rattle.ic_rbtree.specs.Tree.{root_of};
 ghost use Rattle.ic_rbtree.specs.SortedObjects.{ShowsSorted, StaysSorted};
 
 use crate::random::Random;
 use crate::room::{Size, Watch, value_at};
-use ic_link_ops::rbtree::RBTreeOps;
+use ic_link_ops::rbtree::{LinkOps, RBTreeOps};
 use ic_rbtree::{Bound, KeyAdapter, RBTree};
 use ic_unsafe_ref::{Objects, Place, UnsafeRef};
 
@@ -75,6 +77,9 @@ fn remove<L: RBTreeOps>(tree: &mut RBTree<ByValue>, links: &mut L, object: Unsaf
     ensures sorted { StaysSorted (λ v. v) (Shows L.node (L.table links.old) (root_of tree.old))
         (Shows L.node (L.table links.new) (root_of tree.new)) }
     ensures covered { IsCovered (L.table links.new) object }
+    ensures kept { (q : Place) → q ≢ object → HasMember (Shows L.node (L.table links.old) (root_of tree.old)) q
+        → HasMember (Shows L.node (L.table links.new) (root_of tree.new)) q }
+    ensures extent { (L.table links.new).extent ≡ (L.table links.old).extent }
 {
     let _ = tree.cursor_mut_from_ptr(links, object).remove();
 }
@@ -98,6 +103,17 @@ fn timed_insert<L: RBTreeOps>(
     }
 }
 
+// Empties the tree, of which these are the objects.
+#[inline]
+fn empty<L: RBTreeOps>(tree: &mut RBTree<ByValue>, links: &mut L, objects: &Objects<u64>)
+    requires sorted { ShowsSorted (λ v. v) (Shows L.node (L.table links.old) (root_of tree.old)) objects.now }
+    ensures sorted { ShowsSorted (λ v. v) (Shows L.node (L.table links.new) (root_of tree.new)) objects.now }
+    ensures extent { (L.table links.new).extent ≡ (L.table links.old).extent }
+{
+    let _objects = objects;
+    tree.clear(links);
+}
+
 // Empties the tree and inserts the objects again, so often.
 fn insert_again<L: RBTreeOps>(
     watch: &mut Watch<'_>,
@@ -113,9 +129,80 @@ fn insert_again<L: RBTreeOps>(
     ensures sorted { ShowsSorted (λ v. v) (Shows L.node (L.table links.new) (root_of tree.new)) objects.now }
 {
     for round in 0..rounds {
-        tree.clear(links);
+        empty(tree, links, objects);
         let start = watch.start();
         timed_insert(tree, links, objects, order);
+        watch.stop(start);
+    }
+}
+
+// Whether the place is that of a member.
+fn is_member(tree: &RBTree<ByValue>, links: &LinkOps, place: Place) -> bool
+    requires covered { IsCovered (plain_table links.now) place }
+    requires shown { PlainShowsSome links.now (root_of tree.now) }
+    ensures { OnTrue result (HasMember (PlainShows links.now (root_of tree.now)) place) }
+{
+    tree.contains(links, place)
+}
+
+// Whether all of these places are members.
+fn are_members(tree: &RBTree<ByValue>, links: &LinkOps, places: &[Place]) -> bool
+    requires covered { All (λ place. index_of place < (plain_table links.now).extent.places) places.now }
+    requires shown { PlainShowsSome links.now (root_of tree.now) }
+    ensures { OnTrue result (All (HasMember (PlainShows links.now (root_of tree.now))) places.now) }
+{
+    for index in 0..places.len() {
+        if !is_member(tree, links, places[index]) {
+            return false;
+        }
+    }
+    true
+}
+
+// Takes these members off, in this order.
+#[inline(never)]
+fn timed_remove<L: RBTreeOps>(
+    tree: &mut RBTree<ByValue>,
+    links: &mut L,
+    objects: &Objects<u64>,
+    places: &[Place],
+)
+    requires sorted { ShowsSorted (λ v. v) (Shows L.node (L.table links.old) (root_of tree.old)) objects.now }
+    requires members { All (HasMember (Shows L.node (L.table links.old) (root_of tree.old))) places.now }
+    requires distinct { AllPairs (λ a b. a ≢ b) places.now }
+    ensures sorted { ShowsSorted (λ v. v) (Shows L.node (L.table links.new) (root_of tree.new)) objects.now }
+    ensures extent { (L.table links.new).extent ≡ (L.table links.old).extent }
+{
+    for index in 0..places.len() {
+        remove(tree, links, UnsafeRef::new(places[index]));
+    }
+}
+
+// Fills the tree and takes these members off, so often.
+fn remove_again(
+    watch: &mut Watch<'_>,
+    tree: &mut RBTree<ByValue>,
+    links: &mut LinkOps,
+    objects: &Objects<u64>,
+    order: &[Place],
+    places: &[Place],
+    rounds: u64,
+)
+    requires covered { All (λ place. index_of place < (plain_table links.old).extent.places) order.now }
+    requires objects { All (λ place. is_placed objects.now place ≡ true) order.now }
+    requires places { All (λ place. index_of place < (plain_table links.old).extent.places) places.now }
+    requires distinct { AllPairs (λ a b. a ≢ b) places.now }
+    requires sorted { ShowsSorted (λ v. v) (PlainShows links.old (root_of tree.old)) objects.now }
+    ensures sorted { ShowsSorted (λ v. v) (PlainShows links.new (root_of tree.new)) objects.now }
+{
+    for round in 0..rounds {
+        empty(tree, links, objects);
+        timed_insert(tree, links, objects, order);
+        if !are_members(&*tree, &*links, places) {
+            break;
+        }
+        let start = watch.start();
+        timed_remove(tree, links, objects, places);
         watch.stop(start);
     }
 }
@@ -252,21 +339,30 @@ fn work<L: RBTreeOps>(
     0
 }
 
-/// A tree of these objects by their keys, inserted in this order: does the work with this name on it, and answers a checksum.
-pub fn on_tree<L: RBTreeOps>(
+/// A tree of these objects by their keys, inserted in this order: does the work with this name on it, and answers a checksum. Removals
+/// are of these places.
+pub fn on_tree(
     name: &str,
     watch: &mut Watch<'_>,
-    links: &mut L,
+    links: &mut LinkOps,
     objects: &Objects<u64>,
     order: &[Place],
+    places: &[Place],
     size: Size,
 ) -> u64
-    requires covered { All (λ place. index_of place < (L.table links.old).extent.places) order.now }
+    requires covered { All (λ place. index_of place < (plain_table links.old).extent.places) order.now }
     requires objects { All (λ place. is_placed objects.now place ≡ true) order.now }
+    requires places { All (λ place. index_of place < (plain_table links.old).extent.places) places.now }
+    requires distinct { AllPairs (λ a b. a ≢ b) places.now }
 {
     let mut tree = RBTree::new(ByValue);
     if name == "insert" {
         insert_again(watch, &mut tree, links, objects, order, size.rounds());
+        return hash(&tree, &*links, objects);
+    }
+    if name == "remove" {
+        let rounds = size.operations / (places.len() as u64).max(1);
+        remove_again(watch, &mut tree, links, objects, order, places, rounds);
         return hash(&tree, &*links, objects);
     }
     timed_insert(&mut tree, links, objects, order);

@@ -26,7 +26,7 @@ use room::{Size, Watch};
 use std::{env, io};
 use workloads::checksum;
 
-const WORKLOADS: [&str; 19] = [
+const WORKLOADS: [&str; 20] = [
     "pair",
     "pair-lent",
     "touch",
@@ -42,6 +42,7 @@ const WORKLOADS: [&str; 19] = [
     "find",
     "lower_bound",
     "insert",
+    "remove",
     "turn",
     "tree_step",
     "tree_iter",

@@ -5,7 +5,8 @@
 //! let start = watch.start();
 //! ```
 
-ghost use Rattle.std.specs.Prelude.{◌≡◌, ◌<◌, true, All, IfOk};
+ghost use Rattle.std.specs.Prelude.{◌≡◌, ◌≢◌, ◌<◌, true, All, AllPairs, IfOk};
+ghost use Rattle.std.specs.Bool.{OnTrue};
 ghost use Rattle.ic_unsafe_ref.specs.Places.{index_of};
 ghost use Rattle.ic_unsafe_ref.specs.Objects.{is_placed};
 
@@ -82,6 +83,31 @@ pub fn places_of(
         }
     }
     Ok(places)
+}
+
+/// Where each of the numbers stands in their order: 0 of one that is none of them.
+pub fn inverse(alloc: Global, order: &[u64]) -> Result<Vec<usize>, AllocError> {
+    let mut inverse = vec![in alloc; 0_usize; order.len()]?;
+    for index in 0..order.len() {
+        let number = order[index] as usize;
+        if number < inverse.len() {
+            inverse[number] = index;
+        }
+    }
+    Ok(inverse)
+}
+
+/// Whether each place stands in the order where `inverse` says, so that none does twice.
+pub fn are_distinct(places: &[Place], inverse: &[usize]) -> bool
+    ensures { OnTrue result (AllPairs (λ a b. a ≢ b) places.now) }
+{
+    for index in 0..places.len() {
+        let place = places[index].index();
+        if place >= inverse.len() || inverse[place] != index {
+            return false;
+        }
+    }
+    true
 }
 
 /// The value of the object at the place, 0 of none.

@@ -8,18 +8,19 @@ use crate::by_world::on_world;
 use crate::keyed::on_tree;
 use crate::lists::on_list;
 use crate::random::Random;
-use crate::room::{Size, Watch, place_all, places_of};
+use crate::room::{Size, Watch, are_distinct, inverse, place_all, places_of};
 use crate::singly::on_singly;
 use crate::xor::on_xor;
 use ic_link_ops::{linked_list, rbtree, singly_linked_list, xor_linked_list};
 use ic_unsafe_ref::Objects;
 use std::alloc::Global;
 
-/// The objects of a workload, and numbers below theirs in a random order.
+/// The objects of a workload, and the numbers below theirs in two random orders.
 #[derive(Drop)]
 pub struct Room {
     pub objects: Objects<u64>,
     pub order: Vec<u64>,
+    pub other: Vec<u64>,
 }
 
 // So many objects. Without memory there is none.
@@ -27,8 +28,13 @@ fn make_room(alloc: Global, members: u64) -> Option<Room> {
     let mut random = Random::new();
     let values = random.shuffled(alloc, members).ok()?;
     let order = random.shuffled(alloc, members).ok()?;
+    let other = random.shuffled(alloc, members).ok()?;
     let objects = place_all(alloc, &values);
-    Some(Room { objects, order })
+    Some(Room {
+        objects,
+        order,
+        other,
+    })
 }
 
 // A doubly linked list of them, over the table that is handed in or over a lent one.
@@ -73,13 +79,27 @@ fn xor(watch: &mut Watch<'_>, room: &Room, size: Size) -> Option<u64> {
     Some(on_xor(watch, &mut links, &room.objects, &order, size))
 }
 
-// A tree of them.
+// A tree of them, and removals of the first half in the other order.
 fn tree(name: &str, watch: &mut Watch<'_>, room: &Room, size: Size) -> Option<u64> {
     let alloc = watch.rt.alloc();
     let mut links = rbtree::LinkOps::new(alloc);
     links.cover(size.members as usize).ok()?;
     let order = places_of(alloc, &room.objects, &room.order, links.covers()).ok()?;
-    let checksum = on_tree(name, watch, &mut links, &room.objects, &order, size);
+    let half = &room.other[..room.other.len() / 2];
+    let places = places_of(alloc, &room.objects, half, links.covers()).ok()?;
+    let inverse = inverse(alloc, &room.other).ok()?;
+    if !are_distinct(&places, &inverse) {
+        return None;
+    }
+    let checksum = on_tree(
+        name,
+        watch,
+        &mut links,
+        &room.objects,
+        &order,
+        &places,
+        size,
+    );
     Some(checksum)
 }
 
