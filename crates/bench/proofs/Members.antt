@@ -4,12 +4,12 @@ use Rattle.ic_unsafe_ref.specs.declared.place.Place.{Place}
 use Rattle.ic_link_ops.specs.EditsAt.{RemovesThere}
 use Rattle.ic_link_ops.specs.LinkSteps.{LinkStep}
 use Rattle.ic_link_ops.specs.Positions.{Site, ShowsAt, Stands, HasMember}
-use Rattle.ic_link_ops.specs.Sequences.{IsAbsent, join, remove}
+use Rattle.ic_link_ops.specs.Sequences.{IsAbsent, IsDistinct, join, remove}
 use Rattle.ic_link_ops.specs.Tables.{Table}
 use Rattle.ic_link_ops.proofs.Calling.{has_member}
 use Rattle.ic_link_ops.proofs.CollectionLaws.{IsKind}
 use Rattle.ic_link_ops.proofs.Positions.{gap_there}
-use Rattle.ic_link_ops.proofs.SequenceLemmas.{absent_with, first_is, some_same, split_member}
+use Rattle.ic_link_ops.proofs.SequenceLemmas.{absent_with, distinct_middle, first_is, some_same, split_member}
 
 module _ {E H : Type 0} {Shows : Table E → H → List Place → Type 0} {linked : E → Bool} {empty : H} (kind : IsKind Shows linked empty) where
   -- what is absent from the new sequence was absent from the old one
@@ -33,3 +33,13 @@ module _ {E H : Type 0} {Shows : Table E → H → List Place → Type 0} {linke
     pub removed_extent : (r : Option Place) → Stands Shows table old → RemovesThere Shows table Does old r new → r ≡ Some p → (table new.links).extent ≡ (table old.links).extent
     removed_extent (Some x) stands h e = let k = gap_there stands in (h.removed k.0 k.1 k.2).frame.extent
     removed_extent None stands h e = absurd (cc)
+
+    -- which is gone then
+    pub gone : (r : Option Place) → Stands Shows table old → RemovesThere Shows table Does old r new → r ≡ Some p → (s : List Place) → ShowsAt Shows table new s → IsAbsent p s
+    gone (Some x) stands h e s shown =
+        let k = gap_there stands in
+        let whole = kind.distinct (table old.links) old.head (join k.0) k.1 in
+        let cut : IsDistinct (k.0.front ++ x ∷ drop 1 k.0.back) = subst (λ (b : List Place). IsDistinct (k.0.front ++ b)) (first_is k.0.back (h.answer ∙ k.2)) whole in
+        subst (λ (a : Place). IsAbsent a s) (some_same e)
+        (subst (IsAbsent x) (kind.one (table new.links) new.head (remove k.0) s (h.removed k.0 k.1 k.2).shows shown) (distinct_middle k.0.front (drop 1 k.0.back) x cut))
+    gone None stands h e s shown = absurd (cc)

@@ -4,10 +4,11 @@
 //! let checksum = on_tree("find", &mut watch, &mut links, &objects, &order, size);
 //! ```
 
-ghost use Rattle.std.specs.Prelude.{◌≡◌, ◌≢◌, ◌<◌, true, All, AllPairs, IfSome};
+ghost use Rattle.std.specs.Prelude.{◌≡◌, ◌≢◌, ◌<◌, ◌+◌, ◌%◌, ◌^◌, true, All, AllPairs, IfSome, MatchOption, List};
 ghost use Rattle.std.specs.Bool.{OnTrue};
 ghost use Rattle.ic_unsafe_ref.specs.Places.{index_of};
-ghost use Rattle.ic_unsafe_ref.specs.Objects.{is_placed};
+ghost use Rattle.ic_unsafe_ref.specs.Objects.{is_placed, object_at, with_object};
+ghost use Rattle.ic_link_ops.specs.Sequences.{IsAbsent};
 ghost use Rattle.ic_link_ops.specs.Positions.{HasMember};
 ghost use Rattle.ic_link_ops.specs.PlacedObjects.{ShowsPlaced};
 ghost use Rattle.ic_link_ops.specs.RedBlackTree.{Shows, ShowsSome};
@@ -53,6 +54,28 @@ fn find<L: RBTreeOps>(
     tree.find(links, objects, &key).get_ptr()
 }
 
+// Where the object with the least key stands, if there is a member.
+#[inline]
+fn least<L: RBTreeOps>(tree: &RBTree<ByValue>, links: &L, objects: &Objects<u64>) -> Option<Place>
+    requires sorted { ShowsSorted (λ v. v) (Shows L.node (L.table links.now) (root_of tree.now)) objects.now }
+    ensures member { IfSome result (HasMember (Shows L.node (L.table links.now) (root_of tree.now))) }
+    ensures placed { IfSome result (λ place. is_placed objects.now place ≡ true) }
+{
+    let _objects = objects;
+    tree.front(links).get_ptr()
+}
+
+// Adds to the value of an object, which is its key.
+#[inline]
+fn raise(objects: &mut Objects<u64>, object: Place, by: u64)
+    ensures { MatchOption (object_at objects.old object) (objects.new ≡ objects.old)
+        (λ was. objects.new ≡ with_object objects.old object ((was + by) % 2 ^ 64)) }
+{
+    if let Some(value) = objects.get_mut(object) {
+        *value = value.wrapping_add(by);
+    }
+}
+
 // Inserts the object where its key belongs, unless its link is refused.
 #[inline]
 fn insert<L: RBTreeOps>(
@@ -79,6 +102,7 @@ fn remove<L: RBTreeOps>(tree: &mut RBTree<ByValue>, links: &mut L, object: Unsaf
     ensures covered { IsCovered (L.table links.new) object }
     ensures kept { (q : Place) → q ≢ object → HasMember (Shows L.node (L.table links.old) (root_of tree.old)) q
         → HasMember (Shows L.node (L.table links.new) (root_of tree.new)) q }
+    ensures gone { (s : List Place) → Shows L.node (L.table links.new) (root_of tree.new) s → IsAbsent object s }
     ensures extent { (L.table links.new).extent ≡ (L.table links.old).extent }
 {
     let _ = tree.cursor_mut_from_ptr(links, object).remove();
@@ -271,6 +295,27 @@ fn timed_turn<L: RBTreeOps>(
     }
 }
 
+// Takes the object with the least key off, and inserts it behind all others with a greater one.
+#[inline(never)]
+fn timed_queue<L: RBTreeOps>(
+    tree: &mut RBTree<ByValue>,
+    links: &mut L,
+    objects: &mut Objects<u64>,
+    size: Size,
+)
+    requires sorted { ShowsSorted (λ v. v) (Shows L.node (L.table links.old) (root_of tree.old)) objects.old }
+    ensures sorted { ShowsSorted (λ v. v) (Shows L.node (L.table links.new) (root_of tree.new)) objects.new }
+{
+    let by = size.members.wrapping_mul(2);
+    for operation in 0..size.operations {
+        if let Some(place) = least(&*tree, &*links, &*objects) {
+            remove(tree, links, UnsafeRef::new(place));
+            raise(objects, place, by);
+            insert(tree, links, &*objects, UnsafeRef::new(place));
+        }
+    }
+}
+
 // A cursor moves round the tree. It answers the place where it ends.
 #[inline(never)]
 fn timed_tree_step<L: RBTreeOps>(
@@ -370,4 +415,23 @@ pub fn on_tree(
     let end = work(name, &mut tree, links, objects, size);
     watch.stop(start);
     hash(&tree, &*links, objects).wrapping_add(end)
+}
+
+/// A tree of these objects by their keys: so often the least is taken off, and inserted at the end with a greater key. Answers a checksum.
+pub fn on_queue<L: RBTreeOps>(
+    watch: &mut Watch<'_>,
+    links: &mut L,
+    objects: &mut Objects<u64>,
+    order: &[Place],
+    size: Size,
+) -> u64
+    requires covered { All (λ place. index_of place < (L.table links.old).extent.places) order.now }
+    requires objects { All (λ place. is_placed objects.old place ≡ true) order.now }
+{
+    let mut tree = RBTree::new(ByValue);
+    timed_insert(&mut tree, links, &*objects, order);
+    let start = watch.start();
+    timed_queue(&mut tree, links, objects, size);
+    watch.stop(start);
+    hash(&tree, &*links, &*objects)
 }

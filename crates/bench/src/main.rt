@@ -26,7 +26,7 @@ use room::{Size, Watch};
 use std::{env, io};
 use workloads::checksum;
 
-const WORKLOADS: [&str; 20] = [
+const WORKLOADS: [&str; 21] = [
     "pair",
     "pair-lent",
     "touch",
@@ -44,6 +44,7 @@ const WORKLOADS: [&str; 20] = [
     "insert",
     "remove",
     "turn",
+    "queue",
     "tree_step",
     "tree_iter",
     "world",

@@ -5,7 +5,7 @@
 //! ```
 
 use crate::by_world::on_world;
-use crate::keyed::on_tree;
+use crate::keyed::{on_queue, on_tree};
 use crate::lists::on_list;
 use crate::random::Random;
 use crate::room::{Size, Watch, are_distinct, inverse, place_all, places_of};
@@ -80,11 +80,15 @@ fn xor(watch: &mut Watch<'_>, room: &Room, size: Size) -> Option<u64> {
 }
 
 // A tree of them, and removals of the first half in the other order.
-fn tree(name: &str, watch: &mut Watch<'_>, room: &Room, size: Size) -> Option<u64> {
+fn tree(name: &str, watch: &mut Watch<'_>, room: &mut Room, size: Size) -> Option<u64> {
     let alloc = watch.rt.alloc();
     let mut links = rbtree::LinkOps::new(alloc);
     links.cover(size.members as usize).ok()?;
     let order = places_of(alloc, &room.objects, &room.order, links.covers()).ok()?;
+    if name == "queue" {
+        let checksum = on_queue(watch, &mut links, &mut room.objects, &order, size);
+        return Some(checksum);
+    }
     let half = &room.other[..room.other.len() / 2];
     let places = places_of(alloc, &room.objects, half, links.covers()).ok()?;
     let inverse = inverse(alloc, &room.other).ok()?;
@@ -106,7 +110,7 @@ fn tree(name: &str, watch: &mut Watch<'_>, room: &Room, size: Size) -> Option<u6
 /// Does the workload, and answers its checksum. Behind a doubly linked list's workload `-lent` stands for a lent table. Without
 /// memory there is no checksum.
 pub fn checksum(name: &str, watch: &mut Watch<'_>, size: Size) -> Option<u64> {
-    let room = make_room(watch.rt.alloc(), size.members)?;
+    let mut room = make_room(watch.rt.alloc(), size.members)?;
     let (work, is_lent) = match name.split_once('-') {
         Some((work, _)) => (work, true),
         None => (name, false),
@@ -116,6 +120,6 @@ pub fn checksum(name: &str, watch: &mut Watch<'_>, size: Size) -> Option<u64> {
         "singly" => singly(watch, &room, size),
         "xor" => xor(watch, &room, size),
         "world" => Some(on_world(watch, &room.objects, &room.order, size)),
-        _ => tree(work, watch, &room, size),
+        _ => tree(work, watch, &mut room, size),
     }
 }

@@ -8,7 +8,7 @@ use Rattle.ic_link_ops.proofs.ShownTrees.{one_sequence, red_black_trees}
 use Rattle.ic_rbtree.specs.CursorMut.{site_of}
 use Rattle.ic_rbtree.specs.SortedObjects.{ShowsSorted}
 use Rattle.ic_rbtree.proofs.SortedKeys.{sorted_taken}
-use Rattle.bench.proofs.Members.{others_stay_members, removed_extent}
+use Rattle.bench.proofs.Members.{gone, others_stay_members, removed_extent}
 use Rattle.bench.proofs.keyed.remove.Goals as goal
 
 pub returns-clause-sorted : goal.returns-clause-sorted
@@ -45,3 +45,10 @@ returns-clause-extent g c =
     let same = removed_extent kind c.remove.result e.stands r (r.answer ∙ e.position) in
     let old = e.borrows.3 in
     search rules
+
+pub returns-clause-gone : goal.returns-clause-gone
+returns-clause-gone g c s shown =
+    let e = c.cursor_mut_from_ptr.ensures in
+    let r = c.remove.ensures.removed in
+    let kind = red_black_trees {n = g.L.RBTreeOps.node} {linked = g.L.LinkOps.linked} g.met.L.RBTreeOps.linked_alike in
+    gone kind c.remove.result e.stands r (r.answer ∙ e.position) s (search rules)
