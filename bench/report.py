@@ -39,7 +39,8 @@ def beside_rust(figures):
     ours = [name for name in (OURS, LENT) if name in figures.programs]
     head = ["", *(f"{members:,}" for members in figures.options.sizes), *(f"instructions: {name}" for name in figures.programs)]
     for workload in figures.options.only:
-        ratios = (" / ".join(shown(figures.ratio(workload, members, name)) for name in ours) for members in figures.options.sizes)
+        ratios = (" / ".join(shown(figures.ratio(workload, members, name)) for name in ours if (workload, members, name) in figures.times)
+                  for members in figures.options.sizes)
         counts = (shown(figures.counts.get((workload, name)), "{:.0f}") for name in figures.programs)
         yield head, [figures.workloads[workload][0], *ratios, *counts]
 
@@ -63,7 +64,7 @@ def page(figures):
         *(f"- left out: {line}" for line in figures.left_out),
         "",
         f"Each program was run {figures.options.rounds} times, in turn with the others. The figures are of one operation. Other work ran on "
-        "the machine now and then, so trust medians and instructions more than one nanosecond.",
+        "the machine at the same time: instructions are exact, nanoseconds vary.",
         "",
     ]
     rows = list(beside_rust(figures))
@@ -72,7 +73,7 @@ def page(figures):
             "## Beside the Rust crate",
             "",
             "How many times the Rust crate's time ours takes, by the number of members: over the table that is handed in, and behind the "
-            "stroke over a lent one. Below 1 ours is faster. Then the instructions of one operation with 1,000 members.",
+            "stroke over a lent one. Below 1 ours is faster. Then come the instructions of one operation with 1,000 members.",
             "",
             *table(rows[0][0], [row for _head, row in rows]),
             f"![The ratios as a plot]({PLOT})",
@@ -111,9 +112,10 @@ class Plot:
             for workload in figures.options.only for name in (OURS, LENT) for members in figures.options.sizes
             if (ratio := figures.ratio(workload, members, name))
         }
+        self.shown = [workload for workload in figures.options.only if any(workload == key[0] for key in self.dots)]
         self.low = min([0.5, *self.dots.values()]) / 1.1
         self.high = max([2, *self.dots.values()]) * 1.1
-        self.height = self.TOP + self.ROW * len(figures.options.only) + 44
+        self.height = self.TOP + self.ROW * len(self.shown) + 44
 
     def x(self, ratio):
         share = math.log(ratio / self.low) / math.log(self.high / self.low)
@@ -153,14 +155,14 @@ class Plot:
             at += 150
 
     def rows(self):
-        for row, workload in enumerate(self.figures.options.only):
+        for row, workload in enumerate(self.shown):
             y = self.TOP + self.ROW * (row + 0.5)
             if row % 2 == 0:
                 yield f'<rect x="0" y="{y - self.ROW / 2}" width="{self.WIDTH}" height="{self.ROW}" fill="#f6f6f6"/>'
             yield self.text(self.LEFT - 14, y + 4, self.figures.workloads[workload][0], "end")
         yield from self.axis()
         for (workload, name, members), ratio in self.dots.items():
-            y = self.TOP + self.ROW * (self.figures.options.only.index(workload) + 0.5) + (-5 if name == OURS else 5)
+            y = self.TOP + self.ROW * (self.shown.index(workload) + 0.5) + (-5 if name == OURS else 5)
             yield self.dot(self.x(ratio), y, name, members)
 
     def svg(self):

@@ -31,7 +31,7 @@ fn fill(world: &mut World<ByValue>, list: usize, objects: &Objects<u64>, order: 
     }
 }
 
-/// A list of a world of such objects: does the work on it, and answers a checksum.
+/// A list of a world of such objects: does the work on it, and returns a checksum.
 pub fn on_world(watch: &mut Watch<'_>, objects: &Objects<u64>, order: &[u64], size: Size) -> u64 {
     let mut world = World::new(watch.rt.alloc(), ByValue);
     let _field = world.add_field(Kind::Doubly);

@@ -61,7 +61,6 @@ fn least<L: RBTreeOps>(tree: &RBTree<ByValue>, links: &L, objects: &Objects<u64>
     ensures member { IfSome result (HasMember (Shows L.node (L.table links.now) (root_of tree.now))) }
     ensures placed { IfSome result (λ place. is_placed objects.now place ≡ true) }
 {
-    let _objects = objects;
     tree.front(links).get_ptr()
 }
 
@@ -134,7 +133,6 @@ fn empty<L: RBTreeOps>(tree: &mut RBTree<ByValue>, links: &mut L, objects: &Obje
     ensures sorted { ShowsSorted (λ v. v) (Shows L.node (L.table links.new) (root_of tree.new)) objects.now }
     ensures extent { (L.table links.new).extent ≡ (L.table links.old).extent }
 {
-    let _objects = objects;
     tree.clear(links);
 }
 
@@ -152,7 +150,7 @@ fn insert_again<L: RBTreeOps>(
     requires sorted { ShowsSorted (λ v. v) (Shows L.node (L.table links.old) (root_of tree.old)) objects.now }
     ensures sorted { ShowsSorted (λ v. v) (Shows L.node (L.table links.new) (root_of tree.new)) objects.now }
 {
-    for round in 0..rounds {
+    for _round in 0..rounds {
         empty(tree, links, objects);
         let start = watch.start();
         timed_insert(tree, links, objects, order);
@@ -219,7 +217,7 @@ fn remove_again(
     requires sorted { ShowsSorted (λ v. v) (PlainShows links.old (root_of tree.old)) objects.now }
     ensures sorted { ShowsSorted (λ v. v) (PlainShows links.new (root_of tree.new)) objects.now }
 {
-    for round in 0..rounds {
+    for _round in 0..rounds {
         empty(tree, links, objects);
         timed_insert(tree, links, objects, order);
         if !are_members(&*tree, &*links, places) {
@@ -243,7 +241,7 @@ fn timed_find<L: RBTreeOps>(
 {
     let mut random = Random::new();
     let mut sum = 0_u64;
-    for operation in 0..size.operations {
+    for _operation in 0..size.operations {
         let key = random.below(size.members).wrapping_mul(2);
         if let Some(value) = tree.find(links, objects, &key).get(objects) {
             sum = sum.wrapping_add(*value);
@@ -264,7 +262,7 @@ fn timed_lower_bound<L: RBTreeOps>(
 {
     let mut random = Random::new();
     let mut sum = 0_u64;
-    for operation in 0..size.operations {
+    for _operation in 0..size.operations {
         let key = random.below(size.members).wrapping_mul(2).wrapping_add(1);
         let cursor = tree.lower_bound(links, objects, Bound::Included(&key));
         if let Some(value) = cursor.get(objects) {
@@ -286,7 +284,7 @@ fn timed_turn<L: RBTreeOps>(
     ensures sorted { ShowsSorted (λ v. v) (Shows L.node (L.table links.new) (root_of tree.new)) objects.now }
 {
     let mut random = Random::new();
-    for operation in 0..size.operations {
+    for _operation in 0..size.operations {
         let key = random.below(size.members).wrapping_mul(2);
         if let Some(place) = find(&*tree, &*links, objects, key) {
             remove(tree, links, UnsafeRef::new(place));
@@ -307,7 +305,7 @@ fn timed_queue<L: RBTreeOps>(
     ensures sorted { ShowsSorted (λ v. v) (Shows L.node (L.table links.new) (root_of tree.new)) objects.new }
 {
     let by = size.members.wrapping_mul(2);
-    for operation in 0..size.operations {
+    for _operation in 0..size.operations {
         if let Some(place) = least(&*tree, &*links, &*objects) {
             remove(tree, links, UnsafeRef::new(place));
             raise(objects, place, by);
@@ -316,7 +314,7 @@ fn timed_queue<L: RBTreeOps>(
     }
 }
 
-// A cursor moves round the tree. It answers the place where it ends.
+// A cursor moves round the tree. It returns the place where it ends.
 #[inline(never)]
 fn timed_tree_step<L: RBTreeOps>(
     tree: &RBTree<ByValue>,
@@ -326,7 +324,7 @@ fn timed_tree_step<L: RBTreeOps>(
     requires shown { ShowsSome L.node (L.table links.now) (root_of tree.now) }
 {
     let mut cursor = tree.front(links);
-    for operation in 0..operations {
+    for _operation in 0..operations {
         cursor.move_next();
     }
     cursor.get_ptr()
@@ -362,7 +360,7 @@ fn hash<L: RBTreeOps>(tree: &RBTree<ByValue>, links: &L, objects: &Objects<u64>)
     hash
 }
 
-// Does the work, and answers where it ended or what it added up.
+// Does the work, and returns where it ended or what it added up.
 fn work<L: RBTreeOps>(
     name: &str,
     tree: &mut RBTree<ByValue>,
@@ -384,7 +382,7 @@ fn work<L: RBTreeOps>(
     0
 }
 
-/// A tree of these objects by their keys, inserted in this order: does the work with this name on it, and answers a checksum. Removals
+/// A tree of these objects by their keys, inserted in this order: does the work with this name on it, and returns a checksum. Removals
 /// are of these places.
 pub fn on_tree(
     name: &str,
@@ -417,7 +415,7 @@ pub fn on_tree(
     hash(&tree, &*links, objects).wrapping_add(end)
 }
 
-/// A tree of these objects by their keys: so often the least is taken off, and inserted at the end with a greater key. Answers a checksum.
+/// A tree of these objects by their keys: so often the least is taken off, and inserted at the end with a greater key. Returns a checksum.
 pub fn on_queue<L: RBTreeOps>(
     watch: &mut Watch<'_>,
     links: &mut L,

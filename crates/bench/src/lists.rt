@@ -39,14 +39,14 @@ fn pair<L: LinkedListOps>(list: &mut LinkedList<u64>, links: &mut L, operations:
     ensures shown { ShowsSome L.neighbors (L.table links.new) list.new }
     ensures extent { (L.table links.new).extent ≡ (L.table links.old).extent }
 {
-    for operation in 0..operations {
+    for _operation in 0..operations {
         if let Some(object) = list.pop_front(links) {
             put(list, links, object);
         }
     }
 }
 
-// Takes the member off and puts it at the back. It answers whether its link was given again: over a plain table it always is.
+// Takes the member off and puts it at the back. It returns whether its link was given again: over a plain table it always is.
 #[inline]
 fn put_last<L: LinkedListOps>(
     list: &mut LinkedList<u64>,
@@ -77,7 +77,7 @@ fn touch<L: LinkedListOps>(
     ensures extent { (L.table links.new).extent ≡ (L.table links.old).extent }
 {
     let mut random = Random::new();
-    for operation in 0..operations {
+    for _operation in 0..operations {
         let index = random.below(order.len() as u64) as usize;
         if index >= order.len() || !put_last(list, links, UnsafeRef::new(order[index])) {
             break;
@@ -113,7 +113,7 @@ fn splice<L: LinkedListOps>(
     ensures extent { (L.table links.new).extent ≡ (L.table links.old).extent }
 {
     let mut random = Random::new();
-    for operation in 0..operations {
+    for _operation in 0..operations {
         let index = random.below(order.len() as u64) as usize;
         if index < order.len() {
             turn(list, links, order[index]);
@@ -121,13 +121,13 @@ fn splice<L: LinkedListOps>(
     }
 }
 
-// A cursor moves round the list. It answers the place where it ends.
+// A cursor moves round the list. It returns the place where it ends.
 #[inline(always)]
 fn step<L: LinkedListOps>(list: &LinkedList<u64>, links: &L, operations: u64) -> Option<Place>
     requires shown { ShowsSome L.neighbors (L.table links.now) list.now }
 {
     let mut cursor = list.front(links);
-    for operation in 0..operations {
+    for _operation in 0..operations {
         cursor.move_next();
     }
     cursor.get_ptr()
@@ -152,7 +152,7 @@ fn iter<L: LinkedListOps>(
     sum
 }
 
-// Puts the object at the back, and answers whether it is a member then.
+// Puts the object at the back, and returns whether it is a member then.
 fn link<L: LinkedListOps>(
     list: &mut LinkedList<u64>,
     links: &mut L,
@@ -171,7 +171,7 @@ fn link<L: LinkedListOps>(
     list.push_back(links, UnsafeRef::new(object)).is_ok()
 }
 
-// Puts the objects at these places into the list, in this order, up to one that is refused. It answers whether none was.
+// Puts the objects at these places into the list, in this order, up to one that is refused. It returns whether none was.
 fn fill<L: LinkedListOps>(
     list: &mut LinkedList<u64>,
     links: &mut L,
@@ -212,7 +212,7 @@ fn hash<L: LinkedListOps>(
     hash
 }
 
-// Does the work, and answers where it ended or what it added up.
+// Does the work, and returns where it ended or what it added up.
 #[inline(always)]
 fn work<L: LinkedListOps>(
     name: &str,
@@ -311,7 +311,7 @@ fn over_either(
     }
 }
 
-/// A list of these objects in this order: does the work with this name on it, and answers a checksum.
+/// A list of these objects in this order: does the work with this name on it, and returns a checksum.
 pub fn on_list(
     name: &str,
     is_lent: bool,

@@ -36,7 +36,7 @@ fn pop_all<L: SinglyLinkedListOps>(list: &mut SinglyLinkedList<u64>, links: &mut
     ensures shown { ShowsSome L.successor (L.table links.new) list.new }
     ensures extent { (L.table links.new).extent ≡ (L.table links.old).extent }
 {
-    for member in 0..members {
+    for _member in 0..members {
         if list.pop_front(links).is_none() {
             break;
         }
@@ -72,7 +72,7 @@ fn timed_singly<L: SinglyLinkedListOps>(
     requires shown { ShowsSome L.successor (L.table links.old) list.old }
     ensures shown { ShowsSome L.successor (L.table links.new) list.new }
 {
-    for round in 0..rounds {
+    for _round in 0..rounds {
         pop_all(list, links, order.len());
         push_all(list, links, order);
     }
@@ -89,7 +89,7 @@ fn hash<L: SinglyLinkedListOps>(
 {
     let mut hash = 0_u64;
     let mut cursor = list.front(links);
-    for member in 0..members {
+    for _member in 0..members {
         hash = hash
             .wrapping_mul(31)
             .wrapping_add(value_at(objects, cursor.get_ptr()));
@@ -98,7 +98,7 @@ fn hash<L: SinglyLinkedListOps>(
     hash
 }
 
-/// A list of these objects in this order: does the work on it, and answers a checksum.
+/// A list of these objects in this order: does the work on it, and returns a checksum.
 pub fn on_singly<L: SinglyLinkedListOps>(
     watch: &mut Watch<'_>,
     links: &mut L,

@@ -107,7 +107,7 @@ fn tree(name: &str, watch: &mut Watch<'_>, room: &mut Room, size: Size) -> Optio
     Some(checksum)
 }
 
-/// Does the workload, and answers its checksum. Behind a doubly linked list's workload `-lent` stands for a lent table. Without
+/// Does the workload, and returns its checksum. Behind a doubly linked list's workload `-lent` stands for a lent table. Without
 /// memory there is no checksum.
 pub fn checksum(name: &str, watch: &mut Watch<'_>, size: Size) -> Option<u64> {
     let mut room = make_room(watch.rt.alloc(), size.members)?;

@@ -31,7 +31,7 @@ fn timed_xor<L: XorLinkedListOps>(list: &mut XorLinkedList<u64>, links: &mut L, 
     requires shown { ShowsSome L.linked L.Joins (L.table links.old) list.old }
     ensures shown { ShowsSome L.linked L.Joins (L.table links.new) list.new }
 {
-    for operation in 0..operations {
+    for _operation in 0..operations {
         if let Some(object) = list.pop_front(links) {
             put(list, links, object);
         }
@@ -60,7 +60,7 @@ fn hash<L: XorLinkedListOps>(
 {
     let mut hash = 0_u64;
     let mut cursor = list.front(links);
-    for member in 0..members {
+    for _member in 0..members {
         hash = hash
             .wrapping_mul(31)
             .wrapping_add(value_at(objects, cursor.get_ptr()));
@@ -69,7 +69,7 @@ fn hash<L: XorLinkedListOps>(
     hash
 }
 
-/// A list of these objects in this order: does the work on it, and answers a checksum.
+/// A list of these objects in this order: does the work on it, and returns a checksum.
 pub fn on_xor<L: XorLinkedListOps>(
     watch: &mut Watch<'_>,
     links: &mut L,
