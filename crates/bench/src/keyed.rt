@@ -4,7 +4,7 @@
 //! let checksum = on_tree("find", &mut watch, &mut links, &objects, &order, size);
 //! ```
 
-ghost use Rattle.std.specs.Prelude.{◌≡◌, ◌≢◌, ◌<◌, ◌+◌, ◌%◌, ◌^◌, true, All, AllPairs, IfSome, MatchOption, List};
+ghost use Rattle.std.specs.Prelude.{◌≡◌, ◌≢◌, ◌<◌, ◌+◌, ◌%◌, ◌^◌, true, All, AllPairs, IfSome, MatchOption, List, length};
 ghost use Rattle.std.specs.Bool.{OnTrue};
 ghost use Rattle.ic_unsafe_ref.specs.Places.{index_of};
 ghost use Rattle.ic_unsafe_ref.specs.Objects.{is_placed, object_at, with_object};
@@ -21,7 +21,7 @@ use crate::random::Random;
 use crate::room::{Size, Watch, value_at};
 use ic_link_ops::rbtree::{LinkOps, RBTreeOps};
 use ic_rbtree::{Bound, KeyAdapter, RBTree};
-use ic_unsafe_ref::{Objects, Place, UnsafeRef};
+use ic_unsafe_ref::{Objects, Place, UnsafeRef, Values};
 
 /// The value is the key.
 #[derive(Clone, Copy)]
@@ -41,17 +41,32 @@ impl KeyAdapter for ByValue {
 
 // Where the object with this key stands, if it is a member.
 #[inline]
-fn find<L: RBTreeOps>(
+fn find<L: RBTreeOps, O: Values<u64>>(
     tree: &RBTree<ByValue>,
     links: &L,
-    objects: &Objects<u64>,
+    objects: &O,
     key: u64,
 ) -> Option<Place>
-    requires sorted { ShowsSorted (λ v. v) (Shows L.node (L.table links.now) (root_of tree.now)) objects.now }
+    requires sorted { ShowsSorted (λ v. v) (Shows L.node (L.table links.now) (root_of tree.now)) (O.values objects.now) }
     ensures member { IfSome result (HasMember (Shows L.node (L.table links.now) (root_of tree.now))) }
-    ensures placed { IfSome result (λ place. is_placed objects.now place ≡ true) }
+    ensures placed { IfSome result (λ place. is_placed (O.values objects.now) place ≡ true) }
 {
     tree.find(links, objects, &key).get_ptr()
+}
+
+// Where the first object from a key on stands, if it is a member.
+#[inline]
+fn from_key<L: RBTreeOps, O: Values<u64>>(
+    tree: &RBTree<ByValue>,
+    links: &L,
+    objects: &O,
+    key: u64,
+) -> Option<Place>
+    requires { ShowsSorted (λ v. v) (Shows L.node (L.table links.now) (root_of tree.now)) (O.values objects.now) }
+    ensures { IfSome result (λ place. is_placed (O.values objects.now) place ≡ true) }
+{
+    tree.lower_bound(links, objects, Bound::Included(&key))
+        .get_ptr()
 }
 
 // Where the object with the least key stands, if there is a member.
@@ -77,16 +92,16 @@ fn raise(objects: &mut Objects<u64>, object: Place, by: u64)
 
 // Inserts the object where its key belongs, unless its link is refused.
 #[inline]
-fn insert<L: RBTreeOps>(
+fn insert<L: RBTreeOps, O: Values<u64>>(
     tree: &mut RBTree<ByValue>,
     links: &mut L,
-    objects: &Objects<u64>,
+    objects: &O,
     object: UnsafeRef<u64>,
 )
     requires covered { IsCovered (L.table links.old) object }
-    requires object { is_placed objects.now object ≡ true }
-    requires sorted { ShowsSorted (λ v. v) (Shows L.node (L.table links.old) (root_of tree.old)) objects.now }
-    ensures sorted { ShowsSorted (λ v. v) (Shows L.node (L.table links.new) (root_of tree.new)) objects.now }
+    requires object { is_placed (O.values objects.now) object ≡ true }
+    requires sorted { ShowsSorted (λ v. v) (Shows L.node (L.table links.old) (root_of tree.old)) (O.values objects.now) }
+    ensures sorted { ShowsSorted (λ v. v) (Shows L.node (L.table links.new) (root_of tree.new)) (O.values objects.now) }
     ensures extent { (L.table links.new).extent ≡ (L.table links.old).extent }
 {
     let _ = tree.insert(links, objects, object);
@@ -109,16 +124,16 @@ fn remove<L: RBTreeOps>(tree: &mut RBTree<ByValue>, links: &mut L, object: Unsaf
 
 // Inserts the objects at these places, in this order.
 #[inline(never)]
-fn timed_insert<L: RBTreeOps>(
+fn timed_insert<L: RBTreeOps, O: Values<u64>>(
     tree: &mut RBTree<ByValue>,
     links: &mut L,
-    objects: &Objects<u64>,
+    objects: &O,
     order: &[Place],
 )
     requires covered { All (λ place. index_of place < (L.table links.old).extent.places) order.now }
-    requires objects { All (λ place. is_placed objects.now place ≡ true) order.now }
-    requires sorted { ShowsSorted (λ v. v) (Shows L.node (L.table links.old) (root_of tree.old)) objects.now }
-    ensures sorted { ShowsSorted (λ v. v) (Shows L.node (L.table links.new) (root_of tree.new)) objects.now }
+    requires objects { All (λ place. is_placed (O.values objects.now) place ≡ true) order.now }
+    requires sorted { ShowsSorted (λ v. v) (Shows L.node (L.table links.old) (root_of tree.old)) (O.values objects.now) }
+    ensures sorted { ShowsSorted (λ v. v) (Shows L.node (L.table links.new) (root_of tree.new)) (O.values objects.now) }
     ensures extent { (L.table links.new).extent ≡ (L.table links.old).extent }
 {
     for place in order {
@@ -128,27 +143,27 @@ fn timed_insert<L: RBTreeOps>(
 
 // Empties the tree, of which these are the objects.
 #[inline]
-fn empty<L: RBTreeOps>(tree: &mut RBTree<ByValue>, links: &mut L, objects: &Objects<u64>)
-    requires sorted { ShowsSorted (λ v. v) (Shows L.node (L.table links.old) (root_of tree.old)) objects.now }
-    ensures sorted { ShowsSorted (λ v. v) (Shows L.node (L.table links.new) (root_of tree.new)) objects.now }
+fn empty<L: RBTreeOps, O: Values<u64>>(tree: &mut RBTree<ByValue>, links: &mut L, objects: &O)
+    requires sorted { ShowsSorted (λ v. v) (Shows L.node (L.table links.old) (root_of tree.old)) (O.values objects.now) }
+    ensures sorted { ShowsSorted (λ v. v) (Shows L.node (L.table links.new) (root_of tree.new)) (O.values objects.now) }
     ensures extent { (L.table links.new).extent ≡ (L.table links.old).extent }
 {
     tree.clear(links);
 }
 
 // Empties the tree and inserts the objects again, so often.
-fn insert_again<L: RBTreeOps>(
+fn insert_again<L: RBTreeOps, O: Values<u64>>(
     watch: &mut Watch<'_>,
     tree: &mut RBTree<ByValue>,
     links: &mut L,
-    objects: &Objects<u64>,
+    objects: &O,
     order: &[Place],
     rounds: u64,
 )
     requires covered { All (λ place. index_of place < (L.table links.old).extent.places) order.now }
-    requires objects { All (λ place. is_placed objects.now place ≡ true) order.now }
-    requires sorted { ShowsSorted (λ v. v) (Shows L.node (L.table links.old) (root_of tree.old)) objects.now }
-    ensures sorted { ShowsSorted (λ v. v) (Shows L.node (L.table links.new) (root_of tree.new)) objects.now }
+    requires objects { All (λ place. is_placed (O.values objects.now) place ≡ true) order.now }
+    requires sorted { ShowsSorted (λ v. v) (Shows L.node (L.table links.old) (root_of tree.old)) (O.values objects.now) }
+    ensures sorted { ShowsSorted (λ v. v) (Shows L.node (L.table links.new) (root_of tree.new)) (O.values objects.now) }
 {
     for _round in 0..rounds {
         empty(tree, links, objects);
@@ -183,16 +198,16 @@ fn are_members(tree: &RBTree<ByValue>, links: &LinkOps, places: &[Place]) -> boo
 
 // Takes these members off, in this order.
 #[inline(never)]
-fn timed_remove<L: RBTreeOps>(
+fn timed_remove<L: RBTreeOps, O: Values<u64>>(
     tree: &mut RBTree<ByValue>,
     links: &mut L,
-    objects: &Objects<u64>,
+    objects: &O,
     places: &[Place],
 )
-    requires sorted { ShowsSorted (λ v. v) (Shows L.node (L.table links.old) (root_of tree.old)) objects.now }
+    requires sorted { ShowsSorted (λ v. v) (Shows L.node (L.table links.old) (root_of tree.old)) (O.values objects.now) }
     requires members { All (HasMember (Shows L.node (L.table links.old) (root_of tree.old))) places.now }
     requires distinct { AllPairs (λ a b. a ≢ b) places.now }
-    ensures sorted { ShowsSorted (λ v. v) (Shows L.node (L.table links.new) (root_of tree.new)) objects.now }
+    ensures sorted { ShowsSorted (λ v. v) (Shows L.node (L.table links.new) (root_of tree.new)) (O.values objects.now) }
     ensures extent { (L.table links.new).extent ≡ (L.table links.old).extent }
 {
     for index in 0..places.len() {
@@ -201,21 +216,21 @@ fn timed_remove<L: RBTreeOps>(
 }
 
 // Fills the tree and takes these members off, so often.
-fn remove_again(
+fn remove_again<O: Values<u64>>(
     watch: &mut Watch<'_>,
     tree: &mut RBTree<ByValue>,
     links: &mut LinkOps,
-    objects: &Objects<u64>,
+    objects: &O,
     order: &[Place],
     places: &[Place],
     rounds: u64,
 )
     requires covered { All (λ place. index_of place < (plain_table links.old).extent.places) order.now }
-    requires objects { All (λ place. is_placed objects.now place ≡ true) order.now }
+    requires objects { All (λ place. is_placed (O.values objects.now) place ≡ true) order.now }
     requires places { All (λ place. index_of place < (plain_table links.old).extent.places) places.now }
     requires distinct { AllPairs (λ a b. a ≢ b) places.now }
-    requires sorted { ShowsSorted (λ v. v) (PlainShows links.old (root_of tree.old)) objects.now }
-    ensures sorted { ShowsSorted (λ v. v) (PlainShows links.new (root_of tree.new)) objects.now }
+    requires sorted { ShowsSorted (λ v. v) (PlainShows links.old (root_of tree.old)) (O.values objects.now) }
+    ensures sorted { ShowsSorted (λ v. v) (PlainShows links.new (root_of tree.new)) (O.values objects.now) }
 {
     for _round in 0..rounds {
         empty(tree, links, objects);
@@ -231,20 +246,20 @@ fn remove_again(
 
 // Finds keys at random, and adds up the objects found.
 #[inline(never)]
-fn timed_find<L: RBTreeOps>(
+fn timed_find<L: RBTreeOps, O: Values<u64>>(
     tree: &RBTree<ByValue>,
     links: &L,
-    objects: &Objects<u64>,
+    objects: &O,
     size: Size,
 ) -> u64
-    requires sorted { ShowsSorted (λ v. v) (Shows L.node (L.table links.now) (root_of tree.now)) objects.now }
+    requires sorted { ShowsSorted (λ v. v) (Shows L.node (L.table links.now) (root_of tree.now)) (O.values objects.now) }
 {
     let mut random = Random::new();
     let mut sum = 0_u64;
     for _operation in 0..size.operations {
         let key = random.below(size.members).wrapping_mul(2);
-        if let Some(value) = tree.find(links, objects, &key).get(objects) {
-            sum = sum.wrapping_add(*value);
+        if let Some(place) = find(tree, links, objects, key) {
+            sum = sum.wrapping_add(*objects.value(place));
         }
     }
     sum
@@ -252,21 +267,20 @@ fn timed_find<L: RBTreeOps>(
 
 // Looks for the first object above keys at random, and adds these up.
 #[inline(never)]
-fn timed_lower_bound<L: RBTreeOps>(
+fn timed_lower_bound<L: RBTreeOps, O: Values<u64>>(
     tree: &RBTree<ByValue>,
     links: &L,
-    objects: &Objects<u64>,
+    objects: &O,
     size: Size,
 ) -> u64
-    requires sorted { ShowsSorted (λ v. v) (Shows L.node (L.table links.now) (root_of tree.now)) objects.now }
+    requires sorted { ShowsSorted (λ v. v) (Shows L.node (L.table links.now) (root_of tree.now)) (O.values objects.now) }
 {
     let mut random = Random::new();
     let mut sum = 0_u64;
     for _operation in 0..size.operations {
         let key = random.below(size.members).wrapping_mul(2).wrapping_add(1);
-        let cursor = tree.lower_bound(links, objects, Bound::Included(&key));
-        if let Some(value) = cursor.get(objects) {
-            sum = sum.wrapping_add(*value);
+        if let Some(place) = from_key(tree, links, objects, key) {
+            sum = sum.wrapping_add(*objects.value(place));
         }
     }
     sum
@@ -274,14 +288,14 @@ fn timed_lower_bound<L: RBTreeOps>(
 
 // Finds keys at random, takes each one's member off and inserts it again.
 #[inline(never)]
-fn timed_turn<L: RBTreeOps>(
+fn timed_turn<L: RBTreeOps, O: Values<u64>>(
     tree: &mut RBTree<ByValue>,
     links: &mut L,
-    objects: &Objects<u64>,
+    objects: &O,
     size: Size,
 )
-    requires sorted { ShowsSorted (λ v. v) (Shows L.node (L.table links.old) (root_of tree.old)) objects.now }
-    ensures sorted { ShowsSorted (λ v. v) (Shows L.node (L.table links.new) (root_of tree.new)) objects.now }
+    requires sorted { ShowsSorted (λ v. v) (Shows L.node (L.table links.old) (root_of tree.old)) (O.values objects.now) }
+    ensures sorted { ShowsSorted (λ v. v) (Shows L.node (L.table links.new) (root_of tree.new)) (O.values objects.now) }
 {
     let mut random = Random::new();
     for _operation in 0..size.operations {
@@ -332,13 +346,13 @@ fn timed_tree_step<L: RBTreeOps>(
 
 // The sum of the tree's objects, so often.
 #[inline(never)]
-fn timed_tree_iter<L: RBTreeOps>(
+fn timed_tree_iter<L: RBTreeOps, O: Values<u64>>(
     tree: &RBTree<ByValue>,
     links: &L,
-    objects: &Objects<u64>,
+    objects: &O,
     rounds: u64,
 ) -> u64
-    requires placed { ShowsPlaced (Shows L.node (L.table links.now) (root_of tree.now)) objects.now }
+    requires placed { ShowsPlaced (Shows L.node (L.table links.now) (root_of tree.now)) (O.values objects.now) }
 {
     let mut sum = 0_u64;
     for _round in 0..rounds {
@@ -350,8 +364,8 @@ fn timed_tree_iter<L: RBTreeOps>(
 }
 
 // What the members are and in which order they stand, as one number.
-fn hash<L: RBTreeOps>(tree: &RBTree<ByValue>, links: &L, objects: &Objects<u64>) -> u64
-    requires placed { ShowsPlaced (Shows L.node (L.table links.now) (root_of tree.now)) objects.now }
+fn hash<L: RBTreeOps, O: Values<u64>>(tree: &RBTree<ByValue>, links: &L, objects: &O) -> u64
+    requires placed { ShowsPlaced (Shows L.node (L.table links.now) (root_of tree.now)) (O.values objects.now) }
 {
     let mut hash = 0_u64;
     for value in tree.iter(links, objects) {
@@ -361,20 +375,19 @@ fn hash<L: RBTreeOps>(tree: &RBTree<ByValue>, links: &L, objects: &Objects<u64>)
 }
 
 // Does the work, and returns where it ended or what it added up.
-fn work<L: RBTreeOps>(
+fn work<L: RBTreeOps, O: Values<u64>>(
     name: &str,
     tree: &mut RBTree<ByValue>,
     links: &mut L,
-    objects: &Objects<u64>,
+    objects: &O,
     size: Size,
 ) -> u64
-    requires sorted { ShowsSorted (λ v. v) (Shows L.node (L.table links.old) (root_of tree.old)) objects.now }
-    ensures sorted { ShowsSorted (λ v. v) (Shows L.node (L.table links.new) (root_of tree.new)) objects.now }
+    requires sorted { ShowsSorted (λ v. v) (Shows L.node (L.table links.old) (root_of tree.old)) (O.values objects.now) }
+    ensures sorted { ShowsSorted (λ v. v) (Shows L.node (L.table links.new) (root_of tree.new)) (O.values objects.now) }
 {
     match name {
         "find" => return timed_find(&*tree, &*links, objects, size),
         "lower_bound" => return timed_lower_bound(&*tree, &*links, objects, size),
-        "tree_step" => return value_at(objects, timed_tree_step(&*tree, &*links, size.operations)),
         "tree_iter" => return timed_tree_iter(&*tree, &*links, objects, size.rounds()),
         "turn" => timed_turn(tree, links, objects, size),
         _ => {}
@@ -382,19 +395,19 @@ fn work<L: RBTreeOps>(
     0
 }
 
-/// A tree of these objects by their keys, inserted in this order: does the work with this name on it, and returns a checksum. Removals
+/// A tree of objects, or of values in an array, by their keys, inserted in this order: does the work with this name on it, and returns a checksum. Removals
 /// are of these places.
-pub fn on_tree(
+pub fn on_tree<O: Values<u64>>(
     name: &str,
     watch: &mut Watch<'_>,
     links: &mut LinkOps,
-    objects: &Objects<u64>,
+    objects: &O,
     order: &[Place],
     places: &[Place],
     size: Size,
 ) -> u64
     requires covered { All (λ place. index_of place < (plain_table links.old).extent.places) order.now }
-    requires objects { All (λ place. is_placed objects.now place ≡ true) order.now }
+    requires objects { All (λ place. is_placed (O.values objects.now) place ≡ true) order.now }
     requires places { All (λ place. index_of place < (plain_table links.old).extent.places) places.now }
     requires distinct { AllPairs (λ a b. a ≢ b) places.now }
 {
@@ -413,6 +426,43 @@ pub fn on_tree(
     let end = work(name, &mut tree, links, objects, size);
     watch.stop(start);
     hash(&tree, &*links, objects).wrapping_add(end)
+}
+
+/// A tree of the values of an array, as [`on_tree`] makes it of objects.
+pub fn on_values(
+    name: &str,
+    watch: &mut Watch<'_>,
+    links: &mut LinkOps,
+    values: &Vec<u64>,
+    order: &[Place],
+    places: &[Place],
+    size: Size,
+) -> u64
+    requires covered { All (λ place. index_of place < (plain_table links.old).extent.places) order.now }
+    requires in_range { All (λ place. index_of place < length values.now.items) order.now }
+    requires places { All (λ place. index_of place < (plain_table links.old).extent.places) places.now }
+    requires distinct { AllPairs (λ a b. a ≢ b) places.now }
+{
+    on_tree(name, watch, links, values, order, places, size)
+}
+
+/// A tree of these objects by their keys: a cursor moves round it. Returns a checksum.
+pub fn on_steps<L: RBTreeOps>(
+    watch: &mut Watch<'_>,
+    links: &mut L,
+    objects: &Objects<u64>,
+    order: &[Place],
+    size: Size,
+) -> u64
+    requires covered { All (λ place. index_of place < (L.table links.old).extent.places) order.now }
+    requires objects { All (λ place. is_placed objects.now place ≡ true) order.now }
+{
+    let mut tree = RBTree::new(ByValue);
+    timed_insert(&mut tree, links, objects, order);
+    let start = watch.start();
+    let end = timed_tree_step(&tree, &*links, size.operations);
+    watch.stop(start);
+    hash(&tree, &*links, objects).wrapping_add(value_at(objects, end))
 }
 
 /// A tree of these objects by their keys: so often the least is taken off, and inserted at the end with a greater key. Returns a checksum.

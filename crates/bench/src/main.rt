@@ -26,7 +26,7 @@ use room::{Size, Watch};
 use std::{env, io};
 use workloads::checksum;
 
-const WORKLOADS: [&str; 21] = [
+const WORKLOADS: [&str; 26] = [
     "pair",
     "pair-lent",
     "touch",
@@ -40,13 +40,18 @@ const WORKLOADS: [&str; 21] = [
     "singly",
     "xor",
     "find",
+    "find-flat",
     "lower_bound",
+    "lower_bound-flat",
     "insert",
+    "insert-flat",
     "remove",
     "turn",
+    "turn-flat",
     "queue",
     "tree_step",
     "tree_iter",
+    "tree_iter-flat",
     "world",
 ];
 

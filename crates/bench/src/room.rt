@@ -64,6 +64,19 @@ pub fn place_all(alloc: Global, values: &[u64]) -> Objects<u64> {
     objects
 }
 
+/// The values of all objects, in the order of their places.
+pub fn values_of(
+    alloc: Global,
+    objects: &Objects<u64>,
+    members: u64,
+) -> Result<Vec<u64>, AllocError> {
+    let mut values = Vec::new(alloc);
+    for index in 0..members {
+        values.push(value_at(objects, Place::new(index as usize)))?;
+    }
+    Ok(values)
+}
+
 /// The places of objects that are covered, in this order.
 pub fn places_of(
     alloc: Global,

@@ -5,10 +5,10 @@
 //! ```
 
 use crate::by_world::on_world;
-use crate::keyed::{on_queue, on_tree};
+use crate::keyed::{on_queue, on_steps, on_tree, on_values};
 use crate::lists::on_list;
 use crate::random::Random;
-use crate::room::{Size, Watch, are_distinct, inverse, place_all, places_of};
+use crate::room::{Size, Watch, are_distinct, inverse, place_all, places_of, values_of};
 use crate::singly::on_singly;
 use crate::xor::on_xor;
 use ic_link_ops::{linked_list, rbtree, singly_linked_list, xor_linked_list};
@@ -79,47 +79,62 @@ fn xor(watch: &mut Watch<'_>, room: &Room, size: Size) -> Option<u64> {
     Some(on_xor(watch, &mut links, &room.objects, &order, size))
 }
 
-// A tree of them, and removals of the first half in the other order.
-fn tree(name: &str, watch: &mut Watch<'_>, room: &mut Room, size: Size) -> Option<u64> {
+// A tree of them, or of their values in an array, and removals of the first half in the other order.
+fn tree(
+    name: &str,
+    is_flat: bool,
+    watch: &mut Watch<'_>,
+    room: &mut Room,
+    size: Size,
+) -> Option<u64> {
     let alloc = watch.rt.alloc();
     let mut links = rbtree::LinkOps::new(alloc);
     links.cover(size.members as usize).ok()?;
-    let order = places_of(alloc, &room.objects, &room.order, links.covers()).ok()?;
+    let values = values_of(alloc, &room.objects, size.members).ok()?;
+    let covered = links.covers().min(values.len());
+    let order = places_of(alloc, &room.objects, &room.order, covered).ok()?;
     if name == "queue" {
         let checksum = on_queue(watch, &mut links, &mut room.objects, &order, size);
         return Some(checksum);
     }
+    if name == "tree_step" {
+        return Some(on_steps(watch, &mut links, &room.objects, &order, size));
+    }
     let half = &room.other[..room.other.len() / 2];
-    let places = places_of(alloc, &room.objects, half, links.covers()).ok()?;
+    let places = places_of(alloc, &room.objects, half, covered).ok()?;
     let inverse = inverse(alloc, &room.other).ok()?;
     if !are_distinct(&places, &inverse) {
         return None;
     }
-    let checksum = on_tree(
-        name,
-        watch,
-        &mut links,
-        &room.objects,
-        &order,
-        &places,
-        size,
-    );
+    let checksum = if is_flat {
+        on_values(name, watch, &mut links, &values, &order, &places, size)
+    } else {
+        on_tree(
+            name,
+            watch,
+            &mut links,
+            &room.objects,
+            &order,
+            &places,
+            size,
+        )
+    };
     Some(checksum)
 }
 
-/// Does the workload, and returns its checksum. Behind a doubly linked list's workload `-lent` stands for a lent table. Without
-/// memory there is no checksum.
+/// Does the workload, and returns its checksum. Behind a doubly linked list's workload `-lent` stands for a lent table, and
+/// behind one of a tree by its keys `-flat` for keys in an array. Without memory there is no checksum.
 pub fn checksum(name: &str, watch: &mut Watch<'_>, size: Size) -> Option<u64> {
     let mut room = make_room(watch.rt.alloc(), size.members)?;
-    let (work, is_lent) = match name.split_once('-') {
+    let (work, is_other) = match name.split_once('-') {
         Some((work, _)) => (work, true),
         None => (name, false),
     };
     match work {
-        "pair" | "touch" | "splice" | "step" | "iter" => doubly(work, is_lent, watch, &room, size),
+        "pair" | "touch" | "splice" | "step" | "iter" => doubly(work, is_other, watch, &room, size),
         "singly" => singly(watch, &room, size),
         "xor" => xor(watch, &room, size),
         "world" => Some(on_world(watch, &room.objects, &room.order, size)),
-        _ => tree(work, watch, &mut room, size),
+        _ => tree(work, is_other, watch, &mut room, size),
     }
 }

@@ -21,7 +21,7 @@ pub returns-clause-placed : goal.returns-clause-placed
 returns-clause-placed g c =
     let e = c.find.ensures in
     let q = c.requires.sorted.placed in
-    if_some (λ (p : Place). is_placed c.args.objects.now p ≡ true) c.get_ptr.result
+    if_some (λ (p : Place). is_placed (g.O.Values.values c.args.objects.now) p ≡ true) c.get_ptr.result
     (λ p is.
     let m : HasMember (Shows g.L.RBTreeOps.node (g.L.LinkOps.table c.args.links.now) (root_of c.args.tree.now)) p = rw (← e.links, ← e.tree) (member_there e.stands (sym c.get_ptr.ensures ∙ is)) in
-    placed_there c.args.objects.now m.front p m.back (subst (ArePlaced c.args.objects.now) (one_sequence q.shown m.shown) q.placed))
+    placed_there (g.O.Values.values c.args.objects.now) m.front p m.back (subst (ArePlaced (g.O.Values.values c.args.objects.now)) (one_sequence q.shown m.shown) q.placed))

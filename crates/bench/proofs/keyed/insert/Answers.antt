@@ -7,7 +7,7 @@ pub returns-clause-sorted : goal.returns-clause-sorted
 returns-clause-sorted g c =
     let e = c.insert.ensures in
     let q = c.requires.sorted in
-    sorted_inserted (λ v. v) c.args.objects.now g.met.L.LinkOps.refused_keeps _ _ _ c.requires.object q c.insert.result (e.inserted _ q.placed.shown) e.refused e.unchanged
+    sorted_inserted (λ v. v) (g.O.Values.values c.args.objects.now) g.met.L.LinkOps.refused_keeps _ _ _ c.requires.object q c.insert.result (e.inserted _ q.placed.shown) e.refused e.unchanged
 
 pub returns-clause-extent : goal.returns-clause-extent
 returns-clause-extent g c =

@@ -5,7 +5,7 @@ use Rattle.ic_rbtree.specs.SortedObjects.{ShowsSorted}
 use Rattle.bench.proofs.keyed.remove_again.Given as goal
 
 abbrev pub invariant-loop-round : goal.invariant-loop-round
-invariant-loop-round l = record {
-  sorted : ShowsSorted (λ v. v) (PlainShows l.links (root_of l.tree)) l.objects;
+invariant-loop-round g l = record {
+  sorted : ShowsSorted (λ v. v) (PlainShows l.links (root_of l.tree)) (g.O.Values.values l.objects);
   extent : (plain_table l.links).extent ≡ (plain_table l.fn.links).extent;
 }

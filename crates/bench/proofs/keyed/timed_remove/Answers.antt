@@ -8,7 +8,7 @@ loop-index-preserved g c =
     let e = c.remove.ensures in
     let taken = c.index-places-index in
     record {
-      sorted = e.sorted c.args.objects.now was.sorted;
+      sorted = e.sorted (g.O.Values.values c.args.objects.now) was.sorted;
       members = λ k d low high.
           e.kept (slice_index_or c.args.places.now k d)
           (λ same. c.requires.distinct c.loop-index.index k d (omega (arith, low)) high

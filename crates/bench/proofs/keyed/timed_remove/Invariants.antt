@@ -8,7 +8,7 @@ use Rattle.bench.proofs.keyed.timed_remove.Given as goal
 
 abbrev pub invariant-loop-index : goal.invariant-loop-index
 invariant-loop-index g l = record {
-  sorted : ShowsSorted (λ v. v) (Shows g.L.RBTreeOps.node (g.L.LinkOps.table l.links) (root_of l.tree)) l.objects;
+  sorted : ShowsSorted (λ v. v) (Shows g.L.RBTreeOps.node (g.L.LinkOps.table l.links) (root_of l.tree)) (g.O.Values.values l.objects);
   members : AllWithin (HasMember (Shows g.L.RBTreeOps.node (g.L.LinkOps.table l.links) (root_of l.tree))) l.places l.index (length l.places);
   extent : (g.L.LinkOps.table l.links).extent ≡ (g.L.LinkOps.table l.fn.links).extent;
 }
