@@ -4,7 +4,7 @@ import dataclasses
 import math
 
 PAGE, PLOT = "beside-peers.md", "beside-peers.svg"
-OURS, LENT, RUST = "ours", "ours, lent", "Rust crate"
+OURS, OTHER, RUST = "ours", "ours, other", "Rust crate"
 COLOURS = ["#1b7837", "#2166ac", "#b2182b", "#762a83", "#8c510a"]
 
 
@@ -36,7 +36,7 @@ def shown(value, form="{:.2f}"):
 
 def beside_rust(figures):
     """Ratios at each size, and the instructions of each program."""
-    ours = [name for name in (OURS, LENT) if name in figures.programs]
+    ours = [name for name in (OURS, OTHER) if name in figures.programs]
     head = ["", *(f"{members:,}" for members in figures.options.sizes), *(f"instructions: {name}" for name in figures.programs)]
     for workload in figures.options.only:
         ratios = (" / ".join(shown(figures.ratio(workload, members, name)) for name in ours if (workload, members, name) in figures.times)
@@ -73,7 +73,8 @@ def page(figures):
             "## Beside the Rust crate",
             "",
             "How many times the Rust crate's time ours takes, by the number of members: over the table that is handed in, and behind the "
-            "stroke over a lent one. Below 1 ours is faster. Then come the instructions of one operation with 1,000 members.",
+            "stroke in another form. That is a lent table for lists, and an array of keys for trees. Below 1 ours is faster. Then come the "
+            "instructions of one operation with 1,000 members.",
             "",
             *table(rows[0][0], [row for _head, row in rows]),
             f"![The ratios as a plot]({PLOT})",
@@ -109,7 +110,7 @@ class Plot:
         self.figures = figures
         self.dots = {
             (workload, name, members): ratio
-            for workload in figures.options.only for name in (OURS, LENT) for members in figures.options.sizes
+            for workload in figures.options.only for name in (OURS, OTHER) for members in figures.options.sizes
             if (ratio := figures.ratio(workload, members, name))
         }
         self.shown = [workload for workload in figures.options.only if any(workload == key[0] for key in self.dots)]
@@ -142,7 +143,7 @@ class Plot:
 
     def legend(self):
         at = self.LEFT
-        for name, what in ((OURS, "table handed in"), (LENT, "lent table")):
+        for name, what in ((OURS, "table handed in"), (OTHER, "lent table, or an array of keys")):
             for members in self.figures.options.sizes:
                 yield self.dot(at, 46, name, members)
                 at += 16
