@@ -1,8 +1,10 @@
 -- Members stay members, wherever they stand afterwards.
-use Rattle.std.proofs.Common.{◌≡◌, ◌≢◌, ◌∙◌, sym, Bool, Option, Some, None, List, ◌++◌, ◌∷◌, drop, subst}
+use Rattle.std.proofs.Common.{◌≡◌, ◌≢◌, ◌∙◌, sym, Bool, Option, Some, None, IsSome, List, [], ◌++◌, ◌∷◌, drop, subst}
 use Rattle.ic_unsafe_ref.specs.declared.place.Place.{Place}
 use Rattle.ic_link_ops.specs.EditsAt.{RemovesThere}
 use Rattle.ic_link_ops.specs.LinkSteps.{LinkStep}
+use Rattle.ic_unsafe_ref.specs.Objects.{Objects, object_at}
+use Rattle.ic_link_ops.specs.PlacedObjects.{ArePlaced}
 use Rattle.ic_link_ops.specs.Positions.{Site, ShowsAt, Stands, HasMember}
 use Rattle.ic_link_ops.specs.Sequences.{IsAbsent, IsDistinct, join, remove}
 use Rattle.ic_link_ops.specs.Tables.{Table}
@@ -43,3 +45,8 @@ module _ {E H : Type 0} {Shows : Table E → H → List Place → Type 0} {linke
         subst (λ (a : Place). IsAbsent a s) (some_same e)
         (subst (IsAbsent x) (kind.one (table new.links) new.head (remove k.0) s (h.removed k.0 k.1 k.2).shows shown) (distinct_middle k.0.front (drop 1 k.0.back) x cut))
     gone None stands h e s shown = absurd (cc)
+
+-- an object stands at each member still, where one was put last
+pub placed_last : {T : Type 0} (objects : Objects T) (s : List Place) (p : Place) → IsSome (object_at objects p) → ArePlaced objects s → ArePlaced objects (s ++ p ∷ [])
+placed_last objects [] p there h = (there, tt)
+placed_last objects (x ∷ s) p there h = (h.0, placed_last objects s p there h.1)

@@ -5,7 +5,7 @@
 //! let start = watch.start();
 //! ```
 
-ghost use Rattle.std.specs.Prelude.{◌≡◌, ◌≢◌, ◌<◌, true, All, AllPairs, IfOk};
+ghost use Rattle.std.specs.Prelude.{◌≡◌, ◌≢◌, ◌<◌, true, All, AllPairs, IfOk, IfSome};
 ghost use Rattle.std.specs.Bool.{OnTrue};
 ghost use Rattle.ic_unsafe_ref.specs.Places.{index_of};
 ghost use Rattle.ic_unsafe_ref.specs.Objects.{is_placed};
@@ -77,6 +77,19 @@ pub fn values_of(
     Ok(values)
 }
 
+// The place of that index, if it is covered and an object stands there.
+fn place_of(objects: &Objects<u64>, index: u64, covered: usize) -> Option<Place>
+    ensures covered { IfSome result (λ place. index_of place < covered) }
+    ensures placed { IfSome result (λ place. is_placed objects.now place ≡ true) }
+{
+    let place = Place::new(index as usize)?;
+    if place.index() < covered && objects.is_placed(place) {
+        Some(place)
+    } else {
+        None
+    }
+}
+
 /// The places of objects that are covered, in this order.
 pub fn places_of(
     alloc: Global,
@@ -89,10 +102,8 @@ pub fn places_of(
 {
     let mut places = Vec::new(alloc);
     for index in order {
-        if let Some(place) = Place::new(*index as usize) {
-            if place.index() < covered && objects.is_placed(place) {
-                places.push(place)?;
-            }
+        if let Some(place) = place_of(objects, *index, covered) {
+            places.push(place)?;
         }
     }
     Ok(places)
