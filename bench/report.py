@@ -87,7 +87,7 @@ def page(figures):
         lines += [
             "## The program",
             "",
-            "`ic_main` on 1,000,000 commands over all pairs of kind and table, beside a loop in Rust that prints each line again "
+            f"`ic_main` on {1_000_000 // figures.options.divide:,} commands over all pairs of kind and table, beside a loop in Rust that prints each line again "
             "(`bench/rust/src/bin/echo.rs`). The figures are of one line.",
             "",
             *table(["commands", "nanoseconds: ours", "echo", "instructions: ours", "echo"], program_rows(figures.program)),
