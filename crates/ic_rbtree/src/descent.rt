@@ -83,6 +83,9 @@ impl Descent {
 
 // Goes down from the root to a gap: left of the members that are greater than what is searched, right of those that are
 // less, and past equal ones to the side `equals`.
+//
+// Each side tests its own child, so that the two loads are two branches: which one is next is then guessed, and loaded ahead. One load from
+// an address that is picked waits for each comparison, and takes twice as long in a tree that memory keeps.
 #[inline]
 pub(crate) fn descend<L: RBTreeOps, V, P: Probe<V>, O: Values<V>>(
     links: &L,
@@ -104,11 +107,17 @@ pub(crate) fn descend<L: RBTreeOps, V, P: Probe<V>, O: Values<V>>(
         let order = compare_at(objects, probe, place);
         let left = goes_left(order, equals);
         descent.pass(place, left, order.is_eq());
-        at = if left {
-            links.left(place)
+        if left {
+            let Some(next) = links.left(place) else {
+                return descent;
+            };
+            at = Some(next);
         } else {
-            links.right(place)
-        };
+            let Some(next) = links.right(place) else {
+                return descent;
+            };
+            at = Some(next);
+        }
     }
     descent
 }
