@@ -16,8 +16,7 @@ use Rattle.ic_link_ops.specs.RedBlackTree.{Node}
 use Rattle.ic_link_ops.specs.LinkSteps.{LinkStep}
 use Rattle.ic_link_ops.specs.EditsAt.{RemovesThere}
 use Rattle.ic_link_ops.specs.Positions.{Site, ShowsAt, Stands, HasMember}
-use Rattle.ic_link_ops.proofs.Positions.{gap_there}
-use Rattle.ic_link_ops.proofs.SequenceLemmas.{first_is}
+use Rattle.ic_link_ops.proofs.Positions.{member_there}
 use Rattle.ic_link_ops.proofs.ShownTrees.{shows_nothing}
 use Rattle.ic_rbtree.specs.Borders.{IsBorder, IsSorted, less_at}
 use Rattle.ic_rbtree.specs.Ordered.{InsertsInOrder}
@@ -158,12 +157,5 @@ module _ {T : Type 0} (key : T → ℕ) (objects : Objects T) where
     pub sorted_taken : ((s u : List Place) → ShowsAt Shows table old s → ShowsAt Shows table old u → s ≡ u) → Stands Shows table old → (r : Option Place)
         → RemovesThere Shows table Does old r new → ShowsSorted key (ShowsAt Shows table old) objects → ShowsSorted key (ShowsAt Shows table new) objects
     sorted_taken one stands None off q = subst (λ (z : Site L H). ShowsSorted key (ShowsAt Shows table z) objects) (sym off.null) q
-    sorted_taken one stands (Some p) off q =
-        let k = gap_there stands in
-        let front = k.0.front in
-        let back = drop 1 k.0.back in
-        let same : q.placed.members ≡ front ++ p ∷ back = one q.placed.members (join k.0) q.placed.shown k.1 ∙ ap (λ (s : List Place). front ++ s) (first_is k.0.back (off.answer ∙ k.2)) in
-        record {
-          placed = record { members = front ++ back; shown = (off.removed k.0 k.1 k.2).shows; placed = placed_without front p back (subst (ArePlaced objects) same q.placed.placed) };
-          sorted = sorted_without (key_at key objects) front p back (subst (λ s. IsSorted nat_cmp (keys_at key objects s)) same q.sorted);
-        }
+    sorted_taken one stands (Some p) off q = sorted_less one (member_there stands (sym off.answer))
+        (λ front back shown. (off.removed (record { front = front; back = p ∷ back }) shown (sym off.answer)).shows) q
