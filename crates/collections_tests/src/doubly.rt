@@ -21,14 +21,14 @@ use test_support::tables::write_linked;
 
 /// A list, the table of its links, which covers the places 0 to 7, and its objects: 10 to 80 stand there, in this order.
 #[derive(Drop)]
-struct Lists {
-    objects: Objects<u64>,
-    links: LinkOps,
-    list: LinkedList<u64>,
+pub(crate) struct Lists {
+    pub(crate) objects: Objects<u64>,
+    pub(crate) links: LinkOps,
+    pub(crate) list: LinkedList<u64>,
 }
 
-// A list of the objects at the first places, as many as that, in their order.
-fn list_of(rt: &impl Abort, alloc: Global, members: usize) -> Lists
+/// A list of the objects at the first places, as many as that, in their order.
+pub(crate) fn list_of(rt: &impl Abort, alloc: Global, members: usize) -> Lists
     requires { members ≤ 8 }
     ensures covers { (plain_table result.links).extent.places ≡ 8 }
     ensures shown { ShowsPlaced (PlainShows result.links result.list) result.objects }
@@ -110,19 +110,6 @@ fn write_walk(notes: &mut Text, mut walk: Iter<'_, u64, LinkOps>)
     write_values(notes, &given);
 }
 
-// Notes the debug text of the objects that a walk gives.
-fn write_text(notes: &mut Text, alloc: Global, walk: Iter<'_, u64, LinkOps>)
-    requires can { CanWalk neighbors_of (λ links. plain_table links) (λ objects. objects) walk }
-{
-    let mut found = Vec::new(alloc);
-    for given in walk {
-        let _ = found.push(*given);
-    }
-    if let Ok(text) = format!(in alloc; "{:?} ", found.as_slice()) {
-        notes.word(text.as_str());
-    }
-}
-
 // Notes the debug text of two links.
 fn write_links(notes: &mut Text, alloc: Global, first: &Link, second: &Link) {
     if let Ok(text) = format!(in alloc; "{first:?} {second:?} ") {
@@ -182,11 +169,6 @@ fn doubly_linked_list(rt: HostRuntime) {
     let mut notes = Text::new(alloc);
     let mut lists = list_of(&rt, alloc, 4);
     write_walk(&mut notes, lists.list.iter(&lists.links, &lists.objects));
-    write_text(
-        &mut notes,
-        alloc,
-        lists.list.iter(&lists.links, &lists.objects),
-    );
     let (linked, unlinked) = (reference(3).place(), reference(4).place());
     write_links(
         &mut notes,
@@ -229,7 +211,7 @@ fn doubly_linked_list(rt: HostRuntime) {
         &rt,
         alloc,
         &notes,
-        "40 10 40 30 20 none none [10, 20, 30, 40]  linked unlinked
+        "40 10 40 30 20 none none  linked unlinked
         no 10 none 1  no 20 0 2  no 30 1 3  no 40 2 none  3
         no 40 2 none  yes none 3 0  no 10 none 1  no 20 0 2  1
         0  1 2 3

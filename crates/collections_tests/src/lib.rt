@@ -10,6 +10,8 @@ mod fixtures;
 #[cfg(test)]
 mod notes;
 #[cfg(test)]
+mod printed;
+#[cfg(test)]
 mod singly;
 #[cfg(test)]
 mod tree;

@@ -19,14 +19,14 @@ use test_support::tables::write_linked;
 
 /// A list, the table of its links, which covers the places 0 to 7, and its objects: 10 to 80 stand there, in this order.
 #[derive(Drop)]
-struct Lists {
-    objects: Objects<u64>,
-    links: LinkOps,
-    list: SinglyLinkedList<u64>,
+pub(crate) struct Lists {
+    pub(crate) objects: Objects<u64>,
+    pub(crate) links: LinkOps,
+    pub(crate) list: SinglyLinkedList<u64>,
 }
 
-// A list of the objects at the first places, as many as that, in their order.
-fn list_of(rt: &impl Abort, alloc: Global, members: usize) -> Lists
+/// A list of the objects at the first places, as many as that, in their order.
+pub(crate) fn list_of(rt: &impl Abort, alloc: Global, members: usize) -> Lists
     requires { members ≤ 8 }
     ensures covers { (plain_table result.links).extent.places ≡ 8 }
     ensures shown { ShowsPlaced (PlainShows result.links result.list) result.objects }

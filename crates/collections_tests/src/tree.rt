@@ -4,5 +4,5 @@ mod arrays;
 mod cursors;
 mod keys;
 mod shape;
-mod trees;
+pub(crate) mod trees;
 mod walks;

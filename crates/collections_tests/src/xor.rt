@@ -24,14 +24,14 @@ use test_support::tables::write_linked;
 
 /// A list, the table of its links, which covers the places 0 to 7, and its objects: 10 to 80 stand there, in this order.
 #[derive(Drop)]
-struct Lists<W: NextWord> {
-    objects: Objects<u64>,
-    links: PlainTable<W>,
-    list: XorLinkedList<u64>,
+pub(crate) struct Lists<W: NextWord> {
+    pub(crate) objects: Objects<u64>,
+    pub(crate) links: PlainTable<W>,
+    pub(crate) list: XorLinkedList<u64>,
 }
 
-// A list of the objects at the first places, as many as that, in their order.
-fn list_of<W: NextWord>(rt: &impl Abort, alloc: Global, members: usize) -> Lists<W>
+/// A list of the objects at the first places, as many as that, in their order.
+pub(crate) fn list_of<W: NextWord>(rt: &impl Abort, alloc: Global, members: usize) -> Lists<W>
     requires { members ≤ 8 }
     ensures covers { (table W.unlinked result.links).extent.places ≡ 8 }
     ensures shown { ShowsPlaced (PlainShows W.unlinked W.is_linked W.next_word result.links result.list) result.objects }

@@ -23,10 +23,12 @@ mod cursor;
 mod cursor_mut;
 mod cursor_owning;
 mod kind;
+mod listing;
 mod position;
 
 pub use cursor::Cursor;
 pub use cursor_mut::CursorMut;
 pub use cursor_owning::CursorOwning;
 pub use kind::{Collection, Kind, OneWay, Ordered, Sliced, TwoWay, TwoWaySliced};
+pub use listing::Listing;
 pub use position::Position;

@@ -14,6 +14,7 @@ ghost use Rattle.ic_link_ops.specs.LinkedList.{Shows};
 ghost use Rattle.ic_link_ops.specs.Walk.{is_end, GivesFirst, GivesLast};
 
 use crate::LinkedList;
+use ic_cursors::Listing;
 use ic_link_ops::LinkOps;
 use ic_link_ops::linked_list::LinkedListOps;
 use ic_unsafe_ref::{Objects, Place, Values};
@@ -142,5 +143,19 @@ impl<T> LinkedList<T> {
             head: self.first(),
             tail: self.last(),
         }
+    }
+
+    /// What prints the objects of the list, in order: `{:?}` writes `[10, 20]`, and `{:#?}` writes each object on lines of its own. It
+    /// asks that all members are placed. O(1), and no memory.
+    pub fn debug<'a, L: LinkedListOps, O: Values<T>>(
+        &self,
+        links: &'a L,
+        objects: &'a O,
+    ) -> Listing<Iter<'a, T, L, O>>
+        requires placed { ShowsPlaced (Shows L.neighbors (L.table links.now) self.now) (O.values objects.now) }
+        ensures lists { (s : List Place) → Shows L.neighbors (L.table links.now) self.now s
+            → objects_left L.neighbors L.table O.values result ≡ values_at (O.values objects.now) s }
+    {
+        Listing::new(self.iter(links, objects))
     }
 }

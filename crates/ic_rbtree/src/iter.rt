@@ -16,7 +16,7 @@ ghost use Rattle.ic_rbtree.specs.Tree.{root_of};
 
 use crate::readings::is_at;
 use crate::{KeyAdapter, RBTree};
-use ic_cursors::{Kind, TwoWay};
+use ic_cursors::{Kind, Listing, TwoWay};
 use ic_link_ops::rbtree::RBTreeOps;
 use ic_link_ops::{End, LinkOps};
 use ic_unsafe_ref::{Objects, Place, Values};
@@ -157,5 +157,19 @@ impl<A: KeyAdapter> RBTree<A> {
             head: self.first(links),
             tail: self.last(links),
         }
+    }
+
+    /// What prints the objects of the tree, in order: `{:?}` writes `[10, 20]`, and `{:#?}` writes each object on lines of its own. It
+    /// asks that all members are placed. O(log n), and no memory.
+    pub fn debug<'a, L: RBTreeOps, O: Values<A::Value>>(
+        &'a self,
+        links: &'a L,
+        objects: &'a O,
+    ) -> Listing<Iter<'a, A, L, O>>
+        requires placed { ShowsPlaced (Shows L.node (L.table links.now) (root_of self.now)) (O.values objects.now) }
+        ensures lists { (s : List Place) → Shows L.node (L.table links.now) (root_of self.now) s
+            → objects_left L.node L.table O.values result ≡ values_at (O.values objects.now) s }
+    {
+        Listing::new(self.iter(links, objects))
     }
 }

@@ -13,6 +13,7 @@ ghost use Rattle.ic_link_ops.specs.SinglyLinkedList.{Shows};
 ghost use Rattle.ic_link_ops.specs.Walk.{GivesFirst};
 
 use crate::SinglyLinkedList;
+use ic_cursors::Listing;
 use ic_link_ops::LinkOps;
 use ic_link_ops::singly_linked_list::SinglyLinkedListOps;
 use ic_unsafe_ref::{Objects, Place, Values};
@@ -97,5 +98,19 @@ impl<T> SinglyLinkedList<T> {
             of: PhantomData,
             head: self.head(),
         }
+    }
+
+    /// What prints the objects of the list, in order: `{:?}` writes `[10, 20]`, and `{:#?}` writes each object on lines of its own. It
+    /// asks that all members are placed. O(1), and no memory.
+    pub fn debug<'a, L: SinglyLinkedListOps, O: Values<T>>(
+        &self,
+        links: &'a L,
+        objects: &'a O,
+    ) -> Listing<Iter<'a, T, L, O>>
+        requires placed { ShowsPlaced (Shows L.successor (L.table links.now) self.now) (O.values objects.now) }
+        ensures lists { (s : List Place) → Shows L.successor (L.table links.now) self.now s
+            → objects_left L.successor L.table O.values result ≡ values_at (O.values objects.now) s }
+    {
+        Listing::new(self.iter(links, objects))
     }
 }

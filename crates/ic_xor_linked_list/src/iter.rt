@@ -15,6 +15,7 @@ ghost use Rattle.ic_link_ops.specs.Walk.{is_end, GivesFirst, GivesLast};
 ghost use Rattle.ic_link_ops.specs.PlacedObjects.{ShowsPlaced, values_at};
 
 use crate::XorLinkedList;
+use ic_cursors::Listing;
 use ic_link_ops::LinkOps;
 use ic_link_ops::xor_linked_list::XorLinkedListOps;
 use ic_unsafe_ref::{Objects, Place, Values};
@@ -152,5 +153,19 @@ impl<T> XorLinkedList<T> {
             tail: self.tail(),
             behind: None,
         }
+    }
+
+    /// What prints the objects of the list, in order: `{:?}` writes `[10, 20]`, and `{:#?}` writes each object on lines of its own. It
+    /// asks that all members are placed. O(1), and no memory.
+    pub fn debug<'a, L: XorLinkedListOps, O: Values<T>>(
+        &self,
+        links: &'a L,
+        objects: &'a O,
+    ) -> Listing<Iter<'a, T, L, O>>
+        requires placed { ShowsPlaced (Shows L.linked L.Joins (L.table links.now) self.now) (O.values objects.now) }
+        ensures lists { (s : List Place) → Shows L.linked L.Joins (L.table links.now) self.now s
+            → objects_left L.other L.table O.values result ≡ values_at (O.values objects.now) s }
+    {
+        Listing::new(self.iter(links, objects))
     }
 }
