@@ -1,6 +1,6 @@
 //! The collections: what no session of the program shows, since a world does not make the call. Cursors that read, and those that
-//! borrow their collection, walks, laws, and the words of links. Each test makes its calls one after the other, notes what each
-//! answers, and compares the notes with what they are to be.
+//! borrow their collection, walks, laws, the words of links, and what is printed. Each test makes its calls one after the other, notes
+//! what each answers, and compares the notes with what they are to be.
 #![tactic(auto)]
 
 #[cfg(test)]

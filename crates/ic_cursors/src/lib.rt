@@ -9,7 +9,8 @@
 //! - [`Sliced`], [`TwoWaySliced`]: splices and splits, behind a position and in front of it.
 //! - [`Ordered`]: the insert where a key belongs.
 //!
-//! [`Cursor`] reads, [`CursorMut`] edits, and [`CursorOwning`] edits and keeps its collection. The kinds make them.
+//! [`Cursor`] reads, [`CursorMut`] edits, and [`CursorOwning`] edits and keeps its collection. [`Listing`] prints
+//! the objects of a walk. The kinds make them all.
 //!
 //! ```text
 //! let mut cursor = list.cursor_mut(&mut links); // null

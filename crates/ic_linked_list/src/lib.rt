@@ -35,6 +35,7 @@ mod surgery;
 mod whole;
 
 pub use cursors::{Cursor, CursorMut, CursorOwning};
+pub use ic_cursors::Listing;
 pub use ic_link_ops::linked_list::{Link, LinkOps, LinkedListOps};
 pub use into_iter::IntoIter;
 pub use iter::Iter;

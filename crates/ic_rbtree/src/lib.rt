@@ -35,6 +35,7 @@ mod writers;
 
 pub use cursors::{Cursor, CursorMut, CursorOwning};
 pub use entry::{Entry, InsertCursor, RefusedInsert};
+pub use ic_cursors::Listing;
 pub use ic_link_ops::Color;
 pub use ic_link_ops::rbtree::{Link, LinkOps, RBTreeOps};
 pub use into_iter::IntoIter;

@@ -38,6 +38,7 @@ mod surgery;
 mod whole;
 
 pub use cursors::{Cursor, CursorMut, CursorOwning};
+pub use ic_cursors::Listing;
 pub use ic_link_ops::xor_linked_list::{Link, LinkOps, XorLinkedListOps};
 pub use into_iter::IntoIter;
 pub use iter::Iter;

@@ -4,4 +4,5 @@ pub use ic_atomic::linked_list::AtomicLinkOps;
 pub use ic_laws::linked_list as laws;
 pub use ic_linked_list::{
     Cursor, CursorMut, CursorOwning, IntoIter, Iter, Link, LinkOps, LinkedList, LinkedListOps,
+    Listing,
 };

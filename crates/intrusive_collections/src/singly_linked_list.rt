@@ -3,6 +3,6 @@
 pub use ic_atomic::singly_linked_list::AtomicLinkOps;
 pub use ic_laws::singly_linked_list as laws;
 pub use ic_singly_linked_list::{
-    Cursor, CursorMut, CursorOwning, IntoIter, Iter, Link, LinkOps, SinglyLinkedList,
+    Cursor, CursorMut, CursorOwning, IntoIter, Iter, Link, LinkOps, Listing, SinglyLinkedList,
     SinglyLinkedListOps,
 };
