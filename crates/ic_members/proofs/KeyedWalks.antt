@@ -111,7 +111,3 @@ range_shown {runs = runs} {s} {w} shows x shown = by (runs x.low x.high) refl wh
   by : (b : Bool) → runs x.low x.high ≡ b → (front back : List Place) × shows (front ++ (w ++ back))
   by true e = let part = x.segment e in (part.front, part.back, subst shows (sym part.same) shown)
   by false e = ([], s, subst shows (sym (ap (λ r. r ++ s) (x.nothing e))) shown)
-
--- the adapter that a tree keeps
-pub same_adapter : {A : Type 0} {a b : A} → Some a ≡ Some b → a ≡ b
-same_adapter e = cc

@@ -1,5 +1,5 @@
 -- What a call makes of a collection, of whatever kind: how the words of its kind become those of all kinds. And moves.
-use Rattle.std.proofs.Common.{◌≡◌, Bool, Option, Some, List, refl, ap}
+use Rattle.std.proofs.Common.{◌≡◌, Bool, Option, Some, List, refl}
 use Rattle.ic_unsafe_ref.specs.declared.place.Place.{Place}
 use Rattle.ic_link_ops.specs.Sequences.{Cut, join, first, last, IsAfter, IsBefore}
 use Rattle.ic_link_ops.specs.Tables.{Table}
@@ -14,9 +14,10 @@ use Rattle.ic_linked_list.specs.CursorOwning as doubly_cursor
 use Rattle.ic_singly_linked_list.specs.CursorOwning as singly_cursor
 use Rattle.ic_xor_linked_list.specs.CursorOwning as xor_cursor
 use Rattle.ic_rbtree.specs.CursorOwning as tree_cursor
-use Rattle.ic_rbtree.specs.Tree.{root_of, adapter_of}
+use Rattle.ic_rbtree.specs.Tree.{root_of}
 use Rattle.ic_fields.specs.declared.entry.Entry.{Entry}
 use Rattle.ic_fields.specs.Entries.{is_linked, neighbors, successor, node, Joins}
+use Rattle.ic_members.specs.declared.unkeyed.Unkeyed.{Unkeyed}
 use Rattle.ic_members.specs.declared.members.Members.{Members}
 use Rattle.ic_members.specs.declared.members.Members.TheVariants.{Singly, Doubly, Xor, Tree}
 use Rattle.ic_members.specs.Members.{IsAt, StandsIn, ShowsIn, cursor_in, members_in, Keeps, Held, Alike}
@@ -26,7 +27,7 @@ use Rattle.ic_members.proofs.Standing.{known}
 
 -- `Shows t head s`: the shows-relation of a kind. A CALL TURNS m, with this head, into m', with that one: what is shown for either is
 -- what its kind says, m' stands in what is shown for it, and the two are of the same kind
-pub record Turned {A V K H : Type 0} (Shows : Table Entry → H → List Place → Type 0) (t t' : Table Entry) (head head' : H) (m m' : Members A V K) : Type 0 where
+pub record Turned {V H : Type 0} (Shows : Table Entry → H → List Place → Type 0) (t t' : Table Entry) (head head' : H) (m m' : Members V) : Type 0 where
   pub reads : (s : List Place) → ShowsIn t m s → Shows t head s
   pub shows : (s : List Place) → Shows t' head' s → ShowsIn t' m' s
   pub stands : (s : List Place) → Shows t' head' s → StandsIn s m'
@@ -38,45 +39,44 @@ at_shown : {L E H : Type 0} {Shows : Table E → H → List Place → Type 0} {l
 at_shown kind stands s shown = (stands.gap, one_sequence_is_shown kind stands.shown shown, stands.after)
 
 -- SO IS EACH CALL of a kind that says that its cursor stands then
-module _ {A V K L : Type 0} {table : L → Table Entry} {new : L} {t : Table Entry} where
+module _ {V L : Type 0} {table : L → Table Entry} {new : L} {t : Table Entry} where
   pub singly_turned : {m m' : singly_cursor.Owning V} → position.Stands (singly.Shows successor) table (singly_cursor.site_of new m')
-      → Turned {A = A} {V = V} {K = K} (singly.Shows successor) t (table new) (singly_cursor.list_of m) (singly_cursor.list_of m') (Singly m) (Singly m')
+      → Turned {V = V} (singly.Shows successor) t (table new) (singly_cursor.list_of m) (singly_cursor.list_of m') (Singly m) (Singly m')
   singly_turned stands = record {
     reads = λ s shown. shown;
     shows = λ s shown. shown;
     stands = at_shown singly_kind stands;
-    alike = record { kind = refl; adapter = refl };
+    alike = refl;
   }
 
   pub doubly_turned : {m m' : doubly_cursor.Owning V} → position.Stands (doubly.Shows neighbors) table (doubly_cursor.site_of new m')
-      → Turned {A = A} {V = V} {K = K} (doubly.Shows neighbors) t (table new) (doubly_cursor.list_of m) (doubly_cursor.list_of m') (Doubly m) (Doubly m')
+      → Turned {V = V} (doubly.Shows neighbors) t (table new) (doubly_cursor.list_of m) (doubly_cursor.list_of m') (Doubly m) (Doubly m')
   doubly_turned stands = record {
     reads = λ s shown. shown;
     shows = λ s shown. shown;
     stands = at_shown doubly_kind stands;
-    alike = record { kind = refl; adapter = refl };
+    alike = refl;
   }
 
   pub xor_turned : {m m' : xor_cursor.Owning V} → xor_cursor.KnowsNeighbors (xor.Shows is_linked Joins) table new m'
-      → Turned {A = A} {V = V} {K = K} (xor.Shows is_linked Joins) t (table new) (xor_cursor.list_of m) (xor_cursor.list_of m') (Xor m) (Xor m')
+      → Turned {V = V} (xor.Shows is_linked Joins) t (table new) (xor_cursor.list_of m) (xor_cursor.list_of m') (Xor m) (Xor m')
   xor_turned {m' = to} knows = record {
     reads = λ s shown. shown;
     shows = λ s shown. shown;
     stands = λ s shown. known {table = table} {links = new} to s shown knows;
-    alike = record { kind = refl; adapter = refl };
+    alike = refl;
   }
 
-  pub tree_turned : {m m' : tree_cursor.CursorOwning A V} → adapter_of (tree_cursor.tree_of m') ≡ adapter_of (tree_cursor.tree_of m)
-      → position.Stands (tree.Shows node) table (tree_cursor.site_of new m')
-      → Turned {A = A} {V = V} {K = K} (tree.Shows node) t (table new) (root_of (tree_cursor.tree_of m)) (root_of (tree_cursor.tree_of m')) (Tree m) (Tree m')
-  tree_turned same stands = record {
+  pub tree_turned : {m m' : tree_cursor.CursorOwning (Unkeyed V) V} → position.Stands (tree.Shows node) table (tree_cursor.site_of new m')
+      → Turned {V = V} (tree.Shows node) t (table new) (root_of (tree_cursor.tree_of m)) (root_of (tree_cursor.tree_of m')) (Tree m) (Tree m')
+  tree_turned stands = record {
     reads = λ s shown. shown;
     shows = λ s shown. shown;
     stands = at_shown tree_kind stands;
-    alike = record { kind = refl; adapter = ap Some same };
+    alike = refl;
   }
 
-module _ {A V K H : Type 0} {Shows : Table Entry → H → List Place → Type 0} {t t' : Table Entry} {head head' : H} {m m' : Members A V K}
+module _ {V H : Type 0} {Shows : Table Entry → H → List Place → Type 0} {t t' : Table Entry} {head head' : H} {m m' : Members V}
     (turned : Turned Shows t t' head head' m m') (held : Held t m) where
   -- what is shown, cut at a gap
   pub cut_shown : (gap : Cut) → join gap ≡ members_in t m → Shows t head (join gap)
@@ -85,7 +85,7 @@ module _ {A V K H : Type 0} {Shows : Table Entry → H → List Place → Type 0
   -- the collection is kept
   pub turned_keeps : t'.extent ≡ t.extent → (s : List Place) → Shows t' head' s → Keeps t' m' s
   turned_keeps extent s shown = record {
-    carried = rw (extent, turned.alike.kind) held.carried;
+    carried = rw (extent, turned.alike) held.carried;
     shown = turned.shows s shown;
     stands = turned.stands s shown;
   }
@@ -95,7 +95,7 @@ pub with_head : {L H : Type 0} {Shows : Table Entry → H → List Place → Typ
     → head' ≡ head → position.Stands Shows table (site links head at) → position.Stands Shows table (site links head' at)
 with_head same stands = record { gap = stands.gap; shown = rw same stands.shown; after = stands.after }
 
-module _ {A V K H : Type 0} {Shows : Table Entry → H → List Place → Type 0} {head head' : H} {m m' : Members A V K} where
+module _ {V H : Type 0} {Shows : Table Entry → H → List Place → Type 0} {head head' : H} {m m' : Members V} where
   -- A MOVE anywhere,
   pub moves : {t : Table Entry} {cursor : Option Place} → Turned Shows t t head head' m m' → head' ≡ head → Held t m → cursor_in m' ≡ cursor → Moves t m m' cursor
   moves {t = t'} turned same held is = record {

@@ -50,22 +50,22 @@ pub xor_null : {V : Type 0} {t : Table Entry} (m : xor_cursor.Owning V) (s : Lis
 xor_null m s shown null = rw null (at_front s, refl, refl, shown.head)
 
 -- a kind of list, of which a collection `made m` has this head: what the table shows for the head, it shows for the collection
-pub record IsListKind {A V K C H : Type 0} (made : C → Members A V K) (Shows : Table Entry → H → List Place → Type 0) (head : C → H) : Type 0 where
+pub record IsListKind {V C H : Type 0} (made : C → Members V) (Shows : Table Entry → H → List Place → Type 0) (head : C → H) : Type 0 where
   pub alike : (m m' : C) → Alike (made m) (made m')
   pub shows : (t : Table Entry) (m : C) (s : List Place) → Shows t (head m) s → ShowsIn t (made m) s
   pub shown : (t : Table Entry) (m : C) (s : List Place) → ShowsIn t (made m) s → Shows t (head m) s
 
-module _ {A V K : Type 0} where
-  pub singly_list : IsListKind {A = A} {V = V} {K = K} (λ m. Singly m) (singly.Shows successor) (λ m. singly_cursor.list_of m)
-  singly_list = record { alike = λ m m'. record { kind = refl; adapter = refl }; shows = λ t m s h. h; shown = λ t m s h. h }
+module _ {V : Type 0} where
+  pub singly_list : IsListKind {V = V} (λ m. Singly m) (singly.Shows successor) (λ m. singly_cursor.list_of m)
+  singly_list = record { alike = λ m m'. refl; shows = λ t m s h. h; shown = λ t m s h. h }
 
-  pub doubly_list : IsListKind {A = A} {V = V} {K = K} (λ m. Doubly m) (doubly.Shows neighbors) (λ m. doubly_cursor.list_of m)
-  doubly_list = record { alike = λ m m'. record { kind = refl; adapter = refl }; shows = λ t m s h. h; shown = λ t m s h. h }
+  pub doubly_list : IsListKind {V = V} (λ m. Doubly m) (doubly.Shows neighbors) (λ m. doubly_cursor.list_of m)
+  doubly_list = record { alike = λ m m'. refl; shows = λ t m s h. h; shown = λ t m s h. h }
 
-  pub xor_list : IsListKind {A = A} {V = V} {K = K} (λ m. Xor m) (xor.Shows is_linked Joins) (λ m. xor_cursor.list_of m)
-  xor_list = record { alike = λ m m'. record { kind = refl; adapter = refl }; shows = λ t m s h. h; shown = λ t m s h. h }
+  pub xor_list : IsListKind {V = V} (λ m. Xor m) (xor.Shows is_linked Joins) (λ m. xor_cursor.list_of m)
+  xor_list = record { alike = λ m m'. refl; shows = λ t m s h. h; shown = λ t m s h. h }
 
-module _ {A V K C H : Type 0} {made : C → Members A V K} {Shows : Table Entry → H → List Place → Type 0} {head : C → H} (kind : IsListKind made Shows head) where
+module _ {V C H : Type 0} {made : C → Members V} {Shows : Table Entry → H → List Place → Type 0} {head : C → H} (kind : IsListKind made Shows head) where
   -- what the list shows, cut at a gap
   shown_cut : {t : Table Entry} {m : C} {s : List Place} → Keeps t (made m) s → (gap : Cut) → join gap ≡ s → Shows t (head m) (join gap)
   shown_cut {t} {m} {s} held gap cut = rw cut (kind.shown t m s held.shown)
@@ -74,7 +74,7 @@ module _ {A V K C H : Type 0} {made : C → Members A V K} {Shows : Table Entry 
   keeps : {t t' : Table Entry} {m m' : C} {s u touched : List Place} → Keeps t (made m) s → KeepsBeside t t' touched
       → Shows t' (head m') u → StandsIn u (made m') → Keeps t' (made m') u
   keeps {t' = t'} {m = m} {m' = m'} {u = u} held frame shown stands = record {
-    carried = rw (frame.extent, (kind.alike m m').kind) held.carried;
+    carried = rw (frame.extent, kind.alike m m') held.carried;
     shown = kind.shows t' m' u shown;
     stands = stands;
   }

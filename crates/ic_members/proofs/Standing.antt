@@ -19,19 +19,19 @@ use Rattle.ic_members.proofs.AllKinds.{xor_kind}
 pub before_at : {s : List Place} {position : Option Place} → IsAt s position → (gap : Cut) × (join gap ≡ s) × IsBefore gap position
 before_at {s} {position} at = let prev = gap_before at.0 position at.2 in (prev.0, prev.1 ∙ at.1, prev.2)
 
-module _ {A V K : Type 0} where
+module _ {V : Type 0} where
   -- whatever the kind, the cursor is at a position of s
-  pub stands_at : (s : List Place) (m : Members A V K) → StandsIn s m → IsAt s (cursor_in m)
+  pub stands_at : (s : List Place) (m : Members V) → StandsIn s m → IsAt s (cursor_in m)
   stands_at s (Singly m) at = at
   stands_at s (Doubly m) at = at
   stands_at s (Xor m) at = (at.0, at.1, at.2)
   stands_at s (Tree m) at = at
 
   -- so there is a gap after it, and one before it
-  pub gap_after_cursor : {t : Table Entry} (m : Members A V K) → Held t m → IsAt (members_in t m) (cursor_in m)
+  pub gap_after_cursor : {t : Table Entry} (m : Members V) → Held t m → IsAt (members_in t m) (cursor_in m)
   gap_after_cursor {t} m held = stands_at (members_in t m) m held.stands
 
-  pub gap_before_cursor : {t : Table Entry} (m : Members A V K) → Held t m → (gap : Cut) × (join gap ≡ members_in t m) × IsBefore gap (cursor_in m)
+  pub gap_before_cursor : {t : Table Entry} (m : Members V) → Held t m → (gap : Cut) × (join gap ≡ members_in t m) × IsBefore gap (cursor_in m)
   gap_before_cursor m held = before_at (gap_after_cursor m held)
 
 -- AN XOR LIST'S CURSOR keeps the place behind it, as the calls of the list ask it,

@@ -36,7 +36,7 @@ module _ {A V K : Type 0} where
 abbrev pub IsVacantFor : (Place → Ordering) → Cut → Type 0
 IsVacantFor at gap = IsBorder (at_most_at at) gap × IsBorder (less_at at) gap
 
-module _ {A V K : Type 0} (at : Place → Ordering) (t t' : Table Entry) (m m' : Members A V K) (p : Place) (cursor : Option Place) where
+module _ {V : Type 0} (at : Place → Ordering) (t t' : Table Entry) (m m' : Members V) (p : Place) (cursor : Option Place) where
   -- p is put in order: behind members that are not greater than what is searched, and in front of greater ones
   abbrev pub PutsInOrder : Type 0
   PutsInOrder = AtGap (members_in t m) (λ gap. IsBorder (less_at at) gap × Puts t t' m m' gap p cursor)

@@ -12,7 +12,7 @@ use Rattle.ic_linked_list.specs.CursorOwning as doubly_cursor
 use Rattle.ic_singly_linked_list.specs.CursorOwning as singly_cursor
 use Rattle.ic_xor_linked_list.specs.CursorOwning as xor_cursor
 use Rattle.ic_rbtree.specs.CursorOwning as tree_cursor
-use Rattle.ic_rbtree.specs.Tree.{root_of, adapter_of}
+use Rattle.ic_rbtree.specs.Tree.{root_of}
 use Rattle.ic_fields.specs.declared.entry.Entry.{Entry}
 use Rattle.ic_fields.specs.declared.kind.Kind.{Kind}
 use Rattle.ic_fields.specs.declared.kind.Kind.TheVariants as kind
@@ -75,63 +75,49 @@ is_tree kind.Doubly = false
 is_tree kind.Xor = false
 is_tree kind.Tree = true
 
--- the adapter of a collection of a kind, of which trees alone keep one
-abbrev pub adapter_for : {A : Type 0} → Kind → A → Option A
-adapter_for kind.Singly a = None
-adapter_for kind.Doubly a = None
-adapter_for kind.Xor a = None
-adapter_for kind.Tree a = Some a
-
-module _ {A V K : Type 0} where
-  -- FOR EACH KIND: its name, the adapter of a tree, the member that the cursor is on, which sequence a table shows, the walk that finds
+module _ {V : Type 0} where
+  -- FOR EACH KIND: its name, the member that the cursor is on, which sequence a table shows, the walk that finds
   -- it, and where the cursor stands in it: in an XOR list with the place behind it, which it keeps
-  abbrev pub kind_in : Members A V K → Kind
+  abbrev pub kind_in : Members V → Kind
   kind_in (Singly m) = kind.Singly
   kind_in (Doubly m) = kind.Doubly
   kind_in (Xor m) = kind.Xor
   kind_in (Tree m) = kind.Tree
 
-  abbrev pub adapter_in : Members A V K → Option A
-  adapter_in (Singly m) = None
-  adapter_in (Doubly m) = None
-  adapter_in (Xor m) = None
-  adapter_in (Tree m) = Some (adapter_of (tree_cursor.tree_of m))
-
-  abbrev pub cursor_in : Members A V K → Option Place
+  abbrev pub cursor_in : Members V → Option Place
   cursor_in (Singly m) = singly_cursor.position m
   cursor_in (Doubly m) = doubly_cursor.position m
   cursor_in (Xor m) = xor_cursor.position m
   cursor_in (Tree m) = tree_cursor.position m
 
-  abbrev pub ShowsIn : Table Entry → Members A V K → List Place → Type 0
+  abbrev pub ShowsIn : Table Entry → Members V → List Place → Type 0
   ShowsIn t (Singly m) s = singly.Shows successor t (singly_cursor.list_of m) s
   ShowsIn t (Doubly m) s = doubly.Shows neighbors t (doubly_cursor.list_of m) s
   ShowsIn t (Xor m) s = xor.Shows is_linked Joins t (xor_cursor.list_of m) s
   ShowsIn t (Tree m) s = tree.Shows node t (root_of (tree_cursor.tree_of m)) s
 
-  abbrev pub members_in : Table Entry → Members A V K → List Place
+  abbrev pub members_in : Table Entry → Members V → List Place
   members_in t (Singly m) = singly.members successor t (singly_cursor.list_of m)
   members_in t (Doubly m) = doubly.members neighbors t (doubly_cursor.list_of m)
   members_in t (Xor m) = xor.members other t (xor_cursor.list_of m)
   members_in t (Tree m) = tree_members.members node t (root_of (tree_cursor.tree_of m))
 
-  abbrev pub StandsIn : List Place → Members A V K → Type 0
+  abbrev pub StandsIn : List Place → Members V → Type 0
   StandsIn s (Singly m) = IsAt s (singly_cursor.position m)
   StandsIn s (Doubly m) = IsAt s (doubly_cursor.position m)
   StandsIn s (Xor m) = IsAtBefore s (xor_cursor.position m) (xor_cursor.place_of m).next
   StandsIn s (Tree m) = IsAt s (tree_cursor.position m)
 
   -- THE TABLE KEEPS s for the collection: it carries its kind, shows s, and the cursor stands in s
-  pub record Keeps (t : Table Entry) (m : Members A V K) (s : List Place) : Type 0 where
+  pub record Keeps (t : Table Entry) (m : Members V) (s : List Place) : Type 0 where
     pub carried : carries (kind_of t) (kind_in m) ≡ true
     pub shown : ShowsIn t m s
     pub stands : StandsIn s m
 
   -- it keeps what the walk finds: what every call asks
-  abbrev pub Held : Table Entry → Members A V K → Type 0
+  abbrev pub Held : Table Entry → Members V → Type 0
   Held t m = Keeps t m (members_in t m)
 
-  -- a collection of the same kind, with the same adapter
-  pub record Alike (m m' : Members A V K) : Type 0 where
-    pub kind : kind_in m' ≡ kind_in m
-    pub adapter : adapter_in m' ≡ adapter_in m
+  -- a collection of the same kind
+  abbrev pub Alike : (m m' : Members V) → Type 0
+  Alike m m' = kind_in m' ≡ kind_in m

@@ -1,16 +1,16 @@
 //! Keyed calls of a collection that is a tree.
 //!
 //! ```text
-//! let looks = tree.insert(&mut field, &objects, adapter, place);
+//! let looks = tree.insert(&mut field, &objects, adapter, place); // None: it is linked
 //! tree.find(&field, &objects, adapter, &5) // the first member of key 5, and how many objects were compared
 //! ```
 
-ghost use Rattle.std.specs.Prelude.{◌≡◌, List, ◌++◌, Option, Some, None, true, false, IfOk, IfSome, IfNone};
+ghost use Rattle.std.specs.Prelude.{◌≡◌, List, ◌++◌, Option, Some, None, true, false, IfOk, IfErr, OnErr, IfSome, IfNone, OnSome};
 ghost use Rattle.ic_unsafe_ref.specs.declared.place.Place.{Place};
 ghost use Rattle.ic_unsafe_ref.specs.Objects.{Objects as Placed, is_placed};
 ghost use Rattle.ic_link_ops.specs.Sequences.{Cut, join, IsBefore};
 ghost use Rattle.ic_link_ops.specs.Edits.{Inserts};
-ghost use Rattle.ic_link_ops.specs.Tables.{IsCovered, IsLinked, IsUnlinked, LinksAlso};
+ghost use Rattle.ic_link_ops.specs.Tables.{IsCovered, IsLinked, LinksAlso};
 ghost use Rattle.ic_link_ops.specs.PlacedObjects.{ArePlaced, ShowsPlaced};
 ghost use Rattle.ic_link_ops.specs.RedBlackTree.{Shows};
 ghost use Rattle.ic_rbtree.specs.Borders.{Finds, IsBorder, IsLowerBorder, IsUpperBorder, less_at, at_most_at};
@@ -28,10 +28,11 @@ ghost use Rattle.ic_members.specs.Edits.{AtGap};
 ghost use Rattle.ic_members.specs.Keyed.{FewLooks, FewLooksWithin, looks_within, HasNoLooks, IsVacantFor};
 
 use crate::Members;
+use crate::unkeyed::Unkeyed;
 use ic_fields::{Field, TreeTable, TwoWay};
 use ic_link_ops::End;
 use ic_link_ops::rbtree::RBTreeOps;
-use ic_rbtree::{Bound, CursorMut, Entry, InsertCursor, Iter, KeyAdapter, KeyProbe, RBTree};
+use ic_rbtree::{Bound, Entry, Iter, KeyAdapter, KeyProbe, RBTree, RefusedInsert};
 use ic_unsafe_ref::{Objects, Place, UnsafeRef, Values};
 use std::alloc::{AllocError, Allocator};
 
@@ -110,18 +111,18 @@ fn list_walk<A: KeyAdapter, L: RBTreeOps, O: Values<A::Value>, N: Allocator>(
     Ok(places)
 }
 
-impl<A: KeyAdapter> Members<A> {
-    ghost use Rattle.ic_members.specs.Members.{kind_in, adapter_in, cursor_in, members_in, is_tree, Held};
-    ghost use Rattle.ic_members.specs.Edits.{Moves, Puts};
+impl<T> Members<T> {
+    ghost use Rattle.ic_members.specs.Members.{kind_in, cursor_in, members_in, is_tree, Held};
+    ghost use Rattle.ic_members.specs.Edits.{Moves, Puts, IsUnchanged};
     ghost use Rattle.ic_members.specs.Keyed.{PutsInOrder, PutsAtKey};
 
     /// Puts the cursor on the first member of this key, null if there is none, and answers it with the looks of the descent.
     ///
     /// It asks that this is a tree, and that an object stands at each member. O(log n).
-    pub fn find<M: Allocator, B: Allocator>(
+    pub fn find<A: KeyAdapter<Value = T>, M: Allocator, B: Allocator>(
         &mut self,
         links: &Field<M>,
-        objects: &Objects<A::Value, B>,
+        objects: &Objects<T, B>,
         adapter: A,
         key: &A::Key,
     ) -> (Option<Place>, u64)
@@ -163,10 +164,10 @@ impl<A: KeyAdapter> Members<A> {
     ///
     /// It asks that this is a tree, and that an object stands at each member. In a tree that isn't sorted the cursor is on a
     /// border. O(log n).
-    pub fn lower_bound<M: Allocator, B: Allocator>(
+    pub fn lower_bound<A: KeyAdapter<Value = T>, M: Allocator, B: Allocator>(
         &mut self,
         links: &Field<M>,
-        objects: &Objects<A::Value, B>,
+        objects: &Objects<T, B>,
         adapter: A,
         bound: &Bound<A::Key>,
     ) -> (Option<Place>, u64)
@@ -198,10 +199,10 @@ impl<A: KeyAdapter> Members<A> {
     /// It asks that this is a tree, and that an object stands at each member. In a tree that isn't sorted the cursor is on a
     /// border. O(log n).
     #[tactic(auto, using(crate::proofs::KeyedSearches::upper_member))]
-    pub fn upper_bound<M: Allocator, B: Allocator>(
+    pub fn upper_bound<A: KeyAdapter<Value = T>, M: Allocator, B: Allocator>(
         &mut self,
         links: &Field<M>,
-        objects: &Objects<A::Value, B>,
+        objects: &Objects<T, B>,
         adapter: A,
         bound: &Bound<A::Key>,
     ) -> (Option<Place>, u64)
@@ -229,18 +230,18 @@ impl<A: KeyAdapter> Members<A> {
 
     /// The members between two bounds, in memory of `alloc`, and the looks of both descents.
     ///
-    /// It asks that this is a tree with that adapter, and that an object stands at each member. O(log n + answer).
-    pub fn range<'a, M: Allocator, B: Allocator, N: Allocator>(
-        &'a self,
+    /// It asks that this is a tree, and that an object stands at each member. O(log n + answer).
+    pub fn range<A: KeyAdapter<Value = T>, M: Allocator, B: Allocator, N: Allocator>(
+        &self,
         alloc: N,
-        links: &'a Field<M>,
-        objects: &'a Objects<A::Value, B>,
+        links: &Field<M>,
+        objects: &Objects<T, B>,
         adapter: A,
         min: &Bound<A::Key>,
         max: &Bound<A::Key>,
     ) -> Result<(Vec<Place, N>, u64, u64), AllocError>
         requires held { Held (look links.now) self.now }
-        requires adapter { adapter_in self.now ≡ Some adapter }
+        requires can { is_tree (kind_in self.now) ≡ true }
         requires placed { ArePlaced objects.now (members_in (look links.now) self.now) }
         ensures range { IfOk result (λ answer. IsRange (compared_within (order_of A.Key.cmp (A.key_of adapter)) objects.now min.now)
             (compared_within (order_of A.Key.cmp (A.key_of adapter)) objects.now max.now) (runs_up A.Key.cmp (A.key_of adapter) objects.now)
@@ -251,8 +252,9 @@ impl<A: KeyAdapter> Members<A> {
         match self {
             Members::Tree(cursor) => match links {
                 Field::TwoWay(TwoWay::Tree(links)) => {
-                    let (walk, from, to) = walk_between(cursor.list(), links, objects, min, max);
-                    let places = list_walk(alloc, cursor.list(), links, walk)?;
+                    let tree = RBTree::from_root(adapter, cursor.list().root());
+                    let (walk, from, to) = walk_between(&tree, links, objects, min, max);
+                    let places = list_walk(alloc, &tree, links, walk)?;
                     Ok((places, from, to))
                 }
                 Field::TwoWay(TwoWay::Doubly(_)) | Field::Singly(_) | Field::Xor(_) =>
@@ -262,51 +264,52 @@ impl<A: KeyAdapter> Members<A> {
         }
     }
 
-    /// Puts the object where its own key belongs, behind members with the same key, and the cursor on it. Answers the looks of the
-    /// descent.
+    /// Puts the object where its own key belongs, behind members with the same key, and the cursor on it. Returns the looks of the
+    /// descent, or `None` for an object that is linked, and then nothing has changed.
     ///
-    /// It asks that this is a tree, that an object stands at each member and at the place, and that the place is covered and
-    /// unlinked. O(log n).
+    /// It asks that this is a tree, that an object stands at each member and at the place, and that the place is covered. O(log n).
     #[inline]
-    pub fn insert<M: Allocator, B: Allocator>(
+    pub fn insert<A: KeyAdapter<Value = T>, M: Allocator, B: Allocator>(
         &mut self,
         links: &mut Field<M>,
-        objects: &Objects<A::Value, B>,
+        objects: &Objects<T, B>,
         adapter: A,
         object: Place,
-    ) -> u64
+    ) -> Option<u64>
         requires held { Held (look links.old) self.old }
         requires can { is_tree (kind_in self.old) ≡ true }
         requires placed { ArePlaced objects.now (members_in (look links.old) self.old) }
         requires object { is_placed objects.now object ≡ true }
         requires covered { IsCovered (look links.old) object }
-        requires unlinked { IsUnlinked is_linked (look links.old) object }
-        ensures inserted { PutsInOrder (compared (own_order A.Key.cmp (A.key_of adapter) objects.now object) objects.now)
-            (look links.old) (look links.new) self.old self.new object (Some object) }
-        ensures looks { FewLooks result (members_in (look links.old) self.old) }
+        ensures inserted { OnSome result (PutsInOrder (compared (own_order A.Key.cmp (A.key_of adapter) objects.now object) objects.now)
+            (look links.old) (look links.new) self.old self.new object (Some object)) }
+        ensures looks { IfSome result (λ looks. FewLooks looks (members_in (look links.old) self.old)) }
+        ensures refused { IfNone result (IsLinked is_linked (look links.old) object
+            × IsUnchanged links.old links.new self.old self.new) }
     {
-        let looks = self.cursor_insert(links, objects, adapter, object);
+        let looks = self.cursor_insert(links, objects, adapter, object)?;
         self.stand_at(links, Some(object));
-        looks
+        Some(looks)
     }
 
     /// The same, but the cursor stays.
-    pub fn cursor_insert<M: Allocator, B: Allocator>(
+    pub fn cursor_insert<A: KeyAdapter<Value = T>, M: Allocator, B: Allocator>(
         &mut self,
         links: &mut Field<M>,
-        objects: &Objects<A::Value, B>,
+        objects: &Objects<T, B>,
         adapter: A,
         object: Place,
-    ) -> u64
+    ) -> Option<u64>
         requires held { Held (look links.old) self.old }
         requires can { is_tree (kind_in self.old) ≡ true }
         requires placed { ArePlaced objects.now (members_in (look links.old) self.old) }
         requires object { is_placed objects.now object ≡ true }
         requires covered { IsCovered (look links.old) object }
-        requires unlinked { IsUnlinked is_linked (look links.old) object }
-        ensures inserted { PutsInOrder (compared (own_order A.Key.cmp (A.key_of adapter) objects.now object) objects.now)
-            (look links.old) (look links.new) self.old self.new object (cursor_in self.old) }
-        ensures looks { FewLooks result (members_in (look links.old) self.old) }
+        ensures inserted { OnSome result (PutsInOrder (compared (own_order A.Key.cmp (A.key_of adapter) objects.now object) objects.now)
+            (look links.old) (look links.new) self.old self.new object (cursor_in self.old)) }
+        ensures looks { IfSome result (λ looks. FewLooks looks (members_in (look links.old) self.old)) }
+        ensures refused { IfNone result (IsLinked is_linked (look links.old) object
+            × IsUnchanged links.old links.new self.old self.new) }
     {
         match self {
             Members::Tree(cursor) => match links {
@@ -314,11 +317,11 @@ impl<A: KeyAdapter> Members<A> {
                     let value = objects.get(object).unwrap(); // proved: it is placed
                     let mut probe = KeyProbe::new(adapter, adapter.get_key(value));
                     let object = UnsafeRef::new(object);
-                    let inserted = cursor
-                        .list_mut()
-                        .insert_by(links, objects, &mut probe, object);
-                    inserted.unwrap(); // proved: it is not linked
-                    probe.looks()
+                    let list = cursor.list_mut();
+                    let Ok(()) = list.insert_by(links, objects, &mut probe, object) else {
+                        return None;
+                    };
+                    Some(probe.looks())
                 }
                 Field::TwoWay(TwoWay::Doubly(_)) | Field::Singly(_) | Field::Xor(_) =>
                     unreachable!(),
@@ -332,10 +335,10 @@ impl<A: KeyAdapter> Members<A> {
     /// object is linked, and then nothing has changed.
     ///
     /// It asks that this is a tree, that an object stands at each member, and that the object's place is covered. O(log n).
-    pub fn entry<M: Allocator, B: Allocator>(
+    pub fn entry<A: KeyAdapter<Value = T>, M: Allocator, B: Allocator>(
         &mut self,
         links: &mut Field<M>,
-        objects: &Objects<A::Value, B>,
+        objects: &Objects<T, B>,
         adapter: A,
         key: &A::Key,
         object: Place,
@@ -353,7 +356,7 @@ impl<A: KeyAdapter> Members<A> {
         ensures looks { IfSome result (λ e. FewLooks e.2 (members_in (look links.old) self.old)) }
         ensures refused { IfNone result (IsLinked is_linked (look links.old) object
             × AtGap (members_in (look links.old) self.old) (IsVacantFor (compared (order_of A.Key.cmp (A.key_of adapter) key.now) objects.now))
-            × (self.new ≡ self.old) × (links.new ≡ links.old)) }
+            × IsUnchanged links.old links.new self.old self.new) }
     {
         match self {
             Members::Tree(cursor) => match links {
@@ -372,30 +375,9 @@ impl<A: KeyAdapter> Members<A> {
     }
 }
 
-// Puts an unlinked object into the gap. The cursor that it answers is on the object.
-fn put_into<'a, A: KeyAdapter, M: Allocator>(
-    gap: InsertCursor<'a, A, TreeTable<M>>,
-    object: Place,
-) -> CursorMut<'a, A, TreeTable<M>>
-    requires covered { IsCovered (tree_table.look (gaps.links_of gap)) object }
-    requires vacant { gaps.CanInsert node tree_table.look gap }
-    requires unlinked { IsUnlinked is_linked (tree_table.look (gaps.links_of gap)) object }
-    ensures inserted { (at : Cut) → Shows node (tree_table.look (gaps.links_of gap.entry)) (root_of (gaps.tree_of gap.entry)) (join at)
-        → gaps.IsVacantAt node (tree_table.look (gaps.links_of gap.entry)) gap.entry at
-        → Inserts (Shows node) (tree_table.look (gaps.links_of gap.entry)) (tree_table.look (editing.links_of result))
-        (root_of (editing.tree_of result)) at object }
-    ensures linked { LinksAlso is_linked (tree_table.look (gaps.links_of gap.entry)) (tree_table.look (editing.links_of result)) object }
-    ensures borrows { editing.SameNames gap.entry.tree gap.entry.links result }
-{
-    match gap.insert(UnsafeRef::new(object)) {
-        Ok(cursor) => cursor,
-        Err(_) => unreachable!(), // proved: it is not linked
-    }
-}
-
 // The first member that compares equal, or the object, which goes into the gap where the search ended; `None` where it is linked.
 fn put_at_key<A: KeyAdapter, M: Allocator, B: Allocator>(
-    tree: &mut RBTree<A>,
+    tree: &mut RBTree<Unkeyed<A::Value>>,
     links: &mut TreeTable<M>,
     objects: &Objects<A::Value, B>,
     probe: &mut KeyProbe<'_, A>,
@@ -411,8 +393,7 @@ fn put_at_key<A: KeyAdapter, M: Allocator, B: Allocator>(
         → AtGap s (λ gap. IsVacantFor (compared (key_order A.Key.cmp A.key_of probe.old) objects.now) gap
         × Inserts (Shows node) (tree_table.look links.old) (tree_table.look links.new) (root_of tree.new) gap object)) }
     ensures links { IfSome result (λ e. e.0 ≡ false → (e.1 ≡ object)
-        × LinksAlso is_linked (tree_table.look links.old) (tree_table.look links.new) object
-        × (adapter_of tree.new ≡ adapter_of tree.old)) }
+        × LinksAlso is_linked (tree_table.look links.old) (tree_table.look links.new) object) }
     ensures refused { (s : List Place) → Shows node (tree_table.look links.old) (root_of tree.old) s → IfNone result
         (AtGap s (IsVacantFor (compared (key_order A.Key.cmp A.key_of probe.old) objects.now))) }
     ensures unchanged { IfNone result (IsLinked is_linked (tree_table.look links.old) object
@@ -420,15 +401,16 @@ fn put_at_key<A: KeyAdapter, M: Allocator, B: Allocator>(
     ensures looks { (s : List Place) → Shows node (tree_table.look links.old) (root_of tree.old) s
         → Looks (key_order A.Key.cmp A.key_of) looks_of probe.old probe.new s }
 {
-    let linked = links.0.is_linked(object);
     match tree.entry_by(links, objects, probe) {
         Entry::Occupied(found) => Some((true, found.get_ptr().unwrap())),
-        Entry::Vacant(gap) => {
-            if linked {
-                return None;
-            }
-            put_into(gap, object);
-            Some((false, object))
-        }
+        vacant => match vacant.or_insert(UnsafeRef::new(object)) {
+            Ok(cursor) => Some((false, cursor.get_ptr().unwrap())),
+            Err(
+                RefusedInsert {
+                    gap: _gap,
+                    object: _object,
+                },
+            ) => None,
+        },
     }
 }

@@ -1,7 +1,7 @@
 //! The members of a collection whose kind is chosen at run, with its cursor.
 //!
 //! ```text
-//! let mut queue = Members::new(Kind::Xor, adapter);
+//! let mut queue = Members::new(Kind::Xor);
 //! queue.insert_after(&mut field, place); // at null: in front of all
 //! queue.move_next(&field);
 //! queue.cursor() // Some(place)
@@ -16,6 +16,8 @@ mod keyed;
 mod members;
 mod moves;
 mod readings;
+mod unkeyed;
 mod whole;
 
 pub use members::Members;
+pub use unkeyed::Unkeyed;

@@ -1,7 +1,7 @@
 //! A collection of any kind: what it is made as, its kind and its cursor.
 //!
 //! ```text
-//! let mut queue = Members::new(Kind::Doubly, adapter);
+//! let mut queue = Members::new(Kind::Doubly);
 //! queue.kind() // Kind::Doubly, whatever is done with it
 //! ```
 
@@ -12,34 +12,34 @@ ghost use Rattle.ic_fields.specs.declared.entry.Entry.{Entry};
 ghost use Rattle.ic_fields.specs.Kinds.{carries};
 ghost use Rattle.ic_fields.specs.Entries.{kind_of};
 
+use crate::unkeyed::Unkeyed;
 use ic_fields::Kind;
 use ic_linked_list::LinkedList;
-use ic_rbtree::{KeyAdapter, RBTree};
+use ic_rbtree::RBTree;
 use ic_singly_linked_list::SinglyLinkedList;
 use ic_unsafe_ref::Place;
 use ic_xor_linked_list::XorLinkedList;
 
 /// A collection of one of the kinds, with its cursor, which is null or on a member.
 #[derive(Drop)]
-pub enum Members<A: KeyAdapter> {
+pub enum Members<T> {
     /// A singly linked list.
-    Singly(ic_singly_linked_list::CursorOwning<A::Value>),
+    Singly(ic_singly_linked_list::CursorOwning<T>),
     /// A doubly linked list.
-    Doubly(ic_linked_list::CursorOwning<A::Value>),
+    Doubly(ic_linked_list::CursorOwning<T>),
     /// An XOR linked list.
-    Xor(ic_xor_linked_list::CursorOwning<A::Value>),
+    Xor(ic_xor_linked_list::CursorOwning<T>),
     /// A red-black tree.
-    Tree(ic_rbtree::CursorOwning<A>),
+    Tree(ic_rbtree::CursorOwning<Unkeyed<T>>),
 }
 
-impl<A: KeyAdapter> Members<A> {
-    ghost use Rattle.ic_members.specs.Members.{kind_in, cursor_in, adapter_in, adapter_for, Keeps};
+impl<T> Members<T> {
+    ghost use Rattle.ic_members.specs.Members.{kind_in, cursor_in, Keeps};
 
     /// An empty collection of that kind, with its cursor at null. It takes no memory.
     #[inline]
-    pub fn new(kind: Kind, adapter: A) -> Members<A>
+    pub fn new(kind: Kind) -> Members<T>
         ensures kind { kind_in result ≡ kind }
-        ensures adapter { adapter_in result ≡ adapter_for kind adapter }
         ensures null { cursor_in result ≡ None }
         ensures kept { (t : Table Entry) → carries (kind_of t) kind ≡ true → Keeps t result [] }
     {
@@ -47,7 +47,7 @@ impl<A: KeyAdapter> Members<A> {
             Kind::Singly => Members::Singly(SinglyLinkedList::new().cursor_owning()),
             Kind::Doubly => Members::Doubly(LinkedList::new().cursor_owning()),
             Kind::Xor => Members::Xor(XorLinkedList::new().cursor_owning()),
-            Kind::Tree => Members::Tree(RBTree::new(adapter).cursor_owning()),
+            Kind::Tree => Members::Tree(RBTree::new(Unkeyed::new()).cursor_owning()),
         }
     }
 

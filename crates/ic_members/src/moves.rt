@@ -15,7 +15,6 @@ ghost use Rattle.ic_fields.specs.Fields.{look};
 use crate::Members;
 use ic_fields::{Field, TwoWay};
 use ic_link_ops::End;
-use ic_rbtree::KeyAdapter;
 use ic_unsafe_ref::{Place, UnsafeRef};
 use std::alloc::Allocator;
 
@@ -30,7 +29,7 @@ pub(crate) fn object_of<T>(place: Option<Place>) -> Option<UnsafeRef<T>>
     }
 }
 
-impl<A: KeyAdapter> Members<A> {
+impl<T> Members<T> {
     ghost use Rattle.ic_members.specs.Members.{kind_in, cursor_in, members_in, has_before, is_xor, Keeps, Held, Alike};
     ghost use Rattle.ic_members.specs.Edits.{AtGap, Moves};
 

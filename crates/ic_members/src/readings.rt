@@ -14,11 +14,10 @@ ghost use Rattle.ic_fields.specs.Fields.{look};
 use crate::Members;
 use crate::moves::object_of;
 use ic_fields::{Field, TwoWay};
-use ic_rbtree::KeyAdapter;
 use ic_unsafe_ref::{Place, UnsafeRef};
 use std::alloc::{AllocError, Allocator};
 
-impl<A: KeyAdapter> Members<A> {
+impl<T> Members<T> {
     ghost use Rattle.ic_members.specs.Members.{kind_in, cursor_in, members_in, is_singly, Held};
     ghost use Rattle.ic_members.specs.Edits.{AtGap};
 

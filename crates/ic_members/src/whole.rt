@@ -18,18 +18,16 @@ ghost use Rattle.ic_fields.specs.Fields.{look};
 
 use crate::Members;
 use ic_fields::{Field, TwoWay};
-use ic_rbtree::KeyAdapter;
 use std::alloc::Allocator;
 use std::mem;
 
-impl<A: KeyAdapter> Members<A> {
-    ghost use Rattle.ic_members.specs.Members.{kind_in, adapter_in, adapter_for, cursor_in, members_in, is_list, is_two_way_list, is_xor, Keeps, Held, Alike};
+impl<T> Members<T> {
+    ghost use Rattle.ic_members.specs.Members.{kind_in, cursor_in, members_in, is_list, is_two_way_list, is_xor, Keeps, Held, Alike};
     ghost use Rattle.ic_members.specs.Edits.{AtGap, Moves, Empties, PutsAll, Parts};
 
     /// Hands out the whole collection, with its cursor at null, and leaves it empty. O(1): it reads no table, and no link changes.
     #[inline]
-    pub fn take(&mut self, adapter: A) -> Members<A>
-        requires adapter { adapter_in self.old ≡ adapter_for (kind_in self.old) adapter }
+    pub fn take(&mut self) -> Members<T>
         ensures whole { (t : Table Entry) (s : List Place) → Keeps t self.old s → Keeps t result s }
         ensures whole_alike { Alike self.old result }
         ensures whole_null { cursor_in result ≡ None }
@@ -37,7 +35,7 @@ impl<A: KeyAdapter> Members<A> {
         ensures empty_alike { Alike self.old self.new }
         ensures empty_null { cursor_in self.new ≡ None }
     {
-        let empty = Members::new(self.kind(), adapter);
+        let empty = Members::new(self.kind());
         let mut taken = mem::replace(self, empty);
         taken.go_null();
         taken
@@ -67,12 +65,11 @@ impl<A: KeyAdapter> Members<A> {
 
     /// Unlinks all members. The collection is empty then, with its cursor at null. One step for each member.
     #[inline]
-    pub fn unlink_all<M: Allocator>(&mut self, links: &mut Field<M>, adapter: A)
+    pub fn unlink_all<M: Allocator>(&mut self, links: &mut Field<M>)
         requires held { Held (look links.old) self.old }
-        requires adapter { adapter_in self.old ≡ adapter_for (kind_in self.old) adapter }
         ensures { Empties (look links.old) (look links.new) self.old self.new }
     {
-        self.take(adapter).dispose(links);
+        self.take().dispose(links);
     }
 
     /// Puts all of the given collection behind the cursor, at null in front of all. The cursor stays.
@@ -80,7 +77,7 @@ impl<A: KeyAdapter> Members<A> {
     /// It asks that both are lists of one kind, kept by the same table, which share no member. O(1); of singly linked lists one
     /// reading for each given member.
     #[inline]
-    pub fn splice_after<M: Allocator>(&mut self, links: &mut Field<M>, given: Members<A>)
+    pub fn splice_after<M: Allocator>(&mut self, links: &mut Field<M>, given: Members<T>)
         requires held { Held (look links.old) self.old }
         requires given { Held (look links.old) given }
         requires can { is_list (kind_in self.old) ≡ true }
@@ -96,7 +93,7 @@ impl<A: KeyAdapter> Members<A> {
     ///
     /// It asks that both are doubly linked lists or both XOR lists, kept by the same table, which share no member. O(1).
     #[inline]
-    pub fn splice_before<M: Allocator>(&mut self, links: &mut Field<M>, given: Members<A>)
+    pub fn splice_before<M: Allocator>(&mut self, links: &mut Field<M>, given: Members<T>)
         requires held { Held (look links.old) self.old }
         requires given { Held (look links.old) given }
         requires can { is_two_way_list (kind_in self.old) ≡ true }
@@ -109,7 +106,7 @@ impl<A: KeyAdapter> Members<A> {
     }
 
     // Goes behind the cursor of another list of the same kind.
-    fn go_behind<M: Allocator>(self, list: &mut Members<A>, links: &mut Field<M>)
+    fn go_behind<M: Allocator>(self, list: &mut Members<T>, links: &mut Field<M>)
         requires held { Held (look links.old) list.old }
         requires given { Held (look links.old) self }
         requires can { is_list (kind_in list.old) ≡ true }
@@ -141,7 +138,7 @@ impl<A: KeyAdapter> Members<A> {
     }
 
     // Goes in front of the cursor of another list of the same kind.
-    fn go_before<M: Allocator>(self, list: &mut Members<A>, links: &mut Field<M>)
+    fn go_before<M: Allocator>(self, list: &mut Members<T>, links: &mut Field<M>)
         requires held { Held (look links.old) list.old }
         requires given { Held (look links.old) self }
         requires can { is_two_way_list (kind_in list.old) ≡ true }
@@ -172,7 +169,7 @@ impl<A: KeyAdapter> Members<A> {
     ///
     /// It asks that this is a list. O(1).
     #[inline]
-    pub fn split_after<M: Allocator>(&mut self, links: &mut Field<M>) -> Members<A>
+    pub fn split_after<M: Allocator>(&mut self, links: &mut Field<M>) -> Members<T>
         requires held { Held (look links.old) self.old }
         requires can { is_list (kind_in self.old) ≡ true }
         ensures { AtGap (members_in (look links.old) self.old) (λ gap. IsAfter gap (cursor_in self.old)
@@ -193,7 +190,7 @@ impl<A: KeyAdapter> Members<A> {
     ///
     /// It asks that this is a doubly linked or an XOR list. O(1).
     #[inline]
-    pub fn split_before<M: Allocator>(&mut self, links: &mut Field<M>) -> Members<A>
+    pub fn split_before<M: Allocator>(&mut self, links: &mut Field<M>) -> Members<T>
         requires held { Held (look links.old) self.old }
         requires can { is_two_way_list (kind_in self.old) ≡ true }
         ensures { AtGap (members_in (look links.old) self.old) (λ gap. IsBefore gap (cursor_in self.old)

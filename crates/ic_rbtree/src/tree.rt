@@ -9,6 +9,7 @@ ghost use Rattle.std.specs.Prelude.{◌≡◌, ◌↔◌, None, IsTrue};
 ghost use Rattle.ic_rbtree.specs.Tree.{root_of, adapter_of};
 
 use ic_link_ops::End;
+use ic_unsafe_ref::Place;
 
 /// A red-black tree of objects in an order, of which it keeps the root, and the adapter that finds their keys.
 ///
@@ -42,10 +43,29 @@ impl<A> RBTree<A> {
         ensures empty { root_of result ≡ None }
         ensures adapter { adapter_of result ≡ adapter }
     {
+        RBTree::from_root(adapter, None)
+    }
+
+    /// The tree with this root, as [`RBTree::root`] returns it, and this adapter. It reads no links. O(1).
+    ///
+    /// It is another head of the same members: an edit through one of two heads leaves the other as it was.
+    #[inline]
+    pub fn from_root(adapter: A, root: Option<Place>) -> RBTree<A>
+        ensures root { root_of result ≡ root }
+        ensures adapter { adapter_of result ≡ adapter }
+    {
         RBTree {
-            root: End::of(None),
+            root: End::of(root),
             adapter,
         }
+    }
+
+    /// The root, `None` where the tree has no members. It reads no links. O(1).
+    #[inline]
+    pub fn root(&self) -> Option<Place>
+        ensures { result ≡ root_of self.now }
+    {
+        self.root.get()
     }
 
     /// Whether the tree has no members. It reads no links.

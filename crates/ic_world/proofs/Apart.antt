@@ -16,13 +16,13 @@ use Rattle.ic_world.proofs.Steps.{some_same}
 use Rattle.ic_world.proofs.Readings.{collection_at}
 
 -- NO MEMBER IS SHARED, as a world keeps it
-module _ {A V K : Type 0} {adapter : A} {objects : Objects V} {room : ℕ} {ts : List (Table Entry)} {cs : List (Option (Collection A V K))} (whole : IsWhole adapter objects room ts cs) where
+module _ {A V : Type 0} (adapter : A) {objects : Objects V} {room : ℕ} {ts : List (Table Entry)} {cs : List (Option (Collection V))} (whole : IsWhole objects room ts cs) where
   -- what a collection of the family is
-  seen : (o : Option (Collection A V K)) (s : Sequence) → shown_as ts o ≡ Some s → (k : Collection A V K) × (o ≡ Some k) × (seen_as k (sequence ts k) ≡ s)
+  seen : (o : Option (Collection V)) (s : Sequence) → shown_as ts o ≡ Some s → (k : Collection V) × (o ≡ Some k) × (seen_as k (sequence ts k) ≡ s)
   seen None s e = absurd cc
   seen (Some k) s e = (k, refl, some_same e)
 
-  seen_at : (c : ℕ) (s : Sequence) → collection (family_of adapter objects ts cs) c ≡ Some s → (k : Collection A V K) × (at cs c ≡ Some k) × (seen_as k (sequence ts k) ≡ s)
+  seen_at : (c : ℕ) (s : Sequence) → collection (family_of adapter objects ts cs) c ≡ Some s → (k : Collection V) × (at cs c ≡ Some k) × (seen_as k (sequence ts k) ≡ s)
   seen_at c s e = seen (at cs c) s (sym (collection_at adapter objects ts cs c) ∙ e)
 
   pub are_apart : AreApart (family_of adapter objects ts cs)

@@ -1,7 +1,7 @@
 -- A CALL OF ONE COLLECTION, for the world: what the collection's call gives is lifted once, for all calls.
-use Rattle.std.proofs.Common.{◌≡◌, ℕ, ◌⊎◌, inl, inr, true, false, List, [], ◌∷◌, ◌++◌, map, set, get_or, Option, Some, Bool, refl, sym, ap, ◌∙◌, subst, arith, Result, Ok, Err, OnErr, IfOk, ◌&&◌}
+use Rattle.std.proofs.Common.{◌≡◌, ℕ, ◌⊎◌, inl, inr, true, false, List, [], ◌∷◌, ◌++◌, map, set, get_or, Option, Some, None, Bool, refl, sym, ap, ◌∙◌, subst, arith, Result, Ok, Err, OnErr, IfOk, ◌&&◌}
 use Rattle.std.proofs.lemmas.Bool.{cases_eq}
-use Rattle.std.proofs.lemmas.List.{map-set}
+use Rattle.std.proofs.lemmas.List.{map-set, set-get_or}
 use Rattle.std.specs.List.{list_all}
 use Rattle.std.specs.declared.cmp.Ordering.{Ordering}
 use Rattle.ic_unsafe_ref.specs.declared.place.Place.{Place}
@@ -19,7 +19,8 @@ use Rattle.ic_world.specs.declared.field.WorldField.{WorldField}
 use Rattle.ic_fields.specs.Entries.{is_linked}
 use Rattle.ic_members.specs.Members.{kind_in, cursor_in, members_in}
 use Rattle.ic_members.specs.declared.members.Members.{Members}
-use Rattle.ic_members.proofs.AllKinds.{unlinked_absent}
+use Rattle.ic_members.specs.Edits.{IsUnchanged}
+use Rattle.ic_members.proofs.AllKinds.{lawful as lawful_field, unlinked_absent}
 use Rattle.ic_world.specs.declared.collection.Collection.{Collection}
 use Rattle.ic_world.specs.declared.call.Refusal.{Refusal}
 use Rattle.ic_world.specs.declared.call.Refusal.TheVariants.{NoSuchObject, WrongKind, AlreadyLinked}
@@ -28,7 +29,7 @@ use Rattle.ic_world.specs.declared.seek.Seek.TheVariants.{Null, On, With}
 use Rattle.ic_world.specs.declared.whole.Whole.TheVariants.{Clear, Reverse}
 use Rattle.ic_world.specs.declared.insertion.Insertion.TheVariants.{Insert, CursorInsert}
 use Rattle.ic_world.specs.declared.search.Search.TheVariants.{Find, LowerBound, UpperBound}
-use Rattle.ic_world.specs.Family.{Family, is_placed, objects_of}
+use Rattle.ic_world.specs.Family.{Family, Sequence, is_placed, objects_of, with_collection}
 use Rattle.ic_world.specs.Calls.{Call, State, Reply, refused, found, looked, entry, asks, has_call, names, own_refusal, refusal_of, Replies}
 use Rattle.ic_world.specs.Replies.{reply_of}
 use Rattle.ic_world.specs.Turns.{Each, Turns, Ran, refusal_in, state_of}
@@ -38,8 +39,9 @@ use Rattle.ic_world.specs.Seen.{Sees}
 use Rattle.ic_world.specs.Step.{StepOn, refusal_on}
 use Rattle.ic_world.specs.Several.{state_in, asks_collection}
 use Rattle.ic_world.proofs.Readings.{Found, left_back, collection_is, linked_at, set_back}
-use Rattle.ic_world.proofs.Edits.{Edit, after, edited_family, edited_whole}
+use Rattle.ic_world.proofs.Edits.{Edit, after, edited_family, edited_whole, unlinked_family}
 use Rattle.ic_world.proofs.LeftLinked.{none_on}
+use Rattle.ic_world.proofs.Turned.{turns_still}
 
 -- a place is not among some, or has what each of them has
 each_or : (P : Place → Type 0) (s : List Place) (q : Place) → Each P s → IsAbsent q s ⊎ P q
@@ -83,11 +85,11 @@ module _ {V K : Type 0} (cmp : K → K → Ordering) (key_of : V → K) (objects
   replies_of (one.Enter key p) s (refused AlreadyLinked) t h = rw same h
   replies_of _ s _ t h = absurd h
 
-module _ {A V K : Type 0} {adapter : A} {objects : Objects V} {room : ℕ} {ts : List (Table Entry)} {cs : List (Option (Collection A V K))} (whole : IsWhole adapter objects room ts cs)
-    (c : ℕ) (k : Collection A V K) (is : at cs c ≡ Some k) where
+module _ {V : Type 0} {objects : Objects V} {room : ℕ} {ts : List (Table Entry)} {cs : List (Option (Collection V))} (whole : IsWhole objects room ts cs)
+    (c : ℕ) (k : Collection V) (is : at cs c ≡ Some k) where
   -- the state of the collection, as the world has it
-  pub same_state : state_in (family_of adapter objects ts cs) (seen_as k (sequence ts k)) ≡ state_of (table ts k.field) k.members
-  same_state = λ i. record { kind = kind_in k.members; members = sequence ts k; cursor = cursor_in k.members; linked = linked_at adapter objects ts cs k.field (whole.in_field c k is) i }
+  pub same_state : {A : Type 0} (adapter : A) → state_in (family_of adapter objects ts cs) (seen_as k (sequence ts k)) ≡ state_of (table ts k.field) k.members
+  same_state adapter = λ i. record { kind = kind_in k.members; members = sequence ts k; cursor = cursor_in k.members; linked = linked_at adapter objects ts cs k.field (whole.in_field c k is) i }
 
   -- an object stands at each member
   placed_members : (s : List Place) → ((q : Place) → (IsAbsent q s → ⊥) → is_linked ((table ts k.field).entry q) ≡ true) → ArePlaced objects s
@@ -100,9 +102,9 @@ module _ {A V K : Type 0} {adapter : A} {objects : Objects V} {room : ℕ} {ts :
     linked q there true e = e
     linked q there false e = absurd (there (unlinked_absent (table ts k.field) k.members (sequence ts k) (whole.held c k is).shown e))
 
-  module _ {named : List Place} {Accepts : State → State → Type 0} {new : Table Entry} {m : Members A V K} (turns : Turns named Accepts (table ts k.field) new k.members m)
+  module _ {named : List Place} {Accepts : State → State → Type 0} {new : Table Entry} {m : Members V} (turns : Turns named Accepts (table ts k.field) new k.members m)
       (has : Each (λ p. HasObject objects (index_of p)) named) where
-    turn_edit : Edit adapter objects ts cs c k new m (members_in new m) (turns.fresh ++ sequence ts k)
+    turn_edit : Edit objects ts cs c k new m (members_in new m) (turns.fresh ++ sequence ts k)
     turn_edit = record {
       was = is;
       kept = turns.held;
@@ -117,20 +119,20 @@ module _ {A V K : Type 0} {adapter : A} {objects : Objects V} {room : ℕ} {ts :
           (subst (λ f. IsUnlinked is_linked (table ts f) p) (sym same) free)) (whole.apart d c l k n is_l is same) turns.fresh turns.free;
     }
       where
-        apart : (l : Collection A V K) → ((p : Place) → IsUnlinked is_linked (table ts k.field) p → IsAbsent p (sequence ts l)) → IsDisjoint (sequence ts l) (sequence ts k)
+        apart : (l : Collection V) → ((p : Place) → IsUnlinked is_linked (table ts k.field) p → IsAbsent p (sequence ts l)) → IsDisjoint (sequence ts l) (sequence ts k)
             → (fresh : List Place) → Each (IsUnlinked is_linked (table ts k.field)) fresh → IsDisjoint (sequence ts l) (fresh ++ sequence ts k)
         apart l absent rest [] free = rest
         apart l absent rest (p ∷ s) free = disjoint_cons p (sequence ts l) (s ++ sequence ts k) (absent p free.0) (apart l absent rest s free.1)
 
-    pub turn_whole : IsWhole adapter objects room (set ts k.field new) (set cs c (Some (after k m)))
+    pub turn_whole : IsWhole objects room (set ts k.field new) (set cs c (Some (after k m)))
     turn_whole = edited_whole whole turn_edit
 
-module _ {A V K M : Type 0} {adapter : A} {objects : Objects V} {room : ℕ} {tables : List (WorldField M)} {cs : List (Option (Collection A V K))} (kept : IsKept adapter objects room tables cs)
-    {c : ℕ} {k : Collection A V K} {now : WorldField M} (at_k : Found tables cs c k now) where
+module _ {A V M : Type 0} {adapter : A} {objects : Objects V} {room : ℕ} {tables : List (WorldField M)} {cs : List (Option (Collection V))} (kept : IsKept adapter objects room tables cs)
+    {c : ℕ} {k : Collection V} {now : WorldField M} (at_k : Found tables cs c k now) where
   abbrev ts : List (Table Entry)
   ts = map table_of tables
 
-  abbrev whole : IsWhole adapter objects room ts cs
+  abbrev whole : IsWhole objects room ts cs
   whole = kept.0
 
   -- what the call of the collection asks
@@ -142,9 +144,8 @@ module _ {A V K M : Type 0} {adapter : A} {objects : Objects V} {room : ℕ} {ta
   sees_by view = subst (λ w. Sees w c (table_of now) k.members) view (record {
     s = seen_as k (sequence ts k);
     is = collection_is adapter objects ts cs c k at_k.is;
-    state = same_state whole c k at_k.is ∙ ap (λ t. state_of t k.members) at_k.read;
+    state = same_state whole c k at_k.is adapter ∙ ap (λ t. state_of t k.members) at_k.read;
     held = at_k.held;
-    adapted = whole.adapted c k at_k.is;
     placed = placed_by;
   })
 
@@ -163,30 +164,45 @@ module _ {A V K M : Type 0} {adapter : A} {objects : Objects V} {room : ℕ} {ta
   pub room_for : (s : List Place) → list_all (place_is_placed objects) s ≡ true → Each (IsCovered (table_of now)) s
   room_for s e = each_map (λ p. HasObject objects (index_of p)) (IsCovered (table_of now)) (λ p has. let a = whole.within (index_of p) has in let b = rw at_k.read at (whole.covered k.field at_k.field) in omega (arith, a, b)) s (placed_each s e)
 
-  module _ (cmp : K → K → Ordering) (key_of : A → V → K) (call : Call K) (placed : list_all (place_is_placed objects) (names call) ≡ true) (can : has_call call (kind_in k.members) ≡ true) {R : Type 0} (accepted : R → Reply) (r : Result R Refusal) (links : Field M) (m : Members A V K)
+  module _ {K : Type 0} (cmp : K → K → Ordering) (key_of : A → V → K) (call : Call K) (placed : list_all (place_is_placed objects) (names call) ≡ true) (can : has_call call (kind_in k.members) ≡ true) {R : Type 0} (accepted : R → Reply) (r : Result R Refusal) (links : Field M) (m : Members V)
       (ran : Ran (names call) (own_refusal call) (λ a s t. Replies cmp (key_of adapter) objects call s (accepted a) t) now.links links k.members m r) where
     abbrev nf : WorldField M
     nf = record now { links = links }
 
+    -- a refusal leaves the family as it was
+    stays_by : IsUnchanged now.links links k.members m → Turns [] (λ s t. t ≡ s) (table_of now) (table_of nf) k.members m
+    stays_by same = rw same.0 (turns_still (lawful_field now.links) same.1 (λ e. e))
+
+    same_family : IsUnchanged now.links links k.members m → family_of adapter objects (set ts k.field (table_of nf)) (set cs c (Some (after k m))) ≡ family_of adapter objects ts cs
+    same_family same =
+        let stays : Turns [] (λ s t. t ≡ s) (table ts k.field) (table_of nf) k.members m = rw at_k.read (stays_by same) in
+        let edit = turn_edit whole c k at_k.is {named = []} {Accepts = λ s t. t ≡ s} stays tt in
+        let seen : seen_as (after k m) (members_in (table_of nf) m) ≡ seen_as k (sequence ts k) =
+        λ i. record { field = k.field; kind = (stays.accepts i).kind; members = (stays.accepts i).members; cursor = (stays.accepts i).cursor } in
+        let w = family_of adapter objects ts cs in
+        let back : set w.collections c (Some (seen_as k (sequence ts k))) ≡ w.collections = rw (← collection_is adapter objects ts cs c k at_k.is) (set-get_or w.collections c None) in
+        unlinked_family whole edit (ap (λ s. s.linked) stays.accepts) ∙ ap (λ (s : Sequence). with_collection w c (Some s)) seen
+        ∙ (λ i. record { adapter = adapter; objects = w.objects; fields = w.fields; collections = back i })
+
     -- THE STEP and THE INVARIANT, by the result
-    whole_by : IsWhole adapter objects room (map table_of (set tables k.field nf)) (set cs c (Some (after k m)))
+    whole_by : IsWhole objects room (map table_of (set tables k.field nf)) (set cs c (Some (after k m)))
     whole_by = by r ran.turned ran.unchanged
       where
-        by : (r : Result R Refusal) → IfOk r (λ a. Turns (names call) (λ s t. Replies cmp (key_of adapter) objects call s (accepted a) t) (table_of now) (table_of nf) k.members m) → OnErr r ((links ≡ now.links) × (m ≡ k.members))
-            → IsWhole adapter objects room (map table_of (set tables k.field nf)) (set cs c (Some (after k m)))
+        by : (r : Result R Refusal) → IfOk r (λ a. Turns (names call) (λ s t. Replies cmp (key_of adapter) objects call s (accepted a) t) (table_of now) (table_of nf) k.members m) → OnErr r (IsUnchanged now.links links k.members m)
+            → IsWhole objects room (map table_of (set tables k.field nf)) (set cs c (Some (after k m)))
         by (Ok a) turned same = rw map-set (turn_whole whole c k at_k.is {named = names call} {Accepts = λ s t. Replies cmp (key_of adapter) objects call s (accepted a) t} (rw at_k.read turned) (placed_each (names call) placed))
-        by (Err x) turned same = rw (same.0, same.1, at_k.table_back, at_k.list_back) whole
+        by (Err x) turned same = rw map-set (turn_whole whole c k at_k.is {named = []} {Accepts = λ s t. t ≡ s} (rw at_k.read (stays_by same)) tt)
 
     pub step_by : {old : Family A V} → family_of adapter objects ts cs ≡ old
         → StepOn cmp key_of old c call (reply_of accepted r) (family_of adapter objects (map table_of (set tables k.field nf)) (set cs c (Some (after k m))))
     step_by view =
         let tests : refusal_on (family_of adapter objects ts cs) c call ≡ refusal_in r = ap (λ o. asks_collection o (λ s. asks (list_all (is_placed (family_of adapter objects ts cs)) (names call)) NoSuchObject (refusal_of call (state_in (family_of adapter objects ts cs) s)))) (collection_is adapter objects ts cs c k at_k.is)
         ∙ ap (λ b. asks b NoSuchObject (refusal_of call (state_in (family_of adapter objects ts cs) (seen_as k (sequence ts k))))) placed
-        ∙ ap (refusal_of call) (same_state whole c k at_k.is ∙ ap (λ t. state_of t k.members) at_k.read)
+        ∙ ap (refusal_of call) (same_state whole c k at_k.is adapter ∙ ap (λ t. state_of t k.members) at_k.read)
         ∙ ap (λ b. asks b WrongKind (own_refusal call (state_of (table_of now) k.members))) can ∙ sym ran.tested in
         subst (λ w. StepOn cmp key_of w c call (reply_of accepted r) (family_of adapter objects (map table_of (set tables k.field nf)) (set cs c (Some (after k m))))) view (by r ran.turned ran.unchanged tests)
       where
-        by : (r : Result R Refusal) → IfOk r (λ a. Turns (names call) (λ s t. Replies cmp (key_of adapter) objects call s (accepted a) t) (table_of now) (table_of nf) k.members m) → OnErr r ((links ≡ now.links) × (m ≡ k.members))
+        by : (r : Result R Refusal) → IfOk r (λ a. Turns (names call) (λ s t. Replies cmp (key_of adapter) objects call s (accepted a) t) (table_of now) (table_of nf) k.members m) → OnErr r (IsUnchanged now.links links k.members m)
             → refusal_on (family_of adapter objects ts cs) c call ≡ refusal_in r
             → StepOn cmp key_of (family_of adapter objects ts cs) c call (reply_of accepted r) (family_of adapter objects (map table_of (set tables k.field nf)) (set cs c (Some (after k m))))
         by (Ok a) turned same e =
@@ -197,18 +213,18 @@ module _ {A V K M : Type 0} {adapter : A} {objects : Objects V} {room : ℕ} {ta
               seen_as k (sequence ts k),
               state_of (table_of nf) m,
               collection_is adapter objects ts cs c k at_k.is,
-              replies_of cmp (key_of adapter) objects (objects_of (family_of adapter objects ts cs)) refl call _ (accepted a) _ (subst (λ s. Accepts s (state_of (table_of nf) m)) (sym (same_state whole c k at_k.is)) here.accepts),
+              replies_of cmp (key_of adapter) objects (objects_of (family_of adapter objects ts cs)) refl call _ (accepted a) _ (subst (λ s. Accepts s (state_of (table_of nf) m)) (sym (same_state whole c k at_k.is adapter)) here.accepts),
               edited_family whole edit _ refl,
             )
-        by (Err x) turned same e = rw (e, same.0, same.1, at_k.table_back, at_k.list_back) (refl, refl)
+        by (Err x) turned same e = rw (e, map-set) (refl, same_family same)
 
     pub kept_by : IsKept adapter objects room (set tables k.field nf) (set cs c (Some (after k m)))
     kept_by =
         (whole_by, rw (left_back tables k.field now links at_k.table_back) (none_on kept.1 cmp key_of c call (reply_of accepted r) (step_by refl)))
 
 -- the call is refused before the collection is touched, which is as it was read: an object that it names is not placed, or the kind lacks it
-module _ {A V K : Type 0} (cmp : K → K → Ordering) (key_of : A → V → K) (adapter : A) (objects : Objects V) (ts : List (Table Entry)) (cs : List (Option (Collection A V K))) (c : ℕ) (k : Collection A V K)
-    {o : Option (Collection A V K)} (call : Call K) {old : Family A V} (view : family_of adapter objects ts cs ≡ old) (is : at cs c ≡ Some k) (read : o ≡ get_or cs c o) (there : o ≡ Some k) where
+module _ {A V K : Type 0} (cmp : K → K → Ordering) (key_of : A → V → K) (adapter : A) (objects : Objects V) (ts : List (Table Entry)) (cs : List (Option (Collection V))) (c : ℕ) (k : Collection V)
+    {o : Option (Collection V)} (call : Call K) {old : Family A V} (view : family_of adapter objects ts cs ≡ old) (is : at cs c ≡ Some k) (read : o ≡ get_or cs c o) (there : o ≡ Some k) where
   abbrev w : Family A V
   w = family_of adapter objects ts cs
 

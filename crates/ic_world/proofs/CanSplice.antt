@@ -44,9 +44,9 @@ put_back xs c d n x y differ =
 abbrev Exchanged : {X : Type 0} → List (Option X) → ℕ → Option X → (was : Option X) → List (Option X) → Type 0
 Exchanged old i item was new = record { was : was ≡ get_or old i None; set : new ≡ set old i item }
 
-module _ {A V K : Type 0} where
+module _ {V : Type 0} where
   -- two collections that can be spliced
-  record CanSplice (has : Kind → Bool) (cs : List (Option (Collection A V K))) (c d : ℕ) (k l : Collection A V K) : Type 0 where
+  record CanSplice (has : Kind → Bool) (cs : List (Option (Collection V))) (c d : ℕ) (k l : Collection V) : Type 0 where
     is_k : at cs c ≡ Some k
     is_l : at cs d ≡ Some l
     can : has (kind_in k.members) ≡ true
@@ -54,8 +54,8 @@ module _ {A V K : Type 0} where
     differ : c ≢ d
     fields : k.field ≡ l.field
 
-  module _ (has : Kind → Bool) (adapter : A) (objects : Objects V) (ts : List (Table Entry)) (cs : List (Option (Collection A V K))) (c d : ℕ) where
-    fit : (k l : Collection A V K) → refusal_of_splice (family_of adapter objects ts cs) has c d ≡ None → at cs c ≡ Some k → at cs d ≡ Some l → CanSplice has cs c d k l
+  module _ {A : Type 0} (has : Kind → Bool) (adapter : A) (objects : Objects V) (ts : List (Table Entry)) (cs : List (Option (Collection V))) (c d : ℕ) where
+    fit : (k l : Collection V) → refusal_of_splice (family_of adapter objects ts cs) has c d ≡ None → at cs c ≡ Some k → at cs d ≡ Some l → CanSplice has cs c d k l
     fit k l none is_k is_l =
         let all = rw (collection_is adapter objects ts cs c k is_k, collection_is adapter objects ts cs d l is_l) at none in
         let one = asks_none (has (kind_in k.members)) WrongKind _ all in
@@ -70,24 +70,24 @@ module _ {A V K : Type 0} where
           fields = eq_of _ _ (asks_none (nat_eq k.field l.field) OtherField None three.1).0;
         }
 
-    two : (o p : Option (Collection A V K)) → refusal_of_splice (family_of adapter objects ts cs) has c d ≡ None → at cs c ≡ o → at cs d ≡ p → (k l : Collection A V K) × CanSplice has cs c d k l
+    two : (o p : Option (Collection V)) → refusal_of_splice (family_of adapter objects ts cs) has c d ≡ None → at cs c ≡ o → at cs d ≡ p → (k l : Collection V) × CanSplice has cs c d k l
     two None p none is_k is_l = absurd (let e = rw (collection_at adapter objects ts cs c, is_k) at none in cc)
     two (Some k) None none is_k is_l = absurd (let e = rw (collection_is adapter objects ts cs c k is_k, collection_at adapter objects ts cs d, is_l) at none in cc)
     two (Some k) (Some l) none is_k is_l = (k, l, fit k l none is_k is_l)
 
 -- A SPLICE that no test refuses
-module _ {A V K : Type 0} {adapter : A} {objects : Objects V} {room : ℕ} {ts : List (Table Entry)} {cs : List (Option (Collection A V K))} (whole : IsWhole adapter objects room ts cs)
+module _ {A V : Type 0} {adapter : A} {objects : Objects V} {room : ℕ} {ts : List (Table Entry)} {cs : List (Option (Collection V))} (whole : IsWhole objects room ts cs)
     {old : Family A V} (view : family_of adapter objects ts cs ≡ old) (before : Bool) (c d : ℕ) (none : refusal_of_splice old (can_splice before) c d ≡ None) where
   none_now : refusal_of_splice (family_of adapter objects ts cs) (can_splice before) c d ≡ None
   none_now = rw (← view) at none
 
-  both : (k l : Collection A V K) × CanSplice (can_splice before) cs c d k l
+  both : (k l : Collection V) × CanSplice (can_splice before) cs c d k l
   both = two (can_splice before) adapter objects ts cs c d (at cs c) (at cs d) none_now refl refl
 
-  abbrev k : Collection A V K
+  abbrev k : Collection V
   k = both.0
 
-  abbrev l : Collection A V K
+  abbrev l : Collection V
   l = both.1
 
   fits : CanSplice (can_splice before) cs c d k l
@@ -96,19 +96,18 @@ module _ {A V K : Type 0} {adapter : A} {objects : Objects V} {room : ℕ} {ts :
   given_is : members_in (table ts k.field) l.members ≡ sequence ts l
   given_is = ap (λ f. members_in (table ts f) l.members) fits.fields
 
-  fit_together : CanJoin before adapter ts k l
+  fit_together : CanJoin before ts k l
   fit_together = record {
     there = whole.in_field c k fits.is_k;
     held = whole.held c k fits.is_k;
     given = subst (λ f. Held (table ts f) l.members) (sym fits.fields) (whole.held d l fits.is_l);
-    adapted = whole.adapted d l fits.is_l;
     can = fits.can;
     kinds = sym fits.kinds;
     apart = subst (λ s. IsDisjoint s (sequence ts k)) (sym given_is) (whole.apart d c l k (λ e. fits.differ (sym e)) fits.is_l fits.is_k (sym fits.fields));
   }
 
   -- where both were taken out
-  module _ {mid rest : List (Option (Collection A V K))} {o p : Option (Collection A V K)} (first : Exchanged cs c None o mid) (second : Exchanged mid d None p rest) where
+  module _ {mid rest : List (Option (Collection V))} {o p : Option (Collection V)} (first : Exchanged cs c None o mid) (second : Exchanged mid d None p rest) where
     is_k : o ≡ Some k
     is_k = first.was ∙ fits.is_k
 
@@ -116,18 +115,18 @@ module _ {A V K : Type 0} {adapter : A} {objects : Objects V} {room : ℕ} {ts :
     is_l = second.was ∙ ap (λ xs. at xs d) first.set ∙ get_or-set_other cs c d None None (λ e. fits.differ (sym e)) ∙ fits.is_l
 
     -- what is asked of them
-    pub can_be_joined : CanBeJoined before adapter ts o p
+    pub can_be_joined : CanBeJoined before ts o p
     can_be_joined = rw (is_k, is_l) fit_together
 
     -- THE INVARIANT and THE STEP, as they are put back
-    pub joined : {us : List (Table Entry)} (o' p' : Option (Collection A V K)) → AreJoined before ts us o p o' p' → {all new : List (Option (Collection A V K))} → all ≡ set rest c o' → new ≡ set all d p'
-        → IsWhole adapter objects room us new × StepSplice (IsBesideOf before) (can_splice before) old c d done (family_of adapter objects us new)
+    pub joined : {us : List (Table Entry)} (o' p' : Option (Collection V)) → AreJoined before ts us o p o' p' → {all new : List (Option (Collection V))} → all ≡ set rest c o' → new ≡ set all d p'
+        → IsWhole objects room us new × StepSplice (IsBesideOf before) (can_splice before) old c d done (family_of adapter objects us new)
     joined o' p' j {new = new} all_is new_is =
         let back : new ≡ set (set cs d p') c o' = rw (new_is, all_is, second.set, first.set) (put_back cs c d None o' p' fits.differ) in
         rw back (by o' p' (rw (is_k, is_l) at j))
       where
-        by : {us : List (Table Entry)} (o' p' : Option (Collection A V K)) → AreJoined before ts us (Some k) (Some l) o' p'
-            → IsWhole adapter objects room us (set (set cs d p') c o') × StepSplice (IsBesideOf before) (can_splice before) old c d done (family_of adapter objects us (set (set cs d p') c o'))
+        by : {us : List (Table Entry)} (o' p' : Option (Collection V)) → AreJoined before ts us (Some k) (Some l) o' p'
+            → IsWhole objects room us (set (set cs d p') c o') × StepSplice (IsBesideOf before) (can_splice before) old c d done (family_of adapter objects us (set (set cs d p') c o'))
         by None p' j = absurd j
         by (Some k') None j = absurd j
         by (Some k') (Some l') j =
@@ -150,8 +149,8 @@ module _ {A V K : Type 0} {adapter : A} {objects : Objects V} {room : ℕ} {ts :
             )
 
 -- what the members of a joined list say of both lists: `taken` has those of l
-pub joins : {A V K M : Type 0} {adapter : A} (before : Bool) (tables : List (WorldField M)) (k l : Collection A V K) → CanJoin before adapter (map table_of tables) k l → (now : WorldField M) → now ≡ get_or tables k.field now → (nf : WorldField M)
-    (m emptied taken : Members A V K) → ((t : Table Entry) (s : List Place) → Keeps t l.members s → Keeps t taken s) → Emptied l.members emptied → PutsBeside before (table_of now) (table_of nf) k.members m (members_in (table_of now) taken)
+pub joins : {V M : Type 0} (before : Bool) (tables : List (WorldField M)) (k l : Collection V) → CanJoin before (map table_of tables) k l → (now : WorldField M) → now ≡ get_or tables k.field now → (nf : WorldField M)
+    (m emptied taken : Members V) → ((t : Table Entry) (s : List Place) → Keeps t l.members s → Keeps t taken s) → Emptied l.members emptied → PutsBeside before (table_of now) (table_of nf) k.members m (members_in (table_of now) taken)
     → PutsTogether before (map table_of tables) (map table_of (set tables k.field nf)) k l (after k m) (after l emptied)
 joins before tables k l can now links nf m emptied taken same e puts =
     let t = table (map table_of tables) k.field in

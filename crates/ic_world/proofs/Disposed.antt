@@ -22,8 +22,8 @@ use Rattle.ic_world.proofs.Steps.{step_accepted}
 use Rattle.ic_world.proofs.LeftLinked.{none_dropped}
 use Rattle.ic_world.proofs.Readings.{some_within}
 
-module _ {A V K : Type 0} where
-  at_dropped : (cs : List (Option (Collection A V K))) (c d : ℕ) (l : Collection A V K) → at (set cs c None) d ≡ Some l → at cs d ≡ Some l
+module _ {V : Type 0} where
+  at_dropped : (cs : List (Option (Collection V))) (c d : ℕ) (l : Collection V) → at (set cs c None) d ≡ Some l → at cs d ≡ Some l
   at_dropped cs c d l is = elim (cases_eq d c) [
     | inl same ↦ elim (side (length cs) c) [
       | inl past ↦ absurd (let no = get_or_past (set cs c None) d None (let n = length-set cs c None in omega (arith, n, past, same)) in let both : None ≡ Some l = sym no ∙ is in cc)
@@ -33,18 +33,17 @@ module _ {A V K : Type 0} where
   ]
 
   -- THE INVARIANT with a collection less
-  pub dropped_whole : {adapter : A} {objects : Objects V} {room : ℕ} {ts : List (Table Entry)} {cs : List (Option (Collection A V K))} → IsWhole adapter objects room ts cs → (c : ℕ) → IsWhole adapter objects room ts (set cs c None)
+  pub dropped_whole : {objects : Objects V} {room : ℕ} {ts : List (Table Entry)} {cs : List (Option (Collection V))} → IsWhole objects room ts cs → (c : ℕ) → IsWhole objects room ts (set cs c None)
   dropped_whole {cs = cs} whole c = record {
     within = whole.within;
     covered = whole.covered;
     placed = whole.placed;
     in_field = λ d l is. whole.in_field d l (at_dropped cs c d l is);
     held = λ d l is. whole.held d l (at_dropped cs c d l is);
-    adapted = λ d l is. whole.adapted d l (at_dropped cs c d l is);
     apart = λ a b x y n is_x is_y same. whole.apart a b x y n (at_dropped cs c a x is_x) (at_dropped cs c b y is_y) same;
   }
 
-  pub dropped_family : (adapter : A) (objects : Objects V) (ts : List (Table Entry)) (cs : List (Option (Collection A V K))) (c : ℕ)
+  pub dropped_family : {A : Type 0} (adapter : A) (objects : Objects V) (ts : List (Table Entry)) (cs : List (Option (Collection V))) (c : ℕ)
       → family_of adapter objects ts (set cs c None) ≡ with_collection (family_of adapter objects ts cs) c None
   dropped_family adapter objects ts cs c =
       let collections = map-set (shown_as ts) cs c None in

@@ -40,9 +40,9 @@ table_other ts f g t d = get_or-set_other ts f g t no_table d
 table_here : (ts : List (Table Entry)) (f : ℕ) (t : Table Entry) → f < length ts → table (set ts f t) f ≡ t
 table_here ts f t h = get_or-set_same ts f t no_table h
 
-module _ {A V K : Type 0} where
+module _ {V : Type 0} where
   -- in each table of a world only covered places are linked
-  pub lawful : {adapter : A} {objects : Objects V} {room : ℕ} {ts : List (Table Entry)} {cs : List (Option (Collection A V K))} → IsWhole adapter objects room ts cs → (f : ℕ) → IsLawful (table ts f)
+  pub lawful : {objects : Objects V} {room : ℕ} {ts : List (Table Entry)} {cs : List (Option (Collection V))} → IsWhole objects room ts cs → (f : ℕ) → IsLawful (table ts f)
   lawful {objects} {room} {ts} {cs} whole f q h =
       elim (side (length ts) f) [
         | inl past ↦ absurd (let no : is_linked ((table ts f).entry q) ≡ false = ap (λ (t : Table Entry). is_linked (t.entry q)) (get_or_past ts f no_table past) in cc)
@@ -53,21 +53,21 @@ module _ {A V K : Type 0} where
       ]
 
   -- what an edit of collection c, of its field's table and of no other leaves: only entries of `touched` change, and only objects are linked
-  pub record Edit (adapter : A) (objects : Objects V) (ts : List (Table Entry)) (cs : List (Option (Collection A V K))) (c : ℕ) (k : Collection A V K) (t : Table Entry) (m : Members A V K) (members touched : List Place) : Type 0 where
+  pub record Edit (objects : Objects V) (ts : List (Table Entry)) (cs : List (Option (Collection V))) (c : ℕ) (k : Collection V) (t : Table Entry) (m : Members V) (members touched : List Place) : Type 0 where
     pub was : at cs c ≡ Some k
     pub kept : Keeps t m members
     pub alike : Alike k.members m
     pub frame : KeepsBeside (table ts k.field) t touched
     pub placed : (q : Place) → is_linked (t.entry q) ≡ true → HasObject objects (index_of q)
     pub within : (q : Place) → IsAbsent q touched → IsAbsent q members
-    pub beside : (d : ℕ) (l : Collection A V K) → d ≢ c → at cs d ≡ Some l → l.field ≡ k.field → IsDisjoint (sequence ts l) touched
+    pub beside : (d : ℕ) (l : Collection V) → d ≢ c → at cs d ≡ Some l → l.field ≡ k.field → IsDisjoint (sequence ts l) touched
 
   -- the collection after it
-  abbrev pub after : Collection A V K → Members A V K → Collection A V K
+  abbrev pub after : Collection V → Members V → Collection V
   after k m = record { field = k.field; members = m }
 
-  module _ {adapter : A} {objects : Objects V} {room : ℕ} {ts : List (Table Entry)} {cs : List (Option (Collection A V K))} (whole : IsWhole adapter objects room ts cs)
-      {c : ℕ} {k : Collection A V K} {t : Table Entry} {m : Members A V K} {members touched : List Place} (e : Edit adapter objects ts cs c k t m members touched) where
+  module _ {objects : Objects V} {room : ℕ} {ts : List (Table Entry)} {cs : List (Option (Collection V))} (whole : IsWhole objects room ts cs)
+      {c : ℕ} {k : Collection V} {t : Table Entry} {m : Members V} {members touched : List Place} (e : Edit objects ts cs c k t m members touched) where
     pub in_ts : k.field < length ts
     in_ts = whole.in_field c k e.was
 
@@ -90,7 +90,7 @@ module _ {A V K : Type 0} where
         ]
 
     -- each collection is kept after an edit of another one
-    kept_beside : (d : ℕ) (l : Collection A V K) → d ≢ c → at cs d ≡ Some l → Keeps (table (set ts k.field t) l.field) l.members (sequence ts l)
+    kept_beside : (d : ℕ) (l : Collection V) → d ≢ c → at cs d ≡ Some l → Keeps (table (set ts k.field t) l.field) l.members (sequence ts l)
     kept_beside d l n is =
         elim (cases_eq l.field k.field) [
           | inl same ↦
@@ -105,7 +105,7 @@ module _ {A V K : Type 0} where
         ]
 
     -- so its sequence is the same
-    pub same_sequence : (d : ℕ) (l : Collection A V K) → d ≢ c → at cs d ≡ Some l → sequence (set ts k.field t) l ≡ sequence ts l
+    pub same_sequence : (d : ℕ) (l : Collection V) → d ≢ c → at cs d ≡ Some l → sequence (set ts k.field t) l ≡ sequence ts l
     same_sequence d l n is = one_sequence (table (set ts k.field t) l.field) (lawful_after l.field) l.members (sequence ts l) (kept_beside d l n is).shown
 
     -- the edited one shows its new members
@@ -115,7 +115,7 @@ module _ {A V K : Type 0} where
     within_cs : c < length cs
     within_cs = let is = e.was in grind (arith, get_or_past)
 
-    alike : (i : ℕ) → i ≢ c → (o : Option (Collection A V K)) → at cs i ≡ o → shown_as (set ts k.field t) o ≡ shown_as ts o
+    alike : (i : ℕ) → i ≢ c → (o : Option (Collection V)) → at cs i ≡ o → shown_as (set ts k.field t) o ≡ shown_as ts o
     alike i n None is = refl
     alike i n (Some l) is = ap (λ (s : List Place). let r : Option Sequence = Some (seen_as l s) in r) (same_sequence i l n is)
 
@@ -129,30 +129,30 @@ module _ {A V K : Type 0} where
         map-set new_seen cs c (Some (after k m)) ∙ ap (set (map new_seen cs) c) this ∙ others
 
     -- the field keeps its kind
-    field_after : (linked : _) → linked_in t ≡ linked → field_in t ≡ record { kind = (field_of (family_of adapter objects ts cs) k.field).kind; linked = linked }
-    field_after linked is =
+    field_after : {A : Type 0} (adapter : A) (linked : _) → linked_in t ≡ linked → field_in t ≡ record { kind = (field_of (family_of adapter objects ts cs) k.field).kind; linked = linked }
+    field_after adapter linked is =
         let at_f : field_of (family_of adapter objects ts cs) k.field ≡ field_in (table ts k.field) = get_or-map field_in ts k.field no_table _ in_ts in
         let kinds : kind_of t ≡ (field_of (family_of adapter objects ts cs) k.field).kind = ap (λ x. kind_with x.identity) e.frame.extent ∙ ap (λ (x : LinkField). x.kind) (sym at_f) in
         λ i. record { kind = kinds i; linked = is i }
 
     -- THE FAMILY after an edit
-    pub edited_family : (linked : _) → linked_in t ≡ linked
+    pub edited_family : {A : Type 0} {adapter : A} → (linked : _) → linked_in t ≡ linked
         → family_of adapter objects (set ts k.field t) (set cs c (Some (after k m))) ≡ with_linked (with_collection (family_of adapter objects ts cs) c (Some (seen_as (after k m) members))) k.field linked
-    edited_family linked is =
-        let fields = map-set field_in ts k.field t ∙ ap (set (map field_in ts) k.field) (field_after linked is) in
+    edited_family {adapter = adapter} linked is =
+        let fields = map-set field_in ts k.field t ∙ ap (set (map field_in ts) k.field) (field_after adapter linked is) in
         λ i. record { adapter = adapter; objects = (family_of adapter objects ts cs).objects; fields = fields i; collections = collections_after i }
 
     -- the same where as many places are linked as before: the collection alone is another
-    pub unlinked_family : linked_in t ≡ linked_in (table ts k.field)
+    pub unlinked_family : {A : Type 0} {adapter : A} → linked_in t ≡ linked_in (table ts k.field)
         → family_of adapter objects (set ts k.field t) (set cs c (Some (after k m))) ≡ with_collection (family_of adapter objects ts cs) c (Some (seen_as (after k m) members))
-    unlinked_family is =
+    unlinked_family {adapter = adapter} is =
         let kinds : kind_of t ≡ kind_of (table ts k.field) = ap (λ x. kind_with x.identity) e.frame.extent in
         let one : field_in t ≡ field_in (table ts k.field) = λ i. record { kind = kinds i; linked = is i } in
         let fields = map-set field_in ts k.field t ∙ ap (set (map field_in ts) k.field) one ∙ sym (map-set field_in ts k.field (table ts k.field)) ∙ ap (map field_in) (set-get_or ts k.field no_table) in
         λ i. record { adapter = adapter; objects = (family_of adapter objects ts cs).objects; fields = fields i; collections = collections_after i }
 
     -- what stands at a number after an edit
-    pub at_after : (d : ℕ) (l : Collection A V K) → at (set cs c (Some (after k m))) d ≡ Some l → ((d ≡ c) × (l ≡ after k m)) ⊎ ((d ≢ c) × (at cs d ≡ Some l))
+    pub at_after : (d : ℕ) (l : Collection V) → at (set cs c (Some (after k m))) d ≡ Some l → ((d ≡ c) × (l ≡ after k m)) ⊎ ((d ≢ c) × (at cs d ≡ Some l))
     at_after d l is =
         elim (cases_eq d c) [
           | inl same ↦
@@ -163,7 +163,7 @@ module _ {A V K : Type 0} where
         ]
 
     -- THE INVARIANT after an edit
-    pub edited_whole : IsWhole adapter objects room (set ts k.field t) (set cs c (Some (after k m)))
+    pub edited_whole : IsWhole objects room (set ts k.field t) (set cs c (Some (after k m)))
     edited_whole = record {
       within = whole.within;
       covered = λ f within.
@@ -183,10 +183,6 @@ module _ {A V K : Type 0} where
       held = λ d l is. elim (at_after d l is) [
         | inl same ↦ rw (same.1) (rw new_sequence (rw here e.kept))
         | inr other ↦ rw (same_sequence d l other.0 other.1) (kept_beside d l other.0 other.1)
-      ];
-      adapted = λ d l is. elim (at_after d l is) [
-        | inl same ↦ rw (same.1, e.alike.adapter, e.alike.kind) (whole.adapted c k e.was)
-        | inr other ↦ whole.adapted d l other.1
       ];
       apart = λ a b x y n is_x is_y same_field. elim (at_after a x is_x) [
         | inl a_c ↦ elim (at_after b y is_y) [

@@ -20,8 +20,8 @@ use Rattle.ic_world.proofs.Readings.{Found, collection_is}
 use Rattle.ic_world.proofs.Splices.{emptied_whole, emptied_family}
 use Rattle.ic_world.proofs.Steps.{step_accepted}
 
-module _ {A V K M : Type 0} {adapter : A} {objects : Objects V} {room : ℕ} {tables : List (WorldField M)} {cs : List (Option (Collection A V K))} (kept : IsKept adapter objects room tables cs)
-    {c : ℕ} {k : Collection A V K} {now : WorldField M} (at_k : Found tables cs c k now) (m : Members A V K) (e : Emptied k.members m) where
+module _ {A V M : Type 0} {adapter : A} {objects : Objects V} {room : ℕ} {tables : List (WorldField M)} {cs : List (Option (Collection V))} (kept : IsKept adapter objects room tables cs)
+    {c : ℕ} {k : Collection V} {now : WorldField M} (at_k : Found tables cs c k now) (m : Members V) (e : Emptied k.members m) where
   abbrev nf : WorldField M
   nf = record now { left_linked = true }
 
@@ -35,7 +35,7 @@ module _ {A V K M : Type 0} {adapter : A} {objects : Objects V} {room : ℕ} {ta
       let none = none_cleared kept.1 c (seen_as k (sequence (map table_of tables) k)) (collection_is adapter objects (map table_of tables) cs c k at_k.is) in
       rw (same_tables, left) (emptied_whole kept.0 c k at_k.is m e, rw (emptied_family kept.0 c k at_k.is m e) none)
 
-  pub fast_cleared_step : (cmp : K → K → Ordering) (key_of : A → V → K) {old : Family A V} → family_of adapter objects (map table_of tables) cs ≡ old
+  pub fast_cleared_step : {K : Type 0} (cmp : K → K → Ordering) (key_of : A → V → K) {old : Family A V} → family_of adapter objects (map table_of tables) cs ≡ old
       → Step cmp key_of old (FastClear c) done (family_of adapter objects (map table_of (set tables k.field nf)) (set cs c (Some (after k m))))
   fast_cleared_step cmp key_of view =
       let w = family_of adapter objects (map table_of tables) cs in

@@ -36,7 +36,7 @@ use Rattle.ic_world.proofs.Growth.{freed_whole, freed_family}
 use Rattle.ic_world.proofs.LeftLinked.{none_freed}
 use Rattle.ic_world.proofs.Steps.{step_accepted, field_there, passes}
 
-module _ {A V K M : Type 0} {adapter : A} {objects : Objects V} {room : ℕ} (tables : List (WorldField M)) {cs : List (Option (Collection A V K))} (kept : IsKept adapter objects room tables cs) where
+module _ {A V M : Type 0} {adapter : A} {objects : Objects V} {room : ℕ} (tables : List (WorldField M)) {cs : List (Option (Collection V))} (kept : IsKept adapter objects room tables cs) where
   -- a field that is there has a table
   pub within_by : (f : ℕ) → has_field (family_of adapter objects (map table_of tables) cs) f ≡ true → f < length tables
   within_by f there = let low = ltb-true f _ there in rw (length-map, length-map) at low
@@ -55,7 +55,7 @@ module _ {A V K M : Type 0} {adapter : A} {objects : Objects V} {room : ℕ} (ta
   linked_read f t p within read =
       ap (λ l. set.contains l (index_of p)) (linked_at adapter objects (map table_of tables) cs f (rw length-map within) ∙ ap linked_in (table_read tables f t within read)) ∙ in_linked (table_of t) (lawful_field t.links) p
 
-  pub is_linked_step : (cmp : K → K → Ordering) (key_of : A → V → K) (f : ℕ) (t : WorldField M) (p : Place) → f < length tables → t ≡ get_or tables f t → place_is_placed objects p ≡ true
+  pub is_linked_step : {K : Type 0} (cmp : K → K → Ordering) (key_of : A → V → K) (f : ℕ) (t : WorldField M) (p : Place) → f < length tables → t ≡ get_or tables f t → place_is_placed objects p ≡ true
       → (answer : Bool) → answer ≡ is_linked ((table_of t).entry p)
       → Step cmp key_of (family_of adapter objects (map table_of tables) cs) (IsLinked f p) (linked answer) (family_of adapter objects (map table_of tables) cs)
   is_linked_step cmp key_of f t p within read has answer is =
@@ -100,12 +100,12 @@ absent_in w f p none c s is same = not_among p s.members (by (is_among p s.membe
         let yes = list_any_at (has_member_in f p) w.collections c None (some_within w.collections c is) has in
         absurd (let both : true ≡ false = sym yes ∙ none in cc)
 
-module _ {A V K M : Type 0} {adapter : A} {objects : Objects V} {room : ℕ} (tables : List (WorldField M)) (cs : List (Option (Collection A V K))) (kept : IsKept adapter objects room tables cs) (f : ℕ) (p : Place) where
-  abbrev whole : IsWhole adapter objects room (map table_of tables) cs
+module _ {A V M : Type 0} {adapter : A} {objects : Objects V} {room : ℕ} (tables : List (WorldField M)) (cs : List (Option (Collection V))) (kept : IsKept adapter objects room tables cs) (f : ℕ) (p : Place) where
+  abbrev whole : IsWhole objects room (map table_of tables) cs
   whole = kept.0
 
   -- a collection of the field, as a call reads it
-  pub held_read : (c : ℕ) (k : Collection A V K) (t : WorldField M) → at cs c ≡ Some k → k.field ≡ f → t ≡ get_or tables f t → Held (table_of t) k.members
+  pub held_read : (c : ℕ) (k : Collection V) (t : WorldField M) → at cs c ≡ Some k → k.field ≡ f → t ≡ get_or tables f t → Held (table_of t) k.members
   held_read c k t is same read =
       let within : f < length tables = let a = whole.in_field c k is in omega (arith, a, same, length-map tables table_of) in
       subst (λ u. Held u k.members) (ap (table (map table_of tables)) same ∙ table_read tables f t within read) (whole.held c k is)
@@ -114,7 +114,7 @@ module _ {A V K M : Type 0} {adapter : A} {objects : Objects V} {room : ℕ} (ta
   has_at c = ap (has_member_in f p) (map_at (shown_as (map table_of tables)) cs c None)
 
   -- it has the place as a member, as its table tells
-  pub here_is : (c : ℕ) (k : Collection A V K) (t : WorldField M) → at cs c ≡ Some k → k.field ≡ f → t ≡ get_or tables f t → (b : Bool) → (IsTrue b ↔ IsMember p (members_in (table_of t) k.members))
+  pub here_is : (c : ℕ) (k : Collection V) (t : WorldField M) → at cs c ≡ Some k → k.field ≡ f → t ≡ get_or tables f t → (b : Bool) → (IsTrue b ↔ IsMember p (members_in (table_of t) k.members))
       → has_member_in f p (get_or (map (shown_as (map table_of tables)) cs) c None) ≡ b
   here_is c k t is same read b tells =
       let within : f < length tables = let a = whole.in_field c k is in omega (arith, a, same, length-map tables table_of) in
@@ -124,7 +124,7 @@ module _ {A V K M : Type 0} {adapter : A} {objects : Objects V} {room : ℕ} (ta
       ∙ ap (is_among p) (sym seen) ∙ among_is p (members_in (table_of t) k.members) b tells
 
   -- one of another field has not, nor has none
-  pub other_is : (c : ℕ) (k : Collection A V K) → at cs c ≡ Some k → k.field ≢ f → has_member_in f p (get_or (map (shown_as (map table_of tables)) cs) c None) ≡ false
+  pub other_is : (c : ℕ) (k : Collection V) → at cs c ≡ Some k → k.field ≢ f → has_member_in f p (get_or (map (shown_as (map table_of tables)) cs) c None) ≡ false
   other_is c k is other =
       has_at c ∙ ap (λ o. has_member_in f p (shown_as (map table_of tables) o)) is ∙ ap (λ x. x && is_among p (sequence (map table_of tables) k)) (ne_eqb k.field f other)
 
@@ -139,7 +139,7 @@ module _ {A V K M : Type 0} {adapter : A} {objects : Objects V} {room : ℕ} (ta
       xs : List (Option Sequence)
       xs = map (shown_as (map table_of tables)) cs
 
-      by : (c : ℕ) (o : Option (Collection A V K)) → at cs c ≡ o → has_member_in f p (get_or xs c None) ≡ false
+      by : (c : ℕ) (o : Option (Collection V)) → at cs c ≡ o → has_member_in f p (get_or xs c None) ≡ false
       by c None is = none_is c is
       by c (Some k) is = elim (cases_eq k.field f) [
         | inl same ↦ here_is c k t is same read false ((λ never. absurd (let no = never in cc)), (λ there. absurd (there (unlinked_absent (table_of t) k.members (members_in (table_of t) k.members) (held_read c k t is same read).shown free))))
@@ -170,18 +170,18 @@ module _ {A V K M : Type 0} {adapter : A} {objects : Objects V} {room : ℕ} (ta
     changes : ChangesOnly (table (map table_of tables) f) (look links) p
     changes = subst (λ u. ChangesOnly u (look links) p) (sym (table_read tables f t within read)) frame
 
-    absent : (c : ℕ) (k : Collection A V K) → at cs c ≡ Some k → k.field ≡ f → IsAbsent p (sequence (map table_of tables) k)
+    absent : (c : ℕ) (k : Collection V) → at cs c ≡ Some k → k.field ≡ f → IsAbsent p (sequence (map table_of tables) k)
     absent c k is same =
         absent_in (family_of adapter objects (map table_of tables) cs) f p (rw (← view) at none) c (seen_as k (sequence (map table_of tables) k)) (collection_is adapter objects (map table_of tables) cs c k is) same
 
-    unlinked_step : (cmp : K → K → Ordering) (key_of : A → V → K) → place_is_placed objects p ≡ true
+    unlinked_step : {K : Type 0} (cmp : K → K → Ordering) (key_of : A → V → K) → place_is_placed objects p ≡ true
         → Step cmp key_of (family_of adapter objects (map table_of tables) cs) (ForceUnlink f p) done (family_of adapter objects (map table_of (set_at tables f (record t { links = links }))) cs)
     unlinked_step cmp key_of has =
         let w = family_of adapter objects (map table_of tables) cs in
         rw map-set (step_accepted cmp key_of w (ForceUnlink f p) done _ (field_there w f _ (rw length-map in_map) ∙ passes (is_placed w p) NoSuchObject _ has ∙ passes _ IsMemberRefusal None (ap not (rw (← view) at none)))
         (refl, freed_family whole f in_map (look links) p free changes absent))
 
-    pub unlinked_by : (cmp : K → K → Ordering) (key_of : A → V → K) → place_is_placed objects p ≡ true
+    pub unlinked_by : {K : Type 0} (cmp : K → K → Ordering) (key_of : A → V → K) → place_is_placed objects p ≡ true
         → IsKept adapter objects room (set_at tables f (record t { links = links })) cs × Step cmp key_of old (ForceUnlink f p) done (family_of adapter objects (map table_of (set_at tables f (record t { links = links }))) cs)
     unlinked_by cmp key_of has =
         let step = unlinked_step cmp key_of has in

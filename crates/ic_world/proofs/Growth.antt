@@ -122,12 +122,12 @@ grows_all room room' count f ts us so past e = record {
 }
 
 -- OTHER TABLES that keep each collection: its sequence is the same
-module _ {A V K : Type 0} {adapter : A} {objects : Objects V} {room : ℕ} {ts : List (Table Entry)} {cs : List (Option (Collection A V K))} (whole : IsWhole adapter objects room ts cs) (us : List (Table Entry))
-    (law : (f : ℕ) → IsLawful (table us f)) (kept : (c : ℕ) (k : Collection A V K) → at cs c ≡ Some k → Keeps (table us k.field) k.members (sequence ts k)) where
-  kept_sequence : (c : ℕ) (k : Collection A V K) → at cs c ≡ Some k → sequence us k ≡ sequence ts k
+module _ {V : Type 0} {objects : Objects V} {room : ℕ} {ts : List (Table Entry)} {cs : List (Option (Collection V))} (whole : IsWhole objects room ts cs) (us : List (Table Entry))
+    (law : (f : ℕ) → IsLawful (table us f)) (kept : (c : ℕ) (k : Collection V) → at cs c ≡ Some k → Keeps (table us k.field) k.members (sequence ts k)) where
+  kept_sequence : (c : ℕ) (k : Collection V) → at cs c ≡ Some k → sequence us k ≡ sequence ts k
   kept_sequence c k is = one_sequence (table us k.field) (law k.field) k.members (sequence ts k) (kept c k is).shown
 
-  alike : (c : ℕ) (o : Option (Collection A V K)) → at cs c ≡ o → shown_as us o ≡ shown_as ts o
+  alike : (c : ℕ) (o : Option (Collection V)) → at cs c ≡ o → shown_as us o ≡ shown_as ts o
   alike c None is = refl
   alike c (Some k) is = ap (λ (s : List Place). let r : Option Sequence = Some (seen_as k s) in r) (kept_sequence c k is)
 
@@ -137,22 +137,21 @@ module _ {A V K : Type 0} {adapter : A} {objects : Objects V} {room : ℕ} {ts :
       map_at (shown_as us) cs c None ∙ alike c (at cs c) refl ∙ sym (map_at (shown_as ts) cs c None))
 
   pub kept_whole : (more : ℕ) → room ≤ more → length ts ≤ length us → ((f : ℕ) → f < length us → more ≤ (table us f).extent.places)
-      → ((f : ℕ) (q : Place) → is_linked ((table us f).entry q) ≡ true → HasObject objects (index_of q)) → IsWhole adapter objects more us cs
+      → ((f : ℕ) (q : Place) → is_linked ((table us f).entry q) ≡ true → HasObject objects (index_of q)) → IsWhole objects more us cs
   kept_whole more reach longer covered placed = record {
     within = λ i has. let h = whole.within i has in omega (arith, h, reach);
     covered = covered;
     placed = placed;
     in_field = λ c k is. let old = whole.in_field c k is in omega (arith, old, longer);
     held = λ c k is. subst (Keeps (table us k.field) k.members) (sym (kept_sequence c k is)) (kept c k is);
-    adapted = whole.adapted;
     apart = λ a b x y n is_x is_y same. rw (kept_sequence a x is_x, kept_sequence b y is_y) (whole.apart a b x y n is_x is_y same);
   }
 
-module _ {A V K : Type 0} (adapter : A) (objects : Objects V) (ts us : List (Table Entry)) (cs : List (Option (Collection A V K))) {room : ℕ} (whole : IsWhole adapter objects room ts cs) (grown : Grown ts us) where
+module _ {A V : Type 0} (adapter : A) (objects : Objects V) (ts us : List (Table Entry)) (cs : List (Option (Collection V))) {room : ℕ} (whole : IsWhole objects room ts cs) (grown : Grown ts us) where
   grown_lawful : (f : ℕ) → IsLawful (table us f)
   grown_lawful f q h = let a = lawful whole f q (rw ((grown.each f).entries q) at h) in let b = (grown.each f).longer in omega (arith, a, b)
 
-  grown_kept : (c : ℕ) (k : Collection A V K) → at cs c ≡ Some k → Keeps (table us k.field) k.members (sequence ts k)
+  grown_kept : (c : ℕ) (k : Collection V) → at cs c ≡ Some k → Keeps (table us k.field) k.members (sequence ts k)
   grown_kept c k is =
       let old = whole.held c k is in record {
         carried = rw (grown.each k.field).identity old.carried;
@@ -176,7 +175,7 @@ module _ {A V K : Type 0} (adapter : A) (objects : Objects V) (ts us : List (Tab
       λ i. record { adapter = adapter; objects = objects.values; fields = fields i; collections = collections i }
 
   -- and the invariant, where each table covers what the objects need
-  pub grown_whole : (more : ℕ) → room ≤ more → Cover more us → IsWhole adapter objects more us cs
+  pub grown_whole : (more : ℕ) → room ≤ more → Cover more us → IsWhole objects more us cs
   grown_whole more reach covered =
       kept_whole whole us grown_lawful grown_kept more reach (let n = grown.count in omega (arith, n)) covered (λ f q h. whole.placed f q (rw ((grown.each f).entries q) at h))
 
@@ -189,7 +188,7 @@ nothing_linked links t covers same q = by (is_linked (t.entry q)) refl
     by false e = e
 
 -- A FIELD more, of which no place is linked
-module _ {A V K : Type 0} {adapter : A} {objects : Objects V} {room : ℕ} {ts : List (Table Entry)} {cs : List (Option (Collection A V K))} (whole : IsWhole adapter objects room ts cs) (t : Table Entry)
+module _ {V : Type 0} {objects : Objects V} {room : ℕ} {ts : List (Table Entry)} {cs : List (Option (Collection V))} (whole : IsWhole objects room ts cs) (t : Table Entry)
     (none : (q : Place) → is_linked (t.entry q) ≡ false) where
   abbrev more : List (Table Entry)
   more = ts ++ t ∷ []
@@ -214,12 +213,12 @@ module _ {A V K : Type 0} {adapter : A} {objects : Objects V} {room : ℕ} {ts :
     | inr old ↦ rw (in_old f old) (lawful whole f q (rw (in_old f old) at h))
   ]
 
-  kept : (c : ℕ) (k : Collection A V K) → at cs c ≡ Some k → Keeps (table more k.field) k.members (sequence ts k)
+  kept : (c : ℕ) (k : Collection V) → at cs c ≡ Some k → Keeps (table more k.field) k.members (sequence ts k)
   kept c k is = rw (in_old k.field (whole.in_field c k is)) (whole.held c k is)
 
-  pub field_family : (kind : Kind) → kind_of t ≡ kind
+  pub field_family : {A : Type 0} {adapter : A} → (kind : Kind) → kind_of t ≡ kind
       → family_of adapter objects more cs ≡ record (family_of adapter objects ts cs) { fields = (family_of adapter objects ts cs).fields ++ record { kind = kind; linked = set_of.empty } ∷ [] }
-  field_family kind is =
+  field_family {adapter = adapter} kind is =
       let lawful_t : IsLawful t = λ q h. let no = none q in absurd (let both : true ≡ false = sym h ∙ no in cc) in
       let empty : linked_in t ≡ set_of.empty = linked_same no_table t (λ q h. cc) lawful_t (λ q. none q) ∙ linked_empty in
       let new : field_in t ≡ record { kind = kind; linked = set_of.empty } = λ i. record { kind = is i; linked = empty i } in
@@ -227,7 +226,7 @@ module _ {A V K : Type 0} {adapter : A} {objects : Objects V} {room : ℕ} {ts :
       let collections = kept_collections whole more law kept in
       λ i. record { adapter = adapter; objects = objects.values; fields = fields i; collections = collections i }
 
-  pub field_whole : room ≤ t.extent.places → IsWhole adapter objects room more cs
+  pub field_whole : room ≤ t.extent.places → IsWhole objects room more cs
   field_whole reach =
       kept_whole whole more law kept room (omega arith) (let n = length-append ts (t ∷ []) in omega (arith, n)) (λ f h. elim (side (length ts) f) [
         | inl past ↦ rw (last f past h) reach
@@ -238,7 +237,7 @@ module _ {A V K : Type 0} {adapter : A} {objects : Objects V} {room : ℕ} {ts :
       ])
 
 -- and what adding it comes to
-module _ {A V K M : Type 0} {adapter : A} {objects : Objects V} {room : ℕ} (tables : List (WorldField M)) {cs : List (Option (Collection A V K))} (kept : IsKept adapter objects room tables cs)
+module _ {A V K M : Type 0} {adapter : A} {objects : Objects V} {room : ℕ} (tables : List (WorldField M)) {cs : List (Option (Collection V))} (kept : IsKept adapter objects room tables cs)
     {old : Family A V} (view : family_of adapter objects (map table_of tables) cs ≡ old) (cmp : K → K → Ordering) (key_of : A → V → K) where
   pub field_added : (kind : Kind) (links : Field M) → IsFresh kind room (look links) → (r : Result ℕ Refusal) (news : List (WorldField M)) → Appends tables (record { links = links; left_linked = false }) r news
       → IsKept adapter objects room news cs × Step cmp key_of old (AddField kind) (reply_of (λ f. field f) r) (family_of adapter objects (map table_of news) cs)
@@ -246,15 +245,15 @@ module _ {A V K M : Type 0} {adapter : A} {objects : Objects V} {room : ℕ} (ta
       let new : WorldField M = record { links = links; left_linked = false } in
       let tables_are = map-append table_of tables (new ∷ []) in
       let left_are = map-append (λ (x : WorldField M). x.left_linked) tables (new ∷ []) in
-      let family = field_family kept.0 (look links) fresh.free kind fresh.kind_is in
+      let family = field_family kept.0 (look links) fresh.free {adapter = adapter} kind fresh.kind_is in
       let none = none_added kept.1 (length-map tables _ ∙ sym (length-map (map table_of tables) field_in ∙ length-map tables table_of)) kind in
       rw (← view, e.1, tables_are, left_are) ((field_whole kept.0 (look links) fresh.free fresh.covers, rw family none), (rw (length-map, length-map) e.0, family))
   field_added kind links fresh (Err r) news e = rw (e.0, e.1) (kept, view)
 
 -- A PLACE LESS LINKED in the table of field f, that of no member of a collection there
-module _ {A V K : Type 0} {adapter : A} {objects : Objects V} {room : ℕ} {ts : List (Table Entry)} {cs : List (Option (Collection A V K))} (whole : IsWhole adapter objects room ts cs) (f : ℕ) (within : f < length ts)
+module _ {V : Type 0} {objects : Objects V} {room : ℕ} {ts : List (Table Entry)} {cs : List (Option (Collection V))} (whole : IsWhole objects room ts cs) (f : ℕ) (within : f < length ts)
     (t : Table Entry) (p : Place) (free : IsUnlinked is_linked t p) (frame : ChangesOnly (table ts f) t p)
-    (none : (c : ℕ) (k : Collection A V K) → at cs c ≡ Some k → k.field ≡ f → IsAbsent p (sequence ts k)) where
+    (none : (c : ℕ) (k : Collection V) → at cs c ≡ Some k → k.field ≡ f → IsAbsent p (sequence ts k)) where
   abbrev us : List (Table Entry)
   us = set ts f t
 
@@ -279,7 +278,7 @@ module _ {A V K : Type 0} {adapter : A} {objects : Objects V} {room : ℕ} {ts :
     | inr other ↦ rw (there g other) (lawful whole g)
   ]
 
-  kept_all : (c : ℕ) (k : Collection A V K) → at cs c ≡ Some k → Keeps (table us k.field) k.members (sequence ts k)
+  kept_all : (c : ℕ) (k : Collection V) → at cs c ≡ Some k → Keeps (table us k.field) k.members (sequence ts k)
   kept_all c k is = elim (cases_eq k.field f) [
     | inl same ↦
         let was : Keeps (table ts f) k.members (sequence ts k) = subst (λ g. Keeps (table ts g) k.members (sequence ts k)) same (whole.held c k is) in
@@ -289,7 +288,7 @@ module _ {A V K : Type 0} {adapter : A} {objects : Objects V} {room : ℕ} {ts :
     | inr other ↦ subst (λ u. Keeps u k.members (sequence ts k)) (sym (there k.field other)) (whole.held c k is)
   ]
 
-  pub freed_whole : IsWhole adapter objects room us cs
+  pub freed_whole : IsWhole objects room us cs
   freed_whole =
       kept_whole whole us law_all kept_all room (omega arith) (let n = length-set ts f t in omega (arith, n)) (λ g h. elim (cases_eq g f) [
         | inl same ↦ rw (same, here, frame.extent) (whole.covered f within)
@@ -299,8 +298,8 @@ module _ {A V K : Type 0} {adapter : A} {objects : Objects V} {room : ℕ} {ts :
         | inr other ↦ whole.placed g q (rw (there g other) at h)
       ])
 
-  pub freed_family : family_of adapter objects us cs ≡ with_linked (family_of adapter objects ts cs) f (set_of.remove (linked_of (family_of adapter objects ts cs) f) (index_of p))
-  freed_family =
+  pub freed_family : {A : Type 0} {adapter : A} → family_of adapter objects us cs ≡ with_linked (family_of adapter objects ts cs) f (set_of.remove (linked_of (family_of adapter objects ts cs) f) (index_of p))
+  freed_family {adapter = adapter} =
       let at_f = field_at adapter objects ts cs f within in
       let kinds : kind_of t ≡ (field_of (family_of adapter objects ts cs) f).kind = ap (λ (x : Extent). kind_with x.identity) frame.extent ∙ ap (λ (x : LinkField). x.kind) (sym at_f) in
       let links = linked_loses (table ts f) t (lawful whole f) law_here p free (λ q d. ap is_linked (frame.others q d)) ∙ ap (λ (x : LinkField). set_of.remove x.linked (index_of p)) (sym at_f) in

@@ -9,7 +9,7 @@ use Rattle.ic_fields.specs.declared.entry.Entry.{Entry}
 use Rattle.ic_fields.specs.declared.field.Field.{Field}
 use Rattle.ic_world.specs.declared.field.WorldField.{WorldField}
 use Rattle.ic_members.specs.declared.members.Members.{Members}
-use Rattle.ic_members.specs.Members.{Held, members_in, kind_in, adapter_in, adapter_for}
+use Rattle.ic_members.specs.Members.{Held, members_in, kind_in}
 use Rattle.ic_world.specs.declared.collection.Collection.{Collection}
 use Rattle.ic_world.specs.declared.part.Part.{Part}
 use Rattle.ic_world.specs.declared.call.Refusal.{Refusal}
@@ -27,9 +27,9 @@ use Rattle.ic_world.proofs.Calls.{same_state}
 use Rattle.ic_world.proofs.LeftLinked.{none_out}
 use Rattle.ic_world.proofs.Steps.{some_same}
 
-module _ {A V K : Type 0} {adapter : A} {objects : Objects V} {room : ℕ} {ts : List (Table Entry)} {cs : List (Option (Collection A V K))} (whole : IsWhole adapter objects room ts cs)
-    (c : ℕ) (k : Collection A V K) (is : at cs c ≡ Some k) (part : Part) {new : Table Entry} {m handed : Members A V K} (parts : HandsOut (PartsOf part) (table ts k.field) new k.members m handed) where
-  part_edit : Edit adapter objects ts cs c k new m (members_in new m) (sequence ts k)
+module _ {V : Type 0} {objects : Objects V} {room : ℕ} {ts : List (Table Entry)} {cs : List (Option (Collection V))} (whole : IsWhole objects room ts cs)
+    (c : ℕ) (k : Collection V) (is : at cs c ≡ Some k) (part : Part) {new : Table Entry} {m handed : Members V} (parts : HandsOut (PartsOf part) (table ts k.field) new k.members m handed) where
+  part_edit : Edit objects ts cs c k new m (members_in new m) (sequence ts k)
   part_edit = record {
     was = is;
     kept = parts.held;
@@ -40,13 +40,13 @@ module _ {A V K : Type 0} {adapter : A} {objects : Objects V} {room : ℕ} {ts :
     beside = λ d l n is_l same. whole.apart d c l k n is_l is same;
   }
 
-  abbrev more : Collection A V K
+  abbrev more : Collection V
   more = record { field = k.field; members = handed }
 
   abbrev tables : List (Table Entry)
   tables = set ts k.field new
 
-  abbrev between : List (Option (Collection A V K))
+  abbrev between : List (Option (Collection V))
   between = set cs c (Some (after k m))
 
   shows : sequence tables more ≡ members_in new handed
@@ -55,10 +55,7 @@ module _ {A V K : Type 0} {adapter : A} {objects : Objects V} {room : ℕ} {ts :
   held : Held (table tables k.field) handed
   held = rw (here whole part_edit) parts.hands_out
 
-  adapted : adapter_in handed ≡ adapter_for (kind_in handed) adapter
-  adapted = rw (parts.part_alike.adapter, parts.part_alike.kind) (whole.adapted c k is)
-
-  others : (d : ℕ) (l : Collection A V K) → at between d ≡ Some l → l.field ≡ k.field → IsDisjoint (sequence tables l) (sequence tables more)
+  others : (d : ℕ) (l : Collection V) → at between d ≡ Some l → l.field ≡ k.field → IsDisjoint (sequence tables l) (sequence tables more)
   others d l is_l same =
       subst (IsDisjoint (sequence tables l)) (sym shows) (elim (at_after whole part_edit d l is_l) [
         | inl this ↦ subst (λ x. IsDisjoint (sequence tables x) (members_in new handed)) (sym this.1) (subst (λ s. IsDisjoint s (members_in new handed)) (sym (new_sequence whole part_edit)) parts.apart)
@@ -69,24 +66,24 @@ module _ {A V K : Type 0} {adapter : A} {objects : Objects V} {room : ℕ} {ts :
   field_there : k.field < length tables
   field_there = rw length-set (whole.in_field c k is)
 
-  pub part_whole : IsWhole adapter objects room tables (between ++ Some more ∷ [])
-  part_whole = appended_whole (edited_whole whole part_edit) more field_there held adapted others
+  pub part_whole : IsWhole objects room tables (between ++ Some more ∷ [])
+  part_whole = appended_whole (edited_whole whole part_edit) more field_there held others
 
-  pub part_hands : (n : ℕ) → n ≡ length cs → OpensWith (family_of adapter objects ts cs) c part (opened n) (family_of adapter objects tables (between ++ Some more ∷ []))
-  part_hands n number = (
+  pub part_hands : {A : Type 0} {adapter : A} → (n : ℕ) → n ≡ length cs → OpensWith (family_of adapter objects ts cs) c part (opened n) (family_of adapter objects tables (between ++ Some more ∷ []))
+  part_hands {adapter = adapter} n number = (
     rw length-map number,
     seen_as k (sequence ts k),
     state_of new m,
     state_of new handed,
     collection_is adapter objects ts cs c k is,
-    subst (λ s. PartsOf part s (state_of new m) (state_of new handed)) (sym (same_state whole c k is)) parts.parts,
-    appended_family (edited_whole whole part_edit) more field_there held adapted others
+    subst (λ s. PartsOf part s (state_of new m) (state_of new handed)) (sym (same_state whole c k is adapter)) parts.parts,
+    appended_family (edited_whole whole part_edit) more field_there held others
         ∙ ap (λ s. with_opened (family_of adapter objects tables between) (seen_as more s)) shows
         ∙ ap (λ w. with_opened w (seen_as more (members_in new handed))) (edited_family whole part_edit _ refl),
   )
 
-module _ {A V K M : Type 0} {adapter : A} {objects : Objects V} {room : ℕ} {tables : List (WorldField M)} {cs : List (Option (Collection A V K))} (kept : IsKept adapter objects room tables cs)
-    {c : ℕ} {k : Collection A V K} {now : WorldField M} (at_k : Found tables cs c k now) {old : Family A V} (view : family_of adapter objects (map table_of tables) cs ≡ old) (part : Part) (has_room : Bool) (links : Field M) (m : Members A V K) where
+module _ {A V M : Type 0} {adapter : A} {objects : Objects V} {room : ℕ} {tables : List (WorldField M)} {cs : List (Option (Collection V))} (kept : IsKept adapter objects room tables cs)
+    {c : ℕ} {k : Collection V} {now : WorldField M} (at_k : Found tables cs c k now) {old : Family A V} (view : family_of adapter objects (map table_of tables) cs ≡ old) (part : Part) (has_room : Bool) (links : Field M) (m : Members V) where
   abbrev nf : WorldField M
   nf = record now { links = links }
 
@@ -104,7 +101,7 @@ module _ {A V K M : Type 0} {adapter : A} {objects : Objects V} {room : ℕ} {ta
     pub refused_step : (x : Refusal) → Some x ≡ asks_room has_room tests
         → StepOut old c part (refused x) (family_of adapter objects (map table_of (set tables k.field nf)) (set cs c (Some (after k m))))
     refused_step x tested =
-        let P : List (WorldField M) → List (Option (Collection A V K)) → Type 0 = λ xs ys. StepOut old c part (refused x) (family_of adapter objects (map table_of xs) ys) in
+        let P : List (WorldField M) → List (Option (Collection V)) → Type 0 = λ xs ys. StepOut old c part (refused x) (family_of adapter objects (map table_of xs) ys) in
         let at_list = subst (P tables) (sym (ap (λ z. set cs c (Some (after k z))) same.1 ∙ at_k.list_back)) (subst (λ w. StepOut w c part (refused x) (family_of adapter objects (map table_of tables) cs)) view (by _ has_room tested_by tested)) in
         subst (λ xs. P xs (set cs c (Some (after k m)))) (sym (ap (λ x. set tables k.field (record now { links = x })) same.0 ∙ at_k.table_back)) at_list
       where
@@ -115,7 +112,7 @@ module _ {A V K M : Type 0} {adapter : A} {objects : Objects V} {room : ℕ} {ta
         by None false e h = let f : x ≡ OutOfMemory = some_same h in rw (e, f) refl
 
   -- where it is not
-  module _ (handed : Members A V K) (parts : HandsOut (PartsOf part) (table_of now) (table_of nf) k.members m handed) where
+  module _ (handed : Members V) (parts : HandsOut (PartsOf part) (table_of now) (table_of nf) k.members m handed) where
     there : HandsOut (PartsOf part) (table (map table_of tables) k.field) (table_of nf) k.members m handed
     there = rw at_k.read parts
 

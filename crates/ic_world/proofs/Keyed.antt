@@ -1,5 +1,5 @@
 -- What keyed calls leave to the world, from what the tree's own calls give.
-use Rattle.std.proofs.Common.{◌≡◌, ◌∙◌, ℕ, inl, Bool, true, false, Option, Some, None, List, [], ◌∷◌, refl, sym, Ok, IfSome, IfNone}
+use Rattle.std.proofs.Common.{◌≡◌, ◌∙◌, ℕ, inl, Bool, true, false, Option, Some, None, List, [], ◌∷◌, refl, sym, Ok, OnSome, IfSome, IfNone}
 use Rattle.std.specs.FinSet as set
 use Rattle.std.specs.declared.cmp.Ordering.{Ordering}
 use Rattle.ic_unsafe_ref.specs.declared.place.Place.{Place}
@@ -13,10 +13,12 @@ use Rattle.ic_fields.specs.Fields.{look}
 use Rattle.ic_fields.specs.Entries.{is_linked}
 use Rattle.ic_members.specs.declared.members.Members.{Members}
 use Rattle.ic_members.specs.Members.{cursor_in, members_in, Held}
-use Rattle.ic_members.specs.Edits.{AtGap, Moves}
+use Rattle.ic_members.specs.Edits.{AtGap, Moves, IsUnchanged}
 use Rattle.ic_members.specs.Keyed.{FewLooks, IsVacantFor, PutsInOrder, PutsAtKey}
 use Rattle.ic_members.proofs.AllKinds.{lawful}
 use Rattle.ic_world.specs.LinkedSets.{linked_in}
+use Rattle.std.specs.Option.{ok_or}
+use Rattle.ic_world.specs.declared.call.Refusal.TheVariants.{AlreadyLinked}
 use Rattle.ic_world.specs.Calls.{State, put, moved, asks_unlinked, key_at, EntryReplies}
 use Rattle.ic_world.specs.Replies.{entry_or_linked}
 use Rattle.ic_world.specs.Turns.{Turns, Ran, state_of}
@@ -24,7 +26,7 @@ use Rattle.ic_world.proofs.Linked.{in_linked}
 use Rattle.ic_world.proofs.Turned.{turns_by, turns_put}
 
 -- the cursor alone has moved, in a call that names what it may
-still : {A V K M : Type 0} (links : Field M) {m m' : Members A V K} {names : List Place} {cursor : Option Place} {Accepts : State → State → Type 0} → (e : Moves (look links) m m' cursor)
+still : {V M : Type 0} (links : Field M) {m m' : Members V} {names : List Place} {cursor : Option Place} {Accepts : State → State → Type 0} → (e : Moves (look links) m m' cursor)
     → (state_of (look links) m' ≡ moved (state_of (look links) m) cursor → Accepts (state_of (look links) m) (state_of (look links) m'))
     → Turns names Accepts (look links) (look links) m m'
 still links {m' = m'} e accepts =
@@ -32,24 +34,25 @@ still links {m' = m'} e accepts =
     (record { kept = e.kept; alike = e.alike; cursor_is = e.cursor_is; frame = record { extent = refl; others = λ q out. refl } })
     (λ q out. out) refl accepts
 
-module _ {A V K M : Type 0} {links : Field M} {m : Members A V K} where
+module _ {V M : Type 0} {links : Field M} {m : Members V} where
   -- A SEARCH
-  pub searched : {R : Type 0} {names : List Place} {m' : Members A V K} {cursor : Option Place} {accepts : R → State → State → Type 0} (answer : R) → Moves (look links) m m' cursor
+  pub searched : {R : Type 0} {names : List Place} {m' : Members V} {cursor : Option Place} {accepts : R → State → State → Type 0} (answer : R) → Moves (look links) m m' cursor
       → (state_of (look links) m' ≡ moved (state_of (look links) m) cursor → accepts answer (state_of (look links) m) (state_of (look links) m'))
       → Ran names (λ s. None) accepts links links m m' (Ok answer)
   searched answer e accepts = record { tested = refl; turned = still links e accepts; unchanged = tt }
 
-  -- AN INSERT IN ORDER
-  pub inserted : {R : Type 0} {links' : Field M} {m' : Members A V K} {cursor : Option Place} {accepts : R → State → State → Type 0} {b : Bool} (at : Place → Ordering) (p : Place) (answer : R)
-      → b ≡ set.contains (linked_in (look links)) (index_of p) → b ≡ false → PutsInOrder at (look links) (look links') m m' p cursor
-      → ((gap : Cut) → join gap ≡ members_in (look links) m → IsBorder (less_at at) gap → state_of (look links') m' ≡ put (state_of (look links) m) gap p cursor
-      → accepts answer (state_of (look links) m) (state_of (look links') m'))
-      → Ran (p ∷ []) (λ s. asks_unlinked s p) accepts links links' m m' (Ok answer)
-  inserted {links'} at p answer is free e accepts = record {
-    tested = rw (sym is ∙ free) refl;
-    turned = turns_put (lawful links) (lawful links') e.0 p e.1 e.2.1 (accepts e.0 e.1 e.2.0);
+  -- AN INSERT IN ORDER, or its refusal
+  pub inserted : {R : Type 0} {links' : Field M} {m' : Members V} {cursor : Option Place} {accepts : R → State → State → Type 0} (at : Place → Ordering) (p : Place) (answer : Option R)
+      → OnSome answer (PutsInOrder at (look links) (look links') m m' p cursor)
+      → ((a : R) → answer ≡ Some a → (gap : Cut) → join gap ≡ members_in (look links) m → IsBorder (less_at at) gap → state_of (look links') m' ≡ put (state_of (look links) m) gap p cursor
+      → accepts a (state_of (look links) m) (state_of (look links') m'))
+      → IfNone answer (IsLinked is_linked (look links) p × IsUnchanged links links' m m') → Ran (p ∷ []) (λ s. asks_unlinked s p) accepts links links' m m' (ok_or answer AlreadyLinked)
+  inserted {links' = links'} at p (Some a) e accepts refused = record {
+    tested = rw (in_linked (look links) (lawful links) p ∙ e.2.1.links.was) refl;
+    turned = turns_put (lawful links) (lawful links') e.0 p e.1 e.2.1 (accepts a refl e.0 e.1 e.2.0);
     unchanged = tt;
   }
+  inserted at p None e accepts refused = record { tested = rw (in_linked (look links) (lawful links) p ∙ refused.0) refl; turned = tt; unchanged = refused.1 }
 
 -- AN ENTRY
 module _ {V K : Type 0} (cmp : K → K → Ordering) (key_of : V → K) (objects : Objects V) (key : K) (p : Place) where
@@ -59,7 +62,7 @@ module _ {V K : Type 0} (cmp : K → K → Ordering) (key_of : V → K) (objects
   abbrev Answers : Option (Bool × Place × ℕ) → State → State → Type 0
   Answers answer s t = EntryReplies cmp key_of objects key p s (entry_or_linked answer) t
 
-  module _ {A M : Type 0} (links links' : Field M) (m m' : Members A V K) where
+  module _ {M : Type 0} (links links' : Field M) (m m' : Members V) where
     abbrev Occupied : Bool → Place → Type 0
     Occupied b q = b ≡ true → Finds at (members_in (look links) m) (Some q) × (links' ≡ links) × Moves (look links) m m' (Some q)
 
@@ -79,14 +82,13 @@ module _ {V K : Type 0} (cmp : K → K → Ordering) (key_of : V → K) (objects
 
     pub entered : (answer : Option (Bool × Place × ℕ)) → Held (look links) m
         → IfSome answer (λ e. Occupied e.0 e.1) → IfSome answer (λ e. Vacant e.0 e.1) → IfSome answer (λ e. FewLooks e.2 (members_in (look links) m))
-        → IfNone answer (IsLinked is_linked (look links) p × AtGap (members_in (look links) m) (IsVacantFor at) × (m' ≡ m) × (links' ≡ links))
+        → IfNone answer (IsLinked is_linked (look links) p × AtGap (members_in (look links) m) (IsVacantFor at) × IsUnchanged links links' m m')
         → Ran (p ∷ []) (λ s. None) Answers links links' m m' (Ok answer)
     entered (Some e) held occupied vacant looks none =
         record { tested = refl; turned = entered_at e.0 e.1 e.2 occupied vacant looks; unchanged = tt }
     entered None held occupied vacant looks none =
-        let stays : Moves (look links) m m (cursor_in m) = record { kept = held; alike = record { kind = refl; adapter = refl }; cursor_is = refl } in
         record {
           tested = refl;
-          turned = rw (none.2, none.3) (still links stays (λ same. (in_linked (look links) (lawful links) p ∙ none.0, none.1, same)));
+          turned = rw none.2.0 (still links none.2.1 (λ same. (in_linked (look links) (lawful links) p ∙ none.0, none.1, same)));
           unchanged = tt;
         }

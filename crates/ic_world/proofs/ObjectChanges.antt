@@ -74,7 +74,7 @@ removed_at old new p values i =
           inr (d, got ∙ ap (λ b. cond b None (map_of.get old.values i)) no)
     ]
 
-module _ {A V K : Type 0} {adapter : A} {objects : Objects V} {room : ℕ} {ts : List (Table Entry)} {cs : List (Option (Collection A V K))} (whole : IsWhole adapter objects room ts cs) where
+module _ {V : Type 0} {objects : Objects V} {room : ℕ} {ts : List (Table Entry)} {cs : List (Option (Collection V))} (whole : IsWhole objects room ts cs) where
   -- a place that is linked in no field is unlinked in each table
   linked_nowhere : (p : Place) → list_any (λ (f : LinkField). set_of.contains f.linked (index_of p)) (map field_in ts) ≡ false → (f : ℕ) → is_linked ((table ts f).entry p) ≡ false
   linked_nowhere p none f = by (is_linked ((table ts f).entry p)) refl
@@ -91,9 +91,9 @@ module _ {A V K : Type 0} {adapter : A} {objects : Objects V} {room : ℕ} {ts :
             absurd (let both : true ≡ false = sym (list_any_at has (map field_in ts) f (field_in no_table) (rw length-map within) here) ∙ none in cc)
       ]
 
-module _ {A V K : Type 0} {adapter : A} {old new : Objects V} {room : ℕ} {ts : List (Table Entry)} {cs : List (Option (Collection A V K))} (whole : IsWhole adapter old room ts cs) where
+module _ {V : Type 0} {old new : Objects V} {room : ℕ} {ts : List (Table Entry)} {cs : List (Option (Collection V))} (whole : IsWhole old room ts cs) where
   -- A VALUE PUT at a place for which there is room
-  pub put_whole : (p : Place) (v : V) → new.values ≡ map_of.insert old.values (index_of p) v → index_of p < room → IsWhole adapter new room ts cs
+  pub put_whole : (p : Place) (v : V) → new.values ≡ map_of.insert old.values (index_of p) v → index_of p < room → IsWhole new room ts cs
   put_whole p v values reach = record {
     within = λ i has. elim (put_at old new p v values i) [
       | inl here ↦ rw here.0 reach
@@ -106,13 +106,12 @@ module _ {A V K : Type 0} {adapter : A} {old new : Objects V} {room : ℕ} {ts :
     ];
     in_field = whole.in_field;
     held = whole.held;
-    adapted = whole.adapted;
     apart = whole.apart;
   }
 
   -- AN OBJECT LESS, which is linked nowhere
   pub removed_whole : (p : Place) → new.values ≡ map_of.remove old.values (index_of p) → list_any (λ (f : LinkField). set_of.contains f.linked (index_of p)) (map field_in ts) ≡ false
-      → IsWhole adapter new room ts cs
+      → IsWhole new room ts cs
   removed_whole p values none = record {
     within = λ i has. elim (removed_at old new p values i) [
       | inl gone ↦ absurd (let h = rw gone.1 at has in cc)
@@ -125,7 +124,6 @@ module _ {A V K : Type 0} {adapter : A} {old new : Objects V} {room : ℕ} {ts :
     ];
     in_field = whole.in_field;
     held = whole.held;
-    adapted = whole.adapted;
     apart = whole.apart;
   }
 
@@ -135,11 +133,11 @@ value_was old p v (Ok was) new e = e.0
 value_was old p v (Err x) new e = tt
 
 -- `cmp`, `key_of`: the order of the keys, and the key of a value
-module _ {A V K : Type 0} (cmp : K → K → Ordering) (key_of : A → V → K) {adapter : A} {objects : Objects V} {room : ℕ} {ts : List (Table Entry)} {cs : List (Option (Collection A V K))}
-    (whole : IsWhole adapter objects room ts cs) {old : Family A V} (view : family_of adapter objects ts cs ≡ old) where
+module _ {A V K : Type 0} (cmp : K → K → Ordering) (key_of : A → V → K) {adapter : A} {objects : Objects V} {room : ℕ} {ts : List (Table Entry)} {cs : List (Option (Collection V))}
+    (whole : IsWhole objects room ts cs) {old : Family A V} (view : family_of adapter objects ts cs ≡ old) where
   -- WHERE A VALUE WAS TO BE SWAPPED
   pub value_swapped : (p : Place) (v : V) (r : Result V (Refusal × V)) (new : Objects V) → SwapsValue objects p v r new
-      → IsWhole adapter new room ts cs × Step cmp key_of old (SetValue p v) (reply_of_value (λ _. done) r) (family_of adapter new ts cs)
+      → IsWhole new room ts cs × Step cmp key_of old (SetValue p v) (reply_of_value (λ _. done) r) (family_of adapter new ts cs)
   value_swapped p v (Ok was) new e =
       let has : place_is_placed objects p ≡ true = ap is_some e.0 in (
         put_whole whole p v (ap (λ (o : Objects V). o.values) e.1) (whole.within (index_of p) has),
@@ -150,7 +148,7 @@ module _ {A V K : Type 0} (cmp : K → K → Ordering) (key_of : A → V → K) 
 
   -- WHERE A VALUE WAS TO BE PLACED, after the tables grew
   module _ {room' : ℕ} {us : List (Table Entry)} (grows : Grows room ts room' us) where
-    longer_whole : IsWhole adapter objects room' us cs
+    longer_whole : IsWhole objects room' us cs
     longer_whole = grown_whole adapter objects ts us cs whole grows.grown room' grows.more (grows.covered whole.covered)
 
     same_family : family_of adapter objects us cs ≡ old
@@ -160,7 +158,7 @@ module _ {A V K : Type 0} (cmp : K → K → Ordering) (key_of : A → V → K) 
     none_grown {left} none new = record { none = (subst (NoneLeftLinked left) (sym same_family) none).none }
 
     pub value_placed : (has_room : Bool) → (has_room ≡ true → objects.next < room') → (v : V) (r : Result Place (Refusal × V)) (new : Objects V) → PlacesValue has_room objects v r new
-        → IsWhole adapter new room' us cs × Step cmp key_of old (PlaceCall v) (reply_of_value (λ p. object p) r) (family_of adapter new us cs)
+        → IsWhole new room' us cs × Step cmp key_of old (PlaceCall v) (reply_of_value (λ p. object p) r) (family_of adapter new us cs)
     value_placed has_room reach v (Ok p) new e =
         let put = e.1 in
         let here = reach e.0 in

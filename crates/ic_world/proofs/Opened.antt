@@ -22,7 +22,7 @@ use Rattle.ic_world.specs.declared.call.Refusal.TheVariants.{NoSuchField, WrongK
 use Rattle.ic_world.specs.Family.{Family, has_field, field_of, with_opened}
 use Rattle.ic_world.specs.Pieces.{Appends}
 use Rattle.ic_world.specs.declared.call.Command.TheVariants.{Open}
-use Rattle.ic_members.specs.Members.{Keeps, Held, kind_in, cursor_in, adapter_in, adapter_for}
+use Rattle.ic_members.specs.Members.{Keeps, Held, kind_in, cursor_in}
 use Rattle.ic_world.specs.Tables.{table, table_of, field_in, sequence, seen_as, shown_as, at, family_of, IsWhole}
 use Rattle.ic_world.specs.Replies.{reply_of}
 use Rattle.ic_world.specs.Calls.{opened, refused, asks}
@@ -50,10 +50,10 @@ get_pushed (y ∷ xs) x (suc d) l e =
     ]
 
 -- A COLLECTION MORE, which shares no member with one of its field
-module _ {A V K : Type 0} {adapter : A} {objects : Objects V} {room : ℕ} {ts : List (Table Entry)} {cs : List (Option (Collection A V K))} (whole : IsWhole adapter objects room ts cs)
-    (k : Collection A V K) (within : k.field < length ts) (held : Held (table ts k.field) k.members) (adapted : adapter_in k.members ≡ adapter_for (kind_in k.members) adapter)
-    (apart : (d : ℕ) (l : Collection A V K) → at cs d ≡ Some l → l.field ≡ k.field → IsDisjoint (sequence ts l) (sequence ts k)) where
-  pub appended_whole : IsWhole adapter objects room ts (cs ++ Some k ∷ [])
+module _ {V : Type 0} {objects : Objects V} {room : ℕ} {ts : List (Table Entry)} {cs : List (Option (Collection V))} (whole : IsWhole objects room ts cs)
+    (k : Collection V) (within : k.field < length ts) (held : Held (table ts k.field) k.members)
+    (apart : (d : ℕ) (l : Collection V) → at cs d ≡ Some l → l.field ≡ k.field → IsDisjoint (sequence ts l) (sequence ts k)) where
+  pub appended_whole : IsWhole objects room ts (cs ++ Some k ∷ [])
   appended_whole = record {
     within = whole.within;
     covered = whole.covered;
@@ -65,10 +65,6 @@ module _ {A V K : Type 0} {adapter : A} {objects : Objects V} {room : ℕ} {ts :
     held = λ c l is. elim (get_pushed cs _ c l is) [
       | inl h ↦ whole.held c l h
       | inr h ↦ subst (λ x. Held (table ts x.field) x.members) (some_same h.1) held
-    ];
-    adapted = λ c l is. elim (get_pushed cs _ c l is) [
-      | inl h ↦ whole.adapted c l h
-      | inr h ↦ subst (λ x. adapter_in x.members ≡ adapter_for (kind_in x.members) adapter) (some_same h.1) adapted
     ];
     apart = λ a b x y n is_x is_y same. elim (get_pushed cs _ a x is_x) [
       | inl h ↦ elim (get_pushed cs _ b y is_y) [
@@ -82,30 +78,29 @@ module _ {A V K : Type 0} {adapter : A} {objects : Objects V} {room : ℕ} {ts :
     ];
   }
 
-  pub appended_family : family_of adapter objects ts (cs ++ Some k ∷ []) ≡ with_opened (family_of adapter objects ts cs) (seen_as k (sequence ts k))
-  appended_family = λ i. record { adapter = adapter; objects = objects.values; fields = (family_of adapter objects ts cs).fields; collections = map-append (shown_as ts) cs (Some k ∷ []) i }
+  pub appended_family : {A : Type 0} {adapter : A} → family_of adapter objects ts (cs ++ Some k ∷ []) ≡ with_opened (family_of adapter objects ts cs) (seen_as k (sequence ts k))
+  appended_family {adapter = adapter} = λ i. record { adapter = adapter; objects = objects.values; fields = (family_of adapter objects ts cs).fields; collections = map-append (shown_as ts) cs (Some k ∷ []) i }
 
 -- what a test of an opening tells of the field, of the table that was read
-pub open_tests : {A V K M : Type 0} (adapter : A) (objects : Objects V) (tables : List (WorldField M)) (cs : List (Option (Collection A V K))) {old : Family A V} → family_of adapter objects (map table_of tables) cs ≡ old → (f : ℕ) (kind : Kind) (t : WorldField M)
+pub open_tests : {A V M : Type 0} (adapter : A) (objects : Objects V) (tables : List (WorldField M)) (cs : List (Option (Collection V))) {old : Family A V} → family_of adapter objects (map table_of tables) cs ≡ old → (f : ℕ) (kind : Kind) (t : WorldField M)
     → f < length tables → t ≡ get_or tables f t → refusal_of_open old f kind ≡ asks (carries (kind_of (table_of t)) kind) WrongKind None
 open_tests adapter objects tables cs view f kind t within read =
     rw (← view) (field_there (family_of adapter objects (map table_of tables) cs) f _ (rw (length-map, length-map) within)
     ∙ ap (λ x. asks (carries x.kind kind) WrongKind None) (field_at adapter objects (map table_of tables) cs f (rw length-map within) ∙ ap field_in (table_read tables f t within read)))
 
 -- members of a kind that were made new
-abbrev New : {A V K : Type 0} → Kind → A → Members A V K → Type 0
-New of_kind by m = record {
+abbrev New : {V : Type 0} → Kind → Members V → Type 0
+New of_kind m = record {
   kind : kind_in m ≡ of_kind;
-  adapter : adapter_in m ≡ adapter_for of_kind by;
   null : cursor_in m ≡ None;
   kept : (t : Table Entry) → carries (kind_of t) of_kind ≡ true → Keeps t m [];
 }
 
 -- AN OPENING that no test refuses. `cmp`, `key_of`: the order of the keys, and the key of a value
-module _ {A V K : Type 0} (cmp : K → K → Ordering) (key_of : A → V → K) {adapter : A} {objects : Objects V} {room : ℕ} {ts : List (Table Entry)} {cs : List (Option (Collection A V K))}
-    (whole : IsWhole adapter objects room ts cs) {old : Family A V} (view : family_of adapter objects ts cs ≡ old) (f : ℕ) (kind : Kind) (none : refusal_of_open old f kind ≡ None)
-    (m : Members A V K) (new : New kind adapter m) where
-  abbrev fresh : Collection A V K
+module _ {A V K : Type 0} (cmp : K → K → Ordering) (key_of : A → V → K) {adapter : A} {objects : Objects V} {room : ℕ} {ts : List (Table Entry)} {cs : List (Option (Collection V))}
+    (whole : IsWhole objects room ts cs) {old : Family A V} (view : family_of adapter objects ts cs ≡ old) (f : ℕ) (kind : Kind) (none : refusal_of_open old f kind ≡ None)
+    (m : Members V) (new : New kind m) where
+  abbrev fresh : Collection V
   fresh = record { field = f; members = m }
 
   tests : (has_field (family_of adapter objects ts cs) f ≡ true) × (asks (carries (field_of (family_of adapter objects ts cs) f).kind kind) WrongKind None ≡ None)
@@ -120,25 +115,24 @@ module _ {A V K : Type 0} (cmp : K → K → Ordering) (key_of : A → V → K) 
   no_members : sequence ts fresh ≡ []
   no_members = one_sequence (table ts f) (lawful whole f) m [] keeps.shown
 
-  pub opened_by : (r : Result ℕ Refusal) (news : List (Option (Collection A V K))) → Appends cs (Some fresh) r news
-      → IsWhole adapter objects room ts news × Step cmp key_of old (Open f kind) (reply_of (λ c. opened c) r) (family_of adapter objects ts news)
+  pub opened_by : (r : Result ℕ Refusal) (news : List (Option (Collection V))) → Appends cs (Some fresh) r news
+      → IsWhole objects room ts news × Step cmp key_of old (Open f kind) (reply_of (λ c. opened c) r) (family_of adapter objects ts news)
   opened_by (Ok n) news e =
       let last : shown_as ts (Some fresh) ≡ Some (record { field = f; kind = kind; members = []; cursor = None }) = λ i. Some (record { field = f; kind = new.kind i; members = no_members i; cursor = new.null i }) in
       let all = map-append (shown_as ts) cs (Some fresh ∷ []) ∙ ap (λ x. map (shown_as ts) cs ++ x ∷ []) last in
       rw e.1 (
-        appended_whole whole fresh within (subst (Keeps (table ts f) m) (sym no_members) keeps) (rw new.kind new.adapter) (λ d l is same. subst (IsDisjoint (sequence ts l)) (sym no_members) (disjoint_none (sequence ts l))),
+        appended_whole whole fresh within (subst (Keeps (table ts f) m) (sym no_members) keeps) (λ d l is same. subst (IsDisjoint (sequence ts l)) (sym no_members) (disjoint_none (sequence ts l))),
         step_accepted cmp key_of old (Open f kind) (opened n) _ none (rw (← view) (rw length-map e.0, λ i. record { adapter = adapter; objects = objects.values; fields = map field_in ts; collections = all i })),
       )
   opened_by (Err r) news e = rw (e.0, e.1) (whole, step_accepted cmp key_of old (Open f kind) (refused OutOfMemory) _ none view)
 
 -- A world with nothing in it
-pub empty_whole : {A V K : Type 0} (adapter : A) (objects : Objects V) → objects.values ≡ map_of.empty → IsWhole {K = K} adapter objects 0 [] []
-empty_whole adapter objects none = record {
+pub empty_whole : {V : Type 0} (objects : Objects V) → objects.values ≡ map_of.empty → IsWhole objects 0 [] []
+empty_whole objects none = record {
   within = λ i has. let lacks : map_of.get objects.values i ≡ None = ap (λ m. map_of.get m i) none ∙ get-empty nat_cmp i in let h = rw lacks at has in cc;
   covered = λ f h. absurd (omega (arith, h));
   placed = λ f q h. cc;
   in_field = λ c k is. cc;
   held = λ c k is. cc;
-  adapted = λ c k is. cc;
   apart = λ a b x y n is_x is_y same. cc;
 }

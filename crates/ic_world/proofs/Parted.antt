@@ -17,13 +17,13 @@ use Rattle.ic_world.specs.declared.part.Part.TheVariants.{All, After, Before}
 use Rattle.ic_world.proofs.Linked.{linked_same}
 
 -- the two sides of a gap share no member, and what is no member is at neither
-apart_gap : {A V K : Type 0} {t : Table Entry} {m : Members A V K} → Held t m → (gap : Cut) → join gap ≡ members_in t m → IsDisjoint gap.front gap.back
+apart_gap : {V : Type 0} {t : Table Entry} {m : Members V} → Held t m → (gap : Cut) → join gap ≡ members_in t m → IsDisjoint gap.front gap.back
 apart_gap {t} {m} held gap cut = distinct_disjoint gap.front gap.back (subst IsDistinct (sym cut) (distinct t m (members_in t m) held.shown))
 
 absent_gap : {s : List Place} (gap : Cut) → join gap ≡ s → (q : Place) → IsAbsent q s → IsAbsent q (join gap)
 absent_gap gap cut q out = subst (IsAbsent q) (sym cut) out
 
-module _ {A V K : Type 0} {old new : Table Entry} {m m' part : Members A V K} (law : IsLawful old) (law' : IsLawful new) where
+module _ {V : Type 0} {old new : Table Entry} {m m' part : Members V} (law : IsLawful old) (law' : IsLawful new) where
   -- the members s stay, and u are handed out
   hands_by : {P : State → State → State → Type 0} (s u : List Place) (cursor : Option Place) → Keeps new m' s → Keeps new part u → Alike m m' → Alike m part
       → cursor_in m' ≡ cursor → cursor_in part ≡ None → KeepsLinked is_linked old new → KeepsBeside old new (members_in old m)
@@ -33,8 +33,8 @@ module _ {A V K : Type 0} {old new : Table Entry} {m m' part : Members A V K} (l
       let shown = one_sequence new law' m' s kept.shown in
       let part_shown = one_sequence new law' part u handed.shown in
       let linked = linked_same old new law law' links in
-      let stays : state_of new m' ≡ having (state_of old m) s cursor = λ i. record { kind = alike.kind i; members = shown i; cursor = at i; linked = linked i } in
-      let goes : state_of new part ≡ having (state_of old m) u None = λ i. record { kind = part_alike.kind i; members = part_shown i; cursor = null i; linked = linked i } in
+      let stays : state_of new m' ≡ having (state_of old m) s cursor = λ i. record { kind = alike i; members = shown i; cursor = at i; linked = linked i } in
+      let goes : state_of new part ≡ having (state_of old m) u None = λ i. record { kind = part_alike i; members = part_shown i; cursor = null i; linked = linked i } in
       record {
         held = held_of law' m' s kept;
         hands_out = held_of law' part u handed;
@@ -70,7 +70,7 @@ module _ {A V K : Type 0} {old new : Table Entry} {m m' part : Members A V K} (l
         (disjoint_sym gap.front gap.back (apart_gap held gap cut)) (gap, cut, (before, refl, refl))
 
 -- all members are handed out, and no entry changes
-pub hands_all : {A V K : Type 0} {t : Table Entry} {m m' part : Members A V K} → IsLawful t → Keeps t m' [] → Keeps t part (members_in t m) → Alike m m' → Alike m part
+pub hands_all : {V : Type 0} {t : Table Entry} {m m' part : Members V} → IsLawful t → Keeps t m' [] → Keeps t part (members_in t m) → Alike m m' → Alike m part
     → cursor_in m' ≡ None → cursor_in part ≡ None → HandsOut (PartsOf All) t t m m' part
 hands_all {t} {m} law kept handed alike part_alike null part_null =
     hands_by law law [] (members_in t m) None kept handed alike part_alike null part_null (λ q. refl)

@@ -36,9 +36,9 @@ left_back {M} tables f now links back =
 pub some_within : {X : Type 0} (xs : List (Option X)) (c : ℕ) {x : X} → get_or xs c None ≡ Some x → c < length xs
 some_within xs c is = grind (arith, get_or_past)
 
-module _ {A V K : Type 0} where
+module _ {V : Type 0} where
   -- what is known where a call has found k under number c, and has read the table of its field
-  pub record Found {M : Type 0} (tables : List (WorldField M)) (cs : List (Option (Collection A V K))) (c : ℕ) (k : Collection A V K) (now : WorldField M) : Type 0 where
+  pub record Found {M : Type 0} (tables : List (WorldField M)) (cs : List (Option (Collection V))) (c : ℕ) (k : Collection V) (now : WorldField M) : Type 0 where
     pub is : at cs c ≡ Some k
     pub field : k.field < length (map table_of tables)
     pub read : table (map table_of tables) k.field ≡ table_of now
@@ -46,14 +46,14 @@ module _ {A V K : Type 0} where
     pub table_back : set tables k.field now ≡ tables
     pub list_back : set cs c (Some k) ≡ cs
 
-  pub found_at : (cs : List (Option (Collection A V K))) (c : ℕ) {n len : ℕ} {o x : Option (Collection A V K)}
+  pub found_at : (cs : List (Option (Collection V))) (c : ℕ) {n len : ℕ} {o x : Option (Collection V)}
       → c < n → n ≡ len → len ≡ length cs → o ≡ get_or cs c o → o ≡ x → at cs c ≡ x
   found_at cs c {n} {len} {o} {x} h e l read is = get_or_default cs c None o (omega (arith, h, e, l)) ∙ sym read ∙ is
 
-  pub found : {M : Type 0} {adapter : A} {objects : Objects V} {room : ℕ} (tables : List (WorldField M)) {cs : List (Option (Collection A V K))} {c n len : ℕ} {o : Option (Collection A V K)} {k : Collection A V K} {now : WorldField M}
+  pub found : {A M : Type 0} {adapter : A} {objects : Objects V} {room : ℕ} (tables : List (WorldField M)) {cs : List (Option (Collection V))} {c n len : ℕ} {o : Option (Collection V)} {k : Collection V} {now : WorldField M}
       → IsKept adapter objects room tables cs → c < n → n ≡ len → len ≡ length cs → o ≡ get_or cs c o → o ≡ Some k → now ≡ get_or tables k.field now
       → Found tables cs c k now
-  found {M} {objects} {room} tables {cs} {c} {n} {len} {o} {k} {now} kept h e l collection is links =
+  found {objects = objects} tables {cs} {c = c} {k = k} {now = now} kept h e l collection is links =
       let at_c = found_at cs c h e l collection is in
       let field = kept.0.in_field c k at_c in
       let read = table_read tables k.field now (rw length-map at field) links in
@@ -67,11 +67,11 @@ module _ {A V K : Type 0} where
         list_back = set_back cs c (Some k) (rw is at collection);
       }
 
-  module _ (adapter : A) (objects : Objects V) (ts : List (Table Entry)) (cs : List (Option (Collection A V K))) where
+  module _ {A : Type 0} (adapter : A) (objects : Objects V) (ts : List (Table Entry)) (cs : List (Option (Collection V))) where
     pub collection_at : (c : ℕ) → collection (family_of adapter objects ts cs) c ≡ shown_as ts (at cs c)
     collection_at c = map_at (shown_as ts) cs c None
 
-    pub collection_is : (c : ℕ) (k : Collection A V K) → at cs c ≡ Some k → collection (family_of adapter objects ts cs) c ≡ Some (seen_as k (sequence ts k))
+    pub collection_is : (c : ℕ) (k : Collection V) → at cs c ≡ Some k → collection (family_of adapter objects ts cs) c ≡ Some (seen_as k (sequence ts k))
     collection_is c k e = collection_at c ∙ ap (shown_as ts) e
 
     pub collection_not : (c : ℕ) → at cs c ≡ None → collection (family_of adapter objects ts cs) c ≡ None
@@ -87,6 +87,6 @@ module _ {A V K : Type 0} where
     linked_at f h = ap (λ x. x.linked) (field_at f h)
 
     -- where nothing stands under a number, what was read there and is written back changes nothing
-    pub missing : (c : ℕ) (o : Option (Collection A V K)) → at cs c ≡ None → o ≡ get_or cs c o → {old : Family A V} → family_of adapter objects ts cs ≡ old
+    pub missing : (c : ℕ) (o : Option (Collection V)) → at cs c ≡ None → o ≡ get_or cs c o → {old : Family A V} → family_of adapter objects ts cs ≡ old
         → (collection old c ≡ None) × (family_of adapter objects ts (set cs c o) ≡ old)
     missing c o is read view = rw (← view, set_back cs c o read) (collection_not c is, refl)

@@ -6,7 +6,7 @@ use Rattle.ic_fields.specs.declared.kind.Kind.TheVariants as kind
 use Rattle.ic_fields.specs.declared.field.Field.{Field}
 use Rattle.ic_fields.specs.Fields.{look}
 use Rattle.ic_members.specs.declared.members.Members.{Members}
-use Rattle.ic_members.specs.Members.{has_pointer, is_xor}
+use Rattle.ic_members.specs.Members.{has_pointer, is_xor, Held}
 use Rattle.ic_members.proofs.AllKinds.{lawful}
 use Rattle.ic_world.specs.declared.call.Refusal.{Refusal}
 use Rattle.ic_world.specs.declared.one_call.Call.TheVariants.{Seek as seek}
@@ -14,7 +14,7 @@ use Rattle.ic_world.specs.declared.seek.Seek.{Seek}
 use Rattle.ic_world.specs.Calls.{done, moved, names, own_refusal}
 use Rattle.ic_world.specs.Seeks.{Sought}
 use Rattle.ic_world.specs.Turns.{Ran}
-use Rattle.ic_world.proofs.Turned.{turns_still}
+use Rattle.ic_world.proofs.Turned.{turns_still, unmoved}
 
 -- no kind has both: a cursor made on a member from its place alone, and neighbours that must be told
 pub pointer_not_xor : (k : Kind) → has_pointer k ≡ true → is_xor k ≡ true → ⊥
@@ -23,7 +23,7 @@ pointer_not_xor kind.Doubly e h = cc
 pointer_not_xor kind.Xor e h = cc
 pointer_not_xor kind.Tree e h = cc
 
-pub ran_seek : {A V K M : Type 0} (links : Field M) {m m' : Members A V K} (call : Seek) (p : Place) (result : Result Unit Refusal) → Sought call p (look links) m result m'
+pub ran_seek : {V M : Type 0} (K : Type 0) (links : Field M) {m m' : Members V} (call : Seek) (p : Place) (result : Result Unit Refusal) → Held (look links) m → Sought call p (look links) m result m'
     → Ran (names {K = K} (seek call)) (own_refusal {K = K} (seek call)) (λ a s t. (done ≡ done) × (t ≡ moved s (Some p))) links links m m' result
-ran_seek links call p (Ok a) e = record { tested = e.tested; turned = turns_still (lawful links) e.moved (λ same. (refl, same)); unchanged = tt }
-ran_seek links call p (Err r) e = record { tested = e.tested; turned = tt; unchanged = (refl, e.unchanged) }
+ran_seek K links call p (Ok a) held e = record { tested = e.tested; turned = turns_still (lawful links) e.moved (λ same. (refl, same)); unchanged = tt }
+ran_seek K links call p (Err r) held e = record { tested = e.tested; turned = tt; unchanged = (refl, rw e.unchanged (unmoved held)) }

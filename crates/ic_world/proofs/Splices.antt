@@ -21,14 +21,14 @@ use Rattle.ic_world.proofs.Edits.{Edit, after, lawful, edited_lawful, edited_who
 use Rattle.ic_world.proofs.Opened.{disjoint_none}
 
 -- a collection as it is seen, of the same kind and with its cursor elsewhere
-pub seen_after : {A V K : Type 0} {m : Members A V K} (k : Collection A V K) (s t : List Place) {cursor : Option Place} → Alike k.members m → cursor_in m ≡ cursor
+pub seen_after : {V : Type 0} (m : Members V) (k : Collection V) (s t : List Place) {cursor : Option Place} → Alike k.members m → cursor_in m ≡ cursor
     → seen_as (after k m) t ≡ with_members (seen_as k s) t cursor
-seen_after k s t alike cursor_is = λ i. record { field = k.field; kind = alike.kind i; members = t; cursor = cursor_is i }
+seen_after m k s t alike cursor_is = λ i. record { field = k.field; kind = alike i; members = t; cursor = cursor_is i }
 
-module _ {A V K : Type 0} {adapter : A} {objects : Objects V} {room : ℕ} {ts : List (Table Entry)} {cs : List (Option (Collection A V K))} (whole : IsWhole adapter objects room ts cs)
-    (c : ℕ) (k : Collection A V K) (is : at cs c ≡ Some k) (m : Members A V K) (e : Emptied k.members m) where
+module _ {V : Type 0} {objects : Objects V} {room : ℕ} {ts : List (Table Entry)} {cs : List (Option (Collection V))} (whole : IsWhole objects room ts cs)
+    (c : ℕ) (k : Collection V) (is : at cs c ≡ Some k) (m : Members V) (e : Emptied k.members m) where
   -- A COLLECTION IS EMPTIED, and its members stay linked
-  pub emptied_edit : Edit adapter objects ts cs c k (table ts k.field) m [] []
+  pub emptied_edit : Edit objects ts cs c k (table ts k.field) m [] []
   emptied_edit = record {
     was = is;
     kept = e.kept (table ts k.field) (sequence ts k) (whole.held c k is);
@@ -42,32 +42,32 @@ module _ {A V K : Type 0} {adapter : A} {objects : Objects V} {room : ℕ} {ts :
   same_tables : set ts k.field (table ts k.field) ≡ ts
   same_tables = set-get_or ts k.field no_table
 
-  pub emptied_whole : IsWhole adapter objects room ts (set cs c (Some (after k m)))
+  pub emptied_whole : IsWhole objects room ts (set cs c (Some (after k m)))
   emptied_whole =
-      let P : List (Table Entry) → Type 0 = λ us. IsWhole adapter objects room us (set cs c (Some (after k m))) in
+      let P : List (Table Entry) → Type 0 = λ us. IsWhole objects room us (set cs c (Some (after k m))) in
       subst P same_tables (edited_whole whole emptied_edit)
 
-  pub emptied_family : family_of adapter objects ts (set cs c (Some (after k m))) ≡ with_collection (family_of adapter objects ts cs) c (Some (with_members (seen_as k (sequence ts k)) [] None))
-  emptied_family =
+  pub emptied_family : {A : Type 0} {adapter : A} → family_of adapter objects ts (set cs c (Some (after k m))) ≡ with_collection (family_of adapter objects ts cs) c (Some (with_members (seen_as k (sequence ts k)) [] None))
+  emptied_family {adapter = adapter} =
       ap (λ us. family_of adapter objects us (set cs c (Some (after k m)))) (sym same_tables) ∙ unlinked_family whole emptied_edit refl
-      ∙ ap (λ (x : Sequence). with_collection (family_of adapter objects ts cs) c (Some x)) (seen_after {m = m} k (sequence ts k) [] e.alike e.null)
+      ∙ ap (λ (x : Sequence). with_collection (family_of adapter objects ts cs) c (Some x)) (seen_after m k (sequence ts k) [] e.alike e.null)
 
 -- THE SPLICE of collection d into c
-module _ {A V K : Type 0} {adapter : A} {objects : Objects V} {room : ℕ} {ts : List (Table Entry)} {cs : List (Option (Collection A V K))} (whole : IsWhole adapter objects room ts cs)
-    (c d : ℕ) (k l : Collection A V K) (is_k : at cs c ≡ Some k) (is_l : at cs d ≡ Some l) (differ : c ≢ d) (fields : k.field ≡ l.field)
-    (new : Table Entry) (m emptied : Members A V K) (e : Emptied l.members emptied) (gap : Cut) (cut : join gap ≡ sequence ts k)
+module _ {V : Type 0} {objects : Objects V} {room : ℕ} {ts : List (Table Entry)} {cs : List (Option (Collection V))} (whole : IsWhole objects room ts cs)
+    (c d : ℕ) (k l : Collection V) (is_k : at cs c ≡ Some k) (is_l : at cs d ≡ Some l) (differ : c ≢ d) (fields : k.field ≡ l.field)
+    (new : Table Entry) (m emptied : Members V) (e : Emptied l.members emptied) (gap : Cut) (cut : join gap ≡ sequence ts k)
     (puts : PutsAll (table ts k.field) new k.members m gap (sequence ts l)) where
-  abbrev pub between : List (Option (Collection A V K))
+  abbrev pub between : List (Option (Collection V))
   between = set cs d (Some (after l emptied))
 
   still : at between c ≡ Some k
   still = get_or-set_other cs d c (Some (after l emptied)) None differ ∙ is_k
 
-  first_whole : IsWhole adapter objects room ts between
+  first_whole : IsWhole objects room ts between
   first_whole = emptied_whole whole d l is_l emptied e
 
   -- others share no member with what is put together
-  others_apart : (x : ℕ) (o : Collection A V K) → x ≢ c → at between x ≡ Some o → o.field ≡ k.field → IsDisjoint (sequence ts o) (splice gap (sequence ts l))
+  others_apart : (x : ℕ) (o : Collection V) → x ≢ c → at between x ≡ Some o → o.field ≡ k.field → IsDisjoint (sequence ts o) (splice gap (sequence ts l))
   others_apart x o n is_o same =
       elim (at_after whole (emptied_edit whole d l is_l emptied e) x o is_o) [
         | inl given ↦
@@ -86,7 +86,7 @@ module _ {A V K : Type 0} {adapter : A} {objects : Objects V} {room : ℕ} {ts :
       disjoint_split [] b u h = (tt, h)
       disjoint_split (x ∷ a) b u h = let r = disjoint_split a b u h.1 in ((h.0, r.0), r.1)
 
-  splice_edit : Edit adapter objects ts between c k new m (splice gap (sequence ts l)) (splice gap (sequence ts l))
+  splice_edit : Edit objects ts between c k new m (splice gap (sequence ts l)) (splice gap (sequence ts l))
   splice_edit = record {
     was = still;
     kept = puts.leaves.kept;
@@ -97,14 +97,14 @@ module _ {A V K : Type 0} {adapter : A} {objects : Objects V} {room : ℕ} {ts :
     beside = others_apart;
   }
 
-  pub splice_whole : IsWhole adapter objects room (set ts k.field new) (set between c (Some (after k m)))
+  pub splice_whole : IsWhole objects room (set ts k.field new) (set between c (Some (after k m)))
   splice_whole = edited_whole first_whole splice_edit
 
-  pub splice_family : family_of adapter objects (set ts k.field new) (set between c (Some (after k m)))
+  pub splice_family : {A : Type 0} {adapter : A} → family_of adapter objects (set ts k.field new) (set between c (Some (after k m)))
       ≡ with_collection (with_collection (family_of adapter objects ts cs) d (Some (with_members (seen_as l (sequence ts l)) [] None))) c
       (Some (with_members (seen_as k (sequence ts k)) (splice gap (sequence ts l)) (cursor_in k.members)))
-  splice_family =
+  splice_family {A} {adapter} =
       unlinked_family first_whole splice_edit (linked_same (table ts k.field) new (lawful whole k.field) (edited_lawful first_whole splice_edit) puts.links)
       ∙ ap (λ (w : Family A V). with_collection w c (Some (seen_as (after k m) (splice gap (sequence ts l))))) (emptied_family whole d l is_l emptied e)
       ∙ ap (λ (x : Sequence). with_collection (with_collection (family_of adapter objects ts cs) d (Some (with_members (seen_as l (sequence ts l)) [] None))) c (Some x))
-      (seen_after {m = m} k (sequence ts k) (splice gap (sequence ts l)) puts.leaves.alike puts.leaves.cursor_is)
+      (seen_after m k (sequence ts k) (splice gap (sequence ts l)) puts.leaves.alike puts.leaves.cursor_is)

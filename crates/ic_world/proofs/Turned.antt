@@ -26,10 +26,10 @@ absent_drop q [] h = tt
 absent_drop q (x ∷ t) h = h.1
 
 -- a collection with these members now, on a table in which only covered places are linked
-abbrev after_call : {A V K : Type 0} → Members A V K → List Place → Option Place → set.FinSet nat_cmp → State
+abbrev after_call : {V : Type 0} → Members V → List Place → Option Place → set.FinSet nat_cmp → State
 after_call m s cursor linked = record { kind = kind_in m; members = s; cursor = cursor; linked = linked }
 
-module _ {A V K : Type 0} {old new : Table Entry} {m m' : Members A V K} (law : IsLawful old) (law' : IsLawful new) where
+module _ {V : Type 0} {old new : Table Entry} {m m' : Members V} (law : IsLawful old) (law' : IsLawful new) where
   -- WHAT A CALL LEAVES, by what is newly linked, what it leaves of the collection, and the linked set after it
   pub turns_by : {names s : List Place} {cursor : Option Place} {linked : set.FinSet nat_cmp} {Accepts : State → State → Type 0} (fresh : List Place)
       → (fresh ≡ []) ⊎ (fresh ≡ names) → Each (IsUnlinked is_linked old) fresh
@@ -46,7 +46,7 @@ module _ {A V K : Type 0} {old new : Table Entry} {m m' : Members A V K} (law : 
         within = λ q out. subst (IsAbsent q) (sym shown) (within q out);
         held = held_of law' m' s e.kept;
         alike = e.alike;
-        accepts = accepts (λ i. record { kind = e.alike.kind i; members = shown i; cursor = e.cursor_is i; linked = is i });
+        accepts = accepts (λ i. record { kind = e.alike i; members = shown i; cursor = e.cursor_is i; linked = is i });
       }
 
   -- p is put into the gap
@@ -98,20 +98,24 @@ module _ {A V K : Type 0} {old new : Table Entry} {m m' : Members A V K} (law : 
       ]) e.leaves (λ q out. tt) (linked_unlinks old new law law' (members_in old m) gone same) accepts
 
 -- the cursor alone has moved
-pub turns_still : {A V K : Type 0} {t : Table Entry} {m m' : Members A V K} {cursor : Option Place} {names : List Place} {Accepts : State → State → Type 0} → IsLawful t → (e : Moves t m m' cursor)
+pub turns_still : {V : Type 0} {t : Table Entry} {m m' : Members V} {cursor : Option Place} {names : List Place} {Accepts : State → State → Type 0} → IsLawful t → (e : Moves t m m' cursor)
     → (state_of t m' ≡ moved (state_of t m) cursor → Accepts (state_of t m) (state_of t m')) → Turns names Accepts t t m m'
 turns_still {t = t'} {m = m'} law e accepts =
     turns_by law law [] (inl refl) tt (λ q out h. h)
     (record { kept = e.kept; alike = e.alike; cursor_is = e.cursor_is; frame = record { extent = refl; others = λ q out. refl } })
     (λ q out. out) refl accepts
 
-module _ {A V K : Type 0} where
+-- nothing has moved
+pub unmoved : {V : Type 0} {t : Table Entry} {m : Members V} → Held t m → Moves t m m (cursor_in m)
+unmoved held = record { kept = held; alike = refl; cursor_is = refl }
+
+module _ {V : Type 0} where
   -- the collection, with its cursor at null
-  pub nulled : {t : Table Entry} {m m' : Members A V K} → Held t m → ((t : Table Entry) (s : List Place) → Keeps t m s → Keeps t m' s) → Alike m m' → cursor_in m' ≡ None
+  pub nulled : {t : Table Entry} {m m' : Members V} → Held t m → ((t : Table Entry) (s : List Place) → Keeps t m s → Keeps t m' s) → Alike m m' → cursor_in m' ≡ None
       → Moves t m m' None
   nulled {t} {m} held kept alike null = record { kept = kept t (members_in t m) held; alike = alike; cursor_is = null }
 
-  module _ {t : Table Entry} (law : IsLawful t) {m m1 : Members A V K} {cursor : Option Place} (e : Moves t m m1 cursor) where
+  module _ {t : Table Entry} (law : IsLawful t) {m m1 : Members V} {cursor : Option Place} (e : Moves t m m1 cursor) where
     pub still_members : members_in t m1 ≡ members_in t m
     still_members = one_sequence t law m1 (members_in t m) e.kept.shown
 
@@ -119,18 +123,18 @@ module _ {A V K : Type 0} where
     still_held = held_of law m1 (members_in t m) e.kept
 
     pub state_moved : state_of t m1 ≡ moved (state_of t m) cursor
-    state_moved = λ i. record { kind = e.alike.kind i; members = still_members i; cursor = e.cursor_is i; linked = linked_in t }
+    state_moved = λ i. record { kind = e.alike i; members = still_members i; cursor = e.cursor_is i; linked = linked_in t }
 
     -- two moves are one
-    pub moves_on : {m2 : Members A V K} {next : Option Place} → Moves t m1 m2 next → Moves t m m2 next
+    pub moves_on : {m2 : Members V} {next : Option Place} → Moves t m1 m2 next → Moves t m m2 next
     moves_on {m2 = m2'} d = record {
       kept = subst (Keeps t m2') still_members d.kept;
-      alike = record { kind = d.alike.kind ∙ e.alike.kind; adapter = d.alike.adapter ∙ e.alike.adapter };
+      alike = d.alike ∙ e.alike;
       cursor_is = d.cursor_is;
     }
 
     -- A MOVE AND THEN A CALL are one call
-    pub turns_moved : {t' : Table Entry} {m2 : Members A V K} {names : List Place} {Accepts : State → State → Type 0} (Then : State → State → Type 0) → Turns names Then t t' m1 m2
+    pub turns_moved : {t' : Table Entry} {m2 : Members V} {names : List Place} {Accepts : State → State → Type 0} (Then : State → State → Type 0) → Turns names Then t t' m1 m2
         → (Then (moved (state_of t m) cursor) (state_of t' m2) → Accepts (state_of t m) (state_of t' m2)) → Turns names Accepts t t' m m2
     turns_moved {t' = t2} {m2 = m2'} Then d accepts = record {
       fresh = d.fresh;
@@ -140,12 +144,12 @@ module _ {A V K : Type 0} where
       frame = subst (λ s. KeepsBeside t t2 (d.fresh ++ s)) still_members d.frame;
       within = λ q out. d.within q (subst (λ s. IsAbsent q (d.fresh ++ s)) (sym still_members) out);
       held = d.held;
-      alike = record { kind = d.alike.kind ∙ e.alike.kind; adapter = d.alike.adapter ∙ e.alike.adapter };
+      alike = d.alike ∙ e.alike;
       accepts = accepts (subst (λ s. Then s (state_of t2 m2')) state_moved d.accepts);
     }
 
   -- A CALL AND THEN A MOVE are one call
-  pub turns_then : {t t' : Table Entry} {m m1 m2 : Members A V K} {cursor : Option Place} {names : List Place} {Accepts : State → State → Type 0} (law' : IsLawful t')
+  pub turns_then : {t t' : Table Entry} {m m1 m2 : Members V} {cursor : Option Place} {names : List Place} {Accepts : State → State → Type 0} (law' : IsLawful t')
       (First : State → State → Type 0) → Turns names First t t' m m1 → (e : Moves t' m1 m2 cursor)
       → (First (state_of t m) (state_of t' m1) → state_of t' m2 ≡ moved (state_of t' m1) cursor → Accepts (state_of t m) (state_of t' m2)) → Turns names Accepts t t' m m2
   turns_then law' First d e accepts = record {
@@ -156,19 +160,12 @@ module _ {A V K : Type 0} where
     frame = d.frame;
     within = λ q out. subst (IsAbsent q) (sym (still_members law' e)) (d.within q out);
     held = still_held law' e;
-    alike = record { kind = e.alike.kind ∙ d.alike.kind; adapter = e.alike.adapter ∙ d.alike.adapter };
+    alike = e.alike ∙ d.alike;
     accepts = accepts d.accepts (state_moved law' e);
   }
 
-  -- p is put into the gap that the cursor shows once it is at null
-  pub turns_put_null : {t t' : Table Entry} {m m1 m2 : Members A V K} {Accepts : State → State → Type 0} (law : IsLawful t) (law' : IsLawful t') (e : Moves t m m1 None) (gap : Cut) (p : Place)
-      → join gap ≡ members_in t m1 → Puts t t' m1 m2 gap p (cursor_in m1)
-      → (join gap ≡ members_in t m → state_of t' m2 ≡ put (state_of t m) gap p None → Accepts (state_of t m) (state_of t' m2)) → Turns (p ∷ []) Accepts t t' m m2
-  turns_put_null law law' e gap p cut puts accepts =
-      turns_moved law e (λ s u. u ≡ put s gap p s.cursor) (turns_put law law' gap p cut puts (λ same. same)) (accepts (cut ∙ still_members law e))
-
   -- the table stays, and keeps other members for the collection
-  pub turns_kept : {t : Table Entry} {m m' : Members A V K} {cursor : Option Place} {Accepts : State → State → Type 0} (law : IsLawful t) (s : List Place) → Keeps t m' s → Alike m m'
+  pub turns_kept : {t : Table Entry} {m m' : Members V} {cursor : Option Place} {Accepts : State → State → Type 0} (law : IsLawful t) (s : List Place) → Keeps t m' s → Alike m m'
       → cursor_in m' ≡ cursor → ((q : Place) → IsAbsent q (members_in t m) → IsAbsent q s) → (state_of t m' ≡ having (state_of t m) s cursor → Accepts (state_of t m) (state_of t m'))
       → Turns [] Accepts t t m m'
   turns_kept law s kept alike cursor_is within accepts =
@@ -176,7 +173,7 @@ module _ {A V K : Type 0} where
       (record { kept = kept; alike = alike; cursor_is = cursor_is; frame = record { extent = refl; others = λ q out. refl } }) within refl accepts
 
   -- the member p behind a gap goes out, between a move of the cursor and one to null
-  pub turns_out_between : {t t' : Table Entry} {m m1 m2 m3 : Members A V K} {cursor next : Option Place} {Accepts : State → State → Type 0} (law : IsLawful t) (law' : IsLawful t')
+  pub turns_out_between : {t t' : Table Entry} {m m1 m2 m3 : Members V} {cursor next : Option Place} {Accepts : State → State → Type 0} (law : IsLawful t) (law' : IsLawful t')
       (e : Moves t m m1 cursor) (gap : Cut) (p : Place) → join gap ≡ members_in t m1 → Takes t t' m1 m2 gap p next → Moves t' m2 m3 None
       → (join gap ≡ members_in t m → state_of t' m3 ≡ taken (state_of t m) gap p None → Accepts (state_of t m) (state_of t' m3)) → Turns [] Accepts t t' m m3
   turns_out_between {t} {t'} {m} {m1} {m2} {next = next'} law law' e gap p cut takes null accepts =

@@ -21,6 +21,7 @@ use Rattle.ic_world.specs.declared.one_call.Where.{Where}
 use Rattle.ic_world.specs.declared.one_call.Where.TheVariants.{Front, Back, Before, After}
 use Rattle.ic_world.specs.declared.one_call.Direction.{Direction}
 use Rattle.ic_world.specs.declared.one_call.Direction.TheVariants.{Next, Prev}
+use Rattle.ic_world.specs.declared.seek.Seek.{Seek}
 use Rattle.ic_world.specs.declared.seek.Seek.TheVariants.{Null, On, With}
 use Rattle.ic_world.specs.declared.whole.Whole.TheVariants.{Clear, Reverse}
 use Rattle.ic_world.specs.declared.search.Search.TheVariants.{Find, LowerBound, UpperBound}
@@ -170,13 +171,17 @@ asks_unlinked s p = asks (not (is_linked_in s p)) AlreadyLinked None
 abbrev pub asks_member : State → Place → Option Refusal → Option Refusal
 asks_member s p rest = asks (is_among p s.members) NotAMember rest
 
+abbrev pub refusal_of_seek : Seek → State → Option Refusal
+refusal_of_seek (On p) s = asks_member s p None
+refusal_of_seek (With way p beside) s = asks_member s p (asks (same_position beside (beside_of way s.members p)) NotANeighbour None)
+refusal_of_seek _ s = None
+
 -- THE FIRST REFUSAL of a call that the kind has, of a collection that is there and of objects that are placed
 module _ {K : Type 0} where
   abbrev pub own_refusal : Call K → State → Option Refusal
   own_refusal (one.Put at p) s = asks_unlinked s p
   own_refusal (one.Swap at p) s = asks (is_some (member_at at s)) NothingThere (asks_unlinked s p)
-  own_refusal (one.Seek (On p)) s = asks_member s p None
-  own_refusal (one.Seek (With way p beside)) s = asks_member s p (asks (same_position beside (beside_of way s.members p)) NotANeighbour None)
+  own_refusal (one.Seek call) s = refusal_of_seek call s
   own_refusal (one.Insertion (Insert p)) s = asks_unlinked s p
   own_refusal (one.Insertion (CursorInsert p)) s = asks_unlinked s p
   own_refusal _ s = None

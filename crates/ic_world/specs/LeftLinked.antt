@@ -20,6 +20,6 @@ module _ {A V : Type 0} where
     pub none : (f : ℕ) (p : Place) → slice_index_or left f true ≡ false → IsLeftLinked w f p → ⊥
 
 -- THE INVARIANT of a world: its tables keep its collections, and none is left linked where its fields don't say so
-abbrev pub IsKept : {A V K M : Type 0} → A → Objects V → ℕ → List (WorldField M) → List (Option (Collection A V K)) → Type 0
+abbrev pub IsKept : {A V M : Type 0} → A → Objects V → ℕ → List (WorldField M) → List (Option (Collection V)) → Type 0
 IsKept adapter objects room fields cs =
-    IsWhole adapter objects room (map table_of fields) cs × NoneLeftLinked (left_in fields) (family_of adapter objects (map table_of fields) cs)
+    IsWhole objects room (map table_of fields) cs × NoneLeftLinked (left_in fields) (family_of adapter objects (map table_of fields) cs)

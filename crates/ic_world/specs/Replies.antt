@@ -1,9 +1,11 @@
 -- The replies that the results of methods stand for.
 use Rattle.std.specs.Prelude.{Bool, ℕ, Option, Some, None, Result, Ok, Err}
 use Rattle.ic_unsafe_ref.specs.declared.place.Place.{Place}
+use Rattle.ic_link_ops.specs.declared.errors.ReplaceError.{ReplaceError}
+use Rattle.ic_link_ops.specs.declared.errors.ReplaceError.TheVariants.{Null, AlreadyLinked as Linked}
 use Rattle.ic_fields.specs.declared.kind.Kind.{Kind}
 use Rattle.ic_world.specs.declared.call.Refusal.{Refusal}
-use Rattle.ic_world.specs.declared.call.Refusal.TheVariants.{AlreadyLinked}
+use Rattle.ic_world.specs.declared.call.Refusal.TheVariants.{NothingThere, AlreadyLinked}
 use Rattle.ic_world.specs.Calls.{Reply, entry, refused}
 use Rattle.ic_world.specs.Family.{Sequence}
 
@@ -21,6 +23,12 @@ reply_of_value accepted (Err e) = refused e.0
 abbrev pub entry_or_linked : Option (Bool × Place × ℕ) → Reply
 entry_or_linked (Some e) = entry e.0 e.1 e.2
 entry_or_linked None = refused AlreadyLinked
+
+-- the result of a swap, by that of the collection's own replacement
+abbrev pub result_of_swap : {T : Type 0} → Result Place (ReplaceError T) → Result Place Refusal
+result_of_swap (Ok out) = Ok out
+result_of_swap (Err (Null object)) = Err NothingThere
+result_of_swap (Err (Linked object)) = Err AlreadyLinked
 
 -- the field and the kind of a collection that is there
 abbrev pub field_and_kind : Option Sequence → Option (ℕ × Kind)

@@ -6,13 +6,12 @@ use Rattle.ic_fields.specs.declared.entry.Entry.{Entry}
 use Rattle.ic_members.specs.declared.members.Members.{Members}
 use Rattle.ic_members.specs.Edits.{Moves}
 use Rattle.ic_world.specs.declared.call.Refusal.{Refusal}
-use Rattle.ic_world.specs.declared.one_call.Call.TheVariants.{Seek as seek}
 use Rattle.ic_world.specs.declared.seek.Seek.{Seek}
-use Rattle.ic_world.specs.Calls.{own_refusal}
+use Rattle.ic_world.specs.Calls.{refusal_of_seek}
 use Rattle.ic_world.specs.Turns.{refusal_in, state_of}
 
 -- it is refused as its tests say, and the collection stays; or the cursor is on the place
-pub record Sought {A V K : Type 0} (call : Seek) (p : Place) (t : Table Entry) (m : Members A V K) (result : Result Unit Refusal) (m' : Members A V K) : Type 0 where
-  pub tested : refusal_in result ≡ own_refusal {K = K} (seek call) (state_of t m)
+pub record Sought {V : Type 0} (call : Seek) (p : Place) (t : Table Entry) (m : Members V) (result : Result Unit Refusal) (m' : Members V) : Type 0 where
+  pub tested : refusal_in result ≡ refusal_of_seek call (state_of t m)
   pub moved : OnOk result (Moves t m m' (Some p))
   pub unchanged : OnErr result (m' ≡ m)

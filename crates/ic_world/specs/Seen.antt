@@ -4,16 +4,15 @@ use Rattle.ic_link_ops.specs.Tables.{Table}
 use Rattle.ic_link_ops.specs.PlacedObjects.{ArePlaced}
 use Rattle.ic_fields.specs.declared.entry.Entry.{Entry}
 use Rattle.ic_members.specs.declared.members.Members.{Members}
-use Rattle.ic_members.specs.Members.{kind_in, adapter_in, adapter_for, members_in, Held}
+use Rattle.ic_members.specs.Members.{kind_in, members_in, Held}
 use Rattle.ic_world.specs.Family.{Family, Sequence, collection, objects_of}
 use Rattle.ic_world.specs.Turns.{state_of}
 use Rattle.ic_world.specs.Several.{state_in}
 
 -- collection c of the world is m, and t is the table of its field
-pub record Sees {A V K : Type 0} (w : Family A V) (c : ℕ) (t : Table Entry) (m : Members A V K) : Type 0 where
+pub record Sees {A V : Type 0} (w : Family A V) (c : ℕ) (t : Table Entry) (m : Members V) : Type 0 where
   pub s : Sequence
   pub is : collection w c ≡ Some s
   pub state : state_in w s ≡ state_of t m
   pub held : Held t m
-  pub adapted : adapter_in m ≡ adapter_for (kind_in m) w.adapter
   pub placed : ArePlaced (objects_of w) (members_in t m)

@@ -6,7 +6,7 @@ use Rattle.ic_link_ops.specs.Tables.{Table}
 use Rattle.ic_fields.specs.declared.entry.Entry.{Entry}
 use Rattle.ic_fields.specs.declared.kind.Kind.{Kind}
 use Rattle.ic_members.specs.declared.members.Members.{Members}
-use Rattle.ic_members.specs.Members.{is_list, is_two_way_list, kind_in, cursor_in, adapter_in, adapter_for, members_in, Keeps, Held, Alike}
+use Rattle.ic_members.specs.Members.{is_list, is_two_way_list, kind_in, cursor_in, members_in, Keeps, Held, Alike}
 use Rattle.ic_members.specs.Edits.{AtGap, PutsAll}
 use Rattle.ic_world.specs.declared.collection.Collection.{Collection}
 use Rattle.ic_world.specs.Tables.{table}
@@ -21,33 +21,32 @@ abbrev pub can_splice : Bool → Kind → Bool
 can_splice true = is_two_way_list
 can_splice false = is_list
 
-module _ {A V K : Type 0} where
+module _ {V : Type 0} where
   -- THE COLLECTION HAS NO MEMBER NOW, and its cursor is at null; its members stay linked
-  pub record Emptied (m m' : Members A V K) : Type 0 where
+  pub record Emptied (m m' : Members V) : Type 0 where
     pub kept : (t : Table Entry) (s : List Place) → Keeps t m s → Keeps t m' []
     pub alike : Alike m m'
     pub null : cursor_in m' ≡ None
 
   -- the members `r` are put at the gap beside the cursor, on the side that is told
-  abbrev pub PutsBeside : Bool → (t t' : Table Entry) (m m' : Members A V K) (r : List Place) → Type 0
+  abbrev pub PutsBeside : Bool → (t t' : Table Entry) (m m' : Members V) (r : List Place) → Type 0
   PutsBeside before t t' m m' r = AtGap (members_in t m) (λ gap. IsBesideOf before gap (cursor_in m) × PutsAll t t' m m' gap r)
 
   -- two collections that can be spliced: both are in one table, are lists of one kind, and share no member
-  pub record CanJoin (before : Bool) (adapter : A) (ts : List (Table Entry)) (k l : Collection A V K) : Type 0 where
+  pub record CanJoin (before : Bool) (ts : List (Table Entry)) (k l : Collection V) : Type 0 where
     pub there : k.field < length ts
     pub held : Held (table ts k.field) k.members
     pub given : Held (table ts k.field) l.members
-    pub adapted : adapter_in l.members ≡ adapter_for (kind_in l.members) adapter
     pub can : can_splice before (kind_in k.members) ≡ true
     pub kinds : kind_in l.members ≡ kind_in k.members
     pub apart : IsDisjoint (members_in (table ts k.field) l.members) (members_in (table ts k.field) k.members)
 
-  abbrev pub CanBeJoined : Bool → A → List (Table Entry) → (k l : Option (Collection A V K)) → Type 0
-  CanBeJoined before adapter ts (Some k) (Some l) = CanJoin before adapter ts k l
-  CanBeJoined before adapter ts _ _ = ⊥
+  abbrev pub CanBeJoined : Bool → List (Table Entry) → (k l : Option (Collection V)) → Type 0
+  CanBeJoined before ts (Some k) (Some l) = CanJoin before ts k l
+  CanBeJoined before ts _ _ = ⊥
 
   -- THE MEMBERS OF l ARE PUT beside the cursor of k, and of all tables that of k's field alone is changed
-  pub record PutsTogether (before : Bool) (ts us : List (Table Entry)) (k l k' l' : Collection A V K) : Type 0 where
+  pub record PutsTogether (before : Bool) (ts us : List (Table Entry)) (k l k' l' : Collection V) : Type 0 where
     pub t : Table Entry
     pub tables : us ≡ slice_set ts k.field t
     pub field : k'.field ≡ k.field
@@ -55,6 +54,6 @@ module _ {A V K : Type 0} where
     pub emptied : Emptied l.members l'.members
     pub puts : PutsBeside before (table ts k.field) t k.members k'.members (members_in (table ts k.field) l.members)
 
-  abbrev pub AreJoined : Bool → (ts us : List (Table Entry)) (k l k' l' : Option (Collection A V K)) → Type 0
+  abbrev pub AreJoined : Bool → (ts us : List (Table Entry)) (k l k' l' : Option (Collection V)) → Type 0
   AreJoined before ts us (Some k) (Some l) (Some k') (Some l') = PutsTogether before ts us k l k' l'
   AreJoined before ts us _ _ _ _ = ⊥

@@ -10,7 +10,7 @@ use Rattle.ic_link_ops.specs.declared.color.Color.TheVariants.{Red}
 use Rattle.ic_fields.specs.declared.entry.Entry.{Entry}
 use Rattle.ic_fields.specs.Fields.{look}
 use Rattle.ic_fields.specs.Entries.{is_linked, kind_of}
-use Rattle.ic_members.specs.Members.{kind_in, cursor_in, adapter_in, adapter_for, members_in, Held}
+use Rattle.ic_members.specs.Members.{kind_in, cursor_in, members_in, Held}
 use Rattle.ic_world.specs.declared.collection.Collection.{Collection}
 use Rattle.ic_world.specs.declared.field.WorldField.{WorldField}
 use Rattle.ic_world.specs.Family.{Family, Sequence, LinkField}
@@ -38,24 +38,24 @@ field_in t = record { kind = kind_of t; linked = linked_in t }
 abbrev pub HasObject : {V : Type 0} → Objects V → ℕ → Type 0
 HasObject objects i = IsSome (map_of.get objects.values i)
 
-module _ {A V K : Type 0} where
+module _ {V : Type 0} where
   -- collection number c, none if there is no such one
-  abbrev pub at : List (Option (Collection A V K)) → ℕ → Option (Collection A V K)
+  abbrev pub at : List (Option (Collection V)) → ℕ → Option (Collection V)
   at cs c = slice_index_or cs c None
 
   -- the sequence that the tables show for a collection
-  abbrev pub sequence : List (Table Entry) → Collection A V K → List Place
+  abbrev pub sequence : List (Table Entry) → Collection V → List Place
   sequence ts k = members_in (table ts k.field) k.members
 
-  abbrev pub seen_as : Collection A V K → List Place → Sequence
+  abbrev pub seen_as : Collection V → List Place → Sequence
   seen_as k s = record { field = k.field; kind = kind_in k.members; members = s; cursor = cursor_in k.members }
 
-  abbrev pub shown_as : List (Table Entry) → Option (Collection A V K) → Option Sequence
+  abbrev pub shown_as : List (Table Entry) → Option (Collection V) → Option Sequence
   shown_as ts None = None
   shown_as ts (Some k) = Some (seen_as k (sequence ts k))
 
   -- THE FAMILY that these tables show
-  abbrev pub family_of : A → Objects V → List (Table Entry) → List (Option (Collection A V K)) → Family A V
+  abbrev pub family_of : {A : Type 0} → A → Objects V → List (Table Entry) → List (Option (Collection V)) → Family A V
   family_of adapter objects ts cs = record {
     adapter = adapter;
     objects = objects.values;
@@ -63,13 +63,12 @@ module _ {A V K : Type 0} where
     collections = map (shown_as ts) cs;
   }
 
-  -- the objects stand below `room`, which each table covers; only objects are linked; each collection is kept by its table, with the
-  -- world's adapter, and those of one field share no member
-  pub record IsWhole (adapter : A) (objects : Objects V) (room : ℕ) (ts : List (Table Entry)) (cs : List (Option (Collection A V K))) : Type 0 where
+  -- the objects stand below `room`, which each table covers; only objects are linked; each collection is kept by its table, and those of
+  -- one field share no member
+  pub record IsWhole (objects : Objects V) (room : ℕ) (ts : List (Table Entry)) (cs : List (Option (Collection V))) : Type 0 where
     pub within : (i : ℕ) → HasObject objects i → i < room
     pub covered : (f : ℕ) → f < length ts → room ≤ (table ts f).extent.places
     pub placed : (f : ℕ) (q : Place) → is_linked ((table ts f).entry q) ≡ true → HasObject objects (index_of q)
-    pub in_field : (c : ℕ) (k : Collection A V K) → at cs c ≡ Some k → k.field < length ts
-    pub held : (c : ℕ) (k : Collection A V K) → at cs c ≡ Some k → Held (table ts k.field) k.members
-    pub adapted : (c : ℕ) (k : Collection A V K) → at cs c ≡ Some k → adapter_in k.members ≡ adapter_for (kind_in k.members) adapter
-    pub apart : (c d : ℕ) (k l : Collection A V K) → c ≢ d → at cs c ≡ Some k → at cs d ≡ Some l → k.field ≡ l.field → IsDisjoint (sequence ts k) (sequence ts l)
+    pub in_field : (c : ℕ) (k : Collection V) → at cs c ≡ Some k → k.field < length ts
+    pub held : (c : ℕ) (k : Collection V) → at cs c ≡ Some k → Held (table ts k.field) k.members
+    pub apart : (c d : ℕ) (k l : Collection V) → c ≢ d → at cs c ≡ Some k → at cs d ≡ Some l → k.field ≡ l.field → IsDisjoint (sequence ts k) (sequence ts l)

@@ -53,10 +53,10 @@ fn put<T: Drop, M: Allocator>(items: &mut Vec<Option<T>, M>, number: usize, item
 }
 
 // Puts all members of the given list beside the cursor of another.
-fn put_beside<A: KeyAdapter, M: Allocator>(
-    list: &mut Members<A>,
+fn put_beside<T, M: Allocator>(
+    list: &mut Members<T>,
     links: &mut Field<M>,
-    given: Members<A>,
+    given: Members<T>,
     before: bool,
 )
     requires held { Held (look links.old) list.old }
@@ -74,20 +74,19 @@ fn put_beside<A: KeyAdapter, M: Allocator>(
 }
 
 // Puts all members of the given list beside the cursor of another of its field. The given one stays, with no member.
-fn join<A: KeyAdapter, M: Allocator>(
-    list: &mut Option<Collection<A>>,
-    given: &mut Option<Collection<A>>,
+fn join<T, M: Allocator>(
+    list: &mut Option<Collection<T>>,
+    given: &mut Option<Collection<T>>,
     tables: &mut Vec<WorldField<M>, M>,
-    adapter: A,
     before: bool,
 )
-    requires { CanBeJoined before adapter (map table_of tables.old.items) list.old given.old }
+    requires { CanBeJoined before (map table_of tables.old.items) list.old given.old }
     ensures joined { AreJoined before (map table_of tables.old.items) (map table_of tables.new.items) list.old given.old list.new given.new }
     ensures left { left_in tables.new.items ≡ left_in tables.old.items }
 {
     if let Some(list) = list {
         if let Some(given) = given {
-            let taken = given.members.take(adapter);
+            let taken = given.members.take();
             let links = &mut tables[list.field].links;
             put_beside(&mut list.members, links, taken, before);
         }
@@ -112,7 +111,7 @@ impl<A: KeyAdapter, M: Allocator + Copy> World<A, M> {
         if let Some(refusal) = self.open_refused(field, kind) {
             return Err(refusal);
         }
-        let members = Members::new(kind, self.adapter);
+        let members = Members::new(kind);
         append(&mut self.collections, Some(Collection { field, members }))
     }
 
@@ -257,13 +256,7 @@ impl<A: KeyAdapter, M: Allocator + Copy> World<A, M> {
         }
         let mut list = exchange(&mut self.collections, collection, None);
         let mut given_list = exchange(&mut self.collections, given, None);
-        join(
-            &mut list,
-            &mut given_list,
-            &mut self.fields,
-            self.adapter,
-            before,
-        );
+        join(&mut list, &mut given_list, &mut self.fields, before);
         put(&mut self.collections, collection, list);
         put(&mut self.collections, given, given_list);
         Ok(())

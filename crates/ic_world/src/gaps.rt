@@ -5,26 +5,23 @@
 //! Take(Where::Front).run(&mut members, &mut links, &objects, adapter)?       // the first member, or none
 //! ```
 
-ghost use Rattle.std.specs.Prelude.{◌≡◌, ◌∷◌, [], true};
-ghost use Rattle.ic_link_ops.specs.Tables.{IsCovered, IsUnlinked};
+ghost use Rattle.std.specs.Prelude.{◌≡◌, [], true, Ok, Err, if◌then◌else◌};
 ghost use Rattle.ic_fields.specs.Fields.{look};
-ghost use Rattle.ic_fields.specs.Entries.{is_linked as entry_is_linked};
-ghost use Rattle.ic_unsafe_ref.specs.Places.{index_of};
-ghost use Rattle.std.specs.FinSet as set;
 ghost use Rattle.ic_members.specs.Members.{kind_in, Held};
 ghost use Rattle.ic_members.specs.Members as kinds;
-ghost use Rattle.ic_world.specs.LinkedSets.{linked_in};
-ghost use Rattle.ic_world.specs.Turns.{Ran, Turns};
+ghost use Rattle.ic_world.specs.Turns.{Turns};
 ghost use Rattle.ic_world.specs.Calls as calls;
+ghost use Rattle.ic_world.specs.Replies.{result_of_swap};
 ghost use Rattle.ic_world.specs.declared.one_call.Call.TheVariants as one;
 
 use crate::call::Refusal;
 use crate::kinds::{has_before, is_list, is_singly, is_two_way_list};
 use crate::one_call::{OneCall, Where};
 use ic_fields::{Field, Kind};
+use ic_link_ops::ReplaceError;
 use ic_members::Members;
 use ic_rbtree::KeyAdapter;
-use ic_unsafe_ref::{Objects, Place};
+use ic_unsafe_ref::{Objects, Place, UnsafeRef};
 use std::alloc::Allocator;
 
 /// An object goes into the gap. The cursor goes to null, if that is at an end.
@@ -38,16 +35,6 @@ pub struct Take(pub Where);
 /// An object takes the place of the member behind the gap. A cursor that is on that goes to the object.
 #[derive(Clone, Copy)]
 pub struct Swap(pub Where, pub Place);
-
-// Whether the object is linked in the field of a table.
-#[inline]
-pub(crate) fn is_linked<M: Allocator>(links: &Field<M>, object: Place) -> bool
-    requires covered { IsCovered (look links.now) object }
-    ensures entry { result ≡ entry_is_linked ((look links.now).entry object) }
-    ensures set { result ≡ set.contains (linked_in (look links.now)) (index_of object) }
-{
-    links.is_linked(object)
-}
 
 impl<A: KeyAdapter> OneCall<A> for Put {
     type Answer = ();
@@ -74,46 +61,31 @@ impl<A: KeyAdapter> OneCall<A> for Put {
     #[inline(always)]
     fn run<M: Allocator>(
         &self,
-        members: &mut Members<A>,
+        members: &mut Members<A::Value>,
         links: &mut Field<M>,
         objects: &Objects<A::Value, M>,
         adapter: A,
     ) -> Result<(), Refusal> {
         let _ = objects;
         let _ = adapter;
-        if is_linked(links, self.1) {
-            return Err(Refusal::AlreadyLinked);
+        match self.0 {
+            Where::Front => done_if(members.push_front(links, self.1)),
+            Where::Back => done_if(members.push_back(links, self.1)),
+            Where::Before => done_if(members.insert_before(links, self.1)),
+            Where::After => done_if(members.insert_after(links, self.1)),
         }
-        put_in(members, links, self.0, self.1);
-        Ok(())
     }
 }
 
-// Puts an unlinked object into the gap.
-#[inline(always)]
-fn put_in<A: KeyAdapter, M: Allocator>(
-    members: &mut Members<A>,
-    links: &mut Field<M>,
-    at: Where,
-    object: Place,
-)
-    requires held { Held (look links.old) members.old }
-    requires can { calls.has_call {K = A.Key} (one.Put at object) (kind_in members.old) ≡ true }
-    requires covered { IsCovered (look links.old) object }
-    requires unlinked { IsUnlinked entry_is_linked (look links.old) object }
-    ensures { Turns (object ∷ []) (λ s t. calls.PutReplies at object s calls.done t) (look links.old) (look links.new) members.old members.new }
+// The answer of a call that puts an object in, unless it is linked.
+#[inline]
+fn done_if(put: bool) -> Result<(), Refusal>
+    ensures { result ≡ (if put then Ok tt else Err Refusal.AlreadyLinked) }
 {
-    match at {
-        Where::Front => {
-            members.go_null();
-            members.insert_after(links, object);
-        }
-        Where::Back => {
-            members.go_null();
-            members.insert_before(links, object);
-        }
-        Where::Before => members.insert_before(links, object),
-        Where::After => members.insert_after(links, object),
+    if put {
+        Ok(())
+    } else {
+        Err(Refusal::AlreadyLinked)
     }
 }
 
@@ -143,7 +115,7 @@ impl<A: KeyAdapter> OneCall<A> for Take {
     #[inline(always)]
     fn run<M: Allocator>(
         &self,
-        members: &mut Members<A>,
+        members: &mut Members<A::Value>,
         links: &mut Field<M>,
         objects: &Objects<A::Value, M>,
         adapter: A,
@@ -161,10 +133,7 @@ impl<A: KeyAdapter> OneCall<A> for Take {
 
 // Takes the first member out of a list, and moves the cursor to null.
 #[inline]
-fn pop_front<A: KeyAdapter, M: Allocator>(
-    members: &mut Members<A>,
-    links: &mut Field<M>,
-) -> Option<Place>
+fn pop_front<T, M: Allocator>(members: &mut Members<T>, links: &mut Field<M>) -> Option<Place>
     requires held { Held (look links.old) members.old }
     requires can { kinds.is_list (kind_in members.old) ≡ true }
     ensures { Turns [] (λ s t. calls.TakeReplies Where.Front s (calls.object_or_nothing result) t) (look links.old) (look links.new) members.old members.new }
@@ -181,10 +150,7 @@ fn pop_front<A: KeyAdapter, M: Allocator>(
 
 // Takes the last member out of a doubly linked or an XOR list, and moves the cursor to null, which is behind that member.
 #[inline]
-fn pop_back<A: KeyAdapter, M: Allocator>(
-    members: &mut Members<A>,
-    links: &mut Field<M>,
-) -> Option<Place>
+fn pop_back<T, M: Allocator>(members: &mut Members<T>, links: &mut Field<M>) -> Option<Place>
     requires held { Held (look links.old) members.old }
     requires can { kinds.is_two_way_list (kind_in members.old) ≡ true }
     ensures { Turns [] (λ s t. calls.TakeReplies Where.Back s (calls.object_or_nothing result) t) (look links.old) (look links.new) members.old members.new }
@@ -218,7 +184,7 @@ impl<A: KeyAdapter> OneCall<A> for Swap {
     #[inline(always)]
     fn run<M: Allocator>(
         &self,
-        members: &mut Members<A>,
+        members: &mut Members<A::Value>,
         links: &mut Field<M>,
         objects: &Objects<A::Value, M>,
         adapter: A,
@@ -226,57 +192,21 @@ impl<A: KeyAdapter> OneCall<A> for Swap {
         let _ = objects;
         let _ = adapter;
         match self.0 {
-            Where::Before => replace_with(members, links, self.1),
-            Where::After => replace_next_with(members, links, self.1),
+            Where::Before => swapped(members.replace_with(links, self.1)),
+            Where::After => swapped(members.replace_next_with(links, self.1)),
             Where::Front | Where::Back => unreachable!(), // proved: no kind has it
         }
     }
 }
 
-// Puts the object in the place of the member that the cursor is on.
-fn replace_with<A: KeyAdapter, M: Allocator>(
-    members: &mut Members<A>,
-    links: &mut Field<M>,
-    object: Place,
-) -> Result<Place, Refusal>
-    requires held { Held (look links.old) members.old }
-    requires can { kinds.has_before (kind_in members.old) ≡ true }
-    requires covered { IsCovered (look links.old) object }
-    ensures { Ran (object ∷ []) (calls.own_refusal {K = A.Key} (one.Swap Where.Before object)) (λ out s t. calls.SwapReplies Where.Before object s (calls.object out) t)
-        links.old links.new members.old members.new result }
+// The answer of a call that puts an object in the place of a member.
+#[inline]
+fn swapped<T>(replaced: Result<UnsafeRef<T>, ReplaceError<T>>) -> Result<Place, Refusal>
+    ensures { result ≡ result_of_swap replaced }
 {
-    if members.cursor().is_none() {
-        return Err(Refusal::NothingThere);
-    }
-    if is_linked(links, object) {
-        return Err(Refusal::AlreadyLinked);
-    }
-    match members.replace_with(links, object) {
-        None => Err(Refusal::NothingThere),
-        Some(out) => Ok(out),
-    }
-}
-
-// Puts the object in the place of the member behind the cursor.
-fn replace_next_with<A: KeyAdapter, M: Allocator>(
-    members: &mut Members<A>,
-    links: &mut Field<M>,
-    object: Place,
-) -> Result<Place, Refusal>
-    requires held { Held (look links.old) members.old }
-    requires can { kinds.is_singly (kind_in members.old) ≡ true }
-    requires covered { IsCovered (look links.old) object }
-    ensures { Ran (object ∷ []) (calls.own_refusal {K = A.Key} (one.Swap Where.After object)) (λ out s t. calls.SwapReplies Where.After object s (calls.object out) t)
-        links.old links.new members.old members.new result }
-{
-    if members.peek_next(links).is_none() {
-        return Err(Refusal::NothingThere);
-    }
-    if is_linked(links, object) {
-        return Err(Refusal::AlreadyLinked);
-    }
-    match members.replace_next_with(links, object) {
-        None => Err(Refusal::NothingThere),
-        Some(out) => Ok(out),
+    match replaced {
+        Ok(out) => Ok(out.place()),
+        Err(ReplaceError::Null(..)) => Err(Refusal::NothingThere),
+        Err(ReplaceError::AlreadyLinked(..)) => Err(Refusal::AlreadyLinked),
     }
 }

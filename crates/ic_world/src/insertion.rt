@@ -8,7 +8,6 @@
 ghost use Rattle.std.specs.Prelude.{◌≡◌};
 
 use crate::call::Refusal;
-use crate::gaps::is_linked;
 use crate::kinds::is_tree;
 use crate::one_call::OneCall;
 use ic_fields::{Field, Kind};
@@ -51,24 +50,18 @@ impl<A: KeyAdapter> OneCall<A> for Insertion {
 
     fn run<M: Allocator>(
         &self,
-        members: &mut Members<A>,
+        members: &mut Members<A::Value>,
         links: &mut Field<M>,
         objects: &Objects<A::Value, M>,
         adapter: A,
     ) -> Result<u64, Refusal> {
         match *self {
-            Insertion::Insert(object) => {
-                if is_linked(links, object) {
-                    return Err(Refusal::AlreadyLinked);
-                }
-                Ok(members.insert(links, objects, adapter, object))
-            }
-            Insertion::CursorInsert(object) => {
-                if is_linked(links, object) {
-                    return Err(Refusal::AlreadyLinked);
-                }
-                Ok(members.cursor_insert(links, objects, adapter, object))
-            }
+            Insertion::Insert(object) => members
+                .insert(links, objects, adapter, object)
+                .ok_or(Refusal::AlreadyLinked),
+            Insertion::CursorInsert(object) => members
+                .cursor_insert(links, objects, adapter, object)
+                .ok_or(Refusal::AlreadyLinked),
         }
     }
 }
@@ -103,7 +96,7 @@ impl<A: KeyAdapter> OneCall<A> for EntryAt<A::Key> {
 
     fn run<M: Allocator>(
         &self,
-        members: &mut Members<A>,
+        members: &mut Members<A::Value>,
         links: &mut Field<M>,
         objects: &Objects<A::Value, M>,
         adapter: A,

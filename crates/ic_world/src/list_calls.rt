@@ -227,7 +227,7 @@ impl<A: KeyAdapter, M: Allocator + Copy> World<A, M> {
         match &mut self.collections[collection] {
             None => Err(Refusal::NoSuchCollection),
             Some(found) => {
-                let _ = found.members.take(self.adapter);
+                let _ = found.members.take();
                 self.fields[found.field].left_linked = true;
                 Ok(())
             }

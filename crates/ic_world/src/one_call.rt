@@ -11,7 +11,7 @@ ghost use Rattle.ic_unsafe_ref.specs.Objects.{is_placed as place_is_placed};
 ghost use Rattle.ic_link_ops.specs.Tables.{IsCovered};
 ghost use Rattle.ic_link_ops.specs.PlacedObjects.{ArePlaced};
 ghost use Rattle.ic_fields.specs.Fields.{look};
-ghost use Rattle.ic_members.specs.Members.{kind_in, adapter_in, adapter_for, members_in, Held};
+ghost use Rattle.ic_members.specs.Members.{kind_in, members_in, Held};
 ghost use Rattle.ic_world.specs.Turns.{Each, Ran};
 ghost use Rattle.ic_world.specs.Calls.{Reply, names, has_call, own_refusal, Replies};
 ghost use Rattle.ic_world.specs.Step.{call_of as call_meant};
@@ -95,13 +95,12 @@ pub trait OneCall<A: KeyAdapter> {
     /// each place that the call names, and that these are covered. A refusal changes nothing.
     fn run<M: Allocator>(
         &self,
-        members: &mut Members<A>,
+        members: &mut Members<A::Value>,
         links: &mut Field<M>,
         objects: &Objects<A::Value, M>,
         adapter: A,
     ) -> Result<Self::Answer, Refusal>
         requires held { Held (look links.old) members.old }
-        requires adapter { adapter_in members.old ≡ adapter_for (kind_in members.old) adapter }
         requires can { has_call (call self.now) (kind_in members.old) ≡ true }
         requires covered { Each (IsCovered (look links.old)) (names (call self.now)) }
         requires placed { ArePlaced objects.now (members_in (look links.old) members.old) }

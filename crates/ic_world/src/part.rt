@@ -2,7 +2,7 @@
 
 ghost use Rattle.std.specs.Prelude.{◌≡◌, None, IfOk, OnErr};
 ghost use Rattle.ic_fields.specs.Fields.{look};
-ghost use Rattle.ic_members.specs.Members.{kind_in, adapter_in, adapter_for, Held};
+ghost use Rattle.ic_members.specs.Members.{kind_in, Held};
 ghost use Rattle.ic_world.specs.Turns.{HandsOut, refusal_in, asks_room};
 ghost use Rattle.ic_world.specs.Calls.{asks};
 ghost use Rattle.ic_world.specs.Several.{has_part, PartsOf};
@@ -11,7 +11,6 @@ use crate::call::Refusal;
 use crate::kinds::{is_list, is_two_way_list};
 use ic_fields::Field;
 use ic_members::Members;
-use ic_rbtree::KeyAdapter;
 use std::alloc::Allocator;
 
 /// Which members are handed out.
@@ -27,15 +26,13 @@ pub enum Part {
 
 impl Part {
     /// Hands the part out, if there is room for a collection more. A refusal changes nothing.
-    pub fn hand_out<A: KeyAdapter, M: Allocator>(
+    pub fn hand_out<T, M: Allocator>(
         self,
-        members: &mut Members<A>,
+        members: &mut Members<T>,
         links: &mut Field<M>,
-        adapter: A,
         has_room: bool,
-    ) -> Result<Members<A>, Refusal>
+    ) -> Result<Members<T>, Refusal>
         requires held { Held (look links.old) members.old }
-        requires adapter { adapter_in members.old ≡ adapter_for (kind_in members.old) adapter }
         ensures tested { refusal_in result ≡ asks_room has_room (asks (has_part self (kind_in members.old)) Refusal.WrongKind None) }
         ensures parted { IfOk result (λ handed. HandsOut (PartsOf self) (look links.old) (look links.new) members.old members.new handed) }
         ensures unchanged { OnErr result ((links.new ≡ links.old) × (members.new ≡ members.old)) }
@@ -52,7 +49,7 @@ impl Part {
             return Err(Refusal::OutOfMemory);
         }
         match self {
-            Part::All => Ok(members.take(adapter)),
+            Part::All => Ok(members.take()),
             Part::After => Ok(members.split_after(links)),
             Part::Before => Ok(members.split_before(links)),
         }

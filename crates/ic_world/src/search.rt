@@ -49,7 +49,7 @@ impl<A: KeyAdapter> OneCall<A> for Search<A::Key> {
 
     fn run<M: Allocator>(
         &self,
-        members: &mut Members<A>,
+        members: &mut Members<A::Value>,
         links: &mut Field<M>,
         objects: &Objects<A::Value, M>,
         adapter: A,

@@ -68,7 +68,7 @@ impl<A: KeyAdapter> OneCall<A> for Move {
     #[inline(always)]
     fn run<M: Allocator>(
         &self,
-        members: &mut Members<A>,
+        members: &mut Members<A::Value>,
         links: &mut Field<M>,
         objects: &Objects<A::Value, M>,
         adapter: A,
@@ -131,7 +131,7 @@ impl<A: KeyAdapter> OneCall<A> for Seek {
     #[inline(always)]
     fn run<M: Allocator>(
         &self,
-        members: &mut Members<A>,
+        members: &mut Members<A::Value>,
         links: &mut Field<M>,
         objects: &Objects<A::Value, M>,
         adapter: A,
@@ -150,8 +150,8 @@ impl<A: KeyAdapter> OneCall<A> for Seek {
 }
 
 // Puts the cursor on the object. No table is written.
-fn seek_on<A: KeyAdapter, M: Allocator>(
-    members: &mut Members<A>,
+fn seek_on<T, M: Allocator>(
+    members: &mut Members<T>,
     links: &Field<M>,
     object: Place,
 ) -> Result<(), Refusal>
@@ -169,8 +169,8 @@ fn seek_on<A: KeyAdapter, M: Allocator>(
 
 // The neighbor of a member that stands behind `prev`, none beyond an end.
 #[inline]
-fn neighbor<A: KeyAdapter, M: Allocator>(
-    members: &Members<A>,
+fn neighbor<T, M: Allocator>(
+    members: &Members<T>,
     links: &Field<M>,
     way: Direction,
     prev: Option<Place>,
@@ -187,8 +187,8 @@ fn neighbor<A: KeyAdapter, M: Allocator>(
 }
 
 // Puts the cursor of an XOR list on the object, if that member stands beside it.
-fn seek_with<A: KeyAdapter, M: Allocator>(
-    members: &mut Members<A>,
+fn seek_with<T, M: Allocator>(
+    members: &mut Members<T>,
     links: &Field<M>,
     way: Direction,
     object: Place,

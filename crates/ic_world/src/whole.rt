@@ -51,15 +51,16 @@ impl<A: KeyAdapter> OneCall<A> for Whole {
     #[inline(always)]
     fn run<M: Allocator>(
         &self,
-        members: &mut Members<A>,
+        members: &mut Members<A::Value>,
         links: &mut Field<M>,
         objects: &Objects<A::Value, M>,
         adapter: A,
     ) -> Result<(), Refusal> {
         let _ = objects;
+        let _ = adapter;
         match self {
             Whole::Clear => {
-                members.unlink_all(links, adapter);
+                members.unlink_all(links);
                 Ok(())
             }
             Whole::Reverse => {

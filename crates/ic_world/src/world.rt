@@ -32,7 +32,7 @@ pub struct World<A: KeyAdapter, M: Allocator + Copy = Global> {
     // How many places each field covers at least.
     pub(crate) room: usize,
     pub(crate) fields: Vec<WorldField<M>, M>,
-    pub(crate) collections: Vec<Option<Collection<A>>, M>,
+    pub(crate) collections: Vec<Option<Collection<A::Value>>, M>,
 }
 
 // Appends an item, and answers its number.
@@ -136,7 +136,7 @@ impl<A: KeyAdapter, M: Allocator + Copy> World<A, M> {
             Some(found) => {
                 let field = found.field;
                 let links = &mut self.fields[field].links;
-                match part.hand_out(&mut found.members, links, self.adapter, has_room) {
+                match part.hand_out(&mut found.members, links, has_room) {
                     Err(refusal) => Err(refusal),
                     Ok(members) => {
                         let _ = self.collections.push(Some(Collection { field, members }));
@@ -148,7 +148,7 @@ impl<A: KeyAdapter, M: Allocator + Copy> World<A, M> {
     }
 
     // A collection and the table of its field, to be read.
-    pub(crate) fn found(&self, collection: usize) -> Option<(&Members<A>, &Field<M>)>
+    pub(crate) fn found(&self, collection: usize) -> Option<(&Members<A::Value>, &Field<M>)>
         ensures some { IfSome result (λ found. Sees self.now collection (look found.1.now) found.0.now) }
         ensures none { IfNone result (collection_of self.now collection ≡ None) }
     {

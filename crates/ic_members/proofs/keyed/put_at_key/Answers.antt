@@ -1,7 +1,6 @@
-use Rattle.std.proofs.Common.{rules, refl, ap, ◌∙◌}
-use Rattle.ic_rbtree.specs.Tree.{adapter_of}
+use Rattle.std.proofs.Common.{rules, refl, sym, ap, ◌∙◌}
 use Rattle.ic_fields.specs.TreeTables.{look}
-use Rattle.ic_members.proofs.KeyedEdits.{inserts_left, links_left, adapter_left}
+use Rattle.ic_members.proofs.KeyedEdits.{vacant_one, inserts_left, links_left}
 use Rattle.ic_members.proofs.keyed.put_at_key.Goals as goal
 
 pub unwrap-requires : goal.unwrap-requires
@@ -9,27 +8,40 @@ unwrap-requires g c =
     let p = c.requires.placed in
     rw c.get_ptr.ensures (c.in-Occupied.ensures.occupied p.members p.shown).1
 
-pub returns-then-linked-clause-refused : goal.returns-then-linked-clause-refused
-returns-then-linked-clause-refused g c s shown =
-    let v = c.in-Vacant.ensures.vacant s shown in
-    (v.gap, v.same, (v.smaller, v.larger))
-
-pub put_into-requires-clause-vacant : goal.put_into-requires-clause-vacant
-put_into-requires-clause-vacant g c =
+pub or_insert-requires-clause-vacant : goal.or_insert-requires-clause-vacant
+or_insert-requires-clause-vacant g c =
     let p = c.requires.placed in
-    let v = c.in-Vacant.ensures.vacant p.members p.shown in
-    let b = c.in-Vacant.ensures.vacant_borrows in
-    (v.gap, rw (b.3, b.2, v.same) p.shown, rw b.3 v.is_at)
+    let one = vacant_one c.entry_by.result c.in_default.not-Occupied in
+    let v = rw one.1 at (c.entry_by.ensures.vacant p.members p.shown) in
+    let b = rw one.1 at c.entry_by.ensures.vacant_borrows in
+    rw one.1 (v.gap, rw (b.3, b.2, v.same) p.shown, rw b.3 v.is_at)
 
-pub returns-else-linked-clause-put : goal.returns-else-linked-clause-put
-returns-else-linked-clause-put g c s shown new =
-    let v = c.in-Vacant.ensures.vacant s shown in
-    let b = c.in-Vacant.ensures.vacant_borrows in
-    let put = c.put_into.ensures.inserted v.gap (rw (b.3, b.2, v.same) shown) (rw b.3 v.is_at) in
-    (v.gap, v.same, ((v.smaller, v.larger), inserts_left (ap look b.3) refl put (search rules) (search rules)))
+pub unwrap-requires-in-Ok : goal.unwrap-requires-in-Ok
+unwrap-requires-in-Ok g c =
+    let one = vacant_one c.entry_by.result c.in_default.not-Occupied in
+    let put = rw one.1 at c.in-Ok.ensures.vacant in
+    rw (c.get_ptr-in-Ok.ensures, put.position) refl
 
-pub returns-else-linked-clause-links : goal.returns-else-linked-clause-links
-returns-else-linked-clause-links g c new =
-    let e = c.put_into.ensures in
-    let b = c.in-Vacant.ensures.vacant_borrows in
-    (refl, links_left (ap look b.3) refl e.linked (search rules), adapter_left (e.borrows.2 ∙ ap adapter_of b.2) (search rules))
+pub returns-in-Ok-clause-put : goal.returns-in-Ok-clause-put
+returns-in-Ok-clause-put g c s shown new =
+    let one = vacant_one c.entry_by.result c.in_default.not-Occupied in
+    let v = rw one.1 at (c.entry_by.ensures.vacant s shown) in
+    let b = rw one.1 at c.entry_by.ensures.vacant_borrows in
+    let put = rw (one.1, c.new.ensures) at c.in-Ok.ensures.vacant in
+    let names = put.borrows in
+    (v.gap, v.same, ((v.smaller, v.larger), inserts_left (ap look b.3) refl (put.inserted v.gap (rw (b.3, b.2, v.same) shown) (rw b.3 v.is_at)) (search rules) (search rules)))
+
+pub returns-in-Ok-clause-links : goal.returns-in-Ok-clause-links
+returns-in-Ok-clause-links g c new =
+    let one = vacant_one c.entry_by.result c.in_default.not-Occupied in
+    let b = rw one.1 at c.entry_by.ensures.vacant_borrows in
+    let put = rw (one.1, c.new.ensures) at c.in-Ok.ensures.vacant in
+    let names = put.borrows in
+    let there = sym c.unwrap-in-Ok.ensures ∙ c.get_ptr-in-Ok.ensures ∙ put.position in
+    (search rules, links_left (ap look b.3) refl put.acquired (search rules))
+
+pub returns-in-Err-clause-refused : goal.returns-in-Err-clause-refused
+returns-in-Err-clause-refused g c s shown =
+    let one = vacant_one c.entry_by.result c.in_default.not-Occupied in
+    let v = rw one.1 at (c.entry_by.ensures.vacant s shown) in
+    (v.gap, v.same, (v.smaller, v.larger))

@@ -1,12 +1,11 @@
-use Rattle.std.proofs.Common.{ap, Some, ◌∙◌}
+use Rattle.std.proofs.Common.{ap, refl, Some, ◌∙◌}
 use Rattle.ic_rbtree.specs.CursorOwning.{tree_of}
 use Rattle.ic_rbtree.specs.Members.{members}
-use Rattle.ic_rbtree.specs.Tree.{root_of, adapter_of}
+use Rattle.ic_rbtree.specs.Tree.{root_of}
 use Rattle.ic_fields.specs.Entries.{node}
 use Rattle.ic_fields.specs.TreeTables.{look}
 use Rattle.ic_fields.specs.declared.field.Field.TheVariants.{TwoWay}
 use Rattle.ic_fields.specs.declared.two_way.TwoWay.TheVariants.{Tree}
-use Rattle.ic_members.specs.declared.members.Members.TheVariants as member
 use Rattle.ic_members.proofs.KeyedEdits.{moves_to_key, puts_at_key}
 use Rattle.ic_members.proofs.members.Members.entry.Goals as goal
 
@@ -20,8 +19,7 @@ returns-in_err-occupied-in-TwoWay-Tree-clause-refused g c =
     rw (c.from_residual.ensures, c.in-Tree.is, c.in-TwoWay-Tree.is, c.in-TwoWay-Tree.field-0-is) (
       e.unchanged.0,
       rw (probe.adapter, probe.key) at (e.refused s (rw list held.shown)),
-      ap (λ tree. member.Tree (record c.in-Tree.cursor { list = tree })) (e.unchanged.1 ∙ list),
-      ap (λ l. TwoWay (Tree l)) e.unchanged.2,
+      (ap (λ l. TwoWay (Tree l)) e.unchanged.2, record { kept = rw (e.unchanged.1, list) held; alike = refl; cursor_is = refl }),
     )
 
 pub returns-clause-occupied : goal.returns-clause-occupied
@@ -48,4 +46,4 @@ returns-clause-vacant g c new =
     let put = rw (probe.adapter, probe.key) at (e.put s (rw list held.shown) new) in
     let on = c.go_to.ensures in
     rw (c.in-Tree.is, c.in-TwoWay-Tree.is, c.in-TwoWay-Tree.field-0-is)
-    (links.0, puts_at_key _ held put links.1 (links.2 ∙ ap adapter_of list) on.list (on.position ∙ c.of.ensures ∙ ap Some links.0))
+    (links.0, puts_at_key _ held put links.1 on.list (on.position ∙ c.of.ensures ∙ ap Some links.0))

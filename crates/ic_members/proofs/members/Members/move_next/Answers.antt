@@ -1,5 +1,5 @@
 use Rattle.std.proofs.Common.{ap}
-use Rattle.ic_rbtree.specs.Tree.{root_of, adapter_of}
+use Rattle.ic_rbtree.specs.Tree.{root_of}
 use Rattle.ic_members.proofs.Standing.{knows, gap_after_cursor}
 use Rattle.ic_members.proofs.Moving.{with_head, singly_turned, doubly_turned, xor_turned, tree_turned, goes_on}
 use Rattle.ic_members.proofs.members.Members.move_next.Goals as goal
@@ -33,4 +33,4 @@ returns-in-TwoWay-Tree g c =
     let e = c.move_next-in-TwoWay-Tree.ensures in
     let root = ap root_of e.list in
     rw (c.in-Tree.is, c.in-TwoWay-Tree.is, inner)
-    (goes_on e.moved (tree_turned (ap adapter_of e.list) (with_head root e.moved.stands)) root held (gap_after_cursor _ held))
+    (goes_on e.moved (tree_turned (with_head root e.moved.stands)) root held (gap_after_cursor _ held))

@@ -1,5 +1,5 @@
 use Rattle.std.proofs.Common.{ap}
-use Rattle.ic_rbtree.specs.Tree.{root_of, adapter_of}
+use Rattle.ic_rbtree.specs.Tree.{root_of}
 use Rattle.ic_members.proofs.Standing.{knows, gap_before_cursor}
 use Rattle.ic_members.proofs.Moving.{with_head, doubly_turned, xor_turned, tree_turned, goes_back}
 use Rattle.ic_members.proofs.members.Members.move_prev.Goals as goal
@@ -27,4 +27,4 @@ returns-in-TwoWay-Tree g c =
     let e = c.move_prev-in-TwoWay-Tree.ensures in
     let root = ap root_of e.list in
     rw (c.in-Tree.is, c.in-TwoWay-Tree.is, inner)
-    (goes_back e.moved (tree_turned (ap adapter_of e.list) (with_head root e.moved.stands)) root held (gap_before_cursor _ held))
+    (goes_back e.moved (tree_turned (with_head root e.moved.stands)) root held (gap_before_cursor _ held))

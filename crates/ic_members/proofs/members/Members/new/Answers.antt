@@ -20,4 +20,4 @@ returns-in-Xor-clause-kept g c t carried =
 pub returns-in-Tree-clause-kept : goal.returns-in-Tree-clause-kept
 returns-in-Tree-clause-kept g c t carried =
     let made = c.cursor_owning-in-Tree.ensures in
-    new_tree t c.cursor_owning-in-Tree.result (rw c.in-Tree.is at carried) (ap root_of made.tree ∙ c.new-in-Tree.ensures.empty) made.null
+    new_tree t c.cursor_owning-in-Tree.result (rw c.in-Tree.is at carried) (ap root_of made.tree ∙ c.new-in-Tree-2.ensures.empty) made.null

@@ -24,4 +24,4 @@ returns-in-TwoWay-Tree-clause-taken g c =
     let held = rw (c.in-Tree.is, c.in-TwoWay-Tree.is, c.in-TwoWay-Tree.field-0-is) at c.requires.held in
     let e = c.remove-in-TwoWay-Tree.ensures in
     rw (c.in-Tree.is, c.in-TwoWay-Tree.is, c.in-TwoWay-Tree.field-0-is, c.place_of-in-TwoWay-Tree.ensures)
-    (takes e.removed (tree_turned e.kept.keeps e.removed.stands) held (gap_before_cursor _ held))
+    (takes e.removed (tree_turned e.removed.stands) held (gap_before_cursor _ held))

@@ -1,6 +1,6 @@
 use Rattle.std.proofs.Common.{◌∙◌, ap}
 use Rattle.ic_link_ops.proofs.Positions.{stands_by_gap}
-use Rattle.ic_rbtree.specs.Tree.{root_of, adapter_of}
+use Rattle.ic_rbtree.specs.Tree.{root_of}
 use Rattle.ic_fields.specs.Fields.{look}
 use Rattle.ic_members.proofs.Moving.{singly_turned, doubly_turned, xor_turned, tree_turned, moves}
 use Rattle.ic_members.proofs.members.Members.stand_on.Goals as goal
@@ -34,4 +34,4 @@ returns-in-Tree g c =
     let e = c.go_to-in-Tree.ensures in
     let is = e.position ∙ c.of-in-Tree.ensures in
     rw c.in-Tree.is
-    (moves (tree_turned {table = λ t. t} {new = look c.args.links.now} (ap adapter_of e.list) (stands_by_gap gap.0 (rw (ap root_of e.list, gap.1) held.shown) (is ∙ gap.2.0))) (ap root_of e.list) held is)
+    (moves (tree_turned {table = λ t. t} {new = look c.args.links.now} (stands_by_gap gap.0 (rw (ap root_of e.list, gap.1) held.shown) (is ∙ gap.2.0))) (ap root_of e.list) held is)

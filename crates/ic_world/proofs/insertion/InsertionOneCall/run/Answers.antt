@@ -1,14 +1,14 @@
 use Rattle.ic_world.proofs.Keyed.{inserted}
 use Rattle.ic_world.proofs.insertion.InsertionOneCall.run.Goals as goal
 
-pub returns-else-is_linked : goal.returns-else-is_linked
-returns-else-is_linked g c =
+pub returns-in-Insert : goal.returns-in-Insert
+returns-in-Insert g c =
     let e = c.insert.ensures in
-    rw c.in-Insert.is (inserted _ c.in-Insert.object c.insert.result c.is_linked.ensures.set c.if-is_linked.false e.inserted
-    (λ gap cut border same. ((gap, cut, (border, same)), e.looks)))
+    rw (c.in-Insert.is, c.ok_or.ensures.value)
+    (inserted _ c.in-Insert.object c.insert.result e.inserted (λ looks is gap cut border same. ((gap, cut, (border, same)), rw is at e.looks)) e.refused)
 
-pub returns-else-is_linked-2 : goal.returns-else-is_linked-2
-returns-else-is_linked-2 g c =
+pub returns-in-CursorInsert : goal.returns-in-CursorInsert
+returns-in-CursorInsert g c =
     let e = c.cursor_insert.ensures in
-    rw c.in-CursorInsert.is (inserted _ c.in-CursorInsert.object c.cursor_insert.result c.is_linked-in-CursorInsert.ensures.set c.if-is_linked-2.false e.inserted
-    (λ gap cut border same. ((gap, cut, (border, same)), e.looks)))
+    rw (c.in-CursorInsert.is, c.ok_or-in-CursorInsert.ensures.value)
+    (inserted _ c.in-CursorInsert.object c.cursor_insert.result e.inserted (λ looks is gap cut border same. ((gap, cut, (border, same)), rw is at e.looks)) e.refused)

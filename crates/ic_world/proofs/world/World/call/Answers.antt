@@ -44,7 +44,6 @@ run-requires g c =
     let placed = sym c.is_placed-placed.ensures ∙ c.if-not-placed.false in
     record {
       held = at_k.held;
-      adapter = c.self.invariant.0.adapted c.args.collection c.in-Some.found at_k.is;
       can = ap (has_call (g.C.OneCall.call c.args.call.now)) (sym c.kind.ensures) ∙ sym c.is_of.ensures ∙ c.if-not-is_of.false;
       covered = room_for c.self.invariant at_k (names (g.C.OneCall.call c.args.call.now)) placed;
       named = placed;

@@ -5,12 +5,6 @@ use Rattle.ic_world.proofs.Readings.{found, found_at, missing}
 use Rattle.ic_world.proofs.FastCleared.{fast_cleared_kept, fast_cleared_step}
 use Rattle.ic_world.proofs.world.World.fast_clear.Goals as goal
 
-pub take-requires : goal.take-requires
-take-requires g c =
-    let cs = c.self.inside.collections in
-    let is = found_at cs.items c.args.collection c.if-collection-len.false c.len.ensures cs.ok.0 c.index_mut.ensures.value c.in-Some.is in
-    record { adapter = c.self.invariant.0.adapted c.args.collection c.in-Some.found is }
-
 pub index_mut-requires-in-Some : goal.index_mut-requires-in-Some
 index_mut-requires-in-Some g c =
     let cs = c.self.inside.collections in

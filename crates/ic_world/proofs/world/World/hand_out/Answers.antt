@@ -25,7 +25,7 @@ pub hand_out-requires : goal.hand_out-requires
 hand_out-requires g c =
     let kept = rw (← c.try_reserve.ensures.items) at c.self.invariant in
     let at_k = found c.self.inside.fields.items kept c.if-collection-number.false c.len-number.ensures (c.self.inside.collections.ok.0 ∙ ap length (sym c.try_reserve.ensures.items)) c.index_mut.ensures.value c.in-Some.is c.index_mut-in-Some.ensures.value in
-    record { held = at_k.held; adapter = kept.0.adapted c.args.collection c.in-Some.found at_k.is }
+    record { held = at_k.held }
 
 pub invariant_of-self-in-Err : goal.invariant_of-self-in-Err
 invariant_of-self-in-Err g c =

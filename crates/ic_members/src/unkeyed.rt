@@ -1,0 +1,50 @@
+//! The adapter of a tree whose searches bring their own.
+//!
+//! ```text
+//! let tree = RBTree::new(Unkeyed::new()); // searched by `find_by`, which compares by its probe
+//! ```
+
+ghost use Rattle.std.specs.Prelude.{◌≡◌, ⊤};
+
+use ic_rbtree::KeyAdapter;
+use std::alloc::AllocError;
+use std::marker::PhantomData;
+
+/// Finds no keys: the key of every value is `()`.
+pub struct Unkeyed<T> {
+    of: PhantomData<T>,
+}
+
+impl<T> Unkeyed<T> {
+    #[inline]
+    pub(crate) fn new() -> Unkeyed<T> {
+        Unkeyed { of: PhantomData }
+    }
+}
+
+impl<T> Clone for Unkeyed<T> {
+    ghost is_clone = { λ adapter copy. copy ≡ adapter };
+
+    ghost is_infallible = { λ _. ⊤ };
+
+    /// The same adapter. It never fails.
+    fn clone(&self) -> Result<Self, AllocError> {
+        Ok(*self)
+    }
+}
+
+impl<T> Copy for Unkeyed<T> {}
+
+impl<T> KeyAdapter for Unkeyed<T> {
+    type Value = T;
+
+    type Key = ();
+
+    ghost key_of = { λ adapter value. tt };
+
+    #[inline]
+    fn get_key<'v>(&self, value: &'v T) -> &'v () {
+        let _ = value;
+        &()
+    }
+}
