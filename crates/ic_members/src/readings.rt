@@ -18,7 +18,7 @@ use ic_unsafe_ref::{Place, UnsafeRef};
 use std::alloc::{AllocError, Allocator};
 
 impl<T> Members<T> {
-    ghost use Rattle.ic_members.specs.Members.{kind_in, cursor_in, members_in, is_singly, Held};
+    ghost use Rattle.ic_members.specs.Members.{members_in, Held};
     ghost use Rattle.ic_members.specs.Edits.{AtGap};
 
     // The first member.
@@ -87,19 +87,6 @@ impl<T> Members<T> {
                 Field::TwoWay(TwoWay::Doubly(_)) | Field::Singly(_) | Field::Xor(_) =>
                     unreachable!(),
             },
-        }
-    }
-
-    /// The member behind the cursor, at null the first one; `None` where there is none. It asks that this is a singly linked list. O(1).
-    #[inline]
-    pub fn peek_next<M: Allocator>(&self, links: &Field<M>) -> Option<Place>
-        requires held { Held (look links.now) self.now }
-        requires can { is_singly (kind_in self.now) ≡ true }
-        ensures { AtGap (members_in (look links.now) self.now) (λ gap. IsAfter gap (cursor_in self.now) × (result ≡ first gap.back)) }
-    {
-        match self {
-            Members::Singly(cursor) => cursor.as_cursor(links).peek_next().get_ptr(),
-            Members::Doubly(_) | Members::Xor(_) | Members::Tree(_) => unreachable!(),
         }
     }
 
