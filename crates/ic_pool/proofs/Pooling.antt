@@ -1,5 +1,5 @@
 -- For callers: objects and a table of their links stay pooled, after each kind of step. Of a pair of tables, each stays so by itself.
-use Rattle.std.proofs.Common.{◌≡◌, Bool, true, false, None, Some, is_some, inl, inr, sym, ap, ◌∙◌, arith}
+use Rattle.std.proofs.Common.{◌≡◌, Bool, true, false, Option, None, Some, is_some, inl, inr, refl, sym, ap, ◌∙◌, arith}
 use Rattle.ic_unsafe_ref.specs.declared.place.Place.{Place}
 use Rattle.ic_unsafe_ref.specs.Places.{index_of}
 use Rattle.ic_unsafe_ref.specs.Objects.{Objects, Places, Frees, object_at, is_placed}
@@ -22,6 +22,10 @@ pooled_first is_linked unlinked starts links {objects} none vacant = record {
       let within = linked_in_range (linked_by is_linked) (link_of unlinked) starts (entries links) (index_of p) is in
       absurd (omega (arith, within, none)));
 }
+
+none_placed : {T : Type 0} (o : Option T) → is_some o ≡ false → o ≡ None
+none_placed None h = refl
+none_placed (Some v) h = let never : true ≡ false = h in absurd (cc)
 
 module _ {E T : Type 0} {linked : E → Bool} {old : Objects T} {a : Table E} (pooled : IsPooled linked old a) where
   -- AFTER `place`, whatever it answered: the old objects are pooled with the table that may have grown
@@ -70,6 +74,13 @@ module _ {E T : Type 0} {linked : E → Bool} {old : Objects T} {a : Table E} (p
   pooled_kept {b} keeps extent = record {
     covered = λ q placed. let room = pooled.covered q placed in rw extent room;
     vacant = λ q none. keeps q ∙ pooled.vacant q none;
+  }
+
+  -- AFTER AN OBJECT WAS CHANGED, as by `get_mut`: the same places have one
+  pub pooled_changed : {new : Objects T} → ((p : Place) → is_placed new p ≡ is_placed old p) → IsPooled linked new a
+  pooled_changed {new} same = record {
+    covered = λ p is. pooled.covered p (sym (same p) ∙ is);
+    vacant = λ p none. pooled.vacant p (none_placed (object_at old p) (sym (same p) ∙ ap is_some none));
   }
 
   -- AFTER `remove` of an object that is linked nowhere

@@ -1,0 +1,6 @@
+//! Uses of pools, as a user ships them: each is a struct with private fields, and a clause sees what it stands for.
+#![tactic(auto)]
+
+mod slots;
+
+pub use slots::{Handle, Slots};
