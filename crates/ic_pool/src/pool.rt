@@ -20,8 +20,9 @@ use std::alloc::{Allocator, Global};
 
 /// Objects with the tables of their links.
 ///
-/// Both fields are public, since a call of a collection borrows a table, or a table and the objects: `list.push_back(&mut pool.links, ..)`,
-/// `tree.insert(&mut pool.links.0, &pool.objects, ..)`. A loop keeps `IsPooled` of them (specs/Pooled.antt).
+/// Both fields are public, since a call of a collection borrows a table, or a table and the objects:
+/// `list.push_back(&mut pool.links, ..)`, `tree.insert(&mut pool.links.0, &pool.objects, ..)`. A loop keeps `IsPooled`
+/// of them (specs/Pooled.antt).
 #[derive(Drop)]
 pub struct Pool<T, L, A: Allocator = Global> {
     /// The objects, each at its place.
@@ -48,10 +49,11 @@ impl<T, L: Tables, A: Allocator> Pool<T, L, A> {
         }
     }
 
-    /// Places `value`, and makes room for its links first. O(1), and it takes memory only where a table or the objects grow.
+    /// Places `value`, and makes room for its links first. O(1), and it takes memory only where a table or the objects
+    /// grow.
     ///
-    /// Where it is refused the value comes back, and no object and no link has changed: with `NoPlaceLeft` exactly if no place is
-    /// left, of 4,294,967,296, and else with `OutOfMemory`.
+    /// Where it is refused the value comes back, and no object and no link has changed: with `NoPlaceLeft` exactly if
+    /// no place is left, of 4,294,967,296, and else with `OutOfMemory`.
     pub fn place(&mut self, value: T) -> Result<UnsafeRef<T>, PlaceError<T>>
         ensures placed { IfOk result (λ object. Places self.old.objects self.new.objects object value) }
         ensures covered { IfOk result (λ object. L.Covers self.new.links object) }

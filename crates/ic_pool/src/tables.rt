@@ -25,8 +25,8 @@ pub trait Tables {
 
     /// Covers the first `count` places in each table.
     ///
-    /// It is refused above 4,294,967,296 places, and where no memory is found. Then the first of two tables may have grown. Each
-    /// link stays as it was. At most one request for memory a table.
+    /// It is refused above 4,294,967,296 places, and where no memory is found. Then the first of two tables may have
+    /// grown. Each link stays as it was. At most one request for memory a table.
     fn cover(&mut self, count: usize) -> Result<(), CoverError>
         ensures too_many { (result ≡ Err CoverError.TooManyPlaces) ↔ 4294967296 < count }
         ensures covers { OnOk result ((place : Place) → index_of place < count → Covers self.new place) }

@@ -2,5 +2,7 @@
 #![tactic(auto)]
 
 mod slots;
+mod timers;
 
 pub use slots::{Handle, Slots};
+pub use timers::{Timer, Timers};

@@ -8,7 +8,7 @@
 //! slots.get(first) // None: its generation is over
 //! ```
 
-ghost use Rattle.std.specs.Prelude.{◌≡◌, ◌≢◌, ◌+◌, ◌<◌, ℕ, true, Bool, IsTrue, ◌↔◌, Some, None, IsSome, IsOk, IfOk, IfErr, IfSome, IfNone, OnOk, OnErr};
+ghost use Rattle.std.specs.Prelude.{◌≡◌, ◌+◌, ◌↔◌, true, IsTrue, IsOk, IfOk, IfErr, IfSome, IfNone, OnOk};
 ghost use Rattle.std.specs.Option.{option_copied};
 ghost use Rattle.ic_unsafe_ref.specs.Objects.{is_placed, object_at, with_object};
 ghost use Rattle.ic_pool.specs.Refusals.{value_of};
@@ -36,10 +36,11 @@ pub(crate) struct Slot<T> {
     pub(crate) value: Option<T>,
 }
 
-/// Values that are named by handles. A handle names one value, from its insert until it is removed, and no other one ever.
+/// Values that are named by handles. A handle names one value, from its insert until it is removed, and no other one
+/// ever.
 ///
-/// A clause sees which value each handle names, whether it was given out before, how many handles name a value, and whether a
-/// vacant slot is left.
+/// A clause sees which value each handle names, whether it was given out before, how many handles name a value, and
+/// whether a vacant slot is left.
 #[derive(Drop)]
 pub struct Slots<T, A: Allocator = Global> {
     pool: Pool<Slot<T>, LinkOps<A>, A>,
@@ -149,11 +150,11 @@ impl<T: Drop, A: Allocator> Slots<T, A> {
         Ok(())
     }
 
-    /// Puts the value into the slot that was vacated last, or into a new one, and answers its handle. O(1), and it takes memory only
-    /// for a new slot.
+    /// Puts the value into the slot that was vacated last, or into a new one, and answers its handle. O(1), and it
+    /// takes memory only for a new slot.
     ///
-    /// The handle was never given out before. A refused value comes back, and nothing has changed; none is refused while a slot is
-    /// vacant.
+    /// The handle was never given out before. A refused value comes back, and nothing has changed; none is refused
+    /// while a slot is vacant.
     pub fn insert(&mut self, value: T) -> Result<Handle, PlaceError<T>>
         ensures inserted { IfOk result (λ handle. Inserts handle value self.old self.new) }
         ensures refused { IfErr result (λ refused. (value_of refused ≡ value) × IsUnchanged self.old self.new) }
@@ -174,8 +175,8 @@ impl<T: Drop, A: Allocator> Slots<T, A> {
         })
     }
 
-    /// Takes out the value that the handle names, and the handle names nothing from then on: `None` for an old handle. O(1), and it
-    /// takes no memory.
+    /// Takes out the value that the handle names, and the handle names nothing from then on: `None` for an old handle.
+    /// O(1), and it takes no memory.
     ///
     /// The slot is vacant then. After 2^64 - 1 values it is used up, and is left out.
     pub fn remove(&mut self, handle: Handle) -> Option<T>
