@@ -1,5 +1,7 @@
 -- For callers: objects and a table of their links stay pooled, after each kind of step. Of a pair of tables, each stays so by itself.
-use Rattle.std.proofs.Common.{◌≡◌, Bool, true, false, Option, None, Some, is_some, inl, inr, refl, sym, ap, ◌∙◌, arith}
+use Rattle.std.proofs.Common.{◌≡◌, ◌↔◌, ℕ, ◌^◌, ◌≤◌, leb, Bool, true, false, Result, Err, Option, None, Some, is_some, inl, inr, refl, sym, ap, ◌∙◌, arith}
+use Rattle.std.proofs.lemmas.Bool.{le-leb}
+use Rattle.std.proofs.lemmas.Bool.Decides.{leb_tells}
 use Rattle.ic_unsafe_ref.specs.declared.place.Place.{Place}
 use Rattle.ic_unsafe_ref.specs.Places.{index_of}
 use Rattle.ic_unsafe_ref.specs.Objects.{Objects, Places, Frees, object_at, is_placed}
@@ -11,7 +13,10 @@ use Rattle.ic_link_ops.specs.Links.{link_of}
 use Rattle.ic_link_ops.specs.PlainTables.{entries, table, linked_by}
 use Rattle.ic_link_ops.specs.Tables.{Table, IsCovered, IsUnlinked, LinksAlso, Unlinks, KeepsLinked}
 use Rattle.ic_link_ops.proofs.LinkedSets.{not_linked}
+use Rattle.ic_pool.specs.declared.place_error.PlaceError.{PlaceError}
+use Rattle.ic_pool.specs.declared.place_error.PlaceError.TheVariants.{NoPlaceLeft, OutOfMemory}
 use Rattle.ic_pool.specs.Pooled.{Grows, IsPooled}
+use Rattle.ic_pool.specs.Refusals.{lacks_place, value_of}
 
 -- AT FIRST: nothing is placed, and the table covers no place
 pub pooled_first : {W A T : Type 0} (is_linked : W → Bool) (unlinked : W) → is_linked unlinked ≡ false → (links : PlainTable W A) {objects : Objects T}
@@ -95,3 +100,13 @@ module _ {E T : Type 0} {linked : E → Bool} {old : Objects T} {a : Table E} (p
       | inr other ↦ pooled.vacant q (sym (others_left frees q other) ∙ none)
     ];
   }
+
+-- WHY A VALUE WAS NOT PLACED: for want of a place exactly if none is left (`full`, `value`: what `place` ensures)
+pub lacks_exactly : {T X : Type 0} (refused : PlaceError T) {value : T} (next : ℕ) → ((let r : Result X (PlaceError T) = Err refused in r ≡ Err (NoPlaceLeft value)) ↔ (2 ^ 32 ≤ next)) → value_of refused ≡ value
+    → lacks_place refused ≡ leb (2 ^ 32) next
+lacks_exactly {T} {X} (NoPlaceLeft v) {value} next full same =
+    let told : (let r : Result X (PlaceError T) = Err (NoPlaceLeft v) in r ≡ Err (NoPlaceLeft value)) = ap (λ (x : T). Err (NoPlaceLeft x)) same in sym (le-leb (2 ^ 32) next (full.0 told))
+lacks_exactly {T} {X} (OutOfMemory v) {value} next full same = elim (leb_tells (2 ^ 32) next) [
+  | inl h ↦ let never : (let r : Result X (PlaceError T) = Err (OutOfMemory v) in r ≡ Err (NoPlaceLeft value)) = full.1 h.1 in absurd (cc)
+  | inr h ↦ sym h.0
+]

@@ -1,5 +1,5 @@
 -- What timers keep over each of their calls, and what that says of those that wait.
-use Rattle.std.proofs.Common.{◌≡◌, ◌≢◌, ℕ, ◌<◌, ◌≤◌, true, false, Option, Some, None, IsSome, is_some, List, [], ◌∷◌, ◌++◌, map, drop, inl, inr, refl, sym, ap, subst, ◌∙◌, arith, true≢false}
+use Rattle.std.proofs.Common.{◌≡◌, ◌≢◌, ℕ, ◌^◌, leb, ◌<◌, ◌≤◌, true, false, Option, Some, None, IsSome, is_some, List, [], ◌∷◌, ◌++◌, map, drop, inl, inr, refl, sym, ap, subst, ◌∙◌, arith, true≢false}
 use Rattle.std.proofs.lemmas.Bool.Decides.{leb_tells, nat_tests}
 use Rattle.std.proofs.lemmas.Cmp.{nat_cmp_total}
 use Rattle.std.proofs.lemmas.List.Elements.{filter_map-append}
@@ -28,8 +28,8 @@ use Rattle.ic_rbtree.proofs.SortedKeys.{first_is_least, up_is}
 use Rattle.ic_rbtree.proofs.SortedValues.{greater_behind, own_order_is}
 use Rattle.ic_pool.specs.Pooled.{Grows}
 use Rattle.pool_uses.specs.declared.timers.Timer.{Timer}
-use Rattle.pool_uses.specs.KeptTimers.{deadline_of, is_due_then, is_due_at, waiting_of, waiting_at, waiting_in, IsKept}
-use Rattle.pool_uses.specs.Timers.{Waiting, timer_of, deadlines, NamesNone, Adds, Cancels, TakesFirst}
+use Rattle.pool_uses.specs.KeptTimers.{deadline_of, is_due_then, is_due_at, waiting_of, waiting_at, waiting_in, timetable_of, IsKept}
+use Rattle.pool_uses.specs.Timers.{Waiting, Timetable, timer_of, deadlines, NamesNone, Adds, Cancels, TakesFirst}
 
 -- WITH ONE LESS what rises still rises
 up : (k l : ℕ) → k ≤ l → nat_cmp k l ≢ Greater
@@ -132,9 +132,10 @@ module _ {V A : Type 0} {objects : Objects (Timer V)} {links : TreeLinkOps A} {r
     all = λ p is. ap is_linked (grows.entries p) ∙ k.all p is;
   }
 
-  pub same_grown : (grown : TreeLinkOps A) → Grows (plain_table links) (plain_table grown) → waiting_in objects grown root ≡ waiting_in objects links root
+  pub same_grown : (grown : TreeLinkOps A) → Grows (plain_table links) (plain_table grown) → timetable_of objects grown root ≡ timetable_of objects links root
   unfolding kept_grown
-  same_grown grown grows = waiting_is (kept_grown grown grows) ∙ sym (waiting_is k)
+  same_grown grown grows =
+      let of : List (Waiting V) → Timetable V = λ waiting. record { waiting = waiting; is_full = leb (2 ^ 32) objects.next } in ap of (waiting_is (kept_grown grown grows) ∙ sym (waiting_is k))
 
   -- WHAT IS PLACED is a member
   pub placed_member : (p : Place) → is_placed objects p ≡ true → HasMember (PlainShows links root) p

@@ -1,5 +1,5 @@
 -- What slots keep of their pool and of the list of vacant ones.
-use Rattle.std.specs.Prelude.{◌≡◌, ◌<◌, ℕ, Bool, Option, Some, None, IsSome, is_some, List}
+use Rattle.std.specs.Prelude.{◌≡◌, ◌<◌, ◌^◌, leb, ℕ, Bool, Option, Some, None, IsSome, is_some, List}
 use Rattle.std.specs.FinMap as map
 use Rattle.std.specs.List.{AllByRecursion}
 use Rattle.std.specs.Ordering.{nat_cmp}
@@ -46,7 +46,7 @@ module _ {T : Type 0} where
 
 -- what they are for a clause
 abbrev pub naming_of : {T : Type 0} → Objects (Slot T) → Option Place → ℕ → Naming T
-naming_of objects vacant len = record { slots = objects.values; count = len; has_vacant = is_some vacant }
+naming_of objects vacant len = record { slots = objects.values; count = len; has_vacant = is_some vacant; is_full = leb (2 ^ 32) objects.next }
 
 -- WHAT SLOTS KEEP: the list has vacant slots that are not used up, a slot with a value is linked nowhere and not used up, and `len` is
 -- how many have one (`values`: by the index of their places)

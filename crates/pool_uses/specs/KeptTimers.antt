@@ -1,5 +1,5 @@
 -- What timers keep of their pool and of their tree.
-use Rattle.std.specs.Prelude.{◌≡◌, ℕ, Bool, true, false, leb, Option, Some, None, List}
+use Rattle.std.specs.Prelude.{◌≡◌, ℕ, ◌^◌, Bool, true, false, leb, Option, Some, None, List}
 use Rattle.std.specs.List.{filter_map}
 use Rattle.std.specs.Ordering.{nat_cmp}
 use Rattle.ic_unsafe_ref.specs.declared.place.Place.{Place}
@@ -10,7 +10,7 @@ use Rattle.ic_link_ops.specs.Tables.{IsLinked, IsUnlinked}
 use Rattle.ic_rbtree.specs.Borders.{IsSorted}
 use Rattle.ic_rbtree.specs.PlainTrees.{TreeLinkOps, is_linked, plain_table, PlainShows, members_of}
 use Rattle.pool_uses.specs.declared.timers.Timer.{Timer}
-use Rattle.pool_uses.specs.Timers.{Waiting, timer_of, deadlines}
+use Rattle.pool_uses.specs.Timers.{Waiting, Timetable, timer_of, deadlines}
 
 module _ {V : Type 0} where
   -- a timer's deadline
@@ -37,6 +37,10 @@ module _ {V A : Type 0} (objects : Objects (Timer V)) (links : TreeLinkOps A) (r
   -- those that wait, as the table shows the tree
   abbrev pub waiting_in : List (Waiting V)
   waiting_in = waiting_at objects (members_of links root)
+
+  -- what they are for a clause
+  abbrev pub timetable_of : Timetable V
+  timetable_of = record { waiting = waiting_in; is_full = leb (2 ^ 32) objects.next }
 
   -- WHAT TIMERS KEEP: the tree has all that is placed, by deadline, and nothing else is linked
   pub record IsKept : Type 0 where

@@ -7,11 +7,13 @@ use Rattle.ic_unsafe_ref.specs.Places.{index_of}
 use Rattle.pool_uses.specs.declared.slots.Handle.{Handle}
 use Rattle.pool_uses.specs.declared.slots.Slot.{Slot}
 
--- what stands in each slot, by the index of its place; how many handles name a value; and whether a slot is vacant
+-- what stands in each slot, by the index of its place; how many handles name a value; whether a slot is vacant, and whether there is no
+-- place left for another one
 pub record Naming (T : Type 0) : Type 0 where
   pub slots : map.FinMap nat_cmp (Slot T)
   pub count : ℕ
   pub has_vacant : Bool
+  pub is_full : Bool
 
 -- whether the handle is the last one of its slot, which has had 2^64 - 1 of them then
 abbrev pub is_last : Handle → Bool
@@ -24,8 +26,8 @@ slot_code {T} code =
 
 abbrev pub naming_code : {T : Type 0} → Coded T → Coded (Naming T)
 naming_code {T} code =
-    code_by (map.FinMap nat_cmp (Slot T) × (ℕ × Bool)) (coded× (map.code coded_ℕ (slot_code code)) (coded× coded_ℕ coded_bool))
-    (λ n. (n.slots, (n.count, n.has_vacant))) (λ p. record { slots = p.0; count = p.1.0; has_vacant = p.1.1 }) (λ _. refl)
+    code_by (map.FinMap nat_cmp (Slot T) × (ℕ × (Bool × Bool))) (coded× (map.code coded_ℕ (slot_code code)) (coded× coded_ℕ (coded× coded_bool coded_bool)))
+    (λ n. (n.slots, (n.count, (n.has_vacant, n.is_full)))) (λ p. record { slots = p.0; count = p.1.0; has_vacant = p.1.1.0; is_full = p.1.1.1 }) (λ _. refl)
 
 module _ {T : Type 0} where
   -- the value in a slot, if there is one and it is of that generation

@@ -1,6 +1,6 @@
 -- Timers: what waits, in the order in which it is due.
-use Rattle.std.specs.Prelude.{◌≡◌, ◌≢◌, ◌<◌, ◌≤◌, ℕ, List, ◌∷◌, ◌++◌, map, refl}
-use Rattle.std.specs.Coded.{Coded, code_by, coded×, coded_ℕ}
+use Rattle.std.specs.Prelude.{◌≡◌, ◌≢◌, ◌<◌, ◌≤◌, ℕ, Bool, List, ◌∷◌, ◌++◌, map, refl}
+use Rattle.std.specs.Coded.{Coded, code_by, coded×, coded_ℕ, coded_bool, coded_list}
 use Rattle.std.specs.List.{AllByRecursion}
 use Rattle.std.specs.Ordering.{nat_cmp}
 use Rattle.ic_unsafe_ref.specs.declared.place.Place.{Place}
@@ -22,6 +22,15 @@ abbrev pub waiting_code : {V : Type 0} → Coded V → Coded (Waiting V)
 waiting_code {V} code =
     code_by (Place × (ℕ × V)) (coded× place_code (coded× coded_ℕ code)) (λ w. (w.reference, (w.deadline, w.value)))
     (λ p. record { reference = p.0; deadline = p.1.0; value = p.1.1 }) (λ _. refl)
+
+-- those that wait, in the order in which they are due, and whether there is no place left for another one
+pub record Timetable (V : Type 0) : Type 0 where
+  pub waiting : List (Waiting V)
+  pub is_full : Bool
+
+abbrev pub timetable_code : {V : Type 0} → Coded V → Coded (Timetable V)
+timetable_code {V} code =
+    code_by (List (Waiting V) × Bool) (coded× (coded_list (waiting_code code)) coded_bool) (λ t. (t.waiting, t.is_full)) (λ p. record { waiting = p.0; is_full = p.1 }) (λ _. refl)
 
 module _ {V : Type 0} where
   -- the deadlines of those that wait

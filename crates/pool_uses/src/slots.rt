@@ -11,7 +11,7 @@
 ghost use Rattle.std.specs.Prelude.{◌≡◌, ◌+◌, ◌↔◌, true, IsTrue, IsOk, IfOk, IfErr, IfSome, IfNone, OnOk};
 ghost use Rattle.std.specs.Option.{option_copied};
 ghost use Rattle.ic_unsafe_ref.specs.Objects.{is_placed, object_at, with_object};
-ghost use Rattle.ic_pool.specs.Refusals.{value_of};
+ghost use Rattle.ic_pool.specs.Refusals.{lacks_place, value_of};
 ghost use Rattle.pool_uses.specs.KeptSlots.{IsTaken};
 ghost use Rattle.pool_uses.specs.Slots.{named};
 
@@ -39,8 +39,8 @@ pub(crate) struct Slot<T> {
 /// Values that are named by handles. A handle names one value, from its insert until it is removed, and no other one
 /// ever.
 ///
-/// A clause sees which value each handle names, whether it was given out before, how many handles name a value, and
-/// whether a vacant slot is left.
+/// A clause sees which value each handle names, whether it was given out before, how many handles name a value, whether
+/// a slot is vacant, and whether there is no place left for another one.
 #[derive(Drop)]
 pub struct Slots<T, A: Allocator = Global> {
     pool: Pool<Slot<T>, LinkOps<A>, A>,
@@ -137,15 +137,19 @@ impl<T: Drop, A: Allocator> Slots<T, A> {
     fn make_vacant(&mut self) -> Result<(), PlaceError<Slot<T>>>
         ensures vacant { OnOk result (self.new.has_vacant ≡ true) }
         ensures unchanged { IsUnchanged self.old self.new }
+        ensures refused { IfErr result (λ refused. lacks_place refused ≡ self.old.is_full) }
         ensures ready { self.old.has_vacant ≡ true → IsOk result }
     {
         if !self.vacant.is_empty() {
             return Ok(());
         }
-        let slot = self.pool.place(Slot {
+        let slot = match self.pool.place(Slot {
             generation: 0,
             value: None,
-        })?;
+        }) {
+            Ok(slot) => slot,
+            Err(refused) => return Err(refused),
+        };
         let _ = self.vacant.push_front(&mut self.pool.links, slot); // proved: a new object is not linked
         Ok(())
     }
@@ -153,11 +157,13 @@ impl<T: Drop, A: Allocator> Slots<T, A> {
     /// Puts the value into the slot that was vacated last, or into a new one, and answers its handle. O(1), and it
     /// takes memory only for a new slot.
     ///
-    /// The handle was never given out before. A refused value comes back, and nothing has changed; none is refused
-    /// while a slot is vacant.
+    /// The handle was never given out before. A refused value comes back, and nothing has changed: with `NoPlaceLeft`
+    /// exactly if no place is left, of 4,294,967,296, and else with `OutOfMemory`. None is refused while a slot is
+    /// vacant.
     pub fn insert(&mut self, value: T) -> Result<Handle, PlaceError<T>>
         ensures inserted { IfOk result (λ handle. Inserts handle value self.old self.new) }
-        ensures refused { IfErr result (λ refused. (value_of refused ≡ value) × IsUnchanged self.old self.new) }
+        ensures refused { IfErr result (λ refused. (value_of refused ≡ value) × IsUnchanged self.old self.new
+            × (lacks_place refused ≡ self.old.is_full)) }
         ensures ready { self.old.has_vacant ≡ true → IsOk result }
     {
         match self.make_vacant() {

@@ -7,7 +7,7 @@
 //! timers.take_due(now) // the first one with a deadline of at most `now`
 //! ```
 
-ghost use Rattle.std.specs.Prelude.{◌≡◌, ◌<◌, true, [], List, ⊤, OnSome, IfOk, IfErr, IfSome, IfNone};
+ghost use Rattle.std.specs.Prelude.{◌≡◌, ◌<◌, true, false, [], List, ⊤, OnSome, IfOk, IfErr, IfSome, IfNone};
 ghost use Rattle.std.specs.List.{AllByRecursion};
 ghost use Rattle.std.specs.Option.{option_copied};
 ghost use Rattle.std.specs.Ordering.{nat_cmp};
@@ -22,7 +22,7 @@ ghost use Rattle.ic_rbtree.specs.Comparing.{compared, own_order};
 ghost use Rattle.ic_rbtree.specs.Ordered.{InsertsInOrder};
 ghost use Rattle.ic_rbtree.specs.PlainTrees.{is_linked, plain_table, ShowsTree, PlainShows, PlainShowsSome};
 ghost use Rattle.ic_rbtree.specs.Tree.{root_of};
-ghost use Rattle.ic_pool.specs.Refusals.{value_of};
+ghost use Rattle.ic_pool.specs.Refusals.{lacks_place, value_of};
 ghost use Rattle.pool_uses.specs.KeptTimers.{deadline_of, is_due_then, is_due_at};
 
 use ic_link_ops::rbtree::LinkOps;
@@ -86,17 +86,15 @@ pub struct Timers<V, A: Allocator = Global> {
 }
 
 impl<V, A: Allocator> Model for Timers<V, A> {
-    ghost use Rattle.std.specs.Coded.{coded_list};
-    ghost use Rattle.std.specs.Prelude.{List};
-    ghost use Rattle.pool_uses.specs.Timers.{Waiting, waiting_code};
-    ghost use Rattle.pool_uses.specs.KeptTimers.{waiting_in, IsKept};
+    ghost use Rattle.pool_uses.specs.Timers.{Timetable, timetable_code};
+    ghost use Rattle.pool_uses.specs.KeptTimers.{timetable_of, IsKept};
     ghost use Rattle.ic_rbtree.specs.Tree.{root_of};
 
-    ghost Value = { List (Waiting V) };
+    ghost Value = { Timetable V };
 
-    ghost coded = { coded_list (waiting_code V.code) };
+    ghost coded = { timetable_code V.code };
 
-    ghost view = { λ t. waiting_in t.pool.objects t.pool.links (root_of t.queue) };
+    ghost view = { λ t. timetable_of t.pool.objects t.pool.links (root_of t.queue) };
 
     ghost invariant = { λ t. IsKept t.pool.objects t.pool.links (root_of t.queue) };
 }
@@ -160,7 +158,8 @@ impl<V, A: Allocator> Timers<V, A> {
     pub fn new(alloc: A) -> Timers<V, A>
     where
         A: Copy,
-        ensures { result ≡ [] }
+        ensures waiting { result.waiting ≡ [] }
+        ensures room { result.is_full ≡ false }
     {
         Timers {
             pool: Pool::new(alloc, LinkOps::new(alloc)),
@@ -170,11 +169,13 @@ impl<V, A: Allocator> Timers<V, A> {
 
     /// Adds a value, which waits then, also where its deadline has passed. O(log n).
     ///
-    /// The reference calls it off. Where it is refused the value comes back, and nothing has changed. At most two
-    /// requests for memory.
+    /// The reference calls it off. Where it is refused the value comes back, and nothing has changed: with
+    /// `NoPlaceLeft` exactly if no place is left, of 4,294,967,296, and else with `OutOfMemory`. At most two requests
+    /// for memory.
     pub fn add(&mut self, deadline: u64, value: V) -> Result<UnsafeRef<Timer<V>>, PlaceError<V>>
-        ensures added { IfOk result (λ timer. Adds (timer_of timer deadline value) self.old self.new) }
-        ensures refused { IfErr result (λ refused. (value_of refused ≡ value) × (self.new ≡ self.old)) }
+        ensures added { IfOk result (λ timer. Adds (timer_of timer deadline value) self.old.waiting self.new.waiting) }
+        ensures refused { IfErr result (λ refused. (value_of refused ≡ value) × (self.new ≡ self.old)
+            × (lacks_place refused ≡ self.old.is_full)) }
     {
         let timer = match self.pool.place(Timer { deadline, value }) {
             Ok(timer) => timer,
@@ -196,8 +197,8 @@ impl<V, A: Allocator> Timers<V, A> {
     ///
     /// The place of what has left is given again, so a reference that is kept longer may name another timer.
     pub fn cancel(&mut self, timer: &UnsafeRef<Timer<V>>) -> Option<(u64, V)>
-        ensures cancelled { IfSome result (λ answer. Cancels (timer_of timer.now answer.0 answer.1) self.old self.new) }
-        ensures none { IfNone result (NamesNone timer.now self.old × (self.new ≡ self.old)) }
+        ensures cancelled { IfSome result (λ answer. Cancels (timer_of timer.now answer.0 answer.1) self.old.waiting self.new.waiting) }
+        ensures none { IfNone result (NamesNone timer.now self.old.waiting × (self.new ≡ self.old)) }
     {
         if !self.pool.is_placed(timer) {
             return None;
@@ -209,8 +210,8 @@ impl<V, A: Allocator> Timers<V, A> {
 
     /// Takes the first one out, if its deadline is at most `now`, with that deadline. O(log n), and it takes no memory.
     pub fn take_due(&mut self, now: u64) -> Option<(u64, V)>
-        ensures taken { IfSome result (λ answer. TakesFirst now answer.0 answer.1 self.old self.new) }
-        ensures none { IfNone result (AllByRecursion (λ (timer : Waiting V). now < timer.deadline) self.old × (self.new ≡ self.old)) }
+        ensures taken { IfSome result (λ answer. TakesFirst now answer.0 answer.1 self.old.waiting self.new.waiting) }
+        ensures none { IfNone result (AllByRecursion (λ (timer : Waiting V). now < timer.deadline) self.old.waiting × (self.new ≡ self.old)) }
     {
         let timer = take_first(
             &mut self.queue,

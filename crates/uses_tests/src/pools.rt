@@ -1,9 +1,35 @@
 //! What stands over pools.
 
 use crate::fixtures::check;
-use ic_pool::PlaceError;
+use ic_link_ops::{linked_list, singly_linked_list};
+use ic_pool::{PlaceError, Pool};
 use pool_uses::{Slots, Timers};
 use test_support::rationed::Rationed;
+
+#[test]
+fn an_object_has_room_in_both_tables(rt: HostRuntime) {
+    let links = (
+        linked_list::LinkOps::new(rt.alloc()),
+        singly_linked_list::LinkOps::new(rt.alloc()),
+    );
+    let mut pool = Pool::new(rt.alloc(), links);
+    let is_so = match pool.place(10) {
+        Ok(object) => {
+            if let Some(value) = pool.get_mut(&object) {
+                *value = 20;
+            }
+            let is_twenty = matches!(pool.get(&object), Some(20));
+            let place = object.place();
+            if pool.links.0.is_linked(place) || pool.links.1.is_linked(place) {
+                false
+            } else {
+                is_twenty && pool.is_placed(&object) && pool.remove(object) == 20 && pool.len() == 0
+            }
+        }
+        Err(_) => false,
+    };
+    check(&rt, is_so);
+}
 
 #[test]
 fn an_old_handle_names_nothing(rt: HostRuntime) {

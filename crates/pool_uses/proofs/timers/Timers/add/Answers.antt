@@ -1,5 +1,6 @@
 use Rattle.std.proofs.Common.{is_some, ap}
 use Rattle.ic_unsafe_ref.proofs.Placing.{placed_there}
+use Rattle.ic_pool.proofs.Pooling.{lacks_exactly}
 use Rattle.pool_uses.proofs.KeepingTimers.{added, new_free, ready, same_grown, waiting_is}
 use Rattle.pool_uses.proofs.timers.Timers.add.Goals as goal
 
@@ -8,13 +9,15 @@ pub returns-in-Err-NoPlaceLeft-clause-refused : goal.returns-in-Err-NoPlaceLeft-
 returns-in-Err-NoPlaceLeft-clause-refused g c =
     let e = c.in-Err-NoPlaceLeft.ensures in
     let back = rw c.in-Err-NoPlaceLeft.field-0-is at e.refused in
-    rw (← c.self.view_is, back.1) (ap (λ timer. timer.value) back.0, same_grown c.self.invariant c.place.new.self.links e.keeps)
+    let full = rw c.in-Err-NoPlaceLeft.field-0-is at e.full in
+    rw (← c.self.view_is, back.1) (ap (λ timer. timer.value) back.0, same_grown c.self.invariant c.place.new.self.links e.keeps, lacks_exactly _ _ full back.0)
 
 pub returns-in-Err-OutOfMemory-clause-refused : goal.returns-in-Err-OutOfMemory-clause-refused
 returns-in-Err-OutOfMemory-clause-refused g c =
     let e = c.in-Err-OutOfMemory.ensures in
     let back = rw c.in-Err-OutOfMemory.field-0-is at e.refused in
-    rw (← c.self.view_is, back.1) (ap (λ timer. timer.value) back.0, same_grown c.self.invariant c.place.new.self.links e.keeps)
+    let full = rw c.in-Err-OutOfMemory.field-0-is at e.full in
+    rw (← c.self.view_is, back.1) (ap (λ timer. timer.value) back.0, same_grown c.self.invariant c.place.new.self.links e.keeps, lacks_exactly _ _ full back.0)
 
 -- it is placed
 pub put-requires-clause-placed : goal.put-requires-clause-placed
