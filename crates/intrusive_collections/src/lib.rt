@@ -3,6 +3,7 @@
 //! | Module | What it has |
 //! |---|---|
 //! | `unsafe_ref` | objects by place, and references to them |
+//! | `pool` | objects with the tables of their links: `Pool`, which makes room before it places |
 //! | `link_ops` | tables of links, and what collections ask of them |
 //! | `linked_list` | the doubly linked list |
 //! | `singly_linked_list` | the singly linked list |
@@ -28,6 +29,8 @@ pub use ic_link_ops::rbtree::Link as RBTreeLink;
 pub use ic_link_ops::singly_linked_list::Link as SinglyLinkedListLink;
 pub use ic_link_ops::xor_linked_list::Link as XorLinkedListLink;
 pub use ic_linked_list::LinkedList;
+pub use ic_pool as pool;
+pub use ic_pool::{PlaceError, Pool, Tables};
 pub use ic_rbtree::key_adapter::{Bound, KeyAdapter};
 pub use ic_rbtree::{RBTree, key_adapter, rbtree_keys};
 pub use ic_singly_linked_list::SinglyLinkedList;

@@ -4,14 +4,12 @@
 //! let (seen, taken, left) = first_objects(rt.alloc(), 10, 20)?; // [10, 20], 10, Some(20)
 //! ```
 
-ghost use Rattle.std.specs.Prelude.{◌≡◌, ◌↔◌, ◌∷◌, [], Some, IfOk};
-ghost use Rattle.ic_link_ops.specs.declared.errors.CoverError.TheVariants.{TooManyPlaces};
+ghost use Rattle.std.specs.Prelude.{◌≡◌, ◌↔◌, ◌∷◌, [], true, Some, IfOk};
 ghost use Rattle.uses.specs.declared.first_objects.ObjectsError.TheVariants.{OutOfMemory, NoPlaceLeft};
 
-use ic_link_ops::CoverError;
 use ic_link_ops::linked_list::LinkOps;
 use ic_linked_list::LinkedList;
-use ic_unsafe_ref::{Objects, UnsafeRef};
+use ic_pool::{PlaceError, Pool};
 use std::alloc::{AllocError, Allocator};
 use thiserror::Error;
 
@@ -34,21 +32,15 @@ impl From<AllocError> for ObjectsError {
     }
 }
 
-impl<T: Drop> From<(AllocError, T)> for ObjectsError {
-    ghost from_gives = { λ _ e. e ≡ OutOfMemory };
+impl<T: Drop> From<PlaceError<T>> for ObjectsError {
+    ghost use Rattle.ic_pool.specs.Refusals.{lacks_place};
 
-    fn from(_: (AllocError, T)) -> ObjectsError {
-        ObjectsError::OutOfMemory
-    }
-}
+    ghost from_gives = { λ refused e. (lacks_place refused ≡ true) ↔ (e ≡ NoPlaceLeft) };
 
-impl From<CoverError> for ObjectsError {
-    ghost from_gives = { λ refused e. (refused ≡ TooManyPlaces) ↔ (e ≡ NoPlaceLeft) };
-
-    fn from(refused: CoverError) -> ObjectsError {
+    fn from(refused: PlaceError<T>) -> ObjectsError {
         match refused {
-            CoverError::TooManyPlaces => ObjectsError::NoPlaceLeft,
-            CoverError::OutOfMemory => ObjectsError::OutOfMemory,
+            PlaceError::NoPlaceLeft(_) => ObjectsError::NoPlaceLeft,
+            PlaceError::OutOfMemory(_) => ObjectsError::OutOfMemory,
         }
     }
 }
@@ -68,18 +60,18 @@ pub fn first_objects<A: Allocator + Copy>(
     ensures taken { IfOk result (λ found. found.1 ≡ first) }
     ensures left { IfOk result (λ found. found.2 ≡ Some second) }
 {
-    let mut objects = Objects::new(alloc);
-    let mut links = LinkOps::new(alloc);
+    let mut pool = Pool::new(alloc, LinkOps::new(alloc));
     let mut list = LinkedList::new();
     for value in [first, second] {
-        let place = objects.next_place().ok_or(ObjectsError::NoPlaceLeft)?; // where it will stand
-        links.cover(place.index() + 1)?; // room for its link
-        let object = UnsafeRef::from_box(&mut objects, value)?;
-        list.push_back(&mut links, object).unwrap(); // proved: a new object is not linked
+        let object = pool.place(value)?; // with room for its link
+        list.push_back(&mut pool.links, object).unwrap(); // proved: a new object is not linked
     }
-    let seen = list.iter(&links, &objects).copied().collect(alloc)?;
-    let oldest = list.pop_front(&mut links).unwrap(); // proved: there is one
-    let taken = oldest.into_box(&mut objects);
-    let left = list.front(&links).get(&objects).copied();
+    let seen = list
+        .iter(&pool.links, &pool.objects)
+        .copied()
+        .collect(alloc)?;
+    let oldest = list.pop_front(&mut pool.links).unwrap(); // proved: there is one
+    let taken = pool.remove(oldest);
+    let left = list.front(&pool.links).get(&pool.objects).copied();
     Ok((seen, taken, left))
 }

@@ -8,6 +8,8 @@ mod keyed;
 #[cfg(test)]
 mod lists;
 #[cfg(test)]
+mod pools;
+#[cfg(test)]
 mod threads;
 #[cfg(test)]
 mod trees;

@@ -1,0 +1,13 @@
+-- What a pool ends as, where a `&mut` to one of its objects is returned.
+use Rattle.std.specs.Prelude.{Option}
+use Rattle.std.specs.Borrow.{LendsIf, Fml, RattleType, MutBor}
+use Rattle.std.specs.declared.alloc.Allocator.{Ghosts}
+use Rattle.ic_unsafe_ref.specs.declared.place.Place.{Place}
+use Rattle.ic_unsafe_ref.specs.Objects.{with_object}
+use Rattle.ic_pool.specs.declared.pool.Pool.{Pool}
+use Rattle.ic_pool.specs.contracts.pool.Pool.{the_row}
+
+-- once the borrow r ends, the last value written through r stands at p; at `None` the pool stays as it is
+module _ (T L A : RattleType) (alloc : Ghosts A.Denot) (s : MutBor (Pool T.Denot L.Denot A.Denot)) (p : Place) where
+  abbrev pub LendsPooled : Option (MutBor T.Denot) → Fml
+  LendsPooled r = LendsIf (the_row T L A alloc) T s r (λ v. record s.now { objects = with_object s.now.objects p v }) s.now

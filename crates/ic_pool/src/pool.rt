@@ -1,0 +1,123 @@
+//! The pool.
+//!
+//! ```text
+//! let object = pool.place(10)?;
+//! pool.get(&object) // Some(&10)
+//! pool.remove(object) // 10: it is linked in no table
+//! ```
+
+ghost use Rattle.std.specs.Prelude.{◌≡◌, ◌≤◌, ◌↔◌, ◌^◌, true, None, Some, Err, IfOk, IfErr};
+ghost use Rattle.std.specs.FinMap as map;
+ghost use Rattle.std.specs.Option.{option_copied};
+ghost use Rattle.ic_unsafe_ref.specs.declared.place.Place.{Place};
+ghost use Rattle.ic_unsafe_ref.specs.Objects.{Frees, Places, is_placed, object_at};
+ghost use Rattle.ic_pool.specs.Refusals.{value_of};
+
+use crate::{PlaceError, Tables};
+use ic_link_ops::CoverError;
+use ic_unsafe_ref::{Objects, UnsafeRef};
+use std::alloc::{Allocator, Global};
+
+/// Objects with the tables of their links.
+///
+/// Both fields are public, since a call of a collection borrows a table, or a table and the objects:
+/// `list.push_back(&mut pool.links, ..)`, `tree.insert(&mut pool.links.0, &pool.objects, ..)`. A loop keeps `IsPooled`
+/// of them (specs/Pooled.antt).
+#[derive(Drop)]
+pub struct Pool<T, L, A: Allocator = Global> {
+    /// The objects, each at its place.
+    pub objects: Objects<T, A>,
+    /// The table of their links, or a pair of tables.
+    pub links: L,
+}
+
+impl<T, L: Tables, A: Allocator> Pool<T, L, A> {
+    ghost use Rattle.std.specs.Borrow.{sem};
+    ghost use Rattle.std.specs.Option.{option_copied_mut};
+    ghost use Rattle.ic_pool.specs.Lends.{LendsPooled};
+
+    /// A pool of no objects, with these tables. It takes no memory.
+    pub fn new(alloc: A, links: L) -> Pool<T, L, A>
+        ensures empty { result.objects.values ≡ map.empty }
+        ensures vacant { (place : Place) → object_at result.objects place ≡ None }
+        ensures first { result.objects.next ≡ 0 }
+        ensures links { result.links ≡ links }
+    {
+        Pool {
+            objects: Objects::new(alloc),
+            links,
+        }
+    }
+
+    /// Places `value`, and makes room for its links first. O(1), and it takes memory only where a table or the objects
+    /// grow.
+    ///
+    /// Where it is refused the value comes back, and no object and no link has changed: with `NoPlaceLeft` exactly if
+    /// no place is left, of 4,294,967,296, and else with `OutOfMemory`.
+    pub fn place(&mut self, value: T) -> Result<UnsafeRef<T>, PlaceError<T>>
+        ensures placed { IfOk result (λ object. Places self.old.objects self.new.objects object value) }
+        ensures covered { IfOk result (λ object. L.Covers self.new.links object) }
+        ensures keeps { L.Keeps self.old.links self.new.links }
+        ensures refused { IfErr result (λ refused. (value_of refused ≡ value) × (self.new.objects ≡ self.old.objects)) }
+        ensures full { (result ≡ Err (PlaceError.NoPlaceLeft value)) ↔ 2 ^ 32 ≤ self.old.objects.next }
+    {
+        let Some(place) = self.objects.next_place() else {
+            return Err(PlaceError::NoPlaceLeft(value));
+        };
+        let Ok(()) = self.links.cover(place.index() + 1) else {
+            return Err(PlaceError::OutOfMemory(value));
+        };
+        match UnsafeRef::from_box(&mut self.objects, value) {
+            Ok(object) => Ok(object),
+            Err(refused) => Err(PlaceError::OutOfMemory(refused.1)),
+        }
+    }
+
+    /// Takes the object out. Its place is vacant then, and may be given again. O(1), and it takes no memory.
+    ///
+    /// It requires that the object is placed, and linked in no table.
+    pub fn remove(&mut self, object: UnsafeRef<T>) -> T
+        requires placed { is_placed self.old.objects object ≡ true }
+        requires free { L.IsFree self.old.links object }
+        ensures value { object_at self.old.objects object ≡ Some result }
+        ensures freed { Frees self.old.objects self.new.objects object }
+        ensures links { self.new.links ≡ self.old.links }
+    {
+        object.into_box(&mut self.objects)
+    }
+
+    /// The object, if one stands at its place. O(1).
+    #[inline]
+    pub fn get(&self, object: &UnsafeRef<T>) -> Option<&T>
+        ensures { option_copied result ≡ object_at self.now.objects object.now }
+    {
+        self.objects.get(object.place())
+    }
+
+    /// The object to be changed, if one stands at its place. O(1).
+    ///
+    /// What is left behind the reference when it ends stands there then, and nothing else has changed.
+    #[inline]
+    pub fn get_mut(&mut self, object: &UnsafeRef<T>) -> Option<&mut T>
+        ensures* writes_back { sem 𝓛 (LendsPooled T.row L.row A.row A.Allocator self.entry object.now result) }
+        ensures value { option_copied_mut result ≡ object_at self.old.objects object.now }
+    {
+        self.objects.get_mut(object.place())
+    }
+
+    /// Whether an object stands at its place. O(1).
+    #[inline]
+    pub fn is_placed(&self, object: &UnsafeRef<T>) -> bool
+        ensures { result ≡ is_placed self.now.objects object.now }
+    {
+        self.objects.is_placed(object.place())
+    }
+
+    /// How many objects there are.
+    #[inline]
+    pub fn len(&self) -> usize
+        ensures { result ≡ map.len self.now.objects.values }
+    {
+        self.objects.len()
+    }
+}

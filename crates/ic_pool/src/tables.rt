@@ -1,0 +1,84 @@
+//! Tables that cover the same places: one, or a pair of them.
+//!
+//! ```text
+//! let mut links = (linked_list::LinkOps::new(rt.alloc()), rbtree::LinkOps::new(rt.alloc()));
+//! Tables::cover(&mut links, 1000)?; // both
+//! ```
+
+ghost use Rattle.std.specs.Prelude.{◌≡◌, ◌<◌, ◌↔◌, OnOk, Err};
+ghost use Rattle.ic_unsafe_ref.specs.declared.place.Place.{Place};
+ghost use Rattle.ic_unsafe_ref.specs.Places.{index_of};
+
+use ic_link_ops::{CoverError, PlainTable, Words};
+use std::alloc::Allocator;
+
+/// Tables of links that grow together: a plain table, or a pair of such tables.
+pub trait Tables {
+    // THE PLACE HAS ROOM for its link in each table.
+    ghost Covers: { Self → Place → Type 0 };
+
+    // THE PLACE IS LINKED in none of them.
+    ghost IsFree: { Self → Place → Type 0 };
+
+    // EACH ENTRY STAYS as it was, and what was covered is covered. The tables may have grown.
+    ghost Keeps: { Self → Self → Type 0 };
+
+    /// Covers the first `count` places in each table.
+    ///
+    /// It is refused above 4,294,967,296 places, and where no memory is found. Then the first of two tables may have
+    /// grown. Each link stays as it was. At most one request for memory a table.
+    fn cover(&mut self, count: usize) -> Result<(), CoverError>
+        ensures too_many { (result ≡ Err CoverError.TooManyPlaces) ↔ 4294967296 < count }
+        ensures covers { OnOk result ((place : Place) → index_of place < count → Covers self.new place) }
+        ensures keeps { Keeps self.old self.new };
+
+    // The laws: what is kept has its room, and is as free as it was; tables that stay are kept.
+    ghost keeps_room: { (old new : Self) (place : Place) → Keeps old new → Covers old place → Covers new place };
+
+    ghost keeps_free: { (old new : Self) (place : Place) → Keeps old new → IsFree old place → IsFree new place };
+
+    ghost keeps_itself: { (tables : Self) → Keeps tables tables };
+}
+
+impl<W: Words, A: Allocator> Tables for PlainTable<W, A> {
+    ghost use Rattle.ic_link_ops.specs.Tables.{IsCovered, IsUnlinked};
+    ghost use Rattle.ic_link_ops.specs.PlainTables.{table, linked_by};
+    ghost use Rattle.ic_pool.specs.Pooled.{Grows, grows_room, grows_free, grows_itself};
+
+    ghost Covers = { λ t place. IsCovered (table W.unlinked t) place };
+
+    ghost IsFree = { λ t place. IsUnlinked (linked_by W.is_linked) (table W.unlinked t) place };
+
+    ghost Keeps = { λ old new. Grows (table W.unlinked old) (table W.unlinked new) };
+
+    #[inline]
+    fn cover(&mut self, count: usize) -> Result<(), CoverError> {
+        PlainTable::cover(self, count)
+    }
+
+    ghost keeps_room = { λ old new place grows covered. grows_room grows place covered };
+
+    ghost keeps_free = { λ old new place grows free. grows_free (linked_by W.is_linked) grows place free };
+
+    ghost keeps_itself = { λ tables. grows_itself (table W.unlinked tables) };
+}
+
+/// Two tables, or pairs of tables: an object has a link in each.
+impl<L: Tables, M: Tables> Tables for (L, M) {
+    ghost Covers = { λ t place. L.Covers t.0 place × M.Covers t.1 place };
+
+    ghost IsFree = { λ t place. L.IsFree t.0 place × M.IsFree t.1 place };
+
+    ghost Keeps = { λ old new. L.Keeps old.0 new.0 × M.Keeps old.1 new.1 };
+
+    fn cover(&mut self, count: usize) -> Result<(), CoverError> {
+        self.0.cover(count)?;
+        self.1.cover(count)
+    }
+
+    ghost keeps_room = { λ old new place keeps covers. (L.keeps_room old.0 new.0 place keeps.0 covers.0, M.keeps_room old.1 new.1 place keeps.1 covers.1) };
+
+    ghost keeps_free = { λ old new place keeps free. (L.keeps_free old.0 new.0 place keeps.0 free.0, M.keeps_free old.1 new.1 place keeps.1 free.1) };
+
+    ghost keeps_itself = { λ tables. (L.keeps_itself tables.0, M.keeps_itself tables.1) };
+}

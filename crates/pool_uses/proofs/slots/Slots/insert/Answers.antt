@@ -1,0 +1,25 @@
+use Rattle.std.proofs.Common.{arith, sym, ◌∙◌}
+use Rattle.pool_uses.proofs.KeepingSlots.{count_within, filled, filled_handle, inserts_after}
+use Rattle.pool_uses.proofs.slots.Slots.insert.Goals as goal
+
+pub prove-unreachable-requires : goal.prove-unreachable-requires
+prove-unreachable-requires g c =
+    let k = c.self.invariant in
+    let pop = c.pop_front.ensures in
+    let kept = filled k c.pop_front.new.links c.pop_front.new.self c.args.value (sym c.unwrap-slot.ensures ∙ pop.answer k.members k.shown) pop.removed (rw c.unwrap-slot.ensures at pop.released) (pop.frame k.members k.shown).extent c.fill-generation.ensures.filled in
+    omega (arith, count_within kept, c.len.ensures, c.if-prove.true)
+
+pub invariant_of-self : goal.invariant_of-self
+invariant_of-self g c =
+    let k = c.self.invariant in
+    let pop = c.pop_front.ensures in
+    rw c.fill-generation.ensures.links
+    (filled k c.pop_front.new.links c.pop_front.new.self c.args.value (sym c.unwrap-slot.ensures ∙ pop.answer k.members k.shown) pop.removed (rw c.unwrap-slot.ensures at pop.released) (pop.frame k.members k.shown).extent c.fill-generation.ensures.filled)
+
+pub returns-clause-inserted : goal.returns-clause-inserted
+returns-clause-inserted g c =
+    let k = c.self.invariant in
+    let pop = c.pop_front.ensures in
+    rw c.place.ensures
+    (inserts_after c.in-Ok.ensures.unchanged (rw (← c.self.view_is)
+    (filled_handle k c.pop_front.new.links c.pop_front.new.self c.args.value (sym c.unwrap-slot.ensures ∙ pop.answer k.members k.shown) pop.removed (rw c.unwrap-slot.ensures at pop.released) (pop.frame k.members k.shown).extent c.fill-generation.ensures.filled)))

@@ -1,0 +1,4 @@
+pub mod Slots
+pub mod KeptSlots
+pub mod Timers
+pub mod KeptTimers

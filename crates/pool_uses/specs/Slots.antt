@@ -1,0 +1,77 @@
+-- Slots: which value each handle names.
+use Rattle.std.specs.Prelude.{◌≡◌, ◌≢◌, ◌+◌, ℕ, Bool, true, false, cond, eqb, leb, Option, Some, None, is_some, refl}
+use Rattle.std.specs.Coded.{Coded, code_by, coded×, coded_ℕ, coded_bool, coded_option}
+use Rattle.std.specs.FinMap as map
+use Rattle.std.specs.Ordering.{nat_cmp}
+use Rattle.ic_unsafe_ref.specs.Places.{index_of}
+use Rattle.pool_uses.specs.declared.slots.Handle.{Handle}
+use Rattle.pool_uses.specs.declared.slots.Slot.{Slot}
+
+-- what stands in each slot, by the index of its place; how many handles name a value; whether a slot is vacant, and whether there is no
+-- place left for another one
+pub record Naming (T : Type 0) : Type 0 where
+  pub slots : map.FinMap nat_cmp (Slot T)
+  pub count : ℕ
+  pub has_vacant : Bool
+  pub is_full : Bool
+
+-- whether the handle is the last one of its slot, which has had 2^64 - 1 of them then
+abbrev pub is_last : Handle → Bool
+is_last h = eqb (h.generation + 1) 18446744073709551615
+
+-- a slot is stored as the pair of its fields, and so are they all
+abbrev pub slot_code : {T : Type 0} → Coded T → Coded (Slot T)
+slot_code {T} code =
+    code_by (ℕ × Option T) (coded× coded_ℕ (coded_option code)) (λ s. (s.generation, s.value)) (λ p. record { generation = p.0; value = p.1 }) (λ _. refl)
+
+abbrev pub naming_code : {T : Type 0} → Coded T → Coded (Naming T)
+naming_code {T} code =
+    code_by (map.FinMap nat_cmp (Slot T) × (ℕ × (Bool × Bool))) (coded× (map.code coded_ℕ (slot_code code)) (coded× coded_ℕ (coded× coded_bool coded_bool)))
+    (λ n. (n.slots, (n.count, (n.has_vacant, n.is_full)))) (λ p. record { slots = p.0; count = p.1.0; has_vacant = p.1.1.0; is_full = p.1.1.1 }) (λ _. refl)
+
+module _ {T : Type 0} where
+  -- the value in a slot, if there is one and it is of that generation
+  abbrev pub named_in : Option (Slot T) → ℕ → Option T
+  named_in None g = None
+  named_in (Some slot) g = cond (eqb slot.generation g) slot.value None
+
+  -- whether a handle of that generation was given out: it is that of the value, or an earlier one
+  abbrev pub given_in : Option (Slot T) → ℕ → Bool
+  given_in None g = false
+  given_in (Some slot) g = cond (eqb slot.generation g) (is_some slot.value) (leb (g + 1) slot.generation)
+
+  -- WHAT THE HANDLE NAMES, and whether it was ever given out
+  abbrev pub named : Naming T → Handle → Option T
+  named slots h = named_in (map.get slots.slots (index_of h.place)) h.generation
+
+  abbrev pub is_given : Naming T → Handle → Bool
+  is_given slots h = given_in (map.get slots.slots (index_of h.place)) h.generation
+
+  -- NOTHING IS NAMED, and no handle was given out
+  pub record NamesNothing (slots : Naming T) : Type 0 where
+    pub names : (h : Handle) → named slots h ≡ None
+    pub given : (h : Handle) → is_given slots h ≡ false
+    pub count : slots.count ≡ 0
+
+  -- NO HANDLE HAS CHANGED its meaning
+  pub record IsUnchanged (old new : Naming T) : Type 0 where
+    pub names : (h : Handle) → named new h ≡ named old h
+    pub given : (h : Handle) → is_given new h ≡ is_given old h
+    pub count : new.count ≡ old.count
+
+  -- THE HANDLE IS NEW: it was never given out, and names the value now. All others name what they named
+  pub record Inserts (handle : Handle) (value : T) (old new : Naming T) : Type 0 where
+    pub never : is_given old handle ≡ false
+    pub nothing : named old handle ≡ None
+    pub names : named new handle ≡ Some value
+    pub given : is_given new handle ≡ true
+    pub others : (h : Handle) → h ≢ handle → (named new h ≡ named old h) × (is_given new h ≡ is_given old h)
+    pub count : new.count ≡ old.count + 1
+
+  -- THE HANDLE IS OLD: it was given out, and names nothing now. All others name what they named, and its slot is vacant
+  pub record Removes (handle : Handle) (old new : Naming T) : Type 0 where
+    pub given : is_given new handle ≡ true
+    pub nothing : named new handle ≡ None
+    pub others : (h : Handle) → h ≢ handle → (named new h ≡ named old h) × (is_given new h ≡ is_given old h)
+    pub count : old.count ≡ new.count + 1
+    pub vacant : is_last handle ≡ false → new.has_vacant ≡ true

@@ -1,0 +1,65 @@
+-- Timers: what waits, in the order in which it is due.
+use Rattle.std.specs.Prelude.{◌≡◌, ◌≢◌, ◌<◌, ◌≤◌, ℕ, Bool, List, ◌∷◌, ◌++◌, map, refl}
+use Rattle.std.specs.Coded.{Coded, code_by, coded×, coded_ℕ, coded_bool, coded_list}
+use Rattle.std.specs.List.{AllByRecursion}
+use Rattle.std.specs.Ordering.{nat_cmp}
+use Rattle.ic_unsafe_ref.specs.declared.place.Place.{Place}
+use Rattle.ic_unsafe_ref.specs.Places.{place_code}
+use Rattle.ic_rbtree.specs.Borders.{IsSorted}
+
+-- a value that waits, its deadline, and the reference by which it is called off
+pub record Waiting (V : Type 0) : Type 0 where
+  pub reference : Place
+  pub deadline : ℕ
+  pub value : V
+
+-- one with this reference, this deadline and this value
+abbrev pub timer_of : {V : Type 0} → Place → ℕ → V → Waiting V
+timer_of reference deadline value = record { reference = reference; deadline = deadline; value = value }
+
+-- it is stored as the tuple of its fields
+abbrev pub waiting_code : {V : Type 0} → Coded V → Coded (Waiting V)
+waiting_code {V} code =
+    code_by (Place × (ℕ × V)) (coded× place_code (coded× coded_ℕ code)) (λ w. (w.reference, (w.deadline, w.value)))
+    (λ p. record { reference = p.0; deadline = p.1.0; value = p.1.1 }) (λ _. refl)
+
+-- those that wait, in the order in which they are due, and whether there is no place left for another one
+pub record Timetable (V : Type 0) : Type 0 where
+  pub waiting : List (Waiting V)
+  pub is_full : Bool
+
+abbrev pub timetable_code : {V : Type 0} → Coded V → Coded (Timetable V)
+timetable_code {V} code =
+    code_by (List (Waiting V) × Bool) (coded× (coded_list (waiting_code code)) coded_bool) (λ t. (t.waiting, t.is_full)) (λ p. record { waiting = p.0; is_full = p.1 }) (λ _. refl)
+
+module _ {V : Type 0} where
+  -- the deadlines of those that wait
+  abbrev pub deadlines : List (Waiting V) → List ℕ
+  deadlines waiting = map (λ (w : Waiting V). w.deadline) waiting
+
+  -- none of them has this reference
+  abbrev pub NamesNone : Place → List (Waiting V) → Type 0
+  NamesNone reference waiting = AllByRecursion (λ (w : Waiting V). reference ≢ w.reference) waiting
+
+  -- ONE MORE WAITS, behind all with its deadline or an earlier one. None had its reference, and the deadlines never fall
+  pub record Adds (timer : Waiting V) (old new : List (Waiting V)) : Type 0 where
+    pub front : List (Waiting V)
+    pub back : List (Waiting V)
+    pub was : old ≡ front ++ back
+    pub is : new ≡ front ++ timer ∷ back
+    pub later : AllByRecursion (λ (w : Waiting V). timer.deadline < w.deadline) back
+    pub rises : IsSorted nat_cmp (deadlines new)
+    pub fresh : NamesNone timer.reference old
+
+  -- ONE IS CALLED OFF, and all others wait in their order
+  pub record Cancels (timer : Waiting V) (old new : List (Waiting V)) : Type 0 where
+    pub front : List (Waiting V)
+    pub back : List (Waiting V)
+    pub was : old ≡ front ++ timer ∷ back
+    pub is : new ≡ front ++ back
+
+  -- THE FIRST IS TAKEN: it is due, and has this deadline and this value
+  pub record TakesFirst (now deadline : ℕ) (value : V) (old new : List (Waiting V)) : Type 0 where
+    pub reference : Place
+    pub first : old ≡ timer_of reference deadline value ∷ new
+    pub due : deadline ≤ now

@@ -1,0 +1,203 @@
+//! Slots: values that are named by handles, where an old handle names nothing.
+//!
+//! ```text
+//! let mut slots = Slots::new(rt.alloc());
+//! let first = slots.insert(10)?;
+//! slots.remove(first); // Some(10)
+//! let second = slots.insert(20)?; // in the same slot
+//! slots.get(first) // None: its generation is over
+//! ```
+
+ghost use Rattle.std.specs.Prelude.{◌≡◌, ◌+◌, ◌↔◌, true, IsTrue, IsOk, IfOk, IfErr, IfSome, IfNone, OnOk};
+ghost use Rattle.std.specs.Option.{option_copied};
+ghost use Rattle.ic_unsafe_ref.specs.Objects.{is_placed, object_at, with_object};
+ghost use Rattle.ic_pool.specs.Refusals.{lacks_place, value_of};
+ghost use Rattle.pool_uses.specs.KeptSlots.{IsTaken};
+ghost use Rattle.pool_uses.specs.Slots.{named};
+
+use ic_link_ops::singly_linked_list::LinkOps;
+use ic_pool::{PlaceError, Pool};
+use ic_singly_linked_list::SinglyLinkedList;
+use ic_unsafe_ref::{Place, UnsafeRef};
+use std::alloc::{Allocator, Global};
+use std::marker::Model;
+
+/// Names a value of [`Slots`]: a place, and which of the values that stand there one after the other.
+#[derive(Clone, Copy, PartialEq, Eq)]
+pub struct Handle {
+    place: Place,
+    generation: u64,
+}
+
+// What stands at a place: the value with its generation, or no value with the generation of the next one.
+#[derive(Drop)]
+pub(crate) struct Slot<T> {
+    pub(crate) generation: u64,
+    pub(crate) value: Option<T>,
+}
+
+/// Values that are named by handles. A handle names one value, from its insert until it is removed, and no other one
+/// ever.
+///
+/// A clause sees which value each handle names, whether it was given out before, how many handles name a value, whether
+/// a slot is vacant, and whether there is no place left for another one.
+#[derive(Drop)]
+pub struct Slots<T, A: Allocator = Global> {
+    pool: Pool<Slot<T>, LinkOps<A>, A>,
+    vacant: SinglyLinkedList<Slot<T>>,
+    len: usize,
+}
+
+impl<T, A: Allocator> Model for Slots<T, A> {
+    ghost use Rattle.pool_uses.specs.Slots.{Naming, naming_code};
+    ghost use Rattle.pool_uses.specs.KeptSlots.{naming_of, IsKept};
+
+    ghost Value = { Naming T };
+
+    ghost coded = { naming_code T.code };
+
+    ghost view = { λ s. naming_of s.pool.objects s.vacant s.len };
+
+    ghost invariant = { λ s. IsKept s.pool.objects s.pool.links s.vacant s.len };
+}
+
+// Fills a slot with a value, and answers the generation of it.
+fn fill<T: Drop, A: Allocator>(
+    pool: &mut Pool<Slot<T>, LinkOps<A>, A>,
+    slot: &UnsafeRef<Slot<T>>,
+    value: T,
+) -> u64
+    requires placed { is_placed pool.old.objects slot.now ≡ true }
+    ensures filled { (s : Slot T) → object_at pool.old.objects slot.now ≡ Some s → (result ≡ s.generation)
+        × (pool.new.objects ≡ with_object pool.old.objects slot.now (record s { value = Some value })) }
+    ensures links { pool.new.links ≡ pool.old.links }
+{
+    let slot = pool.get_mut(slot).unwrap();
+    slot.value = Some(value);
+    slot.generation
+}
+
+// Takes the value out of a slot. Its generation is over then.
+fn empty<T, A: Allocator>(pool: &mut Pool<Slot<T>, LinkOps<A>, A>, slot: &UnsafeRef<Slot<T>>) -> T
+    requires taken { IsTaken (object_at pool.old.objects slot.now) }
+    ensures emptied { (s : Slot T) → object_at pool.old.objects slot.now ≡ Some s → (s.value ≡ Some result)
+        × (pool.new.objects ≡ with_object pool.old.objects slot.now (record { generation = s.generation + 1; value = None })) }
+    ensures links { pool.new.links ≡ pool.old.links }
+{
+    let slot = pool.get_mut(slot).unwrap();
+    slot.generation += 1;
+    slot.value.take().unwrap()
+}
+
+impl<T: Drop, A: Allocator> Slots<T, A> {
+    ghost use Rattle.pool_uses.specs.Slots.{NamesNothing, IsUnchanged, Inserts, Removes};
+
+    /// No value, and no handle. It takes no memory.
+    pub fn new(alloc: A) -> Slots<T, A>
+    where
+        A: Copy,
+        ensures { NamesNothing result }
+    {
+        Slots {
+            pool: Pool::new(alloc, LinkOps::new(alloc)),
+            vacant: SinglyLinkedList::new(),
+            len: 0,
+        }
+    }
+
+    /// How many handles name a value.
+    #[inline]
+    pub fn len(&self) -> usize
+        ensures { result ≡ self.now.count }
+    {
+        self.len
+    }
+
+    /// Whether no handle names a value.
+    #[inline]
+    pub fn is_empty(&self) -> bool
+        ensures { IsTrue result ↔ (self.now.count ≡ 0) }
+    {
+        self.len == 0
+    }
+
+    /// The value that the handle names: `None` for an old one, whoever has its slot now. O(1).
+    pub fn get(&self, handle: Handle) -> Option<&T>
+        ensures { option_copied result ≡ named self.now handle }
+    {
+        let slot = self.pool.objects.get(handle.place)?;
+        if slot.generation == handle.generation {
+            slot.value.as_ref()
+        } else {
+            None
+        }
+    }
+
+    // Sees that a slot is vacant: places a new one where none is.
+    fn make_vacant(&mut self) -> Result<(), PlaceError<Slot<T>>>
+        ensures vacant { OnOk result (self.new.has_vacant ≡ true) }
+        ensures unchanged { IsUnchanged self.old self.new }
+        ensures refused { IfErr result (λ refused. lacks_place refused ≡ self.old.is_full) }
+        ensures ready { self.old.has_vacant ≡ true → IsOk result }
+    {
+        if !self.vacant.is_empty() {
+            return Ok(());
+        }
+        let slot = match self.pool.place(Slot {
+            generation: 0,
+            value: None,
+        }) {
+            Ok(slot) => slot,
+            Err(refused) => return Err(refused),
+        };
+        let _ = self.vacant.push_front(&mut self.pool.links, slot); // proved: a new object is not linked
+        Ok(())
+    }
+
+    /// Puts the value into the slot that was vacated last, or into a new one, and answers its handle. O(1), and it
+    /// takes memory only for a new slot.
+    ///
+    /// The handle was never given out before. A refused value comes back, and nothing has changed: with `NoPlaceLeft`
+    /// exactly if no place is left, of 4,294,967,296, and else with `OutOfMemory`. None is refused while a slot is
+    /// vacant.
+    pub fn insert(&mut self, value: T) -> Result<Handle, PlaceError<T>>
+        ensures inserted { IfOk result (λ handle. Inserts handle value self.old self.new) }
+        ensures refused { IfErr result (λ refused. (value_of refused ≡ value) × IsUnchanged self.old self.new
+            × (lacks_place refused ≡ self.old.is_full)) }
+        ensures ready { self.old.has_vacant ≡ true → IsOk result }
+    {
+        match self.make_vacant() {
+            Ok(()) => {}
+            Err(PlaceError::NoPlaceLeft(_)) => return Err(PlaceError::NoPlaceLeft(value)),
+            Err(PlaceError::OutOfMemory(_)) => return Err(PlaceError::OutOfMemory(value)),
+        }
+        let slot = self.vacant.pop_front(&mut self.pool.links).unwrap(); // proved: there is one
+        let generation = fill(&mut self.pool, &slot, value);
+        prove!(self.len < self.pool.len());
+        self.len += 1;
+        Ok(Handle {
+            place: slot.place(),
+            generation,
+        })
+    }
+
+    /// Takes out the value that the handle names, and the handle names nothing from then on: `None` for an old handle.
+    /// O(1), and it takes no memory.
+    ///
+    /// The slot is vacant then. After 2^64 - 1 values it is used up, and is left out.
+    pub fn remove(&mut self, handle: Handle) -> Option<T>
+        ensures value { result ≡ named self.old handle }
+        ensures removed { IfSome result (λ value. Removes handle self.old self.new) }
+        ensures unchanged { IfNone result (IsUnchanged self.old self.new) }
+    {
+        self.get(handle)?;
+        let slot = UnsafeRef::new(handle.place);
+        let value = empty(&mut self.pool, &slot);
+        self.len -= 1;
+        if handle.generation + 1 == u64::MAX {
+            return Some(value); // the slot is used up
+        }
+        let _ = self.vacant.push_front(&mut self.pool.links, slot); // proved: it is not linked
+        Some(value)
+    }
+}
