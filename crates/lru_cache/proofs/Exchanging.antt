@@ -1,0 +1,22 @@
+-- Objects after another value was put in the place of one.
+use Rattle.std.proofs.Common.{◌≡◌, ◌≢◌, cond, Some, refl, ap, ◌∙◌}
+use Rattle.std.specs.Cmp.{nat_cmp_total}
+use Rattle.std.specs.FinMap.{get-insert}
+use Rattle.ic_unsafe_ref.specs.declared.place.Place.{Place}
+use Rattle.ic_unsafe_ref.specs.Places.{index_of}
+use Rattle.ic_unsafe_ref.specs.Objects.{Objects, object_at, with_object}
+use Rattle.ic_unsafe_ref.proofs.ObjectLemmas.{tied, apart}
+use Rattle.ic_unsafe_ref.proofs.PlaceLemmas.{same_index}
+
+module _ {T : Type 0} (old new : Objects T) (p : Place) (value : T) (exchanged : new ≡ with_object old p value) where
+  -- the value stands there,
+  pub exchanged_there : object_at new p ≡ Some value
+  exchanged_there =
+      ap (λ (x : Objects T). object_at x p) exchanged ∙ get-insert nat_cmp_total old.values (index_of p) value (index_of p)
+      ∙ ap (λ b. cond b (Some value) (object_at old p)) (tied (index_of p) (index_of p) refl)
+
+  -- and at every other place what stood there
+  pub exchanged_beside : (q : Place) → q ≢ p → object_at new q ≡ object_at old q
+  exchanged_beside q n =
+      ap (λ (x : Objects T). object_at x q) exchanged ∙ get-insert nat_cmp_total old.values (index_of p) value (index_of q)
+      ∙ ap (λ b. cond b (Some value) (object_at old q)) (apart (index_of q) (index_of p) (λ e. n (same_index q p e)))
