@@ -3,9 +3,9 @@ use Rattle.std.proofs.Common.{◌≡◌, ◌≢◌, ℕ, eqb, cond, ◌+◌, ◌
 use Rattle.std.specs.Option.{option_or}
 use Rattle.lru_cache.specs.declared.entry.Entry.{Entry}
 use Rattle.lru_cache.specs.declared.store.Store.{Store}
-use Rattle.lru_cache.specs.Cache.{Cache, key_of, entry_with, without, touched, IsSound}
+use Rattle.lru_cache.specs.Cache.{Cache, key_of, entry_with, without, touched, IsSound, inserted, leaves}
 use Rattle.lru_cache.specs.Kept.{oldest, entries_of, IsKept, IsCounted}
-use Rattle.lru_cache.proofs.Entries.{Parts, touched_part, length_part, part_found, part_at, oldest_last, with_none, without_none, lack_found, oldest_of_full, inserted_for, inserted_more}
+use Rattle.lru_cache.proofs.Entries.{Parts, touched_part, length_part, part_found, part_at, oldest_last, with_none, without_none, lack_found, oldest_of_full, inserted_for, inserted_more, leaves_is}
 use Rattle.lru_cache.proofs.Keeping.{own_entries}
 
 -- the same entries, in a cache of the same capacity
@@ -50,27 +50,40 @@ module _ {V A : Type 0} {store : Store V A} {len capacity : ℕ} (k : IsCounted 
       few = omega (arith, k.few);
     }
 
-  module _ (entry : Entry V) (some : capacity ≢ 0) {new : Store V A} (kept : IsKept new) where
-    -- ANOTHER ONE LEAVES for it
-    pub counted_renewed : {gone : Entry V} → Some gone ≡ option_or (entry_with (key_of entry) (entries_of store)) (oldest_of_full cache_of)
-        → entries_of new ≡ entry ∷ without (key_of gone) (entries_of store) → IsCounted new len capacity
-    counted_renewed leaving are = record {
-      kept = kept;
-      count = let x = inserted_for entry cache_of sound.own sound.few some leaving in omega (arith, k.count, ap length are, x.1);
-      few = k.few;
-    }
+  -- AN ENTRY IS INSERTED into a cache that may have one: what each of the two cases says of it
+  module _ (entry : Entry V) (some : capacity ≢ 0) where
+    leaving_is : {left : Option (Entry V)} → left ≡ option_or (entry_with (key_of entry) (entries_of store)) (cond (eqb len capacity) (oldest (entries_of store)) None)
+        → left ≡ option_or (entry_with (key_of entry) (entries_of store)) (oldest_of_full cache_of)
+    leaving_is leaving = leaving ∙ ap (λ (n : ℕ). option_or (entry_with (key_of entry) (entries_of store)) (cond (eqb n capacity) (oldest (entries_of store)) None)) k.count
 
-    -- NONE DOES
-    pub counted_added : None ≡ option_or (entry_with (key_of entry) (entries_of store)) (oldest_of_full cache_of) → entries_of new ≡ entry ∷ entries_of store → IsCounted new (len + 1) capacity
-    counted_added leaving are = record {
-      kept = kept;
-      count = omega (arith, k.count, ap length are);
-      few = let x = inserted_more entry cache_of sound.own sound.few some leaving in omega (arith, k.count, x.1);
-    }
+    pub left_is : {left : Option (Entry V)} → left ≡ option_or (entry_with (key_of entry) (entries_of store)) (cond (eqb len capacity) (oldest (entries_of store)) None) → left ≡ leaves entry cache_of
+    left_is leaving = leaving_is leaving ∙ sym (leaves_is entry cache_of sound.own sound.few some)
 
-  -- which one leaves, by the count of the entries
-  pub by_count : (o : Option (Entry V)) → option_or o (cond (eqb len capacity) (oldest (entries_of store)) None) ≡ option_or o (oldest_of_full cache_of)
-  by_count o = ap (λ (n : ℕ). option_or o (cond (eqb n capacity) (oldest (entries_of store)) None)) k.count
+    -- another one leaves for it,
+    module _ {gone : Entry V} (leaving : Some gone ≡ option_or (entry_with (key_of entry) (entries_of store)) (cond (eqb len capacity) (oldest (entries_of store)) None))
+        {new : Store V A} (kept : IsKept new) (are : entries_of new ≡ entry ∷ without (key_of gone) (entries_of store)) where
+      pub counted_renewed : IsCounted new len capacity
+      counted_renewed = record {
+        kept = kept;
+        count = let x = inserted_for entry cache_of sound.own sound.few some (leaving_is leaving) in omega (arith, k.count, ap length are, x.1);
+        few = k.few;
+      }
+
+      pub entries_renewed : entries_of new ≡ inserted entry cache_of
+      entries_renewed = are ∙ (inserted_for entry cache_of sound.own sound.few some (leaving_is leaving)).0
+
+    -- or none does
+    module _ (leaving : None ≡ option_or (entry_with (key_of entry) (entries_of store)) (cond (eqb len capacity) (oldest (entries_of store)) None))
+        {new : Store V A} (kept : IsKept new) (are : entries_of new ≡ entry ∷ entries_of store) where
+      pub counted_added : IsCounted new (len + 1) capacity
+      counted_added = record {
+        kept = kept;
+        count = omega (arith, k.count, ap length are);
+        few = let x = inserted_more entry cache_of sound.own sound.few some (leaving_is leaving) in omega (arith, k.count, x.1);
+      }
+
+      pub entries_added : entries_of new ≡ inserted entry cache_of
+      entries_added = are ∙ (inserted_more entry cache_of sound.own sound.few some (leaving_is leaving)).0
 
   -- NOTHING CHANGED
   pub counted_same : {new : Store V A} → IsKept new → entries_of new ≡ entries_of store → IsCounted new len capacity

@@ -5,18 +5,18 @@ use Rattle.std.proofs.lemmas.Option.{same_Some}
 use Rattle.std.specs.List.{cons_option}
 use Rattle.std.specs.Ordering.{nat_cmp}
 use Rattle.ic_unsafe_ref.specs.declared.place.Place.{Place}
-use Rattle.ic_unsafe_ref.specs.Objects.{Objects, Places, Frees, object_at, is_placed}
+use Rattle.ic_unsafe_ref.specs.Objects.{Objects, Places, Frees, object_at, is_placed, with_object}
 use Rattle.ic_unsafe_ref.proofs.PlaceLemmas.{same_or_not}
 use Rattle.ic_unsafe_ref.proofs.Placing.{placed_there, others_placed, gone_there, others_left}
 use Rattle.ic_link_ops.specs.Chains.{Ends, no_members}
 use Rattle.ic_link_ops.specs.DoublyEntries as lists
 use Rattle.ic_link_ops.specs.PlacedObjects.{ArePlaced, values_at}
 use Rattle.ic_link_ops.specs.Positions.{object_there}
-use Rattle.ic_link_ops.specs.Sequences.{at_front, but_last, last, IsAbsent, IsMember, IsDistinct}
+use Rattle.ic_link_ops.specs.Sequences.{at_front, but_last, last, IsAbsent, IsMember, IsDistinct, Cut, join, insert}
 use Rattle.ic_link_ops.specs.Tables.{IsUnlinked, LinksAlso, Unlinks, KeepsLinked}
 use Rattle.ic_link_ops.proofs.DoublyLists as doubly
 use Rattle.ic_link_ops.proofs.CollectionLaws.{kept_shown}
-use Rattle.ic_link_ops.proofs.LinkedSets.{everywhere, linked_again, not_linked}
+use Rattle.ic_link_ops.proofs.LinkedSets.{not_linked}
 use Rattle.ic_link_ops.proofs.PlacedValues.{values_beside}
 use Rattle.ic_link_ops.proofs.SequenceLemmas.{absent_left, absent_right, distinct_middle, none_not, some_same, split_last, split_member}
 use Rattle.ic_pool.specs.Pooled.{Grows}
@@ -36,6 +36,7 @@ use Rattle.lru_cache.specs.Cache.{key_of, entry_with, without, touched, HaveOwnK
 use Rattle.lru_cache.specs.Kept.{oldest, IsOnlyAt, StandOnce, entries_of, IsKept}
 use Rattle.lru_cache.proofs.Entries.{itself, Lack, Parts, found_none, found_part, without_part, touched_part}
 use Rattle.lru_cache.proofs.Sorting.{sorted_beside}
+use Rattle.lru_cache.proofs.Exchanging.{exchanged_there, exchanged_beside, exchanged_placed}
 use Rattle.lru_cache.proofs.Linking.{has_it, all_placed, is_member_placed, all_member, no_more, all_first, all_covered, all_put, all_taken, all_turned}
 
 -- what holds of what a position may be on
@@ -277,33 +278,31 @@ module _ {V A : Type 0} {store : Store V A} (k : IsKept store) where
           ap (values_at less) (doubly.plain_members r shown_rest) ∙ values_beside store.pool.objects less p (others_left frees) (part_of.0 ++ part_of.1) (beside_absent k p is there)
           ∙ filter_map-append (object_at store.pool.objects) part_of.0 part_of.1 ∙ sym (without_is k p is there)
 
-    -- RENEWED: another entry stands there, goes back into the tree, and in front of the list
-    module _ {entry gone : Entry V} (there : object_at store.pool.objects p ≡ Some gone) (new : Objects (Entry V)) (at_p : object_at new p ≡ Some entry) (same : (z : Place) → z ≢ p → object_at new z ≡ object_at store.pool.objects z)
-        (only : IsOnlyAt store.pool.objects (key_of entry) (Some p)) (u : trees.TreeLinkOps A) (tree : RBTree (ByKey V)) (sorted : ShowsSorted key_of (trees.PlainShows u (root_of tree)) new)
-        (put : (s : List Place) → trees.PlainShows v root s → InsertsInOrder trees.ShowsTree (compared (own_order nat_cmp key_of new p) new) (trees.plain_table v) (trees.plain_table u) (root_of tree) s p)
-        (also : LinksAlso trees.is_linked (trees.plain_table v) (trees.plain_table u) p) (r : lists.DoublyLinkOps A) (ends : Ends) (keeps : KeepsLinked lists.is_linked (lists.plain_table q) (lists.plain_table r))
-        (moved : (front back : List Place) → lists.PlainShows q store.by_age (front ++ p ∷ back) → lists.PlainShows r ends (p ∷ (front ++ back))) where
-      alike : (z : Place) → is_placed new z ≡ is_placed store.pool.objects z
-      alike z = everywhere (λ z. is_placed new z ≡ is_placed store.pool.objects z) p z (ap is_some at_p ∙ sym (ap is_some there)) (λ n. ap is_some (same z n))
+  -- RENEWED: another entry stands there, where its key belongs in the tree, and in front of the list
+  module _ (p : Place) (is : is_placed store.pool.objects p ≡ true) (entry : Entry V) {gone : Entry V} (there : object_at store.pool.objects p ≡ Some gone) (new : Objects (Entry V)) (exchanged : new ≡ with_object store.pool.objects p entry)
+      (only : IsOnlyAt store.pool.objects (key_of entry) (Some p)) (u : trees.TreeLinkOps A) (tree : RBTree (ByKey V)) (sorted : ShowsSorted key_of (trees.PlainShows u (root_of tree)) new)
+      (put : (front back : List Place) → trees.PlainShows w (root_of store.by_key) (front ++ p ∷ back) → (gap : Cut) × (join gap ≡ front ++ back) × trees.PlainShows u (root_of tree) (insert gap p))
+      (linked : KeepsLinked trees.is_linked (trees.plain_table w) (trees.plain_table u)) (r : lists.DoublyLinkOps A) (ends : Ends) (keeps : KeepsLinked lists.is_linked (lists.plain_table q) (lists.plain_table r))
+      (moved : (front back : List Place) → lists.PlainShows q store.by_age (front ++ p ∷ back) → lists.PlainShows r ends (p ∷ (front ++ back))) where
+    pub kept_renewed : IsKept (store_of new u tree r ends)
+    kept_renewed =
+        let t = all_member plain_trees k.keyed is in
+        let m = all_member doubly.plain_lists k.aged is in
+        let i = put t.0 t.1 (subst (trees.PlainShows w (root_of store.by_key)) t.2 k.keyed.shown) in
+        let alike = exchanged_placed store.pool.objects new p entry exchanged is in
+        record {
+          sorted = sorted;
+          keyed = all_turned plain_trees k.keyed p alike linked t.0 t.1 t.2 i.0 i.1 i.2;
+          aged = all_turned doubly.plain_lists k.aged p alike keeps m.0 m.1 m.2 (at_front (m.0 ++ m.1)) refl (shown_front p is r ends keeps moved);
+          own = own_with store.pool.objects new p (exchanged_beside store.pool.objects new p entry exchanged) k.own (exchanged_there store.pool.objects new p entry exchanged) only;
+        }
 
-      abbrev inserted : InsertsInOrder trees.ShowsTree (compared (own_order nat_cmp key_of new p) new) (trees.plain_table v) (trees.plain_table u) (root_of tree) (cut.0 ++ cut.1) p
-      inserted = put (cut.0 ++ cut.1) shown_less
-
-      pub kept_renewed : IsKept (store_of new u tree r ends)
-      kept_renewed =
-          let m = all_member doubly.plain_lists k.aged is in record {
-            sorted = sorted;
-            keyed = all_turned plain_trees k.keyed p alike (linked_again _ _ _ p off also) cut.0 cut.1 cut.2 inserted.gap inserted.same inserted.inserted.shows;
-            aged = all_turned doubly.plain_lists k.aged p alike keeps m.0 m.1 m.2 (at_front (m.0 ++ m.1)) refl (shown_front p is r ends keeps moved);
-            own = own_with store.pool.objects new p same k.own at_p only;
-          }
-
-      pub entries_renewed : entries_of (store_of new u tree r ends) ≡ entry ∷ without (key_of gone) (entries_of store)
-      entries_renewed =
-          let m = all_member doubly.plain_lists k.aged is in
-          ap (values_at new) (doubly.plain_members r (shown_front p is r ends keeps moved)) ∙ ap (λ (o : Option (Entry V)). cons_option o (values_at new (m.0 ++ m.1))) at_p
-          ∙ ap (λ (l : List (Entry V)). entry ∷ l) (values_beside store.pool.objects new p same (m.0 ++ m.1) (beside_absent k p is there)
-          ∙ filter_map-append (object_at store.pool.objects) m.0 m.1 ∙ sym (without_is k p is there))
+    pub entries_renewed : entries_of (store_of new u tree r ends) ≡ entry ∷ without (key_of gone) (entries_of store)
+    entries_renewed =
+        let m = all_member doubly.plain_lists k.aged is in
+        ap (values_at new) (doubly.plain_members r (shown_front p is r ends keeps moved)) ∙ ap (λ (o : Option (Entry V)). cons_option o (values_at new (m.0 ++ m.1))) (exchanged_there store.pool.objects new p entry exchanged)
+        ∙ ap (λ (l : List (Entry V)). entry ∷ l) (values_beside store.pool.objects new p (exchanged_beside store.pool.objects new p entry exchanged) (m.0 ++ m.1) (beside_absent k p is there)
+        ∙ filter_map-append (object_at store.pool.objects) m.0 m.1 ∙ sym (without_is k p is there))
 
   -- AFTER `place`, whatever it answered
   module _ (v : trees.TreeLinkOps A) (r : lists.DoublyLinkOps A) (grown : Grows (trees.plain_table w) (trees.plain_table v)) (grown_list : Grows (lists.plain_table q) (lists.plain_table r)) where

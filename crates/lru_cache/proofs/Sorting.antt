@@ -6,12 +6,13 @@ use Rattle.std.specs.declared.cmp.Ordering.{Ordering}
 use Rattle.std.specs.declared.cmp.Ordering.TheVariants.{Less, Equal, Greater}
 use Rattle.ic_unsafe_ref.specs.declared.place.Place.{Place}
 use Rattle.ic_unsafe_ref.specs.Objects.{Objects, object_at, is_placed}
+use Rattle.ic_link_ops.specs.PlacedObjects.{ArePlaced}
 use Rattle.ic_link_ops.specs.Sequences.{IsAbsent, IsMember, first}
 use Rattle.ic_link_ops.proofs.PlacedValues.{all_beside}
 use Rattle.ic_link_ops.proofs.SequenceLemmas.{none_not}
 use Rattle.ic_rbtree.specs.Borders.{Finds, equal_at}
 use Rattle.ic_rbtree.specs.Comparing.{answer_at, compared, order_of}
-use Rattle.ic_rbtree.specs.SortedObjects.{ShowsSorted, keys_at}
+use Rattle.ic_rbtree.specs.SortedObjects.{ShowsSorted, keys_at, key_at}
 use Rattle.ic_rbtree.proofs.Passing.{passed}
 use Rattle.ic_rbtree.proofs.SortedAnswers.{found_first}
 use Rattle.ic_rbtree.proofs.SortedKeys.{shown_sorted}
@@ -33,6 +34,21 @@ module _ {T : Type 0} (key : T → ℕ) (old new : Objects T) (p : Place) (same 
         placed = record { members = s; shown = q.placed.shown; placed = all_beside old new p same IsSome s out q.placed.placed };
         sorted = rw (keys_beside s out) q.sorted;
       }
+
+-- AND WHERE THE SAME PLACES have objects with the same keys
+module _ {T : Type 0} (key : T → ℕ) (old new : Objects T) (placed : (q : Place) → is_placed new q ≡ is_placed old q) (alike : (q : Place) → key_at key new q ≡ key_at key old q) where
+  keys_alike : (s : List Place) → keys_at key new s ≡ keys_at key old s
+  keys_alike [] = refl
+  keys_alike (x ∷ s) = rw (alike x, keys_alike s) refl
+
+  placed_alike : (s : List Place) → ArePlaced old s → ArePlaced new s
+  placed_alike [] h = tt
+  placed_alike (x ∷ s) h = (placed x ∙ h.0, placed_alike s h.1)
+
+  pub sorted_alike : {shows : List Place → Type 0} → ShowsSorted key shows old → ShowsSorted key shows new
+  sorted_alike q =
+      let s = q.placed.members in
+      record { placed = record { members = s; shown = q.placed.shown; placed = placed_alike s q.placed.placed }; sorted = rw (keys_alike s) q.sorted }
 
 -- none of what a filter leaves out is its first
 none_pass : (test : Place → Bool) (s : List Place) → None ≡ first (filter test s) → (q : Place) → IsMember q s → test q ≡ false

@@ -21,7 +21,8 @@ pub(crate) fn push<V, A: Allocator>(
     requires covered { IsCovered (plain_table links.old) place }
     requires unlinked { IsUnlinked is_linked (plain_table links.old) place }
     requires shown { PlainShowsSome links.old by_age.old }
-    ensures pushed { (s : List Place) → PlainShows links.old by_age.old s → PlainShows links.new by_age.new (place ∷ s) }
+    ensures pushed { (s : List Place) → PlainShows links.old by_age.old s
+        → PlainShows links.new by_age.new (place ∷ s) }
     ensures linked { LinksAlso is_linked (plain_table links.old) (plain_table links.new) place }
 {
     let _ = by_age.push_front(links, UnsafeRef::new(place)); // proved: it is not linked

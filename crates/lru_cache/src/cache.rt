@@ -17,10 +17,12 @@ use crate::store::Store;
 use std::alloc::{Allocator, Global};
 use std::marker::Model;
 
-/// A cache from `u64` keys to values, that holds so many entries at most and forgets the one that was touched longest ago.
+/// A cache from `u64` keys to values, that holds so many entries at most and forgets the one that was touched longest
+/// ago.
 ///
-/// A clause sees the entries from the one touched last to the oldest, and the capacity. No key stands there twice, and there are never
-/// more entries than the capacity (`IsSound`). A cache of capacity 0 keeps nothing: what is inserted leaves at once, and comes back.
+/// A clause sees the entries from the one touched last to the oldest, and the capacity. No key stands there twice, and
+/// there are never more entries than the capacity (`IsSound`). A cache of capacity 0 keeps nothing: what is inserted
+/// leaves at once, and comes back.
 #[derive(Drop)]
 pub struct LruCache<V, A: Allocator = Global> {
     store: Store<V, A>,
@@ -82,8 +84,8 @@ impl<V, A: Allocator> LruCache<V, A> {
         self.capacity
     }
 
-    /// The value of the key, if there is one, and how many entries the search looked at. It does not touch the entry. O(log n): v looks
-    /// among n entries, where `2^v <= (n + 1)^2`.
+    /// The value of the key, if there is one, and how many entries the search looked at. It does not touch the entry.
+    /// O(log n): v looks among n entries, where `2^v <= (n + 1)^2`.
     pub fn find(&self, key: u64) -> (Option<&V>, u64)
         ensures value { option_copied result.0 ≡ value_with key self.now.entries }
         ensures looks { IsFewLooks result.1 self.now.entries }
@@ -103,8 +105,8 @@ impl<V, A: Allocator> LruCache<V, A> {
         self.find(key).0
     }
 
-    /// The value of the key, if there is one. The entry is touched: it goes in front of all others, which keep their order. O(log n), and it
-    /// takes no memory.
+    /// The value of the key, if there is one. The entry is touched: it goes in front of all others, which keep their
+    /// order. O(log n), and it takes no memory.
     pub fn get(&mut self, key: u64) -> Option<&V>
         ensures* touches { sem 𝓛 (EndsAs V.row A.row A.Allocator self.entry (touched key self.old.entries)) }
         ensures value { option_copied result ≡ value_with key self.old.entries }
@@ -138,11 +140,12 @@ impl<V, A: Allocator> LruCache<V, A> {
         Some((entry.key, entry.value))
     }
 
-    /// Puts an entry in front of all others. It returns the one that leaves, if one does: the one of the same key, or else the oldest, where
-    /// the cache is full. Of a cache of capacity 0 the entry itself leaves.
+    /// Puts an entry in front of all others. It returns the one that leaves, if one does: the one of the same key, or
+    /// else the oldest, where the cache is full. Of a cache of capacity 0 the entry itself leaves.
     ///
-    /// Where one leaves its object is used again: no memory is taken, and nothing can fail. Else it takes memory for the entry and its two
-    /// links, at most three requests. Where that is refused the value comes back, and nothing has changed. O(log n).
+    /// Where one leaves its object is used again: no memory is taken, and nothing can fail. Else it takes memory for
+    /// the entry and its two links, at most three requests. Where that is refused the value comes back, and nothing has
+    /// changed. O(log n).
     pub fn insert(&mut self, key: u64, value: V) -> Result<Option<(u64, V)>, InsertError<V>>
         ensures left { IfOk result (λ left. left ≡ option_map pair_of (leaves (entry_of key value) self.old)) }
         ensures inserted { OnOk result (self.new ≡ with_entries self.old (inserted (entry_of key value) self.old)) }

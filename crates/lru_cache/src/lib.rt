@@ -6,8 +6,8 @@
 //! let page = cache.get(7); // touched: it leaves last
 //! ```
 //!
-//! Each entry is one object with a link in each of two fields, and uses both: in the tree of keys, by which it is found, and in the list
-//! of ages, whose last one leaves first.
+//! Each entry is one object with a link in each of two fields, and uses both: in the tree of keys, by which it is
+//! found, and in the list of ages, whose last one leaves first.
 #![tactic(auto)]
 
 mod ages;

@@ -6,7 +6,7 @@
 //! ```
 
 ghost use Rattle.std.specs.Prelude.{◌≡◌, ◌+◌, ◌∷◌, [], true, Some, None, length, OnOk, IfErr, IfSome, IfNone};
-ghost use Rattle.ic_unsafe_ref.specs.Objects.{is_placed, object_at, with_object};
+ghost use Rattle.ic_unsafe_ref.specs.Objects.{is_placed, object_at};
 ghost use Rattle.ic_link_ops.specs.Positions.{object_there};
 ghost use Rattle.std.specs.Prelude.{if◌then◌else◌};
 ghost use Rattle.std.specs.Option.{option_or};
@@ -21,7 +21,6 @@ use ic_pool::Pool;
 use ic_rbtree::RBTree;
 use ic_unsafe_ref::{Objects, Place, UnsafeRef};
 use std::alloc::Allocator;
-use std::mem;
 
 /// Entries, each in the tree of keys and in the list of ages.
 #[derive(Drop)]
@@ -29,19 +28,6 @@ pub(crate) struct Store<V, A: Allocator> {
     pool: Pool<Entry<V>, (rbtree::LinkOps<A>, linked_list::LinkOps<A>), A>,
     by_key: RBTree<ByKey<V>>,
     by_age: LinkedList<Entry<V>>, // the one touched last in front
-}
-
-// Puts an entry in the place of another, which comes back.
-fn exchange<V, A: Allocator>(
-    objects: &mut Objects<Entry<V>, A>,
-    place: Place,
-    entry: Entry<V>,
-) -> Entry<V>
-    requires { is_placed objects.old place ≡ true }
-    ensures value { object_at objects.old place ≡ Some result }
-    ensures exchanged { objects.new ≡ with_object objects.old place entry }
-{
-    mem::replace(objects.get_mut(place).unwrap(), entry) // proved: one stands there
 }
 
 impl<V, A: Allocator> Store<V, A> {
@@ -92,7 +78,8 @@ impl<V, A: Allocator> Store<V, A> {
         self.by_age.last()
     }
 
-    // The place of the entry that leaves for one of that key: the one that has the key, or else the oldest one, where the cache is full.
+    // The place of the entry that leaves for one of that key: the one that has the key, or else the oldest one, where
+    // the cache is full.
     pub(crate) fn leaving(&self, key: u64, is_full: bool) -> Option<Place>
         requires kept { IsKept self.now }
         ensures leaving { object_there self.now.pool.objects result ≡ option_or (entry_with key (entries_of self.now))
@@ -143,14 +130,8 @@ impl<V, A: Allocator> Store<V, A> {
         ensures value { object_at self.old.pool.objects place ≡ Some result }
         ensures renewed { entries_of self.new ≡ entry ∷ without (key_of result) (entries_of self.old) }
     {
-        keys::take_off(&mut self.by_key, &mut self.pool.links.0, place);
-        let gone = exchange(&mut self.pool.objects, place, entry);
-        keys::put(
-            &mut self.by_key,
-            &mut self.pool.links.0,
-            &self.pool.objects,
-            place,
-        );
+        let (objects, links) = (&mut self.pool.objects, &mut self.pool.links.0);
+        let gone = keys::renew(&mut self.by_key, links, objects, place, entry);
         ages::touch(&mut self.by_age, &mut self.pool.links.1, place);
         gone
     }

@@ -50,8 +50,8 @@ const NONE: &[Row] = &[
     (Call::Len, Answer::Count(0)),
 ];
 
-// Plays the rows. A refused insert gives its value back and changes nothing, so it is made once more. How many were refused; none, where a
-// call answers otherwise.
+// Plays the rows. A refused insert gives its value back and changes nothing, so it is made once more. How many were
+// refused; none, where a call answers otherwise.
 fn play<A: Allocator>(cache: &mut LruCache<u64, A>, rows: &[Row]) -> Option<usize> {
     let mut refused: usize = 0;
     for (call, wanted) in rows {
@@ -76,8 +76,8 @@ fn play_new(memory: &Rationed, capacity: usize, rows: &[Row]) -> Option<usize> {
     play(&mut cache, rows)
 }
 
-// Whether each of the requests for memory refuses one call alone, where it is refused. There are three at least where an entry is kept: each
-// table grew, and the objects.
+// Whether each of the requests for memory refuses one call alone, where it is refused. There are three at least where
+// an entry is kept: each table grew, and the objects.
 fn is_refused_in_turn(alloc: Global, capacity: usize, rows: &[Row], least: u64) -> bool {
     let memory = Rationed::new(alloc, u64::MAX);
     let mut as_wanted = play_new(&memory, capacity, rows) == Some(0);
