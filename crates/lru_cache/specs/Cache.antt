@@ -1,0 +1,67 @@
+-- Caches: entries, the one touched last in front, and how many there may be.
+use Rattle.std.specs.Prelude.{◌≡◌, ℕ, ◌+◌, ◌^◌, ◌≤◌, Bool, false, not, eqb, Option, List, [], ◌∷◌, ◌++◌, length, take, filter, find, slice_get}
+use Rattle.std.specs.List.{AllByRecursion}
+use Rattle.std.specs.Option.{option_map, option_or}
+use Rattle.lru_cache.specs.declared.entry.Entry.{Entry}
+
+-- the entries, from the one touched last to the oldest, and the most that there may be
+pub record Cache (V : Type 0) : Type 0 where
+  pub entries : List (Entry V)
+  pub capacity : ℕ
+
+module _ {V : Type 0} where
+  -- the key and the value of an entry, and the entry with a key and a value
+  abbrev pub key_of : Entry V → ℕ
+  key_of entry = entry.key
+
+  abbrev pub pair_of : Entry V → ℕ × V
+  pair_of entry = (entry.key, entry.value)
+
+  abbrev pub entry_of : ℕ → V → Entry V
+  entry_of key value = record { key = key; value = value }
+
+  -- whether an entry has the key
+  abbrev pub has_key : ℕ → Entry V → Bool
+  has_key key entry = eqb entry.key key
+
+  -- the entry of the key, if there is one, and its value
+  abbrev pub entry_with : ℕ → List (Entry V) → Option (Entry V)
+  entry_with key entries = find (has_key key) entries
+
+  abbrev pub value_with : ℕ → List (Entry V) → Option V
+  value_with key entries = option_map (λ (entry : Entry V). entry.value) (entry_with key entries)
+
+  -- the entries without that of the key
+  abbrev pub without : ℕ → List (Entry V) → List (Entry V)
+  without key entries = filter (λ entry. not (has_key key entry)) entries
+
+  -- TOUCHED: the entry of the key, if there is one, stands in front of all others, which keep their order
+  abbrev pub touched : ℕ → List (Entry V) → List (Entry V)
+  touched key entries = filter (has_key key) entries ++ without key entries
+
+  -- INSERTED: the entry stands in front, in place of the one with its key; of more than there may be the last ones are gone
+  abbrev pub inserted : Entry V → Cache V → List (Entry V)
+  inserted entry cache = take cache.capacity (entry ∷ without entry.key cache.entries)
+
+  -- what leaves when an entry is inserted: the one with its key, or else the one for which there is no room any more
+  abbrev pub leaves : Entry V → Cache V → Option (Entry V)
+  leaves entry cache = option_or (entry_with entry.key cache.entries) (slice_get (entry ∷ cache.entries) cache.capacity)
+
+  -- the same cache with other entries
+  abbrev pub with_entries : Cache V → List (Entry V) → Cache V
+  with_entries cache entries = record { entries = entries; capacity = cache.capacity }
+
+  -- no two entries have one key
+  abbrev pub HaveOwnKeys : List (Entry V) → Type 0
+  HaveOwnKeys [] = Unit {0}
+  HaveOwnKeys (entry ∷ entries) = AllByRecursion (λ other. has_key entry.key other ≡ false) entries × HaveOwnKeys entries
+
+  -- WHAT HOLDS OF EACH CACHE: no key twice, and no more entries than there may be
+  pub record IsSound (cache : Cache V) : Type 0 where
+    pub own : HaveOwnKeys cache.entries
+    pub few : length cache.entries ≤ cache.capacity
+
+  -- SO FEW LOOKS as a search makes among the entries, and one at least if there is an entry
+  pub record IsFewLooks (looks : ℕ) (entries : List (Entry V)) : Type 0 where
+    pub few : 2 ^ looks ≤ (length entries + 1) ^ 2
+    pub some : 1 ≤ length entries → 1 ≤ looks

@@ -1,0 +1,3 @@
+pub mod Cache
+pub mod Kept
+pub mod Lends

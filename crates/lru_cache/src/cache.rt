@@ -1,0 +1,175 @@
+//! The cache.
+//!
+//! ```text
+//! let mut cache = LruCache::new(rt.alloc(), 2);
+//! cache.insert(1, 'a')?; // None: no entry leaves
+//! cache.insert(2, 'b')?; // None
+//! cache.get(1); // Some(&'a'), and the entry of 2 is the oldest
+//! cache.insert(3, 'c')?; // Some((2, 'b'))
+//! ```
+
+ghost use Rattle.std.specs.Prelude.{◌≡◌, ◌<◌, ◌↔◌, ◌++◌, ◌∷◌, [], length, IsTrue, IsSome, IsOk, IfNone, OnOk, IfOk, IfErr, MatchOption};
+ghost use Rattle.std.specs.Option.{option_copied, option_map};
+
+use crate::InsertError;
+use crate::entry::Entry;
+use crate::store::Store;
+use std::alloc::{Allocator, Global};
+use std::marker::Model;
+
+/// A cache from `u64` keys to values, that holds so many entries at most and forgets the one that was touched longest
+/// ago.
+///
+/// A clause sees the entries from the one touched last to the oldest, and the capacity. No key stands there twice, and
+/// there are never more entries than the capacity (`IsSound`). A cache of capacity 0 keeps nothing: what is inserted
+/// leaves at once, and comes back.
+#[derive(Drop)]
+pub struct LruCache<V, A: Allocator = Global> {
+    store: Store<V, A>,
+    len: usize,
+    capacity: usize,
+}
+
+impl<V, A: Allocator> Model for LruCache<V, A> {
+    ghost use Rattle.lru_cache.specs.Cache.{Cache};
+    ghost use Rattle.lru_cache.specs.Kept.{entries_of, IsCounted};
+
+    ghost Value = { Cache V };
+
+    ghost view = { λ c. record { entries = entries_of c.store; capacity = c.capacity } };
+
+    ghost invariant = { λ c. IsCounted c.store c.len c.capacity };
+}
+
+impl<V, A: Allocator> LruCache<V, A> {
+    ghost use Rattle.std.specs.Borrow.{sem};
+    ghost use Rattle.lru_cache.specs.Cache.{entry_of, pair_of, value_with, inserted, leaves, without, touched, with_entries, IsFewLooks, IsSound};
+    ghost use Rattle.lru_cache.specs.Lends.{EndsAs};
+
+    /// A cache of no entries. It takes no memory.
+    pub fn new(alloc: A, capacity: usize) -> LruCache<V, A>
+    where
+        A: Copy,
+        ensures entries { result.entries ≡ [] }
+        ensures capacity { result.capacity ≡ capacity }
+    {
+        LruCache {
+            store: Store::new(alloc),
+            len: 0,
+            capacity,
+        }
+    }
+
+    /// How many entries there are. O(1).
+    #[inline]
+    pub fn len(&self) -> usize
+        ensures { result ≡ length self.now.entries }
+    {
+        self.len
+    }
+
+    /// Whether there is no entry. O(1).
+    #[inline]
+    pub fn is_empty(&self) -> bool
+        ensures { IsTrue result ↔ (self.now.entries ≡ []) }
+    {
+        self.len == 0
+    }
+
+    /// How many entries there may be. O(1).
+    #[inline]
+    pub fn capacity(&self) -> usize
+        ensures { result ≡ self.now.capacity }
+    {
+        self.capacity
+    }
+
+    /// The value of the key, if there is one, and how many entries the search looked at. It does not touch the entry.
+    /// O(log n): v looks among n entries, where `2^v <= (n + 1)^2`.
+    pub fn find(&self, key: u64) -> (Option<&V>, u64)
+        ensures value { option_copied result.0 ≡ value_with key self.now.entries }
+        ensures looks { IsFewLooks result.1 self.now.entries }
+        ensures sound { IsSound self.now }
+    {
+        let (place, looks) = self.store.find(key);
+        match place {
+            Some(place) => (Some(&self.store.entry(place).value), looks),
+            None => (None, looks),
+        }
+    }
+
+    /// The value of the key, if there is one. It does not touch the entry. As `find`.
+    pub fn peek(&self, key: u64) -> Option<&V>
+        ensures { option_copied result ≡ value_with key self.now.entries }
+    {
+        self.find(key).0
+    }
+
+    /// The value of the key, if there is one. The entry is touched: it goes in front of all others, which keep their
+    /// order. O(log n), and it takes no memory.
+    pub fn get(&mut self, key: u64) -> Option<&V>
+        ensures* touches { sem 𝓛 (EndsAs V.row A.row A.Allocator self.entry (touched key self.old.entries)) }
+        ensures value { option_copied result ≡ value_with key self.old.entries }
+    {
+        let place = self.store.find(key).0?;
+        self.store.touch(place);
+        Some(&self.store.entry(place).value)
+    }
+
+    /// Takes the entry of the key out, if there is one. O(log n), and it takes no memory.
+    pub fn remove(&mut self, key: u64) -> Option<V>
+        ensures value { result ≡ value_with key self.old.entries }
+        ensures removed { self.new ≡ with_entries self.old (without key self.old.entries) }
+    {
+        let place = self.store.find(key).0?;
+        let entry = self.store.remove(place);
+        self.len -= 1;
+        Some(entry.value)
+    }
+
+    /// Takes the entry out that was touched longest ago: `None` if there is none. O(log n), and it takes no memory.
+    pub fn pop_oldest(&mut self) -> Option<(u64, V)>
+        ensures oldest { MatchOption result (self.old.entries ≡ [])
+            (λ oldest. self.old.entries ≡ self.new.entries ++ entry_of oldest.0 oldest.1 ∷ []) }
+        ensures none { IfNone result (self.new ≡ self.old) }
+        ensures capacity { self.new.capacity ≡ self.old.capacity }
+    {
+        let place = self.store.oldest()?;
+        let entry = self.store.remove(place);
+        self.len -= 1;
+        Some((entry.key, entry.value))
+    }
+
+    /// Puts an entry in front of all others. It returns the one that leaves, if one does: the one of the same key, or
+    /// else the oldest, where the cache is full. Of a cache of capacity 0 the entry itself leaves.
+    ///
+    /// Where one leaves its object is used again: no memory is taken, and nothing can fail. Else it takes memory for
+    /// the entry and its two links, at most three requests. Where that is refused the value comes back, and nothing has
+    /// changed. O(log n).
+    pub fn insert(&mut self, key: u64, value: V) -> Result<Option<(u64, V)>, InsertError<V>>
+        ensures left { IfOk result (λ left. left ≡ option_map pair_of (leaves (entry_of key value) self.old)) }
+        ensures inserted { OnOk result (self.new ≡ with_entries self.old (inserted (entry_of key value) self.old)) }
+        ensures refused { IfErr result (λ refused. (refused.0 ≡ value) × (self.new ≡ self.old)) }
+        ensures accepted { IsSome (leaves (entry_of key value) self.old) → IsOk result }
+        ensures sound { IsSound self.new }
+    {
+        if self.capacity == 0 {
+            return Ok(Some((key, value)));
+        }
+        let entry = Entry { key, value };
+        let is_full = self.len == self.capacity;
+        match self.store.leaving(key, is_full) {
+            Some(place) => {
+                let left = self.store.renew(place, entry);
+                Ok(Some((left.key, left.value)))
+            }
+            None => match self.store.add(entry) {
+                Ok(()) => {
+                    self.len += 1;
+                    Ok(None)
+                }
+                Err(refused) => Err(InsertError(refused.value)),
+            },
+        }
+    }
+}

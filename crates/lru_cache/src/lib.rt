@@ -1,0 +1,21 @@
+//! A cache that forgets the entry that was touched longest ago.
+//!
+//! ```text
+//! let mut cache = LruCache::new(rt.alloc(), 1000);
+//! let gone = cache.insert(7, page)?; // the entry that leaves, if one does
+//! let page = cache.get(7); // touched: it leaves last
+//! ```
+//!
+//! Each entry is one object with a link in each of two fields, and uses both: in the tree of keys, by which it is
+//! found, and in the list of ages, whose last one leaves first.
+#![tactic(auto)]
+
+mod ages;
+mod cache;
+mod entry;
+mod insert_error;
+mod keys;
+mod store;
+
+pub use cache::LruCache;
+pub use insert_error::InsertError;

@@ -1,0 +1,56 @@
+//! Calls of a cache of numbers and what they answer, as values.
+
+use lru_cache::{InsertError, LruCache};
+use std::alloc::Allocator;
+
+/// A call of a cache.
+#[derive(Clone, Copy)]
+pub(crate) enum Call {
+    Insert(u64, u64),
+    Get(u64),
+    Peek(u64),
+    Looks(u64),
+    Remove(u64),
+    PopOldest,
+    Len,
+}
+
+/// What a call answers.
+#[derive(Clone, Copy, PartialEq)]
+pub(crate) enum Answer {
+    Nothing,
+    Entry(u64, u64),
+    Value(u64),
+    Count(u64),
+    Refused(u64),
+}
+
+/// Makes the call.
+pub(crate) fn make<A: Allocator>(cache: &mut LruCache<u64, A>, call: Call) -> Answer {
+    match call {
+        Call::Insert(key, value) => match cache.insert(key, value) {
+            Ok(left) => entry(left),
+            Err(InsertError(value)) => Answer::Refused(value),
+        },
+        Call::Get(key) => value(cache.get(key).copied()),
+        Call::Peek(key) => value(cache.peek(key).copied()),
+        Call::Looks(key) => Answer::Count(cache.find(key).1),
+        Call::Remove(key) => value(cache.remove(key)),
+        Call::PopOldest => entry(cache.pop_oldest()),
+        Call::Len => Answer::Count(cache.len() as u64),
+    }
+}
+
+fn entry(entry: Option<(u64, u64)>) -> Answer {
+    match entry {
+        Some((key, value)) => Answer::Entry(key, value),
+        None => Answer::Nothing,
+    }
+}
+
+fn value(value: Option<u64>) -> Answer {
+    match value {
+        Some(value) => Answer::Value(value),
+        None => Answer::Nothing,
+    }
+}

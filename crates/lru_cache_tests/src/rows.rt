@@ -1,0 +1,98 @@
+//! The worked rows: calls, and what they answer.
+
+use crate::calls::{Answer, Call, make};
+use lru_cache::LruCache;
+use std::alloc::{Allocator, Global};
+use test_support::rationed::Rationed;
+
+type Row = (Call, Answer);
+
+// Three keys in a cache of two entries. Behind each row: the keys afterwards, the one touched last in front.
+const TWO: &[Row] = &[
+    (Call::PopOldest, Answer::Nothing),
+    (Call::Looks(1), Answer::Count(0)),
+    (Call::Insert(1, 10), Answer::Nothing), // 1
+    (Call::Insert(2, 20), Answer::Nothing), // 2 1
+    (Call::Len, Answer::Count(2)),
+    (Call::Get(1), Answer::Value(10)), // 1 2
+    (Call::Insert(3, 30), Answer::Entry(2, 20)), // 3 1
+    (Call::Get(2), Answer::Nothing),
+    (Call::Peek(1), Answer::Value(10)), // 3 1: no touch
+    (Call::Insert(2, 21), Answer::Entry(1, 10)), // 2 3
+    (Call::Insert(3, 31), Answer::Entry(3, 30)), // 3 2
+    (Call::Len, Answer::Count(2)),
+    (Call::Remove(3), Answer::Value(31)), // 2
+    (Call::Remove(3), Answer::Nothing),
+    (Call::Looks(2), Answer::Count(1)),
+    (Call::Insert(18446744073709551615, 40), Answer::Nothing), // the greatest key, and 2
+    (Call::Get(2), Answer::Value(21)),
+    (Call::PopOldest, Answer::Entry(18446744073709551615, 40)),
+    (Call::PopOldest, Answer::Entry(2, 21)),
+    (Call::Len, Answer::Count(0)),
+];
+
+// In a cache of one entry each new key drives the other out.
+const ONE: &[Row] = &[
+    (Call::Insert(1, 10), Answer::Nothing),
+    (Call::Insert(2, 20), Answer::Entry(1, 10)),
+    (Call::Insert(2, 21), Answer::Entry(2, 20)),
+    (Call::Get(1), Answer::Nothing),
+    (Call::Get(2), Answer::Value(21)),
+    (Call::Len, Answer::Count(1)),
+];
+
+// A cache of none keeps nothing.
+const NONE: &[Row] = &[
+    (Call::Insert(1, 10), Answer::Entry(1, 10)),
+    (Call::Get(1), Answer::Nothing),
+    (Call::Remove(1), Answer::Nothing),
+    (Call::PopOldest, Answer::Nothing),
+    (Call::Len, Answer::Count(0)),
+];
+
+// Plays the rows. A refused insert gives its value back and changes nothing, so it is made once more. How many were
+// refused; none, where a call answers otherwise.
+fn play<A: Allocator>(cache: &mut LruCache<u64, A>, rows: &[Row]) -> Option<usize> {
+    let mut refused: usize = 0;
+    for (call, wanted) in rows {
+        let mut found = make(cache, *call);
+        if let (Call::Insert(_, value), Answer::Refused(back)) = (*call, found) {
+            if back != value {
+                return None;
+            }
+            refused = refused.saturating_add(1);
+            found = make(cache, *call);
+        }
+        if found != *wanted {
+            return None;
+        }
+    }
+    Some(refused)
+}
+
+// The same on a new cache of that memory.
+fn play_new(memory: &Rationed, capacity: usize, rows: &[Row]) -> Option<usize> {
+    let mut cache = LruCache::new(memory, capacity);
+    play(&mut cache, rows)
+}
+
+// Whether each of the requests for memory refuses one call alone, where it is refused. There are three at least where
+// an entry is kept: each table grew, and the objects.
+fn is_refused_in_turn(alloc: Global, capacity: usize, rows: &[Row], least: u64) -> bool {
+    let memory = Rationed::new(alloc, u64::MAX);
+    let mut as_wanted = play_new(&memory, capacity, rows) == Some(0);
+    let requests = memory.requests();
+    as_wanted &= requests >= least;
+    for number in 0..requests {
+        memory.refuse(number);
+        as_wanted &= play_new(&memory, capacity, rows) == Some(1);
+    }
+    as_wanted
+}
+
+#[test]
+fn rows_with_each_growth_refused_in_turn(rt: HostRuntime) {
+    assert!(rt; is_refused_in_turn(rt.alloc(), 2, TWO, 3));
+    assert!(rt; is_refused_in_turn(rt.alloc(), 1, ONE, 3));
+    assert!(rt; is_refused_in_turn(rt.alloc(), 0, NONE, 0));
+}
