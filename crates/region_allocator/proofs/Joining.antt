@@ -7,7 +7,7 @@ use Rattle.region_allocator.specs.declared.region.Region.{Region}
 use Rattle.region_allocator.specs.Changes.{Adds, Changes, FitsFor}
 use Rattle.region_allocator.specs.Regions.{region_of, end_of, Has, IsFree, IsRegion, AreApart, StandApart, FreesRegion, AllocatesRegion}
 use Rattle.region_allocator.proofs.Apart.{all_regions, below_cut, above_cut, free_cut, free_here, free_still, none_free, grown_from, grown_own, grown_still, allocates}
-use Rattle.region_allocator.proofs.Lists.{all_without, all_two}
+use Rattle.region_allocator.proofs.Lists.{all_without, all_three, all_four}
 
 -- a region shares no address with this one, and may touch it
 abbrev pub IsBeside : Region → Region → Type 0
@@ -29,14 +29,11 @@ module _ {region : Region} (is : IsRegion region) where
 
   -- WHERE NONE TOUCHES IT, all are apart from it
   pub none_touches : (s : List Region) → AllByRecursion (IsBeside region) s → AllByRecursion (λ x. end_of x ≢ region.start) s → AllByRecursion (λ x. x.start ≢ end_of region) s → AllByRecursion (AreApart region) s
-  none_touches s beside front back = all_two apart s (all_two pair s beside front) back where
-    pair : (x : Region) → IsBeside region x → end_of x ≢ region.start → IsBeside region x × (end_of x ≢ region.start)
-    pair x b n = (b, n)
-
-    apart : (x : Region) → IsBeside region x × (end_of x ≢ region.start) → x.start ≢ end_of region → AreApart region x
-    apart x (inl e, n) m = e
-    apart x (inr (inl e), n) m = absurd (n e)
-    apart x (inr (inr e), n) m = absurd (m e)
+  none_touches s beside front back = all_three apart s beside front back where
+    apart : (x : Region) → IsBeside region x → end_of x ≢ region.start → x.start ≢ end_of region → AreApart region x
+    apart x (inl e) n m = e
+    apart x (inr (inl e)) n m = absurd (n e)
+    apart x (inr (inr e)) n m = absurd (m e)
 
   module _ (s : List Region) (beside : AllByRecursion (IsBeside region) s) (apart : StandApart s) where
     -- JOINED with the one in front,
@@ -46,21 +43,15 @@ module _ {region : Region} (is : IsRegion region) where
         is_region = record { some = omega (arith, own.some); fits = omega (arith, is.fits, at) };
         low = omega (arith, own.some);
         high = omega (arith, own.some);
-        apart = all_two fit s (all_two pair s others none) (all_two two s beside (all_regions s apart));
+        apart = all_four fit s others none beside (all_regions s apart);
       } where
-        pair : (x : Region) → IsOrApart front x → x.start ≢ end_of region → IsOrApart front x × (x.start ≢ end_of region)
-        pair x o n = (o, n)
-
-        two : (x : Region) → IsBeside region x → IsRegion x → IsBeside region x × IsRegion x
-        two x b r = (b, r)
-
-        fit : (x : Region) → IsOrApart front x × (x.start ≢ end_of region) → IsBeside region x × IsRegion x → (x ≡ front) ⊎ AreApart (region_of front.start (front.length + region.length)) x
-        fit x (inl e, n) both = inl e
-        fit x (inr (inr e), n) both = inr (inr e)
-        fit x (inr (inl e), n) (inl (inl b), r) = inr (inl (omega (arith, b, at)))
-        fit x (inr (inl e), n) (inl (inr b), r) = absurd (omega (arith, e, b, at, r.some))
-        fit x (inr (inl e), n) (inr (inl b), r) = absurd (omega (arith, e, b, at, r.some))
-        fit x (inr (inl e), n) (inr (inr b), r) = absurd (n b)
+        fit : (x : Region) → IsOrApart front x → x.start ≢ end_of region → IsBeside region x → IsRegion x → (x ≡ front) ⊎ AreApart (region_of front.start (front.length + region.length)) x
+        fit x (inl e) n b r = inl e
+        fit x (inr (inr e)) n b r = inr (inr e)
+        fit x (inr (inl e)) n (inl (inl b)) r = inr (inl (omega (arith, b, at)))
+        fit x (inr (inl e)) n (inl (inr b)) r = absurd (omega (arith, e, b, at, r.some))
+        fit x (inr (inl e)) n (inr (inl b)) r = absurd (omega (arith, e, b, at, r.some))
+        fit x (inr (inl e)) n (inr (inr b)) r = absurd (n b)
 
       pub front_frees : {new : List Region} → Changes front (region_of front.start (front.length + region.length)) s new → FreesRegion region s new
       front_frees changes = record {
@@ -85,21 +76,15 @@ module _ {region : Region} (is : IsRegion region) where
         is_region = record { some = omega (arith, own.some); fits = omega (arith, own.fits, at) };
         low = omega (arith, own.some, at);
         high = omega (arith, own.some, at);
-        apart = all_two fit s (all_two pair s others none) (all_two two s beside (all_regions s apart));
+        apart = all_four fit s others none beside (all_regions s apart);
       } where
-        pair : (x : Region) → IsOrApart back x → end_of x ≢ region.start → IsOrApart back x × (end_of x ≢ region.start)
-        pair x o n = (o, n)
-
-        two : (x : Region) → IsBeside region x → IsRegion x → IsBeside region x × IsRegion x
-        two x b r = (b, r)
-
-        fit : (x : Region) → IsOrApart back x × (end_of x ≢ region.start) → IsBeside region x × IsRegion x → (x ≡ back) ⊎ AreApart (region_of region.start (region.length + back.length)) x
-        fit x (inl e, n) both = inl e
-        fit x (inr (inl e), n) both = inr (inl (omega (arith, e, at)))
-        fit x (inr (inr e), n) (inl (inl b), r) = absurd (omega (arith, e, b, at, r.some))
-        fit x (inr (inr e), n) (inl (inr b), r) = inr (inr b)
-        fit x (inr (inr e), n) (inr (inl b), r) = absurd (n b)
-        fit x (inr (inr e), n) (inr (inr b), r) = absurd (omega (arith, e, b, at, r.some))
+        fit : (x : Region) → IsOrApart back x → end_of x ≢ region.start → IsBeside region x → IsRegion x → (x ≡ back) ⊎ AreApart (region_of region.start (region.length + back.length)) x
+        fit x (inl e) n b r = inl e
+        fit x (inr (inl e)) n b r = inr (inl (omega (arith, e, at)))
+        fit x (inr (inr e)) n (inl (inl b)) r = absurd (omega (arith, e, b, at, r.some))
+        fit x (inr (inr e)) n (inl (inr b)) r = inr (inr b)
+        fit x (inr (inr e)) n (inr (inl b)) r = absurd (n b)
+        fit x (inr (inr e)) n (inr (inr b)) r = absurd (omega (arith, e, b, at, r.some))
 
       pub back_frees : {new : List Region} → Changes back (region_of region.start (region.length + back.length)) s new → FreesRegion region s new
       back_frees changes = record {
@@ -125,7 +110,7 @@ module _ {region : Region} (is : IsRegion region) where
         low = omega (arith, own.some);
         high = omega (arith, own.some);
         apart = subst (AllByRecursion (λ x. (x ≡ front) ⊎ AreApart joined x)) (sym less.was)
-            (all_two fit (less.front ++ less.back) (all_two pair (less.front ++ less.back) (left (IsOrApart front) others) away) (all_two two (less.front ++ less.back) (left (IsBeside region) beside) (left IsRegion (all_regions s apart))));
+            (all_four fit (less.front ++ less.back) (left (IsOrApart front) others) away (left (IsBeside region) beside) (left IsRegion (all_regions s apart)));
       } where
         joined : Region
         joined = region_of front.start (front.length + region.length + back.length)
@@ -138,23 +123,17 @@ module _ {region : Region} (is : IsRegion region) where
             let cut : StandApart (less.front ++ back ∷ less.back) = subst StandApart less.is apart in
             all_both (AreApart back) less.front less.back (all_map (λ x low. inr low) less.front (below_cut less.front back less.back cut)) (all_map (λ x high. inl high) less.back (above_cut less.front back less.back cut))
 
-        pair : (x : Region) → IsOrApart front x → AreApart back x → IsOrApart front x × AreApart back x
-        pair x o b = (o, b)
+        fit : (x : Region) → IsOrApart front x → AreApart back x → IsBeside region x → IsRegion x → (x ≡ front) ⊎ AreApart (region_of front.start (front.length + region.length + back.length)) x
+        fit x (inl e) q b r = inl e
+        fit x (inr (inr e)) q b r = inr (inr e)
+        fit x (inr (inl e)) (inl q) b r = inr (inl (omega (arith, q, at, to)))
+        fit x (inr (inl e)) (inr q) (inl (inl b)) r = absurd (omega (arith, q, b, to, r.some))
+        fit x (inr (inl e)) (inr q) (inl (inr b)) r = absurd (omega (arith, e, b, at, r.some))
+        fit x (inr (inl e)) (inr q) (inr (inl b)) r = absurd (omega (arith, e, b, at, r.some))
+        fit x (inr (inl e)) (inr q) (inr (inr b)) r = absurd (omega (arith, q, b, to, r.some))
 
-        two : (x : Region) → IsBeside region x → IsRegion x → IsBeside region x × IsRegion x
-        two x b r = (b, r)
-
-        fit : (x : Region) → IsOrApart front x × AreApart back x → IsBeside region x × IsRegion x → (x ≡ front) ⊎ AreApart (region_of front.start (front.length + region.length + back.length)) x
-        fit x (inl e, q) both = inl e
-        fit x (inr (inr e), q) both = inr (inr e)
-        fit x (inr (inl e), inl q) both = inr (inl (omega (arith, q, at, to)))
-        fit x (inr (inl e), inr q) (inl (inl b), r) = absurd (omega (arith, q, b, to, r.some))
-        fit x (inr (inl e), inr q) (inl (inr b), r) = absurd (omega (arith, e, b, at, r.some))
-        fit x (inr (inl e), inr q) (inr (inl b), r) = absurd (omega (arith, e, b, at, r.some))
-        fit x (inr (inl e), inr q) (inr (inr b), r) = absurd (omega (arith, q, b, to, r.some))
-
-      pub both_free : {new : List Region} → Changes front (region_of front.start (front.length + region.length + back.length)) mid new → FreesRegion region s new
-      both_free {new} changes = record {
+      pub both_frees : {new : List Region} → Changes front (region_of front.start (front.length + region.length + back.length)) mid new → FreesRegion region s new
+      both_frees {new} changes = record {
         is_region = is;
         was_taken = beside_taken s beside;
         free = λ a. (

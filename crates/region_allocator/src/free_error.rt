@@ -1,4 +1,8 @@
 //! Why addresses were not freed.
+//!
+//! ```text
+//! space.free(90, 20) // Err(FreeError::Overlaps): 90 to 99 are free already
+//! ```
 
 /// Why addresses were not freed. Nothing has changed then.
 #[derive(Clone, Copy, PartialEq, Eq, Debug)]

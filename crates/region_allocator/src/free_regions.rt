@@ -101,7 +101,8 @@ impl<A: Allocator> FreeRegions<A> {
         requires apart { AllByRecursion (AreApart region) (regions_of self.old) }
         ensures kept { IsKept self.new }
         ensures put { OnOk result (Adds region (regions_of self.old) (regions_of self.new)) }
-        ensures refused { IfErr result (λ error. (regions_of self.new ≡ regions_of self.old) × IsRefused region (regions_of self.old) error) }
+        ensures refused { IfErr result (λ error. (regions_of self.new ≡ regions_of self.old)
+            × IsRefused region (regions_of self.old) error) }
     {
         let object = match self.pool.place(region) {
             Ok(object) => object,
@@ -133,7 +134,8 @@ impl<A: Allocator> FreeRegions<A> {
     pub(crate) fn resize(&mut self, object: UnsafeRef<Region>, region: Region)
         requires kept { IsKept self.old }
         requires placed { is_placed self.old.pool.objects object ≡ true }
-        requires fits { (out : Region) → object_at self.old.pool.objects object ≡ Some out → FitsFor out region (regions_of self.old) }
+        requires fits { (out : Region) → object_at self.old.pool.objects object ≡ Some out
+            → FitsFor out region (regions_of self.old) }
         ensures kept { IsKept self.new }
         ensures resized { (out : Region) → object_at self.old.pool.objects object ≡ Some out
             → Changes out region (regions_of self.old) (regions_of self.new) }
@@ -151,7 +153,8 @@ impl<A: Allocator> FreeRegions<A> {
         requires region { IsRegion region }
         ensures kept { IsKept self.new }
         ensures freed { OnOk result (FreesRegion region (regions_of self.old) (regions_of self.new)) }
-        ensures refused { IfErr result (λ error. (regions_of self.new ≡ regions_of self.old) × IsRefused region (regions_of self.old) error) }
+        ensures refused { IfErr result (λ error. (regions_of self.new ≡ regions_of self.old)
+            × IsRefused region (regions_of self.old) error) }
     {
         let (front, back) = match self.touching(region) {
             Ok(found) => found,
@@ -161,39 +164,24 @@ impl<A: Allocator> FreeRegions<A> {
             None => match back {
                 None => self.put_in(region),
                 Some(back) => {
+                    let start = region.start;
                     let length = region.length + back.region.length;
-                    self.resize(
-                        back.object,
-                        Region {
-                            start: region.start,
-                            length,
-                        },
-                    );
+                    self.resize(back.object, Region { start, length });
                     Ok(())
                 }
             },
             Some(front) => match back {
                 None => {
+                    let start = front.region.start;
                     let length = front.region.length + region.length;
-                    self.resize(
-                        front.object,
-                        Region {
-                            start: front.region.start,
-                            length,
-                        },
-                    );
+                    self.resize(front.object, Region { start, length });
                     Ok(())
                 }
                 Some(back) => {
+                    let start = front.region.start;
                     let length = front.region.length + region.length + back.region.length;
                     self.take_out(back.object);
-                    self.resize(
-                        front.object,
-                        Region {
-                            start: front.region.start,
-                            length,
-                        },
-                    );
+                    self.resize(front.object, Region { start, length });
                     Ok(())
                 }
             },

@@ -1,4 +1,11 @@
 //! The allocator.
+//!
+//! ```text
+//! let mut space = RegionAllocator::new(rt.alloc());
+//! space.free(0, 100)?;
+//! space.allocate(30) // Some(70)
+//! space.is_free(70) // false
+//! ```
 
 ghost use Rattle.std.specs.Prelude.{◌≡◌, ◌↔◌, [], OnOk, OnSome, IfErr, IfSome, IfNone, IsTrue};
 
@@ -51,9 +58,11 @@ impl<A: Allocator> RegionAllocator<A> {
         }
     }
 
-    /// FreesRegion `length` addresses from `start` on. They are one region then with the free ones that touch them. O(log n).
+    /// Frees `length` addresses from `start` on. They are one region then with the free ones that touch them. O(log n).
     ///
-    /// Refused it changes nothing. It takes memory only where no free region touches them: at most three requests.
+    /// Where it is refused, nothing has changed: with `Empty` or `TooLong` where there is no such region, with `Overlaps` exactly if
+    /// one of the addresses is free. It takes memory only where no free region touches them, in at most three requests, and else is
+    /// never refused with `OutOfMemory` or `TooManyRegions`.
     pub fn free(&mut self, start: u64, length: u64) -> Result<(), FreeError>
         ensures freed { OnOk result (FreesRegion (region_of start length) self.old self.new) }
         ensures refused { IfErr result (λ error. (self.new ≡ self.old) × IsRefused (region_of start length) self.old error) }
@@ -68,8 +77,11 @@ impl<A: Allocator> RegionAllocator<A> {
         self.regions.add(Region { start, length })
     }
 
-    /// AllocatesRegion `length` addresses in a row, and answers the first one: the end of the shortest free region that is long enough.
-    /// `None` exactly where none is, and nothing has changed then. O(log n), and it takes no memory.
+    /// Allocates `length` addresses in a row, and answers the first one: the end of the shortest free region that is long enough.
+    /// O(log n), and it takes no memory.
+    ///
+    /// `None` says that all are shorter, and nothing has changed then. Of no length, it takes nothing: the answer is where the
+    /// shortest region ends.
     pub fn allocate(&mut self, length: u64) -> Option<u64>
         ensures allocated { IfSome result (λ start. AllocatesRegion (region_of start length) self.old self.new) }
         ensures best_fit { IfSome result (λ start. IsBestFit (region_of start length) self.old) }

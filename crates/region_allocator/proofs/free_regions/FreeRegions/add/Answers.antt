@@ -5,7 +5,7 @@ use Rattle.region_allocator.specs.declared.region.Region.{Region}
 use Rattle.region_allocator.specs.Neighbors.{IsFound}
 use Rattle.region_allocator.specs.Regions.{end_of, IsRegion}
 use Rattle.region_allocator.proofs.Apart.{adds_frees}
-use Rattle.region_allocator.proofs.Joining.{none_touches, front_fits, front_frees, back_fits, back_frees, both_fit, both_free}
+use Rattle.region_allocator.proofs.Joining.{none_touches, front_fits, front_frees, back_fits, back_frees, both_fit, both_frees}
 use Rattle.region_allocator.proofs.Keeping.{shown_apart, others_apart}
 use Rattle.region_allocator.proofs.free_regions.FreeRegions.add.Goals as goal
 
@@ -72,5 +72,5 @@ returns-in-Some-back-2-clause-freed g c =
     let f = t.front_is in
     let b = t.back_is in
     let there = c.take_out.ensures.others c.in-Some.front.object (elsewhere c.requires.region f b) ∙ f.0.there in
-    both_free c.requires.region _ t.each (shown_apart k) f.0.is_region b.0.is_region f.1 b.1 (c.take_out.ensures.taken c.in-Some-back-2.back.region b.0.there)
+    both_frees c.requires.region _ t.each (shown_apart k) f.0.is_region b.0.is_region f.1 b.1 (c.take_out.ensures.taken c.in-Some-back-2.back.region b.0.there)
     (c.resize-in-Some-back-2.ensures.resized c.in-Some.front.region there)
