@@ -1,0 +1,163 @@
+-- Which regions touch one that is to be freed, or have an address of it.
+use Rattle.std.proofs.Common.{◌≡◌, ◌≢◌, ℕ, ◌<◌, ◌≤◌, ◌⊎◌, ◌↔◌, inl, inr, Option, Some, None, Ok, Err, List, [], ◌∷◌, ◌++◌, sym, ap, ◌∙◌, subst, arith}
+use Rattle.std.proofs.lemmas.Bool.{cases_lt}
+use Rattle.std.specs.List.{AllByRecursion}
+use Rattle.ic_unsafe_ref.specs.Objects.{Objects}
+use Rattle.ic_rbtree.proofs.KeyLaws.{all_both, all_map}
+use Rattle.region_allocator.specs.declared.free_error.FreeError.{FreeError}
+use Rattle.region_allocator.specs.declared.neighbors.Found.{Found}
+use Rattle.region_allocator.specs.declared.region.Region.{Region}
+use Rattle.region_allocator.specs.Neighbors.{IsFound, IsLast, IsFirst, AreNeighbors, IsEnding, IsStarting, Touches, EndsBy, StartsFrom}
+use Rattle.region_allocator.specs.Refusals.{IsRefused}
+use Rattle.region_allocator.specs.Regions.{end_of, IsFree, IsRegion, AreApart, StandApart}
+use Rattle.region_allocator.proofs.Apart.{apart_front, apart_back, below_cut, region_cut, free_here, none_free}
+use Rattle.region_allocator.proofs.Lists.{all_back}
+
+-- what is free in front is free
+free_left : (front back : List Region) (a : ℕ) → IsFree front a → IsFree (front ++ back) a
+free_left [] back a h = elim h [ ]
+free_left (x ∷ front) back a (inl h) = inl h
+free_left (x ∷ front) back a (inr h) = inr (free_left front back a h)
+
+module _ (objects : Objects Region) where
+  -- the last of regions ends behind all, and the first starts in front of all
+  last_ends : (front rest : List Region) (r : Region) → front ≡ rest ++ r ∷ [] → StandApart front → AllByRecursion (λ x. end_of x ≤ end_of r) front
+  last_ends front rest r is apart =
+      let own : IsRegion r = region_cut rest r [] (subst StandApart is apart) in
+      subst (AllByRecursion (λ x. end_of x ≤ end_of r)) (sym is)
+      (all_both (λ x. end_of x ≤ end_of r) rest (r ∷ []) (all_map (λ x low. omega (arith, low)) rest (below_cut rest r [] (subst StandApart is apart))) (omega arith, tt))
+
+  first_starts : (back rest : List Region) (r : Region) → back ≡ r ∷ rest → StandApart back → AllByRecursion (λ x. r.start ≤ x.start) back
+  first_starts back rest r is apart =
+      subst (AllByRecursion (λ x. r.start ≤ x.start)) (sym is) (omega arith, all_map (λ x high. omega (arith, high)) rest (subst StandApart is apart).1)
+
+  -- NONE IN FRONT reaches beyond the address,
+  front_clear : (front : List Region) (n : ℕ) (below result : Option Found) → IsLast objects front below → StandApart front → EndsBy below n (Ok result)
+      → AllByRecursion (λ x. end_of x ≤ n) front × IsEnding objects front n result
+  front_clear front n None None is apart ends = (rw is tt, rw is tt)
+  front_clear front n (Some found) None is apart ends =
+      let all = last_ends front is.1.0 found.region is.1.1 apart in
+      (all_map (λ x low. omega (arith, low, ends)) front all, all_map (λ x low same. omega (arith, low, ends, same)) front all)
+  front_clear front n None (Some result) is apart ends = absurd (let never : None ≡ Some result = ends.0 in cc)
+  front_clear front n (Some found) (Some result) is apart ends =
+      let same : found ≡ result = (let e : Some found ≡ Some result = ends.0 in cc) in
+      let all = last_ends front is.1.0 found.region is.1.1 apart in
+      (all_map (λ x low. omega (arith, low, ap (λ (f : Found). end_of f.region) same, ends.1)) front all, (subst (IsFound objects) same is.0, ends.1))
+
+  -- and none behind starts before it
+  back_clear : (back : List Region) (n : ℕ) (above result : Option Found) → IsFirst objects back above → StandApart back → StartsFrom above n (Ok result)
+      → AllByRecursion (λ x. n ≤ x.start) back × IsStarting objects back n result
+  back_clear back n None None is apart starts = (rw is tt, rw is tt)
+  back_clear back n (Some found) None is apart starts =
+      let all = first_starts back is.1.0 found.region is.1.1 apart in
+      (all_map (λ x high. omega (arith, high, starts)) back all, all_map (λ x high same. omega (arith, high, starts, same)) back all)
+  back_clear back n None (Some result) is apart starts = absurd (let never : None ≡ Some result = starts.0 in cc)
+  back_clear back n (Some found) (Some result) is apart starts =
+      let same : found ≡ result = (let e : Some found ≡ Some result = starts.0 in cc) in
+      let all = first_starts back is.1.0 found.region is.1.1 apart in
+      (all_map (λ x high. omega (arith, high, ap (λ (f : Found). f.region.start) same, starts.1)) back all, (subst (IsFound objects) same is.0, starts.1))
+
+  ending_in : (s : List Region) (front : List Region) (n : ℕ) (result : Option Found) → IsEnding objects front n result → ((AllByRecursion (λ x. end_of x ≢ n) front) → AllByRecursion (λ x. end_of x ≢ n) s) → IsEnding objects s n result
+  ending_in s front n None is more = more is
+  ending_in s front n (Some found) is more = is
+
+  starting_in : (s : List Region) (back : List Region) (n : ℕ) (result : Option Found) → IsStarting objects back n result → ((AllByRecursion (λ x. x.start ≢ n) back) → AllByRecursion (λ x. x.start ≢ n) s) → IsStarting objects s n result
+  starting_in s back n None is more = more is
+  starting_in s back n (Some found) is more = is
+
+  module _ {regions : List Region} {region : Region} {below above : Option Found} (beside : AreNeighbors objects regions region.start below above) (is : IsRegion region) where
+    -- THE REGIONS THAT TOUCH IT
+    pub touches : {front back : Option Found} → StandApart regions → EndsBy below region.start (Ok front) → StartsFrom above (end_of region) (Ok back) → Touches objects regions region front back
+    touches {front} {back} apart ends starts =
+        let stand = subst StandApart beside.cut apart in
+        let f = front_clear beside.front region.start below front beside.below_is (apart_front beside.front beside.back stand) ends in
+        let b = back_clear beside.back (end_of region) above back beside.above_is (apart_back beside.front beside.back stand) starts in
+        record {
+          each = subst (AllByRecursion each) (sym beside.cut) (all_both each beside.front beside.back (all_map in_front beside.front f.0) (all_map behind beside.back b.0));
+          front_is = ending_in regions beside.front region.start front f.1 (λ none. subst (AllByRecursion (λ x. end_of x ≢ region.start)) (sym beside.cut)
+              (all_both (λ x. end_of x ≢ region.start) beside.front beside.back none (all_map (λ x high same. omega (arith, high, same)) beside.back beside.starts_above)));
+          back_is = starting_in regions beside.back (end_of region) back b.1 (λ none. subst (AllByRecursion (λ x. x.start ≢ end_of region)) (sym beside.cut)
+              (all_both (λ x. x.start ≢ end_of region) beside.front beside.back (all_map (λ x low same. omega (arith, low, same, is.some)) beside.front beside.starts_below) none));
+        }
+      where
+        each : Region → Type 0
+        each x = AreApart region x ⊎ ((end_of x ≡ region.start) ⊎ (x.start ≡ end_of region))
+
+        in_front : (x : Region) → end_of x ≤ region.start → AreApart region x ⊎ ((end_of x ≡ region.start) ⊎ (x.start ≡ end_of region))
+        in_front x low = elim (cases_lt (end_of x) region.start) [
+          | inl less ↦ inl (inr less)
+          | inr more ↦ inr (inl (omega (arith, low, more)))
+        ]
+
+        behind : (x : Region) → end_of region ≤ x.start → AreApart region x ⊎ ((end_of x ≡ region.start) ⊎ (x.start ≡ end_of region))
+        behind x high = elim (cases_lt (end_of region) x.start) [
+          | inl less ↦ inl (inl less)
+          | inr more ↦ inr (inr (omega (arith, high, more)))
+        ]
+
+    -- THE ONE IN FRONT has an address of it, or the one behind
+    pub overlaps_front : (error : FreeError) → EndsBy below region.start (Err error) → IsRefused region regions error
+    overlaps_front error ends = by below beside.below_is ends where
+      by : (below : Option Found) → IsLast objects beside.front below → EndsBy below region.start (Err error) → IsRefused region regions error
+      by None last ends = absurd ends
+      by (Some found) last ends =
+          let low = (all_back (λ x. x.start ≤ region.start) last.1.0 (found.region ∷ []) (subst (AllByRecursion (λ x. x.start ≤ region.start)) last.1.1 beside.starts_below)).0 in
+          rw ends.0 (
+            is,
+            (
+              region.start,
+              (omega arith, omega (arith, is.some)),
+              subst (λ (s : List Region). IsFree s region.start) (sym beside.cut)
+                  (free_left beside.front beside.back region.start (subst (λ (s : List Region). IsFree s region.start) (sym last.1.1) (free_here last.1.0 found.region [] region.start (low, ends.1)))),
+            ),
+          )
+
+    pub overlaps_back : (error : FreeError) → StartsFrom above (end_of region) (Err error) → IsRefused region regions error
+    overlaps_back error starts = by above beside.above_is starts where
+      by : (above : Option Found) → IsFirst objects beside.back above → StartsFrom above (end_of region) (Err error) → IsRefused region regions error
+      by None first starts = absurd starts
+      by (Some found) first starts =
+          let high = (subst (AllByRecursion (λ x. region.start < x.start)) first.1.1 beside.starts_above).0 in
+          rw starts.0 (
+            is,
+            (
+              found.region.start,
+              (omega (arith, high), starts.1),
+              subst (λ (s : List Region). IsFree s found.region.start) (sym (beside.cut ∙ ap (λ (s : List Region). beside.front ++ s) first.1.1))
+                  (free_here beside.front found.region first.1.0 found.region.start (omega arith, omega (arith, first.0.is_region.some))),
+            ),
+          )
+
+  -- WHETHER AN ADDRESS IS FREE, the neighbor below it tells
+  free_ends : (s : List Region) (e a : ℕ) → AllByRecursion (λ x. end_of x ≤ e) s → IsFree s a → a < e
+  free_ends [] e a low free = absurd free
+  free_ends (x ∷ s) e a low (inl has) = omega (arith, low.0, has.1)
+  free_ends (x ∷ s) e a low (inr free) = free_ends s e a low.1 free
+
+  free_split : (front back : List Region) (a : ℕ) → IsFree (front ++ back) a → IsFree front a ⊎ IsFree back a
+  free_split [] back a free = inr free
+  free_split (x ∷ front) back a (inl has) = inl (inl has)
+  free_split (x ∷ front) back a (inr free) = elim (free_split front back a free) [
+    | inl left ↦ inl (inr left)
+    | inr right ↦ inr right
+  ]
+
+  none_above : (a : ℕ) (back : List Region) → AllByRecursion (λ x. a < x.start) back → IsFree back a → ⊥
+  none_above a back high = none_free back a (all_map (λ x more has. omega (arith, more, has.0)) back high)
+
+  module _ {regions : List Region} (a : ℕ) {above : Option Found} (apart : StandApart regions) where
+    pub free_below : {found : Found} → AreNeighbors objects regions a (Some found) above → IsFree regions a ↔ (a < end_of found.region)
+    free_below {found} beside =
+        let rest = beside.below_is.1 in (
+          λ free. elim (free_split beside.front beside.back a (subst (λ (s : List Region). IsFree s a) beside.cut free)) [
+            | inl left ↦ free_ends beside.front (end_of found.region) a
+                (last_ends beside.front rest.0 found.region rest.1 (apart_front beside.front beside.back (subst StandApart beside.cut apart))) left
+            | inr right ↦ absurd (none_above a beside.back beside.starts_above right)
+          ],
+          λ less.
+              let low = (all_back (λ x. x.start ≤ a) rest.0 (found.region ∷ []) (subst (AllByRecursion (λ x. x.start ≤ a)) rest.1 beside.starts_below)).0 in
+              subst (λ (s : List Region). IsFree s a) (sym beside.cut) (free_left beside.front beside.back a (subst (λ (s : List Region). IsFree s a) (sym rest.1) (free_here rest.0 found.region [] a (low, less)))),
+        )
+
+    pub none_below : AreNeighbors objects regions a None above → IsFree regions a → ⊥
+    none_below beside free = none_above a beside.back beside.starts_above (subst (λ (s : List Region). IsFree s a) (beside.cut ∙ ap (λ (s : List Region). s ++ beside.back) beside.below_is) free)

@@ -1,0 +1,56 @@
+use Rattle.std.proofs.Common.{sym, ap, ◌∙◌, subst, is_some}
+use Rattle.std.specs.List.{AllByRecursion}
+use Rattle.ic_unsafe_ref.proofs.Placing.{placed_there}
+use Rattle.ic_link_ops.proofs.Calling.{accepted}
+use Rattle.region_allocator.specs.Regions.{AreApart}
+use Rattle.region_allocator.proofs.Keeping.{kept_covered, same_covered, adds_to, put_in}
+use Rattle.region_allocator.proofs.Trees.{vacant_free, each_ready}
+use Rattle.region_allocator.proofs.free_regions.FreeRegions.put_in.Goals as goal
+
+pub returns-in-Err-NoPlaceLeft-clause-kept : goal.returns-in-Err-NoPlaceLeft-clause-kept
+returns-in-Err-NoPlaceLeft-clause-kept g c = rw c.in-Err-NoPlaceLeft.ensures.refused.1 (kept_covered c.requires.kept c.place.new.self.links.0 c.place.new.self.links.1 c.place.ensures.keeps.0.entries c.place.ensures.keeps.1.entries)
+
+pub returns-in-Err-NoPlaceLeft-clause-refused : goal.returns-in-Err-NoPlaceLeft-clause-refused
+returns-in-Err-NoPlaceLeft-clause-refused g c = rw c.in-Err-NoPlaceLeft.ensures.refused.1 (same_covered c.requires.kept c.place.new.self.links.0 c.place.new.self.links.1 c.place.ensures.keeps.0.entries c.place.ensures.keeps.1.entries, (c.requires.region, c.requires.apart))
+
+pub returns-in-Err-OutOfMemory-clause-kept : goal.returns-in-Err-OutOfMemory-clause-kept
+returns-in-Err-OutOfMemory-clause-kept g c = rw c.in-Err-OutOfMemory.ensures.refused.1 (kept_covered c.requires.kept c.place.new.self.links.0 c.place.new.self.links.1 c.place.ensures.keeps.0.entries c.place.ensures.keeps.1.entries)
+
+pub returns-in-Err-OutOfMemory-clause-refused : goal.returns-in-Err-OutOfMemory-clause-refused
+returns-in-Err-OutOfMemory-clause-refused g c = rw c.in-Err-OutOfMemory.ensures.refused.1 (same_covered c.requires.kept c.place.new.self.links.0 c.place.new.self.links.1 c.place.ensures.keeps.0.entries c.place.ensures.keeps.1.entries, (c.requires.region, c.requires.apart))
+
+pub insert-requires-clause-placed : goal.insert-requires-clause-placed
+insert-requires-clause-placed g c = each_ready (kept_covered c.requires.kept c.place.new.self.links.0 c.place.new.self.links.1 c.place.ensures.keeps.0.entries c.place.ensures.keeps.1.entries).by_start c.in-Ok.ensures.placed
+
+pub insert-requires-clause-object : goal.insert-requires-clause-object
+insert-requires-clause-object g c = ap is_some (placed_there c.in-Ok.ensures.placed)
+
+pub insert-requires-2-clause-placed : goal.insert-requires-2-clause-placed
+insert-requires-2-clause-placed g c = each_ready (kept_covered c.requires.kept c.place.new.self.links.0 c.place.new.self.links.1 c.place.ensures.keeps.0.entries c.place.ensures.keeps.1.entries).by_length c.in-Ok.ensures.placed
+
+pub insert-requires-2-clause-object : goal.insert-requires-2-clause-object
+insert-requires-2-clause-object g c = rw (c.new-again.ensures, c.place-2.ensures) (ap is_some (placed_there c.in-Ok.ensures.placed))
+
+pub returns-clause-kept : goal.returns-clause-kept
+returns-clause-kept g c =
+    let k = (kept_covered c.requires.kept c.place.new.self.links.0 c.place.new.self.links.1 c.place.ensures.keeps.0.entries c.place.ensures.keeps.1.entries) in
+    let same = same_covered c.requires.kept c.place.new.self.links.0 c.place.new.self.links.1 c.place.ensures.keeps.0.entries c.place.ensures.keeps.1.entries in
+    let places = c.in-Ok.ensures.placed in
+    let free = vacant_free k.by_start c.in-Ok.object places.vacant in
+    let off = vacant_free k.by_length c.new-again.result (rw (c.new-again.ensures, c.place-2.ensures) places.vacant) in
+    (put_in k c.insert.new.links _ c.insert-2.new.links _ places (c.new-again.ensures ∙ c.place-2.ensures)
+    (λ s shown. accepted _ c.insert.result free c.insert.ensures.refused (c.insert.ensures.inserted s shown)) (accepted _ c.insert.result free c.insert.ensures.refused c.insert.ensures.acquired)
+    (λ s shown. accepted _ c.insert-2.result off c.insert-2.ensures.refused (c.insert-2.ensures.inserted s shown)) (accepted _ c.insert-2.result off c.insert-2.ensures.refused c.insert-2.ensures.acquired)
+    c.requires.region (subst (AllByRecursion (AreApart c.args.region)) (sym same) c.requires.apart)).0
+
+pub returns-clause-put : goal.returns-clause-put
+returns-clause-put g c =
+    let k = (kept_covered c.requires.kept c.place.new.self.links.0 c.place.new.self.links.1 c.place.ensures.keeps.0.entries c.place.ensures.keeps.1.entries) in
+    let same = same_covered c.requires.kept c.place.new.self.links.0 c.place.new.self.links.1 c.place.ensures.keeps.0.entries c.place.ensures.keeps.1.entries in
+    let places = c.in-Ok.ensures.placed in
+    let free = vacant_free k.by_start c.in-Ok.object places.vacant in
+    let off = vacant_free k.by_length c.new-again.result (rw (c.new-again.ensures, c.place-2.ensures) places.vacant) in
+    adds_to same (put_in k c.insert.new.links _ c.insert-2.new.links _ places (c.new-again.ensures ∙ c.place-2.ensures)
+    (λ s shown. accepted _ c.insert.result free c.insert.ensures.refused (c.insert.ensures.inserted s shown)) (accepted _ c.insert.result free c.insert.ensures.refused c.insert.ensures.acquired)
+    (λ s shown. accepted _ c.insert-2.result off c.insert-2.ensures.refused (c.insert-2.ensures.inserted s shown)) (accepted _ c.insert-2.result off c.insert-2.ensures.refused c.insert-2.ensures.acquired)
+    c.requires.region (subst (AllByRecursion (AreApart c.args.region)) (sym same) c.requires.apart)).1

@@ -1,0 +1,26 @@
+-- How the free regions change by one object.
+use Rattle.std.specs.Prelude.{◌≡◌, ◌<◌, ◌⊎◌, List, ◌∷◌, ◌++◌}
+use Rattle.std.specs.List.{AllByRecursion}
+use Rattle.region_allocator.specs.declared.region.Region.{Region}
+use Rattle.region_allocator.specs.Regions.{end_of, IsRegion, AreApart}
+
+-- ONE REGION MORE
+pub record Adds (region : Region) (old new : List Region) : Type 0 where
+  pub front : List Region
+  pub back : List Region
+  pub was : old ≡ front ++ back
+  pub is : new ≡ front ++ region ∷ back
+
+-- ANOTHER REGION in the place of one
+pub record Changes (out region : Region) (old new : List Region) : Type 0 where
+  pub front : List Region
+  pub back : List Region
+  pub was : old ≡ front ++ out ∷ back
+  pub is : new ≡ front ++ region ∷ back
+
+-- A REGION FITS in the place of one: they share an address, and it is apart from all others
+pub record FitsFor (out region : Region) (regions : List Region) : Type 0 where
+  pub is_region : IsRegion region
+  pub low : region.start < end_of out
+  pub high : out.start < end_of region
+  pub apart : AllByRecursion (λ other. (other ≡ out) ⊎ AreApart region other) regions

@@ -1,0 +1,5 @@
+pub mod Regions
+pub mod Refusals
+pub mod Kept
+pub mod Changes
+pub mod Neighbors

@@ -1,0 +1,60 @@
+-- Regions of addresses, and which addresses are free.
+use Rattle.std.specs.Prelude.{◌≡◌, ℕ, ◌+◌, ◌^◌, ◌<◌, ◌≤◌, ◌↔◌, ◌⊎◌, List, [], ◌∷◌, ◌++◌}
+use Rattle.std.specs.List.{AllByRecursion}
+use Rattle.region_allocator.specs.declared.region.Region.{Region}
+
+-- so many addresses from `start` on
+abbrev pub region_of : ℕ → ℕ → Region
+region_of start length = record { start = start; length = length }
+
+-- the first address behind a region
+abbrev pub end_of : Region → ℕ
+end_of region = region.start + region.length
+
+-- THE REGION HAS the address
+abbrev pub Has : Region → ℕ → Type 0
+Has region address = (region.start ≤ address) × (address < end_of region)
+
+-- THE ADDRESS IS FREE: one of the free regions has it
+abbrev pub IsFree : List Region → ℕ → Type 0
+IsFree [] address = ⊥
+IsFree (region ∷ regions) address = Has region address ⊎ IsFree regions address
+
+-- A REGION has an address, and ends at `u64::MAX` or before
+pub record IsRegion (region : Region) : Type 0 where
+  pub some : 0 < region.length
+  pub fits : end_of region < 2 ^ 64
+
+-- TWO REGIONS ARE APART: they neither share an address nor touch
+abbrev pub AreApart : Region → Region → Type 0
+AreApart region other = (end_of region < other.start) ⊎ (end_of other < region.start)
+
+-- REGIONS STAND APART: they are regions, and rise by their addresses, with one between two that is not free
+abbrev pub StandApart : List Region → Type 0
+StandApart [] = Unit {0}
+StandApart (region ∷ regions) = IsRegion region × AllByRecursion (λ later. end_of region < later.start) regions × StandApart regions
+
+-- THE REGION IS FREED: no address of it was free, and exactly these are free in addition
+pub record FreesRegion (region : Region) (old new : List Region) : Type 0 where
+  pub is_region : IsRegion region
+  pub was_taken : (address : ℕ) → Has region address → ¬ IsFree old address
+  pub free : (address : ℕ) → IsFree new address ↔ (IsFree old address ⊎ Has region address)
+
+-- THE REGION IS ALLOCATED: each address of it was free, and exactly these are free no longer
+pub record AllocatesRegion (region : Region) (old new : List Region) : Type 0 where
+  pub was_free : (address : ℕ) → Has region address → IsFree old address
+  pub free : (address : ℕ) → IsFree new address ↔ (IsFree old address × ¬ Has region address)
+
+-- THE BEST FIT: the region is the end of one that was free, and no other one that is so long is shorter than that
+pub record IsBestFit (region : Region) (old : List Region) : Type 0 where
+  pub front : List Region
+  pub whole : Region
+  pub back : List Region
+  pub was : old ≡ front ++ whole ∷ back
+  pub end : end_of region ≡ end_of whole
+  pub long_enough : region.length ≤ whole.length
+  pub shortest : AllByRecursion (λ other. region.length ≤ other.length → whole.length ≤ other.length) old
+
+-- none is so long
+abbrev pub AreShorter : List Region → ℕ → Type 0
+AreShorter regions length = AllByRecursion (λ region. region.length < length) regions

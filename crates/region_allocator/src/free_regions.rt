@@ -1,0 +1,210 @@
+//! The free regions, each in both trees.
+
+ghost use Rattle.std.specs.Prelude.{◌≡◌, ◌≢◌, ◌≤◌, ◌+◌, ℕ, true, Option, Some, IfSome, IfNone, OnOk, IfOk, IfErr};
+ghost use Rattle.std.specs.List.{AllByRecursion};
+ghost use Rattle.ic_unsafe_ref.specs.declared.place.Place.{Place};
+ghost use Rattle.ic_unsafe_ref.specs.Objects.{object_at, is_placed};
+ghost use Rattle.region_allocator.specs.declared.neighbors.Found.{Found};
+ghost use Rattle.region_allocator.specs.declared.region.Region.{Region};
+ghost use Rattle.region_allocator.specs.Regions.{region_of, IsRegion, AreApart, FreesRegion, AllocatesRegion};
+ghost use Rattle.region_allocator.specs.Refusals.{IsRefused};
+ghost use Rattle.region_allocator.specs.Kept.{regions_of, IsKept};
+ghost use Rattle.region_allocator.specs.Changes.{Adds, Changes, FitsFor};
+ghost use Rattle.region_allocator.specs.Neighbors.{IsFound, IsShortest, AreNeighbors, Touches};
+
+use crate::FreeError;
+use crate::neighbors::{Found, ending_at, look_up, starting_at};
+use crate::region::{ByLength, ByStart, Region};
+use ic_link_ops::rbtree::LinkOps;
+use ic_pool::{PlaceError, Pool};
+use ic_rbtree::{Bound, RBTree};
+use ic_unsafe_ref::UnsafeRef;
+use std::alloc::{Allocator, Global};
+
+/// The free regions: objects, each of which is linked in both trees.
+#[derive(Drop)]
+pub(crate) struct FreeRegions<A: Allocator = Global> {
+    pub(crate) pool: Pool<Region, (LinkOps<A>, LinkOps<A>), A>,
+    pub(crate) by_start: RBTree<ByStart>,
+    pub(crate) by_length: RBTree<ByLength>,
+}
+
+impl<A: Allocator> FreeRegions<A> {
+    // The last region that starts at the address or below. One descent, O(log n).
+    pub(crate) fn below(&self, address: u64) -> Option<Found>
+        requires kept { IsKept self.now }
+        ensures { (above : Option Found) × AreNeighbors self.now.pool.objects (regions_of self.now) address result above }
+    {
+        let cursor = self.by_start.upper_bound(
+            &self.pool.links.0,
+            &self.pool.objects,
+            Bound::Included(&address),
+        );
+        look_up(&self.pool.objects, cursor.clone_pointer())
+    }
+
+    // The last region that starts at the address or below, and the first that starts above it. One descent, O(log n).
+    pub(crate) fn neighbors(&self, address: u64) -> (Option<Found>, Option<Found>)
+        requires kept { IsKept self.now }
+        ensures { AreNeighbors self.now.pool.objects (regions_of self.now) address result.0 result.1 }
+    {
+        let below = self.by_start.upper_bound(
+            &self.pool.links.0,
+            &self.pool.objects,
+            Bound::Included(&address),
+        );
+        let above = below.peek_next();
+        (
+            look_up(&self.pool.objects, below.clone_pointer()),
+            look_up(&self.pool.objects, above.clone_pointer()),
+        )
+    }
+
+    // The regions that touch this one, in front and behind. It is refused where one has an address of it.
+    pub(crate) fn touching(
+        &self,
+        region: Region,
+    ) -> Result<(Option<Found>, Option<Found>), FreeError>
+        requires kept { IsKept self.now }
+        requires region { IsRegion region }
+        ensures touched { IfOk result (λ found. Touches self.now.pool.objects (regions_of self.now) region found.0 found.1) }
+        ensures refused { IfErr result (IsRefused region (regions_of self.now)) }
+    {
+        let (below, above) = self.neighbors(region.start);
+        let front = match ending_at(below, region.start) {
+            Ok(front) => front,
+            Err(error) => return Err(error),
+        };
+        match starting_at(above, region.end()) {
+            Ok(back) => Ok((front, back)),
+            Err(error) => Err(error),
+        }
+    }
+
+    // The first region by length that is so long. One descent, O(log n).
+    pub(crate) fn shortest(&self, length: u64) -> Option<Found>
+        requires kept { IsKept self.now }
+        ensures { IsShortest self.now.pool.objects (regions_of self.now) length result }
+    {
+        let first = self.by_length.lower_bound(
+            &self.pool.links.1,
+            &self.pool.objects,
+            Bound::Included(&length),
+        );
+        look_up(&self.pool.objects, first.clone_pointer())
+    }
+
+    // A new object, put into both trees.
+    pub(crate) fn put_in(&mut self, region: Region) -> Result<(), FreeError>
+        requires kept { IsKept self.old }
+        requires region { IsRegion region }
+        requires apart { AllByRecursion (AreApart region) (regions_of self.old) }
+        ensures kept { IsKept self.new }
+        ensures put { OnOk result (Adds region (regions_of self.old) (regions_of self.new)) }
+        ensures refused { IfErr result (λ error. (regions_of self.new ≡ regions_of self.old)
+            × IsRefused region (regions_of self.old) error) }
+    {
+        let object = match self.pool.place(region) {
+            Ok(object) => object,
+            Err(PlaceError::NoPlaceLeft(_)) => return Err(FreeError::TooManyRegions),
+            Err(PlaceError::OutOfMemory(_)) => return Err(FreeError::OutOfMemory),
+        };
+        let again = UnsafeRef::new(object.place());
+        let Pool { objects, links } = &mut self.pool;
+        let _ = self.by_start.insert(&mut links.0, objects, object); // proved: it is not linked
+        let _ = self.by_length.insert(&mut links.1, objects, again); // proved: it is not linked
+        Ok(())
+    }
+
+    // Takes the object off both trees, and out of its place.
+    pub(crate) fn take_out(&mut self, object: UnsafeRef<Region>)
+        requires kept { IsKept self.old }
+        requires placed { is_placed self.old.pool.objects object ≡ true }
+        ensures kept { IsKept self.new }
+        ensures taken { (out : Region) → object_at self.old.pool.objects object ≡ Some out
+            → Adds out (regions_of self.new) (regions_of self.old) }
+        ensures others { (p : Place) → p ≢ object → object_at self.new.pool.objects p ≡ object_at self.old.pool.objects p }
+    {
+        self.by_start.remove(&mut self.pool.links.0, &object);
+        self.by_length.remove(&mut self.pool.links.1, &object);
+        self.pool.remove(object);
+    }
+
+    // Puts another region in the place of the object's. It stays between its neighbors, and goes elsewhere by its length.
+    pub(crate) fn resize(&mut self, object: UnsafeRef<Region>, region: Region)
+        requires kept { IsKept self.old }
+        requires placed { is_placed self.old.pool.objects object ≡ true }
+        requires fits { (out : Region) → object_at self.old.pool.objects object ≡ Some out
+            → FitsFor out region (regions_of self.old) }
+        ensures kept { IsKept self.new }
+        ensures resized { (out : Region) → object_at self.old.pool.objects object ≡ Some out
+            → Changes out region (regions_of self.old) (regions_of self.new) }
+    {
+        self.by_length.remove(&mut self.pool.links.1, &object);
+        *self.pool.get_mut(&object).unwrap() = region; // proved: it is placed
+        let _ = self
+            .by_length
+            .insert(&mut self.pool.links.1, &self.pool.objects, object); // proved: it is not linked
+    }
+
+    // Adds a region, joined with those that it touches.
+    pub(crate) fn add(&mut self, region: Region) -> Result<(), FreeError>
+        requires kept { IsKept self.old }
+        requires region { IsRegion region }
+        ensures kept { IsKept self.new }
+        ensures freed { OnOk result (FreesRegion region (regions_of self.old) (regions_of self.new)) }
+        ensures refused { IfErr result (λ error. (regions_of self.new ≡ regions_of self.old)
+            × IsRefused region (regions_of self.old) error) }
+    {
+        let (front, back) = match self.touching(region) {
+            Ok(found) => found,
+            Err(error) => return Err(error),
+        };
+        match front {
+            None => match back {
+                None => self.put_in(region),
+                Some(back) => {
+                    let start = region.start;
+                    let length = region.length + back.region.length;
+                    self.resize(back.object, Region { start, length });
+                    Ok(())
+                }
+            },
+            Some(front) => match back {
+                None => {
+                    let start = front.region.start;
+                    let length = front.region.length + region.length;
+                    self.resize(front.object, Region { start, length });
+                    Ok(())
+                }
+                Some(back) => {
+                    let start = front.region.start;
+                    let length = front.region.length + region.length + back.region.length;
+                    self.take_out(back.object);
+                    self.resize(front.object, Region { start, length });
+                    Ok(())
+                }
+            },
+        }
+    }
+
+    // Takes the end of a region, and leaves `rest` addresses of it.
+    pub(crate) fn cut(&mut self, found: Found, rest: u64)
+        requires kept { IsKept self.old }
+        requires found { IsFound self.old.pool.objects found }
+        requires rest { rest ≤ found.region.length }
+        ensures kept { IsKept self.new }
+        ensures cut { (length : ℕ) → rest + length ≡ found.region.length
+            → AllocatesRegion (region_of (found.region.start + rest) length) (regions_of self.old) (regions_of self.new) }
+    {
+        if rest == 0 {
+            self.take_out(found.object);
+            return;
+        }
+        let left = Region {
+            start: found.region.start,
+            length: rest,
+        };
+        self.resize(found.object, left);
+    }
+}

@@ -1,0 +1,58 @@
+//! What stands at a place: a free region.
+
+ghost use Rattle.std.specs.Prelude.{◌≡◌, ◌<◌, ◌^◌};
+ghost use Rattle.region_allocator.specs.Regions.{end_of};
+
+use ic_rbtree::KeyAdapter;
+
+/// So many free addresses in a row.
+#[derive(Clone, Copy)]
+pub struct Region {
+    pub(crate) start: u64,
+    pub(crate) length: u64,
+}
+
+impl Region {
+    // The first address behind it.
+    #[inline]
+    pub(crate) fn end(&self) -> u64
+        requires fits { end_of self.now < 2 ^ 64 }
+        ensures { result ≡ end_of self.now }
+    {
+        self.start + self.length
+    }
+}
+
+/// Regions stand by their starts.
+#[derive(Clone, Copy)]
+pub(crate) struct ByStart;
+
+impl KeyAdapter for ByStart {
+    type Value = Region;
+
+    type Key = u64;
+
+    ghost key_of = { λ a region. region.start };
+
+    #[inline]
+    fn get_key<'v>(&self, region: &'v Region) -> &'v u64 {
+        &region.start
+    }
+}
+
+/// Regions stand by their lengths.
+#[derive(Clone, Copy)]
+pub(crate) struct ByLength;
+
+impl KeyAdapter for ByLength {
+    type Value = Region;
+
+    type Key = u64;
+
+    ghost key_of = { λ a region. region.length };
+
+    #[inline]
+    fn get_key<'v>(&self, region: &'v Region) -> &'v u64 {
+        &region.length
+    }
+}

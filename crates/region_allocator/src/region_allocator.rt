@@ -1,0 +1,114 @@
+//! The allocator.
+//!
+//! ```text
+//! let mut space = RegionAllocator::new(rt.alloc());
+//! space.free(0, 100)?;
+//! space.allocate(30) // Some(70)
+//! space.is_free(70) // false
+//! ```
+
+ghost use Rattle.std.specs.Prelude.{◌≡◌, ◌↔◌, [], OnOk, OnSome, IfErr, IfSome, IfNone, IsTrue};
+
+use crate::FreeError;
+use crate::free_regions::FreeRegions;
+use crate::region::{ByLength, ByStart, Region};
+use ic_link_ops::rbtree::LinkOps;
+use ic_pool::Pool;
+use ic_rbtree::RBTree;
+use std::alloc::{Allocator, Global};
+use std::marker::Model;
+
+/// An allocator of addresses.
+///
+/// A clause sees the free regions in the order of their addresses. None is empty, and none shares an address with another one or
+/// touches it.
+#[derive(Drop)]
+pub struct RegionAllocator<A: Allocator = Global> {
+    regions: FreeRegions<A>,
+}
+
+impl<A: Allocator> Model for RegionAllocator<A> {
+    ghost use Rattle.std.specs.Prelude.{List};
+    ghost use Rattle.region_allocator.specs.declared.region.Region.{Region};
+    ghost use Rattle.region_allocator.specs.Kept.{regions_of, IsKept};
+
+    ghost Value = { List Region };
+
+    ghost view = { λ s. regions_of s.regions };
+
+    ghost invariant = { λ s. IsKept s.regions };
+}
+
+impl<A: Allocator> RegionAllocator<A> {
+    ghost use Rattle.region_allocator.specs.Regions.{region_of, IsFree, StandApart, FreesRegion, AllocatesRegion, IsBestFit, AreShorter};
+    ghost use Rattle.region_allocator.specs.Refusals.{IsRefused};
+
+    /// An allocator with no free address. It takes no memory.
+    pub fn new(alloc: A) -> RegionAllocator<A>
+    where
+        A: Copy,
+        ensures { result ≡ [] }
+    {
+        RegionAllocator {
+            regions: FreeRegions {
+                pool: Pool::new(alloc, (LinkOps::new(alloc), LinkOps::new(alloc))),
+                by_start: RBTree::new(ByStart),
+                by_length: RBTree::new(ByLength),
+            },
+        }
+    }
+
+    /// Frees `length` addresses from `start` on. They are one region then with the free ones that touch them. O(log n).
+    ///
+    /// Where it is refused, nothing has changed: with `Empty` or `TooLong` where there is no such region, with `Overlaps` exactly if
+    /// one of the addresses is free. It takes memory only where no free region touches them, in at most three requests, and else is
+    /// never refused with `OutOfMemory` or `TooManyRegions`.
+    pub fn free(&mut self, start: u64, length: u64) -> Result<(), FreeError>
+        ensures freed { OnOk result (FreesRegion (region_of start length) self.old self.new) }
+        ensures refused { IfErr result (λ error. (self.new ≡ self.old) × IsRefused (region_of start length) self.old error) }
+        ensures apart { OnOk result (StandApart self.new) }
+    {
+        if length == 0 {
+            return Err(FreeError::Empty);
+        }
+        if length > u64::MAX - start {
+            return Err(FreeError::TooLong);
+        }
+        self.regions.add(Region { start, length })
+    }
+
+    /// Allocates `length` addresses in a row, and answers the first one: the end of the shortest free region that is long enough.
+    /// O(log n), and it takes no memory.
+    ///
+    /// `None` says that all are shorter, and nothing has changed then. Of no length, it takes nothing: the answer is where the
+    /// shortest region ends.
+    pub fn allocate(&mut self, length: u64) -> Option<u64>
+        ensures allocated { IfSome result (λ start. AllocatesRegion (region_of start length) self.old self.new) }
+        ensures best_fit { IfSome result (λ start. IsBestFit (region_of start length) self.old) }
+        ensures none { IfNone result ((self.new ≡ self.old) × AreShorter self.old length) }
+        ensures apart { OnSome result (StandApart self.new) }
+    {
+        let found = self.regions.shortest(length)?;
+        let start = found.region.start;
+        let rest = found.region.length - length;
+        self.regions.cut(found, rest);
+        Some(start + rest)
+    }
+
+    /// Whether the address is free. O(log n).
+    pub fn is_free(&self, address: u64) -> bool
+        ensures { IsTrue result ↔ IsFree self.now address }
+    {
+        match self.regions.below(address) {
+            Some(found) => address < found.region.end(),
+            None => false,
+        }
+    }
+
+    /// Whether no address is free. O(1).
+    pub fn is_empty(&self) -> bool
+        ensures { IsTrue result ↔ (self.now ≡ []) }
+    {
+        self.regions.by_start.is_empty()
+    }
+}

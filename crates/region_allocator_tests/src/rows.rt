@@ -1,0 +1,111 @@
+//! The worked rows: calls, and what they answer.
+
+use crate::calls::{Answer, Call, make};
+use region_allocator::{FreeError, RegionAllocator};
+use std::alloc::{Allocator, Global};
+use test_support::rationed::Rationed;
+
+type Row = (Call, Answer);
+
+// What is freed in pieces is one region in the end: the third piece joins one behind it, the last one on both sides.
+const JOINED: &[Row] = &[
+    (Call::IsEmpty, Answer::Truth(true)),
+    (Call::Allocate(1), Answer::Nothing),
+    (Call::Free(0, 100), Answer::Done),
+    (Call::Allocate(30), Answer::At(70)),
+    (Call::Allocate(70), Answer::At(0)),
+    (Call::IsEmpty, Answer::Truth(true)),
+    (Call::Free(40, 10), Answer::Done),
+    (Call::Free(50, 10), Answer::Done),
+    (Call::Free(0, 40), Answer::Done),
+    (Call::Free(80, 20), Answer::Done),
+    (Call::Allocate(61), Answer::Nothing),
+    (Call::Free(60, 20), Answer::Done),
+    (Call::Allocate(100), Answer::At(0)),
+    (Call::IsEmpty, Answer::Truth(true)),
+];
+
+// The end of the shortest region is taken that is long enough.
+const BEST_FIT: &[Row] = &[
+    (Call::Free(100, 50), Answer::Done),
+    (Call::Free(200, 10), Answer::Done),
+    (Call::Free(300, 20), Answer::Done),
+    (Call::Allocate(15), Answer::At(305)),
+    (Call::Allocate(10), Answer::At(200)),
+    (Call::Allocate(6), Answer::At(144)),
+    (Call::Allocate(5), Answer::At(300)),
+    (Call::IsFree(99), Answer::Truth(false)),
+    (Call::IsFree(100), Answer::Truth(true)),
+    (Call::IsFree(143), Answer::Truth(true)),
+    (Call::IsFree(144), Answer::Truth(false)),
+];
+
+// Only the addresses 100 to 143 are free at first.
+const REFUSED: &[Row] = &[
+    (Call::Free(143, 10), Answer::Refused(FreeError::Overlaps)),
+    (Call::Free(90, 11), Answer::Refused(FreeError::Overlaps)),
+    (Call::Free(110, 10), Answer::Refused(FreeError::Overlaps)),
+    (Call::Free(90, 90), Answer::Refused(FreeError::Overlaps)),
+    (Call::Free(50, 0), Answer::Refused(FreeError::Empty)),
+    (
+        Call::Free(18446744073709551615, 1),
+        Answer::Refused(FreeError::TooLong),
+    ),
+    (Call::Free(18446744073709551614, 1), Answer::Done),
+    (Call::IsFree(18446744073709551614), Answer::Truth(true)),
+    (Call::Allocate(44), Answer::At(100)),
+];
+
+// A region that touches none needs memory; one that joins another needs none.
+const FIRST: Row = (Call::Free(0, 100), Answer::Done);
+
+const REFUSAL: Row = (Call::Free(0, 100), Answer::Refused(FreeError::OutOfMemory));
+
+const JOINING: Row = (Call::Free(100, 1), Answer::Done);
+
+// Whether the call answers so.
+fn answers<A: Allocator>(space: &mut RegionAllocator<A>, row: Row) -> bool {
+    make(space, row.0) == row.1
+}
+
+// Whether each call of the rows answers so.
+fn plays(space: &mut RegionAllocator, rows: &[Row]) -> bool {
+    let mut as_wanted = true;
+    for row in rows {
+        as_wanted &= answers(space, *row);
+    }
+    as_wanted
+}
+
+// Whether the refused request changes nothing, so that the call can be made again, and a join asks for no memory.
+fn is_refused_once(memory: &Rationed, number: u64) -> bool {
+    let mut space = RegionAllocator::new(memory);
+    memory.refuse(number);
+    let refused = answers(&mut space, REFUSAL) && space.is_empty();
+    let freed = answers(&mut space, FIRST);
+    memory.refuse(0);
+    refused && freed && answers(&mut space, JOINING)
+}
+
+// Whether each of the three requests of the first region is refused so.
+fn is_refused_in_turn(alloc: Global) -> bool {
+    let memory = Rationed::new(alloc, u64::MAX);
+    let mut as_wanted = true;
+    for number in 0..3 {
+        as_wanted &= is_refused_once(&memory, number);
+    }
+    as_wanted
+}
+
+#[test]
+fn rows_answer_as_worked_out(rt: HostRuntime) {
+    let mut space = RegionAllocator::new(rt.alloc());
+    assert!(rt; plays(&mut space, JOINED));
+    assert!(rt; plays(&mut space, BEST_FIT));
+    assert!(rt; plays(&mut space, REFUSED));
+}
+
+#[test]
+fn a_refused_request_changes_nothing(rt: HostRuntime) {
+    assert!(rt; is_refused_in_turn(rt.alloc()));
+}
