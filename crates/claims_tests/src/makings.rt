@@ -4,10 +4,10 @@ ghost use Rattle.std.specs.Prelude.{All};
 ghost use Rattle.ic_atomic.specs.Holders.{IsOf};
 
 use ic_atomic::{Claims, ClaimsError, Core, Holder, Step};
+use ic_test_support::rationed::Rationed;
 use ic_unsafe_ref::Place;
 use std::alloc::Global;
 use std::fmt::Write;
-use test_support::rationed::Rationed;
 
 // The request for memory that is refused, how many places and holders are asked for, and the number and the text of the error, empty where
 // there is none.

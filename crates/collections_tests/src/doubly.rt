@@ -13,11 +13,11 @@ use crate::notes::{same, write_looks, write_object, write_places, write_values};
 use ic_laws::linked_list as laws;
 use ic_link_ops::linked_list::{Link, LinkOps};
 use ic_linked_list::{Cursor, Iter, LinkedList};
+use ic_test_support::notes::{Answer, Text};
+use ic_test_support::tables::write_linked;
 use ic_unsafe_ref::{Objects, UnsafeRef};
 use std::alloc::Global;
 use std::process::Abort;
-use test_support::notes::{Answer, Text};
-use test_support::tables::write_linked;
 
 /// A list, the table of its links, which covers the places 0 to 7, and its objects: 10 to 80 stand there, in this order.
 #[derive(Drop)]

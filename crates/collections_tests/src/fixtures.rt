@@ -7,11 +7,11 @@ ghost use Rattle.ic_unsafe_ref.specs.Places.{index_of};
 ghost use Rattle.ic_link_ops.specs.PlainTables.{table};
 
 use ic_link_ops::{PlainTable, Words};
+use ic_test_support::answers::placed;
+use ic_test_support::tables::are_placed;
 use ic_unsafe_ref::{Objects, Place, UnsafeRef};
 use std::alloc::Global;
 use std::process::Abort;
-use test_support::answers::placed;
-use test_support::tables::are_placed;
 
 /// The objects 10 to 80, in this order, and a table of links that covers their places, 0 to 7.
 pub(crate) fn eight<W: Words>(rt: &impl Abort, alloc: Global) -> (Objects<u64>, PlainTable<W>)

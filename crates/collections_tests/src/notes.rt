@@ -1,10 +1,10 @@
 //! What the calls of a test answered.
 
+use ic_test_support::answers::{object, standing, value};
+use ic_test_support::notes::{Answer, Text};
 use ic_unsafe_ref::{Place, UnsafeRef};
 use std::alloc::Global;
 use std::process::Abort;
-use test_support::answers::{object, standing, value};
-use test_support::notes::{Answer, Text};
 
 /// Asserts that the notes have these words. The one comparison of each test.
 pub(crate) fn same(rt: &impl Abort, alloc: Global, notes: &Text, wanted: &str) {

@@ -10,12 +10,12 @@ use crate::notes::{same, write_object, write_places, write_values};
 use ic_laws::singly_linked_list as laws;
 use ic_link_ops::singly_linked_list::LinkOps;
 use ic_singly_linked_list::{Iter, SinglyLinkedList};
+use ic_test_support::answers::replaced;
+use ic_test_support::notes::{Answer, Text};
+use ic_test_support::tables::write_linked;
 use ic_unsafe_ref::Objects;
 use std::alloc::Global;
 use std::process::Abort;
-use test_support::answers::replaced;
-use test_support::notes::{Answer, Text};
-use test_support::tables::write_linked;
 
 /// A list, the table of its links, which covers the places 0 to 7, and its objects: 10 to 80 stand there, in this order.
 #[derive(Drop)]

@@ -15,12 +15,12 @@ use ic_laws::xor_linked_list as laws;
 use ic_link_ops::rbtree::ThreeWords;
 use ic_link_ops::xor_linked_list::{LinkOps, Xor};
 use ic_link_ops::{NextWord, OneWord, PlainTable};
+use ic_test_support::notes::{Answer, Text};
+use ic_test_support::tables::write_linked;
 use ic_unsafe_ref::{Objects, Place, UnsafeRef};
 use ic_xor_linked_list::{Iter, XorLinkedList};
 use std::alloc::Global;
 use std::process::Abort;
-use test_support::notes::{Answer, Text};
-use test_support::tables::write_linked;
 
 /// A list, the table of its links, which covers the places 0 to 7, and its objects: 10 to 80 stand there, in this order.
 #[derive(Drop)]

@@ -1,8 +1,8 @@
 //! Objects by their places, with memory and without.
 
 use crate::fixture::{at, check};
+use ic_test_support::rationed::Rationed;
 use ic_unsafe_ref::{Objects, Place, UnsafeRef};
-use test_support::rationed::Rationed;
 
 // Places the value, if a place is left, and answers where it stands, or the value that came back.
 fn put(objects: &mut Objects<u64, &Rationed>, value: u64) -> Result<Option<Place>, u64> {

@@ -3,8 +3,8 @@
 use crate::fixture::{check, one_linked};
 use ic_link_ops::singly_linked_list::{Link, LinkOps};
 use ic_link_ops::{LentTable, LinkOps as _, linked_list};
+use ic_test_support::rationed::Rationed;
 use ic_unsafe_ref::Place;
-use test_support::rationed::Rationed;
 
 // Why a table does not cover so many places, as a number, 0 where it does; and how many it covers then.
 fn cover(links: &mut linked_list::LinkOps<&Rationed>, count: usize) -> [usize; 2] {

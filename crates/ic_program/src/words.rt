@@ -8,10 +8,10 @@
 //! words.next()   // no more
 //! ```
 
-use ic_fields::Kind;
+use ic_any_table::Kind;
+use ic_commands::{index, kind, number, place};
 use ic_rbtree::Bound;
 use ic_unsafe_ref::Place;
-use ic_words::{index, kind, number, place};
 
 /// The words of a line that were not read yet. They stand between spaces.
 #[derive(Clone, Copy)]

@@ -10,8 +10,8 @@ ghost use Rattle.ic_program.specs.Arguments.{AskFor};
 
 use crate::fault::Fault;
 use ic_atomic::Gate;
+use ic_commands::number;
 use ic_unsafe_ref::Place;
-use ic_words::number;
 use ic_workers::{doubles, fan_out};
 use std::alloc::Allocator;
 use std::io::{self, Write};

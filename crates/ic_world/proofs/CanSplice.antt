@@ -6,15 +6,15 @@ use Rattle.ic_unsafe_ref.specs.declared.place.Place.{Place}
 use Rattle.ic_unsafe_ref.specs.Objects.{Objects}
 use Rattle.ic_link_ops.specs.Sequences.{IsDisjoint}
 use Rattle.ic_link_ops.specs.Tables.{Table}
-use Rattle.ic_fields.specs.declared.entry.Entry.{Entry}
-use Rattle.ic_fields.specs.declared.kind.Kind.{Kind}
-use Rattle.ic_fields.specs.Kinds.{number_of, kind_with}
+use Rattle.ic_any_table.specs.declared.entry.Entry.{Entry}
+use Rattle.ic_any_table.specs.declared.kind.Kind.{Kind}
+use Rattle.ic_any_table.specs.Kinds.{number_of, kind_with}
 use Rattle.ic_world.specs.declared.field.WorldField.{WorldField}
-use Rattle.ic_members.specs.declared.members.Members.{Members}
-use Rattle.ic_members.specs.Members.{Keeps, Held, kind_in, members_in}
-use Rattle.ic_members.proofs.AllKinds.{lawful as lawful_field}
-use Rattle.ic_members.proofs.AllKinds.{IsLawful, one_sequence}
-use Rattle.ic_members.specs.Edits.{PutsAll}
+use Rattle.ic_any_collection.specs.declared.members.Members.{Members}
+use Rattle.ic_any_collection.specs.Members.{Keeps, Held, kind_in, members_in}
+use Rattle.ic_any_collection.proofs.AllKinds.{lawful as lawful_field}
+use Rattle.ic_any_collection.proofs.AllKinds.{IsLawful, one_sequence}
+use Rattle.ic_any_collection.specs.Edits.{PutsAll}
 use Rattle.ic_world.specs.declared.collection.Collection.{Collection}
 use Rattle.ic_world.specs.declared.call.Refusal.TheVariants.{WrongKind, SameCollection, OtherField}
 use Rattle.ic_world.specs.Family.{Family, same_kind}

@@ -8,17 +8,17 @@ use Rattle.ic_unsafe_ref.specs.Objects.{Objects}
 use Rattle.ic_link_ops.specs.Sequences.{IsAbsent, IsDisjoint}
 use Rattle.ic_link_ops.specs.Tables.{Table, KeepsBeside}
 use Rattle.ic_link_ops.proofs.SequenceLemmas.{absent_swap, disjoint_sym}
-use Rattle.ic_fields.specs.declared.entry.Entry.{Entry}
-use Rattle.ic_fields.specs.Entries.{is_linked, kind_of}
-use Rattle.ic_fields.specs.Kinds.{kind_with}
+use Rattle.ic_any_table.specs.declared.entry.Entry.{Entry}
+use Rattle.ic_any_table.specs.Entries.{is_linked, kind_of}
+use Rattle.ic_any_table.specs.Kinds.{kind_with}
 use Rattle.ic_world.specs.declared.collection.Collection.{Collection}
-use Rattle.ic_members.specs.declared.members.Members.{Members}
-use Rattle.ic_members.specs.Members.{Keeps, Alike, members_in}
+use Rattle.ic_any_collection.specs.declared.members.Members.{Members}
+use Rattle.ic_any_collection.specs.Members.{Keeps, Alike, members_in}
 use Rattle.ic_world.specs.Family.{Sequence, LinkField, with_linked, with_collection, field_of}
-use Rattle.ic_members.proofs.AllKinds.{IsLawful}
+use Rattle.ic_any_collection.proofs.AllKinds.{IsLawful}
 use Rattle.ic_world.specs.LinkedSets.{linked_in}
 use Rattle.ic_world.specs.Tables.{table, no_table, field_in, sequence, seen_as, shown_as, at, family_of, IsWhole, HasObject}
-use Rattle.ic_members.proofs.AllKinds.{one_sequence, keeps_frame}
+use Rattle.ic_any_collection.proofs.AllKinds.{one_sequence, keeps_frame}
 use Rattle.ic_world.proofs.Linked.{side}
 
 -- a map over two lists that differ at one index

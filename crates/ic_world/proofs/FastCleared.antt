@@ -3,7 +3,7 @@ use Rattle.std.proofs.Common.{◌≡◌, ℕ, true, List, map, set, Option, Some
 use Rattle.std.proofs.lemmas.List.{map-set}
 use Rattle.std.specs.declared.cmp.Ordering.{Ordering}
 use Rattle.ic_unsafe_ref.specs.Objects.{Objects}
-use Rattle.ic_members.specs.declared.members.Members.{Members}
+use Rattle.ic_any_collection.specs.declared.members.Members.{Members}
 use Rattle.ic_world.specs.declared.call.Command.TheVariants.{FastClear}
 use Rattle.ic_world.specs.declared.collection.Collection.{Collection}
 use Rattle.ic_world.specs.declared.field.WorldField.{WorldField}

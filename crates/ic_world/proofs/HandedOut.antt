@@ -5,11 +5,11 @@ use Rattle.ic_unsafe_ref.specs.Objects.{Objects}
 use Rattle.ic_link_ops.specs.Sequences.{IsDisjoint}
 use Rattle.ic_link_ops.specs.Tables.{Table}
 use Rattle.ic_link_ops.proofs.SequenceLemmas.{absent_swap}
-use Rattle.ic_fields.specs.declared.entry.Entry.{Entry}
-use Rattle.ic_fields.specs.declared.field.Field.{Field}
+use Rattle.ic_any_table.specs.declared.entry.Entry.{Entry}
+use Rattle.ic_any_table.specs.declared.field.Field.{Field}
 use Rattle.ic_world.specs.declared.field.WorldField.{WorldField}
-use Rattle.ic_members.specs.declared.members.Members.{Members}
-use Rattle.ic_members.specs.Members.{Held, members_in, kind_in}
+use Rattle.ic_any_collection.specs.declared.members.Members.{Members}
+use Rattle.ic_any_collection.specs.Members.{Held, members_in, kind_in}
 use Rattle.ic_world.specs.declared.collection.Collection.{Collection}
 use Rattle.ic_world.specs.declared.part.Part.{Part}
 use Rattle.ic_world.specs.declared.call.Refusal.{Refusal}

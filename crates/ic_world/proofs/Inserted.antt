@@ -9,13 +9,13 @@ use Rattle.ic_link_ops.specs.declared.errors.ReplaceError.TheVariants.{Null, Alr
 use Rattle.ic_link_ops.specs.Errors.{ByCause}
 use Rattle.ic_link_ops.specs.Sequences.{at_front, at_back, first, IsAfter, IsBefore}
 use Rattle.ic_link_ops.specs.Tables.{IsCovered, IsLinked, IsUnlinked}
-use Rattle.ic_fields.specs.declared.field.Field.{Field}
-use Rattle.ic_fields.specs.Fields.{look}
-use Rattle.ic_fields.specs.Entries.{is_linked}
-use Rattle.ic_members.specs.declared.members.Members.{Members}
-use Rattle.ic_members.specs.Members.{cursor_in, members_in, Held}
-use Rattle.ic_members.specs.Edits.{AtGap, Puts, Swaps, IsUnchanged}
-use Rattle.ic_members.proofs.AllKinds.{lawful, distinct}
+use Rattle.ic_any_table.specs.declared.field.Field.{Field}
+use Rattle.ic_any_table.specs.Fields.{look}
+use Rattle.ic_any_table.specs.Entries.{is_linked}
+use Rattle.ic_any_collection.specs.declared.members.Members.{Members}
+use Rattle.ic_any_collection.specs.Members.{cursor_in, members_in, Held}
+use Rattle.ic_any_collection.specs.Edits.{AtGap, Puts, Swaps, IsUnchanged}
+use Rattle.ic_any_collection.proofs.AllKinds.{lawful, distinct}
 use Rattle.ic_world.specs.declared.one_call.Call.TheVariants as one
 use Rattle.ic_world.specs.declared.one_call.Where.{Where}
 use Rattle.ic_world.specs.declared.one_call.Where.TheVariants.{Front, Back, Before, After}

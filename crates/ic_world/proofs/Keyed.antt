@@ -8,14 +8,14 @@ use Rattle.ic_unsafe_ref.specs.Objects.{Objects}
 use Rattle.ic_link_ops.specs.Sequences.{Cut, join}
 use Rattle.ic_link_ops.specs.Tables.{IsLinked}
 use Rattle.ic_rbtree.specs.Borders.{Finds, IsBorder, less_at}
-use Rattle.ic_fields.specs.declared.field.Field.{Field}
-use Rattle.ic_fields.specs.Fields.{look}
-use Rattle.ic_fields.specs.Entries.{is_linked}
-use Rattle.ic_members.specs.declared.members.Members.{Members}
-use Rattle.ic_members.specs.Members.{cursor_in, members_in, Held}
-use Rattle.ic_members.specs.Edits.{AtGap, Moves, IsUnchanged}
-use Rattle.ic_members.specs.Keyed.{FewLooks, IsVacantFor, PutsInOrder, PutsAtKey}
-use Rattle.ic_members.proofs.AllKinds.{lawful}
+use Rattle.ic_any_table.specs.declared.field.Field.{Field}
+use Rattle.ic_any_table.specs.Fields.{look}
+use Rattle.ic_any_table.specs.Entries.{is_linked}
+use Rattle.ic_any_collection.specs.declared.members.Members.{Members}
+use Rattle.ic_any_collection.specs.Members.{cursor_in, members_in, Held}
+use Rattle.ic_any_collection.specs.Edits.{AtGap, Moves, IsUnchanged}
+use Rattle.ic_any_collection.specs.Keyed.{FewLooks, IsVacantFor, PutsInOrder, PutsAtKey}
+use Rattle.ic_any_collection.proofs.AllKinds.{lawful}
 use Rattle.ic_world.specs.LinkedSets.{linked_in}
 use Rattle.std.specs.Option.{ok_or}
 use Rattle.ic_world.specs.declared.call.Refusal.TheVariants.{AlreadyLinked}

@@ -10,26 +10,26 @@ use Rattle.ic_unsafe_ref.specs.declared.place.Place.{Place}
 use Rattle.ic_unsafe_ref.specs.Objects.{Objects}
 use Rattle.ic_link_ops.specs.Sequences.{IsDisjoint}
 use Rattle.ic_link_ops.specs.Tables.{Table}
-use Rattle.ic_fields.specs.declared.entry.Entry.{Entry}
+use Rattle.ic_any_table.specs.declared.entry.Entry.{Entry}
 use Rattle.ic_world.specs.declared.field.WorldField.{WorldField}
-use Rattle.ic_fields.specs.declared.kind.Kind.{Kind}
-use Rattle.ic_fields.specs.Kinds.{carries}
-use Rattle.ic_fields.specs.Entries.{kind_of}
+use Rattle.ic_any_table.specs.declared.kind.Kind.{Kind}
+use Rattle.ic_any_table.specs.Kinds.{carries}
+use Rattle.ic_any_table.specs.Entries.{kind_of}
 use Rattle.ic_world.specs.declared.collection.Collection.{Collection}
-use Rattle.ic_members.specs.declared.members.Members.{Members}
+use Rattle.ic_any_collection.specs.declared.members.Members.{Members}
 use Rattle.ic_world.specs.declared.call.Refusal.{Refusal}
 use Rattle.ic_world.specs.declared.call.Refusal.TheVariants.{NoSuchField, WrongKind, OutOfMemory}
 use Rattle.ic_world.specs.Family.{Family, has_field, field_of, with_opened}
 use Rattle.ic_world.specs.Pieces.{Appends}
 use Rattle.ic_world.specs.declared.call.Command.TheVariants.{Open}
-use Rattle.ic_members.specs.Members.{Keeps, Held, kind_in, cursor_in}
+use Rattle.ic_any_collection.specs.Members.{Keeps, Held, kind_in, cursor_in}
 use Rattle.ic_world.specs.Tables.{table, table_of, field_in, sequence, seen_as, shown_as, at, family_of, IsWhole}
 use Rattle.ic_world.specs.Replies.{reply_of}
 use Rattle.ic_world.specs.Calls.{opened, refused, asks}
 use Rattle.ic_world.specs.Step.{Step}
 use Rattle.ic_world.specs.Several.{refusal_of_open}
 use Rattle.ic_link_ops.proofs.SequenceLemmas.{disjoint_sym}
-use Rattle.ic_members.proofs.AllKinds.{one_sequence}
+use Rattle.ic_any_collection.proofs.AllKinds.{one_sequence}
 use Rattle.ic_world.proofs.Edits.{lawful}
 use Rattle.ic_world.proofs.Readings.{field_at, table_read}
 use Rattle.ic_world.proofs.Steps.{some_same, step_accepted, field_there, asks_none}

@@ -4,12 +4,12 @@ use Rattle.ic_unsafe_ref.specs.declared.place.Place.{Place}
 use Rattle.ic_link_ops.specs.Sequences.{Cut, join, IsAfter, IsBefore, IsAbsent, IsDisjoint, IsDistinct}
 use Rattle.ic_link_ops.specs.Tables.{Table, KeepsBeside, KeepsLinked}
 use Rattle.ic_link_ops.proofs.SequenceLemmas.{absent_both, absent_left, absent_right, distinct_disjoint, disjoint_sym}
-use Rattle.ic_fields.specs.declared.entry.Entry.{Entry}
-use Rattle.ic_fields.specs.Entries.{is_linked}
-use Rattle.ic_members.specs.declared.members.Members.{Members}
-use Rattle.ic_members.specs.Members.{cursor_in, members_in, Keeps, Held, Alike}
-use Rattle.ic_members.specs.Edits.{Parts}
-use Rattle.ic_members.proofs.AllKinds.{IsLawful, one_sequence, distinct, held_of}
+use Rattle.ic_any_table.specs.declared.entry.Entry.{Entry}
+use Rattle.ic_any_table.specs.Entries.{is_linked}
+use Rattle.ic_any_collection.specs.declared.members.Members.{Members}
+use Rattle.ic_any_collection.specs.Members.{cursor_in, members_in, Keeps, Held, Alike}
+use Rattle.ic_any_collection.specs.Edits.{Parts}
+use Rattle.ic_any_collection.proofs.AllKinds.{IsLawful, one_sequence, distinct, held_of}
 use Rattle.ic_world.specs.Calls.{State, having}
 use Rattle.ic_world.specs.Turns.{HandsOut, state_of}
 use Rattle.ic_world.specs.Several.{PartsOf}

@@ -4,11 +4,11 @@ use Rattle.std.proofs.lemmas.List.{length-map, get_or_default, get_or_past, get_
 use Rattle.std.proofs.Math.ListN.{get_or-map as map_at}
 use Rattle.ic_unsafe_ref.specs.Objects.{Objects}
 use Rattle.ic_link_ops.specs.Tables.{Table}
-use Rattle.ic_fields.specs.declared.entry.Entry.{Entry}
-use Rattle.ic_fields.specs.declared.field.Field.{Field}
+use Rattle.ic_any_table.specs.declared.entry.Entry.{Entry}
+use Rattle.ic_any_table.specs.declared.field.Field.{Field}
 use Rattle.ic_world.specs.declared.field.WorldField.{WorldField}
 use Rattle.ic_world.specs.declared.collection.Collection.{Collection}
-use Rattle.ic_members.specs.Members.{Held}
+use Rattle.ic_any_collection.specs.Members.{Held}
 use Rattle.ic_world.specs.Tables.{table, table_of, left_in, no_table, field_in, sequence, seen_as, shown_as, at, family_of}
 use Rattle.ic_world.specs.LeftLinked.{IsKept}
 use Rattle.ic_world.specs.LinkedSets.{linked_in}

@@ -1,13 +1,13 @@
 -- A seek is a call that writes no table.
 use Rattle.std.proofs.Common.{◌≡◌, true, Some, Result, Ok, Err, refl}
 use Rattle.ic_unsafe_ref.specs.declared.place.Place.{Place}
-use Rattle.ic_fields.specs.declared.kind.Kind.{Kind}
-use Rattle.ic_fields.specs.declared.kind.Kind.TheVariants as kind
-use Rattle.ic_fields.specs.declared.field.Field.{Field}
-use Rattle.ic_fields.specs.Fields.{look}
-use Rattle.ic_members.specs.declared.members.Members.{Members}
-use Rattle.ic_members.specs.Members.{has_pointer, is_xor, Held}
-use Rattle.ic_members.proofs.AllKinds.{lawful}
+use Rattle.ic_any_table.specs.declared.kind.Kind.{Kind}
+use Rattle.ic_any_table.specs.declared.kind.Kind.TheVariants as kind
+use Rattle.ic_any_table.specs.declared.field.Field.{Field}
+use Rattle.ic_any_table.specs.Fields.{look}
+use Rattle.ic_any_collection.specs.declared.members.Members.{Members}
+use Rattle.ic_any_collection.specs.Members.{has_pointer, is_xor, Held}
+use Rattle.ic_any_collection.proofs.AllKinds.{lawful}
 use Rattle.ic_world.specs.declared.call.Refusal.{Refusal}
 use Rattle.ic_world.specs.declared.one_call.Call.TheVariants.{Seek as seek}
 use Rattle.ic_world.specs.declared.seek.Seek.{Seek}

@@ -6,11 +6,11 @@ use Rattle.ic_unsafe_ref.specs.Objects.{Objects}
 use Rattle.ic_link_ops.specs.Sequences.{Cut, join, splice, IsDisjoint}
 use Rattle.ic_link_ops.specs.Tables.{Table}
 use Rattle.ic_link_ops.proofs.SequenceLemmas.{disjoint_sym, disjoint_both}
-use Rattle.ic_fields.specs.declared.entry.Entry.{Entry}
-use Rattle.ic_members.specs.declared.members.Members.{Members}
-use Rattle.ic_members.specs.Members.{Alike, cursor_in}
-use Rattle.ic_members.specs.Edits.{PutsAll}
-use Rattle.ic_members.proofs.AllKinds.{one_sequence}
+use Rattle.ic_any_table.specs.declared.entry.Entry.{Entry}
+use Rattle.ic_any_collection.specs.declared.members.Members.{Members}
+use Rattle.ic_any_collection.specs.Members.{Alike, cursor_in}
+use Rattle.ic_any_collection.specs.Edits.{PutsAll}
+use Rattle.ic_any_collection.proofs.AllKinds.{one_sequence}
 use Rattle.ic_world.specs.declared.collection.Collection.{Collection}
 use Rattle.ic_world.specs.Family.{Family, Sequence, with_collection}
 use Rattle.ic_world.specs.Splices.{Emptied}

@@ -10,12 +10,12 @@ use Rattle.ic_link_ops.specs.Sequences.{Cut, join, insert, remove, replace, IsAb
 use Rattle.ic_link_ops.specs.Tables.{Table, IsCovered, IsUnlinked, KeepsBeside}
 use Rattle.ic_link_ops.proofs.SequenceLemmas.{absent_both, absent_left, absent_right}
 use Rattle.ic_link_ops.proofs.StepLemmas.{released_stay, each_unlinked}
-use Rattle.ic_fields.specs.declared.entry.Entry.{Entry}
-use Rattle.ic_fields.specs.Entries.{is_linked}
-use Rattle.ic_members.specs.declared.members.Members.{Members}
-use Rattle.ic_members.specs.Members.{kind_in, cursor_in, members_in, Keeps, Held, Alike}
-use Rattle.ic_members.specs.Edits.{Leaves, Moves, Puts, Takes, Swaps, Empties}
-use Rattle.ic_members.proofs.AllKinds.{IsLawful, one_sequence, held_of}
+use Rattle.ic_any_table.specs.declared.entry.Entry.{Entry}
+use Rattle.ic_any_table.specs.Entries.{is_linked}
+use Rattle.ic_any_collection.specs.declared.members.Members.{Members}
+use Rattle.ic_any_collection.specs.Members.{kind_in, cursor_in, members_in, Keeps, Held, Alike}
+use Rattle.ic_any_collection.specs.Edits.{Leaves, Moves, Puts, Takes, Swaps, Empties}
+use Rattle.ic_any_collection.proofs.AllKinds.{IsLawful, one_sequence, held_of}
 use Rattle.ic_world.specs.LinkedSets.{linked_in}
 use Rattle.ic_world.specs.Calls.{State, put, taken, swapped, moved, having, cleared}
 use Rattle.ic_world.specs.Turns.{Each, Turns, state_of}

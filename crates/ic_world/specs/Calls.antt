@@ -7,12 +7,12 @@ use Rattle.ic_unsafe_ref.specs.declared.place.Place.{Place}
 use Rattle.ic_unsafe_ref.specs.Places.{index_of}
 use Rattle.ic_unsafe_ref.specs.Objects.{Objects}
 use Rattle.ic_link_ops.specs.Sequences.{Cut, join, insert, remove, replace, first, last, but_last, IsAfter, IsBefore}
-use Rattle.ic_fields.specs.declared.kind.Kind.{Kind}
+use Rattle.ic_any_table.specs.declared.kind.Kind.{Kind}
 use Rattle.ic_rbtree.specs.declared.key_adapter.Bound.{Bound}
 use Rattle.ic_rbtree.specs.Borders.{Finds, IsBorder, IsLowerBorder, IsUpperBorder, less_at}
 use Rattle.ic_rbtree.specs.Comparing.{compared, compared_within, order_of, own_order}
-use Rattle.ic_members.specs.Members.{has_before, is_list, is_two_way_list, is_singly, is_xor, is_tree, has_pointer}
-use Rattle.ic_members.specs.Keyed.{FewLooks, FewLooksWithin, IsVacantFor}
+use Rattle.ic_any_collection.specs.Members.{has_before, is_list, is_two_way_list, is_singly, is_xor, is_tree, has_pointer}
+use Rattle.ic_any_collection.specs.Keyed.{FewLooks, FewLooksWithin, IsVacantFor}
 use Rattle.ic_world.specs.declared.call.Refusal.{Refusal}
 use Rattle.ic_world.specs.declared.call.Refusal.TheVariants.{WrongKind, NothingThere, NotAMember, NotANeighbour, AlreadyLinked}
 pub use Rattle.ic_world.specs.declared.one_call.Call.{Call}

@@ -1,6 +1,6 @@
 //! A collection of a world.
 
-use ic_members::Members;
+use ic_any_collection::Members;
 
 /// The members and the cursor, with the number of the field that links them.
 #[derive(Drop)]

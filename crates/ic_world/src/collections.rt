@@ -8,8 +8,8 @@
 
 ghost use Rattle.std.specs.Prelude.{◌≡◌, true, None, map, slice_index_or, slice_set};
 ghost use Rattle.ic_link_ops.specs.Sequences.{IsDisjoint};
-ghost use Rattle.ic_fields.specs.Fields.{look};
-ghost use Rattle.ic_members.specs.Members.{kind_in, members_in, Held};
+ghost use Rattle.ic_any_table.specs.Fields.{look};
+ghost use Rattle.ic_any_collection.specs.Members.{kind_in, members_in, Held};
 ghost use Rattle.ic_world.specs.Splices.{can_splice, PutsBeside, CanBeJoined, AreJoined};
 ghost use Rattle.ic_world.specs.Tables.{table_of, left_in};
 
@@ -21,8 +21,8 @@ use crate::kinds::{has_before, is_list, is_two_way_list, same_kind};
 use crate::part::Part;
 use crate::whole::Whole;
 use crate::world::append;
-use ic_fields::{Field, Kind};
-use ic_members::Members;
+use ic_any_collection::Members;
+use ic_any_table::{Field, Kind};
 use ic_rbtree::KeyAdapter;
 use ic_unsafe_ref::Place;
 use std::alloc::Allocator;

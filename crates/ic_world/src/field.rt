@@ -1,6 +1,6 @@
 //! A field of a world.
 
-use ic_fields::Field;
+use ic_any_table::Field;
 use std::alloc::Allocator;
 
 /// The table of its links, and whether members were ever left linked in it, by `fast_clear`. Where none was, a linked object is a member.

@@ -6,9 +6,9 @@
 //! ```
 
 ghost use Rattle.std.specs.Prelude.{◌≡◌, [], true, Ok, Err, if◌then◌else◌};
-ghost use Rattle.ic_fields.specs.Fields.{look};
-ghost use Rattle.ic_members.specs.Members.{kind_in, Held};
-ghost use Rattle.ic_members.specs.Members as kinds;
+ghost use Rattle.ic_any_table.specs.Fields.{look};
+ghost use Rattle.ic_any_collection.specs.Members.{kind_in, Held};
+ghost use Rattle.ic_any_collection.specs.Members as kinds;
 ghost use Rattle.ic_world.specs.Turns.{Turns};
 ghost use Rattle.ic_world.specs.Calls as calls;
 ghost use Rattle.ic_world.specs.Replies.{result_of_swap};
@@ -17,9 +17,9 @@ ghost use Rattle.ic_world.specs.declared.one_call.Call.TheVariants as one;
 use crate::call::Refusal;
 use crate::kinds::{has_before, is_list, is_singly, is_two_way_list};
 use crate::one_call::{OneCall, Where};
-use ic_fields::{Field, Kind};
+use ic_any_collection::Members;
+use ic_any_table::{Field, Kind};
 use ic_link_ops::ReplaceError;
-use ic_members::Members;
 use ic_rbtree::KeyAdapter;
 use ic_unsafe_ref::{Objects, Place, UnsafeRef};
 use std::alloc::Allocator;

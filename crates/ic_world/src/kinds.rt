@@ -5,10 +5,10 @@
 //! ```
 
 ghost use Rattle.std.specs.Prelude.{◌≡◌};
-ghost use Rattle.ic_members.specs.Members as kinds;
+ghost use Rattle.ic_any_collection.specs.Members as kinds;
 ghost use Rattle.ic_world.specs.Family as family;
 
-use ic_fields::Kind;
+use ic_any_table::Kind;
 use ic_unsafe_ref::Place;
 
 // Whether the position before the cursor can be used.

@@ -30,6 +30,6 @@ mod whole;
 mod world;
 
 pub use call::{Answer, Command, Refusal};
-pub use ic_fields::Kind;
+pub use ic_any_table::Kind;
 pub use ic_rbtree::Bound;
 pub use world::World;

@@ -1,16 +1,16 @@
 //! Which members are handed out to a collection more.
 
 ghost use Rattle.std.specs.Prelude.{◌≡◌, None, IfOk, OnErr};
-ghost use Rattle.ic_fields.specs.Fields.{look};
-ghost use Rattle.ic_members.specs.Members.{kind_in, Held};
+ghost use Rattle.ic_any_table.specs.Fields.{look};
+ghost use Rattle.ic_any_collection.specs.Members.{kind_in, Held};
 ghost use Rattle.ic_world.specs.Turns.{HandsOut, refusal_in, asks_room};
 ghost use Rattle.ic_world.specs.Calls.{asks};
 ghost use Rattle.ic_world.specs.Several.{has_part, PartsOf};
 
 use crate::call::Refusal;
 use crate::kinds::{is_list, is_two_way_list};
-use ic_fields::Field;
-use ic_members::Members;
+use ic_any_collection::Members;
+use ic_any_table::Field;
 use std::alloc::Allocator;
 
 /// Which members are handed out.

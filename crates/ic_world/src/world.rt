@@ -1,7 +1,7 @@
 //! The world, and how a call goes to one of its collections.
 
 ghost use Rattle.std.specs.Prelude.{◌≡◌, [], Some, None, IfSome, IfNone};
-ghost use Rattle.ic_fields.specs.Fields.{look};
+ghost use Rattle.ic_any_table.specs.Fields.{look};
 ghost use Rattle.std.specs.FinMap as map;
 ghost use Rattle.ic_world.specs.Calls.{opened};
 ghost use Rattle.ic_world.specs.Replies.{reply_of};
@@ -12,8 +12,8 @@ use crate::collection::Collection;
 use crate::field::WorldField;
 use crate::one_call::OneCall;
 use crate::part::Part;
-use ic_fields::Field;
-use ic_members::Members;
+use ic_any_collection::Members;
+use ic_any_table::Field;
 use ic_rbtree::KeyAdapter;
 use ic_unsafe_ref::Objects;
 use std::alloc::{Allocator, Global};

@@ -9,13 +9,13 @@ mod methods;
 
 use crate::methods::call;
 use ic_program::{FAULT, Line, OwnKey, push_answer, run_lines};
+use ic_test_support::rationed::Rationed;
 use ic_world::{Answer, Command, World};
 use std::alloc::Global;
 use std::env;
 use std::io::{self, BufRead, BufReader, BufWriter, Write};
 use std::process::ExitCode;
 use std::rt::Env;
-use test_support::rationed::Rationed;
 
 // Which request is refused, or none where the word is no number.
 fn request_in(word: Option<&String>) -> u64 {

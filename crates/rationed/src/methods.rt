@@ -1,8 +1,8 @@
 //! Each call of a world by the method that has its name, which `World::answer` does not pass through.
 
 use ic_program::OwnKey;
+use ic_test_support::rationed::Rationed;
 use ic_world::{Command, World};
-use test_support::rationed::Rationed;
 
 // Makes a call of a list by its method, and any other as a command.
 fn call_list(world: &mut World<OwnKey, &Rationed>, command: Command<u64, u64>) {

@@ -1,9 +1,9 @@
 //! The worked rows: calls, and what they answer.
 
 use crate::calls::{Answer, Call, make};
+use ic_test_support::rationed::Rationed;
 use region_allocator::{FreeError, RegionAllocator};
 use std::alloc::{Allocator, Global};
-use test_support::rationed::Rationed;
 
 type Row = (Call, Answer);
 

@@ -9,9 +9,9 @@ use crate::fixtures::{
 use ic_link_ops::linked_list::LinkOps;
 use ic_linked_list::LinkedList;
 use ic_singly_linked_list::SinglyLinkedList;
+use ic_test_support::rationed::Rationed;
 use ic_unsafe_ref::Objects;
 use std::process::Abort;
-use test_support::rationed::Rationed;
 use uses::either_table::EitherTable;
 use uses::first_objects::{ObjectsError, first_objects};
 use uses::first_steps::first_steps;

@@ -3,8 +3,8 @@
 use crate::fixtures::check;
 use ic_link_ops::{linked_list, singly_linked_list};
 use ic_pool::{PlaceError, Pool};
+use ic_test_support::rationed::Rationed;
 use pool_uses::{Slots, Timers};
-use test_support::rationed::Rationed;
 
 #[test]
 fn an_object_has_room_in_both_tables(rt: HostRuntime) {

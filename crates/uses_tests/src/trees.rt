@@ -9,9 +9,9 @@ ghost use Rattle.uses.specs.Timers.{deadline};
 use crate::fixtures::{NONE, UNLINKED, check, covering, index_of_object, object, placed};
 use ic_link_ops::rbtree::LinkOps;
 use ic_rbtree::RBTree;
+use ic_test_support::rationed::Rationed;
 use ic_unsafe_ref::Objects;
 use std::process::Abort;
-use test_support::rationed::Rationed;
 use uses::region_map::{ByStart, Region, add, region_at, remove_region};
 use uses::timer_queue::{ByDeadline, Timer, cancel, schedule, take_all_due, take_due};
 

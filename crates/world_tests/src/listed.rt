@@ -1,10 +1,10 @@
 //! Commands that a world runs as lists, one list behind the other, with requests for memory refused.
 
 use ic_program::{Line, OwnKey};
+use ic_test_support::rationed::Rationed;
 use ic_world::{Answer, Command, Refusal, World};
 use std::alloc::Global;
 use std::fmt::Write;
-use test_support::rationed::Rationed;
 
 // The request to refuse where none is.
 const NONE: u64 = u64::MAX;

@@ -14,8 +14,8 @@ use crate::tree::trees::OwnKey;
 use crate::tree::walks::write_walk;
 use ic_link_ops::rbtree::{LinkOps, RBTreeOps};
 use ic_rbtree::{Bound, RBTree};
+use ic_test_support::notes::Text;
 use ic_unsafe_ref::{Place, UnsafeRef};
-use test_support::notes::Text;
 
 // Inserts the place of one key.
 fn insert<L: RBTreeOps>(

@@ -17,10 +17,10 @@ use crate::notes::{same, write_looks, write_places, write_values};
 use crate::tree::trees::{OwnKey, Trees, tree_of};
 use ic_link_ops::rbtree::LinkOps;
 use ic_rbtree::Cursor;
+use ic_test_support::answers::object;
+use ic_test_support::notes::{Answer, Text};
+use ic_test_support::tables::write_linked;
 use ic_unsafe_ref::Objects;
-use test_support::answers::object;
-use test_support::notes::{Answer, Text};
-use test_support::tables::write_linked;
 
 // Notes what the cursor tells four times, as it moves on in between, where a move back leads it then, and where a copy of it stays.
 fn write_read(notes: &mut Text, mut cursor: Cursor<'_, OwnKey, LinkOps>, objects: &Objects<u64>)

@@ -12,9 +12,9 @@ use crate::fixtures::reference;
 use crate::notes::{same, write_places, write_values};
 use crate::tree::trees::{Trees, tree_of};
 use ic_rbtree::{Bound, Entry};
+use ic_test_support::notes::Text;
+use ic_test_support::tables::write_linked;
 use ic_unsafe_ref::UnsafeRef;
-use test_support::notes::Text;
-use test_support::tables::write_linked;
 
 // Notes where searches of the key lead: to the first member of it, to the first one from it on, and to the last one below it. By cursors
 // that read, by those that borrow the tree, and by those that keep it.

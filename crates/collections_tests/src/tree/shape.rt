@@ -5,9 +5,9 @@ use crate::notes::{same, write_places};
 use crate::tree::trees::tree_of;
 use ic_link_ops::rbtree::LinkOps;
 use ic_rbtree::{Color, RBTreeOps};
+use ic_test_support::answers::number;
+use ic_test_support::notes::{Answer, Text};
 use ic_unsafe_ref::Place;
-use test_support::answers::number;
-use test_support::notes::{Answer, Text};
 
 // Notes what the table says of each place: `3b 1 none 19` for a black 3 with 1 on the left, nothing on the right, and 19 as its third word.
 // Of a place that is not linked it notes the word alone.

@@ -11,10 +11,10 @@ ghost use Rattle.ic_rbtree.specs.Tree.{root_of};
 use crate::fixtures::{eight, reference};
 use ic_link_ops::rbtree::LinkOps;
 use ic_rbtree::{KeyAdapter, RBTree};
+use ic_test_support::tables::are_placed;
 use ic_unsafe_ref::Objects;
 use std::alloc::Global;
 use std::process::Abort;
-use test_support::tables::are_placed;
 
 /// Says that a number is its own key.
 #[derive(Clone, Copy, Default)]

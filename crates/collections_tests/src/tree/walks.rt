@@ -9,10 +9,10 @@ use crate::notes::{same, write_values};
 use crate::tree::trees::{OwnKey, tree_of};
 use ic_link_ops::rbtree::LinkOps;
 use ic_rbtree::{Bound, Iter, RBTree};
+use ic_test_support::answers::object;
+use ic_test_support::notes::Text;
+use ic_test_support::tables::write_linked;
 use ic_unsafe_ref::Values;
-use test_support::answers::object;
-use test_support::notes::Text;
-use test_support::tables::write_linked;
 
 // Notes the object that a copy of the walk gives from the back, and then what the walk gives at both ends in turn, until neither gives one.
 pub(crate) fn write_walk<O: Values<u64>>(notes: &mut Text, mut walk: Iter<'_, OwnKey, LinkOps, O>)

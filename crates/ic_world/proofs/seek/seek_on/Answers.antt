@@ -1,6 +1,6 @@
 use Rattle.std.proofs.Common.{◌∙◌, refl}
-use Rattle.ic_fields.specs.Fields.{look}
-use Rattle.ic_members.specs.Members.{members_in, kind_in}
+use Rattle.ic_any_table.specs.Fields.{look}
+use Rattle.ic_any_collection.specs.Members.{members_in, kind_in}
 use Rattle.ic_world.proofs.Neighbors.{member_gap, contains_tells}
 use Rattle.ic_world.proofs.Seeking.{pointer_not_xor}
 use Rattle.ic_world.proofs.Tested.{goes_on, stops}

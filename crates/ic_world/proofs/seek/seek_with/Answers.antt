@@ -1,6 +1,6 @@
 use Rattle.std.proofs.Common.{◌∙◌, refl, sym, ap}
-use Rattle.ic_fields.specs.Fields.{look}
-use Rattle.ic_members.specs.Members.{members_in}
+use Rattle.ic_any_table.specs.Fields.{look}
+use Rattle.ic_any_collection.specs.Members.{members_in}
 use Rattle.ic_world.specs.Family.{same_position}
 use Rattle.ic_world.proofs.Neighbors.{not_among, among_gap}
 use Rattle.ic_world.proofs.Tested.{goes_on, stops}

@@ -1,5 +1,5 @@
 use Rattle.std.proofs.Common.{refl}
-use Rattle.ic_members.proofs.AllKinds.{lawful}
+use Rattle.ic_any_collection.proofs.AllKinds.{lawful}
 use Rattle.ic_world.specs.declared.seek.Seek.TheVariants.{On, With}
 use Rattle.ic_world.proofs.Seeking.{ran_seek}
 use Rattle.ic_world.proofs.Turned.{nulled, turns_still}

@@ -1,6 +1,6 @@
 use Rattle.std.proofs.Common.{refl}
 use Rattle.ic_link_ops.proofs.SequenceLemmas.{absent_reverse}
-use Rattle.ic_members.proofs.AllKinds.{lawful}
+use Rattle.ic_any_collection.proofs.AllKinds.{lawful}
 use Rattle.ic_world.proofs.Turned.{turns_clear, turns_kept}
 use Rattle.ic_world.proofs.whole.WholeOneCall.run.Goals as goal
 

@@ -1,0 +1,139 @@
+-- Edits by key: what the calls of a tree give, in the words of all kinds, and that the cursor is moved after an edit.
+use Rattle.std.proofs.Common.{◌≡◌, ◌∙◌, Bool, true, false, cond, append_assoc, Option, Some, None, List, [], ◌∷◌, ◌++◌, drop, refl, sym, ap, subst}
+use Rattle.std.specs.declared.cmp.Ordering.{Ordering}
+use Rattle.ic_unsafe_ref.specs.declared.place.Place.{Place}
+use Rattle.ic_link_ops.specs.Sequences.{Cut, join, insert, at_front, first, IsBefore, IsAbsent, IsMember}
+use Rattle.ic_link_ops.specs.Tables.{Table, KeepsBeside, LinksAlso}
+use Rattle.ic_link_ops.specs.Edits.{Inserts}
+use Rattle.ic_link_ops.specs.RedBlackTree as tree
+use Rattle.ic_link_ops.proofs.SequenceLemmas.{member_split, first_is, absent_right, absent_without, gap_after, last_of_push, none_not}
+use Rattle.ic_rbtree.specs.CursorOwning.{CursorOwning, tree_of, position}
+use Rattle.ic_rbtree.specs.declared.entry.Entry.{Entry as TreeEntry}
+use Rattle.ic_rbtree.specs.declared.entry.Entry.TheVariants.{Occupied, Vacant}
+use Rattle.ic_rbtree.specs.declared.entry.InsertCursor.{InsertCursor}
+use Rattle.ic_rbtree.specs.CursorMut.{CursorMut}
+use Rattle.ic_rbtree.specs.Borders.{IsBorder, Finds, less_at, equal_at, if_passes}
+use Rattle.ic_rbtree.specs.Ordered.{InsertsInOrder}
+use Rattle.ic_rbtree.specs.Tree.{root_of}
+use Rattle.ic_rbtree.specs.declared.tree.RBTree.{RBTree}
+use Rattle.ic_any_table.specs.declared.entry.Entry.{Entry}
+use Rattle.ic_any_table.specs.declared.tree_table.TreeTable.{TreeTable}
+use Rattle.ic_any_table.specs.TreeTables.{look}
+use Rattle.ic_any_table.specs.Entries.{is_linked, node}
+use Rattle.ic_any_collection.specs.declared.unkeyed.Unkeyed.{Unkeyed}
+use Rattle.ic_any_collection.specs.declared.members.Members.{Members}
+use Rattle.ic_any_collection.specs.declared.members.Members.TheVariants.{Tree}
+use Rattle.ic_any_collection.specs.Members.{IsAt, members_in, Keeps, Held}
+use Rattle.ic_any_collection.specs.Edits.{AtGap, Moves, Puts}
+use Rattle.ic_any_collection.specs.Keyed.{PutsInOrder, PutsAtKey, IsVacantFor}
+use Rattle.ic_any_collection.proofs.AllKinds.{IsLawful, one_sequence, held_of}
+use Rattle.ic_any_collection.proofs.Standing.{before_at}
+
+-- a member of a sequence is a position of it
+on_it : {s : List Place} (front : List Place) (p : Place) (back : List Place) → front ++ p ∷ back ≡ s → IsAt s (Some p)
+on_it front p back same = (record { front = front ++ p ∷ []; back = back }, append_assoc front (p ∷ []) back ∙ same, sym (last_of_push front p))
+
+-- p IS PUT INTO A TREE, as its insert gives it
+pub puts_in_tree : {V : Type 0} {t t' : Table Entry} {m m' : CursorOwning (Unkeyed V) V} {gap : Cut} {p : Place} {cursor : Option Place}
+    → Held {V = V} t (Tree m) → join gap ≡ members_in {V = V} t (Tree m) → Inserts (tree.Shows node) t t' (root_of (tree_of m')) gap p
+    → LinksAlso is_linked t t' p → IsAt (insert gap p) cursor → position m' ≡ cursor
+    → Puts {V = V} t t' (Tree m) (Tree m') gap p cursor
+puts_in_tree {t = t} {t' = t'} {p = p} held same put links at there = record {
+  leaves = record {
+    kept = record { carried = rw put.frame.extent held.carried; shown = put.shows; stands = rw there at };
+    alike = refl;
+    cursor_is = there;
+    frame = subst (λ s. KeepsBeside t t' (p ∷ s)) same put.frame;
+  };
+  links = links;
+}
+
+-- a position of the members is one of them with p,
+still_at : {s : List Place} (gap : Cut) (p : Place) → join gap ≡ s → (at : Option Place) → IsAt s at → IsAt (insert gap p) at
+still_at gap p same None at = (at_front _, refl, refl)
+still_at {s} gap p same (Some q) at =
+    let old = before_at at in
+    let there : IsMember q (insert gap p) =
+    λ out. (absent_right q old.0.front (q ∷ drop 1 old.0.back)
+    (subst (IsAbsent q) (same ∙ sym old.1 ∙ ap (λ b. old.0.front ++ b) (first_is old.0.back old.2)) (absent_without gap.front gap.back p q out))).0 refl in
+    let k = member_split q (insert gap p) there in
+    on_it k.0 q k.1 (sym k.2)
+
+-- and in order, while the cursor stays. `r`: the tree then
+pub puts_in_order : {V : Type 0} {at at' : Place → Ordering} {t t' : Table Entry} {m m' : CursorOwning (Unkeyed V) V} {r : RBTree (Unkeyed V)} {p : Place} → at ≡ at'
+    → Held {V = V} t (Tree m) → ((s : List Place) → tree.Shows node t (root_of (tree_of m)) s → InsertsInOrder (tree.Shows node) at t t' (root_of r) s p)
+    → LinksAlso is_linked t t' p → tree_of m' ≡ r → position m' ≡ position m
+    → PutsInOrder {V = V} at' t t' (Tree m) (Tree m') p (position m)
+puts_in_order {m = m} {p = p} order held inserted links head stays =
+    let put = inserted _ held.shown in (
+      put.gap,
+      put.same,
+      (
+        subst (λ at. IsBorder (less_at at) put.gap) order put.border,
+        puts_in_tree held put.same (rw head put.inserted) links (still_at put.gap p put.same (position m) held.stands) stays,
+      ),
+    )
+
+-- an entry that is not occupied is vacant
+pub vacant_one : {A L V K : Type 0} (entry : TreeEntry A L V K) → ((c : CursorMut A L V) → entry ≡ Occupied c → ⊥) → (v : InsertCursor A L) × (entry ≡ Vacant v)
+vacant_one (Occupied c) other = absurd (other c refl)
+vacant_one (Vacant v) other = (v, refl)
+
+-- WHAT AN EDIT THROUGH A BORROW LEFT: the root and the table that the borrow ended as are those that the edit answered
+module _ {t t' : Table Entry} {root root' : Option Place} where
+  pub inserts_left : {old old' : Table Entry} {gap : Cut} {p p' : Place} → old ≡ old' → p ≡ p' → Inserts (tree.Shows node) old t root gap p
+      → t' ≡ t → root' ≡ root → Inserts (tree.Shows node) old' t' root' gap p'
+  inserts_left same place put table head = rw (table, head, ← same, ← place) put
+
+pub links_left : {old old' t t' : Table Entry} {p p' : Place} → old ≡ old' → p ≡ p' → LinksAlso is_linked old t p → t' ≡ t → LinksAlso is_linked old' t' p'
+links_left same place linked table = rw (table, ← same, ← place) linked
+
+-- A MEMBER WITH THE KEY is found, and the cursor is moved there
+passed : (test : Place → Bool) (o : Option Place) {p : Place} → Some p ≡ if_passes test o → Some p ≡ o
+passed test None e = e
+passed test (Some q) {p} e = by (test q) e where
+  by : (b : Bool) → Some p ≡ cond b (Some q) None → Some p ≡ Some q
+  by true e = e
+  by false e = absurd (none_not p (sym e))
+
+pub moves_to_key : {V : Type 0} {at : Place → Ordering} {t : Table Entry} {m m' : CursorOwning (Unkeyed V) V} {p : Place} → Held {V = V} t (Tree m)
+    → Finds at (members_in {V = V} t (Tree m)) (Some p) → tree_of m' ≡ tree_of m → position m' ≡ Some p → Moves {V = V} t (Tree m) (Tree m') (Some p)
+moves_to_key {at = at} {p = p} held found same there =
+    let k = gap_after found.gap (Some p) (passed (equal_at at) (first found.gap.back) found.answer) in record {
+      kept = record { carried = held.carried; shown = rw same held.shown; stands = rw there (k.0, k.1 ∙ found.same, k.2) };
+      alike = refl;
+      cursor_is = there;
+    }
+
+-- AN OBJECT IS PUT where the key would stand, and the cursor is put on it
+pub puts_at_key : {V : Type 0} (at : Place → Ordering) {t t' : Table Entry} {m m' : CursorOwning (Unkeyed V) V} {r : RBTree (Unkeyed V)} {p : Place} → Held {V = V} t (Tree m)
+    → AtGap (members_in {V = V} t (Tree m)) (λ gap. IsVacantFor at gap × Inserts (tree.Shows node) t t' (root_of r) gap p) → LinksAlso is_linked t t' p
+    → tree_of m' ≡ r → position m' ≡ Some p → PutsAtKey {V = V} at t t' (Tree m) (Tree m') p (Some p)
+puts_at_key at {p = p} held put links head there =
+    let gap = put.0 in
+    (gap, put.1, (put.2.0, puts_in_tree held put.1 (rw head put.2.1) links (on_it gap.front p gap.back refl) there))
+
+module _ {V : Type 0} {t t' : Table Entry} (law : IsLawful t') {m m' : Members V} {gap : Cut} {p : Place} {cursor : Option Place}
+    (puts : Puts t t' m m' gap p cursor) where
+  -- the members then
+  pub members_after : members_in t' m' ≡ insert gap p
+  members_after = one_sequence t' law m' (insert gap p) puts.leaves.kept.shown
+
+  pub held_after : Held t' m'
+  held_after = held_of law m' (insert gap p) puts.leaves.kept
+
+  -- and the object is one of them
+  pub object_there : AtGap (members_in t' m') (λ at. IsBefore at (Some p))
+  object_there = (record { front = gap.front; back = p ∷ gap.back }, sym members_after, refl)
+
+  -- AND THEN THE CURSOR IS MOVED
+  pub puts_and_moves : {m'' : Members V} {at : Option Place} → Moves t' m' m'' at → Puts t t' m m'' gap p at
+  puts_and_moves {m'' = to} moves = record {
+    leaves = record {
+      kept = subst (Keeps t' to) members_after moves.kept;
+      alike = moves.alike ∙ puts.leaves.alike;
+      cursor_is = moves.cursor_is;
+      frame = puts.leaves.frame;
+    };
+    links = puts.links;
+  }

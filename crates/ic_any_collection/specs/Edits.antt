@@ -1,0 +1,71 @@
+-- What the calls of a collection leave, in the same words for every kind.
+use Rattle.std.specs.Prelude.{◌≡◌, Option, Some, None, List, [], ◌∷◌, ◌++◌}
+use Rattle.ic_unsafe_ref.specs.declared.place.Place.{Place}
+use Rattle.ic_link_ops.specs.Sequences.{Cut, join, insert, remove, replace, splice, first}
+use Rattle.ic_link_ops.specs.Tables.{Table, KeepsBeside, KeepsLinked, LinksAlso, Unlinks}
+use Rattle.ic_link_ops.specs.LinkSteps.{Replays, acquires, releases, releases_each}
+use Rattle.ic_any_table.specs.declared.entry.Entry.{Entry}
+use Rattle.ic_any_table.specs.declared.field.Field.{Field}
+use Rattle.ic_any_table.specs.Entries.{is_linked}
+use Rattle.ic_any_table.specs.Fields.{look}
+use Rattle.ic_any_collection.specs.declared.members.Members.{Members}
+use Rattle.ic_any_collection.specs.Members.{cursor_in, members_in, Keeps, Alike}
+
+-- the members are cut at a gap, of which the rest holds
+abbrev pub AtGap : List Place → (Cut → Type 0) → Type 0
+AtGap s Rest = (gap : Cut) × (join gap ≡ s) × Rest gap
+
+-- `t`, `t'`: the table before a call and after it. `m`, `m'`: the collection
+module _ {V : Type 0} where
+  -- THE COLLECTION HAS MOVED ITS CURSOR, if anything: its kind and members stay
+  pub record Moves (t : Table Entry) (m m' : Members V) (cursor : Option Place) : Type 0 where
+    pub kept : Keeps t m' (members_in t m)
+    pub alike : Alike m m'
+    pub cursor_is : cursor_in m' ≡ cursor
+
+  -- NOTHING HAS CHANGED: the table is the same, and the collection has its members and its cursor
+  abbrev pub IsUnchanged : {M : Type 0} → (links links' : Field M) → (m m' : Members V) → Type 0
+  IsUnchanged links links' m m' = (links' ≡ links) × Moves (look links) m m' (cursor_in m)
+
+  module _ (t t' : Table Entry) (m m' : Members V) where
+    -- THE COLLECTION HAS s AS ITS MEMBERS NOW, its cursor is there, and nothing but entries of `touched` is changed
+    pub record Leaves (s : List Place) (cursor : Option Place) (touched : List Place) : Type 0 where
+      pub kept : Keeps t' m' s
+      pub alike : Alike m m'
+      pub cursor_is : cursor_in m' ≡ cursor
+      pub frame : KeepsBeside t t' touched
+
+    -- p, which was unlinked, is put into the gap
+    pub record Puts (gap : Cut) (p : Place) (cursor : Option Place) : Type 0 where
+      pub leaves : Leaves (insert gap p) cursor (p ∷ members_in t m)
+      pub links : LinksAlso is_linked t t' p
+
+    -- the member p behind the gap is taken out, and unlinked
+    pub record Takes (gap : Cut) (p : Place) (cursor : Option Place) : Type 0 where
+      pub there : first gap.back ≡ Some p
+      pub leaves : Leaves (remove gap) cursor (members_in t m)
+      pub links : Unlinks is_linked t t' p
+
+    -- p, which was unlinked, stands where the member `out` stood, behind the gap, which is unlinked
+    pub record Swaps (gap : Cut) (p out : Place) (cursor : Option Place) : Type 0 where
+      pub there : first gap.back ≡ Some out
+      pub leaves : Leaves (replace gap p) cursor (p ∷ members_in t m)
+      pub links : Replays is_linked t t' (acquires p ∷ releases out ∷ [])
+
+    -- all members are taken out, and unlinked
+    pub record Empties : Type 0 where
+      pub leaves : Leaves [] None (members_in t m)
+      pub links : Replays is_linked t t' (releases_each (members_in t m))
+
+    -- all of r is put into the gap, and stays linked
+    pub record PutsAll (gap : Cut) (r : List Place) : Type 0 where
+      pub leaves : Leaves (splice gap r) (cursor_in m) (splice gap r)
+      pub links : KeepsLinked is_linked t t'
+
+    -- one part stays and the other, in a collection of its own, is handed out; both stay linked
+    pub record Parts (kept handed : List Place) (part : Members V) : Type 0 where
+      pub leaves : Leaves kept (cursor_in m) (kept ++ handed)
+      pub hands_out : Keeps t' part handed
+      pub part_alike : Alike m part
+      pub null : cursor_in part ≡ None
+      pub links : KeepsLinked is_linked t t'

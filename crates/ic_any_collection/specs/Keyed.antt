@@ -1,0 +1,46 @@
+-- What keyed calls of a tree leave and answer.
+use Rattle.std.specs.Prelude.{◌≡◌, ℕ, Option, List}
+use Rattle.std.specs.declared.cmp.Ordering.{Ordering}
+use Rattle.ic_unsafe_ref.specs.declared.place.Place.{Place}
+use Rattle.ic_link_ops.specs.Sequences.{Cut}
+use Rattle.ic_link_ops.specs.Tables.{Table}
+use Rattle.ic_rbtree.specs.declared.key_adapter.Bound.{Bound}
+use Rattle.ic_rbtree.specs.declared.key_adapter.Bound.TheVariants.{Included, Excluded, Unbounded}
+use Rattle.ic_rbtree.specs.declared.probe.KeyProbe.{KeyProbe}
+pub use Rattle.ic_rbtree.specs.Comparing.{FewLooks}
+use Rattle.ic_rbtree.specs.KeyProbe.{looks_of}
+use Rattle.ic_rbtree.specs.Borders.{IsBorder, less_at, at_most_at}
+use Rattle.ic_any_table.specs.declared.entry.Entry.{Entry}
+use Rattle.ic_any_collection.specs.declared.members.Members.{Members}
+use Rattle.ic_any_collection.specs.Members.{members_in}
+use Rattle.ic_any_collection.specs.Edits.{AtGap, Puts}
+
+-- SO FEW LOOKS as a search within this bound makes in a tree with the members s: none by `Unbounded`
+abbrev pub FewLooksWithin : {B : Type 0} → Bound B → ℕ → List Place → Type 0
+FewLooksWithin (Included _) looks s = FewLooks looks s
+FewLooksWithin (Excluded _) looks s = FewLooks looks s
+FewLooksWithin Unbounded looks s = looks ≡ 0
+
+module _ {A V K : Type 0} where
+  -- the looks of a search within a bound
+  abbrev pub looks_within : Bound (KeyProbe A V K) → ℕ
+  looks_within (Included probe) = looks_of probe
+  looks_within (Excluded probe) = looks_of probe
+  looks_within Unbounded = 0
+
+  -- it has made none
+  abbrev pub HasNoLooks : Bound (KeyProbe A V K) → Type 0
+  HasNoLooks bound = looks_within bound ≡ 0
+
+-- the gap where what is searched would stand: the member in front is smaller, and the one behind larger
+abbrev pub IsVacantFor : (Place → Ordering) → Cut → Type 0
+IsVacantFor at gap = IsBorder (at_most_at at) gap × IsBorder (less_at at) gap
+
+module _ {V : Type 0} (at : Place → Ordering) (t t' : Table Entry) (m m' : Members V) (p : Place) (cursor : Option Place) where
+  -- p is put in order: behind members that are not greater than what is searched, and in front of greater ones
+  abbrev pub PutsInOrder : Type 0
+  PutsInOrder = AtGap (members_in t m) (λ gap. IsBorder (less_at at) gap × Puts t t' m m' gap p cursor)
+
+  -- p is put where what is searched would stand
+  abbrev pub PutsAtKey : Type 0
+  PutsAtKey = AtGap (members_in t m) (λ gap. IsVacantFor at gap × Puts t t' m m' gap p cursor)

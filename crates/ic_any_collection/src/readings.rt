@@ -1,0 +1,154 @@
+//! Readings of a collection: its members from the front, and whether a place is one of them.
+//!
+//! ```text
+//! queue.listed(alloc, &field)?     // the places of all members
+//! queue.contains(&field, place)    // whether the place is one of them
+//! ```
+
+ghost use Rattle.std.specs.Prelude.{◌≡◌, ◌↔◌, List, Option, Some, None, IsTrue, IfOk, IfSome, IfNone, drop, true};
+ghost use Rattle.ic_unsafe_ref.specs.declared.place.Place.{Place};
+ghost use Rattle.ic_link_ops.specs.Sequences.{Cut, join, first, last, IsAfter, IsBefore, IsMember, IsAbsent};
+ghost use Rattle.ic_link_ops.specs.Tables.{IsCovered};
+ghost use Rattle.ic_any_table.specs.Fields.{look};
+
+use crate::Members;
+use crate::moves::object_of;
+use ic_any_table::{Field, TwoWay};
+use ic_unsafe_ref::{Place, UnsafeRef};
+use std::alloc::{AllocError, Allocator};
+
+impl<T> Members<T> {
+    ghost use Rattle.ic_any_collection.specs.Members.{members_in, Held};
+    ghost use Rattle.ic_any_collection.specs.Edits.{AtGap};
+
+    // The first member.
+    #[inline]
+    fn front<M: Allocator>(&self, links: &Field<M>) -> Option<Place>
+        requires held { Held (look links.now) self.now }
+        ensures { result ≡ first (members_in (look links.now) self.now) }
+    {
+        match self {
+            Members::Singly(cursor) => cursor.list().front(links).get_ptr(),
+            Members::Doubly(cursor) => match links {
+                Field::TwoWay(links) => cursor.list().front(links).get_ptr(),
+                Field::Singly(_) | Field::Xor(_) => unreachable!(),
+            },
+            Members::Xor(cursor) => cursor.list().front(links).get_ptr(),
+            Members::Tree(cursor) => match links {
+                Field::TwoWay(TwoWay::Tree(links)) => cursor.list().front(links).get_ptr(),
+                Field::TwoWay(TwoWay::Doubly(_)) | Field::Singly(_) | Field::Xor(_) =>
+                    unreachable!(),
+            },
+        }
+    }
+
+    /// The member behind `place`, which is a member and has `prev` in front of it; `None` where it is the last. O(1), in a tree O(log n).
+    #[inline]
+    pub fn behind<M: Allocator>(
+        &self,
+        links: &Field<M>,
+        prev: Option<Place>,
+        place: Place,
+    ) -> Option<Place>
+        requires held { Held (look links.now) self.now }
+        requires member { AtGap (members_in (look links.now) self.now) (λ gap. IsAfter gap prev × IsBefore gap (Some place)) }
+        ensures { (gap : Cut) → join gap ≡ members_in (look links.now) self.now → IsAfter gap prev → IsBefore gap (Some place)
+            → result ≡ first (drop 1 gap.back) }
+    {
+        let object = UnsafeRef::new(place);
+        match self {
+            Members::Singly(cursor) => cursor
+                .list()
+                .cursor_from_ptr(links, object)
+                .peek_next()
+                .get_ptr(),
+            Members::Doubly(cursor) => match links {
+                Field::TwoWay(links) => cursor
+                    .list()
+                    .cursor_from_ptr(links, object)
+                    .peek_next()
+                    .get_ptr(),
+                Field::Singly(_) | Field::Xor(_) => unreachable!(),
+            },
+            Members::Xor(cursor) => {
+                let prev = object_of(prev);
+                cursor
+                    .list()
+                    .cursor_from_ptr_and_prev(links, object, prev)
+                    .peek_next()
+                    .get_ptr()
+            }
+            Members::Tree(cursor) => match links {
+                Field::TwoWay(TwoWay::Tree(links)) => cursor
+                    .list()
+                    .cursor_from_ptr(links, object)
+                    .peek_next()
+                    .get_ptr(),
+                Field::TwoWay(TwoWay::Doubly(_)) | Field::Singly(_) | Field::Xor(_) =>
+                    unreachable!(),
+            },
+        }
+    }
+
+    /// The members from the front, in memory of `alloc`. O(members).
+    pub fn listed<M: Allocator, N: Allocator>(
+        &self,
+        alloc: N,
+        links: &Field<M>,
+    ) -> Result<Vec<Place, N>, AllocError>
+        requires held { Held (look links.now) self.now }
+        ensures { IfOk result (λ places. places.items ≡ members_in (look links.now) self.now) }
+    {
+        let mut places = Vec::new(alloc);
+        let mut prev = None;
+        let mut current = self.front(links);
+        while let Some(place) = current {
+            places.push(place)?;
+            current = self.behind(links, prev, place);
+            prev = Some(place);
+        }
+        Ok(places)
+    }
+
+    /// Whether the place is that of a member, and if so, which one stands in front of it: `Some(None)` for the first member. It
+    /// walks from the front: O(members).
+    pub fn find_prev<M: Allocator>(&self, links: &Field<M>, place: Place) -> Option<Option<Place>>
+        requires held { Held (look links.now) self.now }
+        ensures member { IfSome result (λ prev. AtGap (members_in (look links.now) self.now)
+            (λ gap. IsAfter gap prev × IsBefore gap (Some place))) }
+        ensures none { IfNone result (IsAbsent place (members_in (look links.now) self.now)) }
+    {
+        let mut prev = None;
+        let mut current = self.front(links);
+        while let Some(member) = current {
+            if member == place {
+                return Some(prev);
+            }
+            current = self.behind(links, prev, member);
+            prev = Some(member);
+        }
+        None
+    }
+
+    /// Whether the place is that of a member. It asks that the place is covered. It walks from the front, but climbs in a tree:
+    /// O(members), in a tree O(log n).
+    pub fn contains<M: Allocator>(&self, links: &Field<M>, place: Place) -> bool
+        requires held { Held (look links.now) self.now }
+        requires covered { IsCovered (look links.now) place }
+        ensures { IsTrue result ↔ IsMember place (members_in (look links.now) self.now) }
+    {
+        match self {
+            Members::Singly(cursor) => cursor.list().contains(links, place),
+            Members::Doubly(cursor) => match links {
+                Field::TwoWay(links) => cursor.list().contains(links, place),
+                Field::Singly(_) | Field::Xor(_) => unreachable!(),
+            },
+            Members::Xor(cursor) => cursor.list().contains(links, place),
+            Members::Tree(cursor) => match links {
+                Field::TwoWay(TwoWay::Tree(links)) => cursor.list().contains(&links.0, place),
+                Field::TwoWay(TwoWay::Doubly(_)) | Field::Singly(_) | Field::Xor(_) =>
+                    unreachable!(),
+            },
+        }
+    }
+}

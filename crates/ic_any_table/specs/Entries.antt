@@ -1,0 +1,58 @@
+-- What an entry says, whatever table keeps it.
+use Rattle.std.specs.Prelude.{◌≡◌, Bool, Option, None, [], ◌∷◌, bit_xor}
+use Rattle.ic_unsafe_ref.specs.declared.place.Place.{Place}
+use Rattle.ic_unsafe_ref.specs.Places.{place_at, word_of}
+use Rattle.ic_link_ops.specs.Tables.{Table}
+use Rattle.ic_link_ops.specs.LinkedList.{Neighbors}
+use Rattle.ic_link_ops.specs.SinglyLinkedList.{Successor}
+use Rattle.ic_link_ops.specs.RedBlackTree.{Node}
+use Rattle.ic_link_ops.specs.declared.color.Color.TheVariants.{Red}
+use Rattle.ic_link_ops.specs.Links.{words_of}
+use Rattle.ic_link_ops.specs.DoublyEntries.{DoublyLink}
+use Rattle.ic_link_ops.specs.declared.link.Link.{Link}
+use Rattle.ic_link_ops.specs.declared.one_word.OneWord.{OneWord}
+use Rattle.ic_link_ops.specs.declared.rbtree.ThreeWords.{ThreeWords}
+use Rattle.ic_link_ops.specs.OneWord as one
+use Rattle.ic_link_ops.specs.TwoWords as two
+use Rattle.ic_link_ops.specs.ThreeWords as three
+use Rattle.ic_any_table.specs.declared.entry.Entry.{Entry}
+use Rattle.ic_any_table.specs.declared.kind.Kind.{Kind}
+use Rattle.ic_any_table.specs.Kinds.{number_of, kind_with}
+
+-- what the links of each kind of table say
+abbrev pub of_one : {K : Type 0} → Link (OneWord K) → Entry
+of_one l = record { linked = one.has_word (words_of l); word = one.next_word_of (words_of l); prev = None; parent = None; color = Red }
+
+abbrev pub of_two : DoublyLink → Entry
+of_two l = record { linked = two.has_words (words_of l); word = two.next_word_of (words_of l); prev = two.prev_of (words_of l); parent = None; color = Red }
+
+abbrev pub of_three : Link ThreeWords → Entry
+of_three l = record { linked = three.has_link (words_of l); word = three.right_word_of (words_of l); prev = three.left_of (words_of l); parent = (three.node_of l).parent; color = (three.node_of l).color }
+
+-- what an entry says to each kind of collection
+abbrev pub is_linked : Entry → Bool
+is_linked e = e.linked
+
+abbrev pub neighbors : Entry → Neighbors
+neighbors e = record { linked = e.linked; prev = e.prev; next = place_at e.word }
+
+abbrev pub successor : Entry → Successor
+successor e = record { linked = e.linked; next = place_at e.word }
+
+abbrev pub node : Entry → Node
+node e = record { linked = e.linked; left = e.prev; right = place_at e.word; parent = e.parent; color = e.color }
+
+-- an XOR list: the word is the exclusive or of the words of a and b, and the place that is left of it without a
+abbrev pub Joins : Entry → Option Place → Option Place → Type 0
+Joins e a b = e.word ≡ bit_xor (word_of a) (word_of b)
+
+abbrev pub other : Entry → Option Place → Option Place
+other e a = place_at (bit_xor e.word (word_of a))
+
+-- a table of a kind, whose entries are read
+abbrev pub read : {E : Type 0} → Kind → (E → Entry) → Table E → Table Entry
+read kind of t = record { extent = record { places = t.extent.places; identity = number_of kind ∷ [] }; entry = λ p. of (t.entry p) }
+
+-- the kind of a table
+abbrev pub kind_of : Table Entry → Kind
+kind_of t = kind_with t.extent.identity
