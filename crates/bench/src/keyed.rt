@@ -119,7 +119,7 @@ fn remove<L: RBTreeOps>(tree: &mut RBTree<ByValue>, links: &mut L, object: Unsaf
     ensures gone { (s : List Place) → Shows L.node (L.table links.new) (root_of tree.new) s → IsAbsent object s }
     ensures extent { (L.table links.new).extent ≡ (L.table links.old).extent }
 {
-    let _ = tree.cursor_mut_from_ptr(links, object).remove();
+    tree.remove(links, &object);
 }
 
 // Inserts the objects at these places, in this order.

@@ -1,32 +1,17 @@
-use Rattle.std.proofs.Common.{◌≡◌, true, ◌∙◌, sym, subst}
-use Rattle.ic_unsafe_ref.specs.declared.place.Place.{Place}
-use Rattle.ic_unsafe_ref.specs.Objects.{is_placed}
-use Rattle.ic_link_ops.specs.PlacedObjects.{ArePlaced}
-use Rattle.ic_link_ops.specs.Positions.{HasMember, Stands}
+use Rattle.ic_link_ops.specs.Positions.{Stands}
 use Rattle.ic_link_ops.specs.RedBlackTree.{Shows}
-use Rattle.ic_link_ops.proofs.Positions.{member_there, stands_first}
+use Rattle.ic_link_ops.proofs.Positions.{stands_first}
 use Rattle.ic_link_ops.proofs.ShownTrees.{one_sequence}
 use Rattle.ic_rbtree.specs.Cursor.{site_of}
-use Rattle.ic_rbtree.specs.Tree.{root_of}
-use Rattle.ic_rbtree.proofs.Sending.{placed_there}
-use Rattle.bench.proofs.Options.{if_some}
+use Rattle.bench.proofs.Members.{position_member, position_placed}
 use Rattle.bench.proofs.keyed.least.Goals as goal
 
-pub returns-clause-member : goal.returns-clause-member
-returns-clause-member g c =
+pub returns : goal.returns
+returns g c =
     let e = c.front.ensures in
     let s = c.requires.sorted.placed in
     let stands : Stands (Shows g.L.RBTreeOps.node) g.L.LinkOps.table (site_of c.front.result) = stands_first s.members (rw (e.links, e.tree) s.shown) (e.position s.members s.shown) in
-    if_some (HasMember (Shows g.L.RBTreeOps.node (g.L.LinkOps.table c.args.links.now) (root_of c.args.tree.now))) c.get_ptr.result
-    (λ p is. rw (← e.links, ← e.tree) (member_there stands (sym c.get_ptr.ensures ∙ is)))
-
-pub returns-clause-placed : goal.returns-clause-placed
-returns-clause-placed g c =
-    let e = c.front.ensures in
-    let s = c.requires.sorted.placed in
-    let stands : Stands (Shows g.L.RBTreeOps.node) g.L.LinkOps.table (site_of c.front.result) = stands_first s.members (rw (e.links, e.tree) s.shown) (e.position s.members s.shown) in
-    let q = c.requires.sorted.placed in
-    if_some (λ (p : Place). is_placed c.args.objects.now p ≡ true) c.get_ptr.result
-    (λ p is.
-    let m : HasMember (Shows g.L.RBTreeOps.node (g.L.LinkOps.table c.args.links.now) (root_of c.args.tree.now)) p = rw (← e.links, ← e.tree) (member_there stands (sym c.get_ptr.ensures ∙ is)) in
-    placed_there c.args.objects.now m.front p m.back (subst (ArePlaced c.args.objects.now) (one_sequence q.shown m.shown) q.placed))
+    record {
+      member = rw (← e.links, ← e.tree) (position_member stands c.get_ptr.result c.get_ptr.ensures);
+      placed = position_placed stands c.args.objects.now (λ s u shown other. one_sequence shown other) (rw (e.links, e.tree) s) c.get_ptr.result c.get_ptr.ensures;
+    }
