@@ -28,7 +28,7 @@ pub(crate) struct Hand<'c> {
 }
 
 impl Hand<'_> {
-    /// Makes the step on the place with that index, and answers it as a core does: a release is true of the place that this holder
+    /// Makes the step on the place with that index, and returns its answer as a core does: a release is true of the place that this holder
     /// claimed last and holds. On a place that the claims have not, no step is made.
     pub(crate) fn make(&mut self, act: Act, index: usize) -> bool {
         let Hand {

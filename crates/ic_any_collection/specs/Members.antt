@@ -62,7 +62,7 @@ is_xor kind.Doubly = false
 is_xor kind.Xor = true
 is_xor kind.Tree = false
 
--- which kinds have a cursor made on a member from its place alone: all but XOR lists, where a neighbour must be told
+-- which kinds have a cursor made on a member from its place alone: all but XOR lists, where a neighbor must be told
 abbrev pub has_pointer : Kind → Bool
 has_pointer kind.Singly = true
 has_pointer kind.Doubly = true

@@ -176,7 +176,7 @@ impl<T> Members<T> {
         }
     }
 
-    /// Takes the member out that the cursor is on and answers it, `None` at null. The cursor goes on to the next member.
+    /// Takes the member out that the cursor is on and returns it, `None` at null. The cursor goes on to the next member.
     ///
     /// It asks that this is no singly linked list. O(1), in a tree O(log n).
     #[inline]
@@ -203,7 +203,7 @@ impl<T> Members<T> {
         }
     }
 
-    /// Takes the member behind the cursor out and answers it, at null the first one; `None` where there is none. The cursor stays.
+    /// Takes the member behind the cursor out and returns it, at null the first one; `None` where there is none. The cursor stays.
     ///
     /// It asks that this is a singly linked list. O(1).
     #[inline]

@@ -116,7 +116,7 @@ impl<T> Members<T> {
     ghost use Rattle.ic_any_collection.specs.Edits.{Moves, Puts, IsUnchanged};
     ghost use Rattle.ic_any_collection.specs.Keyed.{PutsInOrder, PutsAtKey};
 
-    /// Puts the cursor on the first member of this key, null if there is none, and answers it with the looks of the descent.
+    /// Puts the cursor on the first member of this key, null if there is none, and returns it with the looks of the descent.
     ///
     /// It asks that this is a tree, and that an object stands at each member. O(log n).
     pub fn find<A: KeyAdapter<Value = T>, M: Allocator, B: Allocator>(
@@ -159,7 +159,7 @@ impl<T> Members<T> {
         }
     }
 
-    /// Puts the cursor on the first member whose key meets the bound, null if there is none, and answers it with the looks of
+    /// Puts the cursor on the first member whose key meets the bound, null if there is none, and returns it with the looks of
     /// the descent: none for `Unbounded`.
     ///
     /// It asks that this is a tree, and that an object stands at each member. In a tree that isn't sorted the cursor is on a
@@ -193,7 +193,7 @@ impl<T> Members<T> {
         (position, looks_in(&probe))
     }
 
-    /// Puts the cursor on the last member whose key meets the bound, null if there is none, and answers it with the looks of
+    /// Puts the cursor on the last member whose key meets the bound, null if there is none, and returns it with the looks of
     /// the descent: none for `Unbounded`.
     ///
     /// It asks that this is a tree, and that an object stands at each member. In a tree that isn't sorted the cursor is on a
@@ -292,7 +292,7 @@ impl<T> Members<T> {
         Some(looks)
     }
 
-    /// The same, but the cursor stays.
+    /// Puts the object where its own key belongs, behind members with the same key. The cursor stays.
     pub fn cursor_insert<A: KeyAdapter<Value = T>, M: Allocator, B: Allocator>(
         &mut self,
         links: &mut Field<M>,

@@ -22,8 +22,10 @@ pub enum Kind {
 impl Kind {
     ghost use Rattle.ic_any_table.specs.Kinds.{carries};
 
-    /// Whether a table of this kind carries collections of that one: each carries singly linked and XOR lists, those of
-    /// doubly links and of trees doubly linked lists as well, and that of trees each kind.
+    /// Whether a table of this kind carries collections of that one.
+    ///
+    /// Each carries singly linked and XOR lists, those of doubly links and of trees doubly linked lists as well, and that of
+    /// trees each kind.
     #[inline]
     pub fn carries(self, collection: Kind) -> bool
         ensures { result ≡ carries self collection }

@@ -196,12 +196,12 @@ impl<A: Allocator> Claims<A> {
         found == 1
     }
 
-    /// Proves to its caller what the records of these holders say together: with those of all other holders of the
-    /// claims they are one list of steps, alone where these are all, and no place is held by two of them.
+    /// Proves to its caller that the records of these holders are parts of one list of steps.
     ///
-    /// It is for whoever has holders of several threads together, as after a join. It asks that each holder was made
+    /// It is the list of all holders of the claims, and these are the whole of it where they are all there are. No place is held by
+    /// two of them. It is for whoever has holders of several threads together, as after a join. It asks that each holder was made
     /// with these claims; which of them are there, and in which order, is free. Neither a word nor a record is changed,
-    /// and it is never refused. Four loads a holder and two more, O(holders), which wait for nobody; no memory.
+    /// and it is never refused. Four loads a holder and two more, O(holders). It waits for nobody, and it takes no memory.
     pub fn audit<B: Allocator>(&self, holders: &mut Vec<Holder, B>)
         requires made { All (λ h. IsOf self.now h) holders.old.items }
         ensures made { All (λ h. IsOf self.now h) holders.new.items }

@@ -24,7 +24,7 @@ pub trait Gate {
     // The gate was told that the worker of this number has had so many answers. Nothing but `passed` says so.
     ghost Told: { Self → ℕ → ℕ → Type 0 };
 
-    /// The worker of this number has had so many answers.
+    /// Takes note that the worker of this number has had so many answers.
     ///
     /// It asks that these are none, or one more than the gate was told of this worker before.
     fn passed(&self, worker: usize, answered: usize)
@@ -32,7 +32,7 @@ pub trait Gate {
         ensures told { Told self.now worker answered };
 }
 
-/// Puts each offered object whose place nobody holds at the back of this party's list, and answers how many it put there.
+/// Puts each offered object whose place nobody holds at the back of this party's list, and returns how many it put there.
 ///
 /// It asks that the offered places are covered, and that the table shows a sequence for the list. It claims each place once,
 /// in the order in which they are offered; what some party holds already, also this one, stays where it is. The gate is told

@@ -44,7 +44,7 @@ pub trait Collection {
     // Null.
     ghost null_of: { Self → Self.Position };
 
-    /// Null.
+    /// The position at null.
     fn null_position(&self) -> Self::Position
         ensures position { result ≡ null_of self.now }
         ensures null { Self.Position.member result ≡ None };
@@ -58,7 +58,7 @@ pub trait Kind<L: LinkOps>: Collection {
     // THE POSITION STANDS, and what the kind keeps beside its member is right.
     ghost StandsAt: { L → Self → Self.Position → Type 0 };
 
-    /// Where a move on leads.
+    /// The position to which a move on leads.
     fn next_of(&self, links: &L, at: &Self::Position) -> Self::Position
         requires stands { StandsAt links.now self.now at.now }
         ensures moved { MovesOn Shows L.table (site links.now (Self.head_of self.now) (Self.Position.member at.now)) (Self.Position.member result) }
@@ -75,7 +75,7 @@ pub trait Kind<L: LinkOps>: Collection {
 
 /// A kind that leads both ways.
 pub trait TwoWay<L: LinkOps>: Kind<L> {
-    /// Where a move back leads.
+    /// The position to which a move back leads.
     fn prev_of(&self, links: &L, at: &Self::Position) -> Self::Position
         requires stands { Self.StandsAt links.now self.now at.now }
         ensures moved { MovesBack Self.Shows L.table (site links.now (Self.head_of self.now) (Self.Position.member at.now)) (Self.Position.member result) }

@@ -1,4 +1,4 @@
-//! What prints the objects of a collection.
+//! A value that prints the objects of a collection.
 //!
 //! ```text
 //! println!(rt; "{:?}", list.debug(&links, &objects))?; // [10, 20]
@@ -32,7 +32,7 @@ impl<I: Iterator + Clone> Drop for Listing<I> {
 }
 
 impl<I: Iterator + Clone> Listing<I> {
-    /// What prints the objects that the walk has not given out yet. It requires that every copy of the walk can be walked to its
+    /// A value that prints the objects that the walk has not given out yet. It requires that every copy of the walk can be walked to its
     /// end. O(1), and no memory.
     #[inline]
     pub fn new(walk: I) -> Listing<I>

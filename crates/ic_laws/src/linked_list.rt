@@ -18,8 +18,9 @@ use ic_linked_list::{Cursor, LinkedList};
 use ic_unsafe_ref::{Place, UnsafeRef};
 use std::alloc::Allocator;
 
-/// Moves a cursor from null on and back again, and then back and on: it was at the front and at the back, which are the
-/// answer, and is at null. Of an empty list both are `None`. O(1).
+/// Moves a cursor from null on and back again, then back and on, and returns where it was: at the front and at the back.
+///
+/// It is at null again. Of an empty list both are `None`. O(1).
 ///
 /// It asks that the cursor is at null, in a list for which the table shows a sequence.
 pub fn null_there_and_back<T, L: LinkedListOps>(
@@ -44,8 +45,9 @@ pub fn null_there_and_back<T, L: LinkedListOps>(
     (front, back)
 }
 
-/// The law of a split and a splice: what a split behind a position hands out, spliced in again behind that position, leaves the
-/// list as it was, over any table.
+/// The law of a split and a splice: what is handed out behind a position and spliced in there again leaves the list as it was.
+///
+/// It holds over any table.
 ///
 /// It speaks of what `split_after` and `splice_after` say, and makes no call. The two parts of the split are shown and share no
 /// member, so that the one may be spliced into the other (`apart`).
@@ -54,8 +56,9 @@ pub fn split_then_splice<L: LinkedListOps>()
     ensures as_it_was { SplitThenSplice (Shows L.neighbors) L.table L.Does }
 {}
 
-/// Puts one object at the back of a list of each of two fields, over plain tables: a link in one field is none in the
-/// other, so both take it, and the answer is true. O(1).
+/// Puts one object at the back of a list of each of two fields, over plain tables, and returns true, since both take it.
+///
+/// A link in one field is none in the other. O(1).
 ///
 /// It asks that both tables cover the object's place, that it is linked in neither, and that each shows a sequence.
 pub fn fields_are_apart<T, A: Allocator, B: Allocator>(
@@ -90,10 +93,10 @@ pub fn fields_are_apart<T, A: Allocator, B: Allocator>(
     in_first && in_second
 }
 
-/// The law of a push and a pop: an object that `push_back` accepted is what `pop_back` answers, and the list and the linked places
-/// are as they were, and so is every other list, over any table.
+/// The law of a push and a pop: what `push_back` accepted is what `pop_back` returns, and all is as it was.
 ///
-/// It speaks of what the two calls say, and makes none.
+/// The list and the linked places are as they were, and so is every other list, over any table. It speaks of what the two calls say, and
+/// makes none.
 pub fn push_then_pop<L: LinkedListOps>()
     ensures { PushThenPop (Shows L.neighbors) L.table L.Does L.linked at_back last but_last }
 {}

@@ -19,8 +19,9 @@ use ic_singly_linked_list::SinglyLinkedList;
 use ic_unsafe_ref::{Place, UnsafeRef};
 use std::alloc::Allocator;
 
-/// The law of a split and a splice: what a split behind a position hands out, spliced in again behind that position, leaves the
-/// list as it was, over any table.
+/// The law of a split and a splice: what is handed out behind a position and spliced in there again leaves the list as it was.
+///
+/// It holds over any table.
 ///
 /// It speaks of what `split_after` and `splice_after` say, and makes no call. The two parts of the split are shown and share no
 /// member, so that the one may be spliced into the other (`apart`).
@@ -29,8 +30,9 @@ pub fn split_then_splice<L: SinglyLinkedListOps>()
     ensures as_it_was { SplitThenSplice (Shows L.successor) L.table L.Does }
 {}
 
-/// Puts one object at the front of a list of each of two fields, over plain tables: a link in one field is none in the
-/// other, so both take it, and the answer is true. O(1).
+/// Puts one object at the front of a list of each of two fields, over plain tables, and returns true, since both take it.
+///
+/// A link in one field is none in the other. O(1).
 ///
 /// It asks that both tables cover the object's place, that it is linked in neither, and that each shows a sequence.
 pub fn fields_are_apart<T, W: NextWord, V: NextWord, A: Allocator, B: Allocator>(
@@ -67,10 +69,10 @@ pub fn fields_are_apart<T, W: NextWord, V: NextWord, A: Allocator, B: Allocator>
     in_first && in_second
 }
 
-/// The law of a push and a pop: an object that `push_front` accepted is what `pop_front` answers, and the list and the linked places
-/// are as they were, and so is every other list, over any table.
+/// The law of a push and a pop: what `push_front` accepted is what `pop_front` returns, and all is as it was.
 ///
-/// It speaks of what the two calls say, and makes none.
+/// The list and the linked places are as they were, and so is every other list, over any table. It speaks of what the two calls say, and
+/// makes none.
 pub fn push_then_pop<L: SinglyLinkedListOps>()
     ensures { PushThenPop (Shows L.successor) L.table L.Does L.linked at_front first (λ s. remove (at_front s)) }
 {}

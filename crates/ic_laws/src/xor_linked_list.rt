@@ -22,8 +22,9 @@ use ic_unsafe_ref::{Place, UnsafeRef};
 use ic_xor_linked_list::{Cursor, XorLinkedList};
 use std::alloc::Allocator;
 
-/// Moves a cursor from null on and back again, and then back and on: it was at the front and at the back, which are the
-/// answer, and is at null. Of an empty list both are `None`. O(1).
+/// Moves a cursor from null on and back again, then back and on, and returns where it was: at the front and at the back.
+///
+/// It is at null again. Of an empty list both are `None`. O(1).
 ///
 /// It asks that the cursor is at null, in a list for which the table shows a sequence.
 pub fn null_there_and_back<T, L: XorLinkedListOps>(
@@ -49,8 +50,9 @@ pub fn null_there_and_back<T, L: XorLinkedListOps>(
     (front, back)
 }
 
-/// The law of a split and a splice: what a split behind a position hands out, spliced in again behind that position, leaves the
-/// list as it was, over any table.
+/// The law of a split and a splice: what is handed out behind a position and spliced in there again leaves the list as it was.
+///
+/// It holds over any table.
 ///
 /// It speaks of what `split_after` and `splice_after` say, and makes no call. The two parts of the split are shown and share no
 /// member, so that the one may be spliced into the other (`apart`). Of such a splice the clause `kept` of `splice_after` says that the
@@ -60,8 +62,9 @@ pub fn split_then_splice<L: XorLinkedListOps>()
     ensures as_it_was { SplitThenSplice (Shows L.linked L.Joins) L.table L.Does }
 {}
 
-/// Turns a list round: a table that showed a sequence for it shows that sequence turned round, since no entry says which of
-/// its neighbours is in front. O(1), and the table is not written.
+/// Turns a list round: a table that showed a sequence for it shows that sequence turned round.
+///
+/// No entry says which of its neighbors is in front. O(1), and the table is not written.
 pub fn reversed_is_shown<T, L: XorLinkedListOps>(list: &mut XorLinkedList<T>, links: &L)
     ensures shown { (s : List Place) → Shows L.linked L.Joins (L.table links.now) list.old s
         → Shows L.linked L.Joins (L.table links.now) list.new (reverse s) }
@@ -70,13 +73,14 @@ pub fn reversed_is_shown<T, L: XorLinkedListOps>(list: &mut XorLinkedList<T>, li
     list.reverse();
 }
 
-/// The law: a list that is turned round twice is what it was.
+/// The law of two turns: a list that is turned round twice is what it was.
 pub fn reverse_twice()
     ensures { (list : Ends) → turned (turned list) ≡ list }
 {}
 
-/// Puts one object at the back of a list of each of two fields, over plain tables: a link in one field is none in the
-/// other, so both take it, and the answer is true. O(1).
+/// Puts one object at the back of a list of each of two fields, over plain tables, and returns true, since both take it.
+///
+/// A link in one field is none in the other. O(1).
 ///
 /// It asks that both tables cover the object's place, that it is linked in neither, and that each shows a sequence.
 pub fn fields_are_apart<T, W: NextWord, V: NextWord, A: Allocator, B: Allocator>(
@@ -111,10 +115,10 @@ pub fn fields_are_apart<T, W: NextWord, V: NextWord, A: Allocator, B: Allocator>
     in_first && in_second
 }
 
-/// The law of a push and a pop: an object that `push_back` accepted is what `pop_back` answers, and the list and the linked places
-/// are as they were, and so is every other list, over any table.
+/// The law of a push and a pop: what `push_back` accepted is what `pop_back` returns, and all is as it was.
 ///
-/// It speaks of what the two calls say, and makes none.
+/// The list and the linked places are as they were, and so is every other list, over any table. It speaks of what the two calls say, and
+/// makes none.
 pub fn push_then_pop<L: XorLinkedListOps>()
     ensures { PushThenPop (Shows L.linked L.Joins) L.table L.Does L.linked at_back last but_last }
 {}

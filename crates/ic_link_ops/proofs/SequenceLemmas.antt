@@ -104,7 +104,7 @@ first_not (x ∷ s) a q n h e = h.0 (cc)
 pub none_not : {A : Type 0} (q : A) → None ≢ Some q
 none_not q e = cc
 
--- what is no member is at neither side of a gap, and no neighbour of a member
+-- what is no member is at neither side of a gap, and no neighbor of a member
 pub gap_not : (front back : List Place) {q : Place} {before behind : Option Place} → before ≡ last front → behind ≡ first back → IsAbsent q (front ++ back)
     → (before ≢ Some q) × (behind ≢ Some q)
 gap_not front back {q} e k out = (

@@ -35,7 +35,7 @@ module _ {E : Type 0} {between : E → Option Place → Option Place → Type 0}
     tail = h.tail;
   }
 
-  -- how a member stands between its neighbours
+  -- how a member stands between its neighbors
   pub shows_middle : {t : Table E} {ends : Ends} (front back : List Place) {p : Place}
       → ShowsBetween between t ends (front ++ p ∷ back) → between (t.entry p) (last front) (first back)
   shows_middle {t} front back {p} shown = (chain_cut between t.entry None front (p ∷ back) None shown.chain).1.0
@@ -85,7 +85,7 @@ module _ {E : Type 0} {between : E → Option Place → Option Place → Type 0}
         tail = new_tail front [] (p ∷ []) back is_behind refl shown.tail tail;
       }
 
-  -- REMOVE: p is taken out. Its two neighbours are turned to each other
+  -- REMOVE: p is taken out. Its two neighbors are turned to each other
   pub shows_remove : {t0 t2 : Table E} {t1 : Place → E} {ends ends' : Ends} (front back : List Place) (p : Place) {before behind : Option Place}
       → before ≡ last front → behind ≡ first back → ShowsBetween between t0 ends (front ++ p ∷ back)
       → TurnsBehind between t0.entry t1 before (Some p) behind → TurnsBefore between t1 t2.entry behind (Some p) before
@@ -102,7 +102,7 @@ module _ {E : Type 0} {between : E → Option Place → Option Place → Type 0}
         tail = new_tail front (p ∷ []) [] back is_behind is_before shown.tail tail;
       }
 
-  -- REPLACE: r is put in the place of p. The two neighbours of p are turned, and then r is set
+  -- REPLACE: r is put in the place of p. The two neighbors of p are turned, and then r is set
   pub shows_replace : {t0 t3 : Table E} {t1 t2 : Place → E} {ends ends' : Ends} (front back : List Place) (p : Place) {r : Place} {before behind : Option Place}
       → before ≡ last front → behind ≡ first back → ShowsBetween between t0 ends (front ++ p ∷ back) → IsAbsent r (front ++ p ∷ back)
       → TurnsBehind between t0.entry t1 before (Some p) (Some r) → TurnsBefore between t1 t2 behind (Some p) (Some r)

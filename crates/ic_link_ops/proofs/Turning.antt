@@ -6,7 +6,7 @@ use Rattle.ic_link_ops.specs.Turns.{TurnsBehind, TurnsBefore}
 use Rattle.ic_link_ops.proofs.SequenceLemmas.{some_same, none_not}
 
 module _ {E : Type 0} {between : E → Option Place → Option Place → Type 0} where
-  -- a change at p that gives it another neighbour on one side is a turn there
+  -- a change at p that gives it another neighbor on one side is a turn there
   pub turns_behind : {old new : Table E} {p : Place} {from to : Option Place} → ChangesOnly old new p
       → ((a : Option Place) → between (old.entry p) a from → between (new.entry p) a to) → TurnsBehind between old.entry new.entry (Some p) from to
   turns_behind {old} {new} {p} {from} {to} frame turn = record {

@@ -44,7 +44,7 @@ module _ {E : Type 0} {linked : E → Bool} {joins : E → Option Place → Opti
       → {list : Ends} {s : List Place} → Shows linked joins t list s → length s ≤ t.extent.places
   shown_length t covered shown = part_length t covered (stretch_of shown)
 
-  -- `law`: other gives the other neighbour of the one told, so it is the step of a walk from either end
+  -- `law`: other gives the other neighbor of the one told, so it is the step of a walk from either end
   module _ (other : E → Option Place → Option Place) (law : (e : E) (a b : Option Place) → joins e a b → other e a ≡ b) where
     pub joined_step : (e : E) (b a : Option Place) → IsJoined linked joins e b a → other e b ≡ a
     joined_step e b a h = law e b a h.joined
@@ -70,7 +70,7 @@ module _ {E : Type 0} {linked : E → Bool} {joins : E → Option Place → Opti
     part_walked_back symmetric t covered k =
         stretch_walked other (joined_step_back symmetric) t (λ q b a h. covered q h.linked) (stretch_mirrored k)
 
--- the five facts of XOR lists: `one` is the law that one neighbour tells the other
+-- the five facts of XOR lists: `one` is the law that one neighbor tells the other
 pub xor_lists : {E : Type 0} {linked : E → Bool} {joins : E → Option Place → Option Place → Type 0}
     → ((e : E) (a b c : Option Place) → joins e a b → joins e a c → b ≡ c) → IsKind (Shows linked joins) linked no_members
 xor_lists one = record {

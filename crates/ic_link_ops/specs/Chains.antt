@@ -1,4 +1,4 @@
--- Chains: sequences in which each member stands between its neighbours.
+-- Chains: sequences in which each member stands between its neighbors.
 use Rattle.std.specs.Prelude.{◌≡◌, Option, Some, None, List, [], ◌∷◌}
 use Rattle.ic_unsafe_ref.specs.declared.place.Place.{Place}
 use Rattle.ic_link_ops.specs.Sequences.{IsDistinct, first_or, first, last}
@@ -13,14 +13,14 @@ pub record Ends : Type 0 where
 abbrev pub no_members : Ends
 no_members = record { head = None; tail = None }
 
--- an end of a list whose outermost member has this neighbour beyond it now: the end stays where there is one
+-- an end of a list whose outermost member has this neighbor beyond it now: the end stays where there is one
 abbrev pub end_of : Option Place → Option Place → Option Place → Option Place
 end_of None fresh end = fresh
 end_of (Some x) fresh end = end
 
 -- `between e a b`: the entry e says that its place stands between a and b, none beyond an end
 module _ {E : Type 0} (between : E → Option Place → Option Place → Type 0) where
-  -- each member of s is between its neighbours in s, `before` stands in front of the first and `behind` after the last
+  -- each member of s is between its neighbors in s, `before` stands in front of the first and `behind` after the last
   abbrev pub IsChain : (Place → E) → Option Place → List Place → Option Place → Type 0
   IsChain entry before [] behind = Unit {0}
   IsChain entry before (x ∷ s) behind = between (entry x) before (first_or s behind) × IsChain entry (Some x) s behind

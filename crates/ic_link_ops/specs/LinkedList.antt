@@ -23,7 +23,7 @@ module _ {E : Type 0} (neighbors : E → Neighbors) where
     pub prev : (neighbors e).prev ≡ before
     pub next : (neighbors e).next ≡ behind
 
-  -- each member of s is between its neighbours in s
+  -- each member of s is between its neighbors in s
   abbrev pub IsChain : (Place → E) → Option Place → List Place → Option Place → Type 0
   IsChain entry before s behind = chains.IsChain IsBetween entry before s behind
 

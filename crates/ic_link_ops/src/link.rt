@@ -29,11 +29,11 @@ pub trait Words: Drop {
     fn is_linked(&self) -> bool
         ensures { result ≡ is_linked self.now };
 
-    /// Says in the words that the place is linked. What they say of neighbours then is left open.
+    /// Makes the words those of a linked place. What they say of neighbors then is left open.
     fn link(&mut self)
         ensures { is_linked self.new ≡ true };
 
-    /// Says in the words that the place is not linked. What they say of neighbours then is left open.
+    /// Makes the words those of an unlinked place. What they say of neighbors then is left open.
     fn unlink(&mut self)
         ensures { is_linked self.new ≡ false };
 
@@ -41,7 +41,7 @@ pub trait Words: Drop {
     ghost starts_unlinked: { is_linked unlinked ≡ false };
 }
 
-/// Words with one for what follows: the place of a singly or doubly linked list, or the neighbours of an XOR list.
+/// Words with one for what follows: the place of a singly or doubly linked list, or the neighbors of an XOR list.
 pub trait NextWord: Words {
     // That word.
     ghost next_word: { Self → ℕ };
@@ -83,7 +83,7 @@ pub trait PrevPlace: NextWord {
     ghost keeps_prev: { (old new : Self) → Self.KeepsOthers old new → prev new ≡ prev old };
 }
 
-/// What a table keeps at a place: whether the place is linked, and the neighbours.
+/// What a table keeps at a place: whether the place is linked, and the neighbors.
 ///
 /// A copy of a link belongs to no place, so it is unlinked.
 #[derive(Drop)]

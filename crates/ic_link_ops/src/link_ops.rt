@@ -20,7 +20,7 @@ use ic_unsafe_ref::Place;
 ///
 /// ```text
 /// if links.acquire_link(place) {
-///     // the place is ours to link, and an insert writes its neighbours
+///     // the place is ours to link, and an insert writes its neighbors
 ///     links.release_link(place);
 /// }
 /// ```

@@ -21,7 +21,7 @@ use crate::word::Word;
 use ic_unsafe_ref::Place;
 use std::alloc::{Allocator, Global};
 
-/// A table whose entries name two neighbours, which is what a doubly linked list asks for.
+/// A table whose entries name two neighbors, which is what a doubly linked list asks for.
 pub trait LinkedListOps: link_ops::LinkOps {
     // What an entry says: whether its place is linked, and between which places.
     ghost neighbors: { Self.Entry → Neighbors };

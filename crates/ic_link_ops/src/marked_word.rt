@@ -57,7 +57,7 @@ impl MarkedWord {
         Word { bits: self.bits }
     }
 
-    /// What is kept as a number, for a text of an entry: a word as [`Word`] has it, or 1.
+    /// The number that is kept, for a text of an entry: a word as [`Word`] has it, or 1.
     #[inline]
     pub fn bits(self) -> u64
         ensures { result ≡ marked_bits_of self }

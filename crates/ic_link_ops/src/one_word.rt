@@ -11,7 +11,7 @@ use crate::marked_word::MarkedWord;
 use crate::word::Word;
 use std::marker::PhantomData;
 
-/// One word for the neighbours, or the mark 1 while the place is unlinked. `K` tells tables of two kinds apart.
+/// One word for the neighbors, or the mark 1 while the place is unlinked. `K` tells tables of two kinds apart.
 #[derive(Drop)]
 pub struct OneWord<K> {
     pub(crate) word: MarkedWord,

@@ -106,10 +106,10 @@ impl link::Link<ThreeWords> {
     ghost use Rattle.ic_link_ops.specs.Links.{words_of};
     ghost use Rattle.ic_link_ops.specs.ThreeWords.{bits_in_order};
 
-    /// The three words: the numbers of the left and the right child, and
-    /// `4 * (parent + 1) + 2 * linked + black`, with 0 in place of `parent + 1` for no parent, and 1 for true.
+    /// The three words: those of the left and the right child, and that of the parent and the color.
     ///
-    /// A child that is none has 0, and what an XOR list wrote stands on the right.
+    /// A child that is none has 0, and what an XOR list wrote stands on the right. The third word is
+    /// `4 * (parent + 1) + 2 * linked + black`, with 0 in place of `parent + 1` for no parent, and 1 for true.
     #[inline]
     pub fn words(&self) -> [u64; 3]
         ensures { result ≡ bits_in_order (words_of self.now) }

@@ -61,7 +61,7 @@ impl Word {
         }
     }
 
-    /// The place on the other side of the one that is told.
+    /// The place on one side, where `known` is the one on the other.
     #[inline]
     #[tactic(auto, using(ic_unsafe_ref::proofs::PlaceLemmas::xor_fits))]
     pub fn other(self, known: Option<Place>) -> Option<Place>

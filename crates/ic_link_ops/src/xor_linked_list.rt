@@ -18,14 +18,14 @@ use crate::word::Word;
 use ic_unsafe_ref::Place;
 use std::alloc::{Allocator, Global};
 
-/// A table whose entries name two neighbours without telling which is which, as an XOR list asks for.
+/// A table whose entries name two neighbors without telling which is which, as an XOR list asks for.
 ///
-/// Only who knows one neighbour of a place can read the other.
+/// Only who knows one neighbor of a place can read the other.
 pub trait XorLinkedListOps: link_ops::LinkOps {
     // The entry of a place stands between these two, in either order.
     ghost Joins: { Self.Entry → Option Place → Option Place → Type 0 };
 
-    // The neighbour on the other side of the one that is told.
+    // The neighbor on the other side of the one that is told.
     ghost other: { Self.Entry → Option Place → Option Place };
 
     /// The place behind `place`, if `prev` stands before it. It asks that the place is linked. O(1).
@@ -38,7 +38,7 @@ pub trait XorLinkedListOps: link_ops::LinkOps {
         requires linked { IsLinked Self.linked (Self.table self.now) place }
         ensures { result ≡ other ((Self.table self.now).entry place) next };
 
-    /// Sets both neighbours of `place`. It asks that the place is linked. O(1).
+    /// Sets both neighbors of `place`. It asks that the place is linked. O(1).
     fn set(&mut self, place: Place, prev: Option<Place>, next: Option<Place>)
         requires linked { IsLinked Self.linked (Self.table self.old) place }
         ensures set { Joins ((Self.table self.new).entry place) prev next }
@@ -55,7 +55,7 @@ pub trait XorLinkedListOps: link_ops::LinkOps {
         ensures frame { ChangesOnly (Self.table self.old) (Self.table self.new) place }
         ensures no_step { Self.Does self.old self.new [] };
 
-    // The laws: the two sides are alike, one neighbour tells the other, and `other` finds it.
+    // The laws: the two sides are alike, one neighbor tells the other, and `other` finds it.
     ghost symmetric: { (e : Self.Entry) (a b : Option Place) → Joins e a b → Joins e b a };
 
     ghost one_other: { (e : Self.Entry) (a b c : Option Place) → Joins e a b → Joins e a c → b ≡ c };
@@ -63,7 +63,7 @@ pub trait XorLinkedListOps: link_ops::LinkOps {
     ghost finds_other: { (e : Self.Entry) (a b : Option Place) → Joins e a b → other e a ≡ b };
 }
 
-/// The kind of links whose word is the exclusive or of two neighbours' numbers.
+/// The kind of links whose word is the exclusive or of two neighbors' numbers.
 pub struct Xor;
 
 /// What the table keeps at a place: one word.
@@ -76,7 +76,7 @@ impl link::Link<OneWord<Xor>> {
     ghost use Rattle.ic_link_ops.specs.Links.{words_of};
     ghost use Rattle.ic_link_ops.specs.OneWord.{next_word_of};
 
-    /// The exclusive or of the neighbours' numbers, where a place has the number `2 * (index + 1)` and none has 0; the
+    /// The exclusive or of the neighbors' numbers, where a place has the number `2 * (index + 1)` and none has 0; the
     /// mark 1 while the place is unlinked.
     #[inline]
     pub fn word(&self) -> u64

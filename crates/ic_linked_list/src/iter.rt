@@ -67,7 +67,7 @@ impl<'a, T, L: LinkedListOps, O: Values<T>> Iterator for Iter<'a, T, L, O> {
 
     ghost remaining = { item_count (objects_left L.neighbors L.table O.values) };
 
-    /// The next object. O(1): one reading of a neighbour, and one look-up of the object.
+    /// The next object. O(1): one reading of a neighbor, and one look-up of the object.
     fn next(&mut self) -> Option<&'a T> {
         let place = self.head?;
         let objects: &'a O = self.objects;
@@ -145,8 +145,8 @@ impl<T> LinkedList<T> {
         }
     }
 
-    /// What prints the objects of the list, in order: `{:?}` writes `[10, 20]`, and `{:#?}` writes each object on lines of its own. It
-    /// asks that all members are placed. O(1), and no memory.
+    /// A value that prints the objects of the list, in order: `{:?}` writes `[10, 20]`, and `{:#?}` writes each object on lines of its own.
+    /// It asks that all members are placed. O(1), and no memory.
     pub fn debug<'a, L: LinkedListOps, O: Values<T>>(
         &self,
         links: &'a L,

@@ -1,4 +1,4 @@
-//! A doubly linked list over any table with two neighbours in an entry.
+//! A doubly linked list over any table with two neighbors in an entry.
 //!
 //! Each operation takes the table of the link field. Linking takes no memory, and one object can be in lists of
 //! several fields.

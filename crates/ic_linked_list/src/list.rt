@@ -172,7 +172,7 @@ impl<T> LinkedList<T> {
         Ok(())
     }
 
-    /// Takes the object at the front off the list and answers it, or `None` if the list is empty. O(1).
+    /// Takes the object at the front off the list and returns it, or `None` if the list is empty. O(1).
     #[inline]
     pub fn pop_front<L: LinkedListOps>(&mut self, links: &mut L) -> Option<UnsafeRef<T>>
         requires shown { ShowsSome L.neighbors (L.table links.old) self.old }
@@ -190,7 +190,7 @@ impl<T> LinkedList<T> {
         Some(UnsafeRef::new(front))
     }
 
-    /// Takes the object at the back off the list and answers it, or `None` if the list is empty. O(1).
+    /// Takes the object at the back off the list and returns it, or `None` if the list is empty. O(1).
     #[inline]
     pub fn pop_back<L: LinkedListOps>(&mut self, links: &mut L) -> Option<UnsafeRef<T>>
         requires shown { ShowsSome L.neighbors (L.table links.old) self.old }
@@ -208,7 +208,7 @@ impl<T> LinkedList<T> {
         Some(UnsafeRef::new(back))
     }
 
-    /// Takes the object off the list, of which it asks that it is a member. O(1).
+    /// Takes the object, which has to be a member, off the list. O(1).
     ///
     /// The other members stay in their order, and so does every other list of the table.
     #[inline]
@@ -244,7 +244,7 @@ impl<T> LinkedList<T> {
         behind
     }
 
-    // Puts the place into the gap between two neighbours, and answers whether its link was acquired.
+    // Puts the place into the gap between two neighbors, and answers whether its link was acquired.
     #[inline]
     pub(crate) fn insert_between<L: LinkedListOps>(
         &mut self,
@@ -273,7 +273,7 @@ impl<T> LinkedList<T> {
         true
     }
 
-    // Puts the linked place between two others, be they neighbours or those of the member that it replaces.
+    // Puts the linked place between two others, be they neighbors or those of the member that it replaces.
     #[inline]
     pub(crate) fn put_between<L: LinkedListOps>(
         &mut self,
@@ -342,7 +342,7 @@ impl<T> LinkedList<T> {
         behind
     }
 
-    // Puts all of the given list into the gap between two neighbours.
+    // Puts all of the given list into the gap between two neighbors.
     #[inline]
     pub(crate) fn splice_between<L: LinkedListOps>(
         &mut self,
@@ -373,7 +373,7 @@ impl<T> LinkedList<T> {
         links.set_next(back, behind);
     }
 
-    // Cuts the list between two neighbours. It keeps what is in front of the cut, and the rest is handed out.
+    // Cuts the list between two neighbors. It keeps what is in front of the cut, and the rest is handed out.
     #[inline]
     pub(crate) fn split_between<L: LinkedListOps>(
         &mut self,

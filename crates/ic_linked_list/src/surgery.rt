@@ -1,4 +1,4 @@
-//! What writes neighbours, and an end of the list where there is none.
+//! What writes neighbors, and an end of the list where there is none.
 
 ghost use Rattle.std.specs.Prelude.{◌≡◌, Option, Some, []};
 ghost use Rattle.ic_unsafe_ref.specs.declared.place.Place.{Place};

@@ -21,7 +21,7 @@ fn arguments(rt: &(impl Env + AllocGlobal)) -> io::Result<Vec<String>> {
     }
 }
 
-/// Runs the program over the standard streams, and answers its status.
+/// Runs the program over the standard streams, and returns its status.
 fn run(
     rt: &(impl Env + Input + Print + Eprint + AllocGlobal + Threads + Wait + Sync),
     alloc: Global,

@@ -55,7 +55,7 @@ module _ (at : Place → Ordering) where
     pub is_equal : AllByRecursion (λ p. at p ≡ Equal) equal
     pub is_less : AllByRecursion (λ p. at p ≡ Less) larger
 
--- SORTED: the keys of neighbours never fall
+-- SORTED: the keys of neighbors never fall
 abbrev pub IsSorted : {K : Type 0} → (K → K → Ordering) → List K → Type 0
 IsSorted cmp [] = Unit {0}
 IsSorted cmp (k ∷ []) = Unit {0}

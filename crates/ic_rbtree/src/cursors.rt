@@ -42,7 +42,7 @@ impl<A: KeyAdapter> RBTree<A> {
         Cursor::new(self, links, End::of(None))
     }
 
-    /// A cursor on the object, of which it asks that it is a member.
+    /// A cursor on the object, which has to be a member.
     #[inline]
     pub fn cursor_from_ptr<'a, L: RBTreeOps>(
         &'a self,
@@ -100,7 +100,7 @@ impl<A: KeyAdapter> RBTree<A> {
         CursorMut::new(self, links, End::of(None))
     }
 
-    /// A cursor that edits, on the object, of which it asks that it is a member.
+    /// A cursor that edits, on the object, which has to be a member.
     #[inline]
     pub fn cursor_mut_from_ptr<'a, L: RBTreeOps>(
         &'a mut self,
@@ -157,7 +157,7 @@ impl<A: KeyAdapter> RBTree<A> {
         CursorOwning::new(self, End::of(None))
     }
 
-    /// A cursor that keeps the tree, on the object, of which it asks that it is a member.
+    /// A cursor that keeps the tree, on the object, which has to be a member.
     #[inline]
     pub fn cursor_owning_from_ptr<L: RBTreeOps>(
         self,

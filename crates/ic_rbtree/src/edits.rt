@@ -43,7 +43,7 @@ impl<A: KeyAdapter> RBTree<A> {
         end_on(links, self.root.get(), Side::Right)
     }
 
-    /// Takes the object off the tree, of which it asks that it is a member. O(log n), and no look.
+    /// Takes the object, which has to be a member, off the tree. O(log n), and no look.
     ///
     /// The other members stay in their order, and so does every other collection of the table.
     #[inline]

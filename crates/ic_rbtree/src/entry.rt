@@ -176,7 +176,7 @@ impl<'a, A: KeyAdapter, L: RBTreeOps> Entry<'a, A, L> {
         }
     }
 
-    /// The same with the object that `make` gives, which is called only where the entry is vacant.
+    /// The cursor that `or_insert` returns, with the object that `make` gives, which is called only where the entry is vacant.
     pub fn or_insert_with<F: FnOnce() -> UnsafeRef<A::Value>>(
         self,
         make: F,

@@ -159,8 +159,8 @@ impl<A: KeyAdapter> RBTree<A> {
         }
     }
 
-    /// What prints the objects of the tree, in order: `{:?}` writes `[10, 20]`, and `{:#?}` writes each object on lines of its own. It
-    /// asks that all members are placed. O(log n), and no memory.
+    /// A value that prints the objects of the tree, in order: `{:?}` writes `[10, 20]`, and `{:#?}` writes each object on lines of its own.
+    /// It asks that all members are placed. O(log n), and no memory.
     pub fn debug<'a, L: RBTreeOps, O: Values<A::Value>>(
         &'a self,
         links: &'a L,

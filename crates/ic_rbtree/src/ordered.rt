@@ -46,7 +46,7 @@ impl<A: KeyAdapter> RBTree<A> {
     ///
     /// It asks that the object's place is covered, that all members are placed, and that the probe's count is at most
     /// `u64::MAX - 66`. A refused object comes back, nothing is looked at, and the tree and its links are as they were. The crate
-    /// answers a cursor on the object; here that is one more call, `cursor_mut_from_ptr`. O(log n): v looks in a tree of n
+    /// returns a cursor on the object; here that is one more call, `cursor_mut_from_ptr`. O(log n): v looks in a tree of n
     /// members, where `2^v <= (n + 1)^2`.
     #[inline]
     pub fn insert_by<L: RBTreeOps, P: Probe<A::Value>, O: Values<A::Value>>(

@@ -25,7 +25,7 @@ pub trait Probe<V> {
     // How many looks it has made.
     ghost count: { Self → ℕ };
 
-    /// How what is searched stands to `value`: `Less` where it is less.
+    /// Compares what is searched with `value`: `Less` where it is less.
     ///
     /// It asks that the count of looks is below `u64::MAX`. It counts one more, and compares as before.
     fn compare(&mut self, value: &V) -> Ordering

@@ -39,7 +39,7 @@ impl<T> SinglyLinkedList<T> {
         Cursor::new(self, links, End::of(None))
     }
 
-    /// A cursor on the object, of which it asks that it is a member.
+    /// A cursor on the object, which has to be a member.
     #[inline]
     pub fn cursor_from_ptr<'a, L: SinglyLinkedListOps>(
         &'a self,
@@ -85,7 +85,7 @@ impl<T> SinglyLinkedList<T> {
         CursorMut::new(self, links, End::of(None))
     }
 
-    /// A cursor that edits, on the object, of which it asks that it is a member.
+    /// A cursor that edits, on the object, which has to be a member.
     #[inline]
     pub fn cursor_mut_from_ptr<'a, L: SinglyLinkedListOps>(
         &'a mut self,
@@ -131,7 +131,7 @@ impl<T> SinglyLinkedList<T> {
         CursorOwning::new(self, End::of(None))
     }
 
-    /// A cursor that keeps the list, on the object, of which it asks that it is a member.
+    /// A cursor that keeps the list, on the object, which has to be a member.
     #[inline]
     pub fn cursor_owning_from_ptr<L: SinglyLinkedListOps>(
         self,

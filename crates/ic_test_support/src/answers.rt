@@ -49,7 +49,7 @@ pub fn replaced(given: Result<UnsafeRef<u64>, ReplaceError<u64>>, place: Place) 
     }
 }
 
-/// Places an object of that value, and answers where it stands: `full` or `memory` where it can't.
+/// Places an object of that value, and returns where it stands: `full` or `memory` where it can't.
 pub fn placed(objects: &mut Objects<u64>, value: u64) -> Answer {
     let Some(next) = objects.next_place() else {
         return Answer::Refused("full");

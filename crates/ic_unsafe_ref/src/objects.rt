@@ -44,7 +44,7 @@ impl<T, A: Allocator> Objects<T, A> {
     ghost use Rattle.std.specs.Option.{option_copied_mut};
     ghost use Rattle.ic_unsafe_ref.specs.Lends.{LendsObject};
 
-    /// No objects. It takes no memory until the first one is placed.
+    /// Objects of which none is placed. It takes no memory until the first one is placed.
     pub fn new(alloc: A) -> Self
         ensures empty { result.values ≡ map.empty }
         ensures vacant { (place : Place) → object_at result place ≡ None }

@@ -12,7 +12,7 @@ use std::fmt;
 
 /// Where an object stands: an index, below 4,294,967,296 of each place that [`Place::new`] makes and that a table covers.
 ///
-/// It is kept as its number, `2 * (index + 1)`, which is what links keep for a neighbour: even, and never 0. A number may
+/// It is kept as its number, `2 * (index + 1)`, which is what links keep for a neighbor: even, and never 0. A number may
 /// be any below `2^34`, twice as many as the first 4,294,967,296 places have, so that the exclusive or of two numbers is a
 /// number or 0 and is read with no test of its range.
 #[derive(Clone, Copy, PartialEq, Eq, PartialOrd, Ord)]
@@ -51,7 +51,7 @@ impl Place {
         }
     }
 
-    /// How many places stand before it, counted from 0.
+    /// The index of the place, counted from 0: how many places stand before it.
     #[inline]
     #[tactic(auto, unfolding(crate::specs::Places::index_of))]
     pub fn index(self) -> usize
@@ -63,7 +63,7 @@ impl Place {
 
     /// The place that a word names: none at 0. One test.
     ///
-    /// Tables and collections keep neighbours and ends as such words, which take no decoding to copy. It asks for an even
+    /// Tables and collections keep neighbors and ends as such words, which take no decoding to copy. It asks for an even
     /// word below `2^34`, as [`Place::to_word`] answers and as the exclusive or of two such words is.
     #[inline]
     #[tactic(auto, using(crate::proofs::PlaceLemmas::place_at_other))]

@@ -56,7 +56,7 @@ impl<T> UnsafeRef<T> {
         self.place
     }
 
-    /// Places `value` where [`Objects::next_place`] says, and answers the reference to it.
+    /// Places `value` where [`Objects::next_place`] says, and returns the reference to it.
     ///
     /// It asks that there is such a place. Where no memory is found the value comes back and nothing has changed.
     pub fn from_box<A: Allocator>(
@@ -73,7 +73,7 @@ impl<T> UnsafeRef<T> {
         }
     }
 
-    /// Takes the object out of its place and answers it. The place is vacant then, and may be given again: another
+    /// Takes the object out of its place and returns it. The place is vacant then, and may be given again: another
     /// reference to it names what stands there next.
     ///
     /// It asks that an object stands there. Links are kept apart from objects: one that is linked stays so. O(1), and it

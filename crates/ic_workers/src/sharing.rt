@@ -133,11 +133,10 @@ fn fan_out_over<R: Threads + Wait + Sync, A: Allocator + Copy + Send + Sync, G: 
     Ok(lists)
 }
 
-/// Offers the first `places` places to so many workers, each in a thread of its own with links and a list of its own, and
-/// answers the lists, that of the first worker first.
+/// Offers the first `places` places to so many workers in threads of their own, and returns their lists in order.
 ///
-/// Each worker claims each place, in rising order, and puts those that it gets at the back of its list. The workers are
-/// counted from 1; the gate is told how far each is, as by [`gather`](ic_atomic::gather). Which worker gets which place is
+/// Each worker has links and a list of its own. It claims each place, in rising order, and puts those that it gets at the back of its list.
+/// The workers are counted from 1; the gate is told how far each is, as by [`gather`](ic_atomic::gather). Which worker gets which place is
 /// left open: each gets a rising list, and each place stands in just one of them.
 ///
 /// It is refused above 4,294,967,296 places, and where no memory is found or a thread cannot be started, which is

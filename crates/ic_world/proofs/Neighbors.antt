@@ -1,4 +1,4 @@
--- What the tests on members and their neighbours answer, by a gap beside the member.
+-- What the tests on members and their neighbors answer, by a gap beside the member.
 use Rattle.std.proofs.Common.{◌≡◌, ◌≢◌, ◌↔◌, IsTrue, inl, inr, Bool, true, false, cond, Option, Some, None, List, [], ◌∷◌, ◌++◌, refl, sym, ap, ◌∙◌, subst, drop, append_assoc, eq-eqb, ne_eqb}
 use Rattle.ic_unsafe_ref.specs.declared.place.Place.{Place}
 use Rattle.ic_unsafe_ref.specs.Places.{index_of}

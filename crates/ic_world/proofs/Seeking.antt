@@ -16,7 +16,7 @@ use Rattle.ic_world.specs.Seeks.{Sought}
 use Rattle.ic_world.specs.Turns.{Ran}
 use Rattle.ic_world.proofs.Turned.{turns_still, unmoved}
 
--- no kind has both: a cursor made on a member from its place alone, and neighbours that must be told
+-- no kind has both: a cursor made on a member from its place alone, and neighbors that must be told
 pub pointer_not_xor : (k : Kind) → has_pointer k ≡ true → is_xor k ≡ true → ⊥
 pointer_not_xor kind.Singly e h = cc
 pointer_not_xor kind.Doubly e h = cc

@@ -35,7 +35,7 @@ pub enum Refusal {
     NothingThere = 7,
     /// The object is no member of that collection.
     NotAMember = 8,
-    /// The named neighbour isn't that one.
+    /// The named neighbor isn't that one.
     NotANeighbour = 9,
     /// The object is linked in that field.
     AlreadyLinked = 10,
@@ -58,7 +58,7 @@ impl Refusal {
         *self as u8
     }
 
-    /// Its name, as it is printed.
+    /// The name of the refusal, as it is printed.
     pub fn name(&self) -> &'static str {
         match self {
             Refusal::NoSuchField => "NoSuchField",

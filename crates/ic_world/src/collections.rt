@@ -102,7 +102,7 @@ impl<A: KeyAdapter, M: Allocator + Copy> World<A, M> {
     ghost use Rattle.ic_world.specs.Splices.{IsBesideOf};
     ghost use Rattle.ic_world.specs.Apart.{AreApart, AreAllPlaced};
 
-    /// Makes an empty collection in a field, with its cursor at null, and answers its number.
+    /// Makes an empty collection in a field, with its cursor at null, and returns its number.
     ///
     /// Refused: `NoSuchField`, `WrongKind` where the field's table doesn't carry the kind, `OutOfMemory`.
     pub fn open(&mut self, field: usize, kind: Kind) -> Result<usize, Refusal>
@@ -143,7 +143,7 @@ impl<A: KeyAdapter, M: Allocator + Copy> World<A, M> {
         }
     }
 
-    /// Takes all members of a collection into a new one of the same field and kind, and answers its number. Both cursors are null.
+    /// Takes all members of a collection into a new one of the same field and kind, and returns its number. Both cursors are null.
     ///
     /// Refused: `NoSuchCollection`, `OutOfMemory`. O(1).
     pub fn take(&mut self, collection: usize) -> Result<usize, Refusal>
@@ -152,7 +152,7 @@ impl<A: KeyAdapter, M: Allocator + Copy> World<A, M> {
         self.hand_out(collection, Part::All)
     }
 
-    /// Takes the members behind the cursor of a list, at null all of them, into a new one, and answers its number. The cursor stays.
+    /// Takes the members behind the cursor of a list, at null all of them, into a new one, and returns its number. The cursor stays.
     ///
     /// Refused: `NoSuchCollection`, `WrongKind` of a tree, `OutOfMemory`. O(1).
     pub fn split_after(&mut self, collection: usize) -> Result<usize, Refusal>
@@ -161,7 +161,7 @@ impl<A: KeyAdapter, M: Allocator + Copy> World<A, M> {
         self.hand_out(collection, Part::After)
     }
 
-    /// Takes the members in front of the cursor of a list, at null all of them, into a new one, and answers its number. The cursor
+    /// Takes the members in front of the cursor of a list, at null all of them, into a new one, and returns its number. The cursor
     /// stays.
     ///
     /// Refused: `NoSuchCollection`, `WrongKind` of a tree or a singly linked list, `OutOfMemory`. O(1).

@@ -35,7 +35,7 @@ impl<A: KeyAdapter, M: Allocator + Copy> World<A, M> {
     ghost use Rattle.ic_world.specs.Replies.{reply_of};
     ghost use Rattle.ic_world.specs.Calls.{field, done, linked};
 
-    /// Makes a field with no collection, which covers the objects that are there, and answers its number.
+    /// Makes a field with no collection, which covers the objects that are there, and returns its number.
     ///
     /// Refused: `OutOfMemory`.
     pub fn add_field(&mut self, kind: Kind) -> Result<usize, Refusal>

@@ -25,7 +25,7 @@ where
     ghost use Rattle.ic_world.specs.Replies.{reply_of};
     ghost use Rattle.ic_world.specs.Calls.{found, looked, entry, range};
 
-    /// Puts the cursor on the first member of this key, to null if there is none, and answers it with the looks. O(log n).
+    /// Puts the cursor on the first member of this key, to null if there is none, and returns it with the looks. O(log n).
     ///
     /// Refused: `NoSuchCollection`, `WrongKind` of a list.
     pub fn find(&mut self, collection: usize, key: A::Key) -> Result<(Option<Place>, u64), Refusal>
@@ -34,7 +34,7 @@ where
         self.call(collection, &Search::Find(key))
     }
 
-    /// Puts the cursor on the first member that meets the bound, to null if there is none, and answers it with the looks. O(log n).
+    /// Puts the cursor on the first member that meets the bound, to null if there is none, and returns it with the looks. O(log n).
     ///
     /// Refused: `NoSuchCollection`, `WrongKind` of a list.
     pub fn lower_bound(
@@ -47,7 +47,7 @@ where
         self.call(collection, &Search::LowerBound(bound))
     }
 
-    /// Puts the cursor on the last member that meets the bound, to null if there is none, and answers it with the looks. O(log n).
+    /// Puts the cursor on the last member that meets the bound, to null if there is none, and returns it with the looks. O(log n).
     ///
     /// Refused: `NoSuchCollection`, `WrongKind` of a list.
     pub fn upper_bound(
@@ -78,10 +78,10 @@ where
         self.call(collection, &Insertion::CursorInsert(object))
     }
 
-    /// Puts the cursor on the first member of this key; or, where no member has it, puts the object where the key would stand, whatever
-    /// its own key is, and the cursor on it. Answers whether a member had the key, which one the cursor is on, and the looks. O(log n).
+    /// Puts the cursor on the first member of this key, or where none has it, on the object, which is put where the key would stand.
     ///
-    /// Refused: `NoSuchCollection`, `NoSuchObject`, `WrongKind` of a list; and `AlreadyLinked` where no member has the key.
+    /// It returns whether a member had the key, which one the cursor is on, and the looks. Which key the object has is not asked.
+    /// O(log n). Refused: `NoSuchCollection`, `NoSuchObject`, `WrongKind` of a list; and `AlreadyLinked` where no member has the key.
     pub fn entry(
         &mut self,
         collection: usize,

@@ -42,7 +42,7 @@ impl<A: KeyAdapter, M: Allocator + Copy> World<A, M> {
         self.call(collection, &Put(Where::Back, object))
     }
 
-    /// Takes the first member out of a list and answers it, `None` where there is none, and puts the cursor to null. O(1).
+    /// Takes the first member out of a list and returns it, `None` where there is none, and puts the cursor to null. O(1).
     ///
     /// Refused: `NoSuchCollection`, `WrongKind` of a tree.
     pub fn pop_front(&mut self, collection: usize) -> Result<Option<Place>, Refusal>
@@ -51,7 +51,7 @@ impl<A: KeyAdapter, M: Allocator + Copy> World<A, M> {
         self.call(collection, &Take(Where::Front))
     }
 
-    /// Takes the last member out of a doubly linked or an XOR list and answers it, `None` where there is none, and puts the cursor to
+    /// Takes the last member out of a doubly linked or an XOR list and returns it, `None` where there is none, and puts the cursor to
     /// null. O(1).
     ///
     /// Refused: `NoSuchCollection`, `WrongKind` of the other kinds.
@@ -61,7 +61,7 @@ impl<A: KeyAdapter, M: Allocator + Copy> World<A, M> {
         self.call(collection, &Take(Where::Back))
     }
 
-    /// Moves the cursor to the next member, from null to the first one and from the last one to null, and answers where it is. O(1), in
+    /// Moves the cursor to the next member, from null to the first one and from the last one to null, and returns where it is. O(1), in
     /// a tree O(log n).
     ///
     /// Refused: `NoSuchCollection`.
@@ -71,7 +71,7 @@ impl<A: KeyAdapter, M: Allocator + Copy> World<A, M> {
         self.call(collection, &Move(Direction::Next))
     }
 
-    /// Moves the cursor to the previous member, from null to the last one and from the first one to null, and answers where it is. O(1),
+    /// Moves the cursor to the previous member, from null to the last one and from the first one to null, and returns where it is. O(1),
     /// in a tree O(log n).
     ///
     /// Refused: `NoSuchCollection`, `WrongKind` of a singly linked list.
@@ -157,7 +157,7 @@ impl<A: KeyAdapter, M: Allocator + Copy> World<A, M> {
         self.call(collection, &Put(Where::Before, object))
     }
 
-    /// Takes the member out that the cursor is on and answers it, `None` at null. The cursor goes on to the next member. O(1), in a tree
+    /// Takes the member out that the cursor is on and returns it, `None` at null. The cursor goes on to the next member. O(1), in a tree
     /// O(log n).
     ///
     /// Refused: `NoSuchCollection`, `WrongKind` of a singly linked list.
@@ -167,7 +167,7 @@ impl<A: KeyAdapter, M: Allocator + Copy> World<A, M> {
         self.call(collection, &Take(Where::Before))
     }
 
-    /// Takes the member behind the cursor of a singly linked list out and answers it, at null the first one; `None` where there is none.
+    /// Takes the member behind the cursor of a singly linked list out and returns it, at null the first one; `None` where there is none.
     /// The cursor stays. O(1).
     ///
     /// Refused: `NoSuchCollection`, `WrongKind` of the other kinds.

@@ -95,7 +95,7 @@ impl<A: KeyAdapter, M: Allocator + Copy> World<A, M> {
     ghost use Rattle.ic_world.specs.Replies.{reply_of, reply_of_value};
     ghost use Rattle.ic_world.specs.Calls.{object, done};
 
-    /// Places a value where no object stands, with room for it in each field first, and answers the place.
+    /// Places a value where no object stands, with room for it in each field first, and returns the place.
     ///
     /// Refused: `TooManyObjects`, `OutOfMemory`. The value comes back then.
     pub fn place(&mut self, value: A::Value) -> Result<Place, (Refusal, A::Value)>
@@ -110,7 +110,7 @@ impl<A: KeyAdapter, M: Allocator + Copy> World<A, M> {
         place_in(&mut self.objects, value, has_room)
     }
 
-    /// Takes an object out that is linked in no field, and answers its value.
+    /// Takes an object out that is linked in no field, and returns its value.
     ///
     /// Refused: `NoSuchObject`, `StillLinked`. O(fields). It takes no memory.
     pub fn remove_object(&mut self, object: Place) -> Result<A::Value, Refusal>

@@ -103,7 +103,8 @@ where
         }
     }
 
-    /// Makes the call, and answers what it answered. The value of a removed object, and the old one where a value is set, is dropped.
+    /// Makes the call of a command, and returns its answer. The value of a removed object, and the old one where a value is set, is
+    /// dropped.
     pub fn answer(&mut self, command: Command<A::Value, A::Key>) -> Answer<M>
         ensures { Step A.Key.cmp A.key_of self.old command (reply_in result) self.new }
     {

@@ -54,7 +54,7 @@ module _ {L E H : Type 0} {Shows : Table E → H → List Place → Type 0} {tab
   behind_member front back p k shown on =
       k.on.leads (record { front = front ++ p ∷ []; back = back }) (rw (append_assoc front (p ∷ []) back) shown) (on ∙ sym (last_of_push front p))
 
-  -- and with where a move back leads, both neighbours of the member
+  -- and with where a move back leads, both neighbors of the member
   pub beside_member : {at : Site L H} {prev next : Option Place} (front back : List Place) (p : Place) → StandsBefore Shows table at next → MovesBack Shows table at prev
       → ShowsAt Shows table at (front ++ p ∷ back) → at.position ≡ Some p → (prev ≡ last front) × (next ≡ first back)
   beside_member front back p k moved shown on = (moved.leads (record { front = front; back = p ∷ back }) shown on, behind_member front back p k shown on)

@@ -70,7 +70,7 @@ module _ {T L O E : Type 0} (linked : E → Bool) (joins : E → Option Place �
   pub can_walk_back : {old new : Iter T L O} {p : Place} → StepsBack old new p → CanWalk linked joins table values new
   can_walk_back k = (k.members, k.walk, rw k.objects (all_but_last _ k.members _ k.placed).0)
 
-  -- `finds`: the law that other gives the neighbour on the other side
+  -- `finds`: the law that other gives the neighbor on the other side
   module _ (other : E → Option Place → Option Place) (finds : (e : E) (a b : Option Place) → joins e a b → other e a ≡ b) where
     -- else it goes on at the next one
     pub steps_more : (t : Iter T L O) (p : Place) (next : Option Place) → CanWalk linked joins table values t → t.head ≡ Some p → is_end t.tail p ≡ false
@@ -85,7 +85,7 @@ module _ {T L O E : Type 0} (linked : E → Bool) (joins : E → Option Place �
           objects = refl;
         }
 
-    -- and from the back, by the neighbour on the other side of what is behind
+    -- and from the back, by the neighbor on the other side of what is behind
     pub steps_back_more : ((e : E) (a b : Option Place) → joins e a b → joins e b a) → (t : Iter T L O) (p : Place) (prev : Option Place)
         → CanWalk linked joins table values t → t.tail ≡ Some p → is_end t.head p ≡ false
         → prev ≡ other ((table t.links.now).entry p) t.behind → StepsBack t (record t { tail = prev; behind = Some p }) p

@@ -25,7 +25,7 @@ spot_then list (Some p) next = spot (Some p) next
 
 -- `Shows t head s`: the table shows s for the collection with this head
 module _ {L E H : Type 0} (Shows : Table E → H → List Place → Type 0) (table : L → Table E) where
-  -- THE NEIGHBOUR THAT A CURSOR KEEPS IS RIGHT: the position stands, and a move on leads to `next`
+  -- THE NEIGHBOR THAT A CURSOR KEEPS IS RIGHT: the position stands, and a move on leads to `next`
   pub record StandsBefore (at : Site L H) (next : Option Place) : Type 0 where
     pub stands : Stands Shows table at
     pub on : MovesOn Shows table at next

@@ -155,8 +155,8 @@ impl<T> XorLinkedList<T> {
         }
     }
 
-    /// What prints the objects of the list, in order: `{:?}` writes `[10, 20]`, and `{:#?}` writes each object on lines of its own. It
-    /// asks that all members are placed. O(1), and no memory.
+    /// A value that prints the objects of the list, in order: `{:?}` writes `[10, 20]`, and `{:#?}` writes each object on lines of its own.
+    /// It asks that all members are placed. O(1), and no memory.
     pub fn debug<'a, L: XorLinkedListOps, O: Values<T>>(
         &self,
         links: &'a L,

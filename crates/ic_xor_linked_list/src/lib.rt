@@ -1,7 +1,7 @@
-//! An XOR linked list over any table whose entries join two neighbours in one word.
+//! An XOR linked list over any table whose entries join two neighbors in one word.
 //!
 //! Each operation takes the table of the link field. Linking takes no memory, and one object can be in lists of
-//! several fields. An entry tells a neighbour only to who knows the other, so there is no call that takes a member off by
+//! several fields. An entry tells a neighbor only to who knows the other, so there is no call that takes a member off by
 //! its reference alone, and a list can be turned round by its two ends.
 //!
 //! ```text

@@ -173,7 +173,7 @@ impl<T> XorLinkedList<T> {
         Ok(())
     }
 
-    /// Takes the object at the front off the list and answers it, or `None` if the list is empty. O(1).
+    /// Takes the object at the front off the list and returns it, or `None` if the list is empty. O(1).
     #[inline]
     pub fn pop_front<L: XorLinkedListOps>(&mut self, links: &mut L) -> Option<UnsafeRef<T>>
         requires shown { ShowsSome L.linked L.Joins (L.table links.old) self.old }
@@ -192,7 +192,7 @@ impl<T> XorLinkedList<T> {
         Some(UnsafeRef::new(front))
     }
 
-    /// Takes the object at the back off the list and answers it, or `None` if the list is empty. O(1).
+    /// Takes the object at the back off the list and returns it, or `None` if the list is empty. O(1).
     #[inline]
     pub fn pop_back<L: XorLinkedListOps>(&mut self, links: &mut L) -> Option<UnsafeRef<T>>
         requires shown { ShowsSome L.linked L.Joins (L.table links.old) self.old }
@@ -221,7 +221,7 @@ impl<T> XorLinkedList<T> {
         mem::swap(&mut self.head, &mut self.tail);
     }
 
-    // Takes the member out from between its two neighbours and unlinks it.
+    // Takes the member out from between its two neighbors and unlinks it.
     #[inline]
     pub(crate) fn take_off<L: XorLinkedListOps>(
         &mut self,
@@ -245,7 +245,7 @@ impl<T> XorLinkedList<T> {
         links.release_link(place);
     }
 
-    // Puts the place into the gap between two neighbours, and answers whether its link was acquired.
+    // Puts the place into the gap between two neighbors, and answers whether its link was acquired.
     #[inline]
     pub(crate) fn insert_between<L: XorLinkedListOps>(
         &mut self,
@@ -274,7 +274,7 @@ impl<T> XorLinkedList<T> {
         true
     }
 
-    // Puts the linked place into the gap between two neighbours.
+    // Puts the linked place into the gap between two neighbors.
     #[inline]
     pub(crate) fn put_between<L: XorLinkedListOps>(
         &mut self,
@@ -299,7 +299,7 @@ impl<T> XorLinkedList<T> {
         links.set(place, before, behind);
     }
 
-    // Puts the linked place, which is no member, where the member `out` is, between the same neighbours.
+    // Puts the linked place, which is no member, where the member `out` is, between the same neighbors.
     #[inline]
     pub(crate) fn put_in_place<L: XorLinkedListOps>(
         &mut self,
@@ -325,7 +325,7 @@ impl<T> XorLinkedList<T> {
         links.set(place, before, behind);
     }
 
-    // Puts all of the given list into the gap between two neighbours.
+    // Puts all of the given list into the gap between two neighbors.
     #[inline]
     pub(crate) fn splice_between<L: XorLinkedListOps>(
         &mut self,
@@ -356,7 +356,7 @@ impl<T> XorLinkedList<T> {
         links.replace_next_or_prev(back, None, behind);
     }
 
-    // Cuts the list between two neighbours. It keeps what is in front of the cut, and the rest is handed out.
+    // Cuts the list between two neighbors. It keeps what is in front of the cut, and the rest is handed out.
     #[inline]
     pub(crate) fn split_between<L: XorLinkedListOps>(
         &mut self,

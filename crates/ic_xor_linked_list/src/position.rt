@@ -1,6 +1,6 @@
 //! Where a cursor stands, and the place behind it.
 //!
-//! An entry tells a neighbour only to who knows the other one. So a cursor keeps two words: its own place's, and the exclusive
+//! An entry tells a neighbor only to who knows the other one. So a cursor keeps two words: its own place's, and the exclusive
 //! or of that and the next place's. A move on takes the second word into the first, and the entry that it comes to into the
 //! second; a move back takes them in the other order.
 
@@ -109,8 +109,8 @@ impl Position {
 }
 
 impl<T> XorLinkedList<T> {
-    /// The position behind a gap, whose two sides are told: `prev` is the member in front of it, `current` the one behind it, which the
-    /// position is on, and `None` is null. What stands behind it is read, or is the head at null. O(1).
+    /// The position behind the gap between `prev` and `current`, which it is on. `None` is null on either side. What stands behind
+    /// `current` is read, or is the head at null. O(1).
     #[inline]
     pub fn position_behind<L: XorLinkedListOps>(
         &self,

@@ -7,7 +7,7 @@
 //! | `link_ops` | tables of links, and what collections ask of them |
 //! | `linked_list` | the doubly linked list |
 //! | `singly_linked_list` | the singly linked list |
-//! | `xor_linked_list` | the XOR list: both neighbours in one word |
+//! | `xor_linked_list` | the XOR list: both neighbors in one word |
 //! | `atomic` | claims on places, which threads share, and tables of links over them: `linked_list::AtomicLinkOps` and its three kin |
 //! | `rbtree` | the red-black tree, in an order that cursors or keys make |
 //! | `key_adapter` | where the key of an object stands, and bounds of keys |

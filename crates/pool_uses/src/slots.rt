@@ -154,7 +154,7 @@ impl<T: Drop, A: Allocator> Slots<T, A> {
         Ok(())
     }
 
-    /// Puts the value into the slot that was vacated last, or into a new one, and answers its handle. O(1), and it
+    /// Puts the value into the slot that was vacated last, or into a new one, and returns its handle. O(1), and it
     /// takes memory only for a new slot.
     ///
     /// The handle was never given out before. A refused value comes back, and nothing has changed: with `NoPlaceLeft`

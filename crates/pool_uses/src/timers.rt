@@ -192,7 +192,7 @@ impl<V, A: Allocator> Timers<V, A> {
         Ok(timer)
     }
 
-    /// Calls a timer off, and answers its deadline and its value: `None` where none that waits has this reference.
+    /// Calls a timer off, and returns its deadline and its value: `None` where none that waits has this reference.
     /// O(log n), and it takes no memory.
     ///
     /// The place of what has left is given again, so a reference that is kept longer may name another timer.

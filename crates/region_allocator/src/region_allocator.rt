@@ -77,7 +77,7 @@ impl<A: Allocator> RegionAllocator<A> {
         self.regions.add(Region { start, length })
     }
 
-    /// Allocates `length` addresses in a row, and answers the first one: the end of the shortest free region that is long enough.
+    /// Allocates `length` addresses in a row, and returns the first one: the end of the shortest free region that is long enough.
     /// O(log n), and it takes no memory.
     ///
     /// `None` says that all are shorter, and nothing has changed then. Of no length, it takes nothing: the answer is where the

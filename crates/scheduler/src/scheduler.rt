@@ -119,7 +119,7 @@ impl<V, A: Allocator> Scheduler<V, A> {
     }
 
     /// Moves the tasks that are due at `now` to the backs of their queues, the earliest first, and of equal ones the one that was
-    /// added first. It answers how many. O(k log n) for k of them, and it takes no memory.
+    /// added first. It returns how many. O(k log n) for k of them, and it takes no memory.
     pub fn tick(&mut self, now: u64) -> usize
         ensures { Ticks now self.old self.new result }
     {

@@ -45,7 +45,7 @@ impl<T: Drop> From<PlaceError<T>> for ObjectsError {
     }
 }
 
-/// Places two values and links them into a list, and answers what a walk sees there, what is taken out, and which value
+/// Places two values and links them into a list, and returns what a walk sees there, what is taken out, and which value
 /// is first then.
 ///
 /// It makes the objects, the table and the list, and they are gone when it returns. Where no memory is found, or no place

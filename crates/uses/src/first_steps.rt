@@ -14,7 +14,7 @@ use ic_linked_list::LinkedList;
 use ic_unsafe_ref::{Place, UnsafeRef};
 use std::alloc::Allocator;
 
-/// Pushes two objects into a new list, and answers where a cursor stands that has moved once: on the first of them.
+/// Pushes two objects into a new list, and returns where a cursor stands that has moved once: on the first of them.
 ///
 /// It asks that the table covers both places, and uses the table up. An object that is linked already, or pushed twice,
 /// comes back. O(1), and it takes no memory.

@@ -64,7 +64,7 @@ pub fn submit<T, A: Allocator, B: Allocator>(
     ready.push_back(ready_links, again)
 }
 
-/// Takes the first ready job off both lists and answers it, or `None` if no job is ready. O(1).
+/// Takes the first ready job off both lists and returns it, or `None` if no job is ready. O(1).
 ///
 /// It asks that the table shows a sequence for the ready list, whose first job, if there is one, is in the list of this
 /// owner. Where no job is ready nothing has changed.

@@ -19,7 +19,7 @@ use std::alloc::Allocator;
 
 /// Gives the first object its turn: it goes to the back, and its place is the answer. O(1), and it takes no memory.
 ///
-/// It asks that the table shows a sequence for the queue. An empty queue answers `None`, and nothing has changed. The
+/// It asks that the table shows a sequence for the queue. An empty queue returns `None`, and nothing has changed. The
 /// same objects are linked before and after.
 pub fn turn<T, A: Allocator>(queue: &mut LinkedList<T>, links: &mut LinkOps<A>) -> Option<Place>
     requires shown { PlainShowsSome links.old queue.old }

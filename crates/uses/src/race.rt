@@ -25,7 +25,7 @@ fn claim_by(claims: &Claims, mut holder: Holder, place: Place) -> (Holder, bool)
     (holder, is_claimed)
 }
 
-/// Lets two threads claim one place, each by a holder of its own, and answers what the first and the second holder were
+/// Lets two threads claim one place, each by a holder of its own, and returns what the first and the second holder were
 /// told: just one of them, that it holds the place now.
 ///
 /// That is so in whatever order the threads come to the place, and which of the two it is is left open. No contract of

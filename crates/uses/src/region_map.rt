@@ -123,7 +123,7 @@ pub fn region_at<L: RBTreeOps, B: Allocator>(
     cursor.clone_pointer()
 }
 
-/// Takes the region off that the address lies in, and answers it: the one that [`region_at`] answers, or `None`. O(log n).
+/// Takes the region off that the address lies in, and returns it: the one that [`region_at`] returns, or `None`. O(log n).
 ///
 /// It asks what [`region_at`] asks. The region is unlinked then, and stays placed. Where the answer is `None` nothing has
 /// changed.

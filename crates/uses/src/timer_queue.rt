@@ -93,7 +93,7 @@ fn is_due(timer: Option<&Timer>, now: u64) -> bool
     }
 }
 
-/// Takes the first timer off if its deadline is at most `now`, and answers `None` otherwise. O(log n).
+/// Takes the first timer off if its deadline is at most `now`, and returns `None` otherwise. O(log n).
 ///
 /// It asks that the timers in the queue are placed and stand in the order of their deadlines. The timer is unlinked then, and
 /// stays placed; none in the queue was due before it. Where the answer is `None` all wait still, and nothing has changed.
