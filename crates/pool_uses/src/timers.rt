@@ -5,9 +5,10 @@
 //! let tea = timers.add(5, 10)?;
 //! timers.cancel(&tea); // Some((5, 10))
 //! timers.take_due(now) // the first one with a deadline of at most `now`
+//! timers.take_all_due(now, &mut due)?; // and all others that are due
 //! ```
 
-ghost use Rattle.std.specs.Prelude.{◌≡◌, ◌<◌, true, false, [], List, ⊤, OnSome, IfOk, IfErr, IfSome, IfNone};
+ghost use Rattle.std.specs.Prelude.{◌≡◌, ◌<◌, ◌≤◌, ◌++◌, true, false, [], List, ⊤, OnOk, OnErr, OnSome, IfOk, IfErr, IfSome, IfNone, vec_len, vec_capacity};
 ghost use Rattle.std.specs.List.{AllByRecursion};
 ghost use Rattle.std.specs.Option.{option_copied};
 ghost use Rattle.std.specs.Ordering.{nat_cmp};
@@ -29,7 +30,7 @@ use ic_link_ops::rbtree::LinkOps;
 use ic_pool::{PlaceError, Pool};
 use ic_rbtree::{KeyAdapter, RBTree};
 use ic_unsafe_ref::{Objects, UnsafeRef};
-use std::alloc::{AllocError, Allocator, Global};
+use std::alloc::{AllocError, AllocFailed, Allocator, Global};
 use std::marker::{Model, PhantomData};
 
 /// What waits, as it is placed.
@@ -152,7 +153,7 @@ fn is_due<V>(timer: Option<&Timer<V>>, now: u64) -> bool
 }
 
 impl<V, A: Allocator> Timers<V, A> {
-    ghost use Rattle.pool_uses.specs.Timers.{Waiting, timer_of, Adds, Cancels, TakesFirst, NamesNone};
+    ghost use Rattle.pool_uses.specs.Timers.{Waiting, timer_of, handed_back, Adds, Cancels, TakesFirst, TakesAll, NamesNone};
 
     /// Nothing waits. It takes no memory.
     pub fn new(alloc: A) -> Timers<V, A>
@@ -221,5 +222,25 @@ impl<V, A: Allocator> Timers<V, A> {
         )?;
         let timer = self.pool.remove(timer);
         Some((timer.deadline, timer.value))
+    }
+
+    /// Takes all timers out that are due at `now`, the earliest first, and puts each with its deadline behind those in
+    /// `due`. O(k log n) for k of them.
+    ///
+    /// It takes memory for `due` alone, and none where that has room. Where it has none left and can't grow, the one
+    /// that it had no room for comes back, and the others wait still.
+    pub fn take_all_due<C: Allocator>(
+        &mut self,
+        now: u64,
+        due: &mut Vec<(u64, V), C>,
+    ) -> Result<(), AllocFailed<(u64, V)>>
+        ensures taken { TakesAll now due.old.items (due.new.items ++ handed_back result) self.old.waiting self.new.waiting }
+        ensures none_due { OnOk result (AllByRecursion (λ (timer : Waiting V). now < timer.deadline) self.new.waiting) }
+        ensures full { OnErr result (vec_capacity due.old ≤ vec_len due.new) }
+    {
+        while let Some(timer) = self.take_due(now) {
+            due.push(timer)?;
+        }
+        Ok(())
     }
 }

@@ -79,3 +79,26 @@ fn timers_are_taken_by_deadline_and_called_off(rt: HostRuntime) {
         check(&rt, is_so);
     }
 }
+
+#[test]
+fn all_timers_that_are_due_are_taken_in_order(rt: HostRuntime) {
+    // The first request for more room is refused, so the earliest timer comes back.
+    let short = Rationed::new(rt.alloc(), 0);
+    let mut due = Vec::new(&short);
+    let mut timers = Timers::new(rt.alloc());
+    let mut is_so = true;
+    for (deadline, value) in [(5, 10), (9, 20), (3, 30), (5, 40)] {
+        is_so &= timers.add(deadline, value).is_ok();
+    }
+    let refused = timers.take_all_due(6, &mut due);
+    let taken = timers.take_all_due(6, &mut due);
+    is_so = is_so
+        && matches!(refused, Err(refused) if refused.value == (3, 30))
+        && taken.is_ok()
+        && matches!(due.pop(), Some((5, 40)))
+        && matches!(due.pop(), Some((5, 10)))
+        && due.is_empty()
+        && timers.take_due(8).is_none()
+        && matches!(timers.take_due(9), Some((9, 20)));
+    check(&rt, is_so);
+}
