@@ -18,6 +18,8 @@ use ic_unsafe_ref::Place;
 /// words that the kind doesn't read. No collection can tell, since a linked place is a member of one collection of the field, and so of
 /// one kind. Who calls setters of two kinds at one place sets anew what it reads.
 ///
+/// The plain tables are `linked_list::LinkOps`, `singly_linked_list::LinkOps`, `xor_linked_list::LinkOps` and `rbtree::LinkOps`.
+///
 /// ```text
 /// if links.acquire_link(place) {
 ///     // the place is ours to link, and an insert writes its neighbors

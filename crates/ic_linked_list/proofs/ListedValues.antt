@@ -14,17 +14,9 @@ use Rattle.ic_link_ops.proofs.SequenceLemmas.{some_same}
 use Rattle.ic_link_ops.proofs.DoublyLists.{doubly_lists}
 use Rattle.ic_link_ops.specs.Positions.{object_there}
 use Rattle.ic_link_ops.specs.PlacedObjects.{ArePlaced, ShowsPlaced, StandAt, values_at}
+use Rattle.ic_linked_list.specs.ListedValues.{HasValues}
 use Rattle.ic_link_ops.proofs.Calling.{accepted, still_shown}
 use Rattle.ic_link_ops.proofs.PlacedValues.{stand_begins, stand_beside, stand_placed, stand_rest}
-
--- A LIST OF VALUES: the table shows members for the list, these values stand there, and no vacant place is linked
-module _ {E T : Type 0} (n : E → Neighbors) (linked : E → Bool) where
-  pub record HasValues (t : Table E) (list : Ends) (objects : Objects T) (values : List T) : Type 0 where
-    pub members : List Place
-    pub shown : Shows n t list members
-    pub placed : ArePlaced objects members
-    pub are : values_at objects members ≡ values
-    pub vacant : (p : Place) → object_at objects p ≡ None → IsUnlinked linked t p
 
 -- the first of them
 front_of : {T : Type 0} {objects : Objects T} (s : List Place) {v : T} {values : List T} → StandAt objects s (v ∷ values)

@@ -3,3 +3,4 @@ pub mod CursorMut
 pub mod CursorOwning
 pub mod Iter
 pub mod IntoIter
+pub mod ListedValues

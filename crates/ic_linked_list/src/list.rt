@@ -120,7 +120,8 @@ impl<T> LinkedList<T> {
     /// Puts the object at the back of the list, unless its link is refused. O(1), and it takes no memory.
     ///
     /// It asks that the object's place is covered. A refused object comes back, and the list is as it was: over a plain
-    /// table that is so exactly if the object is linked in this field.
+    /// table that is so exactly if the object is linked in this field. The reference is handed over: to name the object later,
+    /// make another one first, as `UnsafeRef::new(object.place())`.
     #[inline]
     pub fn push_back<L: LinkedListOps>(
         &mut self,

@@ -54,6 +54,8 @@ impl<T, L: Tables, A: Allocator> Pool<T, L, A> {
     ///
     /// Where it is refused the value comes back, and no object and no link has changed: with `NoPlaceLeft` exactly if
     /// no place is left, of 4,294,967,296, and else with `OutOfMemory`.
+    ///
+    /// Over a plain table `keeps` is `Grows`. Its `entries` says that each link is as it was, which lemmas on lists ask for.
     pub fn place(&mut self, value: T) -> Result<UnsafeRef<T>, PlaceError<T>>
         ensures placed { IfOk result (λ object. Places self.old.objects self.new.objects object value) }
         ensures covered { IfOk result (λ object. L.Covers self.new.links object) }

@@ -1,20 +1,24 @@
-//! A queue that gives each object its turn: the first one goes to the back and waits again, or waits in another queue.
+//! A queue that gives each object its turn: the first one goes to the back and waits again, or waits in another queue. Any may leave.
 //!
 //! ```text
 //! queue.push_back(&mut links, object)?;
 //! let served = queue::turn(&mut queue, &mut links);
 //! let moved = queue::hand_over(&mut queue, &mut other, &mut links);
+//! let value = queue::leave(&mut queue, &mut pool, object); // from the middle, and out of the pool
 //! ```
 
-ghost use Rattle.std.specs.Prelude.{◌≡◌, ◌++◌, ◌∷◌, [], List, IfNone};
+ghost use Rattle.std.specs.Prelude.{◌≡◌, ◌++◌, ◌∷◌, [], true, Some, List, IfNone};
 ghost use Rattle.ic_unsafe_ref.specs.declared.place.Place.{Place};
+ghost use Rattle.ic_unsafe_ref.specs.Objects.{Frees, is_placed, object_at};
+ghost use Rattle.ic_link_ops.specs.Positions.{HasMember};
 ghost use Rattle.ic_link_ops.specs.Sequences.{first, IsDisjoint};
-ghost use Rattle.ic_link_ops.specs.Tables.{KeepsBeside, KeepsLinked};
+ghost use Rattle.ic_link_ops.specs.Tables.{KeepsBeside, KeepsLinked, Unlinks};
 ghost use Rattle.ic_link_ops.specs.DoublyEntries.{is_linked, plain_table, PlainShows, PlainShowsSome};
 
 use ic_link_ops::linked_list::LinkOps;
 use ic_linked_list::LinkedList;
-use ic_unsafe_ref::Place;
+use ic_pool::Pool;
+use ic_unsafe_ref::{Place, UnsafeRef};
 use std::alloc::Allocator;
 
 /// Gives the first object its turn: it goes to the back, and its place is the answer. O(1), and it takes no memory.
@@ -61,4 +65,26 @@ pub fn hand_over<T, A: Allocator>(
     let place = object.place();
     let _ = to.push_back(links, object);
     Some(place)
+}
+
+/// Takes an object that waits out of its queue, wherever it stands there, and out of its pool. O(1), and it takes no memory.
+///
+/// It asks that the object is a member, and is placed. The others stay in their order. The object's place is vacant then.
+pub fn leave<T: Drop>(
+    queue: &mut LinkedList<T>,
+    pool: &mut Pool<T, LinkOps>,
+    object: UnsafeRef<T>,
+) -> T
+    requires member { HasMember (PlainShows pool.old.links queue.old) object }
+    requires placed { is_placed pool.old.objects object ≡ true }
+    ensures value { object_at pool.old.objects object ≡ Some result }
+    ensures order { (front back : List Place) → PlainShows pool.old.links queue.old (front ++ object ∷ back)
+        → PlainShows pool.new.links queue.new (front ++ back) }
+    ensures freed { Frees pool.old.objects pool.new.objects object }
+    ensures released { Unlinks is_linked (plain_table pool.old.links) (plain_table pool.new.links) object }
+    ensures frame { (s : List Place) → PlainShows pool.old.links queue.old s
+        → KeepsBeside (plain_table pool.old.links) (plain_table pool.new.links) s }
+{
+    queue.remove(&mut pool.links, &object);
+    pool.remove(object)
 }

@@ -1,6 +1,6 @@
 use Rattle.std.proofs.Common.{take}
 use Rattle.ic_link_ops.specs.DoublyEntries.{is_linked, neighbors_of, plain_table}
-use Rattle.ic_linked_list.proofs.ListedValues.{HasValues}
+use Rattle.ic_linked_list.specs.ListedValues.{HasValues}
 use Rattle.uses.proofs.first_objects.first_objects.Given as goal
 
 abbrev pub invariant-loop-value : goal.invariant-loop-value
