@@ -1,5 +1,5 @@
 -- What timers keep over each of their calls, and what that says of those that wait.
-use Rattle.std.proofs.Common.{◌≡◌, ◌≢◌, ℕ, ◌^◌, leb, ◌<◌, ◌≤◌, true, false, Option, Some, None, IsSome, is_some, List, [], ◌∷◌, ◌++◌, map, drop, inl, inr, refl, sym, ap, subst, ◌∙◌, arith, true≢false}
+use Rattle.std.proofs.Common.{◌≡◌, ◌≢◌, ℕ, ◌^◌, leb, ◌<◌, ◌≤◌, true, false, Option, Some, None, IsSome, is_some, Result, OnOk, OnErr, List, [], ◌∷◌, ◌++◌, map, drop, inl, inr, refl, sym, ap, subst, ◌∙◌, arith, true≢false}
 use Rattle.std.proofs.lemmas.Bool.Decides.{leb_tells, nat_tests}
 use Rattle.std.proofs.lemmas.Cmp.{nat_cmp_total}
 use Rattle.std.proofs.lemmas.List.Elements.{filter_map-append}
@@ -9,27 +9,35 @@ use Rattle.std.specs.declared.cmp.Ordering.TheVariants.{Greater}
 use Rattle.ic_unsafe_ref.specs.declared.place.Place.{Place}
 use Rattle.ic_unsafe_ref.specs.Objects.{Objects, Places, Frees, object_at, is_placed}
 use Rattle.ic_unsafe_ref.proofs.Placing.{placed_there, others_placed, gone_there, others_left}
-use Rattle.ic_link_ops.specs.PlacedObjects.{ArePlaced, StandAt, ShowsPlaced, values_at}
+use Rattle.ic_link_ops.specs.PlacedObjects.{ArePlaced, StandAt, values_at}
 use Rattle.ic_link_ops.specs.Positions.{HasMember}
 use Rattle.ic_link_ops.specs.Sequences.{Cut, join, insert, first, IsAbsent}
-use Rattle.ic_link_ops.specs.Tables.{IsUnlinked, LinksAlso, Unlinks}
+use Rattle.ic_link_ops.specs.Tables.{IsLinked, IsUnlinked, LinksAlso, Unlinks}
+use Rattle.ic_link_ops.proofs.Calling.{accepted}
 use Rattle.ic_link_ops.proofs.CollectionLaws.{kept_shown}
 use Rattle.ic_link_ops.proofs.LinkedSets.{everywhere, not_linked}
 use Rattle.ic_link_ops.proofs.PlacedValues.{all_beside, stand_beside, stand_put, vacant_absent}
 use Rattle.ic_link_ops.proofs.SequenceLemmas.{absent_without, first_is, member_split, split_member}
 use Rattle.ic_rbtree.specs.Borders.{IsBorder, IsSorted, if_passes, less_at}
-use Rattle.ic_rbtree.specs.Comparing.{compared, order_of, own_order}
+use Rattle.ic_rbtree.specs.Comparing.{compared, order_of}
 use Rattle.ic_rbtree.specs.Ordered.{InsertsInOrder}
+use Rattle.ic_rbtree.specs.SortedObjects.{against, key_at, key_or, ShowsSorted}
 use Rattle.ic_rbtree.specs.PlainTrees.{TreeLinkOps, is_linked, plain_table, ShowsTree, PlainShows}
-use Rattle.ic_rbtree.proofs.KeyLaws.{all_map, stays_sorted}
-use Rattle.ic_rbtree.proofs.Passing.{passed, not_passed}
+use Rattle.ic_rbtree.proofs.KeyLaws.{stays_sorted}
+use Rattle.ic_rbtree.proofs.Passing.{passed}
 use Rattle.ic_rbtree.proofs.PlainTrees.{plain_covered, plain_members, plain_trees}
-use Rattle.ic_rbtree.proofs.SortedKeys.{first_is_least, up_is}
+use Rattle.ic_rbtree.proofs.SortedKeys.{up_is}
 use Rattle.ic_rbtree.proofs.SortedValues.{greater_behind, own_order_is}
 use Rattle.ic_pool.specs.Pooled.{Grows}
 use Rattle.pool_uses.specs.declared.timers.Timer.{Timer}
-use Rattle.pool_uses.specs.KeptTimers.{deadline_of, is_due_then, is_due_at, waiting_of, waiting_at, waiting_in, timetable_of, IsKept}
+use Rattle.timer_queue.specs.Timers.{due, is_due}
+use Rattle.timer_queue.proofs.KeptValues.{in_order}
+use Rattle.pool_uses.specs.KeptTimers.{waiting_of, waiting_at, waiting_in, timetable_of, IsKept}
 use Rattle.pool_uses.specs.Timers.{Waiting, Timetable, timer_of, deadlines, NamesNone, Adds, Cancels, TakesFirst}
+
+-- a timer's deadline
+abbrev pub deadline_of : {V : Type 0} → Timer V → ℕ
+deadline_of timer = timer.deadline
 
 -- WITH ONE LESS what rises still rises
 up : (k l : ℕ) → k ≤ l → nat_cmp k l ≢ Greater
@@ -87,6 +95,15 @@ module _ {V : Type 0} (objects : Objects (Timer V)) where
     by None rest h = rest h
     by (Some timer) rest h = (less d timer.deadline h.0, rest h.1)
 
+  -- where no member is due, nothing that waits there is
+  all_wait : (now : ℕ) (s : List Place) → AllByRecursion (λ p. now < key_at deadline_of objects p) s → AllByRecursion (λ (w : Waiting V). now < w.deadline) (waiting_at objects s)
+  all_wait now [] wait = tt
+  all_wait now (p ∷ s) wait = by (object_at objects p) wait.0 (all_wait now s wait.1) where
+    by : (o : Option (Timer V)) → now < key_or deadline_of o → AllByRecursion (λ (w : Waiting V). now < w.deadline) (waiting_at objects s)
+        → AllByRecursion (λ (w : Waiting V). now < w.deadline) (cons_option (waiting_of p o) (waiting_at objects s))
+    by None here rest = rest
+    by (Some timer) here rest = (here, rest)
+
   -- a place that is no member is no reference
   names_none : (p : Place) (s : List Place) → IsAbsent p s → NamesNone p (waiting_at objects s)
   names_none p [] out = tt
@@ -137,6 +154,10 @@ module _ {V A : Type 0} {objects : Objects (Timer V)} {links : TreeLinkOps A} {r
   same_grown grown grows =
       let of : List (Waiting V) → Timetable V = λ waiting. record { waiting = waiting; is_full = leb (2 ^ 32) objects.next } in ap of (waiting_is (kept_grown grown grows) ∙ sym (waiting_is k))
 
+  -- THE TREE IS IN ORDER, as its calls ask
+  pub sorted : ShowsSorted deadline_of (PlainShows links root) objects
+  sorted = in_order deadline_of objects k.members k.shown k.placed (subst (IsSorted nat_cmp) (deadlines_are objects k.members) k.rises)
+
   -- WHAT IS PLACED is a member
   pub placed_member : (p : Place) → is_placed objects p ≡ true → HasMember (PlainShows links root) p
   placed_member p is =
@@ -161,16 +182,17 @@ module _ {V A : Type 0} {objects : Objects (Timer V)} {links : TreeLinkOps A} {r
     stood : StandAt new k.members (values_at objects k.members)
     stood = stand_beside objects new p (others_placed places) absent (record { placed = k.placed; are = refl })
 
-    pub ready : ShowsPlaced (PlainShows grown root) new
-    ready = record { members = k.members; shown = kept_shown plain_trees grows.entries k.shown; placed = stood.placed }
+    pub ready : ShowsSorted deadline_of (PlainShows grown root) new
+    ready = in_order deadline_of new k.members (kept_shown plain_trees grows.entries k.shown) stood.placed
+        (subst (λ (l : List (Timer V)). IsSorted nat_cmp (map deadline_of l)) (sym stood.are) (subst (IsSorted nat_cmp) (deadlines_are objects k.members) k.rises))
 
-    -- IT WAITS, once it is put in order
-    module _ (after : TreeLinkOps A) {top : Option Place}
-        (put : (s : List Place) → PlainShows grown root s → InsertsInOrder ShowsTree (compared (own_order nat_cmp deadline_of new p) new) (plain_table grown) (plain_table after) top s p)
-        (also : LinksAlso is_linked (plain_table grown) (plain_table after) p) where
+    -- IT WAITS, once it is scheduled
+    module _ (after : TreeLinkOps A) {top : Option Place} {X : Type 0} (r : Result Unit X)
+        (scheduled : (s : List Place) → PlainShows grown root s → OnOk r (InsertsInOrder ShowsTree (against deadline_of new p) (plain_table grown) (plain_table after) top s p))
+        (acquired : OnOk r (LinksAlso is_linked (plain_table grown) (plain_table after) p)) (refused : OnErr r (IsLinked is_linked (plain_table grown) p × (after ≡ grown))) where
       pub added : IsKept new after top × Adds (timer_of p timer.deadline timer.value) (waiting_at objects k.members) (waiting_in new after top)
       added =
-          let x = put k.members (kept_shown plain_trees grows.entries k.shown) in
+          let shown = kept_shown plain_trees grows.entries k.shown in let x = accepted _ r new_free refused (scheduled k.members shown) in
           by x.gap x.same (subst (λ at. IsBorder (less_at at) x.gap) (own_order_is nat_cmp deadline_of new p (placed_there places)) x.border) x.inserted.shows where
             by : (gap : Cut) → join gap ≡ k.members → IsBorder (less_at (compared (order_of nat_cmp deadline_of timer.deadline) new)) gap → PlainShows after top (insert gap p)
                 → IsKept new after top × Adds (timer_of p timer.deadline timer.value) (waiting_at objects k.members) (waiting_in new after top)
@@ -195,6 +217,9 @@ module _ {V A : Type 0} {objects : Objects (Timer V)} {links : TreeLinkOps A} {r
                 fresh = names_none objects p k.members absent;
               },
             ) where
+              also : LinksAlso is_linked (plain_table grown) (plain_table after) p
+              also = accepted _ r new_free refused acquired
+
               within : StandAt new (join gap) (values_at objects k.members)
               within = subst (λ s. StandAt new s (values_at objects k.members)) (sym same) stood
 
@@ -242,22 +267,12 @@ module _ {V A : Type 0} {objects : Objects (Timer V)} {links : TreeLinkOps A} {r
     }
 
   -- THE FIRST, where it is due
-  pub first_due : (now : ℕ) {p : Place} → ((s : List Place) → PlainShows links root s → Some p ≡ if_passes (is_due_at objects now) (first s)) → (Some p ≡ first k.members) × (is_due_at objects now p ≡ true)
-  first_due now {p} due = passed (is_due_at objects now) (first k.members) p (due k.members k.shown)
+  pub first_due : (now : ℕ) {p : Place} → ((s : List Place) → PlainShows links root s → Some p ≡ if_passes (is_due deadline_of objects now) (first s)) → (Some p ≡ first k.members) × (is_due deadline_of objects now p ≡ true)
+  first_due now {p} due = passed (is_due deadline_of objects now) (first k.members) p (due k.members k.shown)
 
   -- where it is not, none is
-  pub none_due : (now : ℕ) → ((s : List Place) → PlainShows links root s → None ≡ if_passes (is_due_at objects now) (first s)) → AllByRecursion (λ (w : Waiting V). now < w.deadline) (waiting_in objects links root)
-  none_due now due = subst (AllByRecursion (λ (w : Waiting V). now < w.deadline)) (sym (waiting_is k)) (by k.members k.placed k.rises (due k.members k.shown)) where
-    by : (s : List Place) → ArePlaced objects s → IsSorted nat_cmp (deadlines (waiting_at objects s)) → None ≡ if_passes (is_due_at objects now) (first s) → AllByRecursion (λ (w : Waiting V). now < w.deadline) (waiting_at objects s)
-    by [] placed rises none = tt
-    by (p ∷ s) placed rises none = at (object_at objects p) placed.0 rises (not_passed (is_due_at objects now) p none) where
-      at : (o : Option (Timer V)) → IsSome o → IsSorted nat_cmp (deadlines (cons_option (waiting_of p o) (waiting_at objects s))) → is_due_then now o ≡ false
-          → AllByRecursion (λ (w : Waiting V). now < w.deadline) (cons_option (waiting_of p o) (waiting_at objects s))
-      at None here rises not = absurd (true≢false (sym here))
-      at (Some timer) here rises not =
-          let w : Waiting V = timer_of p timer.deadline timer.value in
-          let later : now < timer.deadline = elim (leb_tells timer.deadline now) [ inl h ↦ absurd (true≢false (sym h.0 ∙ not)) | inr h ↦ h.1 ] in
-          (later, all_map (λ x h. omega (arith, later, h)) (waiting_at objects s) (first_is_least (λ (x : Waiting V). x.deadline) w (waiting_at objects s) rises))
+  pub none_due : (now : ℕ) → AllByRecursion (λ p. now < key_at deadline_of objects p) k.members → AllByRecursion (λ (w : Waiting V). now < w.deadline) (waiting_in objects links root)
+  none_due now wait = subst (AllByRecursion (λ (w : Waiting V). now < w.deadline)) (sym (waiting_is k)) (all_wait objects now k.members wait)
 
   -- THE FIRST IS TAKEN OUT
   module _ {p : Place} {timer : Timer V} (is : Some p ≡ first k.members) (there : object_at objects p ≡ Some timer) (after : TreeLinkOps A) {top : Option Place}
@@ -265,12 +280,12 @@ module _ {V A : Type 0} {objects : Objects (Timer V)} {links : TreeLinkOps A} {r
     pub kept_rest : IsKept new after top
     kept_rest = kept_less [] (drop 1 k.members) (first_is k.members is) there after shown off frees
 
-    pub takes_first : (now : ℕ) → is_due_at objects now p ≡ true → TakesFirst now timer.deadline timer.value (waiting_in objects links root) (waiting_in new after top)
-    takes_first now due =
+    pub takes_first : (now : ℕ) → is_due deadline_of objects now p ≡ true → TakesFirst now timer.deadline timer.value (waiting_in objects links root) (waiting_in new after top)
+    takes_first now is_now =
         record {
           reference = p;
           first = waiting_is k ∙ were [] (drop 1 k.members) (first_is k.members is) there after shown off frees
               ∙ ap (λ (l : List (Waiting V)). timer_of p timer.deadline timer.value ∷ l)
               (sym (ap (waiting_at new) (plain_members after shown) ∙ left [] (drop 1 k.members) (first_is k.members is) there after shown off frees));
-          due = elim (leb_tells timer.deadline now) [ inl h ↦ h.1 | inr h ↦ absurd (true≢false (sym due ∙ ap (is_due_then now) there ∙ h.0)) ];
+          due = elim (leb_tells timer.deadline now) [ inl h ↦ h.1 | inr h ↦ absurd (true≢false (sym is_now ∙ ap (due deadline_of now) there ∙ h.0)) ];
         }
