@@ -30,10 +30,10 @@ pub invariant_of-self-2 : goal.invariant_of-self-2
 invariant_of-self-2 g c =
     let e = c.in-Ok.ensures in
     let put = rw (c.new-object.ensures, c.place-2.ensures) at c.schedule.ensures in
-    (added c.self.invariant c.place.new.self.links e.keeps e.placed c.schedule.new.links c.schedule.result put.scheduled put.acquired put.refused).0
+    (added c.self.invariant c.place.new.self.links e.keeps e.placed c.schedule.new.links c.schedule.result put.scheduled put.acquired put.refused c.schedule.ensures.queue).0
 
 pub returns-clause-added : goal.returns-clause-added
 returns-clause-added g c =
     let e = c.in-Ok.ensures in
     let put = rw (c.new-object.ensures, c.place-2.ensures) at c.schedule.ensures in
-    rw (← c.self.view_is, waiting_is c.self.invariant) (added c.self.invariant c.place.new.self.links e.keeps e.placed c.schedule.new.links c.schedule.result put.scheduled put.acquired put.refused).1
+    rw (← c.self.view_is, waiting_is c.self.invariant) (added c.self.invariant c.place.new.self.links e.keeps e.placed c.schedule.new.links c.schedule.result put.scheduled put.acquired put.refused c.schedule.ensures.queue).1

@@ -21,7 +21,7 @@ invariant_of-self-2 g c =
     let k = c.self.invariant in
     let e = c.in_ok-timer.ensures in
     let taken = c.remove-timer.ensures in
-    rw taken.links (kept_rest k (first_due k c.args.now e.due).0 taken.value c.take_due.new.links (e.taken k.members k.shown).shows e.released taken.freed)
+    rw taken.links (kept_rest k (first_due k c.args.now e.due).0 taken.value c.take_due.new.links (e.taken k.members k.shown).shows e.released taken.freed c.take_due.ensures.queue)
 
 pub returns-clause-taken : goal.returns-clause-taken
 returns-clause-taken g c =
