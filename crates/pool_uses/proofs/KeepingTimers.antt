@@ -1,57 +1,43 @@
 -- What timers keep over each of their calls, and what that says of those that wait.
-use Rattle.std.proofs.Common.{◌≡◌, ◌≢◌, ℕ, ◌^◌, leb, ◌<◌, ◌≤◌, true, false, Option, Some, None, IsSome, is_some, List, [], ◌∷◌, ◌++◌, map, drop, inl, inr, refl, sym, ap, subst, ◌∙◌, arith, true≢false}
+use Rattle.std.proofs.Common.{◌≡◌, ◌≢◌, ℕ, ◌^◌, leb, ◌<◌, true, false, Option, Some, None, IsSome, is_some, Result, OnOk, OnErr, List, [], ◌∷◌, ◌++◌, map, drop, inl, inr, refl, sym, ap, subst, ◌∙◌, arith, true≢false}
 use Rattle.std.proofs.lemmas.Bool.Decides.{leb_tells, nat_tests}
 use Rattle.std.proofs.lemmas.Cmp.{nat_cmp_total}
 use Rattle.std.proofs.lemmas.List.Elements.{filter_map-append}
 use Rattle.std.specs.List.{AllByRecursion, cons_option}
 use Rattle.std.specs.Ordering.{nat_cmp, is_lt}
-use Rattle.std.specs.declared.cmp.Ordering.TheVariants.{Greater}
 use Rattle.ic_unsafe_ref.specs.declared.place.Place.{Place}
 use Rattle.ic_unsafe_ref.specs.Objects.{Objects, Places, Frees, object_at, is_placed}
 use Rattle.ic_unsafe_ref.proofs.Placing.{placed_there, others_placed, gone_there, others_left}
-use Rattle.ic_link_ops.specs.PlacedObjects.{ArePlaced, StandAt, ShowsPlaced, values_at}
+use Rattle.ic_link_ops.specs.PlacedObjects.{ArePlaced, StandAt, values_at}
 use Rattle.ic_link_ops.specs.Positions.{HasMember}
 use Rattle.ic_link_ops.specs.Sequences.{Cut, join, insert, first, IsAbsent}
-use Rattle.ic_link_ops.specs.Tables.{IsUnlinked, LinksAlso, Unlinks}
+use Rattle.ic_link_ops.specs.Tables.{IsLinked, IsUnlinked, LinksAlso, Unlinks}
+use Rattle.ic_link_ops.proofs.Calling.{accepted}
 use Rattle.ic_link_ops.proofs.CollectionLaws.{kept_shown}
 use Rattle.ic_link_ops.proofs.LinkedSets.{everywhere, not_linked}
-use Rattle.ic_link_ops.proofs.PlacedValues.{all_beside, stand_beside, stand_put, vacant_absent}
+use Rattle.ic_link_ops.proofs.PlacedValues.{all_beside, stand_beside, vacant_absent}
 use Rattle.ic_link_ops.proofs.SequenceLemmas.{absent_without, first_is, member_split, split_member}
 use Rattle.ic_rbtree.specs.Borders.{IsBorder, IsSorted, if_passes, less_at}
-use Rattle.ic_rbtree.specs.Comparing.{compared, order_of, own_order}
+use Rattle.ic_rbtree.specs.Comparing.{compared, order_of}
 use Rattle.ic_rbtree.specs.Ordered.{InsertsInOrder}
+use Rattle.ic_rbtree.specs.SortedObjects.{against, key_at, key_or, ShowsSorted}
 use Rattle.ic_rbtree.specs.PlainTrees.{TreeLinkOps, is_linked, plain_table, ShowsTree, PlainShows}
-use Rattle.ic_rbtree.proofs.KeyLaws.{all_map, stays_sorted}
-use Rattle.ic_rbtree.proofs.Passing.{passed, not_passed}
+use Rattle.ic_rbtree.proofs.Passing.{passed}
 use Rattle.ic_rbtree.proofs.PlainTrees.{plain_covered, plain_members, plain_trees}
-use Rattle.ic_rbtree.proofs.SortedKeys.{first_is_least, up_is}
+use Rattle.ic_rbtree.proofs.SortedKeys.{shown_sorted}
 use Rattle.ic_rbtree.proofs.SortedValues.{greater_behind, own_order_is}
 use Rattle.ic_pool.specs.Pooled.{Grows}
 use Rattle.pool_uses.specs.declared.timers.Timer.{Timer}
-use Rattle.pool_uses.specs.KeptTimers.{deadline_of, is_due_then, is_due_at, waiting_of, waiting_at, waiting_in, timetable_of, IsKept}
+use Rattle.timer_queue.specs.Timers.{due, is_due}
+use Rattle.timer_queue.proofs.KeptValues.{in_order}
+use Rattle.pool_uses.specs.KeptTimers.{waiting_of, waiting_at, waiting_in, timetable_of, IsKept}
 use Rattle.pool_uses.specs.Timers.{Waiting, Timetable, timer_of, deadlines, NamesNone, Adds, Cancels, TakesFirst}
 
--- WITH ONE LESS what rises still rises
-up : (k l : ℕ) → k ≤ l → nat_cmp k l ≢ Greater
-up k l h = grind (arith, nat_tests)
+-- a timer's deadline
+abbrev pub deadline_of : {V : Type 0} → Timer V → ℕ
+deadline_of timer = timer.deadline
 
-module _ {V : Type 0} where
-  skip : (p q : Waiting V) (s : List (Waiting V)) → IsSorted nat_cmp (deadlines (p ∷ q ∷ s)) → IsSorted nat_cmp (deadlines (p ∷ s))
-  skip p q [] h = tt
-  skip p q (r ∷ s) h =
-      let x = up_is p.deadline q.deadline h.0 in let y = up_is q.deadline r.deadline h.1.0 in (up p.deadline r.deadline (omega (arith, x, y)), h.1.1)
-
-  one_less : (front : List (Waiting V)) (p : Waiting V) (back : List (Waiting V)) → IsSorted nat_cmp (deadlines (front ++ p ∷ back)) → IsSorted nat_cmp (deadlines (front ++ back))
-  one_less [] p [] h = tt
-  one_less [] p (x ∷ back) h = h.1
-  one_less (f ∷ []) p back h = skip f p back h
-  one_less (f ∷ g ∷ front) p back h = (h.0, one_less (g ∷ front) p back h.1)
-
--- a sequence without one of its members
-all_without : (P : Place → Type 0) (front : List Place) (p : Place) (back : List Place) → AllByRecursion P (front ++ p ∷ back) → AllByRecursion P (front ++ back)
-all_without P [] p back h = h.1
-all_without P (x ∷ front) p back h = (h.0, all_without P front p back h.1)
-
+-- a sequence with one more
 absent_with : (front : List Place) (p : Place) (back : List Place) (q : Place) → q ≢ p → IsAbsent q (front ++ back) → IsAbsent q (front ++ p ∷ back)
 absent_with [] p back q n out = (n, out)
 absent_with (x ∷ front) p back q n out = (out.0, absent_with front p back q n out.1)
@@ -86,6 +72,15 @@ module _ {V : Type 0} (objects : Objects (Timer V)) where
         → AllByRecursion (λ (w : Waiting V). d < w.deadline) (cons_option (waiting_of p o) (waiting_at objects s))
     by None rest h = rest h
     by (Some timer) rest h = (less d timer.deadline h.0, rest h.1)
+
+  -- where no member is due, nothing that waits there is
+  all_wait : (now : ℕ) (s : List Place) → AllByRecursion (λ p. now < key_at deadline_of objects p) s → AllByRecursion (λ (w : Waiting V). now < w.deadline) (waiting_at objects s)
+  all_wait now [] wait = tt
+  all_wait now (p ∷ s) wait = by (object_at objects p) wait.0 (all_wait now s wait.1) where
+    by : (o : Option (Timer V)) → now < key_or deadline_of o → AllByRecursion (λ (w : Waiting V). now < w.deadline) (waiting_at objects s)
+        → AllByRecursion (λ (w : Waiting V). now < w.deadline) (cons_option (waiting_of p o) (waiting_at objects s))
+    by None here rest = rest
+    by (Some timer) here rest = (here, rest)
 
   -- a place that is no member is no reference
   names_none : (p : Place) (s : List Place) → IsAbsent p s → NamesNone p (waiting_at objects s)
@@ -137,6 +132,10 @@ module _ {V A : Type 0} {objects : Objects (Timer V)} {links : TreeLinkOps A} {r
   same_grown grown grows =
       let of : List (Waiting V) → Timetable V = λ waiting. record { waiting = waiting; is_full = leb (2 ^ 32) objects.next } in ap of (waiting_is (kept_grown grown grows) ∙ sym (waiting_is k))
 
+  -- THE TREE IS IN ORDER, as its calls ask
+  pub sorted : ShowsSorted deadline_of (PlainShows links root) objects
+  sorted = in_order deadline_of objects k.members k.shown k.placed (subst (IsSorted nat_cmp) (deadlines_are objects k.members) k.rises)
+
   -- WHAT IS PLACED is a member
   pub placed_member : (p : Place) → is_placed objects p ≡ true → HasMember (PlainShows links root) p
   placed_member p is =
@@ -161,16 +160,18 @@ module _ {V A : Type 0} {objects : Objects (Timer V)} {links : TreeLinkOps A} {r
     stood : StandAt new k.members (values_at objects k.members)
     stood = stand_beside objects new p (others_placed places) absent (record { placed = k.placed; are = refl })
 
-    pub ready : ShowsPlaced (PlainShows grown root) new
-    ready = record { members = k.members; shown = kept_shown plain_trees grows.entries k.shown; placed = stood.placed }
+    pub ready : ShowsSorted deadline_of (PlainShows grown root) new
+    ready = in_order deadline_of new k.members (kept_shown plain_trees grows.entries k.shown) stood.placed
+        (subst (λ (l : List (Timer V)). IsSorted nat_cmp (map deadline_of l)) (sym stood.are) (subst (IsSorted nat_cmp) (deadlines_are objects k.members) k.rises))
 
-    -- IT WAITS, once it is put in order
-    module _ (after : TreeLinkOps A) {top : Option Place}
-        (put : (s : List Place) → PlainShows grown root s → InsertsInOrder ShowsTree (compared (own_order nat_cmp deadline_of new p) new) (plain_table grown) (plain_table after) top s p)
-        (also : LinksAlso is_linked (plain_table grown) (plain_table after) p) where
+    -- IT WAITS, once it is scheduled
+    module _ (after : TreeLinkOps A) {top : Option Place} {X : Type 0} (r : Result Unit X)
+        (scheduled : (s : List Place) → PlainShows grown root s → OnOk r (InsertsInOrder ShowsTree (against deadline_of new p) (plain_table grown) (plain_table after) top s p))
+        (acquired : OnOk r (LinksAlso is_linked (plain_table grown) (plain_table after) p)) (refused : OnErr r (IsLinked is_linked (plain_table grown) p × (after ≡ grown)))
+        (queue : ShowsSorted deadline_of (PlainShows after top) new) where
       pub added : IsKept new after top × Adds (timer_of p timer.deadline timer.value) (waiting_at objects k.members) (waiting_in new after top)
       added =
-          let x = put k.members (kept_shown plain_trees grows.entries k.shown) in
+          let shown = kept_shown plain_trees grows.entries k.shown in let x = accepted _ r new_free refused (scheduled k.members shown) in
           by x.gap x.same (subst (λ at. IsBorder (less_at at) x.gap) (own_order_is nat_cmp deadline_of new p (placed_there places)) x.border) x.inserted.shows where
             by : (gap : Cut) → join gap ≡ k.members → IsBorder (less_at (compared (order_of nat_cmp deadline_of timer.deadline) new)) gap → PlainShows after top (insert gap p)
                 → IsKept new after top × Adds (timer_of p timer.deadline timer.value) (waiting_at objects k.members) (waiting_in new after top)
@@ -178,7 +179,7 @@ module _ {V A : Type 0} {objects : Objects (Timer V)} {links : TreeLinkOps A} {r
               record {
                 members = insert gap p;
                 shown = shown;
-                placed = stand.placed;
+                placed = has.0;
                 rises = rises;
                 only = λ q. everywhere (λ q. IsAbsent q (insert gap p) → IsUnlinked is_linked (plain_table after) q) p q (λ out. absurd (split_member gap.front p gap.back out))
                     (λ n out. also.others q n ∙ ap is_linked (grows.entries q) ∙ k.only q (subst (IsAbsent q) same (absent_without gap.front gap.back p q out)));
@@ -190,22 +191,22 @@ module _ {V A : Type 0} {objects : Objects (Timer V)} {links : TreeLinkOps A} {r
                 back = waiting_at new gap.back;
                 was = sym (waiting_beside objects new p (others_placed places) k.members absent) ∙ ap (waiting_at new) (sym same) ∙ waiting_join new gap.front gap.back;
                 is = ap (waiting_at new) (plain_members after shown) ∙ waiting_split new gap.front p gap.back (placed_there places);
-                later = all_later new timer.deadline gap.back (greater_behind nat_cmp_total deadline_of new timer.deadline gap within.placed sorted border);
+                later = all_later new timer.deadline gap.back (greater_behind nat_cmp_total deadline_of new timer.deadline gap had.0 had.1 border);
                 rises = subst (λ (s : List Place). IsSorted nat_cmp (deadlines (waiting_at new s))) (sym (plain_members after shown)) rises;
                 fresh = names_none objects p k.members absent;
               },
             ) where
-              within : StandAt new (join gap) (values_at objects k.members)
-              within = subst (λ s. StandAt new s (values_at objects k.members)) (sym same) stood
+              also : LinksAlso is_linked (plain_table grown) (plain_table after) p
+              also = accepted _ r new_free refused acquired
 
-              sorted : IsSorted nat_cmp (map deadline_of (values_at new (join gap)))
-              sorted = subst (λ l. IsSorted nat_cmp (map deadline_of l)) (sym within.are) (subst (IsSorted nat_cmp) (deadlines_are objects k.members) k.rises)
+              had : ArePlaced new (join gap) × IsSorted nat_cmp (map deadline_of (values_at new (join gap)))
+              had = shown_sorted deadline_of new (plain_trees.one (plain_table grown) root) ready (subst (PlainShows grown root) (sym same) (kept_shown plain_trees grows.entries k.shown))
 
-              stand : StandAt new (insert gap p) (values_at new gap.front ++ timer ∷ values_at new gap.back)
-              stand = stand_put new p (placed_there places) gap.front gap.back within.placed
+              has : ArePlaced new (insert gap p) × IsSorted nat_cmp (map deadline_of (values_at new (insert gap p)))
+              has = shown_sorted deadline_of new (plain_trees.one (plain_table after) top) queue shown
 
               rises : IsSorted nat_cmp (deadlines (waiting_at new (insert gap p)))
-              rises = subst (IsSorted nat_cmp) (sym (deadlines_are new (insert gap p))) (stays_sorted nat_cmp_total deadline_of new p (placed_there places) gap within.placed sorted border)
+              rises = subst (IsSorted nat_cmp) (sym (deadlines_are new (insert gap p))) has.1
 
   -- ONE IS TAKEN OFF, and out of its place
   module _ (front : List Place) {p : Place} (back : List Place) {timer : Timer V} (same : k.members ≡ front ++ p ∷ back) (there : object_at objects p ≡ Some timer) (after : TreeLinkOps A) {top : Option Place}
@@ -219,13 +220,13 @@ module _ {V A : Type 0} {objects : Objects (Timer V)} {links : TreeLinkOps A} {r
     were : waiting_at objects k.members ≡ waiting_at objects front ++ timer_of p timer.deadline timer.value ∷ waiting_at objects back
     were = ap (waiting_at objects) same ∙ waiting_split objects front p back there
 
-    pub kept_less : IsKept new after top
-    kept_less = record {
+    pub kept_less : ShowsSorted deadline_of (PlainShows after top) objects → IsKept new after top
+    kept_less queue = let rest = shown_sorted deadline_of objects (plain_trees.one (plain_table after) top) queue shown in record {
       members = front ++ back;
       shown = shown;
-      placed = all_beside objects new p (others_left frees) IsSome (front ++ back) gone (all_without (λ q. IsSome (object_at objects q)) front p back (subst (ArePlaced objects) same k.placed));
-      rises = subst (λ (l : List (Waiting V)). IsSorted nat_cmp (deadlines l)) (sym left)
-          (one_less (waiting_at objects front) _ (waiting_at objects back) (subst (λ (l : List (Waiting V)). IsSorted nat_cmp (deadlines l)) were k.rises));
+      placed = all_beside objects new p (others_left frees) IsSome (front ++ back) gone rest.0;
+      rises = subst (λ (l : List (Waiting V)). IsSorted nat_cmp (deadlines l)) (sym (waiting_beside objects new p (others_left frees) (front ++ back) gone))
+          (subst (IsSorted nat_cmp) (sym (deadlines_are objects (front ++ back))) rest.1);
       only = λ q. everywhere (λ q. IsAbsent q (front ++ back) → IsUnlinked is_linked (plain_table after) q) p q (λ out. off.is)
           (λ n out. off.others q n ∙ k.only q (subst (IsAbsent q) (sym same) (absent_with front p back q n out)));
       all = λ q. everywhere (λ q. is_placed new q ≡ true → is_linked ((plain_table after).entry q) ≡ true) p q (λ is. absurd (true≢false (sym is ∙ ap is_some (gone_there frees))))
@@ -242,35 +243,25 @@ module _ {V A : Type 0} {objects : Objects (Timer V)} {links : TreeLinkOps A} {r
     }
 
   -- THE FIRST, where it is due
-  pub first_due : (now : ℕ) {p : Place} → ((s : List Place) → PlainShows links root s → Some p ≡ if_passes (is_due_at objects now) (first s)) → (Some p ≡ first k.members) × (is_due_at objects now p ≡ true)
-  first_due now {p} due = passed (is_due_at objects now) (first k.members) p (due k.members k.shown)
+  pub first_due : (now : ℕ) {p : Place} → ((s : List Place) → PlainShows links root s → Some p ≡ if_passes (is_due deadline_of objects now) (first s)) → (Some p ≡ first k.members) × (is_due deadline_of objects now p ≡ true)
+  first_due now {p} due = passed (is_due deadline_of objects now) (first k.members) p (due k.members k.shown)
 
   -- where it is not, none is
-  pub none_due : (now : ℕ) → ((s : List Place) → PlainShows links root s → None ≡ if_passes (is_due_at objects now) (first s)) → AllByRecursion (λ (w : Waiting V). now < w.deadline) (waiting_in objects links root)
-  none_due now due = subst (AllByRecursion (λ (w : Waiting V). now < w.deadline)) (sym (waiting_is k)) (by k.members k.placed k.rises (due k.members k.shown)) where
-    by : (s : List Place) → ArePlaced objects s → IsSorted nat_cmp (deadlines (waiting_at objects s)) → None ≡ if_passes (is_due_at objects now) (first s) → AllByRecursion (λ (w : Waiting V). now < w.deadline) (waiting_at objects s)
-    by [] placed rises none = tt
-    by (p ∷ s) placed rises none = at (object_at objects p) placed.0 rises (not_passed (is_due_at objects now) p none) where
-      at : (o : Option (Timer V)) → IsSome o → IsSorted nat_cmp (deadlines (cons_option (waiting_of p o) (waiting_at objects s))) → is_due_then now o ≡ false
-          → AllByRecursion (λ (w : Waiting V). now < w.deadline) (cons_option (waiting_of p o) (waiting_at objects s))
-      at None here rises not = absurd (true≢false (sym here))
-      at (Some timer) here rises not =
-          let w : Waiting V = timer_of p timer.deadline timer.value in
-          let later : now < timer.deadline = elim (leb_tells timer.deadline now) [ inl h ↦ absurd (true≢false (sym h.0 ∙ not)) | inr h ↦ h.1 ] in
-          (later, all_map (λ x h. omega (arith, later, h)) (waiting_at objects s) (first_is_least (λ (x : Waiting V). x.deadline) w (waiting_at objects s) rises))
+  pub none_due : (now : ℕ) → AllByRecursion (λ p. now < key_at deadline_of objects p) k.members → AllByRecursion (λ (w : Waiting V). now < w.deadline) (waiting_in objects links root)
+  none_due now wait = subst (AllByRecursion (λ (w : Waiting V). now < w.deadline)) (sym (waiting_is k)) (all_wait objects now k.members wait)
 
   -- THE FIRST IS TAKEN OUT
   module _ {p : Place} {timer : Timer V} (is : Some p ≡ first k.members) (there : object_at objects p ≡ Some timer) (after : TreeLinkOps A) {top : Option Place}
       (shown : PlainShows after top (drop 1 k.members)) (off : Unlinks is_linked (plain_table links) (plain_table after) p) {new : Objects (Timer V)} (frees : Frees objects new p) where
-    pub kept_rest : IsKept new after top
+    pub kept_rest : ShowsSorted deadline_of (PlainShows after top) objects → IsKept new after top
     kept_rest = kept_less [] (drop 1 k.members) (first_is k.members is) there after shown off frees
 
-    pub takes_first : (now : ℕ) → is_due_at objects now p ≡ true → TakesFirst now timer.deadline timer.value (waiting_in objects links root) (waiting_in new after top)
-    takes_first now due =
+    pub takes_first : (now : ℕ) → is_due deadline_of objects now p ≡ true → TakesFirst now timer.deadline timer.value (waiting_in objects links root) (waiting_in new after top)
+    takes_first now is_now =
         record {
           reference = p;
           first = waiting_is k ∙ were [] (drop 1 k.members) (first_is k.members is) there after shown off frees
               ∙ ap (λ (l : List (Waiting V)). timer_of p timer.deadline timer.value ∷ l)
               (sym (ap (waiting_at new) (plain_members after shown) ∙ left [] (drop 1 k.members) (first_is k.members is) there after shown off frees));
-          due = elim (leb_tells timer.deadline now) [ inl h ↦ h.1 | inr h ↦ absurd (true≢false (sym due ∙ ap (is_due_then now) there ∙ h.0)) ];
+          due = elim (leb_tells timer.deadline now) [ inl h ↦ h.1 | inr h ↦ absurd (true≢false (sym is_now ∙ ap (due deadline_of now) there ∙ h.0)) ];
         }

@@ -1,20 +1,8 @@
 -- Timers that are due are taken out, one after another.
-use Rattle.std.proofs.Common.{◌≡◌, ℕ, Result, Ok, Err, OnErr, List, [], ◌∷◌, ◌++◌, refl, sym, ap, ◌∙◌, append_assoc, append-nil}
+use Rattle.std.proofs.Common.{◌≡◌, ℕ, List, [], ◌∷◌, ◌++◌, refl, sym, ap, ◌∙◌, append_assoc, append-nil}
 use Rattle.std.proofs.lemmas.List.{map_push}
-use Rattle.std.specs.Result.{IsErrAnd}
-use Rattle.std.specs.declared.alloc.AllocFailed.{AllocFailed}
 use Rattle.ic_rbtree.proofs.KeyLaws.{all_both}
-use Rattle.pool_uses.specs.Timers.{Waiting, timer_of, handed_back, taken_out, TakesFirst, TakesAll}
-
--- what there was no room for comes back
-pub comes_back : {T : Type 0} (r : Result Unit (AllocFailed T)) {x : AllocFailed T} {y : T} → IsErrAnd r (λ e. e ≡ x) → x.value ≡ y → handed_back r ≡ y ∷ []
-comes_back (Ok u) is same = absurd (is)
-comes_back {T} (Err e) is same = ap (λ (v : T). v ∷ []) (ap (λ (z : AllocFailed T). z.value) is ∙ same)
-
--- what holds at any rate
-pub on_err : {A E : Type 0} {P : Type 0} (r : Result A E) → P → OnErr r P
-on_err (Ok a) h = tt
-on_err (Err e) h = h
+use Rattle.pool_uses.specs.Timers.{Waiting, timer_of, taken_out, TakesFirst, TakesAll}
 
 module _ {V : Type 0} {now : ℕ} {had : List (ℕ × V)} where
   -- at first none is taken,

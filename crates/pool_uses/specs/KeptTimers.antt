@@ -1,5 +1,5 @@
 -- What timers keep of their pool and of their tree.
-use Rattle.std.specs.Prelude.{◌≡◌, ℕ, ◌^◌, Bool, true, false, leb, Option, Some, None, List}
+use Rattle.std.specs.Prelude.{◌≡◌, ◌^◌, true, leb, Option, Some, None, List}
 use Rattle.std.specs.List.{filter_map}
 use Rattle.std.specs.Ordering.{nat_cmp}
 use Rattle.ic_unsafe_ref.specs.declared.place.Place.{Place}
@@ -13,18 +13,6 @@ use Rattle.pool_uses.specs.declared.timers.Timer.{Timer}
 use Rattle.pool_uses.specs.Timers.{Waiting, Timetable, timer_of, deadlines}
 
 module _ {V : Type 0} where
-  -- a timer's deadline
-  abbrev pub deadline_of : Timer V → ℕ
-  deadline_of timer = timer.deadline
-
-  -- whether there is a timer, and it is due; and so at a place
-  abbrev pub is_due_then : ℕ → Option (Timer V) → Bool
-  is_due_then now None = false
-  is_due_then now (Some timer) = leb timer.deadline now
-
-  abbrev pub is_due_at : Objects (Timer V) → ℕ → Place → Bool
-  is_due_at objects now p = is_due_then now (object_at objects p)
-
   -- what waits at a place, and at each of a sequence
   abbrev pub waiting_of : Place → Option (Timer V) → Option (Waiting V)
   waiting_of p None = None

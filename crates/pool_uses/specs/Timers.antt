@@ -1,9 +1,8 @@
 -- Timers: what waits, in the order in which it is due.
-use Rattle.std.specs.Prelude.{◌≡◌, ◌≢◌, ◌<◌, ◌≤◌, ℕ, Bool, Result, Ok, Err, List, [], ◌∷◌, ◌++◌, map, refl}
+use Rattle.std.specs.Prelude.{◌≡◌, ◌≢◌, ◌<◌, ◌≤◌, ℕ, Bool, List, ◌∷◌, ◌++◌, map, refl}
 use Rattle.std.specs.Coded.{Coded, code_by, coded×, coded_ℕ, coded_bool, coded_list}
 use Rattle.std.specs.List.{AllByRecursion}
 use Rattle.std.specs.Ordering.{nat_cmp}
-use Rattle.std.specs.declared.alloc.AllocFailed.{AllocFailed}
 use Rattle.ic_unsafe_ref.specs.declared.place.Place.{Place}
 use Rattle.ic_unsafe_ref.specs.Places.{place_code}
 use Rattle.ic_rbtree.specs.Borders.{IsSorted}
@@ -32,11 +31,6 @@ pub record Timetable (V : Type 0) : Type 0 where
 abbrev pub timetable_code : {V : Type 0} → Coded V → Coded (Timetable V)
 timetable_code {V} code =
     code_by (List (Waiting V) × Bool) (coded× (coded_list (waiting_code code)) coded_bool) (λ t. (t.waiting, t.is_full)) (λ p. record { waiting = p.0; is_full = p.1 }) (λ _. refl)
-
--- what comes back where there was no room for it
-abbrev pub handed_back : {T : Type 0} → Result Unit (AllocFailed T) → List T
-handed_back (Ok u) = []
-handed_back (Err refused) = refused.value ∷ []
 
 module _ {V : Type 0} where
   -- each with its deadline, as it is taken out

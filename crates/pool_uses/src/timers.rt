@@ -8,30 +8,17 @@
 //! timers.take_all_due(now, &mut due)?; // and all others that are due
 //! ```
 
-ghost use Rattle.std.specs.Prelude.{◌≡◌, ◌<◌, ◌≤◌, ◌++◌, true, false, [], List, ⊤, OnOk, OnErr, OnSome, IfOk, IfErr, IfSome, IfNone, vec_len, vec_capacity};
+ghost use Rattle.std.specs.Prelude.{◌≡◌, ◌<◌, ◌≤◌, ◌++◌, false, [], OnOk, OnErr, IfOk, IfErr, IfSome, IfNone, vec_len, vec_capacity};
 ghost use Rattle.std.specs.List.{AllByRecursion};
-ghost use Rattle.std.specs.Option.{option_copied};
-ghost use Rattle.std.specs.Ordering.{nat_cmp};
-ghost use Rattle.ic_unsafe_ref.specs.declared.place.Place.{Place};
-ghost use Rattle.ic_unsafe_ref.specs.Objects.{is_placed};
-ghost use Rattle.ic_link_ops.specs.Sequences.{first, at_front};
-ghost use Rattle.ic_link_ops.specs.Edits.{Removes};
-ghost use Rattle.ic_link_ops.specs.Tables.{IsCovered, IsUnlinked, LinksAlso, Unlinks};
-ghost use Rattle.ic_link_ops.specs.PlacedObjects.{ShowsPlaced};
-ghost use Rattle.ic_rbtree.specs.Borders.{if_passes};
-ghost use Rattle.ic_rbtree.specs.Comparing.{compared, own_order};
-ghost use Rattle.ic_rbtree.specs.Ordered.{InsertsInOrder};
-ghost use Rattle.ic_rbtree.specs.PlainTrees.{is_linked, plain_table, ShowsTree, PlainShows, PlainShowsSome};
-ghost use Rattle.ic_rbtree.specs.Tree.{root_of};
 ghost use Rattle.ic_pool.specs.Refusals.{lacks_place, value_of};
-ghost use Rattle.pool_uses.specs.KeptTimers.{deadline_of, is_due_then, is_due_at};
 
 use ic_link_ops::rbtree::LinkOps;
 use ic_pool::{PlaceError, Pool};
-use ic_rbtree::{KeyAdapter, RBTree};
-use ic_unsafe_ref::{Objects, UnsafeRef};
-use std::alloc::{AllocError, AllocFailed, Allocator, Global};
-use std::marker::{Model, PhantomData};
+use ic_rbtree::RBTree;
+use ic_unsafe_ref::UnsafeRef;
+use std::alloc::{AllocFailed, Allocator, Global};
+use std::marker::Model;
+use timer_queue::{ByDeadline, HasDeadline, schedule, take_due};
 
 /// What waits, as it is placed.
 #[derive(Drop)]
@@ -40,39 +27,12 @@ pub struct Timer<V> {
     pub(crate) value: V,
 }
 
-// Timers stand by their deadlines.
-pub(crate) struct ByDeadline<V> {
-    of: PhantomData<V>,
-}
-
-impl<V> ByDeadline<V> {
-    fn new() -> ByDeadline<V> {
-        ByDeadline { of: PhantomData }
-    }
-}
-
-impl<V> Clone for ByDeadline<V> {
-    ghost is_clone = { λ a copy. copy ≡ a };
-
-    ghost is_infallible = { λ _. ⊤ };
-
-    fn clone(&self) -> Result<Self, AllocError> {
-        Ok(*self)
-    }
-}
-
-impl<V> Copy for ByDeadline<V> {}
-
-impl<V> KeyAdapter for ByDeadline<V> {
-    type Value = Timer<V>;
-
-    type Key = u64;
-
-    ghost key_of = { λ a timer. timer.deadline };
+impl<V> HasDeadline for Timer<V> {
+    ghost deadline = { λ timer. timer.deadline };
 
     #[inline]
-    fn get_key<'v>(&self, timer: &'v Timer<V>) -> &'v u64 {
-        &timer.deadline
+    fn deadline(&self) -> &u64 {
+        &self.deadline
     }
 }
 
@@ -83,7 +43,7 @@ impl<V> KeyAdapter for ByDeadline<V> {
 #[derive(Drop)]
 pub struct Timers<V, A: Allocator = Global> {
     pool: Pool<Timer<V>, LinkOps<A>, A>,
-    queue: RBTree<ByDeadline<V>>,
+    queue: RBTree<ByDeadline<Timer<V>>>,
 }
 
 impl<V, A: Allocator> Model for Timers<V, A> {
@@ -100,60 +60,9 @@ impl<V, A: Allocator> Model for Timers<V, A> {
     ghost invariant = { λ t. IsKept t.pool.objects t.pool.links (root_of t.queue) };
 }
 
-// Puts a timer behind all with its deadline or an earlier one.
-fn put<V, A: Allocator>(
-    queue: &mut RBTree<ByDeadline<V>>,
-    links: &mut LinkOps<A>,
-    objects: &Objects<Timer<V>, A>,
-    timer: UnsafeRef<Timer<V>>,
-)
-    requires covered { IsCovered (plain_table links.old) timer }
-    requires placed { ShowsPlaced (PlainShows links.old (root_of queue.old)) objects.now }
-    requires timer { is_placed objects.now timer ≡ true }
-    requires unlinked { IsUnlinked is_linked (plain_table links.old) timer }
-    ensures put { (s : List Place) → PlainShows links.old (root_of queue.old) s
-        → InsertsInOrder ShowsTree (compared (own_order nat_cmp deadline_of objects.now timer) objects.now)
-        (plain_table links.old) (plain_table links.new) (root_of queue.new) s timer }
-    ensures linked { LinksAlso is_linked (plain_table links.old) (plain_table links.new) timer }
-{
-    let _ = queue.insert(links, objects, timer); // proved: it is not linked
-}
-
-// Takes the first timer off, if it is due.
-fn take_first<V, A: Allocator>(
-    queue: &mut RBTree<ByDeadline<V>>,
-    links: &mut LinkOps<A>,
-    objects: &Objects<Timer<V>, A>,
-    now: u64,
-) -> Option<UnsafeRef<Timer<V>>>
-    requires shown { PlainShowsSome links.old (root_of queue.old) }
-    ensures due { (s : List Place) → PlainShows links.old (root_of queue.old) s
-        → result ≡ if_passes (is_due_at objects.now now) (first s) }
-    ensures taken { (s : List Place) → PlainShows links.old (root_of queue.old) s
-        → OnSome result (Removes ShowsTree (plain_table links.old) (plain_table links.new) (root_of queue.new) (at_front s)) }
-    ensures released { IfSome result (Unlinks is_linked (plain_table links.old) (plain_table links.new)) }
-    ensures unchanged { IfNone result ((queue.new ≡ queue.old) × (links.new ≡ links.old)) }
-{
-    let mut cursor = queue.front_mut(links);
-    if !is_due(cursor.get(objects), now) {
-        return None;
-    }
-    cursor.remove()
-}
-
-// Whether there is a timer, and it is due.
-#[inline]
-fn is_due<V>(timer: Option<&Timer<V>>, now: u64) -> bool
-    ensures { result ≡ is_due_then now (option_copied timer.entry) }
-{
-    match timer {
-        Some(timer) => timer.deadline <= now,
-        None => false,
-    }
-}
-
 impl<V, A: Allocator> Timers<V, A> {
-    ghost use Rattle.pool_uses.specs.Timers.{Waiting, timer_of, handed_back, Adds, Cancels, TakesFirst, TakesAll, NamesNone};
+    ghost use Rattle.pool_uses.specs.Timers.{Waiting, timer_of, Adds, Cancels, TakesFirst, TakesAll, NamesNone};
+    ghost use Rattle.timer_queue.specs.Timers.{handed_back};
 
     /// Nothing waits. It takes no memory.
     pub fn new(alloc: A) -> Timers<V, A>
@@ -184,12 +93,12 @@ impl<V, A: Allocator> Timers<V, A> {
             Err(PlaceError::OutOfMemory(timer)) => return Err(PlaceError::OutOfMemory(timer.value)),
         };
         let object = UnsafeRef::new(timer.place());
-        put(
+        let _ = schedule(
             &mut self.queue,
             &mut self.pool.links,
             &self.pool.objects,
             object,
-        );
+        ); // proved: it is not linked
         Ok(timer)
     }
 
@@ -214,7 +123,7 @@ impl<V, A: Allocator> Timers<V, A> {
         ensures taken { IfSome result (λ answer. TakesFirst now answer.0 answer.1 self.old.waiting self.new.waiting) }
         ensures none { IfNone result (AllByRecursion (λ (timer : Waiting V). now < timer.deadline) self.old.waiting × (self.new ≡ self.old)) }
     {
-        let timer = take_first(
+        let timer = take_due(
             &mut self.queue,
             &mut self.pool.links,
             &self.pool.objects,

@@ -1,19 +1,17 @@
 -- Tasks by their deadlines: one more, and those alone that pass a test.
-use Rattle.std.proofs.Common.{◌≡◌, ℕ, ◌<◌, Bool, true, false, cond, ◌≤◌, List, [], ◌∷◌, ◌++◌, filter, refl, sym, ap, ◌∙◌, arith, append-nil, eqb-true, ne_eqb, leb-false, true≢false}
+use Rattle.std.proofs.Common.{◌≡◌, ℕ, ◌<◌, Bool, true, false, cond, List, [], ◌∷◌, ◌++◌, filter, refl, sym, ap, ◌∙◌, arith, append-nil, eqb-true, ne_eqb, true≢false}
 use Rattle.std.proofs.lemmas.List.Elements.{filter-append}
-use Rattle.std.proofs.lemmas.Bool.{lt-leb}
 use Rattle.std.proofs.lemmas.Cmp.{ranked}
 use Rattle.std.specs.List.{AllByRecursion}
 use Rattle.std.specs.Ordering.{nat_cmp, is_lt}
 use Rattle.std.specs.declared.cmp.Ordering.{Ordering}
 use Rattle.std.specs.declared.cmp.Ordering.TheVariants.{Less, Equal, Greater}
-use Rattle.ic_rbtree.specs.Borders.{IsSorted}
 use Rattle.ic_rbtree.specs.SortedValues.{InsertsValue}
 use Rattle.ic_rbtree.proofs.KeyLaws.{filter_front}
-use Rattle.ic_rbtree.proofs.SortedKeys.{first_is_least, sorted_filter}
+use Rattle.ic_rbtree.proofs.SortedKeys.{sorted_filter}
 use Rattle.scheduler.specs.declared.task.Task.{Task}
 use Rattle.scheduler.specs.Kept.{deadline_of}
-use Rattle.scheduler.specs.Schedule.{deadlines, has_deadline, is_due, IsByDeadline}
+use Rattle.scheduler.specs.Schedule.{has_deadline, IsByDeadline}
 
 module _ {X : Type 0} (test : X → Bool) where
   -- two tests, in either order
@@ -62,11 +60,3 @@ module _ {V : Type 0} where
     rises = sorted_filter deadline_of test tasks stands.rises;
     alike = λ d. filter_swap (has_deadline d) test tasks ∙ ap (filter test) (stands.alike d) ∙ filter_swap test (has_deadline d) w;
   }
-
-  -- NONE IS DUE where the first is not
-  none_later : (now d : ℕ) (s : List (Task V)) → now < d → AllByRecursion (λ x. d ≤ deadline_of x) s → AllByRecursion (λ x. is_due now x ≡ false) s
-  none_later now d [] early least = tt
-  none_later now d (x ∷ s) early least = (lt-leb x.deadline now (omega (arith, least.0, early)), none_later now d s early least.1)
-
-  pub none_due : (now : ℕ) (task : Task V) (s : List (Task V)) → IsSorted nat_cmp (deadlines (task ∷ s)) → is_due now task ≡ false → AllByRecursion (λ x. is_due now x ≡ false) (task ∷ s)
-  none_due now task s rises not = (not, none_later now task.deadline s (leb-false task.deadline now not) (first_is_least deadline_of task s rises))

@@ -1,5 +1,5 @@
 -- What a scheduler keeps over each of its calls, and what that says of its schedule.
-use Rattle.std.proofs.Common.{◌≡◌, ◌≢◌, ℕ, ◌≤◌, ◌<◌, ◌^◌, true, false, leb, Option, Some, None, is_some, List, [], ◌∷◌, ◌++◌, length, map, drop, filter, inl, inr, refl, sym, ap, ◌∙◌, subst, arith, append-nil, slice_index_or, true≢false}
+use Rattle.std.proofs.Common.{◌≡◌, ◌≢◌, ℕ, ◌≤◌, ◌<◌, ◌^◌, true, false, leb, Option, Some, None, is_some, Result, OnOk, OnErr, List, [], ◌∷◌, ◌++◌, length, map, drop, filter, inl, inr, refl, sym, ap, ◌∙◌, subst, arith, append-nil, slice_index_or, true≢false}
 use Rattle.std.proofs.Math.ListN.{get_or-map}
 use Rattle.std.proofs.lemmas.Bool.{le-leb, lt-leb}
 use Rattle.std.proofs.lemmas.Bool.Decides.{eqb_tells}
@@ -12,30 +12,35 @@ use Rattle.ic_unsafe_ref.proofs.Placing.{others_placed, gone_there, others_left}
 use Rattle.ic_link_ops.specs.Chains.{Ends, no_members}
 use Rattle.ic_link_ops.specs.DoublyEntries as lists
 use Rattle.ic_link_ops.specs.NumberedCollections.{with_at}
-use Rattle.ic_link_ops.specs.PlacedObjects.{ShowsPlaced, values_at}
+use Rattle.ic_link_ops.specs.PlacedObjects.{values_at}
 use Rattle.ic_link_ops.specs.Sequences.{at_front, first}
 use Rattle.ic_link_ops.specs.Edits.{Removes}
-use Rattle.ic_link_ops.specs.Tables.{IsCovered, IsUnlinked, KeepsBeside, LinksAlso, Unlinks}
+use Rattle.ic_link_ops.specs.Tables.{IsCovered, IsLinked, IsUnlinked, KeepsBeside, LinksAlso, Unlinks}
+use Rattle.ic_link_ops.proofs.Calling.{accepted}
 use Rattle.ic_link_ops.proofs.CollectionLaws.{new_shows_nothing}
 use Rattle.ic_link_ops.proofs.Covering.{still_covered}
 use Rattle.ic_link_ops.proofs.DoublyLists as doubly
 use Rattle.ic_link_ops.proofs.LinkedSets.{everywhere, not_linked}
 use Rattle.ic_link_ops.proofs.NumberedCollections.{at_number, at_others, numbered_none, numbered_covered, numbered_beside, numbered_pushed, numbered_first, numbered_own, numbered_taken}
-use Rattle.ic_link_ops.proofs.PlacedValues.{few_values, stand_begins}
+use Rattle.ic_link_ops.proofs.PlacedValues.{few_values}
 use Rattle.ic_link_ops.proofs.SequenceLemmas.{nothing_first}
 use Rattle.ic_link_ops.proofs.TwoFields.{once_covered, once_placed, once_moved, once_taken, unlinked_first, unlinked_vacant}
 use Rattle.ic_rbtree.specs.Borders.{IsSorted, if_passes}
-use Rattle.ic_rbtree.specs.Comparing.{compared, own_order}
 use Rattle.ic_rbtree.specs.Ordered.{InsertsInOrder}
 use Rattle.ic_rbtree.specs.PlainTrees as trees
-use Rattle.ic_rbtree.proofs.Passing.{passed, not_passed}
+use Rattle.ic_rbtree.specs.SortedObjects.{against, key_at, ShowsSorted}
+use Rattle.ic_rbtree.specs.SortedValues.{HasSorted}
+use Rattle.ic_rbtree.proofs.KeyLaws.{all_map}
+use Rattle.ic_rbtree.proofs.Passing.{passed}
 use Rattle.ic_rbtree.proofs.PlainTrees.{plain_covered, plain_members, plain_trees}
 use Rattle.ic_rbtree.proofs.SortedValues.{has_none, has_covered, has_beside, has_inserted, has_first, has_first_taken}
 use Rattle.scheduler.specs.declared.task.Task.{Task}
-use Rattle.scheduler.specs.Kept.{deadline_of, is_due_then, is_due_at, list_at, schedule_of, HasRoom, IsKept}
+use Rattle.timer_queue.specs.Timers as timers
+use Rattle.timer_queue.proofs.KeptValues.{in_order, values_wait}
+use Rattle.scheduler.specs.Kept.{deadline_of, list_at, schedule_of, HasRoom, IsKept}
 use Rattle.scheduler.specs.Refusals.{refusal_number}
-use Rattle.scheduler.specs.Schedule.{queue_at, deadlines, IsByDeadline, is_due, is_for, task_of, IsEmpty, IsUnchanged, Adds, TakesFront, MovesFirst}
-use Rattle.scheduler.proofs.ByDeadline.{by_deadline_with, none_due}
+use Rattle.scheduler.specs.Schedule.{queue_at, IsByDeadline, is_due, is_for, task_of, IsEmpty, IsUnchanged, Adds, TakesFront, MovesFirst}
+use Rattle.scheduler.proofs.ByDeadline.{by_deadline_with}
 
 -- where there is no place left, and where a refusal is for want of memory
 pub is_full : (next : ℕ) → 2 ^ 32 ≤ next → refusal_number true ≡ refusal_number (leb (2 ^ 32) next)
@@ -43,6 +48,12 @@ is_full next large = ap refusal_number (sym (le-leb (2 ^ 32) next large))
 
 pub for_memory : (next : ℕ) → next < 2 ^ 32 → refusal_number false ≡ refusal_number (leb (2 ^ 32) next)
 for_memory next small = ap refusal_number (sym (lt-leb (2 ^ 32) next small))
+
+-- TASKS IN ORDER are as a call of the tree asks
+sorted_values : {V A : Type 0} {objects : Objects (Task V)} (w : trees.TreeLinkOps A) {root : Option Place} {tasks : List (Task V)}
+    → HasSorted nat_cmp deadline_of trees.ShowsTree trees.is_linked (trees.plain_table w) root objects tasks → ShowsSorted deadline_of (trees.PlainShows w root) objects
+sorted_values {objects = objects} w has =
+    in_order deadline_of objects has.members has.shown has.stand.placed (subst (λ (l : List (Task _)). IsSorted nat_cmp (map deadline_of l)) (sym has.stand.are) has.sorted)
 
 module _ {V A B : Type 0} where
   module _ {objects : Objects (Task V)} {w : trees.TreeLinkOps A} {root : Option Place} {q : lists.DoublyLinkOps B} {ends : List Ends} (k : IsKept objects w root q ends) where
@@ -78,17 +89,18 @@ module _ {V A B : Type 0} where
     queue_empty i none = queue_is k i ∙ sym (k.numbered.each i).stand.are ∙ ap (values_at objects) (nothing_first (k.numbered.members i) none)
 
     -- the first of the tree, where it is due
-    pub first_due : (now : ℕ) {p : Place} → ((s : List Place) → trees.PlainShows w root s → Some p ≡ if_passes (is_due_at objects now) (first s)) → (Some p ≡ first k.sorted.members) × (is_due_at objects now p ≡ true)
-    first_due now {p} due = passed (is_due_at objects now) (first k.sorted.members) p (due k.sorted.members k.sorted.shown)
+    pub first_due : (now : ℕ) {p : Place} → ((s : List Place) → trees.PlainShows w root s → Some p ≡ if_passes (timers.is_due deadline_of objects now) (first s)) → (Some p ≡ first k.sorted.members) × (timers.is_due deadline_of objects now p ≡ true)
+    first_due now {p} due = passed (timers.is_due deadline_of objects now) (first k.sorted.members) p (due k.sorted.members k.sorted.shown)
 
     -- where it is not, none is
-    pub nothing_due : (now : ℕ) → None ≡ if_passes (is_due_at objects now) (first k.sorted.members) → AllByRecursion (λ (x : Task V). is_due now x ≡ false) (schedule_of objects w root q ends).waiting
-    nothing_due now none = subst (AllByRecursion (λ (x : Task V). is_due now x ≡ false)) (sym (waiting_is k)) (elim (stand_begins k.sorted.members k.sorted.stand) [
-      | inl empty ↦ rw empty tt
-      | inr at ↦
-          let not = ap (is_due_then now) (sym at.there) ∙ not_passed (is_due_at objects now) at.place (none ∙ ap (if_passes (is_due_at objects now)) (sym at.first)) in
-          subst (AllByRecursion (λ (x : Task V). is_due now x ≡ false)) (sym at.begin) (none_due now at.value (drop 1 k.waiting) (subst (λ (l : List (Task V)). IsSorted nat_cmp (deadlines l)) at.begin k.sorted.sorted) not)
-    ])
+    pub nothing_due : (now : ℕ) → AllByRecursion (λ p. now < key_at deadline_of objects p) k.sorted.members → AllByRecursion (λ (x : Task V). is_due now x ≡ false) (schedule_of objects w root q ends).waiting
+    nothing_due now wait =
+        subst (AllByRecursion (λ (x : Task V). is_due now x ≡ false)) (k.sorted.stand.are ∙ sym (waiting_is k))
+        (all_map (λ (x : Task V) later. lt-leb x.deadline now later) _ (values_wait deadline_of objects now k.sorted.members wait))
+
+    -- the tree is in order, as its calls ask
+    pub sorted : ShowsSorted deadline_of (trees.PlainShows w root) objects
+    sorted = sorted_values w k.sorted
 
   -- AT FIRST
   module _ (objects : Objects (Task V)) (w : trees.TreeLinkOps A) (root : Option Place) (q : lists.DoublyLinkOps B) (ends : List Ends) (vacant : (p : Place) → object_at objects p ≡ None) (next : objects.next ≡ 0)
@@ -139,13 +151,19 @@ module _ {V A B : Type 0} where
         pub new_unlinked : IsUnlinked trees.is_linked (trees.plain_table v) p
         new_unlinked = (unlinked_vacant kept_covered.once p places.vacant).0
 
-        pub ready : ShowsPlaced (trees.PlainShows v root) new
-        ready = let h = has_beside plain_trees nat_cmp_total kept_covered.sorted {new = new} new_unlinked (others_placed places) in record { members = h.members; shown = h.shown; placed = h.stand.placed }
+        pub ready : ShowsSorted deadline_of (trees.PlainShows v root) new
+        ready = sorted_values v (has_beside plain_trees nat_cmp_total kept_covered.sorted {new = new} new_unlinked (others_placed places))
 
-        -- THE TASK WAITS, once it is inserted in order
-        module _ (u : trees.TreeLinkOps A) (top : Option Place) (room : HasRoom r p)
-            (put : (s : List Place) → trees.PlainShows v root s → InsertsInOrder trees.ShowsTree (compared (own_order nat_cmp deadline_of new p) new) (trees.plain_table v) (trees.plain_table u) top s p)
-            (also : LinksAlso trees.is_linked (trees.plain_table v) (trees.plain_table u) p) where
+        -- THE TASK WAITS, once it is scheduled
+        module _ (u : trees.TreeLinkOps A) (top : Option Place) (room : HasRoom r p) {X : Type 0} (answer : Result Unit X)
+            (scheduled : (s : List Place) → trees.PlainShows v root s → OnOk answer (InsertsInOrder trees.ShowsTree (against deadline_of new p) (trees.plain_table v) (trees.plain_table u) top s p))
+            (acquired : OnOk answer (LinksAlso trees.is_linked (trees.plain_table v) (trees.plain_table u) p)) (refused : OnErr answer (IsLinked trees.is_linked (trees.plain_table v) p × (u ≡ v))) where
+          put : (s : List Place) → trees.PlainShows v root s → InsertsInOrder trees.ShowsTree (against deadline_of new p) (trees.plain_table v) (trees.plain_table u) top s p
+          put s shown = accepted _ answer new_unlinked refused (scheduled s shown)
+
+          also : LinksAlso trees.is_linked (trees.plain_table v) (trees.plain_table u) p
+          also = accepted _ answer new_unlinked refused acquired
+
           pub kept_added : IsKept new u top r ends
           unfolding kept_covered
           kept_added = let x = has_inserted plain_trees nat_cmp_total kept_covered.sorted places put also in record {

@@ -1,9 +1,9 @@
 -- What a scheduler keeps of its objects, its two tables, its tree and its lists.
-use Rattle.std.specs.Prelude.{◌≡◌, ℕ, ◌^◌, ◌<◌, Bool, true, false, leb, Option, Some, None, List, map, slice_index_or}
+use Rattle.std.specs.Prelude.{◌≡◌, ℕ, ◌^◌, ◌<◌, true, leb, Option, List, map, slice_index_or}
 use Rattle.std.specs.Ordering.{nat_cmp}
 use Rattle.ic_unsafe_ref.specs.declared.place.Place.{Place}
 use Rattle.ic_unsafe_ref.specs.Places.{index_of}
-use Rattle.ic_unsafe_ref.specs.Objects.{Objects, object_at, is_placed}
+use Rattle.ic_unsafe_ref.specs.Objects.{Objects, is_placed}
 use Rattle.ic_link_ops.specs.Chains.{Ends, no_members}
 use Rattle.ic_link_ops.specs.DoublyEntries as lists
 use Rattle.ic_link_ops.specs.NumberedCollections.{HasNumbered}
@@ -13,7 +13,7 @@ use Rattle.ic_link_ops.specs.TwoFields.{IsLinkedOnce}
 use Rattle.ic_rbtree.specs.PlainTrees as trees
 use Rattle.ic_rbtree.specs.SortedValues.{HasSorted}
 use Rattle.scheduler.specs.declared.task.Task.{Task}
-use Rattle.scheduler.specs.Schedule.{Schedule, is_due}
+use Rattle.scheduler.specs.Schedule.{Schedule}
 
 -- the list of the queue of that number
 abbrev pub list_at : List Ends → ℕ → Ends
@@ -26,15 +26,6 @@ module _ {V : Type 0} where
 
   abbrev pub queue_of : Task V → ℕ
   queue_of task = task.queue
-
-  -- whether there is a task, and it is due
-  abbrev pub is_due_then : ℕ → Option (Task V) → Bool
-  is_due_then now None = false
-  is_due_then now (Some task) = is_due now task
-
-  -- the same of the task at a place
-  abbrev pub is_due_at : Objects (Task V) → ℕ → Place → Bool
-  is_due_at objects now p = is_due_then now (object_at objects p)
 
 -- a place that has room in the lists' table, and is one of those that are given
 abbrev pub HasRoom : {B : Type 0} → lists.DoublyLinkOps B → Place → Type 0

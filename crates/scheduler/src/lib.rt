@@ -12,7 +12,6 @@
 #![tactic(auto)]
 
 mod add_error;
-mod deadlines;
 mod queue;
 mod queues;
 mod scheduler;

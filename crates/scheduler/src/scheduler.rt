@@ -4,15 +4,15 @@ ghost use Rattle.std.specs.Prelude.{◌≡◌, ◌≤◌, [], length, true, fals
 ghost use Rattle.std.specs.Bool.{OnTrue, OnFalse};
 ghost use Rattle.std.specs.List.{AllByRecursion};
 
-use crate::deadlines::{take_due, wait};
 use crate::queues::{Queues, dequeue, enqueue, no_queues};
-use crate::task::{ByDeadline, Task};
+use crate::task::Task;
 use crate::{AddError, Queue};
 use ic_link_ops::{linked_list, rbtree};
 use ic_rbtree::RBTree;
 use ic_unsafe_ref::{Objects, UnsafeRef};
 use std::alloc::{Allocator, Global};
 use std::marker::Model;
+use timer_queue::{ByDeadline, schedule, take_due};
 
 /// Tasks that wait for their deadlines, and eight queues of those that were due.
 ///
@@ -22,7 +22,7 @@ use std::marker::Model;
 pub struct Scheduler<V, A: Allocator = Global> {
     objects: Objects<Task<V>, A>,
     deadline_links: rbtree::LinkOps<A>,
-    deadlines: RBTree<ByDeadline<V>>,
+    deadlines: RBTree<ByDeadline<Task<V>>>,
     queue_links: linked_list::LinkOps<A>,
     queues: Queues<V>,
 }
@@ -86,12 +86,12 @@ impl<V, A: Allocator> Scheduler<V, A> {
         };
         match UnsafeRef::from_box(&mut self.objects, task) {
             Ok(object) => {
-                wait(
+                let _ = schedule(
                     &mut self.deadlines,
                     &mut self.deadline_links,
                     &self.objects,
                     object,
-                );
+                ); // proved: it is not linked
                 Ok(())
             }
             Err(refused) => Err(AddError::OutOfMemory(refused.1.value)),

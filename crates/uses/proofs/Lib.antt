@@ -1,5 +1,4 @@
 pub mod Adding
-pub mod AllDue
 pub mod CutShown
 pub mod Dealing
 pub mod Draining
@@ -11,4 +10,3 @@ pub mod RaceLemmas
 pub mod Retaining
 pub mod Rounds
 pub mod SharedJobs
-pub mod TakingDue

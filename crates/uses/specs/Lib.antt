@@ -12,4 +12,3 @@ pub mod Retain
 pub mod Ring
 pub mod Sessions
 pub mod SharedJobs
-pub mod Timers

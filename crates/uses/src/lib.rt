@@ -21,4 +21,3 @@ pub mod ring;
 pub mod sessions;
 pub mod shared_jobs;
 pub mod shared_pool;
-pub mod timer_queue;

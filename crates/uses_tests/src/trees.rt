@@ -4,7 +4,6 @@ ghost use Rattle.ic_rbtree.specs.PlainTrees.{PlainShows};
 ghost use Rattle.ic_rbtree.specs.Tree.{root_of};
 ghost use Rattle.ic_rbtree.specs.SortedObjects.{ShowsSorted};
 ghost use Rattle.uses.specs.Regions.{start};
-ghost use Rattle.uses.specs.Timers.{deadline};
 
 use crate::fixtures::{NONE, UNLINKED, check, covering, index_of_object, object, placed};
 use ic_link_ops::rbtree::LinkOps;
@@ -12,31 +11,29 @@ use ic_rbtree::RBTree;
 use ic_test_support::rationed::Rationed;
 use ic_unsafe_ref::Objects;
 use std::process::Abort;
+use timer_queue::{ByDeadline, HasDeadline, cancel, schedule, take_all_due, take_due};
 use uses::region_map::{ByStart, Region, add, region_at, remove_region};
-use uses::timer_queue::{ByDeadline, Timer, cancel, schedule, take_all_due, take_due};
 
-// Timers of no task.
+// What waits for its deadline.
+#[derive(Copy, Clone, Debug)]
+struct Timer {
+    deadline: u64,
+}
+
+impl HasDeadline for Timer {
+    ghost deadline = { λ timer. timer.deadline };
+
+    fn deadline(&self) -> &u64 {
+        &self.deadline
+    }
+}
+
 const TIMERS: [Timer; 5] = [
-    Timer {
-        deadline: 30,
-        task: 0,
-    },
-    Timer {
-        deadline: 10,
-        task: 0,
-    },
-    Timer {
-        deadline: 20,
-        task: 0,
-    },
-    Timer {
-        deadline: 10,
-        task: 0,
-    },
-    Timer {
-        deadline: 20,
-        task: 0,
-    },
+    Timer { deadline: 30 },
+    Timer { deadline: 10 },
+    Timer { deadline: 20 },
+    Timer { deadline: 10 },
+    Timer { deadline: 20 },
 ];
 
 // 10 to 19, 20 to 24, and 40 and 41; the last one has no length.
@@ -63,7 +60,7 @@ const REGIONS: [Region; 4] = [
 fn the_earliest_timer_is_taken_first(rt: HostRuntime) {
     let objects = placed(&rt, rt.alloc(), &TIMERS);
     let mut links: LinkOps = covering(&rt, rt.alloc());
-    let mut timers = RBTree::new(ByDeadline);
+    let mut timers = RBTree::new(ByDeadline::new());
     // they stand as 1, 3, 4, 2, 0: of the two at 20 the last place is scheduled first
     for index in [4, 1, 0, 3, 2] {
         let timer = object(&rt, &links, &objects, index);

@@ -5,11 +5,11 @@ use Rattle.ic_link_ops.proofs.Calling.{has_member}
 use Rattle.ic_rbtree.specs.PlainTrees.{PlainShows}
 use Rattle.ic_rbtree.specs.Tree.{root_of}
 use Rattle.ic_rbtree.proofs.SortedKeys.{new_is_sorted}
-use Rattle.uses.specs.Timers.{deadline}
+use Rattle.uses_tests.specs.declared.trees.Timer.{Timer}
 use Rattle.uses_tests.proofs.trees.the_earliest_timer_is_taken_first.Goals as goal
 
 pub loop-index-init : goal.loop-index-init
-loop-index-init g c = record { queue = new_is_sorted deadline _ c.new-timers.ensures.empty }
+loop-index-init g c = record { queue = new_is_sorted (λ (timer : Timer). timer.deadline) _ c.new-timers.ensures.empty }
 
 pub cancel-requires : goal.cancel-requires
 cancel-requires g c =

@@ -1,7 +1,7 @@
 use Rattle.std.proofs.Common.{is_some, ap}
 use Rattle.ic_unsafe_ref.proofs.Placing.{placed_there}
 use Rattle.ic_pool.proofs.Pooling.{lacks_exactly}
-use Rattle.pool_uses.proofs.KeepingTimers.{added, new_free, ready, same_grown, waiting_is}
+use Rattle.pool_uses.proofs.KeepingTimers.{added, ready, same_grown, waiting_is}
 use Rattle.pool_uses.proofs.timers.Timers.add.Goals as goal
 
 -- there is no place left, or no memory
@@ -20,23 +20,20 @@ returns-in-Err-OutOfMemory-clause-refused g c =
     rw (← c.self.view_is, back.1) (ap (λ timer. timer.value) back.0, same_grown c.self.invariant c.place.new.self.links e.keeps, lacks_exactly _ _ full back.0)
 
 -- it is placed
-pub put-requires-clause-placed : goal.put-requires-clause-placed
-put-requires-clause-placed g c = let e = c.in-Ok.ensures in ready c.self.invariant c.place.new.self.links e.keeps e.placed
+pub schedule-requires-clause-object : goal.schedule-requires-clause-object
+schedule-requires-clause-object g c = rw (c.new-object.ensures, c.place-2.ensures) (ap is_some (placed_there c.in-Ok.ensures.placed))
 
-pub put-requires-clause-timer : goal.put-requires-clause-timer
-put-requires-clause-timer g c = rw (c.new-object.ensures, c.place-2.ensures) (ap is_some (placed_there c.in-Ok.ensures.placed))
-
-pub put-requires-clause-unlinked : goal.put-requires-clause-unlinked
-put-requires-clause-unlinked g c =
-    let e = c.in-Ok.ensures in rw (c.new-object.ensures, c.place-2.ensures) (new_free c.self.invariant c.place.new.self.links e.keeps e.placed)
+pub schedule-requires-clause-queue : goal.schedule-requires-clause-queue
+schedule-requires-clause-queue g c = let e = c.in-Ok.ensures in ready c.self.invariant c.place.new.self.links e.keeps e.placed
 
 pub invariant_of-self-2 : goal.invariant_of-self-2
 invariant_of-self-2 g c =
     let e = c.in-Ok.ensures in
-    let put = rw (c.new-object.ensures, c.place-2.ensures) at c.put.ensures in (added c.self.invariant c.place.new.self.links e.keeps e.placed c.put.new.links put.put put.linked).0
+    let put = rw (c.new-object.ensures, c.place-2.ensures) at c.schedule.ensures in
+    (added c.self.invariant c.place.new.self.links e.keeps e.placed c.schedule.new.links c.schedule.result put.scheduled put.acquired put.refused c.schedule.ensures.queue).0
 
 pub returns-clause-added : goal.returns-clause-added
 returns-clause-added g c =
     let e = c.in-Ok.ensures in
-    let put = rw (c.new-object.ensures, c.place-2.ensures) at c.put.ensures in
-    rw (← c.self.view_is, waiting_is c.self.invariant) (added c.self.invariant c.place.new.self.links e.keeps e.placed c.put.new.links put.put put.linked).1
+    let put = rw (c.new-object.ensures, c.place-2.ensures) at c.schedule.ensures in
+    rw (← c.self.view_is, waiting_is c.self.invariant) (added c.self.invariant c.place.new.self.links e.keeps e.placed c.schedule.new.links c.schedule.result put.scheduled put.acquired put.refused c.schedule.ensures.queue).1

@@ -1,5 +1,6 @@
 use Rattle.std.proofs.Common.{ap, append-nil, arith, length, refl}
-use Rattle.pool_uses.proofs.TakingAll.{comes_back, on_err, takes_none, takes_one}
+use Rattle.timer_queue.proofs.Outcomes.{on_err, room_refused}
+use Rattle.pool_uses.proofs.TakingAll.{takes_none, takes_one}
 use Rattle.pool_uses.proofs.timers.Timers.take_all_due.Goals as goal
 
 pub loop-timer-init : goal.loop-timer-init
@@ -15,7 +16,7 @@ loop-timer-preserved g c =
 
 pub returns-in_err-push-clause-taken : goal.returns-in_err-push-clause-taken
 returns-in_err-push-clause-taken g c =
-    let back = comes_back c.from_residual.result c.from_residual.ensures.1 c.in_err-push.ensures.value_returned in
+    let back = room_refused c.from_residual.result c.from_residual.ensures.1 c.in_err-push.ensures.value_returned in
     takes_one c.loop-timer.invariant.takes c.in-Some.ensures.taken (rw (back, c.in_err-push.ensures.items) refl)
 
 pub returns-in_err-push-clause-full : goal.returns-in_err-push-clause-full

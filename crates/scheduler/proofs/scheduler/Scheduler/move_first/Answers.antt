@@ -3,13 +3,17 @@ use Rattle.std.specs.Option.{option_copied}
 use Rattle.ic_unsafe_ref.specs.Objects.{object_at}
 use Rattle.ic_link_ops.proofs.PlacedValues.{placed_first}
 use Rattle.ic_link_ops.proofs.TwoFields.{unlinked_second}
-use Rattle.scheduler.specs.Kept.{is_due_then}
-use Rattle.scheduler.proofs.Keeping.{few_wait, same_kept, nothing_due, first_due, kept_moved, moves}
+use Rattle.timer_queue.specs.Timers.{due}
+use Rattle.scheduler.specs.Kept.{deadline_of}
+use Rattle.scheduler.proofs.Keeping.{few_wait, same_kept, nothing_due, first_due, kept_moved, moves, sorted}
 use Rattle.scheduler.proofs.scheduler.Scheduler.move_first.Goals as goal
 
 some_lent : {T : Type 0} (o : Option (Bor T)) → IsSome (option_copied o) → IsSome o
 some_lent None some = some
 some_lent (Some lent) some = refl
+
+pub take_due-requires : goal.take_due-requires
+take_due-requires g c = record { queue = sorted c.self.invariant }
 
 pub returns-in_default-clause-few : goal.returns-in_default-clause-few
 returns-in_default-clause-few g c = rw (← c.self.view_is) (few_wait c.self.invariant)
@@ -18,7 +22,7 @@ pub returns-in_default-clause-none_due : goal.returns-in_default-clause-none_due
 returns-in_default-clause-none_due g c =
     let k = c.self.invariant in
     let e = c.in_default.ensures in
-    rw (← c.self.view_is, e.unchanged.0, e.unchanged.1) (same_kept k, nothing_due k c.args.now (e.due k.sorted.members k.sorted.shown))
+    rw (← c.self.view_is, e.unchanged.0, e.unchanged.1) (same_kept k, nothing_due k c.args.now (e.none_due k.sorted.members k.sorted.shown))
 
 pub unwrap-requires : goal.unwrap-requires
 unwrap-requires g c =
@@ -52,4 +56,4 @@ returns-clause-moved g c =
     let there = ap (object_at c.self.inside.objects) (sym c.place.ensures) ∙ sym c.get.ensures ∙ ap option_copied c.unwrap.ensures in
     let first = first_due k c.args.now e.due in
     rw (← c.self.view_is) (moves k first.0 there c.take_due.new.links _ c.enqueue.new.links c.enqueue.new.queues (e.taken k.sorted.members k.sorted.shown) e.released n.pushed n.others n.linked n.frame
-    c.args.now (ap (is_due_then c.args.now) (sym there) ∙ first.1))
+    c.args.now (ap (due deadline_of c.args.now) (sym there) ∙ first.1))

@@ -1,11 +1,9 @@
-//! A queue of timers: the one with the earliest deadline is taken first, and of equal ones the one that was scheduled first.
+//! The calls of a queue by deadlines.
 //!
 //! ```text
-//! let mut timers = RBTree::new(ByDeadline);
-//! timer_queue::schedule(&mut timers, &mut links, &objects, timer)?;
-//! let due = timer_queue::take_due(&mut timers, &mut links, &objects, now); // that timer, if its deadline is at most `now`
-//! timer_queue::take_all_due(&mut timers, &mut links, &objects, now, &mut expired)?; // and all others that are due
-//! timer_queue::cancel(&mut timers, &mut links, other);
+//! if let Some(timer) = timer_queue::take_due(&mut timers, &mut links, &objects, now) {
+//!     // it is unlinked, and none that waits still was due before it
+//! }
 //! ```
 
 ghost use Rattle.std.specs.Prelude.{◌≡◌, ◌++◌, ◌∷◌, [], ◌≤◌, ◌<◌, true, List, OnOk, OnErr, OnSome, IfErr, IfSome, IfNone, vec_len, vec_capacity};
@@ -22,58 +20,33 @@ ghost use Rattle.ic_link_ops.specs.RedBlackTree.{Shows};
 ghost use Rattle.ic_rbtree.specs.Tree.{root_of};
 ghost use Rattle.ic_rbtree.specs.Borders.{if_passes};
 ghost use Rattle.ic_rbtree.specs.Ordered.{InsertsInOrder};
-ghost use Rattle.ic_rbtree.specs.SortedObjects.{against, ShowsSorted, StaysSorted};
-ghost use Rattle.uses.specs.Timers.{deadline, deadline_at, due, is_due, handed_back, StandsFirst};
+ghost use Rattle.ic_rbtree.specs.SortedObjects.{against, key_at, ShowsSorted, StaysSorted};
+ghost use Rattle.timer_queue.specs.Timers.{due, is_due, handed_back, StandsFirst};
 
+use crate::deadline::{ByDeadline, HasDeadline};
 use ic_link_ops::rbtree::RBTreeOps;
 use ic_link_ops::{AlreadyLinked, LinkOps};
-use ic_rbtree::{KeyAdapter, RBTree};
+use ic_rbtree::RBTree;
 use ic_unsafe_ref::{Objects, UnsafeRef};
 use std::alloc::{AllocFailed, Allocator};
-
-/// What waits for a deadline.
-#[derive(Copy, Clone, PartialEq, Eq, Debug)]
-pub struct Timer {
-    /// The time from which it is due.
-    pub deadline: u64,
-    /// What is to be done then, as the caller numbers it.
-    pub task: u64,
-}
-
-/// Timers stand by their deadlines.
-#[derive(Copy, Clone)]
-pub struct ByDeadline;
-
-impl KeyAdapter for ByDeadline {
-    type Value = Timer;
-
-    type Key = u64;
-
-    ghost key_of = { λ a timer. timer.deadline };
-
-    #[inline]
-    fn get_key<'v>(&self, timer: &'v Timer) -> &'v u64 {
-        &timer.deadline
-    }
-}
 
 /// Puts a timer into the queue, behind all with its deadline or an earlier one, unless its link is refused. O(log n), and it
 /// takes no memory.
 ///
 /// It asks that the timer is placed and its place covered, and that the timers in the queue are placed and stand in the order
 /// of their deadlines, as each call here leaves them. A refused timer comes back, and the queue is as it was.
-pub fn schedule<L: RBTreeOps, B: Allocator>(
-    timers: &mut RBTree<ByDeadline>,
+pub fn schedule<T: HasDeadline, L: RBTreeOps, B: Allocator>(
+    timers: &mut RBTree<ByDeadline<T>>,
     links: &mut L,
-    objects: &Objects<Timer, B>,
-    timer: UnsafeRef<Timer>,
-) -> Result<(), AlreadyLinked<Timer>>
+    objects: &Objects<T, B>,
+    timer: UnsafeRef<T>,
+) -> Result<(), AlreadyLinked<T>>
     requires covered { IsCovered (L.table links.old) timer }
     requires object { is_placed objects.now timer ≡ true }
-    requires queue { ShowsSorted deadline (Shows L.node (L.table links.old) (root_of timers.old)) objects.now }
-    ensures queue { ShowsSorted deadline (Shows L.node (L.table links.new) (root_of timers.new)) objects.now }
+    requires queue { ShowsSorted T.deadline (Shows L.node (L.table links.old) (root_of timers.old)) objects.now }
+    ensures queue { ShowsSorted T.deadline (Shows L.node (L.table links.new) (root_of timers.new)) objects.now }
     ensures scheduled { (s : List Place) → Shows L.node (L.table links.old) (root_of timers.old) s
-        → OnOk result (InsertsInOrder (Shows L.node) (against deadline objects.now timer) (L.table links.old) (L.table links.new)
+        → OnOk result (InsertsInOrder (Shows L.node) (against T.deadline objects.now timer) (L.table links.old) (L.table links.new)
         (root_of timers.new) s timer) }
     ensures acquired { OnOk result (L.Does links.old links.new (acquires timer ∷ [])) }
     ensures refused { OnErr result (L.Refused links.old links.new timer) }
@@ -84,11 +57,11 @@ pub fn schedule<L: RBTreeOps, B: Allocator>(
 
 // Whether there is a timer, and it is due.
 #[inline]
-fn is_due(timer: Option<&Timer>, now: u64) -> bool
-    ensures { result ≡ due now (option_copied timer.entry) }
+fn is_due<T: HasDeadline>(timer: Option<&T>, now: u64) -> bool
+    ensures { result ≡ due T.deadline now (option_copied timer.entry) }
 {
     match timer {
-        Some(timer) => timer.deadline <= now,
+        Some(timer) => *timer.deadline() <= now,
         None => false,
     }
 }
@@ -97,20 +70,20 @@ fn is_due(timer: Option<&Timer>, now: u64) -> bool
 ///
 /// It asks that the timers in the queue are placed and stand in the order of their deadlines. The timer is unlinked then, and
 /// stays placed; none in the queue was due before it. Where the answer is `None` all wait still, and nothing has changed.
-pub fn take_due<L: RBTreeOps, B: Allocator>(
-    timers: &mut RBTree<ByDeadline>,
+pub fn take_due<T: HasDeadline, L: RBTreeOps, B: Allocator>(
+    timers: &mut RBTree<ByDeadline<T>>,
     links: &mut L,
-    objects: &Objects<Timer, B>,
+    objects: &Objects<T, B>,
     now: u64,
-) -> Option<UnsafeRef<Timer>>
-    requires queue { ShowsSorted deadline (Shows L.node (L.table links.old) (root_of timers.old)) objects.now }
-    ensures queue { ShowsSorted deadline (Shows L.node (L.table links.new) (root_of timers.new)) objects.now }
+) -> Option<UnsafeRef<T>>
+    requires queue { ShowsSorted T.deadline (Shows L.node (L.table links.old) (root_of timers.old)) objects.now }
+    ensures queue { ShowsSorted T.deadline (Shows L.node (L.table links.new) (root_of timers.new)) objects.now }
     ensures due { (s : List Place) → Shows L.node (L.table links.old) (root_of timers.old) s
-        → result ≡ if_passes (is_due objects.now now) (first s) }
+        → result ≡ if_passes (is_due T.deadline objects.now now) (first s) }
     ensures earliest { (s : List Place) → Shows L.node (L.table links.old) (root_of timers.old) s
-        → IfSome result (λ timer. AllByRecursion (λ p. deadline_at objects.now timer ≤ deadline_at objects.now p) s) }
+        → IfSome result (λ timer. AllByRecursion (λ p. key_at T.deadline objects.now timer ≤ key_at T.deadline objects.now p) s) }
     ensures none_due { (s : List Place) → Shows L.node (L.table links.old) (root_of timers.old) s
-        → IfNone result (AllByRecursion (λ p. now < deadline_at objects.now p) s) }
+        → IfNone result (AllByRecursion (λ p. now < key_at T.deadline objects.now p) s) }
     ensures taken { (s : List Place) → Shows L.node (L.table links.old) (root_of timers.old) s
         → OnSome result (Removes (Shows L.node) (L.table links.old) (L.table links.new) (root_of timers.new) (at_front s)) }
     ensures released { IfSome result (λ timer. L.Does links.old links.new (releases timer ∷ [])) }
@@ -128,20 +101,20 @@ pub fn take_due<L: RBTreeOps, B: Allocator>(
 /// It asks that the timers in the queue are placed and stand in the order of their deadlines. What was taken is unlinked then,
 /// and stays placed. It takes memory for `due` alone, and none where that has room. Where it has none left and can't grow, the
 /// timer that it had no room for comes back, unlinked as those in `due`, and the others wait still.
-pub fn take_all_due<L: RBTreeOps, B: Allocator, C: Allocator>(
-    timers: &mut RBTree<ByDeadline>,
+pub fn take_all_due<T: HasDeadline, L: RBTreeOps, B: Allocator, C: Allocator>(
+    timers: &mut RBTree<ByDeadline<T>>,
     links: &mut L,
-    objects: &Objects<Timer, B>,
+    objects: &Objects<T, B>,
     now: u64,
-    due: &mut Vec<UnsafeRef<Timer>, C>,
-) -> Result<(), AllocFailed<UnsafeRef<Timer>>>
-    requires queue { ShowsSorted deadline (Shows L.node (L.table links.old) (root_of timers.old)) objects.now }
-    ensures queue { ShowsSorted deadline (Shows L.node (L.table links.new) (root_of timers.new)) objects.now }
+    due: &mut Vec<UnsafeRef<T>, C>,
+) -> Result<(), AllocFailed<UnsafeRef<T>>>
+    requires queue { ShowsSorted T.deadline (Shows L.node (L.table links.old) (root_of timers.old)) objects.now }
+    ensures queue { ShowsSorted T.deadline (Shows L.node (L.table links.new) (root_of timers.new)) objects.now }
     ensures taken { (s : List Place) → Shows L.node (L.table links.old) (root_of timers.old) s → (taken rest : List Place)
-        × StandsFirst objects.now now taken rest s × (due.new.items ++ handed_back result ≡ due.old.items ++ taken)
+        × StandsFirst T.deadline objects.now now taken rest s × (due.new.items ++ handed_back result ≡ due.old.items ++ taken)
         × Shows L.node (L.table links.new) (root_of timers.new) rest × L.Does links.old links.new (releases_each taken) }
     ensures none_due { (s : List Place) → Shows L.node (L.table links.new) (root_of timers.new) s
-        → OnOk result (AllByRecursion (λ p. now < deadline_at objects.now p) s) }
+        → OnOk result (AllByRecursion (λ p. now < key_at T.deadline objects.now p) s) }
     ensures full { OnErr result (vec_capacity due.old ≤ vec_len due.new) }
     ensures frame { (s : List Place) → Shows L.node (L.table links.old) (root_of timers.old) s
         → KeepsBeside (L.table links.old) (L.table links.new) s }
@@ -155,9 +128,13 @@ pub fn take_all_due<L: RBTreeOps, B: Allocator, C: Allocator>(
 /// Takes a timer off before it is due: all others stay, in their order. O(log n), and it takes no memory.
 ///
 /// It asks that the timer is in the queue, and is never refused. The timer is unlinked then, and stays placed.
-pub fn cancel<L: RBTreeOps>(timers: &mut RBTree<ByDeadline>, links: &mut L, timer: UnsafeRef<Timer>)
+pub fn cancel<T: HasDeadline, L: RBTreeOps>(
+    timers: &mut RBTree<ByDeadline<T>>,
+    links: &mut L,
+    timer: UnsafeRef<T>,
+)
     requires member { HasMember (Shows L.node (L.table links.old) (root_of timers.old)) timer }
-    ensures queue { StaysSorted deadline (Shows L.node (L.table links.old) (root_of timers.old))
+    ensures queue { StaysSorted T.deadline (Shows L.node (L.table links.old) (root_of timers.old))
         (Shows L.node (L.table links.new) (root_of timers.new)) }
     ensures cancelled { (front back : List Place)
         → Shows L.node (L.table links.old) (root_of timers.old) (front ++ timer ∷ back)

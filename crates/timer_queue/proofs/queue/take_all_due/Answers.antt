@@ -1,10 +1,10 @@
 use Rattle.std.proofs.Common.{◌∙◌, refl, sym, ap, arith, List, ◌++◌, append-nil, subst}
 use Rattle.ic_unsafe_ref.specs.declared.place.Place.{Place}
 use Rattle.ic_link_ops.proofs.ShownTrees.{one_sequence}
-use Rattle.uses.specs.Timers.{handed_back, StandsFirst}
-use Rattle.uses.proofs.Outcomes.{on_err, room_refused}
-use Rattle.uses.proofs.AllDue.{takes_none, takes_one, fewer}
-use Rattle.uses.proofs.timer_queue.take_all_due.Goals as goal
+use Rattle.timer_queue.specs.Timers.{handed_back, StandsFirst}
+use Rattle.timer_queue.proofs.Outcomes.{on_err, room_refused}
+use Rattle.timer_queue.proofs.AllDue.{takes_none, takes_one, fewer}
+use Rattle.timer_queue.proofs.queue.take_all_due.Goals as goal
 
 pub loop-timer-init : goal.loop-timer-init
 loop-timer-init g c =
@@ -40,7 +40,7 @@ returns-in_err-push-clause-taken g c s shown =
     let t = takes_one k (e.due k.rest k.shown) g.met.L.LinkOps.does_on refl (e.taken k.rest k.shown) e.released in
     let back = room_refused c.from_residual.result c.from_residual.ensures.1 c.in_err-push.ensures.value_returned in
     let held = ap (λ (x : List Place). x ++ handed_back c.from_residual.result) c.in_err-push.ensures.items ∙ ap (λ (x : List Place). c.loop-timer.due.items ++ x) back ∙ t.held_is in
-    let stood = subst (StandsFirst c.args.objects.now c.args.now t.taken t.rest) (one_sequence i.shown.1 shown) t.stood in
+    let stood = subst (StandsFirst g.T.HasDeadline.deadline c.args.objects.now c.args.now t.taken t.rest) (one_sequence i.shown.1 shown) t.stood in
     (t.taken, t.rest, stood, held, t.shown, t.steps)
 
 pub returns-in_err-push-clause-full : goal.returns-in_err-push-clause-full
@@ -60,7 +60,7 @@ returns-clause-taken g c s shown =
     let k = i.takes in
     let e = c.in_default.ensures.unchanged in
     let held = append-nil c.loop-timer.due.items ∙ k.held_is in
-    let stood = subst (StandsFirst c.args.objects.now c.args.now k.taken k.rest) (one_sequence i.shown.1 shown) k.stood in
+    let stood = subst (StandsFirst g.T.HasDeadline.deadline c.args.objects.now c.args.now k.taken k.rest) (one_sequence i.shown.1 shown) k.stood in
     let left = rw (← e.0, ← e.1) at k.shown in
     let steps = rw (← e.1) at k.steps in
     (k.taken, k.rest, stood, held, left, steps)

@@ -10,43 +10,42 @@ use Rattle.ic_link_ops.specs.Sequences.{first}
 use Rattle.ic_link_ops.proofs.SequenceLemmas.{none_not, some_same}
 use Rattle.ic_rbtree.specs.Borders.{IsSorted}
 use Rattle.ic_rbtree.specs.SortedObjects.{key_at, key_or, keys_at}
-use Rattle.uses.specs.Timers.{deadline, deadline_at, due}
-use Rattle.uses.specs.declared.timer_queue.Timer.{Timer}
+use Rattle.timer_queue.specs.Timers.{due}
 use Rattle.ic_rbtree.proofs.SortedKeys.{first_is_least}
 
-module _ (objects : Objects Timer) where
+module _ {T : Type 0} (deadline : T → ℕ) (objects : Objects T) where
   -- it has the least deadline
   is_earliest : (s : List Place) {p : Place} → Some p ≡ first s → IsSorted nat_cmp (keys_at deadline objects s)
-      → AllByRecursion (λ q. deadline_at objects p ≤ deadline_at objects q) s
+      → AllByRecursion (λ q. key_at deadline objects p ≤ key_at deadline objects q) s
   is_earliest [] is sorted = tt
   is_earliest (x ∷ s) {p} is sorted =
-      let all : AllByRecursion (λ q. deadline_at objects x ≤ deadline_at objects q) (x ∷ s) = (omega arith, first_is_least (key_at deadline objects) x s sorted) in
-      subst (λ (y : Place). AllByRecursion (λ q. deadline_at objects y ≤ deadline_at objects q) (x ∷ s)) (sym (some_same is)) all
+      let all : AllByRecursion (λ q. key_at deadline objects x ≤ key_at deadline objects q) (x ∷ s) = (omega arith, first_is_least (key_at deadline objects) x s sorted) in
+      subst (λ (y : Place). AllByRecursion (λ q. key_at deadline objects y ≤ key_at deadline objects q) (x ∷ s)) (sym (some_same is)) all
 
   pub taken_earliest : (s : List Place) (o : Option Place) → o ≡ first s → IsSorted nat_cmp (keys_at deadline objects s)
-      → IfSome o (λ p. AllByRecursion (λ q. deadline_at objects p ≤ deadline_at objects q) s)
+      → IfSome o (λ p. AllByRecursion (λ q. key_at deadline objects p ≤ key_at deadline objects q) s)
   taken_earliest s None is sorted = tt
   taken_earliest s (Some p) is sorted = is_earliest s is sorted
 
-  later : (now k : ℕ) (s : List Place) → now < k → AllByRecursion (λ q. k ≤ deadline_at objects q) s → AllByRecursion (λ q. now < deadline_at objects q) s
+  later : (now k : ℕ) (s : List Place) → now < k → AllByRecursion (λ q. k ≤ key_at deadline objects q) s → AllByRecursion (λ q. now < key_at deadline objects q) s
   later now k [] h all = tt
   later now k (q ∷ s) h all = let x = all.0 in (omega arith, later now k s h all.1)
 
-  waits : (now : ℕ) (o : Option Timer) → IsSome o → due now o ≡ false → now < key_or deadline o
+  waits : (now : ℕ) (o : Option T) → IsSome o → due deadline now o ≡ false → now < key_or deadline o
   waits now (Some timer) h not = leb-false (deadline timer) now not
   waits now None h not = absurd (true≢false (sym h))
 
   -- where the first is not due, or there is none, all wait
-  pub all_wait : (now : ℕ) (s : List Place) {b : Bool} {x : Option Timer} → b ≡ due now x → x ≡ object_there objects (first s) → b ≡ false → ArePlaced objects s
-      → IsSorted nat_cmp (keys_at deadline objects s) → AllByRecursion (λ q. now < deadline_at objects q) s
+  pub all_wait : (now : ℕ) (s : List Place) {b : Bool} {x : Option T} → b ≡ due deadline now x → x ≡ object_there objects (first s) → b ≡ false → ArePlaced objects s
+      → IsSorted nat_cmp (keys_at deadline objects s) → AllByRecursion (λ q. now < key_at deadline objects q) s
   all_wait now [] tested there told placed sorted = tt
   all_wait now (p ∷ s) tested there told placed sorted =
-      let here : now < deadline_at objects p = waits now (object_at objects p) placed.0 (ap (due now) (sym there) ∙ sym tested ∙ told) in
-      (here, later now (deadline_at objects p) s here (first_is_least (key_at deadline objects) p s sorted))
+      let here : now < key_at deadline objects p = waits now (object_at objects p) placed.0 (ap (due deadline now) (sym there) ∙ sym tested ∙ told) in
+      (here, later now (key_at deadline objects p) s here (first_is_least (key_at deadline objects) p s sorted))
 
   -- and where the answer is none although the first is due, there is none
-  pub none_waits : (now : ℕ) (s : List Place) (o : Option Place) {b : Bool} {x : Option Timer} → b ≡ due now x → x ≡ object_there objects (first s) → b ≡ true → o ≡ first s
-      → IfNone o (AllByRecursion (λ q. now < deadline_at objects q) s)
-  none_waits now [] o tested there told e = absurd (true≢false (sym told ∙ tested ∙ ap (due now) there))
+  pub none_waits : (now : ℕ) (s : List Place) (o : Option Place) {b : Bool} {x : Option T} → b ≡ due deadline now x → x ≡ object_there objects (first s) → b ≡ true → o ≡ first s
+      → IfNone o (AllByRecursion (λ q. now < key_at deadline objects q) s)
+  none_waits now [] o tested there told e = absurd (true≢false (sym told ∙ tested ∙ ap (due deadline now) there))
   none_waits now (p ∷ s) (Some q) tested there told e = tt
   none_waits now (p ∷ s) None tested there told e = absurd (none_not p e)

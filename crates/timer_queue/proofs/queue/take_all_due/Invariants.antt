@@ -4,15 +4,14 @@ use Rattle.ic_link_ops.specs.RedBlackTree.{Shows}
 use Rattle.ic_rbtree.specs.Members.{members}
 use Rattle.ic_rbtree.specs.Tree.{root_of}
 use Rattle.ic_rbtree.specs.SortedObjects.{ShowsSorted}
-use Rattle.uses.specs.Timers.{deadline}
-use Rattle.uses.proofs.AllDue.{Takes}
-use Rattle.uses.proofs.timer_queue.take_all_due.Given as goal
+use Rattle.timer_queue.proofs.AllDue.{Takes}
+use Rattle.timer_queue.proofs.queue.take_all_due.Given as goal
 
 abbrev pub invariant-loop-timer : goal.invariant-loop-timer
 invariant-loop-timer g l = record {
-  queue : ShowsSorted deadline (Shows g.L.RBTreeOps.node (g.L.LinkOps.table l.links) (root_of l.timers)) l.objects;
+  queue : ShowsSorted g.T.HasDeadline.deadline (Shows g.L.RBTreeOps.node (g.L.LinkOps.table l.links) (root_of l.timers)) l.objects;
   shown : (s : List Place) × Shows g.L.RBTreeOps.node (g.L.LinkOps.table l.fn.links) (root_of l.fn.timers) s;
-  takes : Takes g.L.RBTreeOps.node g.L.LinkOps.table g.L.LinkOps.Does l.objects l.now l.fn.links shown.0 l.fn.due.items l.links (root_of l.timers) l.due.items;
+  takes : Takes g.T.HasDeadline.deadline g.L.RBTreeOps.node g.L.LinkOps.table g.L.LinkOps.Does l.objects l.now l.fn.links shown.0 l.fn.due.items l.links (root_of l.timers) l.due.items;
   room : vec_capacity l.fn.due ≤ vec_capacity l.due;
 }
 

@@ -15,32 +15,31 @@ use Rattle.ic_rbtree.specs.Borders.{if_passes}
 use Rattle.ic_rbtree.specs.Members.{members}
 use Rattle.ic_rbtree.proofs.Members.{members_shown}
 use Rattle.ic_rbtree.proofs.Passing.{passed}
-use Rattle.ic_rbtree.specs.SortedObjects.{key_or}
-use Rattle.uses.specs.Timers.{deadline, deadline_at, due, is_due, StandsFirst}
-use Rattle.uses.specs.declared.timer_queue.Timer.{Timer}
+use Rattle.ic_rbtree.specs.SortedObjects.{key_at, key_or}
+use Rattle.timer_queue.specs.Timers.{due, is_due, StandsFirst}
 
-due_is : (now : ℕ) (o : Option Timer) → due now o ≡ true → key_or deadline o ≤ now
-due_is now None e = absurd (true≢false (sym e))
-due_is now (Some timer) e = leb-true (deadline timer) now e
+due_is : {T : Type 0} (deadline : T → ℕ) (now : ℕ) (o : Option T) → due deadline now o ≡ true → key_or deadline o ≤ now
+due_is deadline now None e = absurd (true≢false (sym e))
+due_is deadline now (Some timer) e = leb-true (deadline timer) now e
 
 one_more : (P : Place → Type 0) (s : List Place) (p : Place) → AllByRecursion P s → P p → AllByRecursion P (s ++ p ∷ [])
 one_more P [] p all here = (here, tt)
 one_more P (x ∷ s) p all here = (all.0, one_more P s p all.1 here)
 
-module _ {L E : Type 0} (n : E → Node) (table : L → Table E) (Does : L → L → List LinkStep → Type 0) (objects : Objects Timer) (now : ℕ) where
+module _ {T L E : Type 0} (deadline : T → ℕ) (n : E → Node) (table : L → Table E) (Does : L → L → List LinkStep → Type 0) (objects : Objects T) (now : ℕ) where
   -- SOME THAT ARE DUE were taken off the front of s, which `start` showed, and stand behind `items` now; the rest is shown
   pub record Takes (start : L) (s items : List Place) (links : L) (root : Option Place) (held : List Place) : Type 0 where
     pub taken : List Place
     pub rest : List Place
-    pub stood : StandsFirst objects now taken rest s
+    pub stood : StandsFirst deadline objects now taken rest s
     pub held_is : held ≡ items ++ taken
     pub shown : Shows n (table links) root rest
     pub steps : Does start links (releases_each taken)
     pub frame : KeepsBeside (table start) (table links) s
 
-module _ {L E : Type 0} {n : E → Node} {table : L → Table E} {Does : L → L → List LinkStep → Type 0} {objects : Objects Timer} {now : ℕ} {start : L} {s items : List Place} where
+module _ {T L E : Type 0} {deadline : T → ℕ} {n : E → Node} {table : L → Table E} {Does : L → L → List LinkStep → Type 0} {objects : Objects T} {now : ℕ} {start : L} {s items : List Place} where
   -- at first none were taken,
-  pub takes_none : {root : Option Place} → Does start start [] → Shows n (table start) root s → Takes n table Does objects now start s items start root items
+  pub takes_none : {root : Option Place} → Does start start [] → Shows n (table start) root s → Takes deadline n table Does objects now start s items start root items
   takes_none nothing shown = record {
     taken = [];
     rest = s;
@@ -51,22 +50,22 @@ module _ {L E : Type 0} {n : E → Node} {table : L → Table E} {Does : L → L
     frame = record { extent = refl; others = λ q out. refl };
   }
 
-  module _ {links : L} {root : Option Place} {held : List Place} (k : Takes n table Does objects now start s items links root held) {p : Place} (is : Some p ≡ if_passes (is_due objects now) (first k.rest)) where
+  module _ {links : L} {root : Option Place} {held : List Place} (k : Takes deadline n table Does objects now start s items links root held) {p : Place} (is : Some p ≡ if_passes (is_due deadline objects now) (first k.rest)) where
     -- the first of the rest is due,
     pub next_due : k.rest ≡ p ∷ drop 1 k.rest
-    next_due = first_is k.rest (passed (is_due objects now) (first k.rest) p is).0
+    next_due = first_is k.rest (passed (is_due deadline objects now) (first k.rest) p is).0
 
     -- and is taken too
     pub takes_one : ((a b c : L) (u v : List LinkStep) → Does a b u → Does b c v → Does a c (u ++ v)) → {new : L} {new_root : Option Place} {new_held : List Place}
-        → new_held ≡ held ++ p ∷ [] → Removes (Shows n) (table links) (table new) new_root (at_front k.rest) → Does links new (releases p ∷ []) → Takes n table Does objects now start s items new new_root new_held
+        → new_held ≡ held ++ p ∷ [] → Removes (Shows n) (table links) (table new) new_root (at_front k.rest) → Does links new (releases p ∷ []) → Takes deadline n table Does objects now start s items new new_root new_held
     takes_one on {new} held_is removes step =
-        let here : deadline_at objects p ≤ now = due_is now (object_at objects p) (passed (is_due objects now) (first k.rest) p is).1 in
+        let here : key_at deadline objects p ≤ now = due_is deadline now (object_at objects p) (passed (is_due deadline objects now) (first k.rest) p is).1 in
         record {
           taken = k.taken ++ p ∷ [];
           rest = drop 1 k.rest;
           stood = record {
             same = append_assoc k.taken (p ∷ []) (drop 1 k.rest) ∙ ap (λ (x : List Place). k.taken ++ x) (sym next_due) ∙ k.stood.same;
-            are_due = one_more (λ q. deadline_at objects q ≤ now) k.taken p k.stood.are_due here;
+            are_due = one_more (λ q. key_at deadline objects q ≤ now) k.taken p k.stood.are_due here;
           };
           held_is = held_is ∙ ap (λ (x : List Place). x ++ p ∷ []) k.held_is ∙ append_assoc items k.taken (p ∷ []);
           shown = removes.shows;

@@ -1,0 +1,4 @@
+pub mod AllDue
+pub mod KeptValues
+pub mod Outcomes
+pub mod TakingDue

@@ -1,0 +1,27 @@
+-- What clauses see of what waits.
+use Rattle.std.specs.Prelude.{◌≡◌, ℕ, ◌≤◌, Bool, false, leb, Option, None, Some, Result, Ok, Err, List, [], ◌∷◌, ◌++◌}
+use Rattle.std.specs.List.{AllByRecursion}
+use Rattle.std.specs.declared.alloc.AllocFailed.{AllocFailed}
+use Rattle.ic_unsafe_ref.specs.declared.place.Place.{Place}
+use Rattle.ic_unsafe_ref.specs.Objects.{Objects, object_at}
+use Rattle.ic_rbtree.specs.SortedObjects.{key_at}
+
+module _ {T : Type 0} (deadline : T → ℕ) where
+  -- whether a timer is due: there is one, and its deadline is at most `now`
+  abbrev pub due : ℕ → Option T → Bool
+  due now None = false
+  due now (Some timer) = leb (deadline timer) now
+
+  -- the same of the timer at a place
+  abbrev pub is_due : Objects T → ℕ → Place → Bool
+  is_due objects now p = due now (object_at objects p)
+
+  -- those of `taken` stand first in s, and each of them is due; `rest` are the others
+  pub record StandsFirst (objects : Objects T) (now : ℕ) (taken rest s : List Place) : Type 0 where
+    pub same : taken ++ rest ≡ s
+    pub are_due : AllByRecursion (λ p. key_at deadline objects p ≤ now) taken
+
+-- what comes back where there was no room for it
+abbrev pub handed_back : {T : Type 0} → Result Unit (AllocFailed T) → List T
+handed_back (Ok u) = []
+handed_back (Err refused) = refused.value ∷ []

@@ -1,0 +1,63 @@
+//! What waits, and its order.
+//!
+//! ```text
+//! impl HasDeadline for Timer {
+//!     fn deadline(&self) -> &u64 {
+//!         &self.deadline
+//!     }
+//! }
+//! ```
+
+ghost use Rattle.std.specs.Prelude.{◌≡◌, ℕ, ⊤};
+
+use ic_rbtree::KeyAdapter;
+use std::alloc::AllocError;
+use std::marker::PhantomData;
+
+/// What waits for a deadline.
+pub trait HasDeadline {
+    // The time from which it is due.
+    ghost deadline: { Self → ℕ };
+
+    /// The time from which it is due. O(1).
+    fn deadline(&self) -> &u64
+        ensures { result.now ≡ deadline self.now };
+}
+
+/// The order of deadlines, in which a tree keeps what waits.
+pub struct ByDeadline<T> {
+    of: PhantomData<T>,
+}
+
+impl<T> ByDeadline<T> {
+    /// The order of deadlines. O(1).
+    #[inline]
+    pub fn new() -> ByDeadline<T> {
+        ByDeadline { of: PhantomData }
+    }
+}
+
+impl<T> Clone for ByDeadline<T> {
+    ghost is_clone = { λ a copy. copy ≡ a };
+
+    ghost is_infallible = { λ _. ⊤ };
+
+    fn clone(&self) -> Result<Self, AllocError> {
+        Ok(*self)
+    }
+}
+
+impl<T> Copy for ByDeadline<T> {}
+
+impl<T: HasDeadline> KeyAdapter for ByDeadline<T> {
+    type Value = T;
+
+    type Key = u64;
+
+    ghost key_of = { λ a timer. T.deadline timer };
+
+    #[inline]
+    fn get_key<'v>(&self, timer: &'v T) -> &'v u64 {
+        timer.deadline()
+    }
+}
