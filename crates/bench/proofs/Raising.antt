@@ -1,12 +1,8 @@
 -- A tree whose one removed object gets another key stays in the order of its keys.
-use Rattle.std.proofs.Common.{◌≡◌, ◌≢◌, ◌∙◌, ℕ, true, Option, Some, None, MatchOption, IsSome, is_some, List, [], ◌∷◌, cond, refl, sym, ap}
-use Rattle.std.specs.Cmp.{nat_cmp_total}
-use Rattle.std.specs.FinMap.{get-insert}
+use Rattle.std.proofs.Common.{◌≡◌, ◌≢◌, ◌∙◌, ℕ, true, Option, Some, None, MatchOption, IsSome, is_some, List, [], ◌∷◌, refl, sym, ap}
 use Rattle.ic_unsafe_ref.specs.declared.place.Place.{Place}
-use Rattle.ic_unsafe_ref.specs.Places.{index_of}
 use Rattle.ic_unsafe_ref.specs.Objects.{Objects, object_at, is_placed, with_object}
-use Rattle.ic_unsafe_ref.proofs.ObjectLemmas.{tied, apart}
-use Rattle.ic_unsafe_ref.proofs.PlaceLemmas.{same_index}
+use Rattle.ic_unsafe_ref.proofs.Placing.{exchanged_puts, put_there, put_others}
 use Rattle.ic_link_ops.specs.Sequences.{IsAbsent}
 use Rattle.ic_link_ops.proofs.PlacedValues.{all_beside}
 use Rattle.ic_rbtree.specs.SortedObjects.{ShowsSorted, keys_at}
@@ -14,15 +10,11 @@ use Rattle.ic_rbtree.specs.SortedObjects.{ShowsSorted, keys_at}
 module _ (old new : Objects ℕ) (p : Place) (value : ℕ → ℕ) where
   raised : (o : Option ℕ) → MatchOption o (new ≡ old) (λ was. new ≡ with_object old p (value was)) → (q : Place) → q ≢ p → object_at new q ≡ object_at old q
   raised None e q n = ap (λ (x : Objects ℕ). object_at x q) e
-  raised (Some was) e q n =
-      ap (λ (x : Objects ℕ). object_at x q) e ∙ get-insert nat_cmp_total old.values (index_of p) (value was) (index_of q)
-      ∙ ap (λ b. cond b (Some (value was)) (object_at old q)) (apart (index_of q) (index_of p) (λ e. n (same_index q p e)))
+  raised (Some was) e q n = put_others (exchanged_puts e) q n
 
   still_placed : (o : Option ℕ) → MatchOption o (new ≡ old) (λ was. new ≡ with_object old p (value was)) → is_placed old p ≡ true → is_placed new p ≡ true
   still_placed None e there = ap (λ (x : Objects ℕ). is_placed x p) e ∙ there
-  still_placed (Some was) e there =
-      ap (λ (x : Objects ℕ). is_placed x p) e ∙ ap is_some (get-insert nat_cmp_total old.values (index_of p) (value was) (index_of p)
-      ∙ ap (λ b. cond b (Some (value was)) (object_at old p)) (tied (index_of p) (index_of p) refl))
+  still_placed (Some was) e there = ap is_some (put_there (exchanged_puts e))
 
   module _ (raises : MatchOption (object_at old p) (new ≡ old) (λ was. new ≡ with_object old p (value was))) where
     keys_beside : (s : List Place) → IsAbsent p s → keys_at (λ (v : ℕ). v) new s ≡ keys_at (λ (v : ℕ). v) old s

@@ -8,17 +8,15 @@ use Rattle.ic_link_ops.specs.Edits.{Inserts}
 use Rattle.ic_link_ops.specs.RedBlackTree as tree
 use Rattle.ic_link_ops.proofs.SequenceLemmas.{member_split, first_is, absent_right, absent_without, gap_after, last_of_push, none_not}
 use Rattle.ic_rbtree.specs.CursorOwning.{CursorOwning, tree_of, position}
-use Rattle.ic_rbtree.specs.declared.entry.Entry.{Entry as TreeEntry}
-use Rattle.ic_rbtree.specs.declared.entry.Entry.TheVariants.{Occupied, Vacant}
-use Rattle.ic_rbtree.specs.declared.entry.InsertCursor.{InsertCursor}
+use Rattle.ic_rbtree.specs.declared.keys.entry.Entry.{Entry as TreeEntry}
+use Rattle.ic_rbtree.specs.declared.keys.entry.Entry.TheVariants.{Occupied, Vacant}
+use Rattle.ic_rbtree.specs.declared.keys.entry.InsertCursor.{InsertCursor}
 use Rattle.ic_rbtree.specs.CursorMut.{CursorMut}
 use Rattle.ic_rbtree.specs.Borders.{IsBorder, Finds, less_at, equal_at, if_passes}
 use Rattle.ic_rbtree.specs.Ordered.{InsertsInOrder}
 use Rattle.ic_rbtree.specs.Tree.{root_of}
 use Rattle.ic_rbtree.specs.declared.tree.RBTree.{RBTree}
 use Rattle.ic_any_table.specs.declared.entry.Entry.{Entry}
-use Rattle.ic_any_table.specs.declared.tree_table.TreeTable.{TreeTable}
-use Rattle.ic_any_table.specs.TreeTables.{look}
 use Rattle.ic_any_table.specs.Entries.{is_linked, node}
 use Rattle.ic_any_collection.specs.declared.unkeyed.Unkeyed.{Unkeyed}
 use Rattle.ic_any_collection.specs.declared.members.Members.{Members}

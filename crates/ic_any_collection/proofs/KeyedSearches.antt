@@ -4,9 +4,9 @@ use Rattle.std.specs.declared.cmp.Ordering.{Ordering}
 use Rattle.ic_unsafe_ref.specs.declared.place.Place.{Place}
 use Rattle.ic_unsafe_ref.specs.Objects.{Objects}
 use Rattle.ic_link_ops.specs.Sequences.{IsBefore}
-use Rattle.ic_rbtree.specs.declared.key_adapter.Bound.{Bound}
-use Rattle.ic_rbtree.specs.declared.key_adapter.Bound.TheVariants.{Included, Excluded, Unbounded}
-use Rattle.ic_rbtree.specs.declared.probe.KeyProbe.{KeyProbe}
+use Rattle.ic_rbtree.specs.declared.keys.key_adapter.Bound.{Bound}
+use Rattle.ic_rbtree.specs.declared.keys.key_adapter.Bound.TheVariants.{Included, Excluded, Unbounded}
+use Rattle.ic_rbtree.specs.declared.keys.probe.KeyProbe.{KeyProbe}
 use Rattle.ic_rbtree.specs.Borders.{IsUpperBorder}
 use Rattle.ic_rbtree.specs.Comparing.{compared, compared_within, bound_map, LooksWithin}
 use Rattle.ic_rbtree.specs.KeyProbe.{looks_of}

@@ -11,7 +11,7 @@ use Rattle.ic_link_ops.specs.Tables.{Table, IsCovered}
 use Rattle.ic_link_ops.proofs.Positions.{stands_by_gap}
 use Rattle.ic_link_ops.proofs.SequenceLemmas.{none_not, some_same, last_of_push}
 use Rattle.std.specs.declared.cmp.Ordering.{Ordering}
-use Rattle.ic_rbtree.specs.declared.key_adapter.Bound.{Bound}
+use Rattle.ic_rbtree.specs.declared.keys.key_adapter.Bound.{Bound}
 use Rattle.ic_rbtree.specs.Ranges.{IsRange}
 use Rattle.ic_rbtree.specs.declared.iter.Iter.{Iter}
 use Rattle.ic_rbtree.specs.Iter.{rest_of, objects_left, CanWalk}

@@ -1,6 +1,6 @@
 -- Readings: the member behind one, walks from the front, and trees seen through two tables.
-use Rattle.std.proofs.Common.{◌≡◌, ◌≢◌, ◌∙◌, ◌<◌, ◌+◌, ◌++◌, true, false, cond, Option, Some, None, List, [], ◌∷◌, drop, length, refl, sym, ap, append-nil, append_assoc, arith, nat_eq, eq-eqb, eqb-true}
-use Rattle.std.proofs.lemmas.Bool.{eqb-false}
+use Rattle.std.proofs.Common.{◌≡◌, ◌≢◌, ◌∙◌, ◌<◌, ◌+◌, ◌++◌, true, false, cond, Option, Some, None, List, [], ◌∷◌, drop, length, refl, sym, ap, append_assoc, arith, nat_eq, eq-eqb, eqb-true}
+use Rattle.std.proofs.lemmas.Bool.{eqb-false, false_from_ne_true}
 use Rattle.std.proofs.lemmas.List.{length-append}
 use Rattle.ic_unsafe_ref.specs.declared.place.Place.{Place}
 use Rattle.ic_unsafe_ref.specs.Places.{index_of}
@@ -13,7 +13,6 @@ use Rattle.ic_link_ops.specs.RedBlackTree.{Node, IsTree, Shows}
 use Rattle.ic_link_ops.specs.Positions.{Site, ShowsAt, MovesOn}
 use Rattle.ic_link_ops.proofs.SequenceLemmas.{first_is, last_of_push, some_same}
 use Rattle.ic_link_ops.proofs.Walks.{is_end_yes}
-use Rattle.ic_link_ops.proofs.LinkedSets.{not_linked}
 
 -- A MOVE ON FROM A MEMBER leads to the one behind it
 pub leads_behind : {L E H : Type 0} {Shows : Table E → H → List Place → Type 0} {table : L → Table E} {old : Site L H} {position : Option Place} {p : Place} {s : List Place}
@@ -57,14 +56,6 @@ walks_next {done = done} {p = p} w next =
       current_is = next gap.0 gap.1 w.prev_is w.current_is;
     }
 
--- and ends behind the last
-first_none : (s : List Place) → None ≡ first s → s ≡ []
-first_none [] e = refl
-first_none (x ∷ s) e = cc
-
-pub walks_all : {s done : List Place} {prev : Option Place} → Walks s done prev None → done ≡ s
-walks_all {done = done} w = sym (append-nil done) ∙ ap (λ b. done ++ b) (sym (first_none w.left w.current_is)) ∙ w.whole
-
 -- HOW FAR IT IS: the members of s from a place on
 unfoldable pub from : Option Place → List Place → List Place
 from None s = []
@@ -81,7 +72,7 @@ from_first done [] d = refl
 from_first [] (y ∷ b) d = let e : is_end (Some y) y ≡ true = eq-eqb (index_of y) (index_of y) refl in rw e refl
 from_first (x ∷ f) (y ∷ b) d =
     let apart : y ≢ x = λ e. absent_not f y b x d.0 (sym e) in
-    let e : is_end (Some y) x ≡ false = not_linked _ (λ yes. apart (some_same (is_end_yes (Some y) x yes))) in
+    let e : is_end (Some y) x ≡ false = false_from_ne_true _ (λ yes. apart (some_same (is_end_yes (Some y) x yes))) in
     rw e (from_first f (y ∷ b) d.1)
 
 pub walks_from : {s done : List Place} {prev current : Option Place} → IsDistinct s → (w : Walks s done prev current) → from current s ≡ w.left

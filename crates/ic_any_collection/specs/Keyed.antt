@@ -4,9 +4,9 @@ use Rattle.std.specs.declared.cmp.Ordering.{Ordering}
 use Rattle.ic_unsafe_ref.specs.declared.place.Place.{Place}
 use Rattle.ic_link_ops.specs.Sequences.{Cut}
 use Rattle.ic_link_ops.specs.Tables.{Table}
-use Rattle.ic_rbtree.specs.declared.key_adapter.Bound.{Bound}
-use Rattle.ic_rbtree.specs.declared.key_adapter.Bound.TheVariants.{Included, Excluded, Unbounded}
-use Rattle.ic_rbtree.specs.declared.probe.KeyProbe.{KeyProbe}
+use Rattle.ic_rbtree.specs.declared.keys.key_adapter.Bound.{Bound}
+use Rattle.ic_rbtree.specs.declared.keys.key_adapter.Bound.TheVariants.{Included, Excluded, Unbounded}
+use Rattle.ic_rbtree.specs.declared.keys.probe.KeyProbe.{KeyProbe}
 pub use Rattle.ic_rbtree.specs.Comparing.{FewLooks}
 use Rattle.ic_rbtree.specs.KeyProbe.{looks_of}
 use Rattle.ic_rbtree.specs.Borders.{IsBorder, less_at, at_most_at}

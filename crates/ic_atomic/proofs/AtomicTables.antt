@@ -7,9 +7,9 @@ use native.Mathlib.Decide.{ℕ_discrete}
 use Rattle.ic_unsafe_ref.specs.declared.place.Place.{Place}
 use Rattle.ic_unsafe_ref.specs.Places.{index_of}
 use Rattle.ic_unsafe_ref.proofs.PlaceLemmas.{same_index}
-use Rattle.ic_link_ops.specs.Tables.{Table, LinksAlso, Unlinks}
+use Rattle.ic_link_ops.specs.Tables.{Table, LinksAlso}
 use Rattle.ic_atomic.specs.declared.step.Event.{Event}
-use Rattle.ic_atomic.specs.Records.{holds, HoldsAlso, GivesUp}
+use Rattle.ic_atomic.specs.Records.{holds, HoldsAlso}
 
 -- what is certain to be answered true holds
 pub certain : {P : Type 0} (r : Bool) → (OnFalse r ⊥) → OnTrue r P → P
@@ -45,7 +45,3 @@ module _ {E : Type 0} (linked : E → Bool) {t u : Table E} {r w : List Event} {
   -- one more is linked, and held,
   pub held_with : LinksAlso linked t u p → HoldsAlso r w p → ((q : Place) → linked (t.entry q) ≡ holds q r) → (q : Place) → linked (u.entry q) ≡ holds q w
   held_with links held was = agree (λ q. linked (t.entry q)) (λ q. holds q r) (λ q. linked (u.entry q)) (λ q. holds q w) p (links.is ∙ sym held.is) links.others held.others was
-
-  -- and one less
-  pub held_without : Unlinks linked t u p → GivesUp r w p → ((q : Place) → linked (t.entry q) ≡ holds q r) → (q : Place) → linked (u.entry q) ≡ holds q w
-  held_without links held was = agree (λ q. linked (t.entry q)) (λ q. holds q r) (λ q. linked (u.entry q)) (λ q. holds q w) p (links.is ∙ sym held.is) links.others held.others was

@@ -9,4 +9,3 @@ pub mod HandLemmas
 pub mod RuleLemmas
 pub mod HolderLemmas
 pub mod LastStepLemmas
-pub mod NoMoreLemmas

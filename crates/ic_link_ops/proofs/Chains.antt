@@ -1,6 +1,5 @@
 -- Chains: cut, glued, turned at their ends, and kept where the entries of their members are.
 use Rattle.std.proofs.Common.{◌≡◌, ◌≢◌, Option, Some, None, List, [], ◌∷◌, ◌++◌, reverse, Bool, true, false, refl, sym, ap}
-use Rattle.std.specs.List.{AllByRecursion}
 use Rattle.ic_unsafe_ref.specs.declared.place.Place.{Place}
 use Rattle.ic_link_ops.specs.Sequences.{IsAbsent, IsDistinct, IsDisjoint, first_or, last_or, first, last, but_last}
 use Rattle.ic_link_ops.specs.Chains.{IsChain}
@@ -129,12 +128,6 @@ module _ {E : Type 0} (between : E → Option Place → Option Place → Type 0)
       rw same (ap (λ (l : List Place). x ∷ l) (chain_one one t (Some x) s r (one (t x) b (first s) (first r) c.0 k'.0) c.1 k'.1))
 
   module _ (linked : E → Bool) (law : (e : E) (b a : Option Place) → between e b a → linked e ≡ true) where
-    -- members are linked
-    pub chain_linked : (t : Place → E) (b : Option Place) (s : List Place) (a : Option Place)
-        → IsChain between t b s a → AllByRecursion (λ q. linked (t q) ≡ true) s
-    chain_linked t b [] a c = tt
-    chain_linked t b (x ∷ s) a c = (law (t x) b (first_or s a) c.0, chain_linked t (Some x) s a c.1)
-
     -- what is not linked is no member
     pub chain_absent : (t : Place → E) (b : Option Place) (s : List Place) (a : Option Place) (p : Place)
         → IsChain between t b s a → linked (t p) ≡ false → IsAbsent p s

@@ -1,11 +1,10 @@
 -- Doubly linked lists: their setters turn, what their entries tell, and their walks.
-use Rattle.std.proofs.Common.{◌≡◌, ◌≢◌, ◌≤◌, Option, Some, None, List, [], ◌∷◌, ◌++◌, reverse, length, Bool, true, refl, sym, ◌∙◌, ap}
+use Rattle.std.proofs.Common.{◌≡◌, ◌≢◌, ◌≤◌, Option, Some, None, List, [], ◌∷◌, ◌++◌, length, Bool, true, refl, sym, ◌∙◌, ap}
 use Rattle.ic_unsafe_ref.specs.declared.place.Place.{Place}
 use Rattle.ic_link_ops.specs.Sequences.{first, IsDistinct}
 use Rattle.ic_link_ops.specs.Tables.{Table, IsCovered, IsLinked, ChangesOnly}
 use Rattle.ic_link_ops.specs.Chains.{Ends, no_members}
 use Rattle.ic_link_ops.specs.Turns.{TurnsBehind, TurnsBefore}
-use Rattle.ic_link_ops.specs.Walk.{walked}
 use Rattle.ic_link_ops.specs.LinkedList.{Neighbors, neighbors_at, IsBetween, Shows, next_of, members_between, members, IsWalk}
 use Rattle.ic_unsafe_ref.specs.Places.{index_of}
 use Rattle.ic_link_ops.specs.DoublyEntries.{DoublyLinkOps, neighbors_of, is_linked, entries, linked_in_range, plain_table, PlainShows, members_of}
@@ -13,7 +12,7 @@ use Rattle.ic_link_ops.proofs.Turning.{turns_behind, turns_before}
 use Rattle.ic_link_ops.proofs.ShownLists.{shows_frame, shows_one, free_absent}
 use Rattle.ic_link_ops.proofs.CollectionLaws.{IsKind}
 use Rattle.ic_link_ops.proofs.Clearing.{Releases, releases_left_blind}
-use Rattle.ic_link_ops.proofs.Walks.{walk_blind, walked_from_gap, stretch_walked, stretch_length, stretch_one, stretch_more, stretch_less, stretch_none, stretch_empty, stretch_empty_back, stretch_of, stretch_mirrored, stretch_first, stretch_last}
+use Rattle.ic_link_ops.proofs.Walks.{walk_blind, walked_from_gap, stretch_walked, stretch_length, stretch_one, stretch_more, stretch_less, stretch_none, stretch_empty, stretch_empty_back, stretch_of, stretch_first, stretch_last}
 
 -- ONLY COVERED PLACES ARE LINKED, as neighbors say it too
 pub neighbors_covered : {L E : Type 0} {linked : E → Bool} (n : E → Neighbors) (table : L → Table E) → ((t : L) (q : Place) → IsLinked linked (table t) q → IsCovered (table t) q)
@@ -112,12 +111,6 @@ module _ {E : Type 0} {n : E → Neighbors} where
   pub members_uncleared : {old new : Table E} {s : List Place} {current : Option Place} → ((q : Place) → (n (new.entry q)).linked ≡ true → IsCovered new q)
       → IsDistinct s → (k : Releases (IsBetween n) old new s current) → members_between n new current None ≡ k.rest
   members_uncleared covered d k = releases_left_blind (λ e. (n e).next) (λ e b a h. h.next) (λ q b a h. covered q h.linked) d k
-
-  -- from the back they are read turned round
-  pub members_back : (t : Table E) → ((q : Place) → (n (t.entry q)).linked ≡ true → IsCovered t q)
-      → (list : Ends) (s : List Place) → Shows n t list s → walked (λ e behind. (n e).prev) t None list.tail list.head ≡ reverse s
-  members_back t covered list s shown =
-      stretch_walked (λ e behind. (n e).prev) (λ e a b h. h.prev) t (λ q b a h. covered q h.linked) (stretch_mirrored (stretch_of shown))
 
 -- the five facts of doubly linked lists, where both traits say alike whether a place is linked
 pub doubly_lists : {E : Type 0} {n : E → Neighbors} {linked : E → Bool} → ((e : E) → (n e).linked ≡ linked e) → IsKind (Shows n) linked no_members

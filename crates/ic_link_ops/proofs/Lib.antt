@@ -1,3 +1,4 @@
+pub mod Each
 pub mod SequenceLemmas
 pub mod Counting
 pub mod Chains

@@ -23,8 +23,3 @@ module _ {E : Type 0} {linked : E → Bool} (t0 t1 t2 : Table E) (p : Place) whe
   pub linked_again : Unlinks linked t0 t1 p → LinksAlso linked t1 t2 p → KeepsLinked linked t0 t2
   linked_again off on q =
       everywhere (λ x. linked (t2.entry x) ≡ linked (t0.entry x)) p q (on.is ∙ sym off.was) (λ n. on.others q n ∙ off.others q n)
-
--- what cannot be linked is unlinked
-pub not_linked : (b : Bool) → (b ≡ true → ⊥) → b ≡ false
-not_linked true h = absurd (h refl)
-not_linked false h = refl

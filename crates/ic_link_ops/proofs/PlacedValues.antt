@@ -9,6 +9,7 @@ use Rattle.ic_link_ops.specs.PlacedObjects.{ArePlaced, StandAt, values_at}
 use Rattle.ic_link_ops.specs.Sequences.{IsAbsent, IsDistinct, first}
 use Rattle.ic_link_ops.proofs.SequenceLemmas.{first_is}
 use Rattle.ic_link_ops.proofs.Walks.{few_places}
+use Rattle.ic_link_ops.proofs.Each.{all_with}
 
 -- BESIDE p, where the objects at all other places stay: what holds of each of a sequence holds still, and they are the same
 module _ {T : Type 0} (old new : Objects T) (p : Place) (same : (q : Place) → q ≢ p → object_at new q ≡ object_at old q) where
@@ -35,20 +36,16 @@ module _ {T : Type 0} (objects : Objects T) (p : Place) where
   placed_first s is placed = (subst (ArePlaced objects) (first_is s is) placed).0
 
   module _ {v : T} (there : object_at objects p ≡ Some v) where
-    placed_put : (front back : List Place) → ArePlaced objects (front ++ back) → ArePlaced objects (front ++ p ∷ back)
-    placed_put [] back placed = (ap is_some there, placed)
-    placed_put (x ∷ front) back placed = (placed.0, placed_put front back placed.1)
-
     -- ONE OBJECT MORE: put into a gap of the sequence, it stands in the same gap of the values
     pub stand_put : (front back : List Place) → ArePlaced objects (front ++ back) → StandAt objects (front ++ p ∷ back) (values_at objects front ++ v ∷ values_at objects back)
     stand_put front back placed = record {
-      placed = placed_put front back placed;
+      placed = all_with (λ q. IsSome (object_at objects q)) front p back (ap is_some there) placed;
       are = filter_map-append (object_at objects) front (p ∷ back) ∙ ap (λ (o : Option T). values_at objects front ++ cons_option o (values_at objects back)) there;
     }
 
     pub stand_last : {s : List Place} {values : List T} → StandAt objects s values → StandAt objects (s ++ p ∷ []) (values ++ v ∷ [])
     stand_last {s} stand = record {
-      placed = placed_put s [] (subst (ArePlaced objects) (sym (append-nil s)) stand.placed);
+      placed = all_with (λ q. IsSome (object_at objects q)) s p [] (ap is_some there) (subst (ArePlaced objects) (sym (append-nil s)) stand.placed);
       are = filter_map-append (object_at objects) s (p ∷ []) ∙ rw (there, stand.are) refl;
     }
 
@@ -62,6 +59,14 @@ module _ {T : Type 0} (objects : Objects T) (p : Place) where
 
       pub stand_rest : StandAt objects (drop 1 s) (drop 1 values)
       stand_rest = record { placed = (subst (ArePlaced objects) (first_is s is) stand.placed).1; are = ap (drop 1) (sym begins) }
+
+-- WHAT HOLDS OF EACH OBJECT holds of the values at any places
+pub from_each : {T : Type 0} (P : T → Type 0) (objects : Objects T) → ((p : Place) (value : T) → object_at objects p ≡ Some value → P value) → (s : List Place) → AllByRecursion P (values_at objects s)
+from_each P objects each [] = tt
+from_each {T} P objects each (p ∷ s) = by (object_at objects p) refl (from_each P objects each s) where
+  by : (o : Option T) → object_at objects p ≡ o → AllByRecursion P (values_at objects s) → AllByRecursion P (cons_option o (values_at objects s))
+  by None e rest = rest
+  by (Some value) e rest = (each p value e, rest)
 
 -- AFTER `from_box`: those that stood there do, and so does the new object
 pub stand_placed : {T : Type 0} {old new : Objects T} {p : Place} {v : T} → Places old new p v → {s : List Place} {values : List T} → StandAt old s values

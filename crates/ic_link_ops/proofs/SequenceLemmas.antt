@@ -83,14 +83,6 @@ first_outside s [] d = tt
 first_outside [] (y ∷ t) d = tt
 first_outside (x ∷ s) (y ∷ t) d = ((λ e. d.0.0 (sym e)), first_outside s (y ∷ t) d.1)
 
-pub outside_not : (b : Option Place) (x : Place) (s : List Place) → IsOutside b (x ∷ s) → b ≢ Some x
-outside_not None x s h e = cc
-outside_not (Some q) x s h e = h.0 (cc)
-
-pub outside_tail : (b : Option Place) (x : Place) (s : List Place) → IsOutside b (x ∷ s) → IsOutside b s
-outside_tail None x s h = tt
-outside_tail (Some q) x s h = h.1
-
 -- a place that is absent from s is not its last
 pub last_not : (b : Option Place) (s : List Place) (q : Place) → b ≢ Some q → IsAbsent q s → last_or b s ≢ Some q
 last_not b [] q n h e = n e
@@ -138,8 +130,8 @@ new_tail front was mid [] {behind} {fresh} {old} e k h is =
 new_tail front was mid (x ∷ back) {behind} {fresh} {old} e k h is =
     is ∙ ap (λ a. end_of a fresh old) e ∙ h ∙ last_of_parts front was (x ∷ back) ∙ sym (last_of_parts front mid (x ∷ back))
 
-pub some_same : {x y : Place} → Some x ≡ Some y → x ≡ y
-some_same e = cc
+pub some_same : {X : Type 0} {x y : X} → Some x ≡ Some y → x ≡ y
+some_same {X} {x} {y} e = cc
 
 pub disjoint_cons : (p : Place) (t s : List Place) → IsAbsent p t → IsDisjoint t s → IsDisjoint t (p ∷ s)
 disjoint_cons p [] s h d = tt
@@ -211,9 +203,6 @@ pub disjoint_remove : (s t u : List Place) (p : Place) → IsDisjoint (s ++ p �
 disjoint_remove [] t u p d = d.1
 disjoint_remove (x ∷ s) t u p d = (d.0, disjoint_remove s t u p d.1)
 
-pub disjoint_replace : (s t u : List Place) (p r : Place) → IsDisjoint (s ++ p ∷ t) u → IsAbsent r u → IsDisjoint (s ++ r ∷ t) u
-disjoint_replace s t u p r d out = disjoint_insert s t u r (disjoint_remove s t u p d) out
-
 -- turned round: the ends change places, and the members stay
 pub reverse_cons : (x : Place) (s : List Place) → reverse (x ∷ s) ≡ reverse s ++ x ∷ []
 reverse_cons x s = reverse-append (x ∷ []) s
@@ -235,9 +224,6 @@ pub distinct_reverse : (s : List Place) → IsDistinct s → IsDistinct (reverse
 distinct_reverse [] d = tt
 distinct_reverse (x ∷ s) d =
     rw (reverse_cons x s) (distinct_insert (reverse s) [] x (rw append-nil (distinct_reverse s d.1)) (rw append-nil (absent_reverse x s d.0)))
-
-pub disjoint_reverse : (s t : List Place) → IsDisjoint s t → IsDisjoint (reverse s) t
-disjoint_reverse s t d = disjoint_sym t (reverse s) (absent_swap t s (disjoint_sym s t d) (reverse s) (λ q h. absent_reverse q s h))
 
 -- WHERE A CURSOR STANDS NEXT: one that has a gap before it has a gap of the same sequence after it
 pub gap_after : (gap : Cut) (cursor : Option Place) → IsBefore gap cursor → (next : Cut) × (join next ≡ join gap) × IsAfter next cursor

@@ -1,13 +1,12 @@
 -- Shown sequences, of whatever kind: edited, read at a gap, and kept where the table keeps their entries.
 use Rattle.std.proofs.Common.{◌≡◌, ◌≢◌, Option, Some, None, List, [], ◌∷◌, ◌++◌, reverse, Bool, true, false, refl, sym, ◌∙◌, append-nil, append_assoc, drop}
-use Rattle.std.specs.List.{AllByRecursion}
 use Rattle.ic_unsafe_ref.specs.declared.place.Place.{Place}
 use Rattle.ic_link_ops.specs.Sequences.{IsAbsent, IsDisjoint, first, last, but_last}
 use Rattle.ic_link_ops.specs.Tables.{Table}
 use Rattle.ic_link_ops.specs.Chains.{Ends, end_of, ShowsBetween}
 use Rattle.ic_link_ops.specs.Turns.{TurnsBehind, TurnsBefore}
 use Rattle.ic_link_ops.proofs.SequenceLemmas.{distinct_left, distinct_right, distinct_insert, distinct_remove, distinct_replace, distinct_splice, distinct_reverse, last_not, first_not, none_not, some_same, split_last, new_head, new_tail, first_of_reverse, last_of_reverse}
-use Rattle.ic_link_ops.proofs.Chains.{chain_kept, chain_frame, chain_cut, chain_glue, chain_parts, chain_filled, chain_spliced, last_between, first_between, chain_one, chain_linked, chain_absent, chain_reversed}
+use Rattle.ic_link_ops.proofs.Chains.{chain_kept, chain_frame, chain_cut, chain_glue, chain_parts, chain_filled, chain_spliced, last_between, first_between, chain_one, chain_absent, chain_reversed}
 
 module _ {E : Type 0} {between : E → Option Place → Option Place → Type 0} where
   -- a shown sequence stays where the table keeps the entries of its members
@@ -179,10 +178,6 @@ module _ {E : Type 0} {between : E → Option Place → Option Place → Type 0}
 
   -- `law`: what stands between two others is linked
   module _ {linked : E → Bool} (law : (e : E) (b a : Option Place) → between e b a → linked e ≡ true) where
-    -- members are linked
-    pub shows_linked : {t : Table E} {ends : Ends} {s : List Place} → ShowsBetween between t ends s → AllByRecursion (λ q. linked (t.entry q) ≡ true) s
-    shows_linked {t} {ends} {s} shown = chain_linked between linked law t.entry None s None shown.chain
-
     -- what is not linked is no member
     pub free_absent : {t : Table E} {ends : Ends} {s : List Place} {p : Place} → ShowsBetween between t ends s → linked (t.entry p) ≡ false → IsAbsent p s
     free_absent {t} {ends} {s} {p} shown free = chain_absent between linked law t.entry None s None p shown.chain free
@@ -200,10 +195,6 @@ module _ {E : Type 0} {between : E → Option Place → Option Place → Type 0}
     pub next_linked : {t : Table E} {ends : Ends} (front : List Place) (p : Place) (back : List Place) {q : Place}
         → ShowsBetween between t ends (front ++ p ∷ back) → Some q ≡ first back → linked (t.entry q) ≡ true
     next_linked {t} {ends} front p back shown e = gap_behind_linked {t = t} {ends = ends} (front ++ p ∷ []) back (rw append_assoc shown) e
-
-    -- and the two ends
-    pub head_linked : {t : Table E} {ends : Ends} {s : List Place} {q : Place} → ShowsBetween between t ends s → ends.head ≡ Some q → linked (t.entry q) ≡ true
-    head_linked {s} shown e = gap_behind_linked [] s shown (sym e ∙ shown.head)
 
     pub tail_linked : {t : Table E} {ends : Ends} {s : List Place} {q : Place} → ShowsBetween between t ends s → ends.tail ≡ Some q → linked (t.entry q) ≡ true
     tail_linked {t} {ends} {s} shown e = gap_linked {t = t} {ends = ends} s [] (rw append-nil shown) (sym e ∙ shown.tail)

@@ -1,13 +1,14 @@
 -- Trees that a table holds, and sequences that it shows for them: kept, read at members, and one at most.
 use Rattle.std.proofs.Common.{◌≡◌, ◌≢◌, ◌≤◌, arith, Bool, true, false, Option, Some, None, List, [], ◌∷◌, length, refl, sym, ap, ◌∙◌}
+use Rattle.std.proofs.lemmas.Bool.{true_from_ne_false}
 use Rattle.ic_unsafe_ref.specs.declared.place.Place.{Place}
 use Rattle.ic_link_ops.specs.declared.color.Color.{Color}
-use Rattle.ic_link_ops.specs.Sequences.{IsAbsent, IsDisjoint, first}
+use Rattle.ic_link_ops.specs.Sequences.{IsAbsent, IsDisjoint}
 use Rattle.ic_link_ops.specs.Tables.{Table, IsCovered, KeepsBeside}
 use Rattle.ic_link_ops.specs.Trees.{Tree, leaf, fork, top, in_order}
-use Rattle.ic_link_ops.specs.RedBlackTree.{Node, IsAt, Holds, Shows, ShowsEnds}
-use Rattle.ic_link_ops.proofs.SequenceLemmas.{split_member, disjoint_sym, first_not, last_not, none_not}
-use Rattle.ic_link_ops.proofs.Trees.{top_not, top_parent, tree_kept, tree_absent, read_absent, one_tree, tree_covered, same_root}
+use Rattle.ic_link_ops.specs.RedBlackTree.{Node, IsAt, Holds, Shows}
+use Rattle.ic_link_ops.proofs.SequenceLemmas.{disjoint_sym, none_not}
+use Rattle.ic_link_ops.proofs.Trees.{top_not, tree_kept, tree_absent, read_absent, one_tree, tree_covered, leaf_is}
 use Rattle.ic_link_ops.proofs.CollectionLaws.{IsKind}
 use Rattle.ic_link_ops.proofs.Walks.{pigeonhole}
 use Rattle.ic_link_ops.specs.Times.{times, times_in}
@@ -17,10 +18,6 @@ use Rattle.ic_link_ops.proofs.Times.{distinct_times, absent_times, times_order}
 outside_of : (q : Place) (s t : List Place) → (IsAbsent q t → ⊥) → IsDisjoint s t → IsAbsent q s
 outside_of q [] t m d = tt
 outside_of q (x ∷ s) t m d = ((λ e. m (rw e d.0)), outside_of q s t m d.1)
-
-not_false : (b : Bool) → (b ≡ false → ⊥) → b ≡ true
-not_false true h = refl
-not_false false h = absurd (h refl)
 
 module _ {E : Type 0} {n : E → Node} where
   -- a tree stays where the table keeps the entries of its members
@@ -50,7 +47,7 @@ module _ {E : Type 0} {n : E → Node} where
   -- members are linked
   pub holds_linked : {t : Table E} {tree : Tree} {s : List Place} {q : Place}
       → Holds n t tree s → (IsAbsent q s → ⊥) → (n (t.entry q)).linked ≡ true
-  holds_linked {t} {tree} {s} {q} h m = not_false (n (t.entry q)).linked (λ free. m (holds_absent h free))
+  holds_linked {t} {tree} {s} {q} h m = true_from_ne_false (n (t.entry q)).linked (λ free. m (holds_absent h free))
 
   -- the root is a member
   pub holds_top : {t : Table E} {tree : Tree} {s : List Place} {q : Place} → Holds n t tree s → top tree ≡ Some q → IsAbsent q s → ⊥
@@ -70,10 +67,6 @@ module _ {E : Type 0} {n : E → Node} where
   pub right_member : {t : Table E} {tree : Tree} {s : List Place} {q r : Place}
       → Holds n t tree s → (IsAbsent q s → ⊥) → (n (t.entry q)).right ≡ Some r → IsAbsent r s → ⊥
   right_member = read_member (λ x. x.right) (λ p c a b up h x y z e. y (sym h.right ∙ e))
-
-  pub parent_member : {t : Table E} {tree : Tree} {s : List Place} {q r : Place}
-      → Holds n t tree s → (IsAbsent q s → ⊥) → (n (t.entry q)).parent ≡ Some r → IsAbsent r s → ⊥
-  parent_member = read_member (λ x. x.parent) (λ p c a b up h x y z e. z (sym h.parent ∙ e))
 
   -- there are no more members than the table covers, if only covered places are linked
   pub holds_length : (t : Table E) → ((q : Place) → (n (t.entry q)).linked ≡ true → IsCovered t q)
@@ -97,66 +90,29 @@ module _ {E : Type 0} {n : E → Node} where
   pub shows_nothing : (t : Table E) → Shows n t None []
   shows_nothing t = record { tree = leaf; held = holds_nothing t; starts = refl; shape = record { black_root = refl; no_red_pair = tt; even = tt } }
 
-  pub ends_nothing : (t : Table E) → ShowsEnds n t None None []
-  ends_nothing t = record { tree = leaf; held = holds_nothing t; starts = refl; ends = refl }
-
   -- a shown sequence stays where the table keeps the entries of its members
   pub shows_kept : {old new : Table E} {root : Option Place} {s : List Place}
       → Shows n old root s → ((q : Place) → (IsAbsent q s → ⊥) → new.entry q ≡ old.entry q) → Shows n new root s
   shows_kept h same = record { tree = h.tree; held = holds_kept h.held same; starts = h.starts; shape = h.shape }
-
-  pub ends_kept : {old new : Table E} {front back : Option Place} {s : List Place}
-      → ShowsEnds n old front back s → ((q : Place) → (IsAbsent q s → ⊥) → new.entry q ≡ old.entry q) → ShowsEnds n new front back s
-  ends_kept h same = record { tree = h.tree; held = holds_kept h.held same; starts = h.starts; ends = h.ends }
 
   -- so it does where another place changes
   pub shows_beside : {old new : Table E} {root : Option Place} {s : List Place} {p : Place}
       → Shows n old root s → IsAbsent p s → ((q : Place) → q ≢ p → new.entry q ≡ old.entry q) → Shows n new root s
   shows_beside h out same = record { tree = h.tree; held = holds_beside h.held out same; starts = h.starts; shape = h.shape }
 
-  pub ends_beside : {old new : Table E} {front back : Option Place} {s : List Place} {p : Place}
-      → ShowsEnds n old front back s → IsAbsent p s → ((q : Place) → q ≢ p → new.entry q ≡ old.entry q) → ShowsEnds n new front back s
-  ends_beside h out same = record { tree = h.tree; held = holds_beside h.held out same; starts = h.starts; ends = h.ends }
-
   -- THE FRAME: a tree which shares no member with s keeps its sequence where only entries of s change
   pub shows_frame : {old new : Table E} {root : Option Place} {s t : List Place}
       → Shows n old root t → IsDisjoint t s → KeepsBeside old new s → Shows n new root t
   shows_frame h d keeps = record { tree = h.tree; held = holds_frame h.held d keeps; starts = h.starts; shape = h.shape }
-
-  pub ends_frame : {old new : Table E} {front back : Option Place} {s t : List Place}
-      → ShowsEnds n old front back t → IsDisjoint t s → KeepsBeside old new s → ShowsEnds n new front back t
-  ends_frame h d keeps = record { tree = h.tree; held = holds_frame h.held d keeps; starts = h.starts; ends = h.ends }
 
   -- what is not linked is no member
   pub free_absent : {t : Table E} {root : Option Place} {s : List Place} {p : Place}
       → Shows n t root s → (n (t.entry p)).linked ≡ false → IsAbsent p s
   free_absent h free = holds_absent h.held free
 
-  pub ends_absent : {t : Table E} {front back : Option Place} {s : List Place} {p : Place}
-      → ShowsEnds n t front back s → (n (t.entry p)).linked ≡ false → IsAbsent p s
-  ends_absent h free = holds_absent h.held free
-
   -- the root is a member, and linked
   pub root_member : {t : Table E} {root : Option Place} {s : List Place} {q : Place} → Shows n t root s → root ≡ Some q → IsAbsent q s → ⊥
   root_member h e = holds_top h.held (sym h.starts ∙ e)
-
-  pub root_linked : {t : Table E} {root : Option Place} {s : List Place} {q : Place}
-      → Shows n t root s → root ≡ Some q → (n (t.entry q)).linked ≡ true
-  root_linked h e = holds_linked h.held (root_member h e)
-
-  -- it has no parent
-  pub root_parent : {t : Table E} {root : Option Place} {s : List Place} {q : Place}
-      → Shows n t root s → root ≡ Some q → (n (t.entry q)).parent ≡ None
-  root_parent {t} {root} {s} {q} h e = top_parent n t.entry None h.tree q h.held.entries (sym h.starts ∙ e)
-
-  -- both ends are members, and linked
-  pub front_linked : {t : Table E} {front back : Option Place} {s : List Place} {q : Place}
-      → ShowsEnds n t front back s → front ≡ Some q → (n (t.entry q)).linked ≡ true
-  front_linked {t} {front} {back} {s} {q} h e = holds_linked h.held (λ out. first_not s None q (none_not q) out (sym h.starts ∙ e))
-
-  pub back_linked : {t : Table E} {front back : Option Place} {s : List Place} {q : Place}
-      → ShowsEnds n t front back s → back ≡ Some q → (n (t.entry q)).linked ≡ true
-  back_linked {t} {front} {back} {s} {q} h e = holds_linked h.held (λ out. last_not None s q (none_not q) out (sym h.ends ∙ e))
 
   -- there is a root exactly if there is a member
   pub no_root : {t : Table E} {s : List Place} → Shows n t None s → s ≡ []
@@ -166,23 +122,12 @@ module _ {E : Type 0} {n : E → Node} where
     none (fork c a p b) s e order = absurd (none_not p e)
 
   pub no_members : {t : Table E} {root : Option Place} → Shows n t root [] → root ≡ None
-  no_members {t} {root} h = h.starts ∙ none h.tree h.held.order where
-    none : (tree : Tree) → in_order tree ≡ [] → top tree ≡ None
-    none leaf order = refl
-    none (fork c a p b) order = absurd (split_member (in_order a) p (in_order b) (rw order tt))
+  no_members {t} {root} h = h.starts ∙ ap top (leaf_is h.tree h.held.order)
 
   -- A TABLE SHOWS AT MOST ONE SEQUENCE for a tree
   pub one_sequence : {t : Table E} {root : Option Place} {s s' : List Place} → Shows n t root s → Shows n t root s' → s ≡ s'
   one_sequence {t} {root} {s} {s'} h k =
       sym h.held.order ∙ ap in_order (one_tree n t.entry None h.tree k.tree h.held.entries k.held.entries (sym h.starts ∙ k.starts)) ∙ k.held.order
-
-  -- and between two ends: from the first member the parents lead to the root
-  pub one_between : {t : Table E} {front back : Option Place} {s s' : List Place}
-      → ShowsEnds n t front back s → ShowsEnds n t front back s' → s ≡ s'
-  one_between {t} {front} {back} {s} {s'} h k =
-      let begin : first (in_order h.tree) ≡ first (in_order k.tree) = ap first h.held.order ∙ sym h.starts ∙ k.starts ∙ sym (ap first k.held.order) in
-      let root = same_root n t.entry h.tree k.tree h.held.entries k.held.entries begin in
-      sym h.held.order ∙ ap in_order (one_tree n t.entry None h.tree k.tree h.held.entries k.held.entries root) ∙ k.held.order
 
 -- the five facts of red-black trees, where both traits say alike whether a place is linked
 pub red_black_trees : {E : Type 0} {n : E → Node} {linked : E → Bool} → ((e : E) → (n e).linked ≡ linked e) → IsKind (Shows n) linked None

@@ -11,7 +11,7 @@ use Rattle.ic_link_ops.proofs.SequenceLemmas.{some_same, none_not}
 use Rattle.ic_link_ops.proofs.Chains.{chain_one}
 use Rattle.ic_link_ops.proofs.CollectionLaws.{IsKind}
 use Rattle.ic_link_ops.proofs.Clearing.{Releases, releases_left_blind}
-use Rattle.ic_link_ops.proofs.ShownLists.{free_absent, shows_kept, shows_beside, shows_frame, shows_insert, shows_remove, shows_replace, shows_splice, shows_split}
+use Rattle.ic_link_ops.proofs.ShownLists.{free_absent, shows_beside, shows_frame, shows_insert, shows_remove, shows_replace, shows_splice, shows_split}
 use Rattle.ic_link_ops.proofs.Walks.{walk_blind, stretch_through, stretch_length, stretch_empty, stretch_of, stretch_first}
 
 -- ONLY COVERED PLACES ARE LINKED, as successors say it too
@@ -102,11 +102,6 @@ module _ {E : Type 0} {s : E → Successor} where
   front_split {head} {fronts} {backs} front back {before} {behind} is_before is_behind shown turn is_front is_back =
       let both = shows_split {fronts = record { head = fronts; tail = before }} {backs = record { head = backs; tail = end_of behind None (last (front ++ back)) }}
       front back is_before is_behind (two_ended shown) turn unwritten is_front refl is_back refl in (one_ended both.0, one_ended both.1)
-
-  -- a shown sequence stays where the table keeps the entries of its members
-  pub front_kept : {old new : Table E} {head : Option Place} {m : List Place}
-      → Shows s old head m → ((q : Place) → (IsAbsent q m → ⊥) → new.entry q ≡ old.entry q) → Shows s new head m
-  front_kept shown same = one_ended (shows_kept (two_ended shown) same)
 
   -- where another place changes
   pub front_beside : {old new : Table E} {head : Option Place} {m : List Place} {p : Place}

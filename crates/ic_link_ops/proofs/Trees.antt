@@ -1,14 +1,15 @@
 -- Trees in a table: their members, what a setter makes of them, and that below a root there is one tree at most.
-use Rattle.std.proofs.Common.{◌≡◌, ◌≢◌, ◌<◌, Option, Some, None, List, [], ◌∷◌, ◌++◌, true, false, refl, sym, ap, ◌∙◌, subst}
+use Rattle.std.proofs.Common.{◌≡◌, ◌≢◌, ◌<◌, Option, Some, List, [], ◌∷◌, ◌++◌, true, false, refl, sym, ap, ◌∙◌, subst}
 use Rattle.std.specs.List.{AllByRecursion}
 use Rattle.ic_unsafe_ref.specs.declared.place.Place.{Place}
 use Rattle.ic_unsafe_ref.specs.Places.{index_of}
 use Rattle.ic_link_ops.specs.declared.color.Color.{Color}
-use Rattle.ic_link_ops.specs.Sequences.{IsAbsent, first_or, first}
+use Rattle.ic_link_ops.specs.Sequences.{IsAbsent, first}
 use Rattle.ic_link_ops.specs.Tables.{Table, IsCovered}
 use Rattle.ic_link_ops.specs.Trees.{Tree, leaf, fork, top, in_order}
 use Rattle.ic_link_ops.specs.RedBlackTree.{Node, IsAt, IsTree}
-use Rattle.ic_link_ops.proofs.SequenceLemmas.{absent_left, absent_right, absent_both, first_or-append, none_not, some_same}
+use Rattle.ic_link_ops.proofs.SequenceLemmas.{absent_left, absent_right, absent_both, none_not, some_same, split_member}
+use Rattle.ic_link_ops.proofs.Each.{all_both}
 
 -- a place that is no member is not the root
 pub top_not : (t : Tree) (q : Place) → IsAbsent q (in_order t) → top t ≢ Some q
@@ -21,10 +22,10 @@ pub absent_parts : (c : Color) (a : Tree) (p : Place) (b : Tree) (q : Place) →
 absent_parts c a p b q out =
     let k = absent_right q (in_order a) (p ∷ in_order b) out in (k.0, absent_left q (in_order a) (p ∷ in_order b) out, k.1)
 
--- what holds of the members of both parts holds of all
-all_both : (P : Place → Type 0) (s t : List Place) → AllByRecursion P s → AllByRecursion P t → AllByRecursion P (s ++ t)
-all_both P [] t h k = k
-all_both P (x ∷ s) t h k = (h.0, all_both P s t h.1 k)
+-- a tree with no members is a leaf
+pub leaf_is : (t : Tree) → in_order t ≡ [] → t ≡ leaf
+leaf_is leaf e = refl
+leaf_is (fork c a p b) e = absurd (split_member (in_order a) p (in_order b) (rw e tt))
 
 -- a sequence with a member has a first one
 some_first : (s : List Place) (p : Place) (t : List Place) → (x : Place) × (first (s ++ p ∷ t) ≡ Some x)
@@ -87,19 +88,6 @@ module _ {E : Type 0} (n : E → Node) where
       → IsAbsent p (in_order t) → ((q : Place) → q ≢ p → new q ≡ old q) → IsTree n old up t → IsTree n new up t
   tree_beside old new p up t out same h = tree_kept old new up t (λ q m. same q (λ e. m (rw e out))) h
 
-  -- where its root p alone changes, a tree is what p makes of its subtrees
-  pub tree_top : (old new : Place → E) (x : Option Place) (c : Color) (a : Tree) (p : Place) (b : Tree)
-      → IsAbsent p (in_order a) → IsAbsent p (in_order b) → ((q : Place) → q ≢ p → new q ≡ old q)
-      → IsAt n new p c (top a) (top b) x → IsTree n old (Some p) a → IsTree n old (Some p) b → IsTree n new x (fork c a p b)
-  tree_top old new x c a p b out_a out_b same at ha hb =
-      (at, tree_beside old new p (Some p) a out_a same ha, tree_beside old new p (Some p) b out_b same hb)
-
-  -- so a tree whose root is given another parent stands below that one
-  pub tree_adopted : (old new : Place → E) (up x : Option Place) (c : Color) (a : Tree) (p : Place) (b : Tree)
-      → IsAbsent p (in_order a) → IsAbsent p (in_order b) → ((q : Place) → q ≢ p → new q ≡ old q)
-      → n (new p) ≡ record (n (old p)) { parent = x } → IsTree n old up (fork c a p b) → IsTree n new x (fork c a p b)
-  tree_adopted old new up x c a p b out_a out_b same set h = tree_top old new x c a p b out_a out_b same (at_parent x set h.0) h.1 h.2
-
   -- what is not linked is no member
   pub tree_absent : (entry : Place → E) (up : Option Place) (t : Tree) (q : Place)
       → IsTree n entry up t → (n (entry q)).linked ≡ false → IsAbsent q (in_order t)
@@ -147,39 +135,3 @@ module _ {E : Type 0} (n : E → Node) where
   tree_covered t law up (fork c a p b) h =
       all_both (λ q. index_of q < t.extent.places) (in_order a) (p ∷ in_order b) (tree_covered t law (Some p) a h.1)
       (law p h.0.linked, tree_covered t law (Some p) b h.2)
-
--- the parents from p upwards end at the root r
-pub data LeadsUp {E : Type 0} (n : E → Node) (entry : Place → E) : Place → Place → Type 0 where
-  at_root : {p : Place} → (n (entry p)).parent ≡ None → LeadsUp n entry p p
-  step : {p q r : Place} → (n (entry p)).parent ≡ Some q → LeadsUp n entry q r → LeadsUp n entry p r
-
-module _ {E : Type 0} (n : E → Node) (entry : Place → E) where
-  -- they end at one root
-  pub one_root : {p r r' : Place} → LeadsUp n entry p r → LeadsUp n entry p r' → r ≡ r'
-  one_root (at_root e) (at_root k) = refl
-  one_root (at_root e) (step {q = q} k h) = absurd (none_not q (sym e ∙ k))
-  one_root (step {q = q} e h) (at_root k) = absurd (none_not q (sym k ∙ e))
-  one_root {r' = r'} (step e h) (step k i) = one_root h (subst (λ (z : Place). LeadsUp n entry z r') (some_same (sym k ∙ e)) i)
-
-  -- from the first member of a tree they lead through its root
-  pub first_leads : (u : Place) (t : Tree) (x r : Place) → IsTree n entry (Some u) t → LeadsUp n entry u r
-      → first_or (in_order t) (Some u) ≡ Some x → LeadsUp n entry x r
-  first_leads u leaf x r h up e = subst (λ (z : Place). LeadsUp n entry z r) (some_same e) up
-  first_leads u (fork c a p b) x r h up e =
-      first_leads p a x r h.1 (step h.0.parent up) (sym (first_or-append (in_order a) (p ∷ in_order b) (Some u)) ∙ e)
-
-  -- so there is one first member for one root
-  pub leads_root : (t : Tree) (x r : Place) → IsTree n entry None t → top t ≡ Some r → first_or (in_order t) None ≡ Some x → LeadsUp n entry x r
-  leads_root leaf x r h e k = absurd (none_not r e)
-  leads_root (fork c a p b) x r h e k =
-      let root : LeadsUp n entry p r = subst (λ (z : Place). LeadsUp n entry p z) (some_same e) (at_root h.0.parent) in
-      first_leads p a x r h.1 root (sym (first_or-append (in_order a) (p ∷ in_order b) None) ∙ k)
-
-  -- trees without a parent that begin with one member have one root
-  pub same_root : (t t' : Tree) → IsTree n entry None t → IsTree n entry None t' → first (in_order t) ≡ first (in_order t') → top t ≡ top t'
-  same_root leaf leaf h h' e = refl
-  same_root leaf (fork c a p b) h h' e = let x = some_first (in_order a) p (in_order b) in absurd (none_not x.0 (e ∙ x.1))
-  same_root (fork c a p b) leaf h h' e = let x = some_first (in_order a) p (in_order b) in absurd (none_not x.0 (sym e ∙ x.1))
-  same_root (fork c a p b) (fork c' a' p' b') h h' e =
-      let x = some_first (in_order a) p (in_order b) in
-      ap Some (one_root (leads_root (fork c a p b) x.0 p h refl x.1) (leads_root (fork c' a' p' b') x.0 p' h' refl (sym e ∙ x.1)))

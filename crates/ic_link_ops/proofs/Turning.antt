@@ -1,9 +1,9 @@
 -- A change at one place, as a turn there.
-use Rattle.std.proofs.Common.{◌≡◌, Option, Some, None, refl, sym, ap}
+use Rattle.std.proofs.Common.{◌≡◌, Option, Some, sym, ap}
 use Rattle.ic_unsafe_ref.specs.declared.place.Place.{Place}
 use Rattle.ic_link_ops.specs.Tables.{Table, ChangesOnly}
 use Rattle.ic_link_ops.specs.Turns.{TurnsBehind, TurnsBefore}
-use Rattle.ic_link_ops.proofs.SequenceLemmas.{some_same, none_not}
+use Rattle.ic_link_ops.proofs.SequenceLemmas.{some_same}
 
 module _ {E : Type 0} {between : E → Option Place → Option Place → Type 0} where
   -- a change at p that gives it another neighbor on one side is a turn there
@@ -20,10 +20,3 @@ module _ {E : Type 0} {between : E → Option Place → Option Place → Type 0}
     turned = λ q b e h. let k : p ≡ q = some_same e in rw (← k) (turn b (rw (← k) at h));
     others = λ q apart. frame.others q (λ e. apart (ap Some (sym e)));
   }
-
-  -- where there is no place, nothing has to be written
-  pub none_behind : {t : Place → E} {from to : Option Place} → TurnsBehind between t t None from to
-  none_behind = record { turned = λ q a e h. absurd (none_not q e); others = λ q apart. refl }
-
-  pub none_before : {t : Place → E} {from to : Option Place} → TurnsBefore between t t None from to
-  none_before = record { turned = λ q b e h. absurd (none_not q e); others = λ q apart. refl }

@@ -1,5 +1,5 @@
 -- Walks: the parts of chains that they give, step by step from either end.
-use Rattle.std.proofs.Common.{◌≡◌, ◌≢◌, ℕ, zero, suc, ◌<◌, ◌≤◌, Option, Some, None, List, [], ◌∷◌, ◌++◌, reverse, drop, length, length-append, Bool, true, false, nat_eq, ◌||◌, Bor, refl, sym, ◌∙◌, ap, arith, subst, ne_eqb, eq-eqb, eqb-true}
+use Rattle.std.proofs.Common.{◌≡◌, ◌≢◌, ℕ, zero, suc, ◌<◌, ◌≤◌, Option, Some, None, List, [], ◌∷◌, ◌++◌, drop, length, length-append, Bool, true, false, nat_eq, ◌||◌, Bor, refl, sym, ◌∙◌, ap, arith, subst, ne_eqb, eq-eqb, eqb-true}
 use Rattle.std.specs.Prelude.{IsSome}
 use Rattle.std.specs.Option.{option_copied}
 use Rattle.std.specs.List.{AllByRecursion, cons_option}
@@ -13,14 +13,14 @@ use Rattle.ic_link_ops.specs.Tables.{Table, IsCovered}
 use Rattle.ic_link_ops.specs.Chains.{Ends, IsChain, IsStretch, ShowsBetween}
 use Rattle.ic_link_ops.specs.Walk.{walk, walked, is_end, GivesFirst, GivesLast}
 use Rattle.ic_link_ops.proofs.Counting.{count, count_falls, count_at_most}
-use Rattle.ic_link_ops.proofs.SequenceLemmas.{distinct_left, distinct_right, distinct_reverse, first_of_reverse, last_of_reverse, last_not, none_not, some_same, last_some, split_last}
-use Rattle.ic_link_ops.proofs.Chains.{mirrored, chain_mirrored, chain_cut, last_between, first_between}
+use Rattle.ic_link_ops.proofs.SequenceLemmas.{distinct_left, distinct_right, last_not, none_not, some_same, last_some, split_last}
+use Rattle.ic_link_ops.proofs.Chains.{chain_cut, last_between, first_between}
 
 nat_eq_refl : (i : ℕ) → nat_eq i i ≡ true
 nat_eq_refl i = eq-eqb i i refl
 
 -- an end that is not p, and one that is
-is_end_not : (to : Option Place) (p : Place) → to ≢ Some p → is_end to p ≡ false
+pub is_end_not : (to : Option Place) (p : Place) → to ≢ Some p → is_end to p ≡ false
 is_end_not None p h = refl
 is_end_not (Some q) p h = ne_eqb (index_of q) (index_of p) (λ e. h (ap Some (same_index q p e)))
 
@@ -98,16 +98,6 @@ module _ {E : Type 0} {between : E → Option Place → Option Place → Type 0}
   -- all of a shown sequence is one
   pub stretch_of : {t : Table E} {list : Ends} {s : List Place} → ShowsBetween between t list s → IsStretch between t.entry None list.head list.tail None s
   stretch_of h = record { distinct = h.distinct; chain = h.chain; starts = h.head; ends = h.tail }
-
-  -- read from its other end, it is one for the mirrored relation
-  pub stretch_mirrored : {t : Place → E} {b from to a : Option Place} {w : List Place} → IsStretch between t b from to a w
-      → IsStretch (mirrored between) t a to from b (reverse w)
-  stretch_mirrored {t} {b} {from} {to} {a} {w} k = record {
-    distinct = distinct_reverse w k.distinct;
-    chain = chain_mirrored between t b w a k.chain;
-    starts = k.ends ∙ sym (first_of_reverse w None);
-    ends = k.starts ∙ sym (last_of_reverse None w);
-  }
 
   -- how its first member stands, and its last
   pub stretch_first : {t : Place → E} {b to a : Option Place} {p : Place} {w : List Place} → IsStretch between t b (Some p) to a w

@@ -1,5 +1,5 @@
 -- XOR linked lists: their setter turns, what their entries tell, and their walks.
-use Rattle.std.proofs.Common.{◌≡◌, ◌≤◌, Option, Some, List, reverse, length, Bool, true, refl, ◌∙◌}
+use Rattle.std.proofs.Common.{◌≡◌, ◌≤◌, Option, Some, List, length, Bool, true, refl, ◌∙◌}
 use Rattle.ic_unsafe_ref.specs.declared.place.Place.{Place}
 use Rattle.ic_link_ops.specs.Tables.{Table, IsCovered, ChangesOnly}
 use Rattle.ic_link_ops.specs.Chains.{Ends, no_members, IsStretch}
@@ -9,7 +9,7 @@ use Rattle.ic_link_ops.specs.XorLinkedList.{IsJoined, Shows, members}
 use Rattle.ic_link_ops.proofs.Turning.{turns_behind, turns_before}
 use Rattle.ic_link_ops.proofs.CollectionLaws.{IsKind}
 use Rattle.ic_link_ops.proofs.ShownLists.{shows_frame, shows_one, free_absent}
-use Rattle.ic_link_ops.proofs.Walks.{stretch_of, stretch_mirrored, stretch_length, stretch_walked}
+use Rattle.ic_link_ops.proofs.Walks.{stretch_of, stretch_length, stretch_walked}
 
 module _ {E : Type 0} {linked : E → Bool} {joins : E → Option Place → Option Place → Type 0} where
   -- A REPLACEMENT gives a turn on either side
@@ -62,13 +62,6 @@ module _ {E : Type 0} {linked : E → Bool} {joins : E → Option Place → Opti
     pub members_shown : (t : Table E) → ((q : Place) → linked (t.entry q) ≡ true → IsCovered t q)
         → (list : Ends) (s : List Place) → Shows linked joins t list s → members other t list ≡ s
     members_shown t covered list s shown = part_walked t covered (stretch_of shown)
-
-    -- of a symmetric relation the same walk leads back
-    pub part_walked_back : ((e : E) (a b : Option Place) → joins e a b → joins e b a) → (t : Table E) → ((q : Place) → linked (t.entry q) ≡ true → IsCovered t q)
-        → {before front back behind : Option Place} {w : List Place} → IsStretch (IsJoined linked joins) t.entry before front back behind w
-        → walked other t behind back front ≡ reverse w
-    part_walked_back symmetric t covered k =
-        stretch_walked other (joined_step_back symmetric) t (λ q b a h. covered q h.linked) (stretch_mirrored k)
 
 -- the five facts of XOR lists: `one` is the law that one neighbor tells the other
 pub xor_lists : {E : Type 0} {linked : E → Bool} {joins : E → Option Place → Option Place → Type 0}

@@ -59,7 +59,3 @@ module _ {E : Type 0} (node : E → Node) where
     pub held : Holds t tree s
     pub starts : front ≡ first s
     pub ends : back ≡ last s
-
-  -- the table shows a sequence between the two ends
-  abbrev pub ShowsSomeEnds : Table E → Option Place → Option Place → Type 0
-  ShowsSomeEnds t front back = (s : List Place) × ShowsEnds t front back s

@@ -1,6 +1,6 @@
 -- For callers: objects and a table of their links stay pooled, after each kind of step. Of a pair of tables, each stays so by itself.
 use Rattle.std.proofs.Common.{◌≡◌, ◌↔◌, ℕ, ◌^◌, ◌≤◌, leb, Bool, true, false, Result, Err, Option, None, Some, is_some, inl, inr, refl, sym, ap, ◌∙◌, arith}
-use Rattle.std.proofs.lemmas.Bool.{le-leb}
+use Rattle.std.proofs.lemmas.Bool.{le-leb, false_from_ne_true}
 use Rattle.std.proofs.lemmas.Bool.Decides.{leb_tells}
 use Rattle.ic_unsafe_ref.specs.declared.place.Place.{Place}
 use Rattle.ic_unsafe_ref.specs.Places.{index_of}
@@ -11,8 +11,7 @@ use Rattle.ic_link_ops.specs.declared.table.PlainTable.{PlainTable}
 use Rattle.ic_link_ops.specs.EntryLaws.{linked_in_range}
 use Rattle.ic_link_ops.specs.Links.{link_of}
 use Rattle.ic_link_ops.specs.PlainTables.{entries, table, linked_by}
-use Rattle.ic_link_ops.specs.Tables.{Table, IsCovered, IsUnlinked, LinksAlso, Unlinks, KeepsLinked}
-use Rattle.ic_link_ops.proofs.LinkedSets.{not_linked}
+use Rattle.ic_link_ops.specs.Tables.{Table, IsCovered, IsUnlinked, LinksAlso, Unlinks}
 use Rattle.ic_pool.specs.declared.place_error.PlaceError.{PlaceError}
 use Rattle.ic_pool.specs.declared.place_error.PlaceError.TheVariants.{NoPlaceLeft, OutOfMemory}
 use Rattle.ic_pool.specs.Pooled.{Grows, IsPooled}
@@ -23,7 +22,7 @@ pub pooled_first : {W A T : Type 0} (is_linked : W → Bool) (unlinked : W) → 
     → (table unlinked links).extent.places ≡ 0 → ((p : Place) → object_at objects p ≡ None) → IsPooled (linked_by is_linked) objects (table unlinked links)
 pooled_first is_linked unlinked starts links {objects} none vacant = record {
   covered = λ p is. let never : false ≡ true = sym (ap is_some (vacant p)) ∙ is in absurd (cc);
-  vacant = λ p gone. not_linked _ (λ is.
+  vacant = λ p gone. false_from_ne_true _ (λ is.
       let within = linked_in_range (linked_by is_linked) (link_of unlinked) starts (entries links) (index_of p) is in
       absurd (omega (arith, within, none)));
 }
@@ -72,13 +71,6 @@ module _ {E T : Type 0} {linked : E → Bool} {old : Objects T} {a : Table E} (p
       | inl e ↦ rw e off.is
       | inr other ↦ off.others q other ∙ pooled.vacant q none
     ];
-  }
-
-  -- AFTER A CALL that links nothing and unlinks nothing, as a turn or a splice
-  pub pooled_kept : {b : Table E} → KeepsLinked linked a b → b.extent ≡ a.extent → IsPooled linked old b
-  pooled_kept {b} keeps extent = record {
-    covered = λ q placed. let room = pooled.covered q placed in rw extent room;
-    vacant = λ q none. keeps q ∙ pooled.vacant q none;
   }
 
   -- AFTER AN OBJECT WAS CHANGED, as by `get_mut`: the same places have one

@@ -3,3 +3,4 @@ pub mod OrderLemmas
 pub mod ObjectLemmas
 pub mod Placing
 pub mod IndexLemmas
+pub mod Counting

@@ -1,5 +1,5 @@
 -- Places, their numbers and their indexes.
-use Rattle.std.proofs.Common.{◌≡◌, ◌≢◌, ℕ, ◌+◌, ◌*◌, ◌<◌, ◌⊎◌, Option, Some, None, nat_eq, false, refl, inl, inr, sym, ap, ◌∙◌, arith, ne_eqb, eq-eqb, eqb-true}
+use Rattle.std.proofs.Common.{◌≡◌, ◌≢◌, ℕ, ◌+◌, ◌*◌, ◌<◌, ◌⊎◌, Option, Some, None, nat_eq, refl, inl, inr, sym, ap, ◌∙◌, arith, eq-eqb, eqb-true}
 use Rattle.std.specs.Prelude.{◌%◌, bit_xor}
 use Rattle.std.specs.Cmp.{both_ways}
 use Rattle.std.proofs.lemmas.Nat.{xor_lt, xor_mod}
@@ -89,10 +89,6 @@ word_fits (Some p) = let e = number_of p in (omega (arith, e, p.is_number.1), om
 
 pub xor_fits : {a b : ℕ} → IsWord a → IsWord b → IsWord (bit_xor a b)
 xor_fits {a} {b} h k = (xor_lt 34 a b h.0 k.0, xor_mod a b 1 ∙ ap (λ m. bit_xor m (b % 2)) h.1 ∙ ap (bit_xor 0) k.1)
-
--- so it is never the mark of an unlinked entry
-pub word_not_mark : (to : Option Place) → nat_eq (word_of to) 1 ≡ false
-word_not_mark to = ne_eqb (word_of to) 1 (λ e. absurd (omega (arith, e, (word_fits to).1)))
 
 -- every index below 2 ^ 33 - 1 is that of a place, more than a table covers
 pub place_with : (i : ℕ) → i < 8589934591 → (p : Place) × (index_of p ≡ i)

@@ -1,6 +1,7 @@
 -- A row of places, what a record of one claim of each says, and those that were had.
 use Rattle.std.proofs.Common.{◌≡◌, ◌<◌, ◌≤◌, ◌+◌, ℕ, zero, suc, Bool, true, false, true≢false, cond, eqb, ◌||◌, List, [], ◌∷◌, ◌++◌, length, refl, sym, ap, ◌∙◌, subst, arith, eq-eqb, ne_eqb}
 use Rattle.std.specs.Prelude.{slice_index_or}
+use Rattle.std.proofs.lemmas.Bool.{or_left, or_right}
 use mathlib.Core.Logic.{dite}
 use native.Mathlib.Decide.{ℕ_discrete}
 use Rattle.ic_unsafe_ref.specs.declared.place.Place.{Place}
@@ -61,14 +62,6 @@ pub only_each : (ps : List Place) (got : List Bool) → OnlyClaims (claims_of_ea
 only_each [] got = tt
 only_each (p ∷ ps) [] = tt
 only_each (p ∷ ps) (b ∷ got) = (tt, only_each ps got)
-
-or_right : (b c : Bool) → c ≡ true → (b || c) ≡ true
-or_right true c e = refl
-or_right false c e = e
-
-or_left : (b c : Bool) → b ≡ true → (b || c) ≡ true
-or_left true c e = refl
-or_left false c e = absurd (true≢false (sym e))
 
 pub asks_each : (from : ℕ) (ps : List Place) (got : List Bool) → IsRow from ps → length got ≡ length ps → (n : ℕ) → from ≤ n → n < from + length ps
     → asks n (claims_of_each ps got) ≡ true

@@ -1,14 +1,11 @@
 -- Where an index stands in a list that rises.
 use Rattle.std.proofs.Common.{◌≡◌, ◌<◌, ◌≤◌, ◌+◌, ℕ, zero, suc, Bool, true, false, cond, eqb, ◌||◌, List, [], ◌∷◌, ◌++◌, take, drop, length, refl, sym, ap, ◌∙◌, arith, eq-eqb, ne_eqb, Vec, All}
-use Rattle.std.proofs.lemmas.Bool.{lt-ltb, le-ltb}
+use Rattle.std.proofs.lemmas.Bool.{lt-ltb, le-ltb, or_from}
 use Rattle.std.specs.Prelude.{slice_index_or}
 use Rattle.ic_unsafe_ref.specs.declared.place.Place.{Place}
 use Rattle.ic_unsafe_ref.specs.Places.{index_of}
 use Rattle.ic_workers.specs.SharedOut.{has, Rises, places_in}
 use Rattle.ic_workers.specs.Doubles.{times, doubles_below}
-
-or_none : (b c : Bool) → b ≡ false → c ≡ false → (b || c) ≡ false
-or_none b c e f = ap (λ x. x || c) e ∙ f
 
 or_true : (b : Bool) → (b || true) ≡ true
 or_true true = refl
@@ -25,15 +22,15 @@ not_below : (low high : ℕ) (s : List Place) → Rises low high s → (n : ℕ)
 not_below low high [] r n less = refl
 not_below low high (p ∷ s) r n less =
     let i = r.0 in
-    or_none _ (has s n) (ne_eqb n (index_of p) (λ e. absurd (omega (arith, e, i, less)))) (not_below (index_of p + 1) high s r.2 n (omega (arith, i, less)))
+    or_from _ (has s n) (ne_eqb n (index_of p) (λ e. absurd (omega (arith, e, i, less)))) (not_below (index_of p + 1) high s r.2 n (omega (arith, i, less)))
 
 -- no larger one in front of a place,
 pub not_in_front : (low high : ℕ) (s : List Place) → Rises low high s → (m : ℕ) (d : Place) → m < length s → (n : ℕ) → index_of (slice_index_or s m d) < n → has (take (suc m) s) n ≡ false
 not_in_front low high [] r m d inside n more = absurd (omega (arith, inside))
-not_in_front low high (p ∷ s) r zero d inside n more = or_none _ false (ne_eqb n (index_of p) (λ e. absurd (omega (arith, e, more)))) refl
+not_in_front low high (p ∷ s) r zero d inside n more = or_from _ false (ne_eqb n (index_of p) (λ e. absurd (omega (arith, e, more)))) refl
 not_in_front low high (p ∷ s) r (suc m) d inside n more =
     let j = at_least (index_of p + 1) high s r.2 m d (omega (arith, inside)) in
-    or_none _ (has (take (suc m) s) n) (ne_eqb n (index_of p) (λ e. absurd (omega (arith, e, j, more)))) (not_in_front (index_of p + 1) high s r.2 m d (omega (arith, inside)) n more)
+    or_from _ (has (take (suc m) s) n) (ne_eqb n (index_of p) (λ e. absurd (omega (arith, e, j, more)))) (not_in_front (index_of p + 1) high s r.2 m d (omega (arith, inside)) n more)
 
 -- and no smaller one behind it
 pub not_behind : (low high : ℕ) (s : List Place) → Rises low high s → (m : ℕ) (d : Place) → m < length s → (n : ℕ) → n < index_of (slice_index_or s m d) → has (drop m s) n ≡ false

@@ -1,5 +1,6 @@
 -- A walk over a list, from its front.
 use Rattle.std.proofs.Common.{◌≡◌, ◌++◌, [], ◌∷◌, Option, Some, List, drop, sym, ap, ◌∙◌, append_assoc}
+use Rattle.std.proofs.lemmas.List.{append_cancel_left}
 use Rattle.ic_unsafe_ref.specs.declared.place.Place.{Place}
 use Rattle.ic_link_ops.specs.Sequences.{Cut, join, first, IsAfter, IsBefore}
 use Rattle.ic_link_ops.proofs.SequenceLemmas.{first_is, last_of_push}
@@ -25,8 +26,4 @@ seen_more {seen} {s} k p here leads =
 -- and one fewer is left
 pub seen_less : {seen : List Place} {p : Place} {position new_position : Option Place} {s : List Place} (k : Seen seen position s) (m : Seen (seen ++ p ∷ []) new_position s)
     → k.rest ≡ p ∷ m.rest
-seen_less {seen} {p} k m = append_same seen k.rest (p ∷ m.rest) (sym k.is ∙ (m.is ∙ append_assoc seen (p ∷ []) m.rest))
-  where
-    append_same : (s t u : List Place) → s ++ t ≡ s ++ u → t ≡ u
-    append_same [] t u e = e
-    append_same (x ∷ s) t u e = append_same s t u (ap (drop 1) e)
+seen_less {seen} {p} k m = append_cancel_left seen k.rest (p ∷ m.rest) (sym k.is ∙ (m.is ∙ append_assoc seen (p ∷ []) m.rest))

@@ -5,14 +5,14 @@ use Rattle.ic_unsafe_ref.specs.declared.place.Place.{Place}
 use Rattle.ic_link_ops.specs.Sequences.{IsDistinct, IsDisjoint}
 use Rattle.ic_link_ops.specs.PlacedObjects.{ArePlaced}
 use Rattle.ic_link_ops.specs.Tables.{Table}
+use Rattle.ic_link_ops.proofs.SequenceLemmas.{some_same}
 use Rattle.ic_any_table.specs.declared.entry.Entry.{Entry}
 use Rattle.ic_any_collection.proofs.AllKinds.{distinct}
 use Rattle.ic_world.specs.declared.collection.Collection.{Collection}
 use Rattle.ic_world.specs.Tables.{table, sequence, seen_as, shown_as, at, family_of, IsWhole}
 use Rattle.ic_world.specs.Family.{Sequence, collection}
 use Rattle.ic_world.specs.Apart.{AreApart, AreAllPlaced}
-use Rattle.ic_world.proofs.Calls.{all_placed}
-use Rattle.ic_world.proofs.Steps.{some_same}
+use Rattle.ic_world.proofs.OneCall.{all_placed}
 use Rattle.ic_world.proofs.Readings.{collection_at}
 
 -- NO MEMBER IS SHARED, as a world keeps it

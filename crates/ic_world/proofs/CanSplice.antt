@@ -17,7 +17,7 @@ use Rattle.ic_any_collection.proofs.AllKinds.{IsLawful, one_sequence}
 use Rattle.ic_any_collection.specs.Edits.{PutsAll}
 use Rattle.ic_world.specs.declared.collection.Collection.{Collection}
 use Rattle.ic_world.specs.declared.call.Refusal.TheVariants.{WrongKind, SameCollection, OtherField}
-use Rattle.ic_world.specs.Family.{Family, same_kind}
+use Rattle.ic_world.specs.Family.{Family, Sequence, collection, same_kind}
 use Rattle.ic_world.specs.FamilyCodes.{kind_again}
 use Rattle.ic_world.specs.Splices.{IsBesideOf, can_splice, Emptied, PutsBeside, CanJoin, CanBeJoined, PutsTogether, AreJoined}
 use Rattle.ic_world.specs.Calls.{done}
@@ -44,6 +44,19 @@ put_back xs c d n x y differ =
 abbrev Exchanged : {X : Type 0} → List (Option X) → ℕ → Option X → (was : Option X) → List (Option X) → Type 0
 Exchanged old i item was new = record { was : was ≡ get_or old i None; set : new ≡ set old i item }
 
+-- a splice that no test refuses is of two collections of one kind and field, which has the call
+pub can_splice_of : {A V : Type 0} (old : Family A V) (has : Kind → Bool) (c d : ℕ) (s t : Sequence) → collection old c ≡ Some s → collection old d ≡ Some t → refusal_of_splice old has c d ≡ None
+    → (has s.kind ≡ true) × (same_kind s.kind t.kind ≡ true) × (c ≢ d) × (s.field ≡ t.field)
+can_splice_of old has c d s t is_s is_t e =
+    let one = asks_none (has s.kind) WrongKind _ (rw (is_s, is_t) at e) in
+    let two = asks_none (same_kind s.kind t.kind) WrongKind _ one.1 in
+    let three = asks_none (not (nat_eq c d)) SameCollection _ two.1 in (
+      one.0,
+      two.0,
+      (λ same. let yes : nat_eq c d ≡ true = eq-eqb c d same in let no = three.0 in cc),
+      eq_of s.field t.field (asks_none (nat_eq s.field t.field) OtherField None three.1).0,
+    )
+
 module _ {V : Type 0} where
   -- two collections that can be spliced
   record CanSplice (has : Kind → Bool) (cs : List (Option (Collection V))) (c d : ℕ) (k l : Collection V) : Type 0 where
@@ -57,17 +70,14 @@ module _ {V : Type 0} where
   module _ {A : Type 0} (has : Kind → Bool) (adapter : A) (objects : Objects V) (ts : List (Table Entry)) (cs : List (Option (Collection V))) (c d : ℕ) where
     fit : (k l : Collection V) → refusal_of_splice (family_of adapter objects ts cs) has c d ≡ None → at cs c ≡ Some k → at cs d ≡ Some l → CanSplice has cs c d k l
     fit k l none is_k is_l =
-        let all = rw (collection_is adapter objects ts cs c k is_k, collection_is adapter objects ts cs d l is_l) at none in
-        let one = asks_none (has (kind_in k.members)) WrongKind _ all in
-        let two = asks_none (same_kind (kind_in k.members) (kind_in l.members)) WrongKind _ one.1 in
-        let three = asks_none (not (nat_eq c d)) SameCollection _ two.1 in
-        let numbers : number_of (kind_in k.members) ≡ number_of (kind_in l.members) = eq_of _ _ two.0 in record {
+        let all = can_splice_of (family_of adapter objects ts cs) has c d _ _ (collection_is adapter objects ts cs c k is_k) (collection_is adapter objects ts cs d l is_l) none in
+        let numbers : number_of (kind_in k.members) ≡ number_of (kind_in l.members) = eq_of _ _ all.1 in record {
           is_k = is_k;
           is_l = is_l;
-          can = one.0;
+          can = all.0;
           kinds = sym (kind_again (kind_in k.members)) ∙ ap (λ n. kind_with (n ∷ [])) numbers ∙ kind_again (kind_in l.members);
-          differ = λ e. let t : nat_eq c d ≡ true = eq-eqb c d e in let f = not_true (nat_eq c d) three.0 in cc;
-          fields = eq_of _ _ (asks_none (nat_eq k.field l.field) OtherField None three.1).0;
+          differ = all.2;
+          fields = all.3;
         }
 
     two : (o p : Option (Collection V)) → refusal_of_splice (family_of adapter objects ts cs) has c d ≡ None → at cs c ≡ o → at cs d ≡ p → (k l : Collection V) × CanSplice has cs c d k l

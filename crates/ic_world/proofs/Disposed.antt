@@ -9,8 +9,8 @@ use Rattle.ic_any_table.specs.declared.entry.Entry.{Entry}
 use Rattle.ic_world.specs.declared.collection.Collection.{Collection}
 use Rattle.ic_world.specs.declared.call.Refusal.{Refusal}
 use Rattle.ic_world.specs.declared.call.Command.TheVariants.{Dispose}
-use Rattle.ic_world.specs.declared.one_call.Call.TheVariants as one
-use Rattle.ic_world.specs.declared.whole.Whole.TheVariants.{Clear}
+use Rattle.ic_world.specs.declared.calls.one_call.Call.TheVariants as one
+use Rattle.ic_world.specs.declared.calls.whole.Whole.TheVariants.{Clear}
 use Rattle.ic_world.specs.Family.{Family, Sequence, collection, linked_of, with_collection, with_linked}
 use Rattle.ic_world.specs.Calls.{State, Reply, done, refused, cleared, unlinked}
 use Rattle.ic_world.specs.LeftLinked.{NoneLeftLinked}

@@ -2,16 +2,7 @@
 use Rattle.std.proofs.Common.{◌≡◌, Option, Some, None, List, [], ◌∷◌, ◌++◌, refl, sym, ap, ◌∙◌, subst, drop, append-nil}
 use Rattle.ic_unsafe_ref.specs.declared.place.Place.{Place}
 use Rattle.ic_link_ops.specs.Sequences.{Cut, join, at_front, at_back, first, last, last_or, IsAfter, IsBefore, IsAbsent, IsDistinct}
-use Rattle.ic_link_ops.proofs.SequenceLemmas.{absent_right, distinct_right, first_not, first_is, last_not, last_or-append, last_some, none_not, some_same}
-
--- a sequence with no first member is empty, and so is one with no last
-pub first_none : (s : List Place) → None ≡ first s → s ≡ []
-first_none [] e = refl
-first_none (x ∷ s) e = cc
-
-pub last_none : (s : List Place) → None ≡ last s → s ≡ []
-last_none [] e = refl
-last_none (x ∷ s) e = absurd (last_some x s (sym e))
+use Rattle.ic_link_ops.proofs.SequenceLemmas.{absent_right, distinct_right, first_not, first_is, last_not, last_or-append, none_not, some_same, nothing_first, nothing_last}
 
 -- the gap whose front is empty, and the one whose back is
 pub front_gap : (gap : Cut) {s : List Place} → join gap ≡ s → gap.front ≡ [] → gap ≡ at_front s
@@ -23,10 +14,10 @@ back_gap gap cut empty =
 
 -- the gap after a cursor that is at null, and the one before it
 pub front_is : (gap : Cut) {cursor : Option Place} {s : List Place} → join gap ≡ s → IsAfter gap cursor → cursor ≡ None → gap ≡ at_front s
-front_is gap cut is null = front_gap gap cut (last_none gap.front (sym null ∙ is))
+front_is gap cut is null = front_gap gap cut (nothing_last gap.front (sym null ∙ is))
 
 pub back_is : (gap : Cut) {cursor : Option Place} {s : List Place} → join gap ≡ s → IsBefore gap cursor → cursor ≡ None → gap ≡ at_back s
-back_is gap cut is null = back_gap gap cut (first_none gap.back (sym null ∙ is))
+back_is gap cut is null = back_gap gap cut (nothing_first gap.back (sym null ∙ is))
 
 -- the gap before a member that is the first, and before one that is the last
 empty_front : (f b : List Place) (p : Place) → IsDistinct (f ++ b) → first (f ++ b) ≡ Some p → Some p ≡ first b → f ≡ []

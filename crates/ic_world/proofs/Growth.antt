@@ -46,12 +46,6 @@ pub record GrownTo (ts us : List (Table Entry)) (f count : ℕ) : Type 0 where
   pub grown : Grown ts us
   pub done : (g : ℕ) → g < f → count ≤ (table us g).extent.places
 
-grown_none : (ts : List (Table Entry)) → Grown ts ts
-grown_none ts = record { count = refl; each = λ f. record { longer = omega arith; identity = refl; entries = λ q. refl } }
-
-pub grown_to_none : (ts : List (Table Entry)) (count : ℕ) → GrownTo ts ts 0 count
-grown_to_none ts count = record { grown = grown_none ts; done = λ f h. absurd (omega (arith, h)) }
-
 grows_on : (t u v : Table Entry) → GrowsTo t u → GrowsTo u v → GrowsTo t v
 grows_on t u v a b = record {
   longer = let x = a.longer in let y = b.longer in omega (arith, x, y);

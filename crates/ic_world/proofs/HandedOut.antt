@@ -4,7 +4,7 @@ use Rattle.std.proofs.lemmas.List.{length-map, length-set, map-set}
 use Rattle.ic_unsafe_ref.specs.Objects.{Objects}
 use Rattle.ic_link_ops.specs.Sequences.{IsDisjoint}
 use Rattle.ic_link_ops.specs.Tables.{Table}
-use Rattle.ic_link_ops.proofs.SequenceLemmas.{absent_swap}
+use Rattle.ic_link_ops.proofs.SequenceLemmas.{absent_swap, some_same}
 use Rattle.ic_any_table.specs.declared.entry.Entry.{Entry}
 use Rattle.ic_any_table.specs.declared.field.Field.{Field}
 use Rattle.ic_world.specs.declared.field.WorldField.{WorldField}
@@ -23,9 +23,8 @@ use Rattle.ic_world.specs.Tables.{table, table_of, left_in, sequence, seen_as, a
 use Rattle.ic_world.proofs.Readings.{Found, left_back, collection_is}
 use Rattle.ic_world.proofs.Edits.{Edit, after, at_after, here, new_sequence, same_sequence, edited_family, edited_whole}
 use Rattle.ic_world.proofs.Opened.{appended_whole, appended_family}
-use Rattle.ic_world.proofs.Calls.{same_state}
+use Rattle.ic_world.proofs.OneCall.{same_state}
 use Rattle.ic_world.proofs.LeftLinked.{none_out}
-use Rattle.ic_world.proofs.Steps.{some_same}
 
 module _ {V : Type 0} {objects : Objects V} {room : ℕ} {ts : List (Table Entry)} {cs : List (Option (Collection V))} (whole : IsWhole objects room ts cs)
     (c : ℕ) (k : Collection V) (is : at cs c ≡ Some k) (part : Part) {new : Table Entry} {m handed : Members V} (parts : HandsOut (PartsOf part) (table ts k.field) new k.members m handed) where

@@ -1,5 +1,5 @@
 -- What an object that is put into a gap, or in the place of a member, leaves to the world, and that it is refused where it is linked.
-use Rattle.std.proofs.Common.{◌≡◌, ◌≢◌, Bool, true, false, not, is_some, if◌then◌else◌, Option, Some, None, List, [], ◌∷◌, drop, Result, Ok, Err, OnOk, OnErr, IfOk, IfErr, refl, sym, ap, ◌∙◌, append-nil}
+use Rattle.std.proofs.Common.{◌≡◌, ◌≢◌, Bool, true, false, not, is_some, if◌then◌else◌, Option, Some, None, [], ◌∷◌, Result, Ok, Err, OnErr, IfOk, IfErr, refl, ap, ◌∙◌, append-nil}
 use Rattle.std.specs.Bool.{OnTrue, OnFalse}
 use Rattle.std.specs.FinSet as set
 use Rattle.ic_unsafe_ref.specs.declared.place.Place.{Place}
@@ -16,10 +16,10 @@ use Rattle.ic_any_collection.specs.declared.members.Members.{Members}
 use Rattle.ic_any_collection.specs.Members.{cursor_in, members_in, Held}
 use Rattle.ic_any_collection.specs.Edits.{AtGap, Puts, Swaps, IsUnchanged}
 use Rattle.ic_any_collection.proofs.AllKinds.{lawful, distinct}
-use Rattle.ic_world.specs.declared.one_call.Call.TheVariants as one
-use Rattle.ic_world.specs.declared.one_call.Where.{Where}
-use Rattle.ic_world.specs.declared.one_call.Where.TheVariants.{Front, Back, Before, After}
-use Rattle.ic_world.specs.declared.call.Refusal.TheVariants.{NothingThere, AlreadyLinked}
+use Rattle.ic_world.specs.declared.calls.one_call.Call.TheVariants as one
+use Rattle.ic_world.specs.declared.calls.one_call.Where.{Where}
+use Rattle.ic_world.specs.declared.calls.one_call.Where.TheVariants.{Front, Back, Before, After}
+use Rattle.ic_world.specs.declared.call.Refusal.TheVariants.{AlreadyLinked}
 use Rattle.ic_world.specs.Calls.{done, object, member_at, own_refusal, asks_unlinked}
 use Rattle.ic_world.specs.Calls as calls
 use Rattle.ic_world.specs.LinkedSets.{linked_in}

@@ -1,9 +1,7 @@
 -- What keyed calls leave to the world, from what the tree's own calls give.
-use Rattle.std.proofs.Common.{◌≡◌, ◌∙◌, ℕ, inl, Bool, true, false, Option, Some, None, List, [], ◌∷◌, refl, sym, Ok, OnSome, IfSome, IfNone}
-use Rattle.std.specs.FinSet as set
+use Rattle.std.proofs.Common.{◌≡◌, ◌∙◌, ℕ, inl, Bool, true, false, Option, Some, None, List, [], ◌∷◌, refl, Ok, OnSome, IfSome, IfNone}
 use Rattle.std.specs.declared.cmp.Ordering.{Ordering}
 use Rattle.ic_unsafe_ref.specs.declared.place.Place.{Place}
-use Rattle.ic_unsafe_ref.specs.Places.{index_of}
 use Rattle.ic_unsafe_ref.specs.Objects.{Objects}
 use Rattle.ic_link_ops.specs.Sequences.{Cut, join}
 use Rattle.ic_link_ops.specs.Tables.{IsLinked}
@@ -12,11 +10,10 @@ use Rattle.ic_any_table.specs.declared.field.Field.{Field}
 use Rattle.ic_any_table.specs.Fields.{look}
 use Rattle.ic_any_table.specs.Entries.{is_linked}
 use Rattle.ic_any_collection.specs.declared.members.Members.{Members}
-use Rattle.ic_any_collection.specs.Members.{cursor_in, members_in, Held}
+use Rattle.ic_any_collection.specs.Members.{members_in, Held}
 use Rattle.ic_any_collection.specs.Edits.{AtGap, Moves, IsUnchanged}
 use Rattle.ic_any_collection.specs.Keyed.{FewLooks, IsVacantFor, PutsInOrder, PutsAtKey}
 use Rattle.ic_any_collection.proofs.AllKinds.{lawful}
-use Rattle.ic_world.specs.LinkedSets.{linked_in}
 use Rattle.std.specs.Option.{ok_or}
 use Rattle.ic_world.specs.declared.call.Refusal.TheVariants.{AlreadyLinked}
 use Rattle.ic_world.specs.Calls.{State, put, moved, asks_unlinked, key_at, EntryReplies}

@@ -12,29 +12,28 @@ use Rattle.ic_unsafe_ref.specs.Places.{index_of}
 use Rattle.ic_unsafe_ref.specs.Objects.{Objects}
 use Rattle.ic_unsafe_ref.proofs.PlaceLemmas.{same_index}
 use Rattle.ic_link_ops.specs.Sequences.{Cut, join, splice, first, IsAbsent}
-use Rattle.ic_link_ops.proofs.SequenceLemmas.{absent_left, absent_right, absent_both, absent_reverse}
+use Rattle.ic_link_ops.proofs.SequenceLemmas.{absent_left, absent_right, absent_both, absent_reverse, some_same}
 use Rattle.ic_any_table.specs.declared.kind.Kind.{Kind}
 use Rattle.ic_any_table.specs.declared.kind.Kind.TheVariants.{Singly}
 use Rattle.ic_world.specs.declared.call.Refusal.{Refusal}
-use Rattle.ic_world.specs.declared.call.Refusal.TheVariants.{WrongKind, SameCollection, OtherField, AlreadyLinked, OutOfMemory}
+use Rattle.ic_world.specs.declared.call.Refusal.TheVariants.{AlreadyLinked, OutOfMemory}
 use Rattle.ic_world.specs.declared.call.Command.TheVariants.{Open, ForceUnlink}
-use Rattle.ic_world.specs.declared.one_call.Call.TheVariants as one
-use Rattle.ic_world.specs.declared.one_call.Direction.TheVariants.{Next, Prev}
+use Rattle.ic_world.specs.declared.calls.one_call.Call.TheVariants as one
+use Rattle.ic_world.specs.declared.calls.one_call.Direction.TheVariants.{Next, Prev}
 use Rattle.ic_world.specs.declared.part.Part.{Part}
 use Rattle.ic_world.specs.declared.part.Part.TheVariants.{All, After, Before}
-use Rattle.ic_world.specs.declared.seek.Seek.TheVariants.{Null, On, With}
-use Rattle.ic_world.specs.declared.whole.Whole.TheVariants.{Clear, Reverse}
-use Rattle.ic_world.specs.declared.insertion.Insertion.TheVariants.{Insert, CursorInsert}
-use Rattle.ic_world.specs.declared.search.Search.TheVariants.{Find, LowerBound, UpperBound}
-use Rattle.ic_world.specs.Family.{Family, LinkField, Sequence, same_kind, collection, field_of, linked_of, objects_of, with_linked, with_collection, with_opened}
+use Rattle.ic_world.specs.declared.calls.seek.Seek.TheVariants.{Null, On, With}
+use Rattle.ic_world.specs.declared.calls.whole.Whole.TheVariants.{Clear, Reverse}
+use Rattle.ic_world.specs.declared.calls.insertion.Insertion.TheVariants.{Insert, CursorInsert}
+use Rattle.ic_world.specs.declared.calls.search.Search.TheVariants.{Find, LowerBound, UpperBound}
+use Rattle.ic_world.specs.Family.{Family, LinkField, Sequence, collection, field_of, linked_of, objects_of, with_linked, with_collection, with_opened}
 use Rattle.ic_world.specs.Calls.{Call, State, Reply, opened, found, looked, entry, refused, is_linked_in, onward, put, swapped, without, unlinked, cleared, Replies}
 use Rattle.ic_world.specs.Several.{with_members, state_in, with_state, sequence_of, StepBy, PartsOf, refusal_of_open, OpensWith, StepOut, refusal_of_part, SplicesAt, StepSplice, refusal_of_splice}
 use Rattle.ic_world.specs.Step.{Step, Accepts, refusal, StepOn, AcceptsOn, refusal_on}
 use Rattle.ic_world.specs.LeftLinked.{IsLeftLinked, NoneLeftLinked}
 use Rattle.ic_world.proofs.Linked.{side}
 use Rattle.ic_world.proofs.Readings.{some_within}
-use Rattle.ic_world.proofs.Steps.{some_same, asks_none}
-use Rattle.ic_world.proofs.CanSplice.{eq_of}
+use Rattle.ic_world.proofs.CanSplice.{can_splice_of}
 
 -- a place that is in a set with q, and is another, was in it; and one that is in it without q
 module _ (l : set_of.FinSet nat_cmp) (q p : Place) where
@@ -184,14 +183,6 @@ module _ {A V : Type 0} (w : Family A V) (f : ℕ) (p : Place) where
     λ field. h.1 (length w.collections) x (get_or_push w.collections (Some x) None (length w.collections) refl) field,
   )
 
--- a splice is of two collections of one field
-can_splice_of : {A V : Type 0} (old : Family A V) (has : Kind → Bool) (c d : ℕ) (s t : Sequence) → collection old c ≡ Some s → collection old d ≡ Some t → refusal_of_splice old has c d ≡ None
-    → (c ≢ d) × (s.field ≡ t.field)
-can_splice_of old has c d s t is_s is_t e =
-    let kinds = (asks_none (has s.kind) WrongKind _ (rw (is_s, is_t) at e)).1 in
-    let apart = asks_none (not (nat_eq c d)) SameCollection _ (asks_none (same_kind s.kind t.kind) WrongKind _ kinds).1 in
-    ((λ same. let yes : nat_eq c d ≡ true = eq-eqb c d same in let no = apart.0 in cc), eq_of s.field t.field (asks_none (nat_eq s.field t.field) OtherField None apart.1).0)
-
 -- SO NONE IS LEFT LINKED after a call, if none was before it
 module _ {A V : Type 0} {left : List Bool} {old : Family A V} (none : NoneLeftLinked left old) {new : Family A V} where
   none_as : {w : Family A V} → new ≡ w → ((f : ℕ) (p : Place) → IsLeftLinked w f p → IsLeftLinked old f p) → NoneLeftLinked left new
@@ -223,12 +214,12 @@ module _ {A V : Type 0} {left : List Bool} {old : Family A V} (none : NoneLeftLi
           let given = with_members t [] None in
           let to = with_members s (splice gap t.members) s.cursor in
           let mid = with_collection old d (Some given) in
-          let is_s : collection mid c ≡ Some s = get_or-set_other old.collections d c (Some given) None can.0 ∙ h.3 in
+          let is_s : collection mid c ≡ Some s = get_or-set_other old.collections d c (Some given) None can.2 ∙ h.3 in
           none_as h.8 (λ f p k.
           let out : s.field ≡ f → IsAbsent p (splice gap t.members) = k.1 c to (replaced_is mid f p c (Some to) is_s) in
           replaced old f p d (Some given) (λ r is_r field.
           let same = some_same (sym h.6 ∙ is_r) in
-          let rest = absent_right p gap.front (t.members ++ gap.back) (out (can.1 ∙ ap (λ (x : Sequence). x.field) same ∙ field)) in
+          let rest = absent_right p gap.front (t.members ++ gap.back) (out (can.3 ∙ ap (λ (x : Sequence). x.field) same ∙ field)) in
           subst (λ (x : Sequence). IsAbsent p x.members) same (absent_left p t.members gap.back rest))
           (replaced mid f p c (Some to) (λ r is_r field.
           let same = some_same (sym is_s ∙ is_r) in

@@ -8,7 +8,7 @@ pub mod Readings
 pub mod Edits
 pub mod Opened
 pub mod Turned
-pub mod Calls
+pub mod OneCall
 pub mod Growth
 pub mod ObjectChanges
 pub mod HandedOut

@@ -186,11 +186,6 @@ linked_unlinks old new law law' s now same =
     past [] i h = beyond old i h
     past (x ∷ s) i h = step s x i (λ e. omega (arith, e, h, index_small x)) ∙ past s i h
 
--- the same for a place that is covered, whatever the table
-pub in_linked_covered : (t : Table Entry) (p : Place) → IsCovered t p → set.contains (linked_in t) (index_of p) ≡ is_linked (t.entry p)
-unfolding linked_in
-in_linked_covered t p covered = contains-from_list_nat (linked_below t t.extent.places) (index_of p) ∙ below t t.extent.places (index_of p) covered ∙ linked_index_is t p
-
 -- p is linked, and then `out` is linked no more
 pub linked_swaps : (old mid new : Table Entry) → IsLawful old → IsLawful new → (p out : Place) → IsCovered old p → LinksAlso is_linked old mid p → Unlinks is_linked mid new out
     → linked_in new ≡ set.remove (set.insert (linked_in old) (index_of p)) (index_of out)

@@ -6,7 +6,7 @@ use Rattle.ic_world.specs.declared.call.Command.TheVariants as call
 use Rattle.ic_world.specs.Calls.{Call, Reply}
 use Rattle.ic_world.specs.Family.{Family}
 use Rattle.ic_world.specs.Step.{Step, StepOn, call_of}
-use Rattle.ic_world.proofs.Steps.{some_same}
+use Rattle.ic_link_ops.proofs.SequenceLemmas.{some_same}
 
 module _ {A V K : Type 0} (cmp : K → K → Ordering) (key_of : A → V → K) (old new : Family A V) (reply : Reply) where
   -- the call that is meant is the one that was made

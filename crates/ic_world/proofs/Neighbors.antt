@@ -1,5 +1,6 @@
 -- What the tests on members and their neighbors answer, by a gap beside the member.
 use Rattle.std.proofs.Common.{◌≡◌, ◌≢◌, ◌↔◌, IsTrue, inl, inr, Bool, true, false, cond, Option, Some, None, List, [], ◌∷◌, ◌++◌, refl, sym, ap, ◌∙◌, subst, drop, append_assoc, eq-eqb, ne_eqb}
+use Rattle.std.proofs.lemmas.Bool.{false_from_ne_true}
 use Rattle.ic_unsafe_ref.specs.declared.place.Place.{Place}
 use Rattle.ic_unsafe_ref.specs.Places.{index_of}
 use Rattle.ic_unsafe_ref.proofs.PlaceLemmas.{same_index}
@@ -66,10 +67,6 @@ next_gap gap (Some p) {s} distinct cut is =
 -- whether it is found that p is a member
 pub contains_tells : (s : List Place) (p : Place) (b : Bool) → IsTrue b ↔ IsMember p s → is_among p s ≡ b
 contains_tells s p b tells = elim (absent_or s p) [
-  | inl out ↦ not_among s p out ∙ sym (off b (λ h. tells.0 h out))
+  | inl out ↦ not_among s p out ∙ sym (false_from_ne_true b (λ h. tells.0 h out))
   | inr there ↦ let gap = member_gap s p there in among_gap gap.0 gap.1 gap.2 ∙ sym (tells.1 there)
 ]
-  where
-    off : (b : Bool) → (b ≡ true → ⊥) → b ≡ false
-    off true h = absurd (h refl)
-    off false h = refl

@@ -28,11 +28,11 @@ use Rattle.ic_world.specs.Replies.{reply_of}
 use Rattle.ic_world.specs.Calls.{opened, refused, asks}
 use Rattle.ic_world.specs.Step.{Step}
 use Rattle.ic_world.specs.Several.{refusal_of_open}
-use Rattle.ic_link_ops.proofs.SequenceLemmas.{disjoint_sym}
+use Rattle.ic_link_ops.proofs.SequenceLemmas.{disjoint_sym, some_same}
 use Rattle.ic_any_collection.proofs.AllKinds.{one_sequence}
 use Rattle.ic_world.proofs.Edits.{lawful}
 use Rattle.ic_world.proofs.Readings.{field_at, table_read}
-use Rattle.ic_world.proofs.Steps.{some_same, step_accepted, field_there, asks_none}
+use Rattle.ic_world.proofs.Steps.{step_accepted, field_there, asks_none}
 
 pub disjoint_none : (s : List Place) → IsDisjoint s []
 disjoint_none [] = tt

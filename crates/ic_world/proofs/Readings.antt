@@ -1,5 +1,5 @@
 -- What the family of some parts has at a place, in a field and under a number.
-use Rattle.std.proofs.Common.{◌≡◌, ℕ, Bool, ◌<◌, ◌≤◌, List, length, map, set, get_or, Option, Some, None, refl, sym, ap, subst, ◌∙◌, arith}
+use Rattle.std.proofs.Common.{◌≡◌, ℕ, Bool, ◌<◌, List, length, map, set, get_or, Option, Some, None, refl, sym, ap, subst, ◌∙◌, arith}
 use Rattle.std.proofs.lemmas.List.{length-map, get_or_default, get_or_past, get_or-map, map-set, set-get_or}
 use Rattle.std.proofs.Math.ListN.{get_or-map as map_at}
 use Rattle.ic_unsafe_ref.specs.Objects.{Objects}
@@ -76,9 +76,6 @@ module _ {V : Type 0} where
 
     pub collection_not : (c : ℕ) → at cs c ≡ None → collection (family_of adapter objects ts cs) c ≡ None
     collection_not c e = collection_at c ∙ ap (shown_as ts) e
-
-    pub collection_past : (c : ℕ) → length cs ≤ c → collection (family_of adapter objects ts cs) c ≡ None
-    collection_past c h = collection_not c (get_or_past cs c None h)
 
     pub field_at : (f : ℕ) → f < length ts → field_of (family_of adapter objects ts cs) f ≡ field_in (table ts f)
     field_at f h = get_or-map field_in ts f no_table _ h

@@ -9,8 +9,8 @@ use Rattle.ic_any_collection.specs.declared.members.Members.{Members}
 use Rattle.ic_any_collection.specs.Members.{has_pointer, is_xor, Held}
 use Rattle.ic_any_collection.proofs.AllKinds.{lawful}
 use Rattle.ic_world.specs.declared.call.Refusal.{Refusal}
-use Rattle.ic_world.specs.declared.one_call.Call.TheVariants.{Seek as seek}
-use Rattle.ic_world.specs.declared.seek.Seek.{Seek}
+use Rattle.ic_world.specs.declared.calls.one_call.Call.TheVariants.{Seek as seek}
+use Rattle.ic_world.specs.declared.calls.seek.Seek.{Seek}
 use Rattle.ic_world.specs.Calls.{done, moved, names, own_refusal}
 use Rattle.ic_world.specs.Seeks.{Sought}
 use Rattle.ic_world.specs.Turns.{Ran}

@@ -3,21 +3,21 @@
 use Rattle.std.proofs.Common.{◌≡◌, Option, Some, None, IfSome, IfNone, [], ◌∷◌, ◌++◌, refl, sym, ap, ◌∙◌, subst, drop, append-nil}
 use Rattle.ic_unsafe_ref.specs.declared.place.Place.{Place}
 use Rattle.ic_link_ops.specs.Sequences.{Cut, join, at_front, at_back, first, last, but_last, IsAfter, IsBefore, IsDistinct}
-use Rattle.ic_link_ops.proofs.SequenceLemmas.{but_last_of_push}
+use Rattle.ic_link_ops.proofs.SequenceLemmas.{but_last_of_push, nothing_last}
 use Rattle.ic_any_table.specs.declared.field.Field.{Field}
 use Rattle.ic_any_table.specs.Fields.{look}
 use Rattle.ic_any_collection.specs.declared.members.Members.{Members}
 use Rattle.ic_any_collection.specs.Members.{cursor_in, members_in, Held}
 use Rattle.ic_any_collection.specs.Edits.{AtGap, Moves, Takes}
 use Rattle.ic_any_collection.proofs.AllKinds.{lawful, distinct, held_of}
-use Rattle.ic_world.specs.declared.one_call.Where.{Where}
-use Rattle.ic_world.specs.declared.one_call.Where.TheVariants.{Front, Back, Before, After}
-use Rattle.ic_world.specs.declared.one_call.Direction.{Direction}
-use Rattle.ic_world.specs.declared.one_call.Direction.TheVariants.{Next, Prev}
+use Rattle.ic_world.specs.declared.calls.one_call.Where.{Where}
+use Rattle.ic_world.specs.declared.calls.one_call.Where.TheVariants.{Front, Back, Before, After}
+use Rattle.ic_world.specs.declared.calls.one_call.Direction.{Direction}
+use Rattle.ic_world.specs.declared.calls.one_call.Direction.TheVariants.{Next, Prev}
 use Rattle.ic_world.specs.Calls.{State, object_or_nothing, taken, moved, without}
 use Rattle.ic_world.specs.Calls as calls
 use Rattle.ic_world.specs.Turns.{Turns, state_of}
-use Rattle.ic_world.proofs.Ends.{last_none, front_is, back_is, first_gap, last_gap}
+use Rattle.ic_world.proofs.Ends.{front_is, back_is, first_gap, last_gap}
 use Rattle.ic_world.proofs.Turned.{unmoved, still_members, still_held, moves_on, turns_moved, turns_out, turns_out_between, turns_still}
 
 -- the cursor moves, and the answer is where it is
@@ -113,7 +113,7 @@ last_goes s p t gap cut back same =
 
 last_lacks : (s t : State) → None ≡ last s.members → t ≡ moved s None → calls.TakeReplies Back s (object_or_nothing None) t
 last_lacks s t empty same =
-    let none = last_none s.members empty in
+    let none = nothing_last s.members empty in
     (at_front s.members, refl, (sym (ap but_last none), ap (λ u. object_or_nothing (first u)) (sym none), same ∙ none_out s (at_front s.members) None (sym (ap first none))))
 
 module _ {V M : Type 0} (links links' : Field M) where

@@ -8,24 +8,24 @@ use Rattle.ic_unsafe_ref.specs.Places.{index_of}
 use Rattle.ic_unsafe_ref.specs.Objects.{Objects}
 use Rattle.ic_link_ops.specs.Sequences.{Cut, join, insert, remove, replace, first, last, but_last, IsAfter, IsBefore}
 use Rattle.ic_any_table.specs.declared.kind.Kind.{Kind}
-use Rattle.ic_rbtree.specs.declared.key_adapter.Bound.{Bound}
+use Rattle.ic_rbtree.specs.declared.keys.key_adapter.Bound.{Bound}
 use Rattle.ic_rbtree.specs.Borders.{Finds, IsBorder, IsLowerBorder, IsUpperBorder, less_at}
 use Rattle.ic_rbtree.specs.Comparing.{compared, compared_within, order_of, own_order}
 use Rattle.ic_any_collection.specs.Members.{has_before, is_list, is_two_way_list, is_singly, is_xor, is_tree, has_pointer}
 use Rattle.ic_any_collection.specs.Keyed.{FewLooks, FewLooksWithin, IsVacantFor}
 use Rattle.ic_world.specs.declared.call.Refusal.{Refusal}
 use Rattle.ic_world.specs.declared.call.Refusal.TheVariants.{WrongKind, NothingThere, NotAMember, NotANeighbour, AlreadyLinked}
-pub use Rattle.ic_world.specs.declared.one_call.Call.{Call}
-use Rattle.ic_world.specs.declared.one_call.Call.TheVariants as one
-use Rattle.ic_world.specs.declared.one_call.Where.{Where}
-use Rattle.ic_world.specs.declared.one_call.Where.TheVariants.{Front, Back, Before, After}
-use Rattle.ic_world.specs.declared.one_call.Direction.{Direction}
-use Rattle.ic_world.specs.declared.one_call.Direction.TheVariants.{Next, Prev}
-use Rattle.ic_world.specs.declared.seek.Seek.{Seek}
-use Rattle.ic_world.specs.declared.seek.Seek.TheVariants.{Null, On, With}
-use Rattle.ic_world.specs.declared.whole.Whole.TheVariants.{Clear, Reverse}
-use Rattle.ic_world.specs.declared.search.Search.TheVariants.{Find, LowerBound, UpperBound}
-use Rattle.ic_world.specs.declared.insertion.Insertion.TheVariants.{Insert, CursorInsert}
+pub use Rattle.ic_world.specs.declared.calls.one_call.Call.{Call}
+use Rattle.ic_world.specs.declared.calls.one_call.Call.TheVariants as one
+use Rattle.ic_world.specs.declared.calls.one_call.Where.{Where}
+use Rattle.ic_world.specs.declared.calls.one_call.Where.TheVariants.{Front, Back, Before, After}
+use Rattle.ic_world.specs.declared.calls.one_call.Direction.{Direction}
+use Rattle.ic_world.specs.declared.calls.one_call.Direction.TheVariants.{Next, Prev}
+use Rattle.ic_world.specs.declared.calls.seek.Seek.{Seek}
+use Rattle.ic_world.specs.declared.calls.seek.Seek.TheVariants.{Null, On, With}
+use Rattle.ic_world.specs.declared.calls.whole.Whole.TheVariants.{Clear, Reverse}
+use Rattle.ic_world.specs.declared.calls.search.Search.TheVariants.{Find, LowerBound, UpperBound}
+use Rattle.ic_world.specs.declared.calls.insertion.Insertion.TheVariants.{Insert, CursorInsert}
 use Rattle.ic_world.specs.Family.{same_position, is_among, before_or, behind_of, next_of}
 
 -- A COLLECTION AS ITS CALLS SEE IT: its kind, its members in order, the member that its cursor is on, and the linked places of its field

@@ -6,7 +6,7 @@ use Rattle.ic_any_table.specs.declared.entry.Entry.{Entry}
 use Rattle.ic_any_collection.specs.declared.members.Members.{Members}
 use Rattle.ic_any_collection.specs.Edits.{Moves}
 use Rattle.ic_world.specs.declared.call.Refusal.{Refusal}
-use Rattle.ic_world.specs.declared.seek.Seek.{Seek}
+use Rattle.ic_world.specs.declared.calls.seek.Seek.{Seek}
 use Rattle.ic_world.specs.Calls.{refusal_of_seek}
 use Rattle.ic_world.specs.Turns.{refusal_in, state_of}
 

@@ -6,7 +6,7 @@ use Rattle.std.specs.FinSet as set
 use Rattle.std.specs.FinMap as map
 use Rattle.ic_unsafe_ref.specs.Places.{index_of}
 use Rattle.ic_link_ops.specs.Sequences.{IsAfter, IsBefore}
-use Rattle.ic_rbtree.specs.declared.key_adapter.Bound.{Bound}
+use Rattle.ic_rbtree.specs.declared.keys.key_adapter.Bound.{Bound}
 use Rattle.ic_rbtree.specs.Ranges.{runs_up, IsRange}
 use Rattle.ic_any_collection.specs.Members.{has_before, is_list, is_two_way_list, is_tree}
 use Rattle.ic_any_collection.specs.Keyed.{FewLooksWithin}
@@ -14,14 +14,14 @@ use Rattle.ic_world.specs.declared.call.Refusal.{Refusal}
 use Rattle.ic_world.specs.declared.call.Refusal.TheVariants.{NoSuchField, NoSuchObject, WrongKind, IsMember, StillLinked, TooManyObjects, OutOfMemory}
 use Rattle.ic_world.specs.declared.call.Command.{Command}
 use Rattle.ic_world.specs.declared.call.Command.TheVariants as call
-use Rattle.ic_world.specs.declared.one_call.Call.{Call}
-use Rattle.ic_world.specs.declared.one_call.Call.TheVariants as one
-use Rattle.ic_world.specs.declared.one_call.Where.TheVariants as at
-use Rattle.ic_world.specs.declared.one_call.Direction.TheVariants.{Next, Prev}
-use Rattle.ic_world.specs.declared.seek.Seek.TheVariants.{Null, On, With}
-use Rattle.ic_world.specs.declared.whole.Whole.TheVariants.{Clear, Reverse}
-use Rattle.ic_world.specs.declared.search.Search.TheVariants.{Find, LowerBound, UpperBound}
-use Rattle.ic_world.specs.declared.insertion.Insertion.TheVariants.{Insert, CursorInsert}
+use Rattle.ic_world.specs.declared.calls.one_call.Call.{Call}
+use Rattle.ic_world.specs.declared.calls.one_call.Call.TheVariants as one
+use Rattle.ic_world.specs.declared.calls.one_call.Where.TheVariants as at
+use Rattle.ic_world.specs.declared.calls.one_call.Direction.TheVariants.{Next, Prev}
+use Rattle.ic_world.specs.declared.calls.seek.Seek.TheVariants.{Null, On, With}
+use Rattle.ic_world.specs.declared.calls.whole.Whole.TheVariants.{Clear, Reverse}
+use Rattle.ic_world.specs.declared.calls.search.Search.TheVariants.{Find, LowerBound, UpperBound}
+use Rattle.ic_world.specs.declared.calls.insertion.Insertion.TheVariants.{Insert, CursorInsert}
 use Rattle.ic_world.specs.declared.part.Part.TheVariants.{All, After, Before}
 use Rattle.ic_world.specs.Family.{Family, Sequence, collection, linked_of, has_field, is_placed, is_linked_somewhere, is_member_in, objects_of, with_linked, with_collection, with_opened}
 use Rattle.ic_world.specs.Calls.{State, Reply, done, object, field, opened, items, linked, range, refused, object_or_nothing, asks, unlinked, bound_at, names, refusal_of, Replies}

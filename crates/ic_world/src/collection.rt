@@ -1,4 +1,8 @@
 //! A collection of a world.
+//!
+//! ```text
+//! let queue = Collection { field: 0, members: Members::new(kind) };
+//! ```
 
 use ic_any_collection::Members;
 

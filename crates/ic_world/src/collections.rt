@@ -15,11 +15,11 @@ ghost use Rattle.ic_world.specs.Tables.{table_of, left_in};
 
 use crate::World;
 use crate::call::{Command, Refusal};
+use crate::calls::kinds::{has_before, is_list, is_two_way_list, same_kind};
+use crate::calls::whole::Whole;
 use crate::collection::Collection;
 use crate::field::WorldField;
-use crate::kinds::{has_before, is_list, is_two_way_list, same_kind};
 use crate::part::Part;
-use crate::whole::Whole;
 use crate::world::append;
 use ic_any_collection::Members;
 use ic_any_table::{Field, Kind};

@@ -1,4 +1,8 @@
 //! A field of a world.
+//!
+//! ```text
+//! let field = WorldField { links, left_linked: false };
+//! ```
 
 use ic_any_table::Field;
 use std::alloc::Allocator;

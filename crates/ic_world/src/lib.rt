@@ -11,22 +11,14 @@
 #![tactic(auto)]
 
 mod call;
+mod calls;
 mod collection;
 mod collections;
 mod field;
 mod fields;
-mod gaps;
-mod insertion;
-mod keyed_calls;
-mod kinds;
-mod list_calls;
 mod objects;
-mod one_call;
 mod part;
 mod run;
-mod search;
-mod seek;
-mod whole;
 mod world;
 
 pub use call::{Answer, Command, Refusal};

@@ -8,7 +8,7 @@ ghost use Rattle.ic_world.specs.Calls.{asks};
 ghost use Rattle.ic_world.specs.Several.{has_part, PartsOf};
 
 use crate::call::Refusal;
-use crate::kinds::{is_list, is_two_way_list};
+use crate::calls::kinds::{is_list, is_two_way_list};
 use ic_any_collection::Members;
 use ic_any_table::Field;
 use std::alloc::Allocator;

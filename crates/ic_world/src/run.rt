@@ -12,10 +12,10 @@ ghost use Rattle.ic_world.specs.Replies.{reply_of};
 
 use crate::World;
 use crate::call::{Answer, Command, Refusal};
-use crate::gaps::{Put, Swap, Take};
-use crate::insertion::EntryAt;
-use crate::one_call::{Call, call_of};
-use crate::seek::Move;
+use crate::calls::gaps::{Put, Swap, Take};
+use crate::calls::insertion::EntryAt;
+use crate::calls::one_call::{Call, call_of};
+use crate::calls::seek::Move;
 use ic_rbtree::KeyAdapter;
 use ic_unsafe_ref::Place;
 use std::alloc::{AllocError, Allocator};

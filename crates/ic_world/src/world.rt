@@ -8,9 +8,9 @@ ghost use Rattle.ic_world.specs.Replies.{reply_of};
 ghost use Rattle.ic_world.specs.Pieces.{Appends};
 
 use crate::call::Refusal;
+use crate::calls::one_call::OneCall;
 use crate::collection::Collection;
 use crate::field::WorldField;
-use crate::one_call::OneCall;
 use crate::part::Part;
 use ic_any_collection::Members;
 use ic_any_table::Field;

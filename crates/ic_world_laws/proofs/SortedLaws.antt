@@ -1,6 +1,6 @@
 -- While a tree is sorted, the answers of its keyed calls are filters of its members.
-use Rattle.std.proofs.Common.{◌≡◌, ℕ, Bool, true, false, ◌&&◌, List, [], ◌∷◌, length, get_or, set, Option, Some, None, inl, inr, refl, sym, ap, ◌∙◌, subst}
-use Rattle.std.proofs.lemmas.Bool.{cases_lt}
+use Rattle.std.proofs.Common.{◌≡◌, ℕ, true, false, ◌&&◌, List, [], ◌∷◌, length, get_or, set, Option, Some, None, inl, inr, refl, sym, ap, ◌∙◌, subst}
+use Rattle.std.proofs.lemmas.Bool.{cases_lt, and_parts}
 use Rattle.std.proofs.lemmas.List.{get_or-set_same, get_or_past}
 use Rattle.std.specs.Cmp.{IsTotalOrder}
 use Rattle.std.specs.List.{filter, list_all}
@@ -9,22 +9,22 @@ use Rattle.ic_unsafe_ref.specs.declared.place.Place.{Place}
 use Rattle.ic_unsafe_ref.specs.Objects.{object_at}
 use Rattle.ic_link_ops.specs.PlacedObjects.{ArePlaced}
 use Rattle.ic_link_ops.specs.Sequences.{Cut, join, insert, first, last}
+use Rattle.ic_link_ops.proofs.SequenceLemmas.{some_same}
 use Rattle.ic_rbtree.specs.Borders.{IsBorder, IsSortedFor, less_at}
 use Rattle.ic_rbtree.proofs.KeyLaws.{value_there, stays_sorted}
 use Rattle.ic_rbtree.proofs.SortedAnswers.{put_behind, for_key, found_first, vacant_finds, lower_first, upper_last, range_filter}
 use Rattle.ic_rbtree.proofs.SortedValues.{own_order_is}
 use Rattle.ic_world.specs.declared.call.Command.{Command}
 use Rattle.ic_world.specs.declared.call.Command.TheVariants as call
-use Rattle.ic_world.specs.declared.insertion.Insertion.{Insertion}
-use Rattle.ic_world.specs.declared.insertion.Insertion.TheVariants as insertions
-use Rattle.ic_world.specs.declared.search.Search.TheVariants as searches
-use Rattle.ic_world.specs.declared.one_call.Call.TheVariants.{Search as search, Insertion as insertion, Enter as enter}
+use Rattle.ic_world.specs.declared.calls.insertion.Insertion.{Insertion}
+use Rattle.ic_world.specs.declared.calls.insertion.Insertion.TheVariants as insertions
+use Rattle.ic_world.specs.declared.calls.search.Search.TheVariants as searches
+use Rattle.ic_world.specs.declared.calls.one_call.Call.TheVariants.{Search as search, Insertion as insertion, Enter as enter}
 use Rattle.ic_world.specs.Apart.{AreApart, AreAllPlaced}
 use Rattle.ic_world.specs.Family.{Family, Sequence, collection, objects_of, is_placed}
 use Rattle.ic_world.specs.Calls.{Reply, found, looked, range, entry, State, key_at, own_at, names, InsertionReplies, Replies}
 use Rattle.ic_world.specs.Step.{Step, StepOn}
 use Rattle.ic_world.specs.Several.{state_in, with_state, sequence_of}
-use Rattle.ic_world.proofs.Steps.{some_same}
 use Rattle.ic_world_laws.specs.Sorted.{IsSortedIn, has_key, has_greater, is_greater, is_from, is_until, FindsFirst, FindsEnd, IsWithinBoth, PutsBehind, GoesBehind, IsSortedAfter, StaysSorted}
 use Rattle.ic_world_laws.proofs.StepLaws.{of_reply, of_range}
 
@@ -34,10 +34,6 @@ set_there xs i y is = elim (cases_lt i (length xs)) [
   | inl inside ↦ get_or-set_same xs i (Some y) None inside
   | inr past ↦ let none = sym (get_or_past xs i None past) ∙ is in absurd cc
 ]
-
-left_true : (a b : Bool) → (a && b) ≡ true → a ≡ true
-left_true true b e = refl
-left_true false b e = e
 
 -- what holds of what a reply tells, if it is one of these
 abbrev IfFound : (Option Place → Type 0) → Reply → Type 0
@@ -130,7 +126,7 @@ module _ {A V K : Type 0} {cmp : K → K → Ordering} (total : IsTotalOrder cmp
       → ((s t : State) (n : ℕ) → Replies cmp (key_of old.adapter) (objects_of old) (insertion call) s (looked n) t → InsertionReplies cmp (key_of old.adapter) (objects_of old) p (cursor s) s (looked n) t)
       → (new : Family A V) (n : ℕ) → StepOn cmp key_of old c (insertion call) (looked n) new → (s : Sequence) → collection old c ≡ Some s → IsSortedIn cmp key_of old s.members → IsInOrder c p new s (looked n)
   inserts c p call cursor named puts new n step s is sorted = of_reply cmp key_of c (insertion call) (IsInOrder c p new s) old new (looked n) step s is (λ r. tt) (λ there t replies left.
-      let placed_p = left_true (is_placed old p) true (subst (λ ps. list_all (is_placed old) ps ≡ true) named there) in
+      let placed_p = (and_parts (is_placed old p) true (subst (λ ps. list_all (is_placed old) ps ≡ true) named there)).0 in
       let put = puts (state_in old s) t n replies in
       (puts_behind c p s is sorted placed_p new t (cursor (state_in old s)) left n put, sorted_after c p s is sorted placed_p new t (cursor (state_in old s)) left n put))
 

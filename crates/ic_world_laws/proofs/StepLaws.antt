@@ -6,29 +6,30 @@ use Rattle.std.specs.FinSet as finite_set
 use Rattle.ic_unsafe_ref.specs.declared.place.Place.{Place}
 use Rattle.ic_unsafe_ref.specs.Places.{index_of}
 use Rattle.ic_unsafe_ref.specs.Objects.{Objects}
-use Rattle.ic_rbtree.specs.declared.key_adapter.Bound.{Bound}
+use Rattle.ic_rbtree.specs.declared.keys.key_adapter.Bound.{Bound}
 use Rattle.ic_link_ops.specs.Sequences.{first, last}
+use Rattle.ic_link_ops.proofs.SequenceLemmas.{some_same}
 use Rattle.ic_any_collection.specs.Members.{is_tree}
 use Rattle.ic_world.specs.declared.call.Refusal.{Refusal}
 use Rattle.ic_world.specs.declared.call.Refusal.TheVariants.{NoSuchObject, WrongKind, NothingThere, AlreadyLinked, TooManyObjects, OutOfMemory}
 use Rattle.ic_world.specs.declared.call.Command.{Command}
 use Rattle.ic_world.specs.declared.call.Command.TheVariants as call
-use Rattle.ic_world.specs.declared.one_call.Call.{Call}
-use Rattle.ic_world.specs.declared.one_call.Call.TheVariants as one
-use Rattle.ic_world.specs.declared.one_call.Where.{Where}
-use Rattle.ic_world.specs.declared.one_call.Where.TheVariants as at
-use Rattle.ic_world.specs.declared.one_call.Direction.TheVariants.{Next, Prev}
-use Rattle.ic_world.specs.declared.seek.Seek.TheVariants.{Null, On, With}
-use Rattle.ic_world.specs.declared.whole.Whole.TheVariants.{Clear, Reverse}
-use Rattle.ic_world.specs.declared.search.Search.TheVariants.{Find, LowerBound, UpperBound}
-use Rattle.ic_world.specs.declared.insertion.Insertion.TheVariants.{Insert, CursorInsert}
+use Rattle.ic_world.specs.declared.calls.one_call.Call.{Call}
+use Rattle.ic_world.specs.declared.calls.one_call.Call.TheVariants as one
+use Rattle.ic_world.specs.declared.calls.one_call.Where.{Where}
+use Rattle.ic_world.specs.declared.calls.one_call.Where.TheVariants as at
+use Rattle.ic_world.specs.declared.calls.one_call.Direction.TheVariants.{Next, Prev}
+use Rattle.ic_world.specs.declared.calls.seek.Seek.TheVariants.{Null, On, With}
+use Rattle.ic_world.specs.declared.calls.whole.Whole.TheVariants.{Clear, Reverse}
+use Rattle.ic_world.specs.declared.calls.search.Search.TheVariants.{Find, LowerBound, UpperBound}
+use Rattle.ic_world.specs.declared.calls.insertion.Insertion.TheVariants.{Insert, CursorInsert}
 use Rattle.ic_world.specs.declared.part.Part.{Part}
 use Rattle.ic_world.specs.declared.part.Part.TheVariants.{All, After, Before}
 use Rattle.ic_world.specs.Family.{Family, Sequence, collection, linked_of, is_placed, objects_of}
 use Rattle.ic_world.specs.Calls.{State, Reply, found, looked, range, entry, refused, object_or_nothing, asks, asks_unlinked, has_call, names, member_at, refusal_of, Replies}
 use Rattle.ic_world.specs.Several.{StepBy, OpensWith, asks_collection, state_in, with_state}
 use Rattle.ic_world.specs.Step.{Step, StepOn, Accepts, AcceptsOn, RangeReplies, call_of}
-use Rattle.ic_world.proofs.Steps.{some_same, state_back}
+use Rattle.ic_world.proofs.Steps.{state_back}
 use Rattle.ic_world_laws.specs.Laws.{inserts, IsWellNamed, AreFew, RefusedIfLinked, HasFewLooks}
 
 -- a refusal is no object, and not none

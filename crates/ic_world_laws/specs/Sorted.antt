@@ -5,7 +5,7 @@ use Rattle.std.specs.declared.cmp.Ordering.{Ordering}
 use Rattle.ic_unsafe_ref.specs.declared.place.Place.{Place}
 use Rattle.ic_link_ops.specs.PlacedObjects.{values_at}
 use Rattle.ic_link_ops.specs.Sequences.{first, last}
-use Rattle.ic_rbtree.specs.declared.key_adapter.Bound.{Bound}
+use Rattle.ic_rbtree.specs.declared.keys.key_adapter.Bound.{Bound}
 use Rattle.ic_rbtree.specs.Borders.{IsSorted, equal_at, less_at}
 use Rattle.ic_rbtree.specs.Comparing.{meets_lower, meets_upper}
 use Rattle.ic_world.specs.declared.call.Command.{Command}

@@ -8,7 +8,8 @@ use Rattle.std.proofs.lemmas.List.Folds.{find-append}
 use Rattle.std.specs.List.{AllByRecursion, slice_get}
 use Rattle.std.specs.Option.{option_or}
 use Rattle.ic_link_ops.proofs.SequenceLemmas.{none_not}
-use Rattle.ic_rbtree.proofs.KeyLaws.{all_map, filter_front, filter_pass}
+use Rattle.ic_link_ops.proofs.Each.{all_map}
+use Rattle.ic_rbtree.proofs.KeyLaws.{filter_front, filter_pass}
 use Rattle.lru_cache.specs.declared.entry.Entry.{Entry}
 use Rattle.lru_cache.specs.Kept.{oldest}
 use Rattle.lru_cache.specs.Cache.{Cache, key_of, has_key, entry_with, without, touched, inserted, leaves, HaveOwnKeys}

@@ -4,10 +4,11 @@ use Rattle.std.proofs.lemmas.List.Elements.{filter_map-append}
 use Rattle.std.proofs.lemmas.Option.{same_Some}
 use Rattle.std.specs.List.{cons_option}
 use Rattle.std.specs.Ordering.{nat_cmp}
+use Rattle.std.proofs.lemmas.Bool.{false_from_ne_true}
 use Rattle.ic_unsafe_ref.specs.declared.place.Place.{Place}
 use Rattle.ic_unsafe_ref.specs.Objects.{Objects, Places, Frees, object_at, is_placed, with_object}
 use Rattle.ic_unsafe_ref.proofs.PlaceLemmas.{same_or_not}
-use Rattle.ic_unsafe_ref.proofs.Placing.{placed_there, others_placed, gone_there, others_left}
+use Rattle.ic_unsafe_ref.proofs.Placing.{placed_there, others_placed, gone_there, others_left, exchanged_puts, put_there, put_others, still_placed}
 use Rattle.ic_link_ops.specs.Chains.{Ends, no_members}
 use Rattle.ic_link_ops.specs.DoublyEntries as lists
 use Rattle.ic_link_ops.specs.PlacedObjects.{ArePlaced, values_at}
@@ -16,7 +17,6 @@ use Rattle.ic_link_ops.specs.Sequences.{at_front, but_last, last, IsAbsent, IsMe
 use Rattle.ic_link_ops.specs.Tables.{IsUnlinked, LinksAlso, Unlinks, KeepsLinked}
 use Rattle.ic_link_ops.proofs.DoublyLists as doubly
 use Rattle.ic_link_ops.proofs.CollectionLaws.{kept_shown}
-use Rattle.ic_link_ops.proofs.LinkedSets.{not_linked}
 use Rattle.ic_link_ops.proofs.PlacedValues.{values_beside}
 use Rattle.ic_link_ops.proofs.SequenceLemmas.{absent_left, absent_right, distinct_middle, none_not, some_same, split_last, split_member}
 use Rattle.ic_pool.specs.Pooled.{Grows}
@@ -36,7 +36,6 @@ use Rattle.lru_cache.specs.Cache.{key_of, entry_with, without, touched, HaveOwnK
 use Rattle.lru_cache.specs.Kept.{oldest, IsOnlyAt, StandOnce, entries_of, IsKept}
 use Rattle.lru_cache.proofs.Entries.{itself, Lack, Parts, found_none, found_part, without_part, touched_part}
 use Rattle.lru_cache.proofs.Sorting.{sorted_beside}
-use Rattle.lru_cache.proofs.Exchanging.{exchanged_there, exchanged_beside, exchanged_placed}
 use Rattle.lru_cache.proofs.Linking.{has_it, all_placed, is_member_placed, all_member, no_more, all_first, all_covered, all_put, all_taken, all_turned}
 
 -- what holds of what a position may be on
@@ -204,8 +203,8 @@ module _ {V A : Type 0} (objects : Objects (Entry V)) (w : trees.TreeLinkOps A) 
   pub kept_first : IsKept (store_of objects w tree q ends)
   kept_first = record {
     sorted = new_is_sorted key_of objects none;
-    keyed = all_first plain_trees none vacant (λ p. not_linked _ (λ linked. let within = plain_covered w p linked in absurd (omega (arith, within, no_trees))));
-    aged = all_first doubly.plain_lists empty vacant (λ p. not_linked _ (λ linked. let within = doubly.plain_covered q p linked in absurd (omega (arith, within, no_lists))));
+    keyed = all_first plain_trees none vacant (λ p. false_from_ne_true _ (λ linked. let within = plain_covered w p linked in absurd (omega (arith, within, no_trees))));
+    aged = all_first doubly.plain_lists empty vacant (λ p. false_from_ne_true _ (λ linked. let within = doubly.plain_covered q p linked in absurd (omega (arith, within, no_lists))));
     own = λ p entry at. absurd (none_not entry (sym (vacant p) ∙ at));
   }
 
@@ -289,19 +288,19 @@ module _ {V A : Type 0} {store : Store V A} (k : IsKept store) where
         let t = all_member plain_trees k.keyed is in
         let m = all_member doubly.plain_lists k.aged is in
         let i = put t.0 t.1 (subst (trees.PlainShows w (root_of store.by_key)) t.2 k.keyed.shown) in
-        let alike = exchanged_placed store.pool.objects new p entry exchanged is in
+        let alike = still_placed (exchanged_puts exchanged) is in
         record {
           sorted = sorted;
           keyed = all_turned plain_trees k.keyed p alike linked t.0 t.1 t.2 i.0 i.1 i.2;
           aged = all_turned doubly.plain_lists k.aged p alike keeps m.0 m.1 m.2 (at_front (m.0 ++ m.1)) refl (shown_front p is r ends keeps moved);
-          own = own_with store.pool.objects new p (exchanged_beside store.pool.objects new p entry exchanged) k.own (exchanged_there store.pool.objects new p entry exchanged) only;
+          own = own_with store.pool.objects new p (put_others (exchanged_puts exchanged)) k.own (put_there (exchanged_puts exchanged)) only;
         }
 
     pub entries_renewed : entries_of (store_of new u tree r ends) ≡ entry ∷ without (key_of gone) (entries_of store)
     entries_renewed =
         let m = all_member doubly.plain_lists k.aged is in
-        ap (values_at new) (doubly.plain_members r (shown_front p is r ends keeps moved)) ∙ ap (λ (o : Option (Entry V)). cons_option o (values_at new (m.0 ++ m.1))) (exchanged_there store.pool.objects new p entry exchanged)
-        ∙ ap (λ (l : List (Entry V)). entry ∷ l) (values_beside store.pool.objects new p (exchanged_beside store.pool.objects new p entry exchanged) (m.0 ++ m.1) (beside_absent k p is there)
+        ap (values_at new) (doubly.plain_members r (shown_front p is r ends keeps moved)) ∙ ap (λ (o : Option (Entry V)). cons_option o (values_at new (m.0 ++ m.1))) (put_there (exchanged_puts exchanged))
+        ∙ ap (λ (l : List (Entry V)). entry ∷ l) (values_beside store.pool.objects new p (put_others (exchanged_puts exchanged)) (m.0 ++ m.1) (beside_absent k p is there)
         ∙ filter_map-append (object_at store.pool.objects) m.0 m.1 ∙ sym (without_is k p is there))
 
   -- AFTER `place`, whatever it answered

@@ -1,5 +1,5 @@
 -- A table that links all objects, after each kind of step.
-use Rattle.std.proofs.Common.{◌≡◌, Bool, true, false, Option, None, Some, is_some, List, [], ◌∷◌, ◌++◌, length, ◌≤◌, refl, sym, ap, ◌∙◌, subst, inl, inr, arith, length-append, true≢false}
+use Rattle.std.proofs.Common.{◌≡◌, Bool, true, false, None, is_some, List, [], ◌∷◌, ◌++◌, length, ◌≤◌, refl, sym, ap, ◌∙◌, subst, inl, inr, arith, length-append, true≢false}
 use Rattle.ic_unsafe_ref.specs.declared.place.Place.{Place}
 use Rattle.ic_unsafe_ref.specs.Objects.{Objects, Places, Frees, object_at, is_placed}
 use Rattle.ic_unsafe_ref.proofs.PlaceLemmas.{same_or_not}
@@ -11,13 +11,6 @@ use Rattle.ic_link_ops.specs.Tables.{Table, IsLinked, IsUnlinked, LinksAlso, Unl
 use Rattle.ic_link_ops.proofs.CollectionLaws.{IsKind, kept_shown}
 use Rattle.ic_link_ops.proofs.SequenceLemmas.{absent_with, absent_without, member_split, split_member}
 use Rattle.lru_cache.specs.Kept.{LinksAll}
-
--- what is placed stays so where the objects beside p do
-vacant_is : {T : Type 0} (objects : Objects T) (p : Place) → is_placed objects p ≡ false → object_at objects p ≡ None
-vacant_is objects p e = by (object_at objects p) e where
-  by : {T : Type 0} (o : Option T) → is_some o ≡ false → o ≡ None
-  by None e = refl
-  by (Some v) e = absurd (true≢false e)
 
 -- members that are placed, one by one
 each_placed : {T : Type 0} (objects : Objects T) (s : List Place) → ((q : Place) → IsMember q s → is_placed objects q ≡ true) → ArePlaced objects s
@@ -65,9 +58,6 @@ module _ {E H T : Type 0} {Shows : Table E → H → List Place → Type 0} {lin
     all_placed = each_placed objects k.members is_member_placed
 
     module _ {p : Place} (is : is_placed objects p ≡ true) where
-      pub all_linked : IsLinked linked t p
-      all_linked = member_linked kind k.shown (k.all p is)
-
       pub all_member : (front : List Place) × (back : List Place) × (k.members ≡ front ++ p ∷ back)
       all_member = member_split p k.members (k.all p is)
 

@@ -4,12 +4,13 @@ use Rattle.std.proofs.lemmas.Bool.{cases_lt}
 use Rattle.std.specs.List.{AllByRecursion}
 use Rattle.std.specs.Ordering.{nat_cmp}
 use Rattle.ic_rbtree.specs.Borders.{IsSorted}
-use Rattle.ic_rbtree.proofs.KeyLaws.{all_both, all_map}
+use Rattle.ic_rbtree.proofs.SortedKeys.{is_up}
 use Rattle.region_allocator.specs.declared.region.Region.{Region}
 use Rattle.region_allocator.specs.Changes.{Adds, Changes, FitsFor}
 use Rattle.region_allocator.specs.Kept.{start_of}
 use Rattle.region_allocator.specs.Regions.{region_of, end_of, Has, IsFree, IsRegion, AreApart, StandApart, FreesRegion, AllocatesRegion}
-use Rattle.region_allocator.proofs.Lists.{all_front, all_back, all_without, all_two, is_up}
+use Rattle.region_allocator.proofs.Lists.{all_two}
+use Rattle.ic_link_ops.proofs.Each.{all_both, all_map, all_front, all_back, all_without}
 
 -- each of them is a region
 pub all_regions : (s : List Region) → StandApart s → AllByRecursion IsRegion s

@@ -2,12 +2,12 @@
 use Rattle.std.proofs.Common.{◌≡◌, ◌≢◌, ℕ, ◌+◌, ◌<◌, ◌≤◌, ◌⊎◌, inl, inr, List, ◌∷◌, ◌++◌, sym, subst, arith}
 use Rattle.std.proofs.lemmas.Bool.{cases_lt}
 use Rattle.std.specs.List.{AllByRecursion}
-use Rattle.ic_rbtree.proofs.KeyLaws.{all_both, all_map}
 use Rattle.region_allocator.specs.declared.region.Region.{Region}
 use Rattle.region_allocator.specs.Changes.{Adds, Changes, FitsFor}
 use Rattle.region_allocator.specs.Regions.{region_of, end_of, Has, IsFree, IsRegion, AreApart, StandApart, FreesRegion, AllocatesRegion}
 use Rattle.region_allocator.proofs.Apart.{all_regions, below_cut, above_cut, free_cut, free_here, free_still, none_free, grown_from, grown_own, grown_still, allocates}
-use Rattle.region_allocator.proofs.Lists.{all_without, all_three, all_four}
+use Rattle.region_allocator.proofs.Lists.{all_three, all_four}
+use Rattle.ic_link_ops.proofs.Each.{all_both, all_map, all_without}
 
 -- a region shares no address with this one, and may touch it
 abbrev pub IsBeside : Region → Region → Type 0

@@ -2,31 +2,34 @@
 use Rattle.std.proofs.Common.{◌≡◌, ◌⊎◌, map, Option, Some, None, IsSome, List, [], ◌∷◌, ◌++◌, refl, sym, ap, ◌∙◌, subst, arith, true≢false}
 use Rattle.std.specs.List.{AllByRecursion, cons_option}
 use Rattle.std.specs.Ordering.{nat_cmp}
+use Rattle.std.proofs.lemmas.Bool.{false_from_ne_true}
 use Rattle.ic_unsafe_ref.specs.declared.place.Place.{Place}
 use Rattle.ic_unsafe_ref.specs.Objects.{Objects, Places, Frees, object_at, with_object}
+use Rattle.ic_unsafe_ref.proofs.Placing.{put_there, put_others, puts_other, places_other, leaves}
 use Rattle.ic_link_ops.specs.PlacedObjects.{ArePlaced, ShowsPlaced, values_at}
 use Rattle.ic_link_ops.specs.Positions.{HasMember}
 use Rattle.ic_link_ops.specs.Tables.{IsCovered, IsUnlinked, KeepsBeside, LinksAlso, Unlinks}
 use Rattle.ic_link_ops.proofs.Covering.{still_covered}
-use Rattle.ic_link_ops.proofs.LinkedSets.{not_linked}
 use Rattle.ic_link_ops.proofs.ShownTrees.{no_root, no_members}
+use Rattle.ic_link_ops.proofs.Each.{all_map}
+use Rattle.ic_link_ops.proofs.PlacedValues.{from_each}
 use Rattle.ic_rbtree.specs.Borders.{IsSorted}
 use Rattle.ic_rbtree.specs.Comparing.{compared, own_order}
 use Rattle.ic_rbtree.specs.Ordered.{InsertsInOrder}
 use Rattle.ic_rbtree.specs.PlainTrees.{TreeLinkOps, ShowsTree, PlainShows, is_linked, plain_table}
-use Rattle.ic_rbtree.proofs.KeyLaws.{all_map}
 use Rattle.ic_rbtree.proofs.PlainTrees.{plain_covered, plain_members}
+use Rattle.ic_rbtree.proofs.SortedKeys.{front_is_least}
+use Rattle.ic_rbtree.proofs.EachObject.{each_none, each_covered, each_ready, each_new, each_linked, each_member, each_value, at_each, each_taken, each_changed}
 use Rattle.region_allocator.specs.declared.region.Region.{Region}
 use Rattle.region_allocator.specs.Changes.{Adds, Changes, FitsFor}
 use Rattle.region_allocator.specs.Kept.{start_of, length_of, Keeps, shown_regions}
 use Rattle.region_allocator.specs.Regions.{IsRegion, AreApart, StandApart}
 use Rattle.region_allocator.proofs.Apart.{added_apart, changed_apart, apart_without, apart_from, starts_rise}
-use Rattle.region_allocator.proofs.Lists.{front_is_least, told_lt}
-use Rattle.region_allocator.proofs.Trees.{from_each, leaves, returns_changed, changed_there, others_unchanged, each_none, each_covered, each_ready, each_new, is_there, member, value, at_each, each_taken, each_changed}
+use Rattle.region_allocator.proofs.Lists.{told_lt}
 
 -- a table with no place links nothing
 no_links : {A : Type 0} (w : TreeLinkOps A) → (plain_table w).extent.places ≡ 0 → (p : Place) → IsUnlinked is_linked (plain_table w) p
-no_links w none p = not_linked _ (λ linked. let within = plain_covered w p linked in absurd (omega (arith, within, none)))
+no_links w none p = false_from_ne_true _ (λ linked. let within = plain_covered w p linked in absurd (omega (arith, within, none)))
 
 -- a region stands where one is placed
 pub region_there : (o : Option Region) → IsSome o → (r : Region) × (o ≡ Some r)
@@ -72,19 +75,12 @@ module _ {A B : Type 0} where
     pub has_root : shown_regions objects w root ≡ [] → root ≡ None
     has_root empty = no_members (subst (PlainShows w root) (nobody objects k.by_start.sorted.members k.by_start.sorted.stand.placed (k.by_start.sorted.stand.are ∙ sym regions_are ∙ empty)) k.by_start.sorted.shown)
 
-    -- members of both trees are placed, and what is placed is a member
-    pub starts_placed : ShowsPlaced (PlainShows w root) objects
-    starts_placed = record { members = k.by_start.sorted.members; shown = k.by_start.sorted.shown; placed = k.by_start.sorted.stand.placed }
-
-    pub lengths_placed : ShowsPlaced (PlainShows v top) objects
-    lengths_placed = record { members = k.by_length.sorted.members; shown = k.by_length.sorted.shown; placed = k.by_length.sorted.stand.placed }
-
     module _ (p : Place) {out : Region} (there : object_at objects p ≡ Some out) where
       pub start_member : HasMember (PlainShows w root) p
-      start_member = let m = member k.by_start p there in record { front = m.0; back = m.1; shown = subst (PlainShows w root) m.2 k.by_start.sorted.shown }
+      start_member = let m = each_member k.by_start p there in record { front = m.0; back = m.1; shown = subst (PlainShows w root) m.2 k.by_start.sorted.shown }
 
       pub length_member : HasMember (PlainShows v top) p
-      length_member = let m = member k.by_length p there in record { front = m.0; back = m.1; shown = subst (PlainShows v top) m.2 k.by_length.sorted.shown }
+      length_member = let m = each_member k.by_length p there in record { front = m.0; back = m.1; shown = subst (PlainShows v top) m.2 k.by_length.sorted.shown }
 
       -- what holds of each region holds of the one there
       pub at_region : (P : Region → Type 0) → AllByRecursion P (shown_regions objects w root) → P out
@@ -92,7 +88,7 @@ module _ {A B : Type 0} where
 
       -- it is one of the regions, and each other one is apart from it
       pub at_cut : (front : List Region) × (back : List Region) × (shown_regions objects w root ≡ front ++ out ∷ back)
-      at_cut = let m = member k.by_start p there in (values_at objects m.0, values_at objects m.1, regions_are ∙ value k.by_start p there m.0 m.1 m.2)
+      at_cut = let m = each_member k.by_start p there in (values_at objects m.0, values_at objects m.1, regions_are ∙ each_value k.by_start p there m.0 m.1 m.2)
 
       pub others_apart : AllByRecursion (λ x. (x ≡ out) ⊎ AreApart out x) (shown_regions objects w root)
       others_apart = let m = at_cut in
@@ -162,9 +158,9 @@ module _ {A B : Type 0} where
           → LinksAlso is_linked (plain_table v') (plain_table v'') p → FitsFor out r (shown_regions objects w root)
           → Keeps (with_object objects p r) w root v'' top'' × Changes out r (shown_regions objects w root) (shown_regions (with_object objects p r) w root)
       resize {r} v' top' v'' top'' removed off put also fits =
-          let a = each_changed k.by_start p there (changed_there objects p r) (others_unchanged objects p r) in
+          let a = each_changed k.by_start p there (put_there (puts_other objects p r)) (put_others (puts_other objects p r)) in
           let b = each_taken k.by_length p there {v = v'} {top = top'} removed off (leaves objects p r) in
-          let d = each_new b.3 {v = v''} {top = top''} (returns_changed objects p r) put also in
+          let d = each_new b.3 {v = v''} {top = top''} (places_other objects p r) put also in
           let same = (regions_are k) ∙ a.2 in
           let apart = changed_apart a.0 out a.1 (subst StandApart a.2 k.apart) (subst (FitsFor out r) same fits) in
           let each = a.3 (starts_rise (a.0 ++ r ∷ a.1) apart) in (
@@ -182,7 +178,7 @@ module _ {A B : Type 0} where
       module _ (r : Region) (v' : TreeLinkOps B) (top' : Option Place) (removed : (front back : List Place) → PlainShows v top (front ++ p ∷ back) → PlainShows v' top' (front ++ back))
           (off : Unlinks is_linked (plain_table v) (plain_table v') p) where
         pub resize_ready : ShowsPlaced (PlainShows v' top') (with_object objects p r)
-        resize_ready = each_ready (each_taken k.by_length p there {v = v'} {top = top'} removed off (leaves objects p r)).3 (returns_changed objects p r)
+        resize_ready = each_ready (each_taken k.by_length p there {v = v'} {top = top'} removed off (leaves objects p r)).3 (places_other objects p r)
 
       pub resize_covered : (v' : TreeLinkOps B) → ((s : List Place) → PlainShows v top s → KeepsBeside (plain_table v) (plain_table v') s) → IsCovered (plain_table v') p
-      resize_covered v' frame = still_covered p (frame k.by_length.sorted.members k.by_length.sorted.shown) (plain_covered v p (is_there k.by_length p there))
+      resize_covered v' frame = still_covered p (frame k.by_length.sorted.members k.by_length.sorted.shown) (plain_covered v p (each_linked k.by_length p there))

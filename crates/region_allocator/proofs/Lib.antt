@@ -1,6 +1,5 @@
 pub mod Lists
 pub mod Apart
-pub mod Trees
 pub mod Keeping
 pub mod Searching
 pub mod Touching

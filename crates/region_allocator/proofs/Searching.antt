@@ -10,19 +10,20 @@ use Rattle.ic_unsafe_ref.specs.Objects.{Objects, object_at}
 use Rattle.ic_link_ops.specs.PlacedObjects.{ArePlaced, values_at}
 use Rattle.ic_link_ops.specs.Sequences.{Cut, join, first, last, but_last}
 use Rattle.ic_link_ops.proofs.SequenceLemmas.{nothing_last, split_last}
-use Rattle.ic_rbtree.specs.declared.key_adapter.Bound.TheVariants.{Included}
+use Rattle.ic_link_ops.proofs.Each.{all_both, all_map, all_front, all_back}
+use Rattle.ic_rbtree.specs.declared.keys.key_adapter.Bound.TheVariants.{Included}
 use Rattle.ic_rbtree.specs.Borders.{IsBorder, IsLowerBorder, IsSorted, at_most_at}
 use Rattle.ic_rbtree.specs.Comparing.{answer_at, compared, order_of, is_beyond}
 use Rattle.ic_rbtree.specs.PlainTrees.{TreeLinkOps}
-use Rattle.ic_rbtree.proofs.KeyLaws.{all_both, all_map, cuts_at_most, one_border, sorted_for}
-use Rattle.ic_rbtree.proofs.SortedKeys.{first_is_least}
+use Rattle.ic_rbtree.proofs.KeyLaws.{cuts_at_most, one_border, sorted_for}
+use Rattle.ic_rbtree.proofs.SortedKeys.{first_is_least, sorted_back}
 use Rattle.region_allocator.specs.declared.region.Region.{Region}
 use Rattle.region_allocator.specs.Kept.{start_of, length_of, Keeps, shown_regions}
 use Rattle.region_allocator.specs.Neighbors.{found_at, found_with, IsFound, IsShortest, IsLast, IsFirst, AreNeighbors}
 use Rattle.region_allocator.specs.Regions.{IsRegion, StandApart}
 use Rattle.region_allocator.proofs.Apart.{all_regions, apart_front, apart_back, below_cut}
 use Rattle.region_allocator.proofs.Keeping.{region_there, regions_are, shown_apart, at_region, by_lengths}
-use Rattle.region_allocator.proofs.Lists.{all_front, all_back, told_le, told_gt, told_ge, told_less}
+use Rattle.region_allocator.proofs.Lists.{told_le, told_gt, told_ge, told_less}
 
 -- what holds of places holds of the values there
 values_all : (P : Region → Type 0) (Q : Place → Type 0) (objects : Objects Region) → ((p : Place) (r : Region) → object_at objects p ≡ Some r → Q p → P r) → (s : List Place) → AllByRecursion Q s → AllByRecursion P (values_at objects s)
@@ -71,7 +72,7 @@ module _ {A B : Type 0} {objects : Objects Region} {w : TreeLinkOps A} {root : O
             let is : k.lengths ≡ values_at objects front ++ r ∷ values_at objects back =
             lengths_are front (p ∷ back) same ∙ ap (λ (o : Option Region). values_at objects front ++ cons_option o (values_at objects back)) there in
             let least = first_is_least length_of r (values_at objects back)
-            (behind (values_at objects front) (r ∷ values_at objects back) (subst (λ (l : List Region). IsSorted nat_cmp (map length_of l)) is k.by_length.sorted.sorted)) in
+            (sorted_back length_of (values_at objects front) (r ∷ values_at objects back) (subst (λ (l : List Region). IsSorted nat_cmp (map length_of l)) is k.by_length.sorted.sorted)) in
             subst (IsShortest objects (shown_regions objects w root) n) (sym (ap (found_at objects) at ∙ ap (found_with p) there)) (
               found_is p there,
               long p there pass.0,
@@ -79,13 +80,6 @@ module _ {A B : Type 0} {objects : Objects Region} {w : TreeLinkOps A} {root : O
                   (all_both (λ x. n ≤ x.length → r.length ≤ x.length) (values_at objects front) (r ∷ values_at objects back) (all_map (λ x short enough. absurd (omega (arith, short, enough))) (values_at objects front) (shorter front fail))
                   ((λ enough. omega arith), all_map (λ x least enough. least) (values_at objects back) least))),
             )
-          where
-            behind : (front back : List Region) → IsSorted nat_cmp (map length_of (front ++ back)) → IsSorted nat_cmp (map length_of back)
-            behind [] back h = h
-            behind (x ∷ front) back h = behind front back (tail (front ++ back) h) where
-              tail : (s : List Region) → IsSorted nat_cmp (map length_of (x ∷ s)) → IsSorted nat_cmp (map length_of s)
-              tail [] h = tt
-              tail (y ∷ s) h = h.1
 
   -- THE NEIGHBORS of an address
   module _ (n : ℕ) (gap : Cut) (same : join gap ≡ k.by_start.sorted.members) (border : IsBorder (is_beyond (Included (compared (order_of nat_cmp start_of n) objects))) gap) where

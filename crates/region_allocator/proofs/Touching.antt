@@ -3,7 +3,6 @@ use Rattle.std.proofs.Common.{◌≡◌, ◌≢◌, ℕ, ◌<◌, ◌≤◌, ◌
 use Rattle.std.proofs.lemmas.Bool.{cases_lt}
 use Rattle.std.specs.List.{AllByRecursion}
 use Rattle.ic_unsafe_ref.specs.Objects.{Objects}
-use Rattle.ic_rbtree.proofs.KeyLaws.{all_both, all_map}
 use Rattle.region_allocator.specs.declared.free_error.FreeError.{FreeError}
 use Rattle.region_allocator.specs.declared.neighbors.Found.{Found}
 use Rattle.region_allocator.specs.declared.region.Region.{Region}
@@ -11,7 +10,7 @@ use Rattle.region_allocator.specs.Neighbors.{IsFound, IsLast, IsFirst, AreNeighb
 use Rattle.region_allocator.specs.Refusals.{IsRefused}
 use Rattle.region_allocator.specs.Regions.{end_of, IsFree, IsRegion, AreApart, StandApart}
 use Rattle.region_allocator.proofs.Apart.{apart_front, apart_back, below_cut, region_cut, free_here, none_free}
-use Rattle.region_allocator.proofs.Lists.{all_back}
+use Rattle.ic_link_ops.proofs.Each.{all_both, all_map, all_back}
 
 -- what is free in front is free
 free_left : (front back : List Region) (a : ℕ) → IsFree front a → IsFree (front ++ back) a

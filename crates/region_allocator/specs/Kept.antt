@@ -1,12 +1,11 @@
 -- What an allocator keeps of its objects, its two tables and its two trees.
-use Rattle.std.specs.Prelude.{◌≡◌, ℕ, Option, List}
-use Rattle.std.specs.Ordering.{nat_cmp}
+use Rattle.std.specs.Prelude.{ℕ, Option, List}
 use Rattle.ic_unsafe_ref.specs.declared.place.Place.{Place}
-use Rattle.ic_unsafe_ref.specs.Objects.{Objects, is_placed}
+use Rattle.ic_unsafe_ref.specs.Objects.{Objects}
 use Rattle.ic_link_ops.specs.PlacedObjects.{values_at}
-use Rattle.ic_rbtree.specs.PlainTrees.{TreeLinkOps, ShowsTree, is_linked, plain_table, members_of}
-use Rattle.ic_rbtree.specs.SortedValues.{HasSorted}
+use Rattle.ic_rbtree.specs.PlainTrees.{TreeLinkOps, members_of}
 use Rattle.ic_rbtree.specs.Tree.{root_of}
+use Rattle.ic_rbtree.specs.EachObject.{HasEach}
 use Rattle.region_allocator.specs.declared.region.Region.{Region}
 use Rattle.region_allocator.specs.declared.free_regions.FreeRegions.{FreeRegions}
 use Rattle.region_allocator.specs.Regions.{StandApart}
@@ -17,11 +16,6 @@ start_of region = region.start
 
 abbrev pub length_of : Region → ℕ
 length_of region = region.length
-
--- A TREE HAS EACH OBJECT: the objects, as these values, by a key; and exactly the places of objects are linked
-pub record HasEach {A : Type 0} (key_of : Region → ℕ) (links : TreeLinkOps A) (root : Option Place) (objects : Objects Region) (values : List Region) : Type 0 where
-  pub sorted : HasSorted nat_cmp key_of ShowsTree is_linked (plain_table links) root objects values
-  pub exact : (p : Place) → is_linked ((plain_table links).entry p) ≡ is_placed objects p
 
 -- WHAT IT KEEPS: both trees have each object, one by the starts of the regions, one by their lengths, and the regions stand apart
 pub record Keeps {A B : Type 0} (objects : Objects Region) (start_links : TreeLinkOps A) (start_root : Option Place) (length_links : TreeLinkOps B) (length_root : Option Place) : Type 0 where

@@ -2,10 +2,11 @@
 use Rattle.std.proofs.Common.{◌≡◌, ℕ, zero, suc, ◌+◌, ◌<◌, ◌≤◌, true, false, not, List, [], ◌∷◌, ◌++◌, length, filter, refl, sym, ap, ◌∙◌, subst, arith, append_assoc, append-nil, length-append}
 use Rattle.std.proofs.lemmas.List.Elements.{filter-append}
 use Rattle.std.specs.List.{AllByRecursion}
-use Rattle.ic_rbtree.proofs.KeyLaws.{all_both, all_map, filter_front, filter_fail, filter_pass}
+use Rattle.ic_rbtree.proofs.KeyLaws.{filter_front, filter_fail, filter_pass}
 use Rattle.scheduler.specs.declared.task.Task.{Task}
 use Rattle.scheduler.specs.Schedule.{Schedule, queue_at, is_due, is_for, IsByDeadline, IsUnchanged, Ticks, MovesFirst}
 use Rattle.scheduler.proofs.ByDeadline.{by_deadline_among}
+use Rattle.ic_link_ops.proofs.Each.{all_both, all_map}
 
 module _ {V : Type 0} where
   -- A TICK SO FAR: these were first, are due, and went to their queues

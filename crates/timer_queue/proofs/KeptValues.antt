@@ -1,24 +1,18 @@
 -- For callers that keep what waits as values: what a call requires, and what it says of them.
-use Rattle.std.proofs.Common.{◌≡◌, ℕ, ◌<◌, true, Option, Some, None, IsSome, List, [], ◌∷◌, map, refl, sym, ap, subst, true≢false}
+use Rattle.std.proofs.Common.{ℕ, ◌<◌, Option, Some, None, List, [], ◌∷◌, map, sym, subst}
 use Rattle.std.specs.List.{AllByRecursion, cons_option}
 use Rattle.std.specs.Ordering.{nat_cmp}
 use Rattle.ic_unsafe_ref.specs.declared.place.Place.{Place}
 use Rattle.ic_unsafe_ref.specs.Objects.{Objects, object_at}
 use Rattle.ic_link_ops.specs.PlacedObjects.{ArePlaced, values_at}
 use Rattle.ic_rbtree.specs.Borders.{IsSorted}
-use Rattle.ic_rbtree.specs.SortedObjects.{key_at, key_or, keys_at, ShowsSorted}
+use Rattle.ic_rbtree.specs.SortedObjects.{key_at, key_or, ShowsSorted}
+use Rattle.ic_rbtree.proofs.SortedKeys.{keys_are}
 
 module _ {T : Type 0} (deadline : T → ℕ) (objects : Objects T) where
-  deadlines_are : (s : List Place) → ArePlaced objects s → map deadline (values_at objects s) ≡ keys_at deadline objects s
-  deadlines_are [] placed = refl
-  deadlines_are (p ∷ s) placed = by (object_at objects p) placed.0 (deadlines_are s placed.1) where
-    by : (o : Option T) → IsSome o → map deadline (values_at objects s) ≡ keys_at deadline objects s → map deadline (cons_option o (values_at objects s)) ≡ key_or deadline o ∷ keys_at deadline objects s
-    by None here rest = absurd (true≢false (sym here))
-    by (Some x) here rest = ap (λ (l : List ℕ). deadline x ∷ l) rest
-
   -- THE QUEUE IS IN ORDER where the values at its members are
   pub in_order : {shows : List Place → Type 0} (s : List Place) → shows s → ArePlaced objects s → IsSorted nat_cmp (map deadline (values_at objects s)) → ShowsSorted deadline shows objects
-  in_order s shown placed rises = record { placed = record { members = s; shown = shown; placed = placed }; sorted = subst (IsSorted nat_cmp) (deadlines_are s placed) rises }
+  in_order s shown placed rises = record { placed = record { members = s; shown = shown; placed = placed }; sorted = subst (IsSorted nat_cmp) (sym (keys_are deadline objects s placed)) rises }
 
   -- NO VALUE IS DUE where no member is
   pub values_wait : (now : ℕ) (s : List Place) → AllByRecursion (λ p. now < key_at deadline objects p) s → AllByRecursion (λ x. now < deadline x) (values_at objects s)

@@ -12,10 +12,10 @@ use Rattle.ic_link_ops.specs.Sequences.{Cut}
 use Rattle.ic_link_ops.specs.Tables.{Table}
 use Rattle.ic_link_ops.proofs.SequenceLemmas.{some_same}
 use Rattle.ic_link_ops.proofs.ShownTrees.{one_sequence}
-use Rattle.ic_rbtree.specs.declared.entry.Entry.{Entry}
-use Rattle.ic_rbtree.specs.declared.entry.Entry.TheVariants.{Occupied, Vacant}
-use Rattle.ic_rbtree.specs.declared.entry.InsertCursor.{InsertCursor}
-use Rattle.ic_rbtree.specs.declared.entry.RefusedInsert.{RefusedInsert}
+use Rattle.ic_rbtree.specs.declared.keys.entry.Entry.{Entry}
+use Rattle.ic_rbtree.specs.declared.keys.entry.Entry.TheVariants.{Occupied, Vacant}
+use Rattle.ic_rbtree.specs.declared.keys.entry.InsertCursor.{InsertCursor}
+use Rattle.ic_rbtree.specs.declared.keys.entry.RefusedInsert.{RefusedInsert}
 use Rattle.ic_rbtree.specs.declared.tree.RBTree.{RBTree}
 use Rattle.ic_rbtree.specs.Borders.{IsBorder, Finds, less_at}
 use Rattle.ic_rbtree.specs.Comparing.{compared, order_of}

@@ -15,9 +15,6 @@ module _ {A : Type 0} where
   gained_is old new more h = ap (λ (l : List A). drop (length old) l) h ∙ drop-append_seam old more
 
 module _ {S A : Type 0} (next_gives next_back_gives : S → Option A → S → Type 0) where
-  pub none_dealt : (s : S) (fronts backs : List A) → HasDealt next_gives next_back_gives s s fronts fronts backs backs
-  none_dealt s fronts backs = record { items = []; leads = refl; at_fronts = sym (append-nil fronts); at_backs = sym (append-nil backs) }
-
   -- one more from the front
   pub front_dealt : {s t u : S} {fronts mid new backs other : List A} (x : A) → HasDealt next_gives next_back_gives s t fronts mid backs other
       → next_gives t (Some x) u → new ≡ mid ++ x ∷ [] → HasDealt next_gives next_back_gives s u fronts new backs other

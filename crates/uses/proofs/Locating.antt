@@ -7,7 +7,7 @@ use Rattle.ic_unsafe_ref.specs.declared.place.Place.{Place}
 use Rattle.ic_unsafe_ref.specs.Objects.{Objects, object_at}
 use Rattle.ic_link_ops.specs.PlacedObjects.{ArePlaced}
 use Rattle.ic_link_ops.specs.Sequences.{join, first, last}
-use Rattle.ic_rbtree.specs.declared.key_adapter.Bound.TheVariants.{Included}
+use Rattle.ic_rbtree.specs.declared.keys.key_adapter.Bound.TheVariants.{Included}
 use Rattle.ic_rbtree.specs.Borders.{IsSorted, IsUpperBorder, if_passes}
 use Rattle.ic_rbtree.specs.Comparing.{answer_at, compared, order_of}
 use Rattle.uses.specs.Regions.{start, start_at, lies_at, Locates}

@@ -1,5 +1,6 @@
 -- One place after the other is claimed, and refused.
 use Rattle.std.proofs.Common.{◌≡◌, ◌+◌, ℕ, List, [], ◌∷◌, ◌++◌, length, refl, sym, ap, ◌∙◌, arith, append_assoc, append-nil}
+use Rattle.std.proofs.lemmas.List.{length_push}
 use Rattle.ic_unsafe_ref.specs.declared.place.Place.{Place}
 use Rattle.ic_unsafe_ref.specs.Places.{index_of}
 use Rattle.ic_atomic.specs.declared.step.Step.TheVariants.{Claim}
@@ -15,10 +16,6 @@ refusals_more : (ps : List Place) (p : Place) → refusals (ps ++ p ∷ []) ≡ 
 refusals_more [] p = refl
 refusals_more (q ∷ ps) p = ap (λ (es : List Event). event (Claim q) 1 ∷ es) (refusals_more ps p)
 
-one_more : (ps : List Place) (p : Place) → length (ps ++ p ∷ []) ≡ length ps + 1
-one_more [] p = refl
-one_more (q ∷ ps) p = let e = one_more ps p in omega (arith, e)
-
 -- none at first
 pub refused_none : (r : List Event) → WereRefused 0 r r
 refused_none r = record { tried = []; row = tt; count_is = refl; gained = sym (append-nil r) }
@@ -28,7 +25,7 @@ pub refused_more : {count : ℕ} {old now new : List Event} → WereRefused coun
 refused_more {old} were p is gained = record {
   tried = were.tried ++ p ∷ [];
   row = let c = were.count_is in row_more 0 were.tried p were.row (omega (arith, is, c));
-  count_is = let n = one_more were.tried p in let c = were.count_is in omega (arith, n, c);
+  count_is = let n = length_push were.tried p in let c = were.count_is in omega (arith, n, c);
   gained = gained ∙ (ap (λ (es : List Event). es ++ event (Claim p) 1 ∷ []) were.gained
       ∙ (append_assoc old (refusals were.tried) (event (Claim p) 1 ∷ []) ∙ ap (λ (es : List Event). old ++ es) (sym (refusals_more were.tried p))));
 }

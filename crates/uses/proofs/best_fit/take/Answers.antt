@@ -3,7 +3,7 @@ use Rattle.std.proofs.lemmas.Cmp.{nat_cmp_total}
 use Rattle.ic_link_ops.specs.Positions.{ShowsAt}
 use Rattle.ic_link_ops.specs.RedBlackTree.{Shows}
 use Rattle.ic_link_ops.proofs.ShownTrees.{one_sequence}
-use Rattle.ic_rbtree.specs.declared.key_adapter.Bound.TheVariants.{Included}
+use Rattle.ic_rbtree.specs.declared.keys.key_adapter.Bound.TheVariants.{Included}
 use Rattle.ic_rbtree.specs.CursorMut.{site_of}
 use Rattle.ic_rbtree.specs.SortedObjects.{ShowsSorted}
 use Rattle.ic_rbtree.proofs.SortedAnswers.{lower_first}

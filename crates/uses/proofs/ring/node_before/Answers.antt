@@ -3,7 +3,7 @@ use Rattle.std.proofs.lemmas.Cmp.{nat_cmp_total}
 use Rattle.std.specs.Prelude.{is_some}
 use Rattle.ic_link_ops.specs.Sequences.{at_back}
 use Rattle.ic_link_ops.proofs.ShownTrees.{one_sequence}
-use Rattle.ic_rbtree.specs.declared.key_adapter.Bound.TheVariants.{Excluded}
+use Rattle.ic_rbtree.specs.declared.keys.key_adapter.Bound.TheVariants.{Excluded}
 use Rattle.ic_rbtree.proofs.SortedAnswers.{upper_last}
 use Rattle.ic_rbtree.proofs.SortedKeys.{shown_sorted}
 use Rattle.uses.specs.Ring.{point, is_below}

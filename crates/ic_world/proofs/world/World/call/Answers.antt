@@ -3,7 +3,7 @@ use Rattle.std.proofs.lemmas.List.{length-map}
 use Rattle.ic_world.specs.Calls.{names, has_call}
 use Rattle.ic_world.specs.Tables.{table_of}
 use Rattle.ic_world.proofs.Readings.{found, found_at, missing, set_back}
-use Rattle.ic_world.proofs.Calls.{room_for, placed_by, kept_by, step_by, step_unplaced, step_lacking}
+use Rattle.ic_world.proofs.OneCall.{room_for, placed_by, kept_by, step_by, step_unplaced, step_lacking}
 use Rattle.ic_world.proofs.world.World.call.Goals as goal
 
 pub returns-in-None : goal.returns-in-None

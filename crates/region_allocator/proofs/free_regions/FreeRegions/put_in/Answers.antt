@@ -4,7 +4,7 @@ use Rattle.ic_unsafe_ref.proofs.Placing.{placed_there}
 use Rattle.ic_link_ops.proofs.Calling.{accepted}
 use Rattle.region_allocator.specs.Regions.{AreApart}
 use Rattle.region_allocator.proofs.Keeping.{kept_covered, same_covered, adds_to, put_in}
-use Rattle.region_allocator.proofs.Trees.{vacant_free, each_ready}
+use Rattle.ic_rbtree.proofs.EachObject.{vacant_free, each_ready}
 use Rattle.region_allocator.proofs.free_regions.FreeRegions.put_in.Goals as goal
 
 pub returns-in-Err-NoPlaceLeft-clause-kept : goal.returns-in-Err-NoPlaceLeft-clause-kept

@@ -2,8 +2,8 @@ use Rattle.std.proofs.Common.{Option, Some, None, IsSome, MutBor, refl, ap, is_s
 use Rattle.std.specs.Option.{option_copied_mut}
 use Rattle.ic_link_ops.proofs.Calling.{accepted}
 use Rattle.region_allocator.proofs.Keeping.{region_there, length_member, resize, resize_ready, resize_covered}
-use Rattle.region_allocator.proofs.Trees.{changed_there}
 use Rattle.region_allocator.proofs.free_regions.FreeRegions.resize.Goals as goal
+use Rattle.ic_unsafe_ref.proofs.Placing.{put_there, puts_other}
 
 some_lent : {T : Type 0} (o : Option (MutBor T)) → IsSome (option_copied_mut o) → IsSome o
 some_lent None some = some
@@ -23,7 +23,7 @@ insert-requires-clause-placed g c =
     (resize_ready c.requires.kept c.args.object (region_there _ c.requires.placed).1 c.args.region c.remove.new.links _ c.remove.ensures.removed c.remove.ensures.released)
 
 pub insert-requires-clause-object : goal.insert-requires-clause-object
-insert-requires-clause-object g c = ap is_some (changed_there c.args.self.now.pool.objects c.args.object c.args.region)
+insert-requires-clause-object g c = ap is_some (put_there (puts_other c.args.self.now.pool.objects c.args.object c.args.region))
 
 pub returns-clause-kept : goal.returns-clause-kept
 returns-clause-kept g c =

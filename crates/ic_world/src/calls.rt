@@ -1,0 +1,16 @@
+//! The calls of one collection of a world.
+//!
+//! ```text
+//! world.push_back(queue, object)?;
+//! let first = world.pop_front(queue)?;
+//! ```
+
+pub(crate) mod gaps;
+pub(crate) mod insertion;
+pub(crate) mod keyed;
+pub(crate) mod kinds;
+pub(crate) mod one_call;
+pub(crate) mod search;
+pub(crate) mod seek;
+pub(crate) mod unkeyed;
+pub(crate) mod whole;

@@ -1,0 +1,106 @@
+//! Calls of one tree that put an object where a key belongs.
+//!
+//! ```text
+//! Insertion::Insert(place).run(&mut members, &mut links, &objects, adapter)? // how many objects were looked at
+//! EntryAt(&5, place).run(&mut members, &mut links, &objects, adapter)?       // the member of key 5, or the object
+//! ```
+
+ghost use Rattle.std.specs.Prelude.{◌≡◌};
+
+use crate::call::Refusal;
+use crate::calls::kinds::is_tree;
+use crate::calls::one_call::OneCall;
+use ic_any_collection::Members;
+use ic_any_table::{Field, Kind};
+use ic_rbtree::KeyAdapter;
+use ic_unsafe_ref::{Objects, Place};
+use std::alloc::Allocator;
+
+/// An object goes where its own key belongs, behind members with the same key.
+#[derive(Clone, Copy)]
+pub enum Insertion {
+    /// The cursor goes to the object.
+    Insert(Place),
+    /// The cursor stays.
+    CursorInsert(Place),
+}
+
+impl<A: KeyAdapter> OneCall<A> for Insertion {
+    ghost use Rattle.ic_world.specs.declared.calls.one_call.Call.TheVariants.{Insertion as insertion};
+    ghost use Rattle.ic_world.specs.Calls.{looked};
+
+    type Answer = u64;
+
+    ghost call = { insertion };
+
+    ghost reply = { looked };
+
+    #[inline]
+    fn is_of(&self, kind: Kind) -> bool {
+        is_tree(kind)
+    }
+
+    #[inline]
+    fn is_placed<M: Allocator>(&self, objects: &Objects<A::Value, M>) -> bool {
+        match *self {
+            Insertion::Insert(object) => objects.is_placed(object),
+            Insertion::CursorInsert(object) => objects.is_placed(object),
+        }
+    }
+
+    fn run<M: Allocator>(
+        &self,
+        members: &mut Members<A::Value>,
+        links: &mut Field<M>,
+        objects: &Objects<A::Value, M>,
+        adapter: A,
+    ) -> Result<u64, Refusal> {
+        match *self {
+            Insertion::Insert(object) => members
+                .insert(links, objects, adapter, object)
+                .ok_or(Refusal::AlreadyLinked),
+            Insertion::CursorInsert(object) => members
+                .cursor_insert(links, objects, adapter, object)
+                .ok_or(Refusal::AlreadyLinked),
+        }
+    }
+}
+
+/// The entry of a key, and the object that goes in where no member has it.
+#[derive(Clone, Copy)]
+pub struct EntryAt<K> {
+    pub key: K,
+    pub object: Place,
+}
+
+impl<A: KeyAdapter> OneCall<A> for EntryAt<A::Key> {
+    ghost use Rattle.ic_world.specs.declared.calls.one_call.Call.TheVariants.{Enter as enter};
+    ghost use Rattle.ic_world.specs.Replies.{entry_or_linked};
+
+    // `None`: no member has the key, and the object is linked.
+    type Answer = Option<(bool, Place, u64)>;
+
+    ghost call = { λ e. enter e.key e.object };
+
+    ghost reply = { entry_or_linked };
+
+    #[inline]
+    fn is_of(&self, kind: Kind) -> bool {
+        is_tree(kind)
+    }
+
+    #[inline]
+    fn is_placed<M: Allocator>(&self, objects: &Objects<A::Value, M>) -> bool {
+        objects.is_placed(self.object)
+    }
+
+    fn run<M: Allocator>(
+        &self,
+        members: &mut Members<A::Value>,
+        links: &mut Field<M>,
+        objects: &Objects<A::Value, M>,
+        adapter: A,
+    ) -> Result<Option<(bool, Place, u64)>, Refusal> {
+        Ok(members.entry(links, objects, adapter, &self.key, self.object))
+    }
+}

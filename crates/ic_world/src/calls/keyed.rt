@@ -1,0 +1,123 @@
+//! Keyed calls of one tree. Each answers how many objects it looked at: v of them in a tree of n members, where `2^v <= (n + 1)^2`.
+//!
+//! ```text
+//! world.insert(tree, first)?;              // 0 looks
+//! world.find(tree, 5)?                     // the first member of key 5
+//! world.range(tree, Bound::Included(3), Bound::Unbounded)? // all from key 3 on
+//! ```
+
+ghost use Rattle.std.specs.Prelude.{◌≡◌};
+
+use crate::World;
+use crate::call::{Command, Refusal};
+use crate::calls::insertion::{EntryAt, Insertion};
+use crate::calls::kinds::is_tree;
+use crate::calls::search::Search;
+use ic_rbtree::{Bound, KeyAdapter};
+use ic_unsafe_ref::Place;
+use std::alloc::Allocator;
+
+impl<A: KeyAdapter, M: Allocator + Copy> World<A, M>
+where
+    A::Key: Drop,
+{
+    ghost use Rattle.ic_world.specs.Step.{Step};
+    ghost use Rattle.ic_world.specs.Replies.{reply_of};
+    ghost use Rattle.ic_world.specs.Calls.{found, looked, entry, range};
+
+    /// Puts the cursor on the first member of this key, to null if there is none, and returns it with the looks. O(log n).
+    ///
+    /// Refused: `NoSuchCollection`, `WrongKind` of a list.
+    pub fn find(&mut self, collection: usize, key: A::Key) -> Result<(Option<Place>, u64), Refusal>
+        ensures { Step A.Key.cmp A.key_of self.old (Command.Find collection key) (reply_of (λ answer. found answer.0 answer.1) result) self.new }
+    {
+        self.call(collection, &Search::Find(key))
+    }
+
+    /// Puts the cursor on the first member that meets the bound, to null if there is none, and returns it with the looks. O(log n).
+    ///
+    /// Refused: `NoSuchCollection`, `WrongKind` of a list.
+    pub fn lower_bound(
+        &mut self,
+        collection: usize,
+        bound: Bound<A::Key>,
+    ) -> Result<(Option<Place>, u64), Refusal>
+        ensures { Step A.Key.cmp A.key_of self.old (Command.LowerBound collection bound) (reply_of (λ answer. found answer.0 answer.1) result) self.new }
+    {
+        self.call(collection, &Search::LowerBound(bound))
+    }
+
+    /// Puts the cursor on the last member that meets the bound, to null if there is none, and returns it with the looks. O(log n).
+    ///
+    /// Refused: `NoSuchCollection`, `WrongKind` of a list.
+    pub fn upper_bound(
+        &mut self,
+        collection: usize,
+        bound: Bound<A::Key>,
+    ) -> Result<(Option<Place>, u64), Refusal>
+        ensures { Step A.Key.cmp A.key_of self.old (Command.UpperBound collection bound) (reply_of (λ answer. found answer.0 answer.1) result) self.new }
+    {
+        self.call(collection, &Search::UpperBound(bound))
+    }
+
+    /// Puts an object where its key belongs, behind members with the same key, and the cursor on it. O(log n).
+    ///
+    /// Refused: `NoSuchCollection`, `NoSuchObject`, `WrongKind` of a list, `AlreadyLinked`, all without a look.
+    pub fn insert(&mut self, collection: usize, object: Place) -> Result<u64, Refusal>
+        ensures { Step A.Key.cmp A.key_of self.old (Command.Insert collection object) (reply_of (λ looks. looked looks) result) self.new }
+    {
+        self.call(collection, &Insertion::Insert(object))
+    }
+
+    /// Puts an object where its key belongs, behind members with the same key. The cursor stays. O(log n).
+    ///
+    /// Refused: `NoSuchCollection`, `NoSuchObject`, `WrongKind` of a list, `AlreadyLinked`, all without a look.
+    pub fn cursor_insert(&mut self, collection: usize, object: Place) -> Result<u64, Refusal>
+        ensures { Step A.Key.cmp A.key_of self.old (Command.CursorInsert collection object) (reply_of (λ looks. looked looks) result) self.new }
+    {
+        self.call(collection, &Insertion::CursorInsert(object))
+    }
+
+    /// Puts the cursor on the first member of this key, or where none has it, on the object, which is put where the key would stand.
+    ///
+    /// It returns whether a member had the key, which one the cursor is on, and the looks. Which key the object has is not asked.
+    /// O(log n). Refused: `NoSuchCollection`, `NoSuchObject`, `WrongKind` of a list; and `AlreadyLinked` where no member has the key.
+    pub fn entry(
+        &mut self,
+        collection: usize,
+        key: A::Key,
+        object: Place,
+    ) -> Result<(bool, Place, u64), Refusal>
+        ensures { Step A.Key.cmp A.key_of self.old (Command.Entry collection key object) (reply_of (λ e. entry e.0 e.1 e.2) result) self.new }
+    {
+        match self.call(collection, &EntryAt { key, object }) {
+            Ok(Some(answer)) => Ok(answer),
+            Ok(None) => Err(Refusal::AlreadyLinked),
+            Err(refusal) => Err(refusal),
+        }
+    }
+
+    /// The members between two bounds, and the looks of the two searches. The cursor stays. O(log n + answer).
+    ///
+    /// Refused: `NoSuchCollection`, `WrongKind` of a list, `OutOfMemory`.
+    pub fn range(
+        &self,
+        collection: usize,
+        min: Bound<A::Key>,
+        max: Bound<A::Key>,
+    ) -> Result<(Vec<Place, M>, u64, u64), Refusal>
+        ensures { Step A.Key.cmp A.key_of self.now (Command.Range collection min max)
+            (reply_of (λ answer. range answer.0.items answer.1 answer.2) result) self.now }
+    {
+        let Some((members, links)) = self.found(collection) else {
+            return Err(Refusal::NoSuchCollection);
+        };
+        if !is_tree(members.kind()) {
+            return Err(Refusal::WrongKind);
+        }
+        match members.range(self.alloc, links, &self.objects, self.adapter, &min, &max) {
+            Ok(answer) => Ok(answer),
+            Err(_) => Err(Refusal::OutOfMemory),
+        }
+    }
+}

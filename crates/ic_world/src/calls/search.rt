@@ -1,0 +1,63 @@
+//! Searches of one tree by keys, which put its cursor on what they find.
+//!
+//! ```text
+//! Search::Find(5).run(&mut members, &mut links, &objects, adapter)? // the first member of key 5, with the looks
+//! ```
+
+ghost use Rattle.std.specs.Prelude.{◌≡◌};
+
+use crate::call::Refusal;
+use crate::calls::kinds::is_tree;
+use crate::calls::one_call::OneCall;
+use ic_any_collection::Members;
+use ic_any_table::{Field, Kind};
+use ic_rbtree::{Bound, KeyAdapter};
+use ic_unsafe_ref::{Objects, Place};
+use std::alloc::Allocator;
+
+/// What is searched.
+#[derive(Clone, Copy)]
+pub enum Search<K> {
+    /// The first member with a key.
+    Find(K),
+    /// The first member that meets a bound.
+    LowerBound(Bound<K>),
+    /// The last member that meets a bound.
+    UpperBound(Bound<K>),
+}
+
+impl<A: KeyAdapter> OneCall<A> for Search<A::Key> {
+    ghost use Rattle.ic_world.specs.declared.calls.one_call.Call.TheVariants.{Search as search};
+    ghost use Rattle.ic_world.specs.Calls.{found};
+
+    type Answer = (Option<Place>, u64);
+
+    ghost call = { search };
+
+    ghost reply = { λ answer. found answer.0 answer.1 };
+
+    #[inline]
+    fn is_of(&self, kind: Kind) -> bool {
+        is_tree(kind)
+    }
+
+    #[inline]
+    fn is_placed<M: Allocator>(&self, objects: &Objects<A::Value, M>) -> bool {
+        let _ = objects;
+        true
+    }
+
+    fn run<M: Allocator>(
+        &self,
+        members: &mut Members<A::Value>,
+        links: &mut Field<M>,
+        objects: &Objects<A::Value, M>,
+        adapter: A,
+    ) -> Result<(Option<Place>, u64), Refusal> {
+        match self {
+            Search::Find(key) => Ok(members.find(links, objects, adapter, key)),
+            Search::LowerBound(bound) => Ok(members.lower_bound(links, objects, adapter, bound)),
+            Search::UpperBound(bound) => Ok(members.upper_bound(links, objects, adapter, bound)),
+        }
+    }
+}

@@ -1,0 +1,208 @@
+//! Calls that move the cursor of one collection: to a neighbor, to null, or to a member that is named.
+//!
+//! ```text
+//! Move(Direction::Next).run(&mut members, &mut links, &objects, adapter)?; // from null to the first member
+//! Seek::On(place).run(&mut members, &mut links, &objects, adapter)?;       // the cursor is on it, if it is a member
+//! ```
+
+ghost use Rattle.std.specs.Prelude.{◌≡◌, true, Some};
+ghost use Rattle.std.specs.List.{list_all};
+ghost use Rattle.ic_unsafe_ref.specs.Objects.{is_placed as place_is_placed};
+ghost use Rattle.ic_link_ops.specs.Tables.{IsCovered};
+ghost use Rattle.ic_any_table.specs.Fields.{look};
+ghost use Rattle.ic_link_ops.specs.Sequences.{IsAfter, IsBefore};
+ghost use Rattle.ic_any_collection.specs.Edits.{AtGap};
+ghost use Rattle.ic_any_collection.specs.Members.{kind_in, members_in, Held};
+ghost use Rattle.ic_any_collection.specs.Members as kinds;
+ghost use Rattle.ic_world.specs.Calls.{named_if, beside_of};
+ghost use Rattle.ic_world.specs.Seeks.{Sought};
+
+use crate::call::Refusal;
+use crate::calls::kinds::{has_before, has_pointer, is_xor, same_position};
+use crate::calls::one_call::{Direction, OneCall};
+use ic_any_collection::Members;
+use ic_any_table::{Field, Kind};
+use ic_rbtree::KeyAdapter;
+use ic_unsafe_ref::{Objects, Place};
+use std::alloc::Allocator;
+
+/// The cursor moves to a neighbor, from null to the first member or to the last.
+#[derive(Clone, Copy)]
+pub struct Move(pub Direction);
+
+/// Where the cursor goes.
+#[derive(Clone, Copy)]
+pub enum Seek {
+    /// To null.
+    Null,
+    /// To a member, named by its place.
+    On(Place),
+    /// To a member of an XOR list, which is named with a neighbor, none beyond an end.
+    With(Direction, Place, Option<Place>),
+}
+
+impl<A: KeyAdapter> OneCall<A> for Move {
+    ghost use Rattle.ic_world.specs.declared.calls.one_call.Call.TheVariants as one;
+    ghost use Rattle.ic_world.specs.Calls.{object_or_nothing};
+
+    type Answer = Option<Place>;
+
+    ghost call = { λ c. one.Move c.0 };
+
+    ghost reply = { object_or_nothing };
+
+    #[inline]
+    fn is_of(&self, kind: Kind) -> bool {
+        match self.0 {
+            Direction::Next => true,
+            Direction::Prev => has_before(kind),
+        }
+    }
+
+    #[inline]
+    fn is_placed<M: Allocator>(&self, objects: &Objects<A::Value, M>) -> bool {
+        let _ = objects;
+        true
+    }
+
+    #[inline(always)]
+    fn run<M: Allocator>(
+        &self,
+        members: &mut Members<A::Value>,
+        links: &mut Field<M>,
+        objects: &Objects<A::Value, M>,
+        adapter: A,
+    ) -> Result<Option<Place>, Refusal> {
+        let _ = objects;
+        let _ = adapter;
+        match self.0 {
+            Direction::Next => {
+                members.move_next(links);
+                Ok(members.cursor())
+            }
+            Direction::Prev => {
+                members.move_prev(links);
+                Ok(members.cursor())
+            }
+        }
+    }
+}
+
+// Whether an object stands there, if a place is given.
+#[inline]
+fn is_placed_if_any<T, M: Allocator>(objects: &Objects<T, M>, place: Option<Place>) -> bool
+    ensures { result ≡ list_all (place_is_placed objects.now) (named_if place) }
+{
+    match place {
+        None => true,
+        Some(place) => objects.is_placed(place),
+    }
+}
+
+impl<A: KeyAdapter> OneCall<A> for Seek {
+    ghost use Rattle.ic_world.specs.declared.calls.one_call.Call.TheVariants.{Seek as seek};
+    ghost use Rattle.ic_world.specs.Calls.{done};
+
+    type Answer = ();
+
+    ghost call = { seek };
+
+    ghost reply = { λ _. done };
+
+    #[inline]
+    fn is_of(&self, kind: Kind) -> bool {
+        match self {
+            Seek::Null => true,
+            Seek::On(_) => has_pointer(kind),
+            Seek::With(..) => is_xor(kind),
+        }
+    }
+
+    #[inline]
+    fn is_placed<M: Allocator>(&self, objects: &Objects<A::Value, M>) -> bool {
+        match *self {
+            Seek::Null => true,
+            Seek::On(object) => objects.is_placed(object),
+            Seek::With(_, object, beside) => objects.is_placed(object)
+                && is_placed_if_any(objects, beside),
+        }
+    }
+
+    #[inline(always)]
+    fn run<M: Allocator>(
+        &self,
+        members: &mut Members<A::Value>,
+        links: &mut Field<M>,
+        objects: &Objects<A::Value, M>,
+        adapter: A,
+    ) -> Result<(), Refusal> {
+        let _ = objects;
+        let _ = adapter;
+        match *self {
+            Seek::Null => {
+                members.go_null();
+                Ok(())
+            }
+            Seek::On(object) => seek_on(members, links, object),
+            Seek::With(way, object, beside) => seek_with(members, links, way, object, beside),
+        }
+    }
+}
+
+// Puts the cursor on the object. No table is written.
+fn seek_on<T, M: Allocator>(
+    members: &mut Members<T>,
+    links: &Field<M>,
+    object: Place,
+) -> Result<(), Refusal>
+    requires held { Held (look links.now) members.old }
+    requires can { kinds.has_pointer (kind_in members.old) ≡ true }
+    requires covered { IsCovered (look links.now) object }
+    ensures { Sought (Seek.On object) object (look links.now) members.old result members.new }
+{
+    if !members.contains(links, object) {
+        return Err(Refusal::NotAMember);
+    }
+    members.stand_on(links, None, object);
+    Ok(())
+}
+
+// The neighbor of a member that stands behind `prev`, none beyond an end.
+#[inline]
+fn neighbor<T, M: Allocator>(
+    members: &Members<T>,
+    links: &Field<M>,
+    way: Direction,
+    prev: Option<Place>,
+    object: Place,
+) -> Option<Place>
+    requires held { Held (look links.now) members.now }
+    requires member { AtGap (members_in (look links.now) members.now) (λ gap. IsAfter gap prev × IsBefore gap (Some object)) }
+    ensures { result ≡ beside_of way (members_in (look links.now) members.now) object }
+{
+    match way {
+        Direction::Prev => prev,
+        Direction::Next => members.behind(links, prev, object),
+    }
+}
+
+// Puts the cursor of an XOR list on the object, if that member stands beside it.
+fn seek_with<T, M: Allocator>(
+    members: &mut Members<T>,
+    links: &Field<M>,
+    way: Direction,
+    object: Place,
+    beside: Option<Place>,
+) -> Result<(), Refusal>
+    requires held { Held (look links.now) members.old }
+    ensures { Sought (Seek.With way object beside) object (look links.now) members.old result members.new }
+{
+    let Some(prev) = members.find_prev(links, object) else {
+        return Err(Refusal::NotAMember);
+    };
+    if !same_position(beside, neighbor(members, links, way, prev, object)) {
+        return Err(Refusal::NotANeighbour);
+    }
+    members.stand_on(links, prev, object);
+    Ok(())
+}

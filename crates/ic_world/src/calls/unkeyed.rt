@@ -1,0 +1,236 @@
+//! Calls of one collection without keys. Each tests its conditions in the order of the refusals that it names, and takes no memory.
+//!
+//! ```text
+//! world.push_back(queue, first)?;
+//! world.move_next(queue)?; // Some(first)
+//! world.remove(queue)?     // Some(first)
+//! ```
+
+ghost use Rattle.std.specs.Prelude.{◌≡◌};
+
+use crate::World;
+use crate::call::{Command, Refusal};
+use crate::calls::gaps::{Put, Swap, Take};
+use crate::calls::one_call::{Direction, Where};
+use crate::calls::seek::{Move, Seek};
+use crate::calls::whole::Whole;
+use ic_rbtree::KeyAdapter;
+use ic_unsafe_ref::Place;
+use std::alloc::Allocator;
+
+impl<A: KeyAdapter, M: Allocator + Copy> World<A, M> {
+    ghost use Rattle.ic_world.specs.Step.{Step};
+    ghost use Rattle.ic_world.specs.Calls as state;
+    ghost use Rattle.ic_world.specs.Calls.{done, object_or_nothing};
+    ghost use Rattle.ic_world.specs.Replies.{reply_of};
+
+    /// Puts an object in front of all members of a list, and the cursor to null. O(1).
+    ///
+    /// Refused: `NoSuchCollection`, `NoSuchObject`, `WrongKind` of a tree, `AlreadyLinked`.
+    pub fn push_front(&mut self, collection: usize, object: Place) -> Result<(), Refusal>
+        ensures { Step A.Key.cmp A.key_of self.old (Command.PushFront collection object) (reply_of (λ _. done) result) self.new }
+    {
+        self.call(collection, &Put(Where::Front, object))
+    }
+
+    /// Puts an object behind all members of a doubly linked or an XOR list, and the cursor to null. O(1).
+    ///
+    /// Refused: `NoSuchCollection`, `NoSuchObject`, `WrongKind` of the other kinds, `AlreadyLinked`.
+    pub fn push_back(&mut self, collection: usize, object: Place) -> Result<(), Refusal>
+        ensures { Step A.Key.cmp A.key_of self.old (Command.PushBack collection object) (reply_of (λ _. done) result) self.new }
+    {
+        self.call(collection, &Put(Where::Back, object))
+    }
+
+    /// Takes the first member out of a list and returns it, `None` where there is none, and puts the cursor to null. O(1).
+    ///
+    /// Refused: `NoSuchCollection`, `WrongKind` of a tree.
+    pub fn pop_front(&mut self, collection: usize) -> Result<Option<Place>, Refusal>
+        ensures { Step A.Key.cmp A.key_of self.old (Command.PopFront collection) (reply_of object_or_nothing result) self.new }
+    {
+        self.call(collection, &Take(Where::Front))
+    }
+
+    /// Takes the last member out of a doubly linked or an XOR list and returns it, `None` where there is none, and puts the cursor to
+    /// null. O(1).
+    ///
+    /// Refused: `NoSuchCollection`, `WrongKind` of the other kinds.
+    pub fn pop_back(&mut self, collection: usize) -> Result<Option<Place>, Refusal>
+        ensures { Step A.Key.cmp A.key_of self.old (Command.PopBack collection) (reply_of object_or_nothing result) self.new }
+    {
+        self.call(collection, &Take(Where::Back))
+    }
+
+    /// Moves the cursor to the next member, from null to the first one and from the last one to null, and returns where it is. O(1), in
+    /// a tree O(log n).
+    ///
+    /// Refused: `NoSuchCollection`.
+    pub fn move_next(&mut self, collection: usize) -> Result<Option<Place>, Refusal>
+        ensures { Step A.Key.cmp A.key_of self.old (Command.MoveNext collection) (reply_of object_or_nothing result) self.new }
+    {
+        self.call(collection, &Move(Direction::Next))
+    }
+
+    /// Moves the cursor to the previous member, from null to the last one and from the first one to null, and returns where it is. O(1),
+    /// in a tree O(log n).
+    ///
+    /// Refused: `NoSuchCollection`, `WrongKind` of a singly linked list.
+    pub fn move_prev(&mut self, collection: usize) -> Result<Option<Place>, Refusal>
+        ensures { Step A.Key.cmp A.key_of self.old (Command.MovePrev collection) (reply_of object_or_nothing result) self.new }
+    {
+        self.call(collection, &Move(Direction::Prev))
+    }
+
+    /// Moves the cursor to null. O(1).
+    ///
+    /// Refused: `NoSuchCollection`.
+    pub fn go_null(&mut self, collection: usize) -> Result<(), Refusal>
+        ensures { Step A.Key.cmp A.key_of self.old (Command.GoNull collection) (reply_of (λ _. done) result) self.new }
+    {
+        self.call(collection, &Seek::Null)
+    }
+
+    /// The member that the cursor is on, `None` at null. O(1).
+    ///
+    /// Refused: `NoSuchCollection`.
+    pub fn current(&self, collection: usize) -> Result<Option<Place>, Refusal>
+        ensures { Step A.Key.cmp A.key_of self.now (Command.Current collection) (reply_of object_or_nothing result) self.now }
+    {
+        match self.found(collection) {
+            Some((members, _)) => Ok(members.cursor()),
+            None => Err(Refusal::NoSuchCollection),
+        }
+    }
+
+    /// Puts the cursor on a member. Of lists O(members), in a tree O(log n).
+    ///
+    /// Refused: `NoSuchCollection`, `NoSuchObject`, `WrongKind` of an XOR list, `NotAMember`.
+    pub fn seek(&mut self, collection: usize, object: Place) -> Result<(), Refusal>
+        ensures { Step A.Key.cmp A.key_of self.old (Command.Seek collection object) (reply_of (λ _. done) result) self.new }
+    {
+        self.call(collection, &Seek::On(object))
+    }
+
+    /// Puts the cursor of an XOR list on a member, with the one in front of it, `None` at the front. O(members).
+    ///
+    /// Refused: `NoSuchCollection`, `NoSuchObject` of either object, `WrongKind` of the other kinds, `NotAMember`, `NotANeighbour`.
+    pub fn seek_with_prev(
+        &mut self,
+        collection: usize,
+        object: Place,
+        prev: Option<Place>,
+    ) -> Result<(), Refusal>
+        ensures { Step A.Key.cmp A.key_of self.old (Command.SeekWithPrev collection object prev) (reply_of (λ _. done) result) self.new }
+    {
+        self.call(collection, &Seek::With(Direction::Prev, object, prev))
+    }
+
+    /// Puts the cursor of an XOR list on a member, with the one behind it, `None` at the back. O(members).
+    ///
+    /// Refused: `NoSuchCollection`, `NoSuchObject` of either object, `WrongKind` of the other kinds, `NotAMember`, `NotANeighbour`.
+    pub fn seek_with_next(
+        &mut self,
+        collection: usize,
+        object: Place,
+        next: Option<Place>,
+    ) -> Result<(), Refusal>
+        ensures { Step A.Key.cmp A.key_of self.old (Command.SeekWithNext collection object next) (reply_of (λ _. done) result) self.new }
+    {
+        self.call(collection, &Seek::With(Direction::Next, object, next))
+    }
+
+    /// Puts an object behind the cursor, at null in front of all. The cursor stays. O(1), in a tree O(log n).
+    ///
+    /// Refused: `NoSuchCollection`, `NoSuchObject`, `AlreadyLinked`.
+    pub fn insert_after(&mut self, collection: usize, object: Place) -> Result<(), Refusal>
+        ensures { Step A.Key.cmp A.key_of self.old (Command.InsertAfter collection object) (reply_of (λ _. done) result) self.new }
+    {
+        self.call(collection, &Put(Where::After, object))
+    }
+
+    /// Puts an object in front of the cursor, at null behind all. The cursor stays. O(1), in a tree O(log n).
+    ///
+    /// Refused: `NoSuchCollection`, `NoSuchObject`, `WrongKind` of a singly linked list, `AlreadyLinked`.
+    pub fn insert_before(&mut self, collection: usize, object: Place) -> Result<(), Refusal>
+        ensures { Step A.Key.cmp A.key_of self.old (Command.InsertBefore collection object) (reply_of (λ _. done) result) self.new }
+    {
+        self.call(collection, &Put(Where::Before, object))
+    }
+
+    /// Takes the member out that the cursor is on and returns it, `None` at null. The cursor goes on to the next member. O(1), in a tree
+    /// O(log n).
+    ///
+    /// Refused: `NoSuchCollection`, `WrongKind` of a singly linked list.
+    pub fn remove(&mut self, collection: usize) -> Result<Option<Place>, Refusal>
+        ensures { Step A.Key.cmp A.key_of self.old (Command.Remove collection) (reply_of object_or_nothing result) self.new }
+    {
+        self.call(collection, &Take(Where::Before))
+    }
+
+    /// Takes the member behind the cursor of a singly linked list out and returns it, at null the first one; `None` where there is none.
+    /// The cursor stays. O(1).
+    ///
+    /// Refused: `NoSuchCollection`, `WrongKind` of the other kinds.
+    pub fn remove_next(&mut self, collection: usize) -> Result<Option<Place>, Refusal>
+        ensures { Step A.Key.cmp A.key_of self.old (Command.RemoveNext collection) (reply_of object_or_nothing result) self.new }
+    {
+        self.call(collection, &Take(Where::After))
+    }
+
+    /// Puts an object in the place of the member that the cursor is on, which it answers. The cursor is on the object then. O(1).
+    ///
+    /// Refused: `NoSuchCollection`, `NoSuchObject`, `WrongKind` of a singly linked list, `NothingThere` at null, `AlreadyLinked`.
+    pub fn replace_with(&mut self, collection: usize, object: Place) -> Result<Place, Refusal>
+        ensures { Step A.Key.cmp A.key_of self.old (Command.ReplaceWith collection object) (reply_of (λ p. state.object p) result) self.new }
+    {
+        self.call(collection, &Swap(Where::Before, object))
+    }
+
+    /// Puts an object in the place of the member behind the cursor of a singly linked list, at null of the first one, which it answers.
+    /// The cursor stays. O(1).
+    ///
+    /// Refused: `NoSuchCollection`, `NoSuchObject`, `WrongKind` of the other kinds, `NothingThere` where there is none, `AlreadyLinked`.
+    pub fn replace_next_with(&mut self, collection: usize, object: Place) -> Result<Place, Refusal>
+        ensures { Step A.Key.cmp A.key_of self.old (Command.ReplaceNextWith collection object) (reply_of (λ p. state.object p) result) self.new }
+    {
+        self.call(collection, &Swap(Where::After, object))
+    }
+
+    /// Turns an XOR list round, and puts the cursor to null. O(1).
+    ///
+    /// Refused: `NoSuchCollection`, `WrongKind` of the other kinds.
+    pub fn reverse(&mut self, collection: usize) -> Result<(), Refusal>
+        ensures { Step A.Key.cmp A.key_of self.old (Command.Reverse collection) (reply_of (λ _. done) result) self.new }
+    {
+        self.call(collection, &Whole::Reverse)
+    }
+
+    /// Takes all members out, and puts the cursor to null. O(members).
+    ///
+    /// Refused: `NoSuchCollection`.
+    pub fn clear(&mut self, collection: usize) -> Result<(), Refusal>
+        ensures { Step A.Key.cmp A.key_of self.old (Command.Clear collection) (reply_of (λ _. done) result) self.new }
+    {
+        self.call(collection, &Whole::Clear)
+    }
+
+    /// Takes all members out and leaves them linked, until [`World::force_unlink`], and puts the cursor to null. The field knows from then
+    /// on that a linked object may be no member. O(1).
+    ///
+    /// Refused: `NoSuchCollection`.
+    pub fn fast_clear(&mut self, collection: usize) -> Result<(), Refusal>
+        ensures { Step A.Key.cmp A.key_of self.old (Command.FastClear collection) (reply_of (λ _. done) result) self.new }
+    {
+        if collection >= self.collections.len() {
+            return Err(Refusal::NoSuchCollection);
+        }
+        match &mut self.collections[collection] {
+            None => Err(Refusal::NoSuchCollection),
+            Some(found) => {
+                let _ = found.members.take();
+                self.fields[found.field].left_linked = true;
+                Ok(())
+            }
+        }
+    }
+}

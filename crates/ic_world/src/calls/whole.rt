@@ -1,0 +1,72 @@
+//! Calls on all members of one collection.
+//!
+//! ```text
+//! Whole::Clear.run(&mut members, &mut links, &objects, adapter)?; // all members go out, and are unlinked
+//! ```
+
+ghost use Rattle.std.specs.Prelude.{◌≡◌};
+
+use crate::call::Refusal;
+use crate::calls::kinds::is_xor;
+use crate::calls::one_call::OneCall;
+use ic_any_collection::Members;
+use ic_any_table::{Field, Kind};
+use ic_rbtree::KeyAdapter;
+use ic_unsafe_ref::Objects;
+use std::alloc::Allocator;
+
+/// What is done with all members. The cursor goes to null.
+#[derive(Clone, Copy)]
+pub enum Whole {
+    /// They go out.
+    Clear,
+    /// They are turned round.
+    Reverse,
+}
+
+impl<A: KeyAdapter> OneCall<A> for Whole {
+    ghost use Rattle.ic_world.specs.declared.calls.one_call.Call.TheVariants.{Whole as whole};
+    ghost use Rattle.ic_world.specs.Calls.{done};
+
+    type Answer = ();
+
+    ghost call = { whole };
+
+    ghost reply = { λ _. done };
+
+    #[inline]
+    fn is_of(&self, kind: Kind) -> bool {
+        match self {
+            Whole::Clear => true,
+            Whole::Reverse => is_xor(kind),
+        }
+    }
+
+    #[inline]
+    fn is_placed<M: Allocator>(&self, objects: &Objects<A::Value, M>) -> bool {
+        let _ = objects;
+        true
+    }
+
+    #[inline(always)]
+    fn run<M: Allocator>(
+        &self,
+        members: &mut Members<A::Value>,
+        links: &mut Field<M>,
+        objects: &Objects<A::Value, M>,
+        adapter: A,
+    ) -> Result<(), Refusal> {
+        let _ = objects;
+        let _ = adapter;
+        match self {
+            Whole::Clear => {
+                members.unlink_all(links);
+                Ok(())
+            }
+            Whole::Reverse => {
+                members.reverse(links);
+                Ok(())
+            }
+        }
+    }
+}
