@@ -5,6 +5,7 @@ use Rattle.std.proofs.lemmas.Cmp.{nat_cmp_total}
 use Rattle.std.proofs.lemmas.List.Elements.{filter_map-append}
 use Rattle.std.specs.List.{AllByRecursion, cons_option}
 use Rattle.std.specs.Ordering.{nat_cmp, is_lt}
+use Rattle.std.proofs.lemmas.Bool.{false_from_ne_true}
 use Rattle.ic_unsafe_ref.specs.declared.place.Place.{Place}
 use Rattle.ic_unsafe_ref.specs.Objects.{Objects, Places, Frees, object_at, is_placed}
 use Rattle.ic_unsafe_ref.proofs.Placing.{placed_there, others_placed, gone_there, others_left}
@@ -14,7 +15,7 @@ use Rattle.ic_link_ops.specs.Sequences.{Cut, join, insert, first, IsAbsent}
 use Rattle.ic_link_ops.specs.Tables.{IsLinked, IsUnlinked, LinksAlso, Unlinks}
 use Rattle.ic_link_ops.proofs.Calling.{accepted}
 use Rattle.ic_link_ops.proofs.CollectionLaws.{kept_shown}
-use Rattle.ic_link_ops.proofs.LinkedSets.{everywhere, not_linked}
+use Rattle.ic_link_ops.proofs.LinkedSets.{everywhere}
 use Rattle.ic_link_ops.proofs.PlacedValues.{all_beside, stand_beside, vacant_absent}
 use Rattle.ic_link_ops.proofs.SequenceLemmas.{absent_without, first_is, member_split, split_member}
 use Rattle.ic_rbtree.specs.Borders.{IsBorder, IsSorted, if_passes, less_at}
@@ -102,7 +103,7 @@ kept_none objects links root vacant none empty = record {
   shown = rw empty (plain_trees.nothing (plain_table links));
   placed = tt;
   rises = tt;
-  only = λ p out. not_linked _ (λ linked. let within = plain_covered links p linked in absurd (omega (arith, within, none)));
+  only = λ p out. false_from_ne_true _ (λ linked. let within = plain_covered links p linked in absurd (omega (arith, within, none)));
   all = λ p is. absurd (true≢false (sym is ∙ ap is_some (vacant p)));
 }
 

@@ -1,4 +1,3 @@
-pub mod Counting
 pub mod KeepingSlots
 pub mod KeepingTimers
 pub mod TakingAll

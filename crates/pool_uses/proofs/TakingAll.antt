@@ -1,8 +1,8 @@
 -- Timers that are due are taken out, one after another.
 use Rattle.std.proofs.Common.{◌≡◌, ℕ, List, [], ◌∷◌, ◌++◌, refl, sym, ap, ◌∙◌, append_assoc, append-nil}
 use Rattle.std.proofs.lemmas.List.{map_push}
-use Rattle.ic_rbtree.proofs.KeyLaws.{all_both}
 use Rattle.pool_uses.specs.Timers.{Waiting, timer_of, taken_out, TakesFirst, TakesAll}
+use Rattle.ic_link_ops.proofs.Each.{all_both}
 
 module _ {V : Type 0} {now : ℕ} {had : List (ℕ × V)} where
   -- at first none is taken,

@@ -1,5 +1,5 @@
 -- What slots keep of their pool and of the list of vacant ones.
-use Rattle.std.specs.Prelude.{◌≡◌, ◌<◌, ◌^◌, leb, ℕ, Bool, Option, Some, None, IsSome, is_some, List}
+use Rattle.std.specs.Prelude.{◌≡◌, ◌<◌, ◌^◌, leb, ℕ, Bool, Option, Some, None, IsSome, List}
 use Rattle.std.specs.FinMap as map
 use Rattle.std.specs.List.{AllByRecursion}
 use Rattle.std.specs.Ordering.{nat_cmp}
@@ -11,11 +11,12 @@ use Rattle.ic_link_ops.specs.declared.table.PlainTable.{PlainTable}
 use Rattle.ic_link_ops.specs.OneWord.{no_word, has_word, next_word_of}
 use Rattle.ic_link_ops.specs.PlainTables.{linked_by, table}
 use Rattle.ic_link_ops.specs.Readings.{successor_of}
+use Rattle.ic_link_ops.specs.Sequences.{IsMember}
 use Rattle.ic_link_ops.specs.SinglyLinkedList.{Successor, Shows}
 use Rattle.ic_link_ops.specs.Tables.{Table, IsLinked}
 use Rattle.ic_pool.specs.Pooled.{IsPooled}
 use Rattle.pool_uses.specs.declared.slots.Slot.{Slot}
-use Rattle.pool_uses.specs.Slots.{Naming}
+use Rattle.pool_uses.specs.Slots.{Naming, IsUsable}
 
 -- the table of singly links, as clauses see it
 module _ {K : Type 0} where
@@ -34,24 +35,18 @@ module _ {T : Type 0} where
   value_in None = None
   value_in (Some slot) = slot.value
 
-  -- a slot with no value, whose generation is not the last
-  abbrev pub IsUsable : Option (Slot T) → Type 0
-  IsUsable None = ⊥
-  IsUsable (Some slot) = (slot.value ≡ None) × (slot.generation < 18446744073709551615)
-
   -- a slot with a value, whose generation is not the last
   abbrev pub IsTaken : Option (Slot T) → Type 0
   IsTaken None = ⊥
   IsTaken (Some slot) = IsSome slot.value × (slot.generation < 18446744073709551615)
 
 -- what they are for a clause
-abbrev pub naming_of : {T : Type 0} → Objects (Slot T) → Option Place → ℕ → Naming T
-naming_of objects vacant len = record { slots = objects.values; count = len; has_vacant = is_some vacant; is_full = leb (2 ^ 32) objects.next }
+abbrev pub naming_of : {T : Type 0} → Objects (Slot T) → ℕ → Naming T
+naming_of objects len = record { slots = objects.values; count = len; is_full = leb (2 ^ 32) objects.next }
 
--- WHAT SLOTS KEEP: the list has vacant slots that are not used up, a slot with a value is linked nowhere and not used up, and `len` is
--- how many have one (`values`: by the index of their places)
-pub record IsKept {T K A : Type 0} (objects : Objects (Slot T)) (links : PlainTable (OneWord K) A) (vacant : Option Place) (len : ℕ) : Type 0 where
-  pub members : List Place
+-- what slots keep within a call: the list has vacant slots that are not used up, a slot with a value is linked nowhere and not used up,
+-- and `len` is how many have one (`values`: by the index of their places)
+pub record Keeps {T K A : Type 0} (objects : Objects (Slot T)) (links : PlainTable (OneWord K) A) (vacant : Option Place) (members : List Place) (len : ℕ) : Type 0 where
   pub shown : Shows successor (plain_table links) vacant members
   pub usable : AllByRecursion (λ p. IsUsable (object_at objects p)) members
   pub pooled : IsPooled is_linked objects (plain_table links)
@@ -60,3 +55,9 @@ pub record IsKept {T K A : Type 0} (objects : Objects (Slot T)) (links : PlainTa
   pub values : map.FinMap nat_cmp T
   pub are : (index : ℕ) → map.get values index ≡ value_in (map.get objects.values index)
   pub count : len ≡ map.len values
+
+-- WHAT SLOTS KEEP: that, and each slot that is vacant and not used up is in the list
+pub record IsKept {T K A : Type 0} (objects : Objects (Slot T)) (links : PlainTable (OneWord K) A) (vacant : Option Place) (len : ℕ) : Type 0 where
+  pub members : List Place
+  pub keeps : Keeps objects links vacant members len
+  pub listed : (p : Place) → IsUsable (object_at objects p) → IsMember p members

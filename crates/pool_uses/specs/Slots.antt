@@ -1,18 +1,18 @@
 -- Slots: which value each handle names.
-use Rattle.std.specs.Prelude.{◌≡◌, ◌≢◌, ◌+◌, ℕ, Bool, true, false, cond, eqb, leb, Option, Some, None, is_some, refl}
+use Rattle.std.specs.Prelude.{◌≡◌, ◌≢◌, ◌+◌, ◌<◌, ℕ, Bool, true, false, cond, eqb, leb, Option, Some, None, is_some, refl}
 use Rattle.std.specs.Coded.{Coded, code_by, coded×, coded_ℕ, coded_bool, coded_option}
 use Rattle.std.specs.FinMap as map
 use Rattle.std.specs.Ordering.{nat_cmp}
+use Rattle.ic_unsafe_ref.specs.declared.place.Place.{Place}
 use Rattle.ic_unsafe_ref.specs.Places.{index_of}
 use Rattle.pool_uses.specs.declared.slots.Handle.{Handle}
 use Rattle.pool_uses.specs.declared.slots.Slot.{Slot}
 
--- what stands in each slot, by the index of its place; how many handles name a value; whether a slot is vacant, and whether there is no
--- place left for another one
+-- what stands in each slot, by the index of its place; how many handles name a value, and whether there is no place left for another
+-- slot
 pub record Naming (T : Type 0) : Type 0 where
   pub slots : map.FinMap nat_cmp (Slot T)
   pub count : ℕ
-  pub has_vacant : Bool
   pub is_full : Bool
 
 -- whether the handle is the last one of its slot, which has had 2^64 - 1 of them then
@@ -26,8 +26,8 @@ slot_code {T} code =
 
 abbrev pub naming_code : {T : Type 0} → Coded T → Coded (Naming T)
 naming_code {T} code =
-    code_by (map.FinMap nat_cmp (Slot T) × (ℕ × (Bool × Bool))) (coded× (map.code coded_ℕ (slot_code code)) (coded× coded_ℕ (coded× coded_bool coded_bool)))
-    (λ n. (n.slots, (n.count, (n.has_vacant, n.is_full)))) (λ p. record { slots = p.0; count = p.1.0; has_vacant = p.1.1.0; is_full = p.1.1.1 }) (λ _. refl)
+    code_by (map.FinMap nat_cmp (Slot T) × (ℕ × Bool)) (coded× (map.code coded_ℕ (slot_code code)) (coded× coded_ℕ coded_bool))
+    (λ n. (n.slots, (n.count, n.is_full))) (λ p. record { slots = p.0; count = p.1.0; is_full = p.1.1 }) (λ _. refl)
 
 module _ {T : Type 0} where
   -- the value in a slot, if there is one and it is of that generation
@@ -46,6 +46,15 @@ module _ {T : Type 0} where
 
   abbrev pub is_given : Naming T → Handle → Bool
   is_given slots h = given_in (map.get slots.slots (index_of h.place)) h.generation
+
+  -- a slot with no value, whose generation is not the last
+  abbrev pub IsUsable : Option (Slot T) → Type 0
+  IsUsable None = ⊥
+  IsUsable (Some slot) = (slot.value ≡ None) × (slot.generation < 18446744073709551615)
+
+  -- A SLOT IS VACANT, wherever it stands: it has no value, and can have one
+  abbrev pub HasVacant : Naming T → Type 0
+  HasVacant slots = (p : Place) × IsUsable (map.get slots.slots (index_of p))
 
   -- NOTHING IS NAMED, and no handle was given out
   pub record NamesNothing (slots : Naming T) : Type 0 where
@@ -74,4 +83,4 @@ module _ {T : Type 0} where
     pub nothing : named new handle ≡ None
     pub others : (h : Handle) → h ≢ handle → (named new h ≡ named old h) × (is_given new h ≡ is_given old h)
     pub count : old.count ≡ new.count + 1
-    pub vacant : is_last handle ≡ false → new.has_vacant ≡ true
+    pub vacant : is_last handle ≡ false → HasVacant new

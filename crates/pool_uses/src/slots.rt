@@ -39,8 +39,8 @@ pub(crate) struct Slot<T> {
 /// Values that are named by handles. A handle names one value, from its insert until it is removed, and no other one
 /// ever.
 ///
-/// A clause sees which value each handle names, whether it was given out before, how many handles name a value, whether
-/// a slot is vacant, and whether there is no place left for another one.
+/// A clause sees which value each handle names, whether it was given out before, how many handles name a value, which
+/// slots are vacant, and whether there is no place left for another one.
 #[derive(Drop)]
 pub struct Slots<T, A: Allocator = Global> {
     pool: Pool<Slot<T>, LinkOps<A>, A>,
@@ -56,7 +56,7 @@ impl<T, A: Allocator> Model for Slots<T, A> {
 
     ghost coded = { naming_code T.code };
 
-    ghost view = { λ s. naming_of s.pool.objects s.vacant s.len };
+    ghost view = { λ s. naming_of s.pool.objects s.len };
 
     ghost invariant = { λ s. IsKept s.pool.objects s.pool.links s.vacant s.len };
 }
@@ -90,7 +90,7 @@ fn empty<T, A: Allocator>(pool: &mut Pool<Slot<T>, LinkOps<A>, A>, slot: &Unsafe
 }
 
 impl<T: Drop, A: Allocator> Slots<T, A> {
-    ghost use Rattle.pool_uses.specs.Slots.{NamesNothing, IsUnchanged, Inserts, Removes};
+    ghost use Rattle.pool_uses.specs.Slots.{NamesNothing, HasVacant, IsUnchanged, Inserts, Removes};
 
     /// No value, and no handle. It takes no memory.
     pub fn new(alloc: A) -> Slots<T, A>
@@ -135,10 +135,10 @@ impl<T: Drop, A: Allocator> Slots<T, A> {
 
     // Sees that a slot is vacant: places a new one where none is.
     fn make_vacant(&mut self) -> Result<(), PlaceError<Slot<T>>>
-        ensures vacant { OnOk result (self.new.has_vacant ≡ true) }
+        ensures vacant { OnOk result (HasVacant self.new) }
         ensures unchanged { IsUnchanged self.old self.new }
         ensures refused { IfErr result (λ refused. lacks_place refused ≡ self.old.is_full) }
-        ensures ready { self.old.has_vacant ≡ true → IsOk result }
+        ensures ready { HasVacant self.old → IsOk result }
     {
         if !self.vacant.is_empty() {
             return Ok(());
@@ -164,7 +164,7 @@ impl<T: Drop, A: Allocator> Slots<T, A> {
         ensures inserted { IfOk result (λ handle. Inserts handle value self.old self.new) }
         ensures refused { IfErr result (λ refused. (value_of refused ≡ value) × IsUnchanged self.old self.new
             × (lacks_place refused ≡ self.old.is_full)) }
-        ensures ready { self.old.has_vacant ≡ true → IsOk result }
+        ensures ready { HasVacant self.old → IsOk result }
     {
         match self.make_vacant() {
             Ok(()) => {}

@@ -1,6 +1,6 @@
-use Rattle.std.proofs.Common.{◌≡◌, ◌+◌, true, false, is_some, eq-eqb, sym, ap, ◌∙◌}
+use Rattle.std.proofs.Common.{◌≡◌, ◌+◌, true, false, eq-eqb, sym, ◌∙◌}
 use Rattle.ic_link_ops.proofs.Calling.{accepted}
-use Rattle.pool_uses.proofs.KeepingSlots.{kept_pushed, emptied, emptied_some, emptied_free, emptied_value, emptied_placed, emptied_usable, emptied_handle}
+use Rattle.pool_uses.proofs.KeepingSlots.{emptied_some, emptied_free, emptied_value, emptied_usable, emptied_handle, kept_used_up, kept_vacated}
 use Rattle.pool_uses.proofs.slots.Slots.remove.Goals as goal
 
 pub overflow_sub-self : goal.overflow_sub-self
@@ -10,7 +10,8 @@ overflow_sub-self g c =
 -- the slot is used up
 pub invariant_of-self : goal.invariant_of-self
 invariant_of-self g c =
-    rw c.empty-value.ensures.links (emptied c.self.invariant c.args.handle (rw (← c.self.view_is) at c.in_ok-get.ensures) (rw c.new-slot.ensures at c.empty-value.ensures.emptied))
+    rw c.empty-value.ensures.links
+    (kept_used_up c.self.invariant c.args.handle (rw (← c.self.view_is) at c.in_ok-get.ensures) (rw c.new-slot.ensures at c.empty-value.ensures.emptied) c.if-handle-eq18446744073709551615.true)
 
 pub returns-then-handle-eq18446744073709551615-clause-value : goal.returns-then-handle-eq18446744073709551615-clause-value
 returns-then-handle-eq18446744073709551615-clause-value g c =
@@ -20,19 +21,19 @@ pub returns-then-handle-eq18446744073709551615-clause-removed : goal.returns-the
 returns-then-handle-eq18446744073709551615-clause-removed g c =
     let last = eq-eqb (c.args.handle.generation + 1) 18446744073709551615 c.if-handle-eq18446744073709551615.true in
     rw (← c.self.view_is)
-    (emptied_handle c.self.invariant c.args.handle (rw (← c.self.view_is) at c.in_ok-get.ensures) (rw c.new-slot.ensures at c.empty-value.ensures.emptied) _
+    (emptied_handle c.self.invariant c.args.handle (rw (← c.self.view_is) at c.in_ok-get.ensures) (rw c.new-slot.ensures at c.empty-value.ensures.emptied)
     (λ no. let never : true ≡ false = sym last ∙ no in absurd (cc)))
 
 -- it is vacant, and goes to the front of the list
 pub invariant_of-self-2 : goal.invariant_of-self-2
 invariant_of-self-2 g c =
+    let k = c.self.invariant in
     let is = rw (← c.self.view_is) at c.in_ok-get.ensures in
     let empties = rw c.new-slot.ensures at c.empty-value.ensures.emptied in
-    let k = emptied c.self.invariant c.args.handle is empties in
     let push = rw (c.new-slot.ensures, c.empty-value.ensures.links) at c.push_front.ensures in
-    let free = emptied_free c.self.invariant c.args.handle is empties in
-    kept_pushed k (emptied_usable c.self.invariant c.args.handle is empties c.if-handle-eq18446744073709551615.false) (emptied_placed c.self.invariant c.args.handle is empties)
-    (accepted _ _ free push.refused push.acquired) (push.frame k.members k.shown).extent (λ s shown. accepted _ _ free push.refused (push.inserted s shown))
+    let free = emptied_free k c.args.handle is empties in
+    kept_vacated k c.args.handle is empties c.if-handle-eq18446744073709551615.false (accepted _ _ free push.refused push.acquired) (push.frame k.members k.keeps.shown)
+    (λ s shown. accepted _ _ free push.refused (push.inserted s shown))
 
 pub returns-clause-value : goal.returns-clause-value
 returns-clause-value g c =
@@ -42,7 +43,5 @@ pub returns-clause-removed : goal.returns-clause-removed
 returns-clause-removed g c =
     let is = rw (← c.self.view_is) at c.in_ok-get.ensures in
     let empties = rw c.new-slot.ensures at c.empty-value.ensures.emptied in
-    let k = emptied c.self.invariant c.args.handle is empties in
-    let push = rw (c.new-slot.ensures, c.empty-value.ensures.links) at c.push_front.ensures in
-    let shown = accepted _ _ (emptied_free c.self.invariant c.args.handle is empties) push.refused (push.inserted k.members k.shown) in
-    rw (← c.self.view_is) (emptied_handle c.self.invariant c.args.handle is empties _ (λ no. ap is_some shown.head))
+    rw (← c.self.view_is)
+    (emptied_handle c.self.invariant c.args.handle is empties (λ no. (c.args.handle.place, emptied_usable c.self.invariant c.args.handle is empties c.if-handle-eq18446744073709551615.false)))
