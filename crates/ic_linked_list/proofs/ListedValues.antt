@@ -1,5 +1,5 @@
 -- For callers: a list and its objects together, as the values that stand at its members, in order.
-use Rattle.std.proofs.Common.{◌≡◌, ◌≢◌, Bool, Option, Some, None, IsSome, IfSome, List, [], drop, take, ◌≤◌, is_some, length, ◌∷◌, ◌++◌, Result, OnOk, OnErr, ℕ, sym, ap, ◌∙◌, inl, inr}
+use Rattle.std.proofs.Common.{◌≡◌, ◌≢◌, Bool, Option, Some, IsSome, IfSome, List, [], drop, take, ◌≤◌, is_some, length, ◌∷◌, ◌++◌, Result, OnOk, OnErr, ℕ, sym, ap, ◌∙◌, inl, inr}
 use Rattle.std.proofs.lemmas.List.{take_all}
 use Rattle.std.proofs.lemmas.Option.{same_Some}
 use Rattle.ic_unsafe_ref.specs.declared.place.Place.{Place}
@@ -7,13 +7,13 @@ use Rattle.ic_unsafe_ref.specs.Objects.{Objects, Places, Frees, object_at}
 use Rattle.ic_unsafe_ref.proofs.PlaceLemmas.{same_or_not}
 use Rattle.ic_unsafe_ref.proofs.Placing.{placed_there, others_placed, others_left}
 use Rattle.ic_link_ops.specs.Sequences.{first}
-use Rattle.ic_link_ops.specs.Tables.{Table, IsLinked, IsUnlinked, LinksAlso, Unlinks}
+use Rattle.ic_link_ops.specs.Tables.{Table, IsLinked, LinksAlso, Unlinks}
 use Rattle.ic_link_ops.specs.Chains.{Ends}
 use Rattle.ic_link_ops.specs.LinkedList.{Neighbors, Shows}
 use Rattle.ic_link_ops.proofs.SequenceLemmas.{some_same}
 use Rattle.ic_link_ops.proofs.DoublyLists.{doubly_lists}
 use Rattle.ic_link_ops.specs.Positions.{object_there}
-use Rattle.ic_link_ops.specs.PlacedObjects.{ArePlaced, ShowsPlaced, StandAt, values_at}
+use Rattle.ic_link_ops.specs.PlacedObjects.{ShowsPlaced, StandAt}
 use Rattle.ic_linked_list.specs.ListedValues.{HasValues}
 use Rattle.ic_link_ops.proofs.Calling.{accepted, still_shown}
 use Rattle.ic_link_ops.proofs.PlacedValues.{stand_begins, stand_beside, stand_placed, stand_rest}

@@ -1,5 +1,5 @@
 -- A list and its objects together: the values that stand at its members, in order.
-use Rattle.std.specs.Prelude.{◌≡◌, Bool, Option, None, List}
+use Rattle.std.specs.Prelude.{◌≡◌, Bool, None, List}
 use Rattle.ic_unsafe_ref.specs.declared.place.Place.{Place}
 use Rattle.ic_unsafe_ref.specs.Objects.{Objects, object_at}
 use Rattle.ic_link_ops.specs.Tables.{Table, IsUnlinked}

@@ -72,6 +72,21 @@ impl<T> LinkedList<T> {
         }
     }
 
+    /// The list with these two ends, for who keeps the ends of his lists himself. O(1).
+    ///
+    /// It asks nothing of them: which sequence the list has, if any, is what a table shows for these ends.
+    /// [`LinkedList::first`] and [`LinkedList::last`] read them again.
+    #[inline]
+    pub fn from_ends(first: Option<Place>, last: Option<Place>) -> LinkedList<T>
+        ensures { result ≡ record { head = first; tail = last } }
+    {
+        LinkedList {
+            head: End::of(first),
+            tail: End::of(last),
+            of: PhantomData,
+        }
+    }
+
     /// Whether the list has no members. It reads no links.
     #[inline]
     pub fn is_empty(&self) -> bool
@@ -274,35 +289,6 @@ impl<T> LinkedList<T> {
         true
     }
 
-    // Puts the linked place between two others, be they neighbors or those of the member that it replaces.
-    #[inline]
-    pub(crate) fn put_between<L: LinkedListOps>(
-        &mut self,
-        links: &mut L,
-        before: Option<Place>,
-        place: Place,
-        behind: Option<Place>,
-    )
-        requires held { IsLinked L.linked (L.table links.old) place }
-        requires before { (q : Place) → before ≡ Some q → IsLinked L.linked (L.table links.old) q }
-        requires behind { (q : Place) → behind ≡ Some q → IsLinked L.linked (L.table links.old) q }
-        ensures shows { (front back : List Place) → Shows L.neighbors (L.table links.old) self.old (front ++ back)
-            → IsAbsent place (front ++ back) → before ≡ last front → behind ≡ first back
-            → Shows L.neighbors (L.table links.new) self.new (front ++ place ∷ back) }
-        ensures replaces { (front back : List Place) (out : Place)
-            → Shows L.neighbors (L.table links.old) self.old (front ++ out ∷ back)
-            → IsAbsent place (front ++ out ∷ back) → before ≡ last front → behind ≡ first back
-            → Shows L.neighbors (L.table links.new) self.new (front ++ place ∷ back) }
-        ensures no_step { L.Does links.old links.new [] }
-        ensures extent { (L.table links.new).extent ≡ (L.table links.old).extent }
-        ensures others { (q : Place) → before ≢ Some q → q ≢ place → behind ≢ Some q
-            → (L.table links.new).entry q ≡ (L.table links.old).entry q }
-    {
-        set_neighbors(links, place, before, behind);
-        lead(links, &mut self.head, before, Some(place));
-        follow(links, &mut self.tail, behind, Some(place));
-    }
-
     // Puts the linked place, which is no member, where the member `out` is.
     #[inline]
     pub(crate) fn put_in_place<L: LinkedListOps>(&mut self, links: &mut L, out: Place, place: Place)
@@ -338,28 +324,93 @@ impl<T> LinkedList<T> {
     {
         let before = links.prev(place);
         let behind = links.next(place);
-        lead(links, &mut self.head, before, behind);
-        follow(links, &mut self.tail, behind, before);
+        self.close_between(links, before, behind);
         behind
     }
+}
 
-    // Puts all of the given list into the gap between two neighbors.
+// The layer under the calls above, for who keeps lists in words of his own and tests them himself: none of these asks that
+// the table shows a sequence.
+impl<T> LinkedList<T> {
+    /// Puts a place that is linked already between two others. O(1).
+    ///
+    /// It asks only that the places which it writes are linked, and writes those and an end where a neighbor is `None`. Between two
+    /// neighbors the place is inserted. Between those of a member it takes the member's place, and the member stays linked.
     #[inline]
-    pub(crate) fn splice_between<L: LinkedListOps>(
+    pub fn put_between<L: LinkedListOps>(
+        &mut self,
+        links: &mut L,
+        before: Option<Place>,
+        place: Place,
+        behind: Option<Place>,
+    )
+        requires held { IsLinked L.linked (L.table links.old) place }
+        requires before { (q : Place) → before ≡ Some q → IsLinked L.linked (L.table links.old) q }
+        requires behind { (q : Place) → behind ≡ Some q → IsLinked L.linked (L.table links.old) q }
+        ensures shows { (front back : List Place) → Shows L.neighbors (L.table links.old) self.old (front ++ back)
+            → IsAbsent place (front ++ back) → before ≡ last front → behind ≡ first back
+            → Shows L.neighbors (L.table links.new) self.new (front ++ place ∷ back) }
+        ensures replaces { (front back : List Place) (out : Place)
+            → Shows L.neighbors (L.table links.old) self.old (front ++ out ∷ back)
+            → IsAbsent place (front ++ out ∷ back) → before ≡ last front → behind ≡ first back
+            → Shows L.neighbors (L.table links.new) self.new (front ++ place ∷ back) }
+        ensures no_step { L.Does links.old links.new [] }
+        ensures extent { (L.table links.new).extent ≡ (L.table links.old).extent }
+        ensures others { (q : Place) → before ≢ Some q → q ≢ place → behind ≢ Some q
+            → (L.table links.new).entry q ≡ (L.table links.old).entry q }
+    {
+        set_neighbors(links, place, before, behind);
+        lead(links, &mut self.head, before, Some(place));
+        follow(links, &mut self.tail, behind, Some(place));
+    }
+
+    /// Takes the member between two others out of the list. O(1).
+    ///
+    /// It asks only that both are linked, where they are places. They, or an end where there is none, are turned to each other. The member
+    /// stays linked: unlink it by the table's `release_link`.
+    #[inline]
+    pub fn close_between<L: LinkedListOps>(
+        &mut self,
+        links: &mut L,
+        before: Option<Place>,
+        behind: Option<Place>,
+    )
+        requires before { (q : Place) → before ≡ Some q → IsLinked L.linked (L.table links.old) q }
+        requires behind { (q : Place) → behind ≡ Some q → IsLinked L.linked (L.table links.old) q }
+        ensures shows { (front back : List Place) (out : Place)
+            → Shows L.neighbors (L.table links.old) self.old (front ++ out ∷ back)
+            → before ≡ last front → behind ≡ first back
+            → Shows L.neighbors (L.table links.new) self.new (front ++ back) }
+        ensures no_step { L.Does links.old links.new [] }
+        ensures extent { (L.table links.new).extent ≡ (L.table links.old).extent }
+        ensures others { (q : Place) → before ≢ Some q → behind ≢ Some q
+            → (L.table links.new).entry q ≡ (L.table links.old).entry q }
+    {
+        lead(links, &mut self.head, before, behind);
+        follow(links, &mut self.tail, behind, before);
+    }
+
+    /// Puts all of the given list between two neighbors. O(1).
+    ///
+    /// It asks only that both, and both ends of the given list, are linked, where they are places. An empty list changes nothing.
+    #[inline]
+    pub fn splice_between<L: LinkedListOps>(
         &mut self,
         links: &mut L,
         before: Option<Place>,
         given: LinkedList<T>,
         behind: Option<Place>,
     )
-        requires shown { (gap : Cut) × Shows L.neighbors (L.table links.old) self.old (join gap)
-            × IsAfter gap before × IsBefore gap behind }
-        requires given { ShowsSome L.neighbors (L.table links.old) given }
+        requires before { (q : Place) → before ≡ Some q → IsLinked L.linked (L.table links.old) q }
+        requires behind { (q : Place) → behind ≡ Some q → IsLinked L.linked (L.table links.old) q }
+        requires first { (q : Place) → given.head ≡ Some q → IsLinked L.linked (L.table links.old) q }
+        requires last { (q : Place) → given.tail ≡ Some q → IsLinked L.linked (L.table links.old) q }
         ensures spliced { (gap : Cut) (t : List Place) → Shows L.neighbors (L.table links.old) self.old (join gap)
             → IsAfter gap before → IsBefore gap behind → Shows L.neighbors (L.table links.old) given t
             → IsDisjoint t (join gap) → Splices (Shows L.neighbors)
             (L.table links.old) (L.table links.new) self.new gap t }
         ensures no_step { L.Does links.old links.new [] }
+        ensures extent { (L.table links.new).extent ≡ (L.table links.old).extent }
     {
         let LinkedList { head, tail, of: _ } = given;
         let Some(front) = head.get() else {
@@ -374,20 +425,23 @@ impl<T> LinkedList<T> {
         links.set_next(back, behind);
     }
 
-    // Cuts the list between two neighbors. It keeps what is in front of the cut, and the rest is handed out.
+    /// Cuts the list between two neighbors: it keeps what is in front of the cut, and the rest is handed out. O(1).
+    ///
+    /// It asks only that both are linked, where they are places.
     #[inline]
-    pub(crate) fn split_between<L: LinkedListOps>(
+    pub fn split_between<L: LinkedListOps>(
         &mut self,
         links: &mut L,
         before: Option<Place>,
         behind: Option<Place>,
     ) -> LinkedList<T>
-        requires shown { (gap : Cut) × Shows L.neighbors (L.table links.old) self.old (join gap)
-            × IsAfter gap before × IsBefore gap behind }
+        requires before { (q : Place) → before ≡ Some q → IsLinked L.linked (L.table links.old) q }
+        requires behind { (q : Place) → behind ≡ Some q → IsLinked L.linked (L.table links.old) q }
         ensures split { (gap : Cut) → Shows L.neighbors (L.table links.old) self.old (join gap)
             → IsAfter gap before → IsBefore gap behind → Splits (Shows L.neighbors)
             (L.table links.old) (L.table links.new) self.new result gap.front gap.back }
         ensures no_step { L.Does links.old links.new [] }
+        ensures extent { (L.table links.new).extent ≡ (L.table links.old).extent }
     {
         lead(links, &mut self.head, before, None);
         follow(links, &mut self.tail, behind, None);

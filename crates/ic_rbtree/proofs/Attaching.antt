@@ -19,6 +19,7 @@ use Rattle.ic_link_ops.specs.Times.{one_at, times, times_in}
 use Rattle.ic_link_ops.proofs.Times.{one_at_self, one_at_other, times_order, absent_times, times_append}
 use Rattle.ic_link_ops.proofs.ShownTrees.{holds_once, holds_out}
 use Rattle.ic_link_ops.proofs.ShownTrees.{free_absent, shows_beside}
+use Rattle.ic_link_ops.proofs.Trees.{leaf_is}
 use Rattle.ic_rbtree.specs.Pieces.{Piece, cell, loose, below, around, Held, Stands, Shown}
 use Rattle.ic_rbtree.specs.Insertion.{RedAt, IsHole}
 use Rattle.ic_rbtree.proofs.Branches.{side_loose, side_linked, top_leaf}
@@ -103,7 +104,7 @@ module _ {E : Type 0} (n : E → Node) where
       → parent ≡ None → Shown n base v root (gap.front ++ gap.back) (loose p ∷ ps) → IsHole n v parent d gap → Shown n base v4 (Some p) (gap.front ++ p ∷ gap.back) ps
   attached_first {base} {v} {v4} {root} parent d gap p {ps} writes is h at' =
       let at = subst (λ (o : Option Place). IsHole n v o d gap) is at' in
-      let none : h.tree ≡ leaf = empty h.tree (h.order ∙ (ap (λ (s : List Place). s ++ gap.back) at.0 ∙ at.1)) in
+      let none : h.tree ≡ leaf = leaf_is h.tree (h.order ∙ (ap (λ (s : List Place). s ++ gap.back) at.0 ∙ at.1)) in
       let st = subst (λ (t : Tree). Stands n base v root [] t (loose p ∷ ps)) none h.stands in
       let h0 = regroup n (loose p ∷ ps) st (λ q. omega arith) (st.are.1.1.0, st.are.1.1.1) in
       let h1 = subst (λ (o : Option Place). Held n base v4 (cell Left p Black None None o ∷ ps)) is (writes ps h0) in
@@ -115,13 +116,6 @@ module _ {E : Type 0} (n : E → Node) where
         order = sym (ap (λ (s : List Place). s ++ p ∷ gap.back) at.0 ∙ ap (λ (s : List Place). p ∷ s) at.1);
         shape = record { black_root = refl; no_red_pair = (red_not_black, tt, tt); even = (refl, tt, tt) };
       }
-    where
-      empty : (t : Tree) → in_order t ≡ [] → t ≡ leaf
-      empty leaf e = refl
-      empty (fork c a q b) e = let k = cons_in (in_order a) q (in_order b) e in absurd k where
-        cons_in : (s : List Place) (q : Place) (t : List Place) → s ++ q ∷ t ≡ [] → ⊥
-        cons_in [] q t e = cc
-        cons_in (x ∷ s) q t e = cc
 
   -- below a parent, in red
   pub attached_red : {base v v4 v5 : Table E} {root : Option Place} (parent : Option Place) (q : Place) (d : Side) (front back : List Place) (p : Place) {ps : List Piece}

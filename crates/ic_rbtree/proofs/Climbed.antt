@@ -1,8 +1,5 @@
 -- Membership by a climb: a path down a tree is short, and what a member's readings name is a member.
-use Rattle.std.proofs.Common.{◌≡◌, ℕ, ◌+◌, ◌^◌, ◌≤◌, ◌<◌, true, Option, Some, None, List, [], ◌∷◌, length, refl, sym, ap, ◌∙◌, subst, arith, inl, inr, ◌⊎◌, eq-eqb}
-use Rattle.std.proofs.Math.Nat.{pow-le-pow_left}
-use Rattle.std.proofs.lemmas.Nat.{pow_below}
-use Rattle.std.proofs.lemmas.Bool.{cases_lt}
+use Rattle.std.proofs.Common.{◌≡◌, ℕ, ◌+◌, ◌^◌, ◌≤◌, true, Option, Some, None, List, [], ◌∷◌, length, refl, sym, ap, ◌∙◌, subst, arith, inl, inr, ◌⊎◌, eq-eqb}
 use Rattle.ic_unsafe_ref.specs.declared.place.Place.{Place}
 use Rattle.ic_unsafe_ref.specs.Places.{index_of}
 use Rattle.ic_link_ops.specs.declared.color.Color.{Color}
@@ -22,7 +19,7 @@ use Rattle.ic_link_ops.proofs.Walks.{few_places}
 use Rattle.ic_rbtree.specs.Height.{height}
 use Rattle.ic_rbtree.specs.Members.{HasChild}
 use Rattle.ic_rbtree.specs.Pieces.{Stands}
-use Rattle.ic_rbtree.proofs.Heights.{looks_few}
+use Rattle.ic_rbtree.proofs.Heights.{looks_few, exponent_small}
 use Rattle.ic_rbtree.proofs.Descending.{framed}
 use Rattle.ic_rbtree.proofs.Branches.{top_branch}
 use Rattle.ic_rbtree.proofs.Removing.{spot, shown_of, order_around}
@@ -30,17 +27,6 @@ use Rattle.ic_rbtree.proofs.Removing.{spot, shown_of, order_around}
 -- an end is where it is
 pub is_end_there : {end : Option Place} {p : Place} → end ≡ Some p → is_end end p ≡ true
 is_end_there {end} {p} e = rw e (eq-eqb (index_of p) (index_of p) refl)
-
--- what is at most the square of 2 ^ 33 as a power of 2 has a small exponent
-exponent_small : (v m : ℕ) → m ≤ 8589934592 → 2 ^ v ≤ m ^ 2 → v ≤ 66
-exponent_small v m small h = elim (cases_lt 66 v) [
-  | inl more ↦
-      let big : 2 ^ 66 < 2 ^ v = pow_below 66 v more in
-      let square : m ^ 2 ≤ 8589934592 ^ 2 = pow-le-pow_left small 2 in
-      let is : 8589934592 ^ 2 ≡ 2 ^ 66 = refl in
-      absurd (omega (arith, big, h, square, is))
-  | inr few ↦ few
-]
 
 module _ {E : Type 0} (n : E → Node) where
   -- THE CLIMB: the member p stands below so few frames that with the steps made they are less than the longest path has members

@@ -1,5 +1,5 @@
 -- A climb by parents, and the steps of the loop.
-use Rattle.std.proofs.Common.{◌≡◌, ℕ, suc, zero, ◌+◌, ◌-◌, ◌≤◌, ◌<◌, Bool, true, false, Option, Some, None, List, [], ◌∷◌, length, refl, sym, ap, ◌∙◌, subst, arith, length-append}
+use Rattle.std.proofs.Common.{◌≡◌, ℕ, suc, zero, ◌+◌, ◌-◌, ◌≤◌, Bool, true, false, Option, Some, None, List, [], ◌∷◌, length, refl, sym, ap, ◌∙◌, subst, arith, length-append}
 use Rattle.ic_unsafe_ref.specs.declared.place.Place.{Place}
 use Rattle.ic_link_ops.specs.declared.color.Color.{Color}
 use Rattle.ic_link_ops.specs.declared.side.Side.{Side}
@@ -16,9 +16,9 @@ use Rattle.ic_rbtree.specs.Climb.{steps_up, depth}
 use Rattle.ic_rbtree.specs.Pieces.{Piece, Stands}
 use Rattle.ic_rbtree.specs.Focus.{Focus, IsMended}
 use Rattle.ic_rbtree.specs.Steps.{IsSideOf}
-use Rattle.ic_rbtree.specs.Removal.{IsOn, Short, ShortAt, CanMend, Rises, Steps}
+use Rattle.ic_rbtree.specs.Removal.{IsOn, Short, ShortAt, Rises, Steps}
 use Rattle.ic_rbtree.proofs.Branches.{side_near, side_far, side_up}
-use Rattle.ic_rbtree.proofs.Turning.{times_top, below_linked, around_linked}
+use Rattle.ic_rbtree.proofs.Turning.{times_top}
 use Rattle.ic_rbtree.proofs.Zipper.{go_top}
 use Rattle.ic_rbtree.proofs.Shortening.{short_root}
 
@@ -115,9 +115,6 @@ module _ {E : Type 0} (n : E → Node) where
       pub rises_parent : o ≡ above k.frames
       rises_parent = eo ∙ top_parent n v.entry (above k.frames) k.subtree q h.stands.are.1.0 h.top_is
 
-      pub rises_linked : (p : Place) → o ≡ Some p → (n (v.entry p)).linked ≡ true
-      rises_linked p is = around_linked n v.entry k.frames (top k.subtree) p h.stands.are.0.0 (sym rises_parent ∙ is)
-
       pub rises_on : (d : Side) → ((p : Place) → o ≡ Some p → IsSideOf n v q p d) → Short n v root o d k
       rises_on d side = record {
         stands = h.stands;
@@ -138,24 +135,7 @@ module _ {E : Type 0} (n : E → Node) where
         let a = short_at q k is h in
         let r = (step a.0 a.1 (record k { frames = a.2 }) a.3).1 no in (a.2, r.0, r.1, a.4)
 
-    pub rise_linked : CanMend n v root parent d → (n (w.entry q)).linked ≡ true
-    rise_linked (k, h) = let r = rise k h in below_linked n w.entry (above r.0) r.1 q r.2.stands.are.1.0 r.2.top_is
-
     module _ {o : Option Place} (eo : o ≡ (n (w.entry q)).parent) where
-      pub next_linked : CanMend n v root parent d → (p : Place) → o ≡ Some p → (n (w.entry p)).linked ≡ true
-      next_linked (k, h) p e = rises_linked (rise k h).2 o eo p e
-
-      pub next_falls : ((p : Place) → (n (v.entry p)).linked ≡ true → IsCovered v p) → ((p : Place) → (n (w.entry p)).linked ≡ true → IsCovered w p)
-          → CanMend n v root parent d → depth n w o < depth n v parent
-      next_falls law law' (k, h) =
-          let r = rise k h in
-          let old : depth n v parent ≡ length k.frames = ap (λ (x : Option Place). depth n v x) h.parent_is ∙ depth_is law root k.frames k.subtree k.pieces h.stands in
-          let new : depth n w o ≡ length r.0 = ap (λ (x : Option Place). depth n w x) (rises_parent r.2 o eo) ∙ depth_is law' new_root r.0 r.1 k.pieces r.2.stands in
-          omega (arith, old, new, r.3)
-
       module _ (i : Side) (tells : (p : Place) → o ≡ Some p → IsSideOf n w q p i) where
-        pub next_each : (k : Focus E) → Short n v root parent d k → (gs : List Frame) × (u : Tree) × Short n w new_root o i (record k { frames = gs; subtree = u })
-        next_each k h = let r = rise k h in (r.0, r.1, rises_on r.2 o eo i tells)
-
-        pub next_some : CanMend n v root parent d → CanMend n w new_root o i
-        next_some (k, h) = let r = next_each k h in (record k { frames = r.0; subtree = r.1 }, r.2)
+        pub next_each : (k : Focus E) → Short n v root parent d k → (gs : List Frame) × (u : Tree) × Short n w new_root o i (record k { frames = gs; subtree = u }) × (length k.frames ≡ suc (length gs))
+        next_each k h = let r = rise k h in (r.0, r.1, rises_on r.2 o eo i tells, r.3)

@@ -1,22 +1,21 @@
 -- A red pair: recolored, straightened or lifted.
-use Rattle.std.proofs.Common.{◌≡◌, suc, ◌+◌, ◌<◌, Bool, true, false, Option, Some, None, List, [], ◌∷◌, length, refl, sym, ap, ◌∙◌, subst, arith}
+use Rattle.std.proofs.Common.{◌≡◌, ◌+◌, Bool, true, false, Option, Some, None, List, [], ◌∷◌, length, refl, sym, ap, ◌∙◌, subst, arith}
 use Rattle.std.specs.Option.{IsSome}
 use Rattle.ic_unsafe_ref.specs.declared.place.Place.{Place}
 use Rattle.ic_link_ops.specs.declared.color.Color.{Color}
 use Rattle.ic_link_ops.specs.declared.color.Color.TheVariants.{Red, Black}
 use Rattle.ic_link_ops.specs.declared.side.Side.{Side}
 use Rattle.ic_link_ops.specs.declared.side.Side.TheVariants.{Left, Right}
-use Rattle.ic_link_ops.specs.Tables.{Table, ChangesOnly, IsCovered}
+use Rattle.ic_link_ops.specs.Tables.{Table, ChangesOnly}
 use Rattle.ic_link_ops.specs.Trees.{Tree, leaf, fork, top, in_order}
 use Rattle.ic_link_ops.specs.Shape.{top_color}
 use Rattle.ic_link_ops.specs.RedBlackTree.{Node, IsTree}
 use Rattle.ic_link_ops.specs.Frames.{Frame, frame, branch, plug, above, across, child_on}
 use Rattle.ic_link_ops.proofs.SequenceLemmas.{none_not, some_same}
 use Rattle.ic_link_ops.proofs.Trees.{top_parent}
-use Rattle.ic_rbtree.specs.Climb.{depth}
 use Rattle.ic_rbtree.specs.Pieces.{Stands}
 use Rattle.ic_rbtree.specs.Focus.{Focus, IsMended}
-use Rattle.ic_rbtree.specs.Steps.{Rotates, CanRotate, IsSideOf}
+use Rattle.ic_rbtree.specs.Steps.{Rotates, IsSideOf}
 use Rattle.ic_rbtree.specs.Shortage.{wanted, color_above, IsNearlyRight}
 use Rattle.ic_rbtree.specs.Removal.{is_red, red_at}
 use Rattle.ic_rbtree.specs.Insertion.{color_below, are_across, RedPair, above_pair, blackened, RedAt, Eased, PairAt, Recolors, IsStraight, Lifts}
@@ -24,7 +23,7 @@ use Rattle.ic_rbtree.proofs.Branches.{branch_across, top_branch, as_branch, orde
 use Rattle.ic_rbtree.proofs.Turning.{turn, below_linked}
 use Rattle.ic_rbtree.proofs.Zipper.{go_up, go_down, go_across, go_top, painted_top, painted_above}
 use Rattle.ic_rbtree.proofs.Shapes.{recolored, settled, straightened, right_plug}
-use Rattle.ic_rbtree.proofs.Climbing.{side_found, depth_top}
+use Rattle.ic_rbtree.proofs.Climbing.{side_found}
 use Rattle.ic_rbtree.proofs.Raising.{black_is, some_is, red_tells}
 
 pub across_is : (a b : Side) → are_across a b ≡ true → a ≡ across b
@@ -171,9 +170,6 @@ module _ {E : Type 0} (n : E → Node) where
       bent_ready : Stands n k.base v root (frame i m.color g m.uncle ∷ k.frames) (branch i Red m.sibling q (branch i Red x_open.0 x x_open.1)) k.pieces
       bent_ready = subst (λ (y : Tree). Stands n k.base v root (frame i m.color g m.uncle ∷ k.frames) y k.pieces) turn_is joined
 
-      pub bent_can_rotate : CanRotate n v root q i
-      bent_can_rotate = (k.base, frame i m.color g m.uncle ∷ k.frames, turn Red m.sibling Red x_open.0 x x_open.1, k.pieces, bent_ready)
-
       pub straight_then : {w : Table E} {new_root : Option Place} → Rotates n v w root new_root q i → IsStraight n w new_root x g i m k
       straight_then {w} {new_root} rot =
           let o = x_open in
@@ -239,9 +235,6 @@ module _ {E : Type 0} (n : E → Node) where
         subst (λ (z : Tree). Stands n k.base v2 root k.frames z k.pieces)
         (sym (branch_across i Red low g m.uncle) ∙ ap (λ (z : Tree). branch (across i) Red m.uncle g z) (sym (branch_across i Black k.subtree upper m.sibling))) h2
 
-    pub lift_can_rotate : CanRotate n v2 root g j
-    lift_can_rotate = subst (λ (z : Side). CanRotate n v2 root g z) (sym ej) (k.base, k.frames, turn Red m.uncle Black m.sibling upper k.subtree, k.pieces, lift_ready)
-
     pub lifts : (w : Table E) (new_root : Option Place) → Rotates n v2 w root new_root g j
         → Stands n k.base w new_root k.frames (branch i Black k.subtree upper (branch i Red m.sibling g m.uncle)) k.pieces
     lifts w new_root rot' =
@@ -249,11 +242,6 @@ module _ {E : Type 0} (n : E → Node) where
         subst (λ (z : Tree). Stands n k.base w new_root k.frames z k.pieces)
         (branch_across i Black k.subtree upper (branch (across i) Red m.uncle g m.sibling) ∙ ap (λ (z : Tree). branch i Black k.subtree upper z) (branch_across i Red m.sibling g m.uncle))
         (rot k.base k.frames (turn Red m.uncle Black m.sibling upper k.subtree) k.pieces lift_ready)
-
-  -- the measure
-  pub red_depth : {v : Table E} {root : Option Place} {x : Place} {k : Focus E} (law : (p : Place) → (n (v.entry p)).linked ≡ true → IsCovered v p)
-      → RedAt n v root x k → depth n v (Some x) ≡ suc (length k.frames)
-  red_depth {v} {root} {x} {k} law h = (depth_top n law root k.frames k.subtree k.pieces x h.stands h.top_is).0
 
   -- a step's answer, from the pair's to the whole
   pub eased_all : (w : Table E) (root : Option Place) (k : Focus E) (fs : List Frame) (o : Option Place) → length k.frames ≡ length fs + 2
@@ -265,9 +253,3 @@ module _ {E : Type 0} (n : E → Node) where
       → o ≡ (n (v.entry q)).parent → o ≡ Some g → PairAt n v root x q g y.side y.around (record k { frames = y.fs })
   grand_same {v} {root} {x} {k} {q} y o g eo is =
       subst (λ (z : Place). PairAt n v root x q z y.side y.around (record k { frames = y.fs })) (some_same (sym (grand_is y.at) ∙ (sym eo ∙ is))) y.at
-
-  -- one step of the loop
-  pub next_depth : {v w : Table E} {root new_root : Option Place} {x g : Place} {k : Focus E} (law : (p : Place) → (n (v.entry p)).linked ≡ true → IsCovered v p)
-      (law' : (p : Place) → (n (w.entry p)).linked ≡ true → IsCovered w p) → RedAt n v root x k → Eased n w new_root k (length k.frames) (Some g)
-      → depth n w (Some g) < depth n v (Some x)
-  next_depth law law' h (gs, u, r, fewer) = omega (arith, red_depth law h, red_depth law' r, fewer)

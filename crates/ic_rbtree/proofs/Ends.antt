@@ -15,22 +15,19 @@ use Rattle.ic_link_ops.proofs.Times.{one_at_self, apart, times_order, times_dist
 use Rattle.ic_link_ops.proofs.Frames.{focus, in_order_parts}
 use Rattle.ic_link_ops.proofs.SequenceLemmas.{none_not, some_same, first_is, split_last, last_some, but_last_of_none, first_or-append, last_or-append}
 use Rattle.ic_link_ops.proofs.ShownTrees.{holds_beside}
+use Rattle.ic_link_ops.proofs.Trees.{leaf_is}
 use Rattle.ic_rbtree.specs.Ends.{end_on, others_on, ShowsFrom, Hangs, CanDescend, IsOuter}
 use Rattle.ic_rbtree.specs.Pieces.{cell, loose, below, around, Held, Stands}
 use Rattle.ic_rbtree.specs.Removal.{IsOn}
 use Rattle.ic_rbtree.specs.Sides.{IsOutermost, beyond, nearest}
 use Rattle.ic_rbtree.specs.Steps.{Adopts}
 use Rattle.ic_rbtree.proofs.Branches.{side_far, side_up, side_linked, top_leaf}
-use Rattle.ic_rbtree.proofs.Members.{no_top, stands_of}
+use Rattle.ic_rbtree.proofs.Members.{stands_of}
 use Rattle.ic_rbtree.proofs.Nearest.{nearest_or, nearest_there, nearest_plain, nearest_frame, beyond_nothing, nearest_nothing, nothing_both}
 use Rattle.ic_rbtree.proofs.Pieces.{regroup}
 use Rattle.ic_rbtree.proofs.Removing.{go_into}
 use Rattle.ic_rbtree.proofs.Turning.{open_at, below_linked, around_linked, relinks_side}
 use Rattle.ic_rbtree.proofs.Zipper.{go_top}
-
-leaf_is : (t : Tree) → in_order t ≡ [] → t ≡ leaf
-leaf_is leaf e = refl
-leaf_is (fork c a p b) e = absurd (none_not p (sym (no_top (fork c a p b) e)))
 
 -- with nothing beyond on this side, the lowest frame is one to this side,
 pub on_side : (d : Side) (fs : List Frame) → beyond d fs ≡ [] → IsOn d fs

@@ -4,13 +4,9 @@ use Rattle.ic_unsafe_ref.specs.declared.place.Place.{Place}
 use Rattle.ic_link_ops.specs.Sequences.{first, IsAbsent}
 use Rattle.ic_link_ops.specs.Tables.{Table, IsCovered, KeepsBeside}
 use Rattle.ic_link_ops.specs.RedBlackTree.{Node, ShowsEnds}
-use Rattle.ic_link_ops.proofs.SequenceLemmas.{absent_right, first_is, fewer, none_not}
+use Rattle.ic_link_ops.proofs.SequenceLemmas.{absent_right, first_is, fewer, nothing_first}
 use Rattle.ic_rbtree.specs.Members.{members_around}
 use Rattle.ic_rbtree.proofs.Members.{members_between_ends}
-
-no_first : (s : List Place) → None ≡ first s → s ≡ []
-no_first [] e = refl
-no_first (x ∷ s) e = absurd (none_not x e)
 
 module _ {E : Type 0} (n : E → Node) where
   -- of w the members `done` are taken off, and the rest is shown between the ends
@@ -53,7 +49,7 @@ module _ {E : Type 0} (n : E → Node) where
 
     -- no more
     pub finish_all : None ≡ first k.rest → k.done ≡ w
-    finish_all e = sym (append-nil k.done) ∙ ap (λ (s : List Place). k.done ++ s) (sym (no_first k.rest e)) ∙ sym k.parts
+    finish_all e = sym (append-nil k.done) ∙ ap (λ (s : List Place). k.done ++ s) (sym (nothing_first k.rest e)) ∙ sym k.parts
 
     pub finish_falls : ((q : Place) → (n (v.entry q)).linked ≡ true → IsCovered v q) → {u : Table E} → ((q : Place) → (n (u.entry q)).linked ≡ true → IsCovered u q)
         → {front' back' : Option Place} (p : Place) → Some p ≡ first k.rest → ShowsEnds n u front' back' (drop 1 k.rest)

@@ -1,7 +1,8 @@
 -- A TREE OF THE RIGHT SHAPE IS LOW, and so a descent in it short.
-use Rattle.std.proofs.Common.{◌≡◌, ℕ, suc, ◌+◌, ◌*◌, ◌^◌, ◌≤◌, List, [], ◌∷◌, length, refl, sym, ap, ◌∙◌, subst, arith, length-append}
-use Rattle.std.proofs.Math.Nat.{max-le, le-max_left, le-max_right, pow-le-pow_right, pow-suc, pow-zero, one-mul, mul-le-mul}
-use Rattle.std.proofs.lemmas.Nat.{pow-add}
+use Rattle.std.proofs.Common.{◌≡◌, ℕ, suc, ◌+◌, ◌*◌, ◌^◌, ◌≤◌, ◌<◌, List, [], ◌∷◌, length, refl, sym, ap, ◌∙◌, subst, arith, length-append, inl, inr}
+use Rattle.std.proofs.Math.Nat.{pow-le-pow_left, max-le, le-max_left, le-max_right, pow-le-pow_right, pow-suc, pow-zero, one-mul, mul-le-mul}
+use Rattle.std.proofs.lemmas.Nat.{pow-add, pow_below}
+use Rattle.std.proofs.lemmas.Bool.{cases_lt}
 use Rattle.ic_unsafe_ref.specs.declared.place.Place.{Place}
 use Rattle.ic_link_ops.specs.declared.color.Color.{Color}
 use Rattle.ic_link_ops.specs.declared.color.Color.TheVariants.{Red, Black}
@@ -69,3 +70,14 @@ looks_few fs t looks r h =
     let low : looks ≤ height (plug fs t) = omega (arith, h, length_frames_height fs t) in
     let a : 2 ^ looks ≤ 2 ^ height (plug fs t) = pow-le-pow_right (omega arith) low in
     omega (arith, a, height_few (plug fs t) r)
+
+-- what is at most the square of 2 ^ 33 as a power of 2 has a small exponent
+pub exponent_small : (v m : ℕ) → m ≤ 8589934592 → 2 ^ v ≤ m ^ 2 → v ≤ 66
+exponent_small v m small h = elim (cases_lt 66 v) [
+  | inl more ↦
+      let big : 2 ^ 66 < 2 ^ v = pow_below 66 v more in
+      let square : m ^ 2 ≤ 8589934592 ^ 2 = pow-le-pow_left small 2 in
+      let is : 8589934592 ^ 2 ≡ 2 ^ 66 = refl in
+      absurd (omega (arith, big, h, square, is))
+  | inr few ↦ few
+]

@@ -17,7 +17,7 @@ use Rattle.ic_link_ops.proofs.Positions.{stands_null, stands_on, stands_still, m
 use Rattle.ic_link_ops.proofs.SequenceLemmas.{absent_without, split_member}
 use Rattle.ic_link_ops.proofs.ShownTrees.{shows_beside, free_absent}
 use Rattle.ic_cursors.specs.Answers.{inserted}
-use Rattle.ic_rbtree.specs.declared.descent.Descent.{Descent}
+use Rattle.ic_rbtree.specs.declared.keys.descent.Descent.{Descent}
 use Rattle.ic_rbtree.specs.Borders.{IsBorder, less_at}
 use Rattle.ic_rbtree.specs.Comparing.{answer_at, compared, order_of, own_order}
 use Rattle.ic_rbtree.specs.Descents.{gap_in, EndsAt}

@@ -11,7 +11,8 @@ use Rattle.ic_unsafe_ref.specs.Objects.{Objects, object_at}
 use Rattle.ic_link_ops.specs.PlacedObjects.{ArePlaced, values_at}
 use Rattle.ic_link_ops.specs.Sequences.{Cut, join, insert, first, last}
 use Rattle.ic_link_ops.proofs.SequenceLemmas.{none_not}
-use Rattle.ic_rbtree.specs.declared.key_adapter.Bound.{Bound}
+use Rattle.ic_link_ops.proofs.Each.{all_both, all_map}
+use Rattle.ic_rbtree.specs.declared.keys.key_adapter.Bound.{Bound}
 use Rattle.ic_rbtree.specs.Borders.{IsBorder, IsLowerBorder, IsUpperBorder, Finds, IsSorted, IsSortedFor, equal_at, at_most_at, less_at, if_passes}
 use Rattle.ic_rbtree.specs.Comparing.{answer_at, compared, order_of, meets_lower, meets_upper, is_beyond}
 
@@ -22,14 +23,6 @@ pub record Cuts (test : Place → Bool) (s : List Place) : Type 0 where
   pub same : front ++ back ≡ s
   pub fail : AllByRecursion (λ p. test p ≡ false) front
   pub pass : AllByRecursion (λ p. test p ≡ true) back
-
-pub all_both : {X : Type 0} (P : X → Type 0) (s t : List X) → AllByRecursion P s → AllByRecursion P t → AllByRecursion P (s ++ t)
-all_both P [] t hs ht = ht
-all_both P (p ∷ s) t hs ht = (hs.0, all_both P s t hs.1 ht)
-
-pub all_map : {X : Type 0} {P Q : X → Type 0} → ((x : X) → P x → Q x) → (s : List X) → AllByRecursion P s → AllByRecursion Q s
-all_map f [] h = tt
-all_map f (p ∷ s) h = (f p h.0, all_map f s h.1)
 
 -- the last of what starts a sequence is one of it
 pub last_all : {P : Place → Type 0} (p : Place) (x y : List Place) → AllByRecursion P (p ∷ x ++ y) → (q : Place) × (last (p ∷ x) ≡ Some q) × P q

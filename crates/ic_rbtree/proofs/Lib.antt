@@ -1,4 +1,5 @@
 pub mod Branches
+pub mod Closed
 pub mod Pieces
 pub mod Stepping
 pub mod Turning
@@ -8,6 +9,7 @@ pub mod Shortening
 pub mod Raising
 pub mod Settling
 pub mod Climbing
+pub mod Low
 pub mod Taking
 pub mod Nearest
 pub mod Descending
@@ -17,6 +19,7 @@ pub mod SidedEdits
 pub mod Easing
 pub mod Attaching
 pub mod Replacing
+pub mod ShownClosed
 pub mod Heights
 pub mod Climbed
 pub mod Laws
@@ -35,3 +38,4 @@ pub mod PlainTrees
 pub mod Passing
 pub mod SortedKeys
 pub mod SortedValues
+pub mod EachObject

@@ -8,17 +8,12 @@ use Rattle.ic_link_ops.specs.RedBlackTree.{Node, IsTree, Holds, Shows, ShowsEnds
 use Rattle.ic_link_ops.specs.Frames.{Frame, frame, plug, above, topmost, IsAround}
 use Rattle.ic_link_ops.proofs.Frames.{focus}
 use Rattle.ic_link_ops.proofs.ShownTrees.{holds_length, holds_once}
-use Rattle.ic_link_ops.proofs.SequenceLemmas.{split_member}
+use Rattle.ic_link_ops.proofs.Trees.{leaf_is}
 use Rattle.ic_rbtree.specs.Members.{some_or, tree_below, top_above, members, members_around}
 use Rattle.ic_rbtree.specs.Pieces.{Stands}
 use Rattle.ic_rbtree.proofs.Branches.{side_up}
 use Rattle.ic_rbtree.proofs.Climbing.{length_frames}
 use Rattle.ic_rbtree.proofs.Removing.{go_into}
-
--- with no member there is no root
-pub no_top : (t : Tree) → in_order t ≡ [] → top t ≡ None
-no_top leaf e = refl
-no_top (fork c a p b) e = absurd (split_member (in_order a) p (in_order b) (rw e tt))
 
 topmost_some : (fs : List Frame) (q p : Place) → some_or (Some p) (topmost fs (Some q)) ≡ topmost fs (Some q)
 topmost_some [] q p = refl
@@ -89,7 +84,7 @@ module _ {E : Type 0} (n : E → Node) where
         ap in_order (tree_read t.entry None tree t.extent.places h.entries fits) ∙ h.order
 
     around_held : (tree : Tree) (s : List Place) → Holds n t tree s → members_around n t (first s) ≡ s
-    around_held tree [] h = ap (members n t) (top_none t.entry t.extent.places ∙ sym (no_top tree h.order)) ∙ members_held h
+    around_held tree [] h = ap (members n t) (top_none t.entry t.extent.places ∙ sym (ap top (leaf_is tree h.order))) ∙ members_held h
     around_held tree (x ∷ s) h =
         let f = focus tree [] [] x s h.order in
         let st = go_into n (top tree) f.0 (fork f.1 f.2 x f.3) [] (subst (λ (y : Tree). Stands n t t (top tree) [] y []) (sym f.4) (stands_of h)) in

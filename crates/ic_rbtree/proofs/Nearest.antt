@@ -7,7 +7,7 @@ use Rattle.ic_link_ops.specs.declared.side.Side.TheVariants.{Left, Right}
 use Rattle.ic_link_ops.specs.Sequences.{Cut, join, first, first_or, last, last_or, but_last}
 use Rattle.ic_link_ops.specs.Trees.{Tree, leaf, fork, top, in_order}
 use Rattle.ic_link_ops.specs.Frames.{Frame, frame, across, branch, before, after}
-use Rattle.ic_link_ops.proofs.SequenceLemmas.{none_not, first_or-append, last_or-append, split_last, first_is, last_some}
+use Rattle.ic_link_ops.proofs.SequenceLemmas.{none_not, first_or-append, last_or-append, split_last, first_is, nothing_first, nothing_last}
 use Rattle.ic_rbtree.specs.Sides.{IsBeside, beyond, nearest}
 
 -- the member nearest to a gap on this side of it, or o where none is there
@@ -19,11 +19,6 @@ nearest_or Right s o = first_or s o
 abbrev pub part : Side → Cut → List Place
 part Left gap = gap.front
 part Right gap = gap.back
-
--- a gap is beside what is nearest on its other side
-pub beside_is : (d : Side) (gap : Cut) (o : Option Place) → IsBeside d gap o → o ≡ nearest (across d) (part (across d) gap)
-beside_is Left gap o h = h
-beside_is Right gap o h = h
 
 pub is_beside : (d : Side) (gap : Cut) (o : Option Place) → o ≡ nearest d (part d gap) → IsBeside (across d) gap o
 is_beside Left gap o h = h
@@ -79,14 +74,6 @@ pub nothing_both : (s t : List Place) → s ++ t ≡ [] → (s ≡ []) × (t ≡
 nothing_both [] t e = (refl, e)
 nothing_both (x ∷ s) t e = cc
 
-nothing_first : (s : List Place) → first s ≡ None → s ≡ []
-nothing_first [] e = refl
-nothing_first (x ∷ s) e = absurd (none_not x (sym e))
-
-nothing_last : (s : List Place) → last s ≡ None → s ≡ []
-nothing_last [] e = refl
-nothing_last (x ∷ s) e = absurd (last_some x s e)
-
 -- A MEMBER BESIDE A GAP, and the sequence around it
 pub beside_member : (d : Side) (gap : Cut) (p : Place) → IsBeside d gap (Some p)
     → (front : List Place) × (back : List Place) × (join gap ≡ front ++ p ∷ back) × (part d gap ≡ choose d front back)
@@ -100,5 +87,5 @@ beside_member Right gap p h = (
 
 -- beside null, all there is stands on this side
 pub beside_null : (d : Side) (gap : Cut) → IsBeside d gap None → part d gap ≡ join gap
-beside_null Left gap h = sym (append-nil gap.front) ∙ ap (λ (s : List Place). gap.front ++ s) (sym (nothing_first gap.back (sym h)))
-beside_null Right gap h = ap (λ (s : List Place). s ++ gap.back) (sym (nothing_last gap.front (sym h)))
+beside_null Left gap h = sym (append-nil gap.front) ∙ ap (λ (s : List Place). gap.front ++ s) (sym (nothing_first gap.back h))
+beside_null Right gap h = ap (λ (s : List Place). s ++ gap.back) (sym (nothing_last gap.front h))

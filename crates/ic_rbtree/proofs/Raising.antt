@@ -13,10 +13,10 @@ use Rattle.ic_link_ops.specs.Frames.{frame, branch, above, IsAtSide, across, chi
 use Rattle.ic_link_ops.proofs.SequenceLemmas.{none_not}
 use Rattle.ic_rbtree.specs.Pieces.{Stands}
 use Rattle.ic_rbtree.specs.Focus.{Focus}
-use Rattle.ic_rbtree.specs.Steps.{Rotates, CanRotate}
+use Rattle.ic_rbtree.specs.Steps.{Rotates}
 use Rattle.ic_rbtree.specs.Removal.{is_red, red_at, ShortAt, Raised}
 use Rattle.ic_rbtree.proofs.Branches.{branch_across, as_branch, order_plug, order_rotated, side_far, side_linked}
-use Rattle.ic_rbtree.proofs.Turning.{turn, below_linked}
+use Rattle.ic_rbtree.proofs.Turning.{turn}
 use Rattle.ic_rbtree.proofs.Zipper.{go_up, go_down, go_across, painted_top, painted_above}
 use Rattle.ic_rbtree.proofs.Shortening.{not_leaf, short_lowered}
 
@@ -35,6 +35,10 @@ not_leaf_top (fork c a p b) h = (p, refl)
 pub some_is : (o : Option Place) (w : Place) → o ≡ Some w → IsSome o
 some_is None w e = absurd (none_not w e)
 some_is (Some q) w e = refl
+
+pub not_none : (o : Option Place) → IsSome o → o ≡ None → ⊥
+not_none None s e = cc
+not_none (Some q) s e = none_not q (sym e)
 
 module _ {E : Type 0} (n : E → Node) where
   -- what a reading of the color tells of a tree
@@ -62,11 +66,8 @@ module _ {E : Type 0} (n : E → Node) where
     pub sib_top : (far : Side) (o : Option Place) (w : Place) → far ≡ across d → o ≡ child_on far (n (v.entry q)) → o ≡ Some w → top sib ≡ Some w
     sib_top far o w ef eo is = sym sib_read ∙ (ap (λ (x : Side). child_on x (n (v.entry q))) (sym ef) ∙ (sym eo ∙ is))
 
-    pub sib_linked : (w : Place) → top sib ≡ Some w → (n (v.entry w)).linked ≡ true
-    sib_linked w e = below_linked n v.entry (Some q) sib w sib_tree e
-
-    pub sib_read_some : (far : Side) (o : Option Place) → far ≡ across d → o ≡ child_on far (n (v.entry q)) → IsSome o
-    sib_read_some far o ef eo = some_is o sib_some.0 (eo ∙ (ap (λ (x : Side). child_on x (n (v.entry q))) ef ∙ (sib_read ∙ sib_some.1)))
+    pub sib_there : (far : Side) (o : Option Place) → far ≡ across d → o ≡ child_on far (n (v.entry q)) → o ≡ Some sib_some.0
+    sib_there far o ef eo = eo ∙ (ap (λ (x : Side). child_on x (n (v.entry q))) ef ∙ (sib_read ∙ sib_some.1))
 
     -- its color that was read
     pub sib_color : (w : Place) (b : Bool) → top sib ≡ Some w → b ≡ red_at n v (Some w) → b ≡ is_red (top_color sib)
@@ -96,9 +97,6 @@ module _ {E : Type 0} (n : E → Node) where
             let r = sib_red in
             let h1 = painted_top n d Red r.0 w r.1 refl refl set1 only1 (go_across n opened.stands) in
             subst (λ (x : Tree). Stands n k.base v2 root k.frames x k.pieces) (branch_across d Red k.subtree q (branch d Black r.0 w r.1)) (go_up n (painted_above n refl refl set2 only2 h1))
-
-        pub raise_can_rotate : CanRotate n v2 root q d
-        raise_can_rotate = (k.base, k.frames, turn Red k.subtree Black sib_red.0 w sib_red.1, k.pieces, ready)
 
         module _ {z : Table E} {new_root : Option Place} (rot : Rotates n v2 z root new_root q d) where
           pub lowered : ShortAt n z new_root q d Red sib_red.0 (record k { frames = frame d Black w sib_red.1 ∷ k.frames })

@@ -12,12 +12,13 @@ use Rattle.ic_unsafe_ref.specs.Objects.{Objects, object_at}
 use Rattle.ic_link_ops.specs.PlacedObjects.{ArePlaced, values_at}
 use Rattle.ic_link_ops.specs.Sequences.{first, last, IsDistinct}
 use Rattle.ic_link_ops.proofs.SequenceLemmas.{none_not, some_same, last_or-append}
-use Rattle.ic_rbtree.specs.declared.key_adapter.Bound.{Bound}
+use Rattle.ic_link_ops.proofs.Each.{all_front, all_back, all_map}
+use Rattle.ic_rbtree.specs.declared.keys.key_adapter.Bound.{Bound}
 use Rattle.ic_rbtree.specs.Borders.{IsSorted}
 use Rattle.ic_rbtree.specs.Comparing.{answer_at, compared, order_of, meets_lower, meets_upper, is_beyond}
 use Rattle.ic_rbtree.specs.Members.{between}
 use Rattle.ic_rbtree.specs.Ranges.{not_less, runs_up, IsSegment, IsRange}
-use Rattle.ic_rbtree.proofs.KeyLaws.{keys_more, value_there, none_less, sorted_tail, Cuts, all_map, cons_head, one_border, filter_fail, filter_front, last_all}
+use Rattle.ic_rbtree.proofs.KeyLaws.{keys_more, value_there, none_less, sorted_tail, Cuts, cons_head, one_border, filter_fail, filter_front, last_all}
 use Rattle.ic_rbtree.proofs.Ranges.{Rises, ends}
 use Rattle.ic_rbtree.proofs.Walking.{between_ends}
 
@@ -33,14 +34,6 @@ prefixes (a ∷ f) b (p ∷ g) c e =
       | inl r ↦ inl (r.0, r.1, sym (ap (λ z. z ∷ g) k.0) ∙ ap (λ z. a ∷ z) r.2, r.3)
       | inr r ↦ inr (r.0, ap (λ z. a ∷ z) r.1 ∙ ap (λ z. z ∷ g ++ r.0) k.0, r.2)
     ]
-
-all_front : (P : Place → Type 0) (s t : List Place) → AllByRecursion P (s ++ t) → AllByRecursion P s
-all_front P [] t h = tt
-all_front P (p ∷ s) t h = (h.0, all_front P s t h.1)
-
-all_back : (P : Place → Type 0) (s t : List Place) → AllByRecursion P (s ++ t) → AllByRecursion P t
-all_back P [] t h = h
-all_back P (p ∷ s) t h = all_back P s t h.1
 
 -- two tests at once
 fails_left : (f g : Place → Bool) (s : List Place) → AllByRecursion (λ p. f p ≡ false) s → AllByRecursion (λ p. (f p && g p) ≡ false) s

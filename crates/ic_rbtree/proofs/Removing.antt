@@ -1,8 +1,9 @@
 -- A member is removed: found by the sequence, taken out, and released.
 use Rattle.std.proofs.Common.{◌≡◌, inl, inr, true, Option, Some, None, List, [], ◌∷◌, ◌++◌, refl, sym, ap, ◌∙◌, subst, arith, append-nil, append_assoc, drop}
+use Rattle.std.proofs.lemmas.List.{append_cancel_left}
 use Rattle.ic_unsafe_ref.specs.declared.place.Place.{Place}
 use Rattle.ic_link_ops.specs.declared.color.Color.{Color}
-use Rattle.ic_link_ops.specs.declared.side.Side.TheVariants.{Left, Right}
+use Rattle.ic_link_ops.specs.declared.side.Side.TheVariants.{Right}
 use Rattle.ic_link_ops.specs.Sequences.{Cut, join, first, IsAbsent, IsDistinct}
 use Rattle.ic_link_ops.specs.Tables.{Table, ChangesOnly}
 use Rattle.ic_link_ops.specs.Edits.{Removes}
@@ -17,16 +18,12 @@ use Rattle.ic_link_ops.proofs.Times.{one_at_self, apart, times_order, times_dist
 use Rattle.ic_link_ops.proofs.ShownTrees.{holds_once}
 use Rattle.ic_link_ops.proofs.ShownTrees.{shows_beside}
 use Rattle.ic_rbtree.specs.Pieces.{Piece, loose, Stands, Shown}
-use Rattle.ic_rbtree.specs.Sides.{StandsAt, IsOutermost}
-use Rattle.ic_rbtree.specs.Taking.{Parts, only, IsLone, both_of, CanTakeOut, TakesOut, CanTakePlace, TakesPlace}
+use Rattle.ic_rbtree.specs.Taking.{Parts, only, IsLone, both_of, TakesOut, TakesPlace, IsLeftmost}
 use Rattle.ic_rbtree.proofs.Zipper.{go_down, go_top}
 use Rattle.ic_rbtree.proofs.Shapes.{right_plug}
 use Rattle.ic_rbtree.proofs.Shortening.{shape_open}
+use Rattle.ic_rbtree.proofs.Low.{shown_low}
 use Rattle.ic_rbtree.proofs.Taking.{order_only}
-
-cancel : (s t u : List Place) → s ++ t ≡ s ++ u → t ≡ u
-cancel [] t u e = e
-cancel (x ∷ s) t u e = let k : s ++ t ≡ s ++ u = cc in cancel s t u k
 
 -- the sequence of a tree around one of its members
 pub order_around : (fs : List Frame) (c : Color) (a : Tree) (p : Place) (b : Tree) (front back : List Place) → before fs ++ in_order a ≡ front → in_order b ++ after fs ≡ back
@@ -101,9 +98,6 @@ module _ {E : Type 0} (n : E → Node) where
         pick (fork c a q b) leaf e = inr refl
         pick (fork c a q b) (fork k l r m) e = absurd (none_not r (sym e))
 
-    pub lone_can : (o : Option Place) → o ≡ both_of (n (v.entry p)).left (n (v.entry p)).right → o ≡ None → CanTakeOut n v root p
-    lone_can o eo none = (base, x.fs, parts x.c x.a x.b, ps, x.stands, lone o eo none, x.right)
-
     pub lone_taken : {w : Table E} {new_root : Option Place} (o : Option Place) → o ≡ both_of (n (v.entry p)).left (n (v.entry p)).right → o ≡ None
         → TakesOut n v w root new_root p → Shown n base w new_root (front ++ back) (loose p ∷ ps)
     lone_taken {w} {new_root} o eo none taken =
@@ -129,10 +123,7 @@ module _ {E : Type 0} (n : E → Node) where
       right_stands : Stands n base v root (frame Right x.c p x.a ∷ x.fs) x.b ps
       right_stands = go_down n Right x.c p x.a x.b x.stands
 
-      pub right_can : StandsAt n v r
-      right_can = (base, root, frame Right x.c p x.a ∷ x.fs, x.b, ps, right_stands, right_top)
-
-      module _ (z : Place) (leftmost : IsOutermost n v r Left z) where
+      module _ (z : Place) (leftmost : IsLeftmost n v r z) where
         -- the next member, at its place
         pub record Next : Type 0 where
           pub gs : List Frame
@@ -145,7 +136,7 @@ module _ {E : Type 0} (n : E → Node) where
 
         pub next : Next
         next =
-            let l = leftmost base root (frame Right x.c p x.a ∷ x.fs) x.b ps right_stands right_top in
+            let l = leftmost base root (frame Right x.c p x.a ∷ x.fs) x.b ps right_stands right_top (shown_low n x.stands x.right) in
             let rest : List Place = in_order l.b ++ after l.gs in
             let start : before l.gs ≡ front ++ p ∷ [] = l.beside ∙ (sym (append_assoc (before x.fs) (in_order x.a) (p ∷ [])) ∙ ap (λ (s : List Place). s ++ p ∷ []) x.front_is) in
             let glued : (s : List Place) → before l.gs ++ s ≡ front ++ p ∷ s = λ s. ap (λ (t : List Place). t ++ s) start ∙ append_assoc front (p ∷ []) s in
@@ -153,7 +144,7 @@ module _ {E : Type 0} (n : E → Node) where
             order_around x.fs x.c x.a p x.b front back x.front_is x.back_is in
             let new : in_order (plug l.gs (fork l.c leaf z l.b)) ≡ front ++ p ∷ (z ∷ rest) = in_order_parts l.gs (fork l.c leaf z l.b) ∙ glued (z ∷ rest) in
             let same : front ++ p ∷ back ≡ front ++ p ∷ (z ∷ rest) = sym old ∙ (sym (ap in_order l.same) ∙ new) in
-            let tail : p ∷ back ≡ p ∷ (z ∷ rest) = cancel front (p ∷ back) (p ∷ (z ∷ rest)) same in
+            let tail : p ∷ back ≡ p ∷ (z ∷ rest) = append_cancel_left front (p ∷ back) (p ∷ (z ∷ rest)) same in
             record {
               gs = l.gs;
               k = l.c;
@@ -164,15 +155,9 @@ module _ {E : Type 0} (n : E → Node) where
               order = glued rest;
             }
 
-        pub next_can : CanTakeOut n v root z
-        next_can = (base, next.gs, parts next.k leaf next.m, ps, next.stands, inl refl, next.right)
-
         pub next_out : {w : Table E} {new_root : Option Place} → TakesOut n v w root new_root z → Shown n base w new_root (front ++ p ∷ (in_order next.m ++ after next.gs)) (loose z ∷ ps)
         next_out {w} {new_root} taken =
             subst (λ (s : List Place). Shown n base w new_root s (loose z ∷ ps)) next.order (taken base next.gs (parts next.k leaf next.m) ps next.stands (inl refl) next.right)
-
-        pub place_can : {w : Table E} {new_root : Option Place} → TakesOut n v w root new_root z → CanTakePlace n w new_root p z
-        place_can taken = let y = spot front p (in_order next.m ++ after next.gs) (next_out taken) in (base, y.fs, parts y.c y.a y.b, ps, y.stands)
 
         pub place_taken : {w u : Table E} {root1 root2 : Option Place} → TakesOut n v w root root1 z → TakesPlace n w u root1 root2 p z → Shown n base u root2 (front ++ back) (loose p ∷ ps)
         place_taken {w} {u} {root1} {root2} taken swapped =

@@ -9,21 +9,18 @@ use Rattle.ic_link_ops.specs.Times.{one_at, times, times_in}
 use Rattle.ic_link_ops.proofs.Times.{one_at_other, apart, times_order, absent_times, times_append}
 use Rattle.ic_link_ops.proofs.ShownTrees.{shows_beside}
 use Rattle.ic_rbtree.specs.Pieces.{loose, Shown}
-use Rattle.ic_rbtree.specs.Taking.{CanTakePlace, TakesPlace}
-use Rattle.ic_rbtree.proofs.Removing.{parts, placed, Spot, spot, shows_of, loose_absent, front_shown}
+use Rattle.ic_rbtree.specs.Taking.{TakesPlace}
+use Rattle.ic_rbtree.proofs.Removing.{placed, Spot, shows_of, loose_absent, front_shown}
 use Rattle.ic_rbtree.proofs.Attaching.{acquired_shown}
 
 module _ {E : Type 0} (n : E → Node) where
   -- the member, beside a place that has just been linked
-  pub member_spot : (linked : E → Bool) → ((e : E) → (n e).linked ≡ linked e) → (old v : Table E) (root : Option Place) (gap : Cut) (p new : Place) → Shows n old root (join gap) → first gap.back ≡ Some p
-      → IsUnlinked linked old new → IsLinked linked v new → ChangesOnly old v new → (rest : List Place) × (gap.back ≡ p ∷ rest) × Spot n v v root gap.front p rest (loose new ∷ [])
-  member_spot linked alike old v root gap p new shown e was is only =
+  pub member_shown : (linked : E → Bool) → ((e : E) → (n e).linked ≡ linked e) → (old v : Table E) (root : Option Place) (gap : Cut) (p new : Place) → Shows n old root (join gap) → first gap.back ≡ Some p
+      → IsUnlinked linked old new → IsLinked linked v new → ChangesOnly old v new → (rest : List Place) × (gap.back ≡ p ∷ rest) × Shown n v v root (gap.front ++ p ∷ rest) (loose new ∷ [])
+  member_shown linked alike old v root gap p new shown e was is only =
       let f = front_shown n gap p shown e in
       let s = acquired_shown n linked alike old v root (join gap) new shown was is only in
-      (f.0, f.1, spot n gap.front p f.0 (subst (λ (x : List Place). Shown n v v root (gap.front ++ x) (loose new ∷ [])) f.1 s))
-
-  pub place_ready : {v : Table E} {root : Option Place} {front : List Place} {p new : Place} {back : List Place} → Spot n v v root front p back (loose new ∷ []) → CanTakePlace n v root p new
-  place_ready {v} x = (v, x.fs, parts x.c x.a x.b, [], x.stands)
+      (f.0, f.1, subst (λ (x : List Place). Shown n v v root (gap.front ++ x) (loose new ∷ [])) f.1 s)
 
   pub replaces : (old v w z : Table E) (root new_root : Option Place) (p new : Place) (gap : Cut) (rest : List Place)
       → gap.back ≡ p ∷ rest → ChangesOnly old v new → Spot n v v root gap.front p rest (loose new ∷ []) → TakesPlace n v w root new_root p new

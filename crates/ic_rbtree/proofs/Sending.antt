@@ -18,13 +18,13 @@ use Rattle.ic_link_ops.specs.Frames.{Frame, frame, plug, above, before, after, c
 use Rattle.ic_link_ops.specs.Positions.{Site, ShowsAt, Stands as PositionStands}
 use Rattle.ic_link_ops.proofs.Positions.{stands_by_gap, stands_null}
 use Rattle.ic_link_ops.proofs.SequenceLemmas.{none_not}
-use Rattle.ic_rbtree.specs.declared.descent.Descent.{Descent}
-use Rattle.ic_rbtree.specs.declared.key_adapter.Bound.{Bound}
-use Rattle.ic_rbtree.specs.declared.key_adapter.Bound.TheVariants.{Included, Excluded, Unbounded}
+use Rattle.ic_rbtree.specs.declared.keys.descent.Descent.{Descent}
+use Rattle.ic_rbtree.specs.declared.keys.key_adapter.Bound.{Bound}
+use Rattle.ic_rbtree.specs.declared.keys.key_adapter.Bound.TheVariants.{Included, Excluded, Unbounded}
 use Rattle.ic_rbtree.specs.Borders.{IsBorder, equal_at, at_most_at, if_passes, Finds, IsLowerBorder, IsUpperBorder}
 use Rattle.ic_rbtree.specs.Comparing.{goes_left, meets_lower, is_beyond, order_of}
 use Rattle.ic_rbtree.specs.Descents.{side_of, gap_in, SendsPast, passed, at_root, equal_there, EndsAt}
-use Rattle.ic_rbtree.specs.declared.entry.InsertCursor.{InsertCursor}
+use Rattle.ic_rbtree.specs.declared.keys.entry.InsertCursor.{InsertCursor}
 use Rattle.ic_rbtree.specs.Entry.{IsVacantFor}
 use Rattle.ic_rbtree.specs.Height.{height}
 use Rattle.ic_rbtree.specs.Insertion.{IsHole}

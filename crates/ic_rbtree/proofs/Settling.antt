@@ -13,7 +13,7 @@ use Rattle.ic_link_ops.specs.Frames.{Frame, frame, branch, plug, above, IsAtSide
 use Rattle.ic_link_ops.proofs.SequenceLemmas.{none_not, some_same}
 use Rattle.ic_rbtree.specs.Pieces.{Stands}
 use Rattle.ic_rbtree.specs.Focus.{Focus, IsMended}
-use Rattle.ic_rbtree.specs.Steps.{Rotates, CanRotate}
+use Rattle.ic_rbtree.specs.Steps.{Rotates}
 use Rattle.ic_rbtree.specs.Shortage.{IsShort}
 use Rattle.ic_rbtree.specs.Removal.{is_red, red_child, red_at, red_below, AreRead, ShortAt, Beside, Leant, Rises}
 use Rattle.ic_rbtree.proofs.Branches.{branch_across, across_twice, top_branch, as_branch, branch_open, order_plug, order_branch, order_rotated, side_near, side_far, side_tint, side_linked}
@@ -125,8 +125,8 @@ module _ {E : Type 0} (n : E → Node) where
       pub near_place : (o : Option Place) (z : Place) → o ≡ child_on d (n (v.entry w)) → o ≡ Some z → near_red.1 ≡ z
       near_place o z e is = let r = near_red in some_same (sym (top_branch d Red r.0 r.1 r.2) ∙ (sym (ap top r.3) ∙ (sym near_is ∙ (sym e ∙ is))))
 
-      pub near_linked : (o : Option Place) (z : Place) → o ≡ child_on d (n (v.entry w)) → o ≡ Some z → (n (v.entry z)).linked ≡ true
-      near_linked o z e is = below_linked n v.entry (Some w) sib_open.0 z near_tree (sym near_is ∙ (sym e ∙ is))
+      pub near_there : (o : Option Place) → o ≡ child_on d (n (v.entry w)) → o ≡ Some near_red.1
+      near_there o e = let r = near_red in e ∙ (near_is ∙ (ap top r.3 ∙ top_branch d Red r.0 r.1 r.2))
 
       -- the near child comes up
       module _ (z : Place) (is : near_red.1 ≡ z) where
@@ -143,10 +143,6 @@ module _ {E : Type 0} (n : E → Node) where
               subst (λ (x : Tree). Stands n k.base v2 root (frame (across d) c q k.subtree ∷ k.frames) x k.pieces)
               (sym (branch_across d Red (branch d Black r.0 z r.2) w b) ∙ ap (λ (x : Tree). branch (across d) Red b w x) (sym (branch_across d Black r.0 z r.2)))
               (go_up n (painted_above n refl refl set2 only2 h1))
-
-          pub turn_can_rotate : (i : Side) → i ≡ across d → CanRotate n v2 root w i
-          turn_can_rotate i e = subst (λ (x : Side). CanRotate n v2 root w x) (sym e)
-              (k.base, frame (across d) c q k.subtree ∷ k.frames, turn Red sib_open.1 Black near_red.2 z near_red.0, k.pieces, ready)
 
           pub leans_then : {y : Table E} {new_root : Option Place} (i : Side) → i ≡ across d → Rotates n v2 y root new_root w i → Leant n y new_root q d z c k
           leans_then {y} {new_root} i e rot' =
@@ -201,9 +197,6 @@ module _ {E : Type 0} (n : E → Node) where
           let h5 = painted_top n Left Red l.left l.far l.right eg refl set3 only3 h4 in
           let h6 = subst (λ (y : Tree). Stands n k.base v3 root up y k.pieces) (branch_across d c l.near w (far_child Black)) (go_up n h5) in
           subst (λ (y : Tree). Stands n k.base v3 root k.frames y k.pieces) (branch_across d Black k.subtree q (branch d c l.near w (far_child Black))) (go_up n h6)
-
-      pub settle_can_rotate : CanRotate n v3 root q d
-      settle_can_rotate = (k.base, k.frames, turn Black k.subtree c l.near w (far_child Black), k.pieces, settle_ready)
 
       pub settles : {y : Table E} {new_root : Option Place} → Rotates n v3 y root new_root q d → IsMended n y new_root k
       settles {y} {new_root} rot =

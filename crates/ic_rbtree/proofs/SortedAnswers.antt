@@ -9,12 +9,13 @@ use Rattle.ic_unsafe_ref.specs.declared.place.Place.{Place}
 use Rattle.ic_unsafe_ref.specs.Objects.{Objects, object_at}
 use Rattle.ic_link_ops.specs.PlacedObjects.{ArePlaced, values_at}
 use Rattle.ic_link_ops.specs.Sequences.{Cut, join, insert, first, last, IsDistinct}
-use Rattle.ic_rbtree.specs.declared.key_adapter.Bound.{Bound}
-use Rattle.ic_rbtree.specs.declared.key_adapter.Bound.TheVariants.{Included, Excluded, Unbounded}
+use Rattle.ic_link_ops.proofs.Each.{all_map}
+use Rattle.ic_rbtree.specs.declared.keys.key_adapter.Bound.{Bound}
+use Rattle.ic_rbtree.specs.declared.keys.key_adapter.Bound.TheVariants.{Included, Excluded, Unbounded}
 use Rattle.ic_rbtree.specs.Borders.{IsBorder, IsLowerBorder, IsUpperBorder, Finds, IsSorted, IsSortedFor, equal_at, at_most_at, less_at, if_passes}
 use Rattle.ic_rbtree.specs.Comparing.{answer_at, compared, compared_within, order_of, meets_lower, meets_upper, is_beyond}
 use Rattle.ic_rbtree.specs.Ranges.{runs_up, IsRange}
-use Rattle.ic_rbtree.proofs.KeyLaws.{Cuts, all_map, one_border, filter_pass, filter_fail, filter_front, lower_is, upper_is, cuts_at_most, cuts_less, found_is, sorted_for}
+use Rattle.ic_rbtree.proofs.KeyLaws.{Cuts, one_border, filter_pass, filter_fail, filter_front, lower_is, upper_is, cuts_at_most, cuts_less, found_is, sorted_for}
 use Rattle.ic_rbtree.proofs.RangeLaws.{range_is}
 use Rattle.ic_rbtree.proofs.Ranges.{Rises, le_fails, lt_fails}
 use Rattle.ic_rbtree.proofs.Sending.{not_ge, not_gt}

@@ -1,10 +1,10 @@
 -- Sequences whose objects stand by their keys: with one more, and with one less.
-use Rattle.std.proofs.Common.{◌≡◌, ◌≢◌, ℕ, ◌≤◌, Bool, true, false, cond, ltb, eqb, Option, Some, None, IsSome, Result, Ok, Err, OnOk, OnErr, IfErr, List, [], ◌∷◌, ◌++◌, map, filter, drop, refl, sym, ap, ◌∙◌, subst, arith, ltb-true, ltb-false, eqb-true, true≢false}
-use Rattle.std.proofs.lemmas.Bool.{eqb-false}
-use Rattle.std.proofs.lemmas.Cmp.{nat_cmp_total}
+use Rattle.std.proofs.Common.{◌≡◌, ◌≢◌, ℕ, ◌≤◌, Bool, true, false, cond, Option, Some, None, IsSome, Result, Ok, Err, OnOk, OnErr, IfErr, List, [], ◌∷◌, ◌++◌, map, filter, refl, sym, ap, subst, arith, true≢false, ◌<◌}
+use Rattle.std.proofs.lemmas.Cmp.{nat_cmp_total, ranked}
 use Rattle.std.specs.List.{AllByRecursion, cons_option}
 use Rattle.std.specs.Ordering.{nat_cmp}
 use Rattle.std.specs.declared.cmp.Ordering.TheVariants.{Less, Equal, Greater}
+use Rattle.std.specs.declared.cmp.Ordering.{Ordering}
 use Rattle.ic_unsafe_ref.specs.declared.place.Place.{Place}
 use Rattle.ic_unsafe_ref.specs.Objects.{Objects, object_at}
 use Rattle.ic_link_ops.specs.declared.errors.AlreadyLinked.{AlreadyLinked}
@@ -18,6 +18,7 @@ use Rattle.ic_link_ops.specs.EditsAt.{RemovesThere}
 use Rattle.ic_link_ops.specs.Positions.{Site, ShowsAt, Stands, HasMember}
 use Rattle.ic_link_ops.proofs.Positions.{member_there}
 use Rattle.ic_link_ops.proofs.ShownTrees.{shows_nothing}
+use Rattle.ic_link_ops.proofs.Each.{all_back, all_with, all_without}
 use Rattle.ic_rbtree.specs.Borders.{IsBorder, IsSorted, less_at}
 use Rattle.ic_rbtree.specs.Ordered.{InsertsInOrder}
 use Rattle.ic_rbtree.specs.declared.tree.RBTree.{RBTree}
@@ -27,21 +28,15 @@ use Rattle.ic_rbtree.proofs.KeyLaws.{value_there, stays_sorted}
 use Rattle.ic_rbtree.proofs.SortedValues.{own_order_is}
 
 -- `not greater`, as numbers have it
-up_by : (k l : ℕ) (a b : Bool) → ltb k l ≡ a → eqb k l ≡ b → cond a Less (cond b Equal Greater) ≢ Greater → k ≤ l
-up_by k l true b p q h = let x = ltb-true k l p in omega arith
-up_by k l false true p q h = let x = eqb-true k l q in omega arith
-up_by k l false false p q h = absurd (h refl)
-
 pub up_is : (k l : ℕ) → nat_cmp k l ≢ Greater → k ≤ l
-up_is k l h = up_by k l (ltb k l) (eqb k l) refl refl h
+up_is k l h = by (nat_cmp k l) refl h where
+  by : (r : Ordering) → r ≡ nat_cmp k l → r ≢ Greater → k ≤ l
+  by Less e h = let x : k < l = ranked k l Less e in omega arith
+  by Equal e h = let x : k ≡ l = ranked k l Equal e in omega arith
+  by Greater e h = absurd (h refl)
 
-is_up_by : (k l : ℕ) (a b : Bool) → ltb k l ≡ a → eqb k l ≡ b → k ≤ l → cond a Less (cond b Equal Greater) ≢ Greater
-is_up_by k l true b p q h = λ e. cc
-is_up_by k l false true p q h = λ e. cc
-is_up_by k l false false p q h = let x : l ≤ k = ltb-false k l p in let y = eqb-false k l q in absurd (y (omega arith))
-
-is_up : (k l : ℕ) → k ≤ l → nat_cmp k l ≢ Greater
-is_up k l h = is_up_by k l (ltb k l) (eqb k l) refl refl h
+pub is_up : (k l : ℕ) → k ≤ l → nat_cmp k l ≢ Greater
+is_up k l h = λ e. let less : l < k = ranked k l Greater (sym e) in omega (arith, less, h)
 
 -- WHAT RISES BY ITS KEYS, with one less
 module _ {T : Type 0} (key : T → ℕ) where
@@ -52,16 +47,30 @@ module _ {T : Type 0} (key : T → ℕ) where
       let y = up_is (key q) (key r) h.1.0 in
       (is_up (key p) (key r) (omega arith), h.1.1)
 
-  sorted_without : (front : List T) (p : T) (back : List T) → IsSorted nat_cmp (map key (front ++ p ∷ back)) → IsSorted nat_cmp (map key (front ++ back))
+  pub sorted_without : (front : List T) (p : T) (back : List T) → IsSorted nat_cmp (map key (front ++ p ∷ back)) → IsSorted nat_cmp (map key (front ++ back))
   sorted_without [] p [] h = tt
   sorted_without [] p (x ∷ back) h = h.1
   sorted_without (f ∷ []) p back h = skip f p back h
   sorted_without (f ∷ g ∷ front) p back h = (h.0, sorted_without (g ∷ front) p back h.1)
 
+  sorted_behind : (p : T) (s : List T) → IsSorted nat_cmp (map key (p ∷ s)) → IsSorted nat_cmp (map key s)
+  sorted_behind p [] h = tt
+  sorted_behind p (q ∷ s) h = h.1
+
+  pub sorted_back : (front back : List T) → IsSorted nat_cmp (map key (front ++ back)) → IsSorted nat_cmp (map key back)
+  sorted_back [] back h = h
+  sorted_back (p ∷ front) back h = sorted_back front back (sorted_behind p (front ++ back) h)
+
   -- THE FIRST HAS THE LEAST KEY
   pub first_is_least : (p : T) (s : List T) → IsSorted nat_cmp (map key (p ∷ s)) → AllByRecursion (λ q. key p ≤ key q) s
   first_is_least p [] h = tt
   first_is_least p (q ∷ s) h = (up_is _ _ h.0, first_is_least p s (skip p q s h))
+
+  -- no key in front of a member is greater
+  pub front_is_least : (front : List T) (p : T) (back : List T) → IsSorted nat_cmp (map key (front ++ p ∷ back)) → AllByRecursion (λ q. key q ≤ key p) front
+  front_is_least [] p back sorted = tt
+  front_is_least (q ∷ front) p back sorted =
+      ((all_back (λ x. key q ≤ key x) front (p ∷ back) (first_is_least q (front ++ p ∷ back) sorted)).0, front_is_least front p back (sorted_behind q (front ++ p ∷ back) sorted))
 
   -- AND WITH ONLY THOSE that pass a test
   all_kept : (P : T → Type 0) (test : T → Bool) (s : List T) → AllByRecursion P s → AllByRecursion P (filter test s)
@@ -77,11 +86,7 @@ module _ {T : Type 0} (key : T → ℕ) where
 
   pub sorted_filter : (test : T → Bool) (s : List T) → IsSorted nat_cmp (map key s) → IsSorted nat_cmp (map key (filter test s))
   sorted_filter test [] h = tt
-  sorted_filter test (p ∷ s) h = by (test p) (sorted_filter test s (behind s h)) where
-    behind : (s : List T) → IsSorted nat_cmp (map key (p ∷ s)) → IsSorted nat_cmp (map key s)
-    behind [] h = tt
-    behind (q ∷ s) h = h.1
-
+  sorted_filter test (p ∷ s) h = by (test p) (sorted_filter test s (sorted_behind p s h)) where
     by : (b : Bool) → IsSorted nat_cmp (map key (filter test s)) → IsSorted nat_cmp (map key (cond b (p ∷ filter test s) (filter test s)))
     by true rest = rises_from p (filter test s) (all_kept (λ q. key p ≤ key q) test s (first_is_least p s h)) rest
     by false rest = rest
@@ -92,7 +97,7 @@ module _ {T : Type 0} (key : T → ℕ) (objects : Objects T) where
   new_is_sorted {n = n} {t} e = record { placed = record { members = []; shown = rw e (shows_nothing {n = n} t); placed = tt }; sorted = tt }
 
   -- the keys of the placed objects, as the laws of sorted sequences have them
-  keys_are : (s : List Place) → ArePlaced objects s → keys_at key objects s ≡ map key (values_at objects s)
+  pub keys_are : (s : List Place) → ArePlaced objects s → keys_at key objects s ≡ map key (values_at objects s)
   keys_are [] placed = refl
   keys_are (p ∷ s) placed = by (object_at objects p) placed.0 (keys_are s placed.1) where
     by : (o : Option T) → IsSome o → keys_at key objects s ≡ map key (values_at objects s) → key_or key o ∷ keys_at key objects s ≡ map key (cons_option o (values_at objects s))
@@ -108,19 +113,11 @@ module _ {T : Type 0} (key : T → ℕ) (objects : Objects T) where
       (subst (ArePlaced objects) same q.placed.placed, subst (λ (t : List Place). IsSorted nat_cmp (map key (values_at objects t))) same sorted)
 
   -- as for the placed ones
-  placed_with : (front : List Place) (p : Place) (back : List Place) → IsSome (object_at objects p) → ArePlaced objects (front ++ back) → ArePlaced objects (front ++ p ∷ back)
-  placed_with [] p back here h = (here, h)
-  placed_with (f ∷ front) p back here h = (h.0, placed_with front p back here h.1)
-
-  placed_without : (front : List Place) (p : Place) (back : List Place) → ArePlaced objects (front ++ p ∷ back) → ArePlaced objects (front ++ back)
-  placed_without [] p back h = h.1
-  placed_without (f ∷ front) p back h = (h.0, placed_without front p back h.1)
-
   inserted : {E H : Type 0} (Shows : Table E → H → List Place → Type 0) (old new : Table E) (head new_head : H) {p : Place} → IsSome (object_at objects p)
       → (q : ShowsSorted key (Shows old head) objects) → InsertsInOrder Shows (against key objects p) old new new_head q.placed.members p → ShowsSorted key (Shows new new_head) objects
   inserted Shows old new head new_head {p} here q x =
       let placed : ArePlaced objects (join x.gap) = subst (ArePlaced objects) (sym x.same) q.placed.placed in
-      let all : ArePlaced objects (insert x.gap p) = placed_with x.gap.front p x.gap.back here placed in
+      let all : ArePlaced objects (insert x.gap p) = all_with (λ q. IsSome (object_at objects q)) x.gap.front p x.gap.back here placed in
       let sorted : IsSorted nat_cmp (map key (values_at objects (join x.gap))) =
       subst (λ s. IsSorted nat_cmp (map key (values_at objects s))) (sym x.same) (subst (IsSorted nat_cmp) (keys_are q.placed.members q.placed.placed) q.sorted) in
       let own = value_there nat_cmp_total key objects (object_at objects p) here in
@@ -148,7 +145,7 @@ module _ {T : Type 0} (key : T → ℕ) (objects : Objects T) where
     sorted_less {p} m off q =
         let same : q.placed.members ≡ m.front ++ p ∷ m.back = one q.placed.members (m.front ++ p ∷ m.back) q.placed.shown m.shown in
         record {
-          placed = record { members = m.front ++ m.back; shown = off m.front m.back m.shown; placed = placed_without m.front p m.back (subst (ArePlaced objects) same q.placed.placed) };
+          placed = record { members = m.front ++ m.back; shown = off m.front m.back m.shown; placed = all_without (λ q. IsSome (object_at objects q)) m.front p m.back (subst (ArePlaced objects) same q.placed.placed) };
           sorted = sorted_without (key_at key objects) m.front p m.back (subst (λ s. IsSorted nat_cmp (keys_at key objects s)) same q.sorted);
         }
 

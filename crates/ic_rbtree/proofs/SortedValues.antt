@@ -15,6 +15,7 @@ use Rattle.ic_link_ops.proofs.CollectionLaws.{IsKind, kept_shown}
 use Rattle.ic_link_ops.proofs.LinkedSets.{everywhere}
 use Rattle.ic_link_ops.proofs.PlacedValues.{stand_beside, stand_put, stand_first, stand_rest, vacant_absent}
 use Rattle.ic_link_ops.proofs.SequenceLemmas.{absent_without, first_is, split_member}
+use Rattle.ic_link_ops.proofs.Each.{all_back}
 use Rattle.ic_rbtree.specs.Borders.{IsBorder, IsSorted, less_at}
 use Rattle.ic_rbtree.specs.Comparing.{answer_at, compared, order_of, own_order}
 use Rattle.ic_rbtree.specs.Ordered.{InsertsInOrder}
@@ -36,10 +37,6 @@ module _ {V K : Type 0} {cmp : K → K → Ordering} (total : IsTotalOrder cmp) 
     by None here less rest = absurd (true≢false (sym here))
     by (Some x) here less rest = (less, rest)
 
-  placed_behind : (front back : List Place) → ArePlaced objects (front ++ back) → ArePlaced objects back
-  placed_behind [] back placed = placed
-  placed_behind (x ∷ front) back placed = placed_behind front back placed.1
-
   -- BEHIND A BORDER OF A KEY in a sorted sequence all keys are greater
   pub greater_behind : (k : K) (gap : Cut) → ArePlaced objects (join gap) → IsSorted cmp (map key_of (values_at objects (join gap)))
       → IsBorder (less_at (compared (order_of cmp key_of k) objects)) gap → AllByRecursion (λ x. is_lt (cmp k (key_of x)) ≡ true) (values_at objects gap.back)
@@ -47,7 +44,7 @@ module _ {V K : Type 0} {cmp : K → K → Ordering} (total : IsTotalOrder cmp) 
       let at = compared (order_of cmp key_of k) objects in
       let c = cuts_less (sorted_for total key_of objects k (join gap) placed sorted) in
       let r = one_border (less_at at) c.front c.back gap.front gap.back c.same c.fail c.pass border.fails border.passes in
-      less_values k gap.back (placed_behind gap.front gap.back placed) (subst (AllByRecursion (λ q. less_at at q ≡ true)) (sym r.1) c.pass)
+      less_values k gap.back (all_back (λ q. IsSome (object_at objects q)) gap.front gap.back placed) (subst (AllByRecursion (λ q. less_at at q ≡ true)) (sym r.1) c.pass)
 
 module _ {V K E H : Type 0} {Shows : Table E → H → List Place → Type 0} {linked : E → Bool} {empty : H} (kind : IsKind Shows linked empty)
     {cmp : K → K → Ordering} (total : IsTotalOrder cmp) {key_of : V → K} where

@@ -171,12 +171,6 @@ module _ {E : Type 0} (n : E → Node) where
         parent = λ q e. around_linked n v.entry fs (Some p) q h.are.0.0 (sym at.parent ∙ e);
       }
 
-  pub only_linked : {v : Table E} {p : Place} → Reads v p → (q : Place) → or_else (n (v.entry p)).left (n (v.entry p)).right ≡ Some q → (n (v.entry q)).linked ≡ true
-  only_linked {v} {p} r q e = pick (n (v.entry p)).left (n (v.entry p)).right (r.left q) (r.right q) e where
-    pick : (x y : Option Place) → (x ≡ Some q → (n (v.entry q)).linked ≡ true) → (y ≡ Some q → (n (v.entry q)).linked ≡ true) → or_else x y ≡ Some q → (n (v.entry q)).linked ≡ true
-    pick None y hx hy e = hy e
-    pick (Some x) y hx hy e = hx e
-
   -- THE WRITES OF TAKING A PLACE
   pub taken_place : (v v1 v2 v3 v4 v5 v6 w : Table E) (root new_root left right parent : Option Place) (color : Color) (p new : Place)
       → parent ≡ (n (v.entry p)).parent → left ≡ (n (v.entry p)).left → right ≡ (n (v.entry p)).right → color ≡ (n (v.entry p)).color

@@ -15,7 +15,7 @@ use Rattle.ic_link_ops.proofs.SequenceLemmas.{none_not, some_same}
 use Rattle.ic_link_ops.specs.Times.{one_at, times, times_around}
 use Rattle.ic_link_ops.proofs.Times.{one_at_self, times_branch}
 use Rattle.ic_rbtree.specs.Pieces.{Piece, cell, below, around, Held, Stands}
-use Rattle.ic_rbtree.specs.Steps.{Turn, Adopts, Relinks, Rotates, CanRotate, IsSideOf}
+use Rattle.ic_rbtree.specs.Steps.{Turn, unturned, Adopts, Relinks, Rotates, IsSideOf}
 use Rattle.ic_rbtree.proofs.Branches.{top_branch, branch_open, branch_close, side_near, side_far, side_up, side_linked}
 use Rattle.ic_rbtree.proofs.Pieces.{regroup, set_near, set_far, set_up}
 
@@ -92,10 +92,6 @@ module _ {E : Type 0} (n : E → Node) where
       close_below x (top a) (top b) Left c a p b ps refl refl
       (set_up n Left p c (top a) (top b) up (below (Some p) a ∷ below (Some p) b ∷ ps) (open_below up Left c a p b ps h) q parent x (some_same (sym is ∙ e)) ex set only)
 
-  pub adopts_none : (v : Table E) (child parent : Option Place) → child ≡ None → Adopts n v v child parent
-  adopts_none v child parent is base up x leaf ps e ex h = regroup n (below x leaf ∷ ps) h (λ q. refl) (tt, h.are.1)
-  adopts_none v child parent is base up x (fork c a p b) ps e ex h = absurd (none_not p (sym is ∙ e))
-
   -- another tree hangs on the side of the lowest frame
   pub relinks_side : {base v w : Table E} (root : Option Place) (parent : Place) (was to x : Option Place) (d : Side) (c : Color) (p : Place) (b : Tree) (fs : List Frame) (ps : List Piece)
       → parent ≡ p → to ≡ x → n (w.entry parent) ≡ with_child d (n (v.entry parent)) to → ChangesOnly v w parent
@@ -119,41 +115,13 @@ module _ {E : Type 0} (n : E → Node) where
   relinks_some v w root parent to q was Right is l set only base (frame Left c p b ∷ fs) x ps e ex out h =
       absurd (l (ap (λ (z : Place). (n (v.entry z)).left) (some_same (sym is ∙ e)) ∙ side_near n v.entry Left p c (Some was) (top b) (above fs) h.are.0.0.0))
 
-  pub relinks_root : (v : Table E) (root parent to : Option Place) (was : Place) → parent ≡ None → Relinks n v v root to parent was to
-  relinks_root v root parent to was is base [] x ps e ex out h =
-      regroup n (around to [] x ∷ ps) h (λ q. refl) ((tt, ex), h.are.1)
-  relinks_root v root parent to was is base (frame d c p b ∷ fs) x ps e ex out h = absurd (none_not p (sym is ∙ e))
-
-  -- what a rotation reads
-  pub record TurnReads (v : Table E) (p : Place) (d : Side) : Type 0 where
-    pub upper : Place
-    pub inner : Option Place
-    pub up : Option Place
-    pub has_upper : child_on (across d) (n (v.entry p)) ≡ Some upper
-    pub has_inner : child_on d (n (v.entry upper)) ≡ inner
-    pub has_up : (n (v.entry p)).parent ≡ up
-    pub linked : (n (v.entry p)).linked ≡ true
-    pub upper_linked : (n (v.entry upper)).linked ≡ true
-    pub inner_linked : (q : Place) → inner ≡ Some q → (n (v.entry q)).linked ≡ true
-    pub up_linked : (q : Place) → up ≡ Some q → (n (v.entry q)).linked ≡ true
-
-  pub turn_reads : (v : Table E) (root : Option Place) (p : Place) (d : Side) → CanRotate n v root p d → TurnReads v p d
-  turn_reads v root p d (base, fs, t, ps, s) =
-      let record { color = c; near = a; upper_color = k; inner = b; upper = y; outer = e } = t in
-      let h = open_at root fs d c a p (branch d k b y e) ps s in
-      let o = branch_open n v.entry (Some p) d k b y e h.are.1.1.0 in
-      record {
-        upper = y;
-        inner = top b;
-        up = above fs;
-        has_upper = side_far n v.entry d p c (top a) (top (branch d k b y e)) (above fs) h.are.0 ∙ top_branch d k b y e;
-        has_inner = side_near n v.entry d y k (top b) (top e) (Some p) o.0;
-        has_up = side_up n v.entry d p c (top a) (top (branch d k b y e)) (above fs) h.are.0;
-        linked = side_linked n v.entry d p c (top a) (top (branch d k b y e)) (above fs) h.are.0;
-        upper_linked = side_linked n v.entry d y k (top b) (top e) (Some p) o.0;
-        inner_linked = λ q i. below_linked v.entry (Some y) b q o.1 i;
-        up_linked = λ q i. around_linked v.entry fs (Some p) q h.are.1.1.1.0.0 i;
-      }
+  -- the child that a rotation brings up
+  pub has_upper : {base v : Table E} (root : Option Place) (fs : List Frame) (d : Side) (p : Place) (x : Turn) (ps : List Piece) → Stands n base v root fs (unturned d p x) ps
+      → child_on (across d) (n (v.entry p)) ≡ Some x.upper
+  has_upper {base} {v} root fs d p x ps s =
+      let low : Tree = branch d x.upper_color x.inner x.upper x.outer in
+      let h = open_at root fs d x.color x.near p low ps s in
+      side_far n v.entry d p x.color (top x.near) (top low) (above fs) h.are.0 ∙ top_branch d x.upper_color x.inner x.upper x.outer
 
   -- A ROTATION, write by write
   pub rotates : (v v1 v2 v3 v4 v5 v6 : Table E) (root new_root upper inner parent : Option Place) (z p : Place) (d far : Side) → far ≡ across d

@@ -1,5 +1,5 @@
 -- The walk over a tree's objects: one step of it, from either end.
-use Rattle.std.proofs.Common.{◌≡◌, ◌≢◌, Bool, true, false, Option, Some, None, List, [], ◌∷◌, ◌++◌, Bor, refl, sym, ◌∙◌, ap, append-nil, append_assoc, drop}
+use Rattle.std.proofs.Common.{◌≡◌, ◌≢◌, true, false, Option, Some, None, List, [], ◌∷◌, ◌++◌, Bor, refl, sym, ◌∙◌, ap, append-nil, append_assoc, drop}
 use Rattle.std.specs.Option.{option_copied}
 use Rattle.std.specs.List.{cons_option}
 use Rattle.std.specs.Iterator.{MakesProgress, item_count}
@@ -13,7 +13,7 @@ use Rattle.ic_link_ops.specs.Walk.{is_end, GivesFirst, GivesLast}
 use Rattle.ic_link_ops.specs.PlacedObjects.{ArePlaced, values_at}
 use Rattle.ic_link_ops.specs.Positions.{site, Stands, MovesOn, MovesBack}
 use Rattle.ic_link_ops.proofs.SequenceLemmas.{first_is, none_not, some_same, last_not, last_some, last_or-append, last_of_push, split_last, absent_left, absent_right, distinct_left, distinct_right}
-use Rattle.ic_link_ops.proofs.Walks.{is_end_yes, is_end_no, yields_placed, makes_progress, yields_placed_back, makes_progress_back}
+use Rattle.ic_link_ops.proofs.Walks.{is_end_no, yields_placed, makes_progress, yields_placed_back, makes_progress_back, is_end_not}
 use Rattle.ic_link_ops.proofs.Positions.{stands_on}
 use Rattle.ic_link_ops.proofs.PlacedEnds.{all_but_last}
 use Rattle.ic_rbtree.specs.declared.iter.Iter.{Iter}
@@ -23,17 +23,11 @@ use Rattle.ic_rbtree.specs.Iter.{objects_left, CanWalk}
 use Rattle.ic_rbtree.proofs.Members.{members_shown}
 use Rattle.ic_rbtree.proofs.Climbed.{is_end_there}
 
-is_end_off : (end : Option Place) (p : Place) → end ≢ Some p → is_end end p ≡ false
-is_end_off end p off = go (is_end end p) refl where
-  go : (b : Bool) → is_end end p ≡ b → b ≡ false
-  go true e = absurd (off (is_end_yes end p e))
-  go false e = refl
-
 -- OF DISTINCT MEMBERS those between the first of w and its last are w
 up_to_last : (x : Place) (w back : List Place) → IsDistinct (x ∷ w ++ back) → up_to (last_or (Some x) w) (x ∷ w ++ back) ≡ x ∷ w
 up_to_last x [] back d = rw (is_end_there {p = x} refl) refl
 up_to_last x (y ∷ w) back d =
-    rw (is_end_off (last_or (Some y) w) x (last_not (Some y) w x (λ e. d.0.0 (sym (some_same e))) (absent_left x w back d.0.1)))
+    rw (is_end_not (last_or (Some y) w) x (last_not (Some y) w x (λ e. d.0.0 (sym (some_same e))) (absent_left x w back d.0.1)))
     (ap (λ (l : List Place). x ∷ l) (up_to_last y w back d.1))
 
 pub none_between : (s : List Place) → between None None s ≡ []
@@ -47,7 +41,7 @@ first_off x front (y ∷ w) back out e = (absent_right x front (y ∷ w ++ back)
 pub between_ends : (front w back : List Place) → IsDistinct (front ++ (w ++ back)) → between (first w) (last w) (front ++ (w ++ back)) ≡ w
 between_ends [] [] back d = none_between back
 between_ends [] (x ∷ w) back d = rw (is_end_there {p = x} refl) (up_to_last x w back d)
-between_ends (x ∷ front) w back d = rw (is_end_off (first w) x (first_off x front w back d.0)) (between_ends front w back d.1)
+between_ends (x ∷ front) w back d = rw (is_end_not (first w) x (first_off x front w back d.0)) (between_ends front w back d.1)
 
 -- the members of a tree between the ends of a walk are those of the walk
 pub walk_members : {E : Type 0} (n : E → Node) (t : Table E) → ((q : Place) → (n (t.entry q)).linked ≡ true → IsCovered t q)

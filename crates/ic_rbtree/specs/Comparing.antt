@@ -8,8 +8,8 @@ use Rattle.ic_unsafe_ref.specs.declared.place.Place.{Place}
 use Rattle.ic_unsafe_ref.specs.Objects.{Objects, object_at}
 use Rattle.ic_link_ops.specs.declared.side.Side.{Side}
 use Rattle.ic_link_ops.specs.declared.side.Side.TheVariants.{Left, Right}
-use Rattle.ic_rbtree.specs.declared.key_adapter.Bound.{Bound}
-use Rattle.ic_rbtree.specs.declared.key_adapter.Bound.TheVariants.{Included, Excluded, Unbounded}
+use Rattle.ic_rbtree.specs.declared.keys.key_adapter.Bound.{Bound}
+use Rattle.ic_rbtree.specs.declared.keys.key_adapter.Bound.TheVariants.{Included, Excluded, Unbounded}
 
 -- the answer at an object, `Less` at none
 abbrev pub answer_at : {V : Type 0} → (V → Ordering) → Option V → Ordering

@@ -12,7 +12,7 @@ use Rattle.std.specs.declared.cmp.Ordering.{Ordering}
 use Rattle.ic_rbtree.specs.Comparing.{goes_left}
 use Rattle.ic_rbtree.specs.Borders.{equal_at}
 use Rattle.ic_rbtree.specs.Insertion.{IsHole}
-use Rattle.ic_rbtree.specs.declared.descent.Descent.{Descent}
+use Rattle.ic_rbtree.specs.declared.keys.descent.Descent.{Descent}
 
 -- left of a member that passes the test, and right of one that fails it
 abbrev pub side_of : Bool → Side

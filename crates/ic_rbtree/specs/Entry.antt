@@ -9,10 +9,10 @@ use Rattle.ic_link_ops.specs.Positions.{Stands}
 use Rattle.ic_link_ops.specs.Sequences.{Cut, join}
 use Rattle.ic_link_ops.specs.Tables.{Table}
 use Rattle.ic_link_ops.specs.RedBlackTree.{Node, Shows}
-use Rattle.ic_rbtree.specs.declared.entry.Entry.{Entry}
-use Rattle.ic_rbtree.specs.declared.entry.Entry.TheVariants.{Occupied, Vacant}
-use Rattle.ic_rbtree.specs.declared.entry.InsertCursor.{InsertCursor}
-use Rattle.ic_rbtree.specs.declared.entry.RefusedInsert.{RefusedInsert}
+use Rattle.ic_rbtree.specs.declared.keys.entry.Entry.{Entry}
+use Rattle.ic_rbtree.specs.declared.keys.entry.Entry.TheVariants.{Occupied, Vacant}
+use Rattle.ic_rbtree.specs.declared.keys.entry.InsertCursor.{InsertCursor}
+use Rattle.ic_rbtree.specs.declared.keys.entry.RefusedInsert.{RefusedInsert}
 use Rattle.ic_rbtree.specs.declared.tree.RBTree.{RBTree}
 use Rattle.ic_rbtree.specs.Borders.{IsBorder, at_most_at, less_at}
 use Rattle.ic_rbtree.specs.CursorMut as editing

@@ -10,6 +10,7 @@ use Rattle.ic_link_ops.specs.Tables.{Table}
 use Rattle.ic_link_ops.specs.Trees.{Tree, leaf, fork, top, in_order}
 use Rattle.ic_link_ops.specs.RedBlackTree.{Node}
 use Rattle.ic_link_ops.specs.Frames.{Frame, frame, branch, plug, child_on}
+use Rattle.ic_rbtree.specs.Height.{turns}
 use Rattle.ic_rbtree.specs.Sides.{IsBeside}
 use Rattle.ic_rbtree.specs.Pieces.{Piece, loose, Stands, Shown}
 use Rattle.ic_rbtree.specs.Shortage.{wanted, IsNearlyRight}
@@ -51,9 +52,6 @@ module _ {E : Type 0} (n : E → Node) where
     pub nearly : IsNearlyRight k.frames k.subtree
     pub order : in_order (plug k.frames k.subtree) ≡ k.sequence
 
-  abbrev pub CanEase : Table E → Option Place → Place → Type 0
-  CanEase v root x = (k : Focus E) × RedAt v root x k
-
   -- all is right, or the same stands further up, below fewer than m frames
   abbrev pub Eased : Table E → Option Place → Focus E → ℕ → Option Place → Type 0
   Eased w root k m None = IsMended n w root k
@@ -63,14 +61,11 @@ module _ {E : Type 0} (n : E → Node) where
   Eases v w root new_root x result = (k : Focus E) → RedAt v root x k → Eased w new_root k (length k.frames) result
 
   abbrev pub Repairs : Table E → Table E → Option Place → Option Place → Place → Type 0
-  Repairs v w root new_root x = (k : Focus E) → RedAt v root x k → IsMended n w new_root k
+  Repairs v w root new_root x = (k : Focus E) → RedAt v root x k → length k.frames < turns → IsMended n w new_root k
 
   -- the red parent q of x, and its parent g, on side i of which q stands; the frames are those above g
   pub record PairAt (v : Table E) (root : Option Place) (x q g : Place) (i : Side) (m : RedPair) (k : Focus E) : Type 0 where
     pub red : RedAt v root x (record k { frames = above_pair q g i m k.frames })
-
-  abbrev pub IsPair : Table E → Option Place → Place → Place → Place → Type 0
-  IsPair v root x q g = (i : Side) × (m : RedPair) × (k : Focus E) × PairAt v root x q g i m k
 
   abbrev pub EasesPair : Table E → Table E → Option Place → Option Place → Place → Place → Place → Option Place → Type 0
   EasesPair v w root new_root x q g result =
@@ -83,9 +78,6 @@ module _ {E : Type 0} (n : E → Node) where
       → Stands n k.base v root (above_pair q g i m k.frames) k.subtree k.pieces
       → Stands n k.base w root k.frames (branch i (wanted k.frames) (branch m.low Black k.subtree q m.sibling) g (blackened m.uncle)) k.pieces
 
-  abbrev pub CanStraighten : Table E → Option Place → Place → Place → Side → Type 0
-  CanStraighten v root x q i = (g : Place) × (m : RedPair) × (k : Focus E) × PairAt v root x q g i m k
-
   -- a straight pair below g: `upper` and what is red below it stand on the same side
   abbrev pub IsStraight : Table E → Option Place → Place → Place → Side → RedPair → Focus E → Type 0
   IsStraight w root upper g i m k =
@@ -94,9 +86,6 @@ module _ {E : Type 0} (n : E → Node) where
   abbrev pub Straightens : Table E → Table E → Option Place → Option Place → Place → Place → Side → Place → Type 0
   Straightens v w root new_root x q i upper =
       (g : Place) (m : RedPair) (k : Focus E) → PairAt v root x q g i m k → IsStraight w new_root upper g i m k
-
-  abbrev pub CanLift : Table E → Option Place → Place → Place → Side → Type 0
-  CanLift v root upper g i = (m : RedPair) × (k : Focus E) × IsStraight v root upper g i m k
 
   abbrev pub Lifts : Table E → Table E → Option Place → Option Place → Place → Place → Side → Type 0
   Lifts v w root new_root upper g i =
@@ -107,10 +96,6 @@ module _ {E : Type 0} (n : E → Node) where
   abbrev pub IsHole : Table E → Option Place → Side → Cut → Type 0
   IsHole v None d gap = (gap.front ≡ []) × (gap.back ≡ [])
   IsHole v (Some q) d gap = (child_on d (n (v.entry q)) ≡ None) × IsBeside d gap (Some q)
-
-  abbrev pub CanAttach : Table E → Option Place → Option Place → Side → Place → Type 0
-  CanAttach v root parent d p =
-      (base : Table E) × (gap : Cut) × (ps : List Piece) × Shown n base v root (gap.front ++ gap.back) (loose p ∷ ps) × IsHole v parent d gap
 
   -- p is put in at the gap
   abbrev pub Attaches : Table E → Table E → Option Place → Option Place → Option Place → Side → Place → Type 0

@@ -1,10 +1,10 @@
 -- What clauses see of a search for a key.
 use Rattle.std.specs.Prelude.{◌≡◌, ℕ}
-use Rattle.ic_rbtree.specs.declared.key_adapter.Bound.{Bound}
-use Rattle.ic_rbtree.specs.declared.key_adapter.Bound.TheVariants.{Included, Excluded, Unbounded}
+use Rattle.ic_rbtree.specs.declared.keys.key_adapter.Bound.{Bound}
+use Rattle.ic_rbtree.specs.declared.keys.key_adapter.Bound.TheVariants.{Included, Excluded, Unbounded}
 use Rattle.std.specs.declared.cmp.Ordering.{Ordering}
 use Rattle.ic_rbtree.specs.Comparing.{order_of}
-use Rattle.ic_rbtree.specs.declared.probe.KeyProbe.{KeyProbe}
+use Rattle.ic_rbtree.specs.declared.keys.probe.KeyProbe.{KeyProbe}
 
 module _ {A V K : Type 0} where
   -- the adapter by which it finds keys

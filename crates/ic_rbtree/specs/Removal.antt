@@ -1,5 +1,5 @@
 -- What the steps of a repair after a removal do.
-use Rattle.std.specs.Prelude.{◌≡◌, Bool, true, false, ◌||◌, ◌⊎◌, Option, Some, None, List, [], ◌∷◌}
+use Rattle.std.specs.Prelude.{◌≡◌, ◌<◌, Bool, true, false, ◌||◌, ◌⊎◌, Option, Some, None, List, [], ◌∷◌, length}
 use Rattle.ic_unsafe_ref.specs.declared.place.Place.{Place}
 use Rattle.ic_link_ops.specs.declared.color.Color.{Color}
 use Rattle.ic_link_ops.specs.declared.color.Color.TheVariants.{Red, Black}
@@ -9,6 +9,7 @@ use Rattle.ic_link_ops.specs.Trees.{Tree, leaf, fork, top, in_order}
 use Rattle.ic_link_ops.specs.Shape.{top_color}
 use Rattle.ic_link_ops.specs.RedBlackTree.{Node}
 use Rattle.ic_link_ops.specs.Frames.{Frame, frame, branch, plug, above}
+use Rattle.ic_rbtree.specs.Height.{turns}
 use Rattle.ic_rbtree.specs.Pieces.{Stands}
 use Rattle.ic_rbtree.specs.Shortage.{IsShort}
 use Rattle.ic_rbtree.specs.Focus.{Focus, IsInFocus, IsMended}
@@ -27,6 +28,11 @@ abbrev pub IsOn : Side → List Frame → Type 0
 IsOn d [] = Unit {0}
 IsOn d (frame k c p b ∷ fs) = d ≡ k
 
+-- there is an end, and this holds of it
+abbrev pub Has : Option Place → (Place → Type 0) → Type 0
+Has None P = ⊥
+Has (Some p) P = P p
+
 module _ {E : Type 0} (n : E → Node) where
   -- whether the place, if there is one, is red
   abbrev pub red_at : Table E → Option Place → Bool
@@ -41,20 +47,14 @@ module _ {E : Type 0} (n : E → Node) where
     pub short : IsShort k.frames k.subtree
     pub order : in_order (plug k.frames k.subtree) ≡ k.sequence
 
-  abbrev pub CanMend : Table E → Option Place → Option Place → Side → Type 0
-  CanMend v root parent d = (k : Focus E) × Short v root parent d k
-
   abbrev pub Mends : Table E → Table E → Option Place → Option Place → Option Place → Side → Type 0
-  Mends v w root new_root parent d = (k : Focus E) → Short v root parent d k → IsMended n w new_root k
+  Mends v w root new_root parent d = (k : Focus E) → Short v root parent d k → length k.frames < turns → IsMended n w new_root k
 
   -- the same below a member q with the color c and another subtree; the frames are those above q
   pub record ShortAt (v : Table E) (root : Option Place) (q : Place) (d : Side) (c : Color) (sibling : Tree) (k : Focus E) : Type 0 where
     pub stands : Stands n k.base v root (frame d c q sibling ∷ k.frames) k.subtree k.pieces
     pub short : IsShort (frame d c q sibling ∷ k.frames) k.subtree
     pub order : in_order (plug (frame d c q sibling ∷ k.frames) k.subtree) ≡ k.sequence
-
-  abbrev pub CanMendAt : Table E → Option Place → Place → Side → Type 0
-  CanMendAt v root q d = (c : Color) × (sibling : Tree) × (k : Focus E) × ShortAt v root q d c sibling k
 
   -- and y is its other child, and black
   pub record Beside (v : Table E) (root : Option Place) (q : Place) (d : Side) (y : Place) (c : Color) (sibling : Tree) (k : Focus E) : Type 0 where
@@ -70,8 +70,9 @@ module _ {E : Type 0} (n : E → Node) where
     pub beside : Beside v root q d y color sibling (record k { frames = frames })
     pub red_or_same : (color ≡ Red) ⊎ (frames ≡ k.frames)
 
-  abbrev pub Raises : Table E → Table E → Option Place → Option Place → Place → Side → Place → Type 0
-  Raises v w root new_root q d y = (c : Color) (sibling : Tree) (k : Focus E) → ShortAt v root q d c sibling k → Raised w new_root q d y k
+  abbrev pub Raises : Table E → Table E → Option Place → Option Place → Place → Side → Option Place → Type 0
+  Raises v w root new_root q d result =
+      (c : Color) (sibling : Tree) (k : Focus E) → ShortAt v root q d c sibling k → Has result (λ y. Raised w new_root q d y k)
 
   -- whether y has a red child
   abbrev pub red_below : Table E → Place → Bool
@@ -83,9 +84,6 @@ module _ {E : Type 0} (n : E → Node) where
     pub left : (q : Place) → (n (v.entry y)).left ≡ Some q → (n (v.entry q)).linked ≡ true
     pub right : (q : Place) → (n (v.entry y)).right ≡ Some q → (n (v.entry q)).linked ≡ true
 
-  abbrev pub IsBesideRed : Table E → Option Place → Place → Side → Place → Type 0
-  IsBesideRed v root q d y = (c : Color) × (sibling : Tree) × (k : Focus E) × Beside v root q d y c sibling k × (red_child sibling ≡ true)
-
   -- the other child of q is `upper`, black, and its far child is red
   pub record Leant (v : Table E) (root : Option Place) (q : Place) (d : Side) (upper : Place) (c : Color) (k : Focus E) : Type 0 where
     pub near : Tree
@@ -94,9 +92,10 @@ module _ {E : Type 0} (n : E → Node) where
     pub right : Tree
     pub at : ShortAt v root q d c (branch d Black near upper (fork Red left far right)) k
 
-  abbrev pub Leans : Table E → Table E → Option Place → Option Place → Side → Place → Place → Type 0
-  Leans v w root new_root d y upper =
-      (q : Place) (c : Color) (sibling : Tree) (k : Focus E) → Beside v root q d y c sibling k → red_child sibling ≡ true → Leant w new_root q d upper c k
+  abbrev pub Leans : Table E → Table E → Option Place → Option Place → Side → Place → Option Place → Type 0
+  Leans v w root new_root d y result =
+      (q : Place) (c : Color) (sibling : Tree) (k : Focus E) → Beside v root q d y c sibling k → red_child sibling ≡ true
+      → Has result (λ upper. Leant w new_root q d upper c k)
 
   abbrev pub Settles : Table E → Table E → Option Place → Option Place → Place → Side → Place → Type 0
   Settles v w root new_root q d y =

@@ -54,6 +54,3 @@ module _ {E : Type 0} (n : E → Node) where
   abbrev pub Rotates : Table E → Table E → Option Place → Option Place → Place → Side → Type 0
   Rotates v w old_root new_root p d =
       (base : Table E) (fs : List Frame) (x : Turn) (ps : List Piece) → Stands n base v old_root fs (unturned d p x) ps → Stands n base w new_root fs (turned d p x) ps
-
-  abbrev pub CanRotate : Table E → Option Place → Place → Side → Type 0
-  CanRotate v root p d = (base : Table E) × (fs : List Frame) × (x : Turn) × (ps : List Piece) × Stands n base v root fs (unturned d p x) ps

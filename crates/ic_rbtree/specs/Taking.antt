@@ -1,17 +1,20 @@
 -- What it is to take a member out, and to put a place in place of a member.
-use Rattle.std.specs.Prelude.{◌≡◌, ◌+◌, ◌⊎◌, Option, Some, None, List, ◌∷◌, ◌++◌}
+use Rattle.std.specs.Prelude.{◌≡◌, ◌+◌, ◌<◌, ◌⊎◌, Option, Some, None, List, ◌∷◌, ◌++◌, length}
 use Rattle.ic_unsafe_ref.specs.declared.place.Place.{Place}
 use Rattle.ic_link_ops.specs.declared.color.Color.{Color}
 use Rattle.ic_link_ops.specs.declared.color.Color.TheVariants.{Red, Black}
 use Rattle.ic_link_ops.specs.declared.side.Side.{Side}
+use Rattle.ic_link_ops.specs.declared.side.Side.TheVariants.{Left}
 use Rattle.ic_link_ops.specs.Tables.{Table}
 use Rattle.ic_link_ops.specs.Trees.{Tree, leaf, fork, top, in_order}
 use Rattle.ic_link_ops.specs.Shape.{top_color, weight, blacks, IsEven, NoRedPair, IsRight}
 use Rattle.ic_link_ops.specs.RedBlackTree.{Node}
 use Rattle.ic_link_ops.specs.Frames.{Frame, plug, above, before, after}
+use Rattle.ic_rbtree.specs.Height.{turns, height}
 use Rattle.ic_rbtree.specs.Pieces.{Piece, loose, Stands, Shown}
 use Rattle.ic_rbtree.specs.Focus.{Focus, IsInFocus, IsMended}
 use Rattle.ic_rbtree.specs.Shortage.{EvenAround, PairsAround}
+use Rattle.ic_rbtree.specs.Sides.{IsEnd}
 use Rattle.ic_rbtree.specs.Removal.{IsOn}
 use Rattle.ic_rbtree.specs.Steps.{IsSideOf}
 
@@ -59,24 +62,14 @@ module _ {E : Type 0} (n : E → Node) where
     pub gap : IsGap c k.frames k.subtree
     pub order : in_order (plug k.frames k.subtree) ≡ k.sequence
 
-  abbrev pub CanClose : Table E → Option Place → Color → Option Place → Option Place → Side → Type 0
-  CanClose v root c child parent d = (k : Focus E) × Gap v root c child parent d k
-
   abbrev pub Closes : Table E → Table E → Option Place → Option Place → Color → Option Place → Option Place → Side → Type 0
-  Closes v w root new_root c child parent d = (k : Focus E) → Gap v root c child parent d k → IsMended n w new_root k
-
-  abbrev pub CanTakeOut : Table E → Option Place → Place → Type 0
-  CanTakeOut v root p =
-      (base : Table E) × (fs : List Frame) × (x : Parts) × (ps : List Piece) × Stands n base v root fs (member p x) ps × IsLone x.left x.right × IsRight (plug fs (member p x))
+  Closes v w root new_root c child parent d = (k : Focus E) → Gap v root c child parent d k → length k.frames < turns → IsMended n w new_root k
 
   -- a member with one child at most is taken out: the tree is right without it, and it is on its own
   abbrev pub TakesOut : Table E → Table E → Option Place → Option Place → Place → Type 0
   TakesOut v w root new_root p =
       (base : Table E) (fs : List Frame) (x : Parts) (ps : List Piece) → Stands n base v root fs (member p x) ps → IsLone x.left x.right → IsRight (plug fs (member p x))
       → Shown n base w new_root (before fs ++ (in_order (only x.left x.right) ++ after fs)) (loose p ∷ ps)
-
-  abbrev pub CanTakePlace : Table E → Option Place → Place → Place → Type 0
-  CanTakePlace v root p new = (base : Table E) × (fs : List Frame) × (x : Parts) × (ps : List Piece) × Stands n base v root fs (member p x) (loose new ∷ ps)
 
   -- IN PLACE OF a member stands `new`, in its color, and the member is on its own
   abbrev pub TakesPlace : Table E → Table E → Option Place → Option Place → Place → Place → Type 0
@@ -90,9 +83,11 @@ both_of None b = None
 both_of (Some x) b = b
 
 module _ {E : Type 0} (n : E → Node) where
-  abbrev pub CanUnlink : Table E → Option Place → Place → Type 0
-  CanUnlink v root p =
-      (base : Table E) × (front : List Place) × (back : List Place) × (ps : List Piece) × Shown n base v root (front ++ p ∷ back) ps
+  -- y is the leftmost member at or below p, in a tree that is not too high
+  abbrev pub IsLeftmost : Table E → Place → Place → Type 0
+  IsLeftmost v p y =
+      (base : Table E) (root : Option Place) (fs : List Frame) (t : Tree) (ps : List Piece) → Stands n base v root fs t ps → top t ≡ Some p
+      → height (plug fs t) < turns → IsEnd n v Left y fs t
 
   -- a member is taken out of the sequence, and is on its own
   abbrev pub TakesAway : Table E → Table E → Option Place → Option Place → Place → Type 0

@@ -18,8 +18,8 @@ ghost use Rattle.ic_rbtree.specs.Steps.{TakesNoStep};
 ghost use Rattle.ic_rbtree.specs.Tree.{root_of};
 
 use crate::readings::{child, other};
+use crate::repair::writers::{adopt, set_child};
 use crate::steps::outermost;
-use crate::writers::{adopt, set_child};
 use crate::{KeyAdapter, RBTree};
 use ic_link_ops::rbtree::RBTreeOps;
 use ic_link_ops::{End, LinkOps, Side};

@@ -7,39 +7,42 @@
 //! tree.insert(&mut links, &objects, object)?; // behind all with no greater key
 //! let first = tree.front_mut(&mut links).remove();
 //! ```
+//!
+//! Who keeps trees in words of his own makes a tree of the root that he keeps, makes one edit by the layer under these calls, and
+//! reads the root again. That layer runs over whatever implements [`Nodes`], and asks only for links that lead out of no set of
+//! linked places.
+//!
+//! ```text
+//! let mut tree = RBTree::from_root((), root);
+//! tree.attach(&mut nodes, parent, Side::Left, place);
+//! let root = tree.root();
+//! ```
 #![tactic(auto)]
 
-mod bounds;
 mod contains;
 mod cursors;
-mod descent;
 mod edits;
-mod entry;
-mod find;
-mod insertion;
 mod into_iter;
 mod iter;
-pub mod key_adapter;
+mod keys;
 mod linking;
-mod ordered;
-mod probe;
-mod range;
+mod nodes;
 pub mod rbtree_keys;
 mod readings;
-mod removal;
-mod search;
+mod repair;
 mod steps;
 mod tree;
 mod whole;
-mod writers;
 
 pub use cursors::{Cursor, CursorMut, CursorOwning};
-pub use entry::{Entry, InsertCursor, RefusedInsert};
 pub use ic_cursors::Listing;
 pub use ic_link_ops::Color;
 pub use ic_link_ops::rbtree::{Link, LinkOps, RBTreeOps};
 pub use into_iter::IntoIter;
 pub use iter::Iter;
-pub use key_adapter::{Bound, KeyAdapter};
-pub use probe::{KeyProbe, Probe};
+pub use keys::entry::{Entry, InsertCursor, RefusedInsert};
+pub use keys::key_adapter;
+pub use keys::key_adapter::{Bound, KeyAdapter};
+pub use keys::probe::{KeyProbe, Probe};
+pub use nodes::Nodes;
 pub use tree::RBTree;

@@ -18,10 +18,10 @@ ghost use Rattle.ic_rbtree.specs.Insertion.{IsHole};
 ghost use Rattle.ic_rbtree.specs.Ordered.{InsertsInOrder};
 
 use crate::Probe;
-use crate::descent::descend;
-use crate::insertion::attach;
-use crate::removal::unlink;
-use crate::writers::take_place;
+use crate::keys::descent::descend;
+use crate::repair::insertion::attach;
+use crate::repair::removal::unlink;
+use crate::repair::writers::take_place;
 use ic_link_ops::rbtree::RBTreeOps;
 use ic_link_ops::{End, LinkOps, Side};
 use ic_unsafe_ref::{Place, Values};

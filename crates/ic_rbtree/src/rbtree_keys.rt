@@ -5,4 +5,4 @@
 //! let cursor = tree.find_by(&links, &objects, &mut probe);
 //! ```
 
-pub use crate::probe::{KeyProbe, Probe};
+pub use crate::keys::probe::{KeyProbe, Probe};

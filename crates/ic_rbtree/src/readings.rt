@@ -2,7 +2,6 @@
 
 ghost use Rattle.std.specs.Prelude.{◌≡◌, Some};
 ghost use Rattle.ic_unsafe_ref.specs.declared.place.Place.{Place};
-ghost use Rattle.ic_link_ops.specs.Tables.{IsLinked};
 ghost use Rattle.ic_link_ops.specs.Walk.{is_end};
 ghost use Rattle.ic_link_ops.specs.RedBlackTree.{node_at};
 ghost use Rattle.ic_link_ops.specs.Frames.{across, child_on};
@@ -10,8 +9,9 @@ ghost use Rattle.ic_rbtree.specs.Removal.{red_at, red_below, AreRead};
 ghost use Rattle.ic_rbtree.specs.Taking.{or_else, IsSideBelow, both_of};
 ghost use Rattle.ic_rbtree.specs.Insertion.{color_below, are_across};
 ghost use Rattle.ic_rbtree.specs.Steps.{IsSideOf};
+ghost use Rattle.ic_rbtree.specs.Closed.{IsNode};
 
-use ic_link_ops::rbtree::RBTreeOps;
+use crate::nodes::Nodes;
 use ic_link_ops::{Color, End, Side};
 use ic_unsafe_ref::Place;
 
@@ -24,9 +24,9 @@ pub(crate) fn other(side: Side) -> Side
     }
 }
 
-pub(crate) fn child<L: RBTreeOps>(links: &L, place: Place, side: Side) -> Option<Place>
-    requires { IsLinked L.linked (L.table links.now) place }
-    ensures { result ≡ child_on side (node_at L.node (L.table links.now) place) }
+pub(crate) fn child<N: Nodes>(links: &N, place: Place, side: Side) -> Option<Place>
+    requires { IsNode N.node (N.table links.now) place }
+    ensures { result ≡ child_on side (node_at N.node (N.table links.now) place) }
 {
     match side {
         Side::Left => links.left(place),
@@ -42,9 +42,9 @@ pub(crate) fn is_at(end: Option<Place>, place: Place) -> bool
     Place::to_word(end) == Place::to_word(Some(place))
 }
 
-pub(crate) fn is_red<L: RBTreeOps>(links: &L, place: Option<Place>) -> bool
-    requires { (q : Place) → place ≡ Some q → IsLinked L.linked (L.table links.now) q }
-    ensures { result ≡ red_at L.node (L.table links.now) place }
+pub(crate) fn is_red<N: Nodes>(links: &N, place: Option<Place>) -> bool
+    requires { (q : Place) → place ≡ Some q → IsNode N.node (N.table links.now) q }
+    ensures { result ≡ red_at N.node (N.table links.now) place }
 {
     match place {
         None => false,
@@ -55,18 +55,18 @@ pub(crate) fn is_red<L: RBTreeOps>(links: &L, place: Option<Place>) -> bool
     }
 }
 
-pub(crate) fn has_red_child<L: RBTreeOps>(links: &L, place: Place) -> bool
-    requires { AreRead L.node (L.table links.now) place }
-    ensures { result ≡ red_below L.node (L.table links.now) place }
+pub(crate) fn has_red_child<N: Nodes>(links: &N, place: Place) -> bool
+    requires { AreRead N.node (N.table links.now) place }
+    ensures { result ≡ red_below N.node (N.table links.now) place }
 {
     is_red(links, links.left(place)) || is_red(links, links.right(place))
 }
 
 // The left child, or else the right one.
-pub(crate) fn only_child<L: RBTreeOps>(links: &L, place: Place) -> Option<Place>
-    requires { IsLinked L.linked (L.table links.now) place }
-    ensures { result ≡ or_else (node_at L.node (L.table links.now) place).left
-        (node_at L.node (L.table links.now) place).right }
+pub(crate) fn only_child<N: Nodes>(links: &N, place: Place) -> Option<Place>
+    requires { IsNode N.node (N.table links.now) place }
+    ensures { result ≡ or_else (node_at N.node (N.table links.now) place).left
+        (node_at N.node (N.table links.now) place).right }
 {
     // as a word, which both ways lead to
     let only = match links.left(place) {
@@ -77,9 +77,9 @@ pub(crate) fn only_child<L: RBTreeOps>(links: &L, place: Place) -> Option<Place>
 }
 
 /// On which side of its parent a member stands.
-pub(crate) fn side_of<L: RBTreeOps>(links: &L, place: Place, parent: Place) -> Side
-    requires { IsLinked L.linked (L.table links.now) parent }
-    ensures { IsSideOf L.node (L.table links.now) place parent result }
+pub(crate) fn side_of<N: Nodes>(links: &N, place: Place, parent: Place) -> Side
+    requires { IsNode N.node (N.table links.now) parent }
+    ensures { IsSideOf N.node (N.table links.now) place parent result }
 {
     if is_at(links.left(parent), place) {
         Side::Left
@@ -88,9 +88,9 @@ pub(crate) fn side_of<L: RBTreeOps>(links: &L, place: Place, parent: Place) -> S
     }
 }
 
-pub(crate) fn side_below<L: RBTreeOps>(links: &L, place: Place, parent: Option<Place>) -> Side
-    requires { (q : Place) → parent ≡ Some q → IsLinked L.linked (L.table links.now) q }
-    ensures { IsSideBelow L.node (L.table links.now) place parent result }
+pub(crate) fn side_below<N: Nodes>(links: &N, place: Place, parent: Option<Place>) -> Side
+    requires { (q : Place) → parent ≡ Some q → IsNode N.node (N.table links.now) q }
+    ensures { IsSideBelow N.node (N.table links.now) place parent result }
 {
     match parent {
         Some(parent) => side_of(links, place, parent),
@@ -99,10 +99,10 @@ pub(crate) fn side_below<L: RBTreeOps>(links: &L, place: Place, parent: Option<P
 }
 
 // The right child of a member that has both.
-pub(crate) fn second_child<L: RBTreeOps>(links: &L, place: Place) -> Option<Place>
-    requires { IsLinked L.linked (L.table links.now) place }
-    ensures { result ≡ both_of (node_at L.node (L.table links.now) place).left
-        (node_at L.node (L.table links.now) place).right }
+pub(crate) fn second_child<N: Nodes>(links: &N, place: Place) -> Option<Place>
+    requires { IsNode N.node (N.table links.now) place }
+    ensures { result ≡ both_of (node_at N.node (N.table links.now) place).left
+        (node_at N.node (N.table links.now) place).right }
 {
     match links.left(place) {
         Some(_) => links.right(place),
@@ -111,9 +111,9 @@ pub(crate) fn second_child<L: RBTreeOps>(links: &L, place: Place) -> Option<Plac
 }
 
 // Red below a parent, and black at the root.
-pub(crate) fn color_here<L: RBTreeOps>(links: &L, place: Place) -> Color
-    requires { IsLinked L.linked (L.table links.now) place }
-    ensures { result ≡ color_below (node_at L.node (L.table links.now) place).parent }
+pub(crate) fn color_here<N: Nodes>(links: &N, place: Place) -> Color
+    requires { IsNode N.node (N.table links.now) place }
+    ensures { result ≡ color_below (node_at N.node (N.table links.now) place).parent }
 {
     match links.parent(place) {
         Some(_) => Color::Red,

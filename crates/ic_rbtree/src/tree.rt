@@ -5,10 +5,17 @@
 //! tree.cursor_mut(&mut links).insert_before(object)?; // the last member
 //! ```
 
-ghost use Rattle.std.specs.Prelude.{◌≡◌, ◌↔◌, None, IsTrue};
+ghost use Rattle.std.specs.Prelude.{◌≡◌, ◌≢◌, ◌↔◌, Some, None, [], ◌∷◌, IsTrue};
+ghost use Rattle.ic_rbtree.specs.Closed.{IsSafe, IsSafeBut, StaysClosed, ClosesAt, KeepsNodes};
+ghost use Rattle.ic_rbtree.specs.Insertion.{Attaches};
+ghost use Rattle.ic_rbtree.specs.Taking.{TakesAway, TakesPlace};
 ghost use Rattle.ic_rbtree.specs.Tree.{root_of, adapter_of};
 
-use ic_link_ops::End;
+use crate::nodes::Nodes;
+use crate::repair::insertion::attach;
+use crate::repair::removal::unlink;
+use crate::repair::writers::take_place;
+use ic_link_ops::{End, Side};
 use ic_unsafe_ref::Place;
 
 /// A red-black tree of objects in an order, of which it keeps the root, and the adapter that finds their keys.
@@ -84,5 +91,62 @@ impl<A: Copy> RBTree<A> {
         ensures { result ≡ adapter_of self.now }
     {
         self.adapter
+    }
+}
+
+// The layer under the calls of a tree, over whatever has nodes. A set of places is closed if each of it is linked, and the
+// children and the parents of all of them and the root are none or in it.
+impl<A> RBTree<A> {
+    /// Puts `place` in on this side of `parent`, which has no child there, and repairs the colors. With no parent the tree is
+    /// empty.
+    ///
+    /// It asks for a set that has `place` and `parent` and is closed, but that `place` may lead anywhere. It ends and leaves that
+    /// set closed whatever the words say, and of a tree it makes one with `place`. O(log n).
+    pub fn attach<N: Nodes>(
+        &mut self,
+        nodes: &mut N,
+        parent: Option<Place>,
+        side: Side,
+        place: Place,
+    )
+        requires { IsSafeBut N.node (N.table nodes.old) (root_of self.old) place (Some place ∷ parent ∷ []) }
+        ensures attached { Attaches N.node (N.table nodes.old) (N.table nodes.new) (root_of self.old) (root_of self.new) parent side place }
+        ensures safe { ClosesAt N.node (N.table nodes.old) (N.table nodes.new) (root_of self.old) (root_of self.new) place (Some place ∷ parent ∷ []) }
+        ensures linked { KeepsNodes N.node (N.table nodes.old) (N.table nodes.new) }
+        ensures quiet { N.Quiet nodes.old nodes.new }
+        ensures adapter { adapter_of self.new ≡ adapter_of self.old }
+    {
+        attach(nodes, &mut self.root, parent, side, place);
+    }
+
+    /// Takes the member at `place` out, and repairs the colors. The place stays linked.
+    ///
+    /// It asks for a closed set that has `place`. It ends and leaves that set closed whatever the words say, and of a tree it makes
+    /// one without `place`. O(log n).
+    pub fn unlink<N: Nodes>(&mut self, nodes: &mut N, place: Place)
+        requires { IsSafe N.node (N.table nodes.old) (root_of self.old) (Some place ∷ []) }
+        ensures taken { TakesAway N.node (N.table nodes.old) (N.table nodes.new) (root_of self.old) (root_of self.new) place }
+        ensures safe { StaysClosed N.node (N.table nodes.old) (N.table nodes.new) (root_of self.old) (root_of self.new) (Some place ∷ []) [] }
+        ensures linked { KeepsNodes N.node (N.table nodes.old) (N.table nodes.new) }
+        ensures quiet { N.Quiet nodes.old nodes.new }
+        ensures adapter { adapter_of self.new ≡ adapter_of self.old }
+    {
+        unlink(nodes, &mut self.root, place);
+    }
+
+    /// Puts `new` in place of the member at `place`, in its color. Both stay linked.
+    ///
+    /// It asks for two places, and for a set that has both and is closed, but that `new` may lead anywhere. It leaves that set closed
+    /// whatever the words say, and of a tree it makes one with `new` where `place` was. O(1).
+    pub fn take_place<N: Nodes>(&mut self, nodes: &mut N, place: Place, new: Place)
+        requires safe { IsSafeBut N.node (N.table nodes.old) (root_of self.old) new (Some place ∷ Some new ∷ []) }
+        requires apart { place ≢ new }
+        ensures taken { TakesPlace N.node (N.table nodes.old) (N.table nodes.new) (root_of self.old) (root_of self.new) place new }
+        ensures safe { ClosesAt N.node (N.table nodes.old) (N.table nodes.new) (root_of self.old) (root_of self.new) new (Some place ∷ Some new ∷ []) }
+        ensures linked { KeepsNodes N.node (N.table nodes.old) (N.table nodes.new) }
+        ensures quiet { N.Quiet nodes.old nodes.new }
+        ensures adapter { adapter_of self.new ≡ adapter_of self.old }
+    {
+        take_place(nodes, &mut self.root, place, new);
     }
 }

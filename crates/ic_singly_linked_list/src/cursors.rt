@@ -63,7 +63,7 @@ impl<T> SinglyLinkedList<T> {
         ensures position { (s : List Place) → Shows L.successor (L.table links.now) self.now s
             → position result ≡ first s }
     {
-        Cursor::new(self, links, End::of(self.head()))
+        Cursor::new(self, links, End::of(self.first()))
     }
 }
 
@@ -111,7 +111,7 @@ impl<T> SinglyLinkedList<T> {
         ensures position { (s : List Place) → Shows L.successor (L.table links.old) self.old s
             → position result ≡ first s }
     {
-        let current = End::of(self.head());
+        let current = End::of(self.first());
         CursorMut::new(self, links, current)
     }
 }
@@ -155,7 +155,7 @@ impl<T> SinglyLinkedList<T> {
             → position result ≡ first s }
     {
         let _ = links;
-        let at = End::of(self.head());
+        let at = End::of(self.first());
         CursorOwning::new(self, at)
     }
 }

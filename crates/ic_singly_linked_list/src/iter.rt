@@ -96,7 +96,7 @@ impl<T> SinglyLinkedList<T> {
             links,
             objects,
             of: PhantomData,
-            head: self.head(),
+            head: self.first(),
         }
     }
 

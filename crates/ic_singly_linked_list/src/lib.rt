@@ -23,6 +23,14 @@
 //! ```
 //!
 //! [`Iter`] lends the objects, and [`IntoIter`] takes the members off.
+//!
+//! Who keeps lists in words of his own makes a list of what he keeps, makes one edit by the layer under these calls, and reads the list
+//! again. That layer asks only that the places which it writes are linked.
+//!
+//! ```text
+//! let mut list: SinglyLinkedList<Job> = SinglyLinkedList::from_front(first);
+//! list.put_between(&mut links, None, place, first); // at the front
+//! ```
 #![tactic(auto)]
 
 mod contains;

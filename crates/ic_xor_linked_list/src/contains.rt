@@ -20,7 +20,7 @@ impl<T> XorLinkedList<T> {
         requires shown { ShowsSome L.linked L.Joins (L.table links.now) self.now }
         ensures { (s : List Place) → Shows L.linked L.Joins (L.table links.now) self.now s → IsTrue result ↔ IsMember place s }
     {
-        let mut current = self.head();
+        let mut current = self.first();
         let mut prev = None;
         while let Some(member) = current {
             if member == place {

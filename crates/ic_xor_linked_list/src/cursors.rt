@@ -97,7 +97,7 @@ impl<T> XorLinkedList<T> {
             → position result ≡ first s }
         ensures kept { KnowsNeighbors (Shows L.linked L.Joins) L.table result }
     {
-        Cursor::new(self, links, self.position_behind(links, None, self.head()))
+        Cursor::new(self, links, self.position_behind(links, None, self.first()))
     }
 
     /// A cursor on the last member, null in an empty list. It asks that the table shows a sequence.
@@ -110,7 +110,7 @@ impl<T> XorLinkedList<T> {
             → position result ≡ last s }
         ensures kept { KnowsNeighbors (Shows L.linked L.Joins) L.table result }
     {
-        Cursor::new(self, links, self.position_before(links, self.tail(), None))
+        Cursor::new(self, links, self.position_before(links, self.last(), None))
     }
 }
 
@@ -180,7 +180,7 @@ impl<T> XorLinkedList<T> {
             → position result ≡ first s }
         ensures kept { KnowsNeighbors (Shows L.linked L.Joins) L.table result }
     {
-        let at = self.position_behind(&*links, None, self.head());
+        let at = self.position_behind(&*links, None, self.first());
         CursorMut::new(self, links, at)
     }
 
@@ -193,7 +193,7 @@ impl<T> XorLinkedList<T> {
             → position result ≡ last s }
         ensures kept { KnowsNeighbors (Shows L.linked L.Joins) L.table result }
     {
-        let at = self.position_before(&*links, self.tail(), None);
+        let at = self.position_before(&*links, self.last(), None);
         CursorMut::new(self, links, at)
     }
 }
@@ -259,7 +259,7 @@ impl<T> XorLinkedList<T> {
             → position result ≡ first s }
         ensures kept { KnowsNeighbors (Shows L.linked L.Joins) L.table links.now result }
     {
-        let at = self.position_behind(links, None, self.head());
+        let at = self.position_behind(links, None, self.first());
         CursorOwning::new(self, at)
     }
 
@@ -272,7 +272,7 @@ impl<T> XorLinkedList<T> {
             → position result ≡ last s }
         ensures kept { KnowsNeighbors (Shows L.linked L.Joins) L.table links.now result }
     {
-        let at = self.position_before(links, self.tail(), None);
+        let at = self.position_before(links, self.last(), None);
         CursorOwning::new(self, at)
     }
 }

@@ -32,7 +32,7 @@ impl<T> Collection for XorLinkedList<T> {
     // Null: the first member is behind it.
     #[inline]
     fn null_position(&self) -> Position {
-        Position::of(None, self.head())
+        Position::of(None, self.first())
     }
 }
 
@@ -95,7 +95,7 @@ impl<T, L: XorLinkedListOps> TwoWay<L> for XorLinkedList<T> {
         if !links.acquire_link(object) {
             return false;
         }
-        self.put_in_place(links, before, out, object, behind);
+        self.replace_between(links, before, out, object, behind);
         links.release_link(out);
         *at = Position::of(Some(object), behind);
         true
@@ -106,7 +106,7 @@ impl<T, L: XorLinkedListOps> Sliced<L> for XorLinkedList<T> {
     #[inline]
     fn splice_after_at(&mut self, links: &mut L, at: &mut Position, given: XorLinkedList<T>) {
         let behind = at.next();
-        let first = given.head();
+        let first = given.first();
         self.splice_between(links, at.current(), given, behind);
         at.set_next(first.or(behind));
     }

@@ -149,8 +149,8 @@ impl<T> XorLinkedList<T> {
             objects,
             of: PhantomData,
             before: None,
-            head: self.head(),
-            tail: self.tail(),
+            head: self.first(),
+            tail: self.last(),
             behind: None,
         }
     }

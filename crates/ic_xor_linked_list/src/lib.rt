@@ -25,6 +25,14 @@
 //! ```
 //!
 //! [`Iter`] lends the objects, and [`IntoIter`] takes the members off, each from both ends.
+//!
+//! Who keeps lists in words of his own makes a list of what he keeps, makes one edit by the layer under these calls, and reads the list
+//! again. That layer asks only that the places which it writes are linked.
+//!
+//! ```text
+//! let mut list: XorLinkedList<Job> = XorLinkedList::from_ends(first, last);
+//! list.put_between(&mut links, last, place, None); // at the back
+//! ```
 #![tactic(auto)]
 
 mod contains;

@@ -73,6 +73,21 @@ impl<T> XorLinkedList<T> {
         }
     }
 
+    /// The list with these two ends, for who keeps the ends of his lists himself. O(1).
+    ///
+    /// It asks nothing of them: which sequence the list has, if any, is what a table shows for these ends.
+    /// [`XorLinkedList::first`] and [`XorLinkedList::last`] read them again.
+    #[inline]
+    pub fn from_ends(first: Option<Place>, last: Option<Place>) -> XorLinkedList<T>
+        ensures { result ≡ record { head = first; tail = last } }
+    {
+        XorLinkedList {
+            head: End::of(first),
+            tail: End::of(last),
+            of: PhantomData,
+        }
+    }
+
     /// Whether the list has no members. It reads no links.
     #[inline]
     pub fn is_empty(&self) -> bool
@@ -81,17 +96,17 @@ impl<T> XorLinkedList<T> {
         self.head.get().is_none()
     }
 
-    // The first member.
+    /// The first member, `None` in an empty list. It reads no links. O(1).
     #[inline]
-    pub(crate) fn head(&self) -> Option<Place>
+    pub fn first(&self) -> Option<Place>
         ensures { result ≡ self.now.head }
     {
         self.head.get()
     }
 
-    // The last member.
+    /// The last member, `None` in an empty list. It reads no links. O(1).
     #[inline]
-    pub(crate) fn tail(&self) -> Option<Place>
+    pub fn last(&self) -> Option<Place>
         ensures { result ≡ self.now.tail }
     {
         self.tail.get()
@@ -104,7 +119,7 @@ impl<T> XorLinkedList<T> {
     pub(crate) fn head_from_null(&self) -> Option<Place>
         ensures { result ≡ self.now.head }
     {
-        self.head()
+        self.first()
     }
 
     // The last member, as a cursor comes to it from null.
@@ -113,7 +128,7 @@ impl<T> XorLinkedList<T> {
     pub(crate) fn tail_from_null(&self) -> Option<Place>
         ensures { result ≡ self.now.tail }
     {
-        self.tail()
+        self.last()
     }
 }
 
@@ -139,7 +154,7 @@ impl<T> XorLinkedList<T> {
         ensures frame { (s : List Place) → Shows L.linked L.Joins (L.table links.old) self.old s
             → KeepsBeside (L.table links.old) (L.table links.new) (object ∷ s) }
     {
-        let tail = self.tail();
+        let tail = self.last();
         if !self.insert_between(links, tail, object.place(), None) {
             return Err(AlreadyLinked(object));
         }
@@ -166,7 +181,7 @@ impl<T> XorLinkedList<T> {
         ensures frame { (s : List Place) → Shows L.linked L.Joins (L.table links.old) self.old s
             → KeepsBeside (L.table links.old) (L.table links.new) (object ∷ s) }
     {
-        let head = self.head();
+        let head = self.first();
         if !self.insert_between(links, None, object.place(), head) {
             return Err(AlreadyLinked(object));
         }
@@ -186,7 +201,7 @@ impl<T> XorLinkedList<T> {
         ensures frame { (s : List Place) → Shows L.linked L.Joins (L.table links.old) self.old s
             → KeepsBeside (L.table links.old) (L.table links.new) s }
     {
-        let front = self.head()?;
+        let front = self.first()?;
         let behind = links.next(front, None);
         self.take_off(links, None, front, behind);
         Some(UnsafeRef::new(front))
@@ -205,7 +220,7 @@ impl<T> XorLinkedList<T> {
         ensures frame { (s : List Place) → Shows L.linked L.Joins (L.table links.old) self.old s
             → KeepsBeside (L.table links.old) (L.table links.new) s }
     {
-        let back = self.tail()?;
+        let back = self.last()?;
         let before = links.prev(back, None);
         self.take_off(links, before, back, None);
         Some(UnsafeRef::new(back))
@@ -240,8 +255,7 @@ impl<T> XorLinkedList<T> {
             → before ≡ last front → behind ≡ first back
             → KeepsBeside (L.table links.old) (L.table links.new) (front ++ place ∷ back) }
     {
-        lead(links, &mut self.head, before, Some(place), behind);
-        follow(links, &mut self.tail, behind, Some(place), before);
+        self.close_between(links, before, place, behind);
         links.release_link(place);
     }
 
@@ -273,10 +287,16 @@ impl<T> XorLinkedList<T> {
         self.put_between(links, before, place, behind);
         true
     }
+}
 
-    // Puts the linked place into the gap between two neighbors.
+// The layer under the calls above, for who keeps lists in words of his own and tests them himself: none of these asks that
+// the table shows a sequence.
+impl<T> XorLinkedList<T> {
+    /// Puts a place that is linked already between two neighbors. O(1).
+    ///
+    /// It asks only that the places which it writes are linked: this one, and the neighbors that there are.
     #[inline]
-    pub(crate) fn put_between<L: XorLinkedListOps>(
+    pub fn put_between<L: XorLinkedListOps>(
         &mut self,
         links: &mut L,
         before: Option<Place>,
@@ -299,9 +319,11 @@ impl<T> XorLinkedList<T> {
         links.set(place, before, behind);
     }
 
-    // Puts the linked place, which is no member, where the member `out` is, between the same neighbors.
+    /// Puts a place that is linked already where the member `out` is, between the same neighbors. O(1).
+    ///
+    /// It asks only that the places which it writes are linked: this one, and the neighbors that there are. The member stays linked.
     #[inline]
-    pub(crate) fn put_in_place<L: XorLinkedListOps>(
+    pub fn replace_between<L: XorLinkedListOps>(
         &mut self,
         links: &mut L,
         before: Option<Place>,
@@ -310,38 +332,68 @@ impl<T> XorLinkedList<T> {
         behind: Option<Place>,
     )
         requires held { IsLinked L.linked (L.table links.old) place }
-        requires shown { (front back : List Place) × Shows L.linked L.Joins (L.table links.old) self.old (front ++ out ∷ back)
-            × (before ≡ last front) × (behind ≡ first back) }
+        requires before { (q : Place) → before ≡ Some q → IsLinked L.linked (L.table links.old) q }
+        requires behind { (q : Place) → behind ≡ Some q → IsLinked L.linked (L.table links.old) q }
         ensures shows { (front back : List Place) → Shows L.linked L.Joins (L.table links.old) self.old (front ++ out ∷ back)
             → before ≡ last front → behind ≡ first back → IsAbsent place (front ++ out ∷ back)
             → Shows L.linked L.Joins (L.table links.new) self.new (front ++ place ∷ back) }
         ensures no_step { L.Does links.old links.new [] }
-        ensures frame { (front back : List Place) → Shows L.linked L.Joins (L.table links.old) self.old (front ++ out ∷ back)
-            → before ≡ last front → behind ≡ first back
-            → KeepsBeside (L.table links.old) (L.table links.new) (place ∷ (front ++ out ∷ back)) }
+        ensures extent { (L.table links.new).extent ≡ (L.table links.old).extent }
+        ensures others { (q : Place) → before ≢ Some q → q ≢ place → behind ≢ Some q
+            → (L.table links.new).entry q ≡ (L.table links.old).entry q }
     {
         lead(links, &mut self.head, before, Some(out), Some(place));
         follow(links, &mut self.tail, behind, Some(out), Some(place));
         links.set(place, before, behind);
     }
 
-    // Puts all of the given list into the gap between two neighbors.
+    /// Takes the member `out` out from between its two neighbors. O(1).
+    ///
+    /// It asks only that both are linked, where they are places. They, or an end where there is none, are turned to each other. The member
+    /// stays linked: unlink it by the table's `release_link`.
     #[inline]
-    pub(crate) fn splice_between<L: XorLinkedListOps>(
+    pub fn close_between<L: XorLinkedListOps>(
+        &mut self,
+        links: &mut L,
+        before: Option<Place>,
+        out: Place,
+        behind: Option<Place>,
+    )
+        requires before { (q : Place) → before ≡ Some q → IsLinked L.linked (L.table links.old) q }
+        requires behind { (q : Place) → behind ≡ Some q → IsLinked L.linked (L.table links.old) q }
+        ensures shows { (front back : List Place) → Shows L.linked L.Joins (L.table links.old) self.old (front ++ out ∷ back)
+            → before ≡ last front → behind ≡ first back
+            → Shows L.linked L.Joins (L.table links.new) self.new (front ++ back) }
+        ensures no_step { L.Does links.old links.new [] }
+        ensures extent { (L.table links.new).extent ≡ (L.table links.old).extent }
+        ensures others { (q : Place) → before ≢ Some q → behind ≢ Some q
+            → (L.table links.new).entry q ≡ (L.table links.old).entry q }
+    {
+        lead(links, &mut self.head, before, Some(out), behind);
+        follow(links, &mut self.tail, behind, Some(out), before);
+    }
+
+    /// Puts all of the given list between two neighbors. O(1).
+    ///
+    /// It asks only that both, and both ends of the given list, are linked, where they are places. An empty list changes nothing.
+    #[inline]
+    pub fn splice_between<L: XorLinkedListOps>(
         &mut self,
         links: &mut L,
         before: Option<Place>,
         given: XorLinkedList<T>,
         behind: Option<Place>,
     )
-        requires shown { (gap : Cut) × Shows L.linked L.Joins (L.table links.old) self.old (join gap)
-            × IsAfter gap before × IsBefore gap behind }
-        requires given { ShowsSome L.linked L.Joins (L.table links.old) given }
+        requires before { (q : Place) → before ≡ Some q → IsLinked L.linked (L.table links.old) q }
+        requires behind { (q : Place) → behind ≡ Some q → IsLinked L.linked (L.table links.old) q }
+        requires first { (q : Place) → given.head ≡ Some q → IsLinked L.linked (L.table links.old) q }
+        requires last { (q : Place) → given.tail ≡ Some q → IsLinked L.linked (L.table links.old) q }
         ensures spliced { (gap : Cut) (t : List Place) → Shows L.linked L.Joins (L.table links.old) self.old (join gap)
             → IsAfter gap before → IsBefore gap behind → Shows L.linked L.Joins (L.table links.old) given t
             → IsDisjoint t (join gap) → Splices (Shows L.linked L.Joins)
             (L.table links.old) (L.table links.new) self.new gap t }
         ensures no_step { L.Does links.old links.new [] }
+        ensures extent { (L.table links.new).extent ≡ (L.table links.old).extent }
     {
         let XorLinkedList { head, tail, of: _ } = given;
         let Some(front) = head.get() else {
@@ -356,20 +408,23 @@ impl<T> XorLinkedList<T> {
         links.replace_next_or_prev(back, None, behind);
     }
 
-    // Cuts the list between two neighbors. It keeps what is in front of the cut, and the rest is handed out.
+    /// Cuts the list between two neighbors: it keeps what is in front of the cut, and the rest is handed out. O(1).
+    ///
+    /// It asks only that both are linked, where they are places.
     #[inline]
-    pub(crate) fn split_between<L: XorLinkedListOps>(
+    pub fn split_between<L: XorLinkedListOps>(
         &mut self,
         links: &mut L,
         before: Option<Place>,
         behind: Option<Place>,
     ) -> XorLinkedList<T>
-        requires shown { (gap : Cut) × Shows L.linked L.Joins (L.table links.old) self.old (join gap)
-            × IsAfter gap before × IsBefore gap behind }
+        requires before { (q : Place) → before ≡ Some q → IsLinked L.linked (L.table links.old) q }
+        requires behind { (q : Place) → behind ≡ Some q → IsLinked L.linked (L.table links.old) q }
         ensures split { (gap : Cut) → Shows L.linked L.Joins (L.table links.old) self.old (join gap)
             → IsAfter gap before → IsBefore gap behind → Splits (Shows L.linked L.Joins)
             (L.table links.old) (L.table links.new) self.new result gap.front gap.back }
         ensures no_step { L.Does links.old links.new [] }
+        ensures extent { (L.table links.new).extent ≡ (L.table links.old).extent }
     {
         lead(links, &mut self.head, before, behind, None);
         follow(links, &mut self.tail, behind, before, None);

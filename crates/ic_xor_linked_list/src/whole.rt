@@ -30,7 +30,7 @@ impl<T> XorLinkedList<T> {
         ensures frame { (s : List Place) → Shows L.linked L.Joins (L.table links.old) self.old s
             → KeepsBeside (L.table links.old) (L.table links.new) s }
     {
-        let mut current = self.head();
+        let mut current = self.first();
         let mut prev = None;
         self.fast_clear();
         while let Some(place) = current {

@@ -1,3 +1,4 @@
+use Rattle.std.proofs.Common.{sym, ◌∙◌}
 use Rattle.ic_rbtree.proofs.Ends.{hangs_some, hangs_none}
 use Rattle.ic_rbtree.proofs.into_iter.hang.Goals as goal
 
@@ -7,3 +8,9 @@ returns-in-Some-clause-moved g c =
 
 pub returns-in_default-clause-moved : goal.returns-in_default-clause-moved
 returns-in_default-clause-moved g c = hangs_none g.L.RBTreeOps.node _ c.args.parent c.args.to c.args.side c.in_default.is
+
+pub set_child-requires : goal.set_child-requires
+set_child-requires g c = g.met.L.RBTreeOps.linked_alike _ ∙ c.requires c.in-Some.parent c.in-Some.is
+
+pub returns-in-Some-clause-linked : goal.returns-in-Some-clause-linked
+returns-in-Some-clause-linked g c q = sym (g.met.L.RBTreeOps.linked_alike _) ∙ (c.set_child.ensures.linked q ∙ g.met.L.RBTreeOps.linked_alike _)

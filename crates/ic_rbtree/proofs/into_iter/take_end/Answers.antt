@@ -13,7 +13,7 @@ child-below-requires g c =
     let n = g.L.RBTreeOps.node in
     let s = c.requires.shown in
     let x = at_end n (g.L.LinkOps.table c.args.links.now) c.args.side c.args.near.now c.args.far.now c.in_ok-place.place s.0 (sym c.get.ensures ∙ c.in_ok-place.was) s.1 in
-    sym (g.met.L.RBTreeOps.linked_alike _) ∙ end_linked n x
+    end_linked n x
 
 pub parent-parent-requires : goal.parent-parent-requires
 parent-parent-requires g c =
@@ -27,14 +27,14 @@ adopt-requires g c q is =
     let n = g.L.RBTreeOps.node in
     let s = c.requires.shown in
     let x = at_end n (g.L.LinkOps.table c.args.links.now) c.args.side c.args.near.now c.args.far.now c.in_ok-place.place s.0 (sym c.get.ensures ∙ c.in_ok-place.was) s.1 in
-    sym (g.met.L.RBTreeOps.linked_alike _) ∙ child_linked n x c.child-below.result (end_child n x c.other.result c.child-below.result c.other.ensures c.child-below.ensures) q is
+    child_linked n x c.child-below.result (end_child n x c.other.result c.child-below.result c.other.ensures c.child-below.ensures) q is
 
 pub hang-requires : goal.hang-requires
 hang-requires g c q is =
     let n = g.L.RBTreeOps.node in
     let s = c.requires.shown in
     let x = at_end n (g.L.LinkOps.table c.args.links.now) c.args.side c.args.near.now c.args.far.now c.in_ok-place.place s.0 (sym c.get.ensures ∙ c.in_ok-place.was) s.1 in
-    c.adopt.ensures.linked q ∙ (sym (g.met.L.RBTreeOps.linked_alike _) ∙ parent_linked n x c.parent-parent.result (end_parent n x c.parent-parent.result c.parent-parent.ensures) q is)
+    sym (g.met.L.RBTreeOps.linked_alike _) ∙ (c.adopt.ensures.linked q ∙ parent_linked n x c.parent-parent.result (end_parent n x c.parent-parent.result c.parent-parent.ensures) q is)
 
 pub outer-next-requires : goal.outer-next-requires
 outer-next-requires g c =
@@ -49,7 +49,7 @@ release_link-requires g c =
     let n = g.L.RBTreeOps.node in
     let s = c.requires.shown in
     let x = at_end n (g.L.LinkOps.table c.args.links.now) c.args.side c.args.near.now c.args.far.now c.in_ok-place.place s.0 (sym c.get.ensures ∙ c.in_ok-place.was) s.1 in
-    record { linked = c.hang.ensures.linked c.in_ok-place.place ∙ (c.adopt.ensures.linked c.in_ok-place.place ∙ (sym (g.met.L.RBTreeOps.linked_alike _) ∙ end_linked n x)) }
+    record { linked = c.hang.ensures.linked c.in_ok-place.place ∙ (sym (g.met.L.RBTreeOps.linked_alike _) ∙ (c.adopt.ensures.linked c.in_ok-place.place ∙ end_linked n x)) }
 
 pub returns-clause-removed : goal.returns-clause-removed
 returns-clause-removed g c w shown =
@@ -65,7 +65,7 @@ returns-clause-removed g c w shown =
 pub returns-clause-released : goal.returns-clause-released
 returns-clause-released g c =
     let L = g.met.L.LinkOps in
-    L.does_on _ _ _ [] _ (c.hang.ensures.no_step _ [] (c.adopt.ensures.no_step _ [] (L.does_nothing _))) c.release_link.ensures.released
+    L.does_on _ _ _ [] _ (c.hang.ensures.no_step _ [] (c.adopt.ensures.quiet _ [] (L.does_nothing _))) c.release_link.ensures.released
 
 pub returns-clause-frame : goal.returns-clause-frame
 returns-clause-frame g c w shown =

@@ -1,6 +1,7 @@
 use Rattle.std.proofs.Common.{[]}
 use Rattle.ic_link_ops.specs.Sequences.{join}
 use Rattle.ic_rbtree.proofs.Attaching.{acquired_shown, hole_kept, inserts}
+use Rattle.ic_rbtree.proofs.ShownClosed.{with_place, shown_closed_but, with_itself, hole_in}
 use Rattle.ic_rbtree.proofs.linking.insert.Goals as goal
 
 pub attach-requires : goal.attach-requires
@@ -10,13 +11,10 @@ attach-requires g c =
     let r = c.requires.hole in
     let l = g.met.L.LinkOps.does_replay _ _ _ c.if-not-acquire_link.ensures.acquired in
     let old = g.L.LinkOps.table c.args.links.now in
-    let now = g.L.LinkOps.table c.acquire_link.new.self in (
-      now,
-      r.0,
-      [],
-      acquired_shown n g.L.LinkOps.linked alike old now c.args.root.now (join r.0) c.args.place r.1 l.was l.is c.acquire_link.ensures.frame,
-      hole_kept n g.L.LinkOps.linked alike old now c.args.root.now c.args.parent c.args.side r.0 c.args.place r.1 l.was c.acquire_link.ensures.frame r.2,
-    )
+    let now = g.L.LinkOps.table c.acquire_link.new.self in
+    let s = acquired_shown n g.L.LinkOps.linked alike old now c.args.root.now (join r.0) c.args.place r.1 l.was l.is c.acquire_link.ensures.frame in
+    let at = hole_kept n g.L.LinkOps.linked alike old now c.args.root.now c.args.parent c.args.side r.0 c.args.place r.1 l.was c.acquire_link.ensures.frame r.2 in
+    (with_place c.args.place (join r.0), shown_closed_but n s, (with_itself n s, (hole_in n now c.args.place c.args.parent c.args.side r.0 at, tt)))
 
 pub returns-clause-inserted : goal.returns-clause-inserted
 returns-clause-inserted g c gap shown at =
@@ -30,4 +28,4 @@ returns-clause-inserted g c gap shown at =
     (hole_kept n g.L.LinkOps.linked alike old now c.args.root.now c.args.parent c.args.side gap c.args.place shown l.was c.acquire_link.ensures.frame at))
 
 pub returns-clause-acquired : goal.returns-clause-acquired
-returns-clause-acquired g c = c.attach.ensures.no_step _ _ c.if-not-acquire_link.ensures.acquired
+returns-clause-acquired g c = c.attach.ensures.quiet _ _ c.if-not-acquire_link.ensures.acquired

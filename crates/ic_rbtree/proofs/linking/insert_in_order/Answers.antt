@@ -1,4 +1,5 @@
-use Rattle.std.proofs.Common.{[]}
+use Rattle.ic_link_ops.specs.Sequences.{join}
+use Rattle.ic_rbtree.proofs.ShownClosed.{with_place, shown_closed_but, with_itself, hole_in}
 use Rattle.ic_rbtree.proofs.InOrder.{still_shown, fits, fitted}
 use Rattle.ic_rbtree.proofs.linking.insert_in_order.Goals as goal
 
@@ -14,7 +15,7 @@ attach-requires g c =
     let r = c.requires.placed in
     let l = g.met.L.LinkOps.does_replay _ _ _ c.if-not-acquire_link.ensures.acquired in
     let f = fits g.L.RBTreeOps.node g.L.LinkOps.linked g.met.L.RBTreeOps.linked_alike l.was l.is c.acquire_link.ensures.frame r.shown c.get.ensures c.descend-hole.ensures.ends c.get-2.ensures in
-    (g.L.LinkOps.table c.acquire_link.new.self, f.gap, [], f.shown, f.hole)
+    (with_place c.args.object (join f.gap), shown_closed_but g.L.RBTreeOps.node f.shown, (with_itself g.L.RBTreeOps.node f.shown, (hole_in g.L.RBTreeOps.node (g.L.LinkOps.table c.acquire_link.new.self) c.args.object _ _ f.gap f.hole, tt)))
 
 pub returns-clause-inserted : goal.returns-clause-inserted
 returns-clause-inserted g c s shown =

@@ -11,7 +11,7 @@ parent-parent-requires g c =
 pub child-requires : goal.child-requires
 child-requires g c =
     let i = c.loop-parent.invariant.some in
-    sym (g.met.L.RBTreeOps.linked_alike _) ∙ (framed g.L.RBTreeOps.node i.2 i.3 i.5 i.6 (sym c.loop-parent.invariant.parent ∙ c.in-Some.is)).linked
+    (framed g.L.RBTreeOps.node i.2 i.3 i.5 i.6 (sym c.loop-parent.invariant.parent ∙ c.in-Some.is)).linked
 
 pub parent-parent-requires-in-Some : goal.parent-parent-requires-in-Some
 parent-parent-requires-in-Some g c =

@@ -5,7 +5,7 @@ use Rattle.ic_rbtree.proofs.steps.outermost.Goals as goal
 pub child-requires : goal.child-requires
 child-requires g c =
     let i = c.loop-below.invariant.some in
-    sym (g.met.L.RBTreeOps.linked_alike _) ∙ (opened g.L.RBTreeOps.node c.args.side i.2 i.3 i.5 i.6).linked
+    (opened g.L.RBTreeOps.node c.args.side i.2 i.3 i.5 i.6).linked
 
 pub loop-below-smaller : goal.loop-below-smaller
 loop-below-smaller g c =

@@ -10,7 +10,7 @@ use Rattle.ic_rbtree.proofs.steps.step.Goals as goal
 pub child-requires : goal.child-requires
 child-requires g c =
     let x = member_spot g.L.RBTreeOps.node (member_there c.requires.stands c.in-Some.is) in
-    sym (g.met.L.RBTreeOps.linked_alike _) ∙ spot_linked g.L.RBTreeOps.node x.2
+    spot_linked g.L.RBTreeOps.node x.2
 
 pub outermost-requires : goal.outermost-requires
 outermost-requires g c =

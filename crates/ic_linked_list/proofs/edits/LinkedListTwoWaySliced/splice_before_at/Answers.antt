@@ -1,10 +1,26 @@
-use Rattle.std.proofs.Common.{refl, ◌∙◌}
+use Rattle.std.proofs.Common.{[], refl, ◌∙◌, sym}
+use Rattle.ic_link_ops.proofs.ShownLists.{gap_linked, gap_behind_linked, tail_linked}
+use Rattle.ic_link_ops.proofs.DoublyLists.{between_linked}
 use Rattle.ic_link_ops.proofs.Positions.{gap_there, put_in_front}
 use Rattle.ic_linked_list.proofs.edits.LinkedListTwoWaySliced.splice_before_at.Goals as goal
 
-pub splice_between-requires-clause-shown : goal.splice_between-requires-clause-shown
-splice_between-requires-clause-shown g c =
-    let k = gap_there c.requires.stands in (k.0, k.1, c.get-before.ensures ∙ c.prev_of.ensures.moved.leads k.0 k.1 k.2, c.get.ensures ∙ k.2)
+pub splice_between-requires-clause-before : goal.splice_between-requires-clause-before
+splice_between-requires-clause-before g c q e =
+    let k = gap_there c.requires.stands in
+    gap_linked (between_linked g.met.L.LinkedListOps.linked_alike) k.0.front k.0.back k.1 (sym e ∙ c.get-before.ensures ∙ c.prev_of.ensures.moved.leads k.0 k.1 k.2)
+
+pub splice_between-requires-clause-behind : goal.splice_between-requires-clause-behind
+splice_between-requires-clause-behind g c q e =
+    let k = gap_there c.requires.stands in
+    gap_behind_linked (between_linked g.met.L.LinkedListOps.linked_alike) k.0.front k.0.back k.1 (sym e ∙ c.get.ensures ∙ k.2)
+
+pub splice_between-requires-clause-first : goal.splice_between-requires-clause-first
+splice_between-requires-clause-first g c q e =
+    let given = c.requires.given in
+    gap_behind_linked (between_linked g.met.L.LinkedListOps.linked_alike) [] given.0 given.1 (sym e ∙ given.1.head)
+
+pub splice_between-requires-clause-last : goal.splice_between-requires-clause-last
+splice_between-requires-clause-last g c q e = tail_linked (between_linked g.met.L.LinkedListOps.linked_alike) c.requires.given.1 e
 
 pub returns-clause-spliced : goal.returns-clause-spliced
 returns-clause-spliced g c =

@@ -1,15 +1,23 @@
-use Rattle.std.proofs.Common.{refl, ◌∙◌}
+use Rattle.std.proofs.Common.{refl, ◌∙◌, sym}
 use Rattle.ic_link_ops.specs.Sequences.{Cut, join, IsBefore}
 use Rattle.ic_link_ops.specs.Edits.{Splits}
 use Rattle.ic_link_ops.specs.LinkedList.{Shows}
 use Rattle.ic_link_ops.proofs.SequenceLemmas.{absent_turned}
+use Rattle.ic_link_ops.proofs.ShownLists.{gap_linked, gap_behind_linked}
+use Rattle.ic_link_ops.proofs.DoublyLists.{between_linked}
 use Rattle.ic_link_ops.proofs.Positions.{gap_there, split_in_front}
 use Rattle.ic_linked_list.proofs.edits.LinkedListTwoWaySliced.split_before_at.Goals as goal
 use Rattle.ic_linked_list.proofs.edits.LinkedListTwoWaySliced.split_before_at.Given.{Over}
 
-pub split_between-rest-requires : goal.split_between-rest-requires
-split_between-rest-requires g c =
-    let k = gap_there c.requires.stands in record { shown = (k.0, k.1, c.get-before.ensures ∙ c.prev_of.ensures.moved.leads k.0 k.1 k.2, c.get.ensures ∙ k.2) }
+pub split_between-rest-requires-clause-before : goal.split_between-rest-requires-clause-before
+split_between-rest-requires-clause-before g c q e =
+    let k = gap_there c.requires.stands in
+    gap_linked (between_linked g.met.L.LinkedListOps.linked_alike) k.0.front k.0.back k.1 (sym e ∙ c.get-before.ensures ∙ c.prev_of.ensures.moved.leads k.0 k.1 k.2)
+
+pub split_between-rest-requires-clause-behind : goal.split_between-rest-requires-clause-behind
+split_between-rest-requires-clause-behind g c q e =
+    let k = gap_there c.requires.stands in
+    gap_behind_linked (between_linked g.met.L.LinkedListOps.linked_alike) k.0.front k.0.back k.1 (sym e ∙ c.get.ensures ∙ k.2)
 
 -- what is kept and what is handed out, by the gap in front of the position
 splits : (g : Over) (c : goal.After-replace g) (gap : Cut) → Shows g.L.LinkedListOps.neighbors (g.L.LinkOps.table c.args.links.now) c.args.self.now (join gap)

@@ -3,8 +3,8 @@ use Rattle.ic_link_ops.specs.Sequences.{last}
 use Rattle.ic_link_ops.specs.Chains.{Ends}
 use Rattle.ic_link_ops.specs.LinkedList.{Shows}
 use Rattle.ic_link_ops.proofs.SequenceLemmas.{gap_not, absent_left, absent_right, absent_both, last_some}
-use Rattle.ic_link_ops.proofs.ShownLists.{shows_splice, shows_first, gap_linked, gap_behind_linked, tail_linked, ends_not}
-use Rattle.ic_link_ops.proofs.DoublyLists.{between_linked, next_turns, prev_turns}
+use Rattle.ic_link_ops.proofs.ShownLists.{shows_splice, shows_first, ends_not}
+use Rattle.ic_link_ops.proofs.DoublyLists.{next_turns, prev_turns}
 use Rattle.ic_linked_list.proofs.list.LinkedList.splice_between.Goals as goal
 
 -- a list with a first member has a last one
@@ -15,22 +15,11 @@ returns-in_default-get-clause-spliced g c gap t shown before behind given apart 
     let none : last t ≡ None = sym shown.tail ∙ c.in_default-get.is in
     absurd (last_some c.in-Some.front (drop 1 t) (rw (shows_first t shown c.in-Some.is) at none))
 
-pub lead-requires : goal.lead-requires
-lead-requires g c q e =
-    let r = c.requires.shown in
-    gap_linked (between_linked g.met.L.LinkedListOps.linked_alike) r.0.front r.0.back r.1 (sym e ∙ r.2)
-
-pub follow-requires : goal.follow-requires
-follow-requires g c q e =
-    let r = c.requires.shown in
-    rw (g.met.L.LinkOps.does_replay _ _ [] c.lead.ensures.no_step q)
-    (gap_behind_linked (between_linked g.met.L.LinkedListOps.linked_alike) r.0.front r.0.back r.1 (sym e ∙ r.3))
-
 pub set_next-requires : goal.set_next-requires
 set_next-requires g c =
     let L = g.met.L.LinkOps in record {
       linked = rw (L.does_replay _ _ [] c.set_prev.ensures.no_step _, L.does_replay _ _ [] c.follow.ensures.no_step _, L.does_replay _ _ [] c.lead.ensures.no_step _)
-          (tail_linked (between_linked g.met.L.LinkedListOps.linked_alike) (rw (← c.given.view_is) at c.requires.given.1) (sym c.get-2.ensures ∙ c.in-Some-get.is));
+          (c.requires.last c.in-Some-get.back (rw (← c.given.view_is) (sym c.get-2.ensures ∙ c.in-Some-get.is)));
     }
 
 pub returns-clause-spliced : goal.returns-clause-spliced

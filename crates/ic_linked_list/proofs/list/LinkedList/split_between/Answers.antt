@@ -1,20 +1,8 @@
-use Rattle.std.proofs.Common.{[], None, ◌∙◌, sym}
+use Rattle.std.proofs.Common.{None, ◌∙◌}
 use Rattle.ic_link_ops.specs.Chains.{Ends}
 use Rattle.ic_link_ops.proofs.SequenceLemmas.{gap_not}
-use Rattle.ic_link_ops.proofs.ShownLists.{shows_split, gap_linked, gap_behind_linked}
-use Rattle.ic_link_ops.proofs.DoublyLists.{between_linked}
+use Rattle.ic_link_ops.proofs.ShownLists.{shows_split}
 use Rattle.ic_linked_list.proofs.list.LinkedList.split_between.Goals as goal
-
-pub lead-requires : goal.lead-requires
-lead-requires g c q e =
-    let r = c.requires.shown in
-    gap_linked (between_linked g.met.L.LinkedListOps.linked_alike) r.0.front r.0.back r.1 (sym e ∙ r.2)
-
-pub follow-requires : goal.follow-requires
-follow-requires g c q e =
-    let r = c.requires.shown in
-    rw (g.met.L.LinkOps.does_replay _ _ [] c.lead.ensures.no_step q)
-    (gap_behind_linked (between_linked g.met.L.LinkedListOps.linked_alike) r.0.front r.0.back r.1 (sym e ∙ r.3))
 
 pub returns : goal.returns
 returns g c = record {
@@ -34,5 +22,6 @@ returns g c = record {
               (c.follow.ensures.turns None).others q beside.1 ∙ (c.lead.ensures.turns None).others q beside.0;
         };
       };
+  extent = c.follow.ensures.extent ∙ c.lead.ensures.extent;
   no_step = g.met.L.LinkOps.does_on _ _ _ _ _ c.lead.ensures.no_step c.follow.ensures.no_step;
 }

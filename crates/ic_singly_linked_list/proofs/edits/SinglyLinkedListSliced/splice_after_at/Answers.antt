@@ -2,13 +2,13 @@ use Rattle.std.proofs.Common.{refl, ◌∙◌}
 use Rattle.ic_link_ops.proofs.Positions.{put_behind}
 use Rattle.ic_singly_linked_list.proofs.edits.SinglyLinkedListSliced.splice_after_at.Goals as goal
 
-pub splice_between-requires-clause-shown : goal.splice_between-requires-clause-shown
-splice_between-requires-clause-shown g c =
+pub splice_list-requires-clause-shown : goal.splice_list-requires-clause-shown
+splice_list-requires-clause-shown g c =
     let at = c.requires.stands in (at.gap, at.shown, c.get.ensures ∙ at.after, c.get-behind.ensures ∙ c.next_of.ensures.moved.leads at.gap at.shown at.after)
 
 pub returns-clause-spliced : goal.returns-clause-spliced
 returns-clause-spliced g c =
-    let e = c.splice_between.ensures in record {
+    let e = c.splice_list.ensures in record {
       spliced = λ gap t shown after given apart. e.spliced gap t shown (c.get.ensures ∙ after) (c.get-behind.ensures ∙ c.next_of.ensures.moved.leads gap shown after) given apart;
       no_step = e.no_step;
       position = refl;

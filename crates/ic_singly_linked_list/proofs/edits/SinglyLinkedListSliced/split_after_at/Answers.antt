@@ -1,10 +1,14 @@
-use Rattle.std.proofs.Common.{refl, ◌∙◌}
+use Rattle.std.proofs.Common.{refl, ◌∙◌, sym}
+use Rattle.ic_link_ops.proofs.ShownLists.{gap_linked}
+use Rattle.ic_link_ops.proofs.SinglyLists.{followed_linked, two_ended}
 use Rattle.ic_link_ops.proofs.Positions.{split_behind}
 use Rattle.ic_singly_linked_list.proofs.edits.SinglyLinkedListSliced.split_after_at.Goals as goal
 
 pub split_between-requires : goal.split_between-requires
 split_between-requires g c =
-    let at = c.requires.stands in record { shown = (at.gap, at.shown, c.get.ensures ∙ at.after, c.get-behind.ensures ∙ c.next_of.ensures.moved.leads at.gap at.shown at.after) }
+    let at = c.requires.stands in record {
+      before = λ q e. gap_linked (followed_linked g.met.L.SinglyLinkedListOps.linked_alike) at.gap.front at.gap.back (two_ended at.shown) (sym e ∙ c.get.ensures ∙ at.after);
+    }
 
 pub returns-clause-split : goal.returns-clause-split
 returns-clause-split g c =

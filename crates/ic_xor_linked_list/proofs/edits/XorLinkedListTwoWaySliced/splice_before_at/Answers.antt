@@ -1,13 +1,24 @@
-use Rattle.std.proofs.Common.{◌++◌, ◌∙◌, ap, append_assoc}
+use Rattle.std.proofs.Common.{[], ◌++◌, ◌∙◌, ap, append_assoc, sym}
+use Rattle.ic_link_ops.proofs.ShownLists.{gap_linked, gap_behind_linked, tail_linked}
 use Rattle.ic_link_ops.proofs.Positions.{gap_there, put_in_front}
-use Rattle.ic_link_ops.proofs.XorLists.{xor_lists}
+use Rattle.ic_link_ops.proofs.XorLists.{xor_lists, joined_linked}
 use Rattle.ic_xor_linked_list.proofs.Standing.{spot_then_stays, knows_then}
 use Rattle.ic_xor_linked_list.proofs.edits.XorLinkedListTwoWaySliced.splice_before_at.Goals as goal
 
-pub splice_between-requires-clause-shown : goal.splice_between-requires-clause-shown
-splice_between-requires-clause-shown g c =
+pub splice_between-requires-clause-before : goal.splice_between-requires-clause-before
+splice_between-requires-clause-before g c q e =
     let k = gap_there c.requires.stands.stands in
-    (k.0, k.1, c.current-before.ensures ∙ c.prev_of.ensures.moved.leads k.0 k.1 k.2, c.current.ensures ∙ k.2)
+    gap_linked joined_linked k.0.front k.0.back k.1 (sym e ∙ c.current-before.ensures ∙ c.prev_of.ensures.moved.leads k.0 k.1 k.2)
+
+pub splice_between-requires-clause-behind : goal.splice_between-requires-clause-behind
+splice_between-requires-clause-behind g c q e =
+    let k = gap_there c.requires.stands.stands in gap_behind_linked joined_linked k.0.front k.0.back k.1 (sym e ∙ c.current.ensures ∙ k.2)
+
+pub splice_between-requires-clause-first : goal.splice_between-requires-clause-first
+splice_between-requires-clause-first g c q e = let given = c.requires.given in gap_behind_linked joined_linked [] given.0 given.1 (sym e ∙ given.1.head)
+
+pub splice_between-requires-clause-last : goal.splice_between-requires-clause-last
+splice_between-requires-clause-last g c q e = tail_linked joined_linked c.requires.given.1 e
 
 pub returns-clause-spliced : goal.returns-clause-spliced
 returns-clause-spliced g c =

@@ -28,7 +28,7 @@ pub loop-current-init : goal.loop-current-init
 unfolding releases_none
 loop-current-init g c = record {
   extent = refl;
-  released = λ s shown. (releases_none shown.chain (c.head-current.ensures ∙ shown.head), refl, g.met.L.LinkOps.does_nothing _);
+  released = λ s shown. (releases_none shown.chain (c.first-current.ensures ∙ shown.head), refl, g.met.L.LinkOps.does_nothing _);
 }
 
 pub loop-current-smaller : goal.loop-current-smaller

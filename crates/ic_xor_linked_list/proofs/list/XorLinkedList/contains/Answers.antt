@@ -8,7 +8,7 @@ use Rattle.ic_xor_linked_list.proofs.list.XorLinkedList.contains.Goals as goal
 
 pub loop-current-init : goal.loop-current-init
 unfolding seeks_none releases_none
-loop-current-init g c = record { sought = λ s shown. (seeks_none shown.chain (c.head-current.ensures ∙ shown.head), refl) }
+loop-current-init g c = record { sought = λ s shown. (seeks_none shown.chain (c.first-current.ensures ∙ shown.head), refl) }
 
 pub loop-current-smaller : goal.loop-current-smaller
 loop-current-smaller g c =

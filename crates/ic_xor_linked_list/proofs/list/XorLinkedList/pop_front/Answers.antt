@@ -5,13 +5,13 @@ use Rattle.ic_xor_linked_list.proofs.list.XorLinkedList.pop_front.Goals as goal
 
 pub returns-clause-removed : goal.returns-clause-removed
 returns-clause-removed g c s shown =
-    let whole = rw (shows_first s shown (sym c.head.ensures ∙ c.in_ok-front.was)) at shown in
+    let whole = rw (shows_first s shown (sym c.first.ensures ∙ c.in_ok-front.was)) at shown in
     c.take_off.ensures.removed [] (drop 1 s) whole refl
     (c.next-behind.ensures ∙ joined_step _ g.met.L.XorLinkedListOps.finds_other _ _ _ (shows_middle [] (drop 1 s) whole))
 
 pub returns-clause-frame : goal.returns-clause-frame
 returns-clause-frame g c s shown =
-    let is = shows_first s shown (sym c.head.ensures ∙ c.in_ok-front.was) in
+    let is = shows_first s shown (sym c.first.ensures ∙ c.in_ok-front.was) in
     let whole = rw is at shown in
     rw is
     (c.take_off.ensures.frame [] (drop 1 s) whole refl

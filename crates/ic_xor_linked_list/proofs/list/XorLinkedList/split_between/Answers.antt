@@ -1,17 +1,8 @@
-use Rattle.std.proofs.Common.{[], ◌∙◌, sym}
+use Rattle.std.proofs.Common.{◌∙◌}
 use Rattle.ic_link_ops.specs.Chains.{Ends}
 use Rattle.ic_link_ops.proofs.SequenceLemmas.{gap_not}
-use Rattle.ic_link_ops.proofs.ShownLists.{shows_split, gap_linked, gap_behind_linked}
-use Rattle.ic_link_ops.proofs.XorLists.{joined_linked}
+use Rattle.ic_link_ops.proofs.ShownLists.{shows_split}
 use Rattle.ic_xor_linked_list.proofs.list.XorLinkedList.split_between.Goals as goal
-
-pub lead-requires : goal.lead-requires
-lead-requires g c q e = let r = c.requires.shown in gap_linked joined_linked r.0.front r.0.back r.1 (sym e ∙ r.2)
-
-pub follow-requires : goal.follow-requires
-follow-requires g c q e =
-    let r = c.requires.shown in
-    rw (g.met.L.LinkOps.does_replay _ _ [] c.lead.ensures.no_step q) (gap_behind_linked joined_linked r.0.front r.0.back r.1 (sym e ∙ r.3))
 
 pub returns-clause-split : goal.returns-clause-split
 returns-clause-split g c gap shown before behind =

@@ -1,40 +1,33 @@
 use Rattle.std.proofs.Common.{[], ◌∷◌, ◌∙◌, sym}
 use Rattle.ic_link_ops.proofs.SequenceLemmas.{absent_right, beside_not, distinct_middle}
-use Rattle.ic_link_ops.proofs.ShownLists.{shows_remove, shows_middle, shows_beside, gap_linked, next_linked}
+use Rattle.ic_link_ops.proofs.ShownLists.{shows_middle, shows_beside, gap_linked, next_linked}
 use Rattle.ic_link_ops.proofs.XorLists.{joined_linked}
 use Rattle.ic_xor_linked_list.proofs.list.XorLinkedList.take_off.Goals as goal
 
-pub lead-requires : goal.lead-requires
-lead-requires g c q e = let r = c.requires.shown in gap_linked joined_linked r.0 (c.args.place ∷ r.1) r.2 (sym e ∙ r.3)
+pub close_between-requires-clause-before : goal.close_between-requires-clause-before
+close_between-requires-clause-before g c q e = let r = c.requires.shown in gap_linked joined_linked r.0 (c.args.place ∷ r.1) r.2 (sym e ∙ r.3)
 
-pub follow-requires : goal.follow-requires
-follow-requires g c q e =
-    let r = c.requires.shown in
-    rw (g.met.L.LinkOps.does_replay _ _ [] c.lead.ensures.no_step q) (next_linked joined_linked r.0 c.args.place r.1 r.2 (sym e ∙ r.4))
+pub close_between-requires-clause-behind : goal.close_between-requires-clause-behind
+close_between-requires-clause-behind g c q e = let r = c.requires.shown in next_linked joined_linked r.0 c.args.place r.1 r.2 (sym e ∙ r.4)
 
 pub release_link-requires : goal.release_link-requires
 release_link-requires g c =
     let r = c.requires.shown in
-    let L = g.met.L.LinkOps in record {
-      linked = L.does_replay _ _ [] c.follow.ensures.no_step c.args.place ∙ L.does_replay _ _ [] c.lead.ensures.no_step c.args.place ∙ (shows_middle r.0 r.1 r.2).linked;
-    }
+    record { linked = g.met.L.LinkOps.does_replay _ _ [] c.close_between.ensures.no_step c.args.place ∙ (shows_middle r.0 r.1 r.2).linked }
 
 pub returns-clause-removed : goal.returns-clause-removed
 returns-clause-removed g c front back shown before behind =
-    shows_beside {new = g.L.LinkOps.table c.release_link.new.self}
-    (shows_remove {t2 = g.L.LinkOps.table c.follow.new.links} front back c.args.place before behind (rw (← c.self.view_is) at shown) c.lead.ensures.turns c.follow.ensures.turns
-    c.lead.ensures.head c.follow.ensures.tail)
+    shows_beside {new = g.L.LinkOps.table c.release_link.new.self} (c.close_between.ensures.shows front back shown before behind)
     (distinct_middle front back c.args.place shown.distinct) c.release_link.ensures.frame.others
 
 pub returns-clause-released : goal.returns-clause-released
-returns-clause-released g c =
-    let L = g.met.L.LinkOps in L.does_on _ _ _ _ _ (L.does_on _ _ _ _ _ c.lead.ensures.no_step c.follow.ensures.no_step) c.release_link.ensures.released
+returns-clause-released g c = g.met.L.LinkOps.does_on _ _ _ _ _ c.close_between.ensures.no_step c.release_link.ensures.released
 
 pub returns-clause-frame : goal.returns-clause-frame
 returns-clause-frame g c front back shown before behind =
     let released = c.release_link.ensures.frame in record {
-      extent = released.extent ∙ c.follow.ensures.extent ∙ c.lead.ensures.extent;
+      extent = released.extent ∙ c.close_between.ensures.extent;
       others = λ q out.
           let beside = beside_not front back c.args.place before behind out in
-          released.others q (absent_right q front (c.args.place ∷ back) out).0 ∙ c.follow.ensures.turns.others q beside.1 ∙ c.lead.ensures.turns.others q beside.0;
+          released.others q (absent_right q front (c.args.place ∷ back) out).0 ∙ c.close_between.ensures.others q beside.0 beside.1;
     }

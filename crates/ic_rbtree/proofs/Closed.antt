@@ -1,0 +1,143 @@
+-- Writes that lead out of no closed set.
+use Rattle.std.proofs.Common.{◌≡◌, Bool, true, Option, Some, None, refl, sym, ap, ◌∙◌, subst, inl, inr}
+use Rattle.ic_unsafe_ref.specs.declared.place.Place.{Place}
+use Rattle.ic_unsafe_ref.proofs.PlaceLemmas.{same_or_not}
+use Rattle.ic_link_ops.specs.declared.color.Color.{Color}
+use Rattle.ic_link_ops.specs.declared.side.Side.{Side}
+use Rattle.ic_link_ops.specs.declared.side.Side.TheVariants.{Left, Right}
+use Rattle.ic_link_ops.specs.Tables.{Table, ChangesOnly}
+use Rattle.ic_link_ops.specs.RedBlackTree.{Node}
+use Rattle.ic_link_ops.specs.Frames.{child_on, with_child}
+use Rattle.ic_link_ops.proofs.SequenceLemmas.{none_not, some_same}
+use Rattle.ic_rbtree.specs.Removal.{AreRead}
+use Rattle.ic_rbtree.specs.Taking.{or_else, both_of}
+use Rattle.ic_rbtree.specs.Closed.{IsIn, IsNode, IsClosedBut, IsClosed}
+
+-- an end that is there is in the set
+pub in_there : (S : Place → Bool) {o : Option Place} {q : Place} → IsIn S o → o ≡ Some q → S q ≡ true
+in_there S {o} {q} h e = subst (λ (x : Option Place). IsIn S x) e h
+
+-- what was read is in the set where the node's end is
+pub read_in : (S : Place → Bool) {o x : Option Place} → IsIn S x → o ≡ x → IsIn S o
+read_in S {o} {x} h e = subst (λ (z : Option Place). IsIn S z) (sym e) h
+
+module _ {E : Type 0} (n : E → Node) where
+  module _ {v : Table E} {root but : Option Place} {S : Place → Bool} (h : IsClosedBut n v root but S) where
+    -- another root in S
+    pub restarted : {new_root : Option Place} → IsIn S new_root → IsClosedBut n v new_root but S
+    restarted s = record { linked = h.linked; left = h.left; right = h.right; parent = h.parent; starts = s }
+
+    module _ {w : Table E} {p : Place} (only : ChangesOnly v w p) where
+      moved : (r : Node → Option Place) → (IsIn S (r (n (v.entry p))) → IsIn S (r (n (w.entry p))))
+          → ((q : Place) → S q ≡ true → (but ≡ Some q → ⊥) → IsIn S (r (n (v.entry q)))) → (q : Place) → S q ≡ true → (but ≡ Some q → ⊥) → IsIn S (r (n (w.entry q)))
+      moved r f old q m out = elim (same_or_not q p) [
+        | inl e ↦ subst (λ (z : Place). IsIn S (r (n (w.entry z)))) (sym e) (f (subst (λ (z : Place). IsIn S (r (n (v.entry z)))) e (old q m out)))
+        | inr k ↦ subst (λ (x : E). IsIn S (r (n x))) (sym (only.others q k)) (old q m out)
+      ]
+
+      -- ONE WRITE
+      written : (n (w.entry p)).linked ≡ (n (v.entry p)).linked → (IsIn S (n (v.entry p)).left → IsIn S (n (w.entry p)).left)
+          → (IsIn S (n (v.entry p)).right → IsIn S (n (w.entry p)).right) → (IsIn S (n (v.entry p)).parent → IsIn S (n (w.entry p)).parent) → IsClosedBut n w root but S
+      written l fl fr fp = record {
+        linked = λ q m. linked q m;
+        left = moved (λ x. x.left) fl h.left;
+        right = moved (λ x. x.right) fr h.right;
+        parent = moved (λ x. x.parent) fp h.parent;
+        starts = h.starts;
+      } where
+        linked : (q : Place) → S q ≡ true → IsNode n w q
+        linked q m = elim (same_or_not q p) [
+          | inl e ↦ subst (λ (z : Place). IsNode n w z) (sym e) (l ∙ subst (λ (z : Place). IsNode n v z) e (h.linked q m))
+          | inr k ↦ ap (λ (x : E). (n x).linked) (only.others q k) ∙ h.linked q m
+        ]
+
+      put : (r : Node → Option Place) {x : Node} → n (w.entry p) ≡ x → {o : Option Place} → r x ≡ o → IsIn S o → IsIn S (r (n (w.entry p)))
+      put r set e k = subst (λ (o : Option Place). IsIn S o) (sym (ap r set ∙ e)) k
+
+      same : (r : Node → Option Place) {x : Node} → n (w.entry p) ≡ x → r x ≡ r (n (v.entry p)) → IsIn S (r (n (v.entry p))) → IsIn S (r (n (w.entry p)))
+      same r set e k = put r set e k
+
+      pub left_written : {to : Option Place} → n (w.entry p) ≡ record (n (v.entry p)) { left = to } → IsIn S to → IsClosedBut n w root but S
+      left_written set k = written (ap (λ (x : Node). x.linked) set) (λ i. put (λ x. x.left) set refl k) (same (λ x. x.right) set refl) (same (λ x. x.parent) set refl)
+
+      pub right_written : {to : Option Place} → n (w.entry p) ≡ record (n (v.entry p)) { right = to } → IsIn S to → IsClosedBut n w root but S
+      right_written set k = written (ap (λ (x : Node). x.linked) set) (same (λ x. x.left) set refl) (λ i. put (λ x. x.right) set refl k) (same (λ x. x.parent) set refl)
+
+      pub parent_written : {to : Option Place} → n (w.entry p) ≡ record (n (v.entry p)) { parent = to } → IsIn S to → IsClosedBut n w root but S
+      parent_written set k = written (ap (λ (x : Node). x.linked) set) (same (λ x. x.left) set refl) (same (λ x. x.right) set refl) (λ i. put (λ x. x.parent) set refl k)
+
+      pub color_written : {c : Color} → n (w.entry p) ≡ record (n (v.entry p)) { color = c } → IsClosedBut n w root but S
+      color_written set = written (ap (λ (x : Node). x.linked) set) (same (λ x. x.left) set refl) (same (λ x. x.right) set refl) (same (λ x. x.parent) set refl)
+
+    -- what leads into S
+    pub child_in : (d : Side) (p : Place) → S p ≡ true → (but ≡ Some p → ⊥) → IsIn S (child_on d (n (v.entry p)))
+    child_in Left p m out = h.left p m out
+    child_in Right p m out = h.right p m out
+
+  module _ {v : Table E} {root : Option Place} {S : Place → Bool} (h : IsClosed n v root S) where
+    pub in_child : (d : Side) {o : Option Place} (p : Place) → S p ≡ true → o ≡ child_on d (n (v.entry p)) → IsIn S o
+    in_child d p m e = subst (λ (x : Option Place). IsIn S x) (sym e) (child_in h d p m (none_not p))
+
+    pub in_parent : {o : Option Place} (p : Place) → S p ≡ true → o ≡ (n (v.entry p)).parent → IsIn S o
+    in_parent p m e = subst (λ (x : Option Place). IsIn S x) (sym e) (h.parent p m (none_not p))
+
+    pub in_only : {o : Option Place} (p : Place) → S p ≡ true → o ≡ or_else (n (v.entry p)).left (n (v.entry p)).right → IsIn S o
+    in_only p m e = read_in S (pick (n (v.entry p)).left (n (v.entry p)).right (h.left p m (none_not p)) (h.right p m (none_not p))) e where
+      pick : (a b : Option Place) → IsIn S a → IsIn S b → IsIn S (or_else a b)
+      pick None b i k = k
+      pick (Some x) b i k = i
+
+    pub in_both : {o : Option Place} (p : Place) → S p ≡ true → o ≡ both_of (n (v.entry p)).left (n (v.entry p)).right → IsIn S o
+    in_both p m e = read_in S (pick (n (v.entry p)).left (n (v.entry p)).right (h.right p m (none_not p))) e where
+      pick : (a b : Option Place) → IsIn S b → IsIn S (both_of a b)
+      pick None b k = tt
+      pick (Some x) b k = k
+
+    -- a place in S and its children can be read
+    pub closed_read : (p : Place) → S p ≡ true → AreRead n v p
+    closed_read p m = record {
+      here = h.linked p m;
+      left = λ q e. h.linked q (in_there S (h.left p m (none_not p)) e);
+      right = λ q e. h.linked q (in_there S (h.right p m (none_not p)) e);
+    }
+
+    -- an end in S is linked
+    pub in_linked : {o : Option Place} → IsIn S o → (q : Place) → o ≡ Some q → IsNode n v q
+    in_linked i q e = h.linked q (in_there S i e)
+
+    -- closed, and so closed but at a place
+    pub weaker : (but : Option Place) → IsClosedBut n v root but S
+    weaker but = record {
+      linked = h.linked;
+      left = λ q m out. h.left q m (none_not q);
+      right = λ q m out. h.right q m (none_not q);
+      parent = λ q m out. h.parent q m (none_not q);
+      starts = h.starts;
+    }
+
+  -- the last place leads into S as well
+  pub all_closed : {v : Table E} {root : Option Place} {p : Place} {S : Place → Bool} → IsClosedBut n v root (Some p) S
+      → IsIn S (n (v.entry p)).left → IsIn S (n (v.entry p)).right → IsIn S (n (v.entry p)).parent → IsClosed n v root S
+  all_closed {v} {root} {p} {S} h l r u = record {
+    linked = h.linked;
+    left = λ q m none. at (λ x. x.left) l h.left q m;
+    right = λ q m none. at (λ x. x.right) r h.right q m;
+    parent = λ q m none. at (λ x. x.parent) u h.parent q m;
+    starts = h.starts;
+  } where
+    at : (f : Node → Option Place) → IsIn S (f (n (v.entry p))) → ((q : Place) → S q ≡ true → (Some p ≡ Some q → ⊥) → IsIn S (f (n (v.entry q)))) → (q : Place) → S q ≡ true → IsIn S (f (n (v.entry q)))
+    at f i old q m = elim (same_or_not q p) [
+      | inl e ↦ subst (λ (z : Place). IsIn S (f (n (v.entry z)))) (sym e) i
+      | inr k ↦ old q m (λ s. k (sym (some_same s)))
+    ]
+
+  -- THE WRITES at a place that comes in
+  pub node_written : {v v1 v2 v3 v4 : Table E} {root : Option Place} {p : Place} {S : Place → Bool} {a b up : Option Place} {c : Color} → IsClosedBut n v root (Some p) S
+      → n (v1.entry p) ≡ with_child Left (n (v.entry p)) a → ChangesOnly v v1 p → n (v2.entry p) ≡ with_child Right (n (v1.entry p)) b → ChangesOnly v1 v2 p
+      → n (v3.entry p) ≡ record (n (v2.entry p)) { parent = up } → ChangesOnly v2 v3 p → n (v4.entry p) ≡ record (n (v3.entry p)) { color = c } → ChangesOnly v3 v4 p
+      → IsIn S a → IsIn S b → IsIn S up → IsClosed n v4 root S
+  node_written {v} {v1} {v2} {v3} {v4} {root} {p} {S} {a} {b} {up} {c} h set1 only1 set2 only2 set3 only3 set4 only4 ia ib iu =
+      all_closed (color_written (parent_written (right_written (left_written h only1 set1 ia) only2 set2 ib) only3 set3 iu) only4 set4)
+      (read_in S ia (ap (λ (x : Node). x.left) set4 ∙ (ap (λ (x : Node). x.left) set3 ∙ (ap (λ (x : Node). x.left) set2 ∙ ap (λ (x : Node). x.left) set1))))
+      (read_in S ib (ap (λ (x : Node). x.right) set4 ∙ (ap (λ (x : Node). x.right) set3 ∙ ap (λ (x : Node). x.right) set2)))
+      (read_in S iu (ap (λ (x : Node). x.parent) set4 ∙ ap (λ (x : Node). x.parent) set3))

@@ -1,0 +1,137 @@
+-- For callers: a tree that has each object, after each kind of step.
+use Rattle.std.proofs.Common.{◌≡◌, ◌≢◌, ℕ, Option, Some, None, IsSome, is_some, List, [], ◌∷◌, ◌++◌, map, sym, ap, ◌∙◌, subst, true≢false}
+use Rattle.std.proofs.lemmas.Cmp.{nat_cmp_total}
+use Rattle.std.proofs.lemmas.List.Elements.{filter_map-append}
+use Rattle.std.specs.List.{AllByRecursion, cons_option}
+use Rattle.std.specs.Ordering.{nat_cmp}
+use Rattle.ic_unsafe_ref.specs.declared.place.Place.{Place}
+use Rattle.ic_unsafe_ref.specs.Objects.{Objects, Places, Frees, object_at, is_placed}
+use Rattle.ic_unsafe_ref.proofs.Placing.{placed_there, others_placed, gone_there, others_left}
+use Rattle.ic_link_ops.specs.PlacedObjects.{ArePlaced, ShowsPlaced, StandAt, values_at}
+use Rattle.ic_link_ops.specs.Sequences.{IsAbsent}
+use Rattle.ic_link_ops.specs.Tables.{IsLinked, IsUnlinked, LinksAlso, Unlinks}
+use Rattle.ic_link_ops.proofs.Each.{all_back, all_without}
+use Rattle.ic_link_ops.proofs.LinkedSets.{everywhere}
+use Rattle.ic_link_ops.proofs.PlacedValues.{all_beside, values_beside, stand_put}
+use Rattle.ic_link_ops.proofs.SequenceLemmas.{absent_left, absent_right, absent_with, distinct_middle, member_split}
+use Rattle.ic_rbtree.specs.Borders.{IsSorted}
+use Rattle.ic_rbtree.specs.Comparing.{compared, own_order}
+use Rattle.ic_rbtree.specs.Ordered.{InsertsInOrder}
+use Rattle.ic_rbtree.specs.PlainTrees.{TreeLinkOps, ShowsTree, PlainShows, is_linked, plain_table}
+use Rattle.ic_rbtree.specs.SortedValues.{HasSorted, InsertsValue}
+use Rattle.ic_rbtree.proofs.PlainTrees.{plain_trees}
+use Rattle.ic_rbtree.proofs.SortedValues.{has_none, has_covered, has_beside, has_inserted}
+use Rattle.ic_rbtree.specs.EachObject.{HasEach}
+use Rattle.ic_rbtree.proofs.SortedKeys.{sorted_without}
+
+module _ {V A : Type 0} {key_of : V → ℕ} {w : TreeLinkOps A} {root : Option Place} {objects : Objects V} where
+  -- AT FIRST
+  pub each_none : ((p : Place) → IsUnlinked is_linked (plain_table w) p) → root ≡ None → ((p : Place) → object_at objects p ≡ None) → HasEach key_of w root objects []
+  each_none free none vacant = record {
+    sorted = has_none plain_trees nat_cmp_total objects none free;
+    exact = λ p. free p ∙ sym (ap is_some (vacant p));
+  }
+
+  module _ {values : List V} (each : HasEach key_of w root objects values) where
+    -- AFTER `cover`
+    pub each_covered : (v : TreeLinkOps A) → ((q : Place) → (plain_table v).entry q ≡ (plain_table w).entry q) → HasEach key_of v root objects values
+    each_covered v stays = record { sorted = has_covered plain_trees nat_cmp_total each.sorted stays; exact = λ p. ap is_linked (stays p) ∙ each.exact p }
+
+    -- a vacant place is not linked, and members are placed after another object is
+    pub vacant_free : (p : Place) → object_at objects p ≡ None → IsUnlinked is_linked (plain_table w) p
+    vacant_free p vacant = each.exact p ∙ ap is_some vacant
+
+    pub each_ready : {more : Objects V} {p : Place} {r : V} → Places objects more p r → ShowsPlaced (PlainShows w root) more
+    each_ready {more} {p} places =
+        let has = has_beside plain_trees nat_cmp_total each.sorted {new = more} (vacant_free p places.vacant) (others_placed places) in record { members = has.members; shown = has.shown; placed = has.stand.placed }
+
+    -- A NEW OBJECT, inserted in order
+    pub each_new : {more : Objects V} {p : Place} {r : V} {v : TreeLinkOps A} {top : Option Place} → Places objects more p r
+        → ((s : List Place) → PlainShows w root s → InsertsInOrder ShowsTree (compared (own_order nat_cmp key_of more p) more) (plain_table w) (plain_table v) top s p)
+        → LinksAlso is_linked (plain_table w) (plain_table v) p → (all : List V) × InsertsValue nat_cmp key_of values r all × HasEach key_of v top more all
+    each_new {more} {p} {r} {v} {top} places put also =
+        let a = has_inserted plain_trees nat_cmp_total each.sorted places put also in (
+          a.0,
+          a.1,
+          record {
+            sorted = a.2;
+            exact = λ q. everywhere (λ q. is_linked ((plain_table v).entry q) ≡ is_placed more q) p q (also.is ∙ sym (ap is_some (placed_there places)))
+                (λ n. also.others q n ∙ each.exact q ∙ sym (ap is_some (others_placed places q n)));
+          },
+        )
+
+    -- WHERE AN OBJECT STANDS among the members, and its value among the values
+    module _ (p : Place) {out : V} (there : object_at objects p ≡ Some out) where
+      pub each_linked : IsLinked is_linked (plain_table w) p
+      each_linked = each.exact p ∙ ap is_some there
+
+      pub each_member : (front : List Place) × (back : List Place) × (each.sorted.members ≡ front ++ p ∷ back)
+      each_member = member_split p each.sorted.members (λ absent. true≢false (sym each_linked ∙ each.sorted.only p absent))
+
+      pub each_value : (front back : List Place) → each.sorted.members ≡ front ++ p ∷ back → values ≡ values_at objects front ++ out ∷ values_at objects back
+      each_value front back at = sym each.sorted.stand.are ∙ ap (values_at objects) at ∙ filter_map-append (object_at objects) front (p ∷ back)
+          ∙ ap (λ (o : Option V). values_at objects front ++ cons_option o (values_at objects back)) there
+
+      -- what holds of each each_value holds of it
+      pub at_each : (P : V → Type 0) → AllByRecursion P values → P out
+      at_each P all = let m = each_member in (all_back P (values_at objects m.0) (out ∷ values_at objects m.1) (subst (AllByRecursion P) (each_value m.0 m.1 m.2) all)).0
+
+      -- TAKEN OUT
+      module _ {new : Objects V} {v : TreeLinkOps A} {top : Option Place} (removed : (front back : List Place) → PlainShows w root (front ++ p ∷ back) → PlainShows v top (front ++ back))
+          (off : Unlinks is_linked (plain_table w) (plain_table v) p) (frees : Frees objects new p) where
+        pub each_taken : (front : List V) × (back : List V) × (values ≡ front ++ out ∷ back) × HasEach key_of v top new (front ++ back)
+        each_taken = by each_member.0 each_member.1 each_member.2 where
+          by : (front back : List Place) → each.sorted.members ≡ front ++ p ∷ back → (front : List V) × (back : List V) × (values ≡ front ++ out ∷ back) × HasEach key_of v top new (front ++ back)
+          by front back at = (
+            values_at objects front,
+            values_at objects back,
+            is,
+            record {
+              sorted = has_beside plain_trees nat_cmp_total less {new = new} off.is (others_left frees);
+              exact = λ q. everywhere (λ q. is_linked ((plain_table v).entry q) ≡ is_placed new q) p q (off.is ∙ sym (ap is_some (gone_there frees)))
+                  (λ n. off.others q n ∙ each.exact q ∙ sym (ap is_some (others_left frees q n)));
+            },
+          ) where
+            is : values ≡ values_at objects front ++ out ∷ values_at objects back
+            is = each_value front back at
+
+            less : HasSorted nat_cmp key_of ShowsTree is_linked (plain_table v) top objects (values_at objects front ++ values_at objects back)
+            less = record {
+              members = front ++ back;
+              shown = removed front back (subst (PlainShows w root) at each.sorted.shown);
+              stand = record {
+                placed = all_without (λ q. IsSome (object_at objects q)) front p back (subst (ArePlaced objects) at each.sorted.stand.placed);
+                are = filter_map-append (object_at objects) front back;
+              };
+              sorted = sorted_without key_of (values_at objects front) out (values_at objects back) (subst (λ (l : List V). IsSorted nat_cmp (map key_of l)) is each.sorted.sorted);
+              only = λ q. everywhere (λ q. IsAbsent q (front ++ back) → IsUnlinked is_linked (plain_table v) q) p q (λ absent. off.is)
+                  (λ n absent. off.others q n ∙ each.sorted.only q (subst (IsAbsent q) (sym at) (absent_with front back p q n absent)));
+            }
+
+      -- ANOTHER VALUE in its place, where the keys rise still
+      module _ {new : Objects V} {r : V} (is : object_at new p ≡ Some r) (others : (q : Place) → q ≢ p → object_at new q ≡ object_at objects q) where
+        pub each_changed : (front : List V) × (back : List V) × (values ≡ front ++ out ∷ back) × (IsSorted nat_cmp (map key_of (front ++ r ∷ back)) → HasEach key_of w root new (front ++ r ∷ back))
+        each_changed = by each_member.0 each_member.1 each_member.2 where
+          by : (front back : List Place) → each.sorted.members ≡ front ++ p ∷ back
+              → (front : List V) × (back : List V) × (values ≡ front ++ out ∷ back) × (IsSorted nat_cmp (map key_of (front ++ r ∷ back)) → HasEach key_of w root new (front ++ r ∷ back))
+          by front back at = (
+            values_at objects front,
+            values_at objects back,
+            each_value front back at,
+            λ rises. record {
+              sorted = record {
+                members = front ++ p ∷ back;
+                shown = subst (PlainShows w root) at each.sorted.shown;
+                stand = subst (λ (l : List V). StandAt new (front ++ p ∷ back) (l ++ r ∷ values_at objects back)) (values_beside objects new p others front (absent_left p front back out_of))
+                    (subst (λ (l : List V). StandAt new (front ++ p ∷ back) (values_at new front ++ r ∷ l)) (values_beside objects new p others back (absent_right p front back out_of)) (stand_put new p is front back placed));
+                sorted = rises;
+                only = λ q absent. each.sorted.only q (subst (IsAbsent q) (sym at) absent);
+              };
+              exact = λ q. everywhere (λ q. is_linked ((plain_table w).entry q) ≡ is_placed new q) p q (each_linked ∙ sym (ap is_some is)) (λ n. each.exact q ∙ sym (ap is_some (others q n)));
+            },
+          ) where
+            out_of : IsAbsent p (front ++ back)
+            out_of = distinct_middle front back p (plain_trees.distinct (plain_table w) root (front ++ p ∷ back) (subst (PlainShows w root) at each.sorted.shown))
+
+            placed : ArePlaced new (front ++ back)
+            placed = all_beside objects new p others IsSome (front ++ back) out_of (all_without (λ q. IsSome (object_at objects q)) front p back (subst (ArePlaced objects) at each.sorted.stand.placed))

@@ -1,0 +1,34 @@
+use Rattle.std.proofs.Common.{None, ◌∙◌}
+use Rattle.ic_rbtree.proofs.Closed.{in_there, in_child, in_parent, in_linked}
+use Rattle.ic_rbtree.proofs.Turning.{rotates}
+use Rattle.ic_rbtree.proofs.repair.writers.rotate.Goals as goal
+
+pub adopt-requires : goal.adopt-requires
+adopt-requires g c q e =
+    let n = g.N.Nodes.node in
+    let r = c.requires in
+    let up = in_there r.0 (in_child n r.1 _ c.args.place r.2.0 c.child.ensures) c.in-Some.is in
+    c.set_child.ensures.linked q ∙ in_linked n r.1 (in_child n r.1 _ c.in-Some.upper up c.child-inner.ensures) q e
+
+pub returns-clause-rotated : goal.returns-clause-rotated
+returns-clause-rotated g c =
+    rotates _ _ _ _ _ _ _ _ _ _ c.child.result _ _ c.in-Some.upper _ _ c.other-far.result c.other-far.ensures c.in-Some.is c.child.ensures c.child-inner.ensures c.parent-parent.ensures
+    c.set_child.ensures.set c.set_child.ensures.frame c.adopt.ensures.moved c.set_parent.ensures.set c.set_parent.ensures.frame c.relink.ensures.moved
+    c.set_child-2.ensures.set c.set_child-2.ensures.frame c.set_parent-2.ensures.set c.set_parent-2.ensures.frame
+
+pub returns-clause-safe : goal.returns-clause-safe
+returns-clause-safe g c S h i =
+    let n = g.N.Nodes.node in
+    let root = c.args.root.now in
+    let up = in_there S (in_child n h _ c.args.place i.0 c.child.ensures) c.in-Some.is in
+    let h1 = c.set_child.ensures.safe root None S h (in_child n h _ c.in-Some.upper up c.child-inner.ensures, tt) in
+    let h2 = c.adopt.ensures.safe root None S h1 (i.0, tt) in
+    let h3 = c.set_parent.ensures.safe root None S h2 (in_parent n h c.args.place i.0 c.parent-parent.ensures, tt) in
+    let h4 = c.relink.ensures.safe None S h3 (up, tt) in
+    let h5 = c.set_child-2.ensures.safe c.relink.new.root None S h4 (i.0, tt) in
+    (c.set_parent-2.ensures.safe c.relink.new.root None S h5 (up, tt), tt)
+
+pub returns-clause-quiet : goal.returns-clause-quiet
+returns-clause-quiet g c =
+    let on = g.met.N.Nodes.quiet_on in
+    on _ _ _ c.set_child.ensures.quiet (on _ _ _ c.adopt.ensures.quiet (on _ _ _ c.set_parent.ensures.quiet (on _ _ _ c.relink.ensures.quiet (on _ _ _ c.set_child-2.ensures.quiet c.set_parent-2.ensures.quiet))))

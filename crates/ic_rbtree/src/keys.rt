@@ -1,0 +1,16 @@
+//! Searches and inserts by keys: descents from the root, and what they ask of the objects.
+//!
+//! ```text
+//! tree.insert(&mut links, &objects, object)?; // behind all with no greater key
+//! let cursor = tree.find(&links, &objects, &5); // the first with the key 5
+//! ```
+
+pub(crate) mod bounds;
+pub(crate) mod descent;
+pub(crate) mod entry;
+pub(crate) mod find;
+pub mod key_adapter;
+pub(crate) mod ordered;
+pub(crate) mod probe;
+pub(crate) mod range;
+pub(crate) mod search;

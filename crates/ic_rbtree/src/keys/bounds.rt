@@ -1,0 +1,191 @@
+//! The first and the last member that meet a bound.
+//!
+//! ```text
+//! let from = tree.lower_bound(&links, &objects, Bound::Included(&5)); // the first with a key of 5 or more
+//! let to = tree.upper_bound(&links, &objects, Bound::Excluded(&9)); // the last with a key below 9
+//! ```
+
+ghost use Rattle.std.specs.Prelude.{◌≡◌, List};
+ghost use Rattle.ic_unsafe_ref.specs.declared.place.Place.{Place};
+ghost use Rattle.ic_link_ops.specs.Positions.{Stands};
+ghost use Rattle.ic_link_ops.specs.RedBlackTree.{Shows};
+ghost use Rattle.ic_link_ops.specs.PlacedObjects.{ShowsPlaced};
+ghost use Rattle.ic_rbtree.specs.Comparing.{compared_within, order_there, HasRoomWithin, LooksWithin};
+ghost use Rattle.ic_rbtree.specs.Borders.{IsLowerBorder, IsUpperBorder};
+ghost use Rattle.ic_rbtree.specs.Tree.{root_of, adapter_of};
+
+use crate::keys::probe::probe_within;
+use crate::{Bound, Cursor, CursorMut, CursorOwning, KeyAdapter, Probe, RBTree};
+use ic_link_ops::LinkOps;
+use ic_link_ops::rbtree::RBTreeOps;
+use ic_unsafe_ref::Values;
+
+impl<A: KeyAdapter> RBTree<A> {
+    ghost use Rattle.ic_rbtree.specs.Cursor.{tree_of, links_of, position, site_of};
+    ghost use Rattle.ic_rbtree.specs.CursorMut as editing;
+    ghost use Rattle.ic_rbtree.specs.CursorOwning as owning;
+
+    /// A cursor on the first member that meets the bound, null if there is none.
+    ///
+    /// It asks that all members are placed, and that the count of the bound's probe is at most `u64::MAX - 66`. In a tree that
+    /// isn't sorted for the probe it is on a border: a member that meets the bound and whose predecessor, if any, doesn't.
+    /// O(log n): v looks in a tree of n members, where `2^v <= (n + 1)^2`, and none for `Unbounded`.
+    #[inline]
+    pub fn lower_bound_by<'a, L: RBTreeOps, P: Probe<A::Value>, O: Values<A::Value>>(
+        &'a self,
+        links: &'a L,
+        objects: &O,
+        bound: &mut Bound<P>,
+    ) -> Cursor<'a, A, L>
+        requires placed { ShowsPlaced (Shows L.node (L.table links.now) (root_of self.now)) (O.values objects.now) }
+        requires room { HasRoomWithin P.count bound.old }
+        ensures tree { tree_of result ≡ self.now }
+        ensures links { links_of result ≡ links.now }
+        ensures border { (s : List Place) → Shows L.node (L.table links.now) (root_of self.now) s
+            → IsLowerBorder (compared_within P.order (O.values objects.now) bound.old) s (position result) }
+        ensures stands { Stands (Shows L.node) L.table (site_of result) }
+        ensures looks { (s : List Place) → Shows L.node (L.table links.now) (root_of self.now) s
+            → LooksWithin P.order P.count bound.old bound.new s }
+    {
+        Cursor::new(self, links, self.lower(links, objects, bound))
+    }
+
+    /// A cursor on the first member whose key meets the bound, null if there is none: `lower_bound_by` with a `KeyProbe`.
+    #[inline]
+    pub fn lower_bound<'a, L: RBTreeOps, O: Values<A::Value>>(
+        &'a self,
+        links: &'a L,
+        objects: &O,
+        bound: Bound<&A::Key>,
+    ) -> Cursor<'a, A, L>
+        requires placed { ShowsPlaced (Shows L.node (L.table links.now) (root_of self.now)) (O.values objects.now) }
+        ensures tree { tree_of result ≡ self.now }
+        ensures links { links_of result ≡ links.now }
+        ensures border { (s : List Place) → Shows L.node (L.table links.now) (root_of self.now) s
+            → IsLowerBorder (compared_within
+            (order_there A.Key.cmp (A.key_of (adapter_of self.now))) (O.values objects.now) bound.entry) s (position result) }
+        ensures stands { Stands (Shows L.node) L.table (site_of result) }
+    {
+        self.lower_bound_by(links, objects, &mut probe_within(self.adapter, bound))
+    }
+
+    /// A cursor that edits, on the first member whose key meets the bound, null if there is none. As `lower_bound`.
+    #[inline]
+    pub fn lower_bound_mut<'a, L: RBTreeOps, O: Values<A::Value>>(
+        &'a mut self,
+        links: &'a mut L,
+        objects: &O,
+        bound: Bound<&A::Key>,
+    ) -> CursorMut<'a, A, L>
+        requires placed { ShowsPlaced (Shows L.node (L.table links.old) (root_of self.old)) (O.values objects.now) }
+        ensures borrows { editing.IsBorrowed self.entry links.entry result }
+        ensures border { (s : List Place) → Shows L.node (L.table links.old) (root_of self.old) s
+            → IsLowerBorder (compared_within
+            (order_there A.Key.cmp (A.key_of (adapter_of self.old))) (O.values objects.now) bound.entry) s (editing.position result) }
+        ensures stands { Stands (Shows L.node) L.table (editing.site_of result) }
+    {
+        let current = self.lower(&*links, objects, &mut probe_within(self.adapter, bound));
+        CursorMut::new(self, links, current)
+    }
+
+    /// A cursor that keeps the tree, on the first member whose key meets the bound, null if there is none. As `lower_bound`.
+    #[inline]
+    pub fn lower_bound_owning<L: RBTreeOps, O: Values<A::Value>>(
+        self,
+        links: &L,
+        objects: &O,
+        bound: Bound<&A::Key>,
+    ) -> CursorOwning<A>
+        requires placed { ShowsPlaced (Shows L.node (L.table links.now) (root_of self)) (O.values objects.now) }
+        ensures tree { owning.tree_of result ≡ self }
+        ensures border { (s : List Place) → Shows L.node (L.table links.now) (root_of self) s
+            → IsLowerBorder (compared_within
+            (order_there A.Key.cmp (A.key_of (adapter_of self))) (O.values objects.now) bound.entry) s (owning.position result) }
+        ensures stands { Stands (Shows L.node) L.table (owning.site_of links.now result) }
+    {
+        let current = self.lower(links, objects, &mut probe_within(self.adapter, bound));
+        CursorOwning::new(self, current)
+    }
+
+    /// A cursor on the last member that meets the bound, null if there is none.
+    ///
+    /// It asks that all members are placed, and that the count of the bound's probe is at most `u64::MAX - 66`. In a tree that
+    /// isn't sorted for the probe it is on a border: a member that meets the bound and whose successor, if any, doesn't.
+    /// O(log n): v looks in a tree of n members, where `2^v <= (n + 1)^2`, and none for `Unbounded`.
+    #[inline]
+    pub fn upper_bound_by<'a, L: RBTreeOps, P: Probe<A::Value>, O: Values<A::Value>>(
+        &'a self,
+        links: &'a L,
+        objects: &O,
+        bound: &mut Bound<P>,
+    ) -> Cursor<'a, A, L>
+        requires placed { ShowsPlaced (Shows L.node (L.table links.now) (root_of self.now)) (O.values objects.now) }
+        requires room { HasRoomWithin P.count bound.old }
+        ensures tree { tree_of result ≡ self.now }
+        ensures links { links_of result ≡ links.now }
+        ensures border { (s : List Place) → Shows L.node (L.table links.now) (root_of self.now) s
+            → IsUpperBorder (compared_within P.order (O.values objects.now) bound.old) s (position result) }
+        ensures stands { Stands (Shows L.node) L.table (site_of result) }
+        ensures looks { (s : List Place) → Shows L.node (L.table links.now) (root_of self.now) s
+            → LooksWithin P.order P.count bound.old bound.new s }
+    {
+        Cursor::new(self, links, self.upper(links, objects, bound))
+    }
+
+    /// A cursor on the last member whose key meets the bound, null if there is none: `upper_bound_by` with a `KeyProbe`.
+    #[inline]
+    pub fn upper_bound<'a, L: RBTreeOps, O: Values<A::Value>>(
+        &'a self,
+        links: &'a L,
+        objects: &O,
+        bound: Bound<&A::Key>,
+    ) -> Cursor<'a, A, L>
+        requires placed { ShowsPlaced (Shows L.node (L.table links.now) (root_of self.now)) (O.values objects.now) }
+        ensures tree { tree_of result ≡ self.now }
+        ensures links { links_of result ≡ links.now }
+        ensures border { (s : List Place) → Shows L.node (L.table links.now) (root_of self.now) s
+            → IsUpperBorder (compared_within
+            (order_there A.Key.cmp (A.key_of (adapter_of self.now))) (O.values objects.now) bound.entry) s (position result) }
+        ensures stands { Stands (Shows L.node) L.table (site_of result) }
+    {
+        self.upper_bound_by(links, objects, &mut probe_within(self.adapter, bound))
+    }
+
+    /// A cursor that edits, on the last member whose key meets the bound, null if there is none. As `upper_bound`.
+    #[inline]
+    pub fn upper_bound_mut<'a, L: RBTreeOps, O: Values<A::Value>>(
+        &'a mut self,
+        links: &'a mut L,
+        objects: &O,
+        bound: Bound<&A::Key>,
+    ) -> CursorMut<'a, A, L>
+        requires placed { ShowsPlaced (Shows L.node (L.table links.old) (root_of self.old)) (O.values objects.now) }
+        ensures borrows { editing.IsBorrowed self.entry links.entry result }
+        ensures border { (s : List Place) → Shows L.node (L.table links.old) (root_of self.old) s
+            → IsUpperBorder (compared_within
+            (order_there A.Key.cmp (A.key_of (adapter_of self.old))) (O.values objects.now) bound.entry) s (editing.position result) }
+        ensures stands { Stands (Shows L.node) L.table (editing.site_of result) }
+    {
+        let current = self.upper(&*links, objects, &mut probe_within(self.adapter, bound));
+        CursorMut::new(self, links, current)
+    }
+
+    /// A cursor that keeps the tree, on the last member whose key meets the bound, null if there is none. As `upper_bound`.
+    #[inline]
+    pub fn upper_bound_owning<L: RBTreeOps, O: Values<A::Value>>(
+        self,
+        links: &L,
+        objects: &O,
+        bound: Bound<&A::Key>,
+    ) -> CursorOwning<A>
+        requires placed { ShowsPlaced (Shows L.node (L.table links.now) (root_of self)) (O.values objects.now) }
+        ensures tree { owning.tree_of result ≡ self }
+        ensures border { (s : List Place) → Shows L.node (L.table links.now) (root_of self) s
+            → IsUpperBorder (compared_within
+            (order_there A.Key.cmp (A.key_of (adapter_of self))) (O.values objects.now) bound.entry) s (owning.position result) }
+        ensures stands { Stands (Shows L.node) L.table (owning.site_of links.now result) }
+    {
+        let current = self.upper(links, objects, &mut probe_within(self.adapter, bound));
+        CursorOwning::new(self, current)
+    }
+}

@@ -1,0 +1,97 @@
+//! Members that stand at a border of a search, for all cursors.
+
+ghost use Rattle.std.specs.Prelude.{◌≡◌, List};
+ghost use Rattle.ic_unsafe_ref.specs.declared.place.Place.{Place};
+ghost use Rattle.ic_link_ops.specs.Sequences.{first, last};
+ghost use Rattle.ic_link_ops.specs.RedBlackTree.{Shows};
+ghost use Rattle.ic_link_ops.specs.PlacedObjects.{ShowsPlaced};
+ghost use Rattle.ic_rbtree.specs.Comparing.{compared, compared_within, meets_lower, is_beyond, HasRoom, HasRoomWithin, Looks, LooksWithin};
+ghost use Rattle.ic_rbtree.specs.Borders.{Finds, IsLowerBorder, IsUpperBorder};
+ghost use Rattle.ic_rbtree.specs.Descents.{gap_in};
+ghost use Rattle.ic_rbtree.specs.Tree.{root_of};
+
+use crate::keys::descent::descend;
+use crate::{Bound, KeyAdapter, Probe, RBTree};
+use ic_link_ops::rbtree::RBTreeOps;
+use ic_link_ops::{End, LinkOps, Side};
+use ic_unsafe_ref::Values;
+
+impl<A: KeyAdapter> RBTree<A> {
+    // The first member that compares equal.
+    #[inline]
+    pub(crate) fn first_equal<L: RBTreeOps, P: Probe<A::Value>, O: Values<A::Value>>(
+        &self,
+        links: &L,
+        objects: &O,
+        probe: &mut P,
+    ) -> End
+        requires placed { ShowsPlaced (Shows L.node (L.table links.now) (root_of self.now)) (O.values objects.now) }
+        requires room { HasRoom (P.count probe.old) }
+        ensures found { (s : List Place) → Shows L.node (L.table links.now) (root_of self.now) s
+            → Finds (compared (P.order probe.old) (O.values objects.now)) s result }
+        ensures looks { (s : List Place) → Shows L.node (L.table links.now) (root_of self.now) s
+            → Looks P.order P.count probe.old probe.new s }
+    {
+        let descent = descend(links, self.root.get(), objects, probe, Side::Left);
+        if !descent.equal {
+            return End::of(None);
+        }
+        descent.back
+    }
+
+    // The member behind the gap to which the bound sends from below: one that meets it.
+    #[inline]
+    pub(crate) fn lower<L: RBTreeOps, P: Probe<A::Value>, O: Values<A::Value>>(
+        &self,
+        links: &L,
+        objects: &O,
+        bound: &mut Bound<P>,
+    ) -> End
+        requires placed { ShowsPlaced (Shows L.node (L.table links.now) (root_of self.now)) (O.values objects.now) }
+        requires room { HasRoomWithin P.count bound.old }
+        ensures border { (s : List Place) → Shows L.node (L.table links.now) (root_of self.now) s
+            → IsLowerBorder (compared_within P.order (O.values objects.now) bound.old) s result }
+        ensures lower { (s : List Place) (h : Shows L.node (L.table links.now) (root_of self.now) s)
+            → result ≡ first (gap_in (meets_lower (compared_within P.order (O.values objects.now) bound.old)) h.tree).back }
+        ensures looks { (s : List Place) → Shows L.node (L.table links.now) (root_of self.now) s
+            → LooksWithin P.order P.count bound.old bound.new s }
+    {
+        match bound {
+            Bound::Included(probe) => {
+                descend(links, self.root.get(), objects, probe, Side::Left).back
+            }
+            Bound::Excluded(probe) => {
+                descend(links, self.root.get(), objects, probe, Side::Right).back
+            }
+            Bound::Unbounded => End::of(self.first(links)),
+        }
+    }
+
+    // The member in front of the gap to which the bound sends from above: one that meets it.
+    #[inline]
+    pub(crate) fn upper<L: RBTreeOps, P: Probe<A::Value>, O: Values<A::Value>>(
+        &self,
+        links: &L,
+        objects: &O,
+        bound: &mut Bound<P>,
+    ) -> End
+        requires placed { ShowsPlaced (Shows L.node (L.table links.now) (root_of self.now)) (O.values objects.now) }
+        requires room { HasRoomWithin P.count bound.old }
+        ensures border { (s : List Place) → Shows L.node (L.table links.now) (root_of self.now) s
+            → IsUpperBorder (compared_within P.order (O.values objects.now) bound.old) s result }
+        ensures upper { (s : List Place) (h : Shows L.node (L.table links.now) (root_of self.now) s)
+            → result ≡ last (gap_in (is_beyond (compared_within P.order (O.values objects.now) bound.old)) h.tree).front }
+        ensures looks { (s : List Place) → Shows L.node (L.table links.now) (root_of self.now) s
+            → LooksWithin P.order P.count bound.old bound.new s }
+    {
+        match bound {
+            Bound::Included(probe) => {
+                descend(links, self.root.get(), objects, probe, Side::Right).front
+            }
+            Bound::Excluded(probe) => {
+                descend(links, self.root.get(), objects, probe, Side::Left).front
+            }
+            Bound::Unbounded => End::of(self.last(links)),
+        }
+    }
+}

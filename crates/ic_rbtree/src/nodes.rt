@@ -1,0 +1,140 @@
+//! What the surgery of a tree asks of the words that it writes.
+//!
+//! ```text
+//! attach(nodes, root, parent, side, place); // of any table, or of words that a caller keeps
+//! ```
+
+ghost use Rattle.std.specs.Prelude.{◌≡◌};
+ghost use Rattle.ic_link_ops.specs.Tables.{Table, ChangesOnly};
+ghost use Rattle.ic_link_ops.specs.RedBlackTree.{Node, node_at};
+ghost use Rattle.ic_rbtree.specs.Closed.{IsNode};
+
+use ic_link_ops::Color;
+use ic_link_ops::rbtree::RBTreeOps;
+use ic_unsafe_ref::Place;
+
+/// Entries that name two children and a parent and have a color, for whoever keeps them: what the surgery of a tree asks.
+///
+/// Every table of tree links is one. It links and unlinks no place.
+pub trait Nodes {
+    /// All that is kept at a place.
+    type Entry;
+
+    // How many places there are, and the entry of each.
+    ghost table: { Self → Table Self.Entry };
+
+    // What an entry says: whether its place is linked, between which places, and in which color.
+    ghost node: { Self.Entry → Node };
+
+    // From the one state to the other nothing was done but to set what nodes say.
+    ghost Quiet: { Self → Self → Type 0 };
+
+    /// The left child of `place`. It asks that the place is linked. O(1).
+    fn left(&self, place: Place) -> Option<Place>
+        requires linked { IsNode node (table self.now) place }
+        ensures { result ≡ (node_at node (table self.now) place).left };
+
+    /// The right child of `place`. It asks that the place is linked. O(1).
+    fn right(&self, place: Place) -> Option<Place>
+        requires linked { IsNode node (table self.now) place }
+        ensures { result ≡ (node_at node (table self.now) place).right };
+
+    /// The parent of `place`. It asks that the place is linked. O(1).
+    fn parent(&self, place: Place) -> Option<Place>
+        requires linked { IsNode node (table self.now) place }
+        ensures { result ≡ (node_at node (table self.now) place).parent };
+
+    /// The color of `place`. It asks that the place is linked. O(1).
+    fn color(&self, place: Place) -> Color
+        requires linked { IsNode node (table self.now) place }
+        ensures { result ≡ (node_at node (table self.now) place).color };
+
+    /// Sets the left child of `place`. It asks that the place is linked. O(1).
+    fn set_left(&mut self, place: Place, left: Option<Place>)
+        requires linked { IsNode node (table self.old) place }
+        ensures set { node_at node (table self.new) place ≡ record (node_at node (table self.old) place) { left = left } }
+        ensures frame { ChangesOnly (table self.old) (table self.new) place }
+        ensures quiet { Quiet self.old self.new };
+
+    /// Sets the right child of `place`. It asks that the place is linked. O(1).
+    fn set_right(&mut self, place: Place, right: Option<Place>)
+        requires linked { IsNode node (table self.old) place }
+        ensures set { node_at node (table self.new) place ≡ record (node_at node (table self.old) place) { right = right } }
+        ensures frame { ChangesOnly (table self.old) (table self.new) place }
+        ensures quiet { Quiet self.old self.new };
+
+    /// Sets the parent of `place`. It asks that the place is linked. O(1).
+    fn set_parent(&mut self, place: Place, parent: Option<Place>)
+        requires linked { IsNode node (table self.old) place }
+        ensures set { node_at node (table self.new) place ≡ record (node_at node (table self.old) place) { parent = parent } }
+        ensures frame { ChangesOnly (table self.old) (table self.new) place }
+        ensures quiet { Quiet self.old self.new };
+
+    /// Sets the color of `place`. It asks that the place is linked. O(1).
+    fn set_color(&mut self, place: Place, color: Color)
+        requires linked { IsNode node (table self.old) place }
+        ensures set { node_at node (table self.new) place ≡ record (node_at node (table self.old) place) { color = color } }
+        ensures frame { ChangesOnly (table self.old) (table self.new) place }
+        ensures quiet { Quiet self.old self.new };
+
+    // The laws: what stays is quiet, and quiet changes are quiet together.
+    ghost quiet_still: { (t : Self) → Quiet t t };
+
+    ghost quiet_on: { (a b c : Self) → Quiet a b → Quiet b c → Quiet a c };
+}
+
+impl<L: RBTreeOps> Nodes for L {
+    ghost use Rattle.ic_rbtree.specs.Steps.{TakesNoStep};
+
+    type Entry = L::Entry;
+
+    ghost table = { L.table };
+
+    ghost node = { L.node };
+
+    ghost Quiet = { TakesNoStep L.Does };
+
+    #[inline]
+    fn left(&self, place: Place) -> Option<Place> {
+        RBTreeOps::left(self, place)
+    }
+
+    #[inline]
+    fn right(&self, place: Place) -> Option<Place> {
+        RBTreeOps::right(self, place)
+    }
+
+    #[inline]
+    fn parent(&self, place: Place) -> Option<Place> {
+        RBTreeOps::parent(self, place)
+    }
+
+    #[inline]
+    fn color(&self, place: Place) -> Color {
+        RBTreeOps::color(self, place)
+    }
+
+    #[inline]
+    fn set_left(&mut self, place: Place, left: Option<Place>) {
+        RBTreeOps::set_left(self, place, left);
+    }
+
+    #[inline]
+    fn set_right(&mut self, place: Place, right: Option<Place>) {
+        RBTreeOps::set_right(self, place, right);
+    }
+
+    #[inline]
+    fn set_parent(&mut self, place: Place, parent: Option<Place>) {
+        RBTreeOps::set_parent(self, place, parent);
+    }
+
+    #[inline]
+    fn set_color(&mut self, place: Place, color: Color) {
+        RBTreeOps::set_color(self, place, color);
+    }
+
+    ghost quiet_still = { λ t start s d. d };
+
+    ghost quiet_on = { λ a b c x y start s d. y start s (x start s d) };
+}

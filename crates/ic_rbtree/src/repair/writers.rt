@@ -1,0 +1,133 @@
+//! What writes children and parents: rotations, and a place in the place of another.
+
+ghost use Rattle.std.specs.Prelude.{◌≡◌, ◌≢◌, Option, Some, [], ◌∷◌};
+ghost use Rattle.ic_unsafe_ref.specs.declared.place.Place.{Place};
+ghost use Rattle.ic_link_ops.specs.Tables.{ChangesOnly};
+ghost use Rattle.ic_link_ops.specs.RedBlackTree.{node_at};
+ghost use Rattle.ic_link_ops.specs.Frames.{with_child};
+ghost use Rattle.ic_rbtree.specs.Closed.{IsNode, KeepsNodes, IsSafe, IsSafeBut, StaysClosed, StaysClosedBut, ClosesAt};
+ghost use Rattle.ic_rbtree.specs.Taking.{TakesPlace};
+ghost use Rattle.ic_rbtree.specs.Steps.{Adopts, Relinks, Rotates};
+
+use crate::nodes::Nodes;
+use crate::readings::{child, other, side_of};
+use ic_link_ops::{Color, End, Side};
+use ic_unsafe_ref::Place;
+
+pub(crate) fn set_child<N: Nodes>(links: &mut N, place: Place, side: Side, to: Option<Place>)
+    requires { IsNode N.node (N.table links.old) place }
+    ensures set { node_at N.node (N.table links.new) place
+        ≡ with_child side (node_at N.node (N.table links.old) place) to }
+    ensures frame { ChangesOnly (N.table links.old) (N.table links.new) place }
+    ensures linked { KeepsNodes N.node (N.table links.old) (N.table links.new) }
+    ensures safe { (root : Option Place) → StaysClosedBut N.node (N.table links.old) (N.table links.new) root root (to ∷ []) }
+    ensures quiet { N.Quiet links.old links.new }
+{
+    match side {
+        Side::Left => links.set_left(place, to),
+        Side::Right => links.set_right(place, to),
+    }
+}
+
+pub(crate) fn set_parent<N: Nodes>(links: &mut N, place: Place, parent: Option<Place>)
+    requires { IsNode N.node (N.table links.old) place }
+    ensures set { node_at N.node (N.table links.new) place
+        ≡ record (node_at N.node (N.table links.old) place) { parent = parent } }
+    ensures frame { ChangesOnly (N.table links.old) (N.table links.new) place }
+    ensures linked { KeepsNodes N.node (N.table links.old) (N.table links.new) }
+    ensures safe { (root : Option Place) → StaysClosedBut N.node (N.table links.old) (N.table links.new) root root (parent ∷ []) }
+    ensures quiet { N.Quiet links.old links.new }
+{
+    links.set_parent(place, parent);
+}
+
+pub(crate) fn set_color<N: Nodes>(links: &mut N, place: Place, color: Color)
+    requires { IsNode N.node (N.table links.old) place }
+    ensures set { node_at N.node (N.table links.new) place
+        ≡ record (node_at N.node (N.table links.old) place) { color = color } }
+    ensures frame { ChangesOnly (N.table links.old) (N.table links.new) place }
+    ensures linked { KeepsNodes N.node (N.table links.old) (N.table links.new) }
+    ensures safe { (root : Option Place) → StaysClosedBut N.node (N.table links.old) (N.table links.new) root root [] }
+    ensures quiet { N.Quiet links.old links.new }
+{
+    links.set_color(place, color);
+}
+
+// A subtree gets another parent.
+pub(crate) fn adopt<N: Nodes>(links: &mut N, child: Option<Place>, parent: Option<Place>)
+    requires { (q : Place) → child ≡ Some q → IsNode N.node (N.table links.old) q }
+    ensures moved { Adopts N.node (N.table links.old) (N.table links.new) child parent }
+    ensures linked { KeepsNodes N.node (N.table links.old) (N.table links.new) }
+    ensures safe { (root : Option Place) → StaysClosedBut N.node (N.table links.old) (N.table links.new) root root (parent ∷ []) }
+    ensures quiet { N.Quiet links.old links.new }
+{
+    if let Some(child) = child {
+        set_parent(links, child, parent);
+    }
+}
+
+// Another subtree hangs where `was` hung.
+pub(crate) fn relink<N: Nodes>(
+    links: &mut N,
+    root: &mut End,
+    parent: Option<Place>,
+    was: Place,
+    to: Option<Place>,
+)
+    requires { (q : Place) → parent ≡ Some q → IsNode N.node (N.table links.old) q }
+    ensures moved { Relinks N.node (N.table links.old) (N.table links.new) root.old root.new parent was to }
+    ensures linked { KeepsNodes N.node (N.table links.old) (N.table links.new) }
+    ensures safe { StaysClosedBut N.node (N.table links.old) (N.table links.new) root.old root.new (to ∷ []) }
+    ensures quiet { N.Quiet links.old links.new }
+{
+    if let Some(parent) = parent {
+        let side = side_of(&*links, was, parent);
+        set_child(links, parent, side, to);
+    } else {
+        *root = End::of(to);
+    }
+}
+
+/// The place goes down on this side, and its child on the other side comes up.
+pub(crate) fn rotate<N: Nodes>(links: &mut N, root: &mut End, place: Place, side: Side)
+    requires { IsSafe N.node (N.table links.old) root.old (Some place ∷ []) }
+    ensures rotated { Rotates N.node (N.table links.old) (N.table links.new) root.old root.new place side }
+    ensures linked { KeepsNodes N.node (N.table links.old) (N.table links.new) }
+    ensures safe { StaysClosed N.node (N.table links.old) (N.table links.new) root.old root.new (Some place ∷ []) [] }
+    ensures quiet { N.Quiet links.old links.new }
+{
+    let far = other(side);
+    let Some(upper) = child(&*links, place, far) else {
+        return;
+    };
+    let inner = child(&*links, upper, side);
+    let parent = links.parent(place);
+    set_child(links, place, far, inner);
+    adopt(links, inner, Some(place));
+    set_parent(links, upper, parent);
+    relink(links, root, parent, place, Some(upper));
+    set_child(links, upper, side, Some(place));
+    set_parent(links, place, Some(upper));
+}
+
+/// In place of a member stands another place, which is on its own before.
+pub(crate) fn take_place<N: Nodes>(links: &mut N, root: &mut End, place: Place, new: Place)
+    requires safe { IsSafeBut N.node (N.table links.old) root.old new (Some place ∷ Some new ∷ []) }
+    requires apart { place ≢ new }
+    ensures taken { TakesPlace N.node (N.table links.old) (N.table links.new) root.old root.new place new }
+    ensures linked { KeepsNodes N.node (N.table links.old) (N.table links.new) }
+    ensures safe { ClosesAt N.node (N.table links.old) (N.table links.new) root.old root.new new (Some place ∷ Some new ∷ []) }
+    ensures quiet { N.Quiet links.old links.new }
+{
+    let parent = links.parent(place);
+    let left = links.left(place);
+    let right = links.right(place);
+    let color = links.color(place);
+    relink(links, root, parent, place, Some(new));
+    adopt(links, left, Some(new));
+    adopt(links, right, Some(new));
+    set_child(links, new, Side::Left, left);
+    set_child(links, new, Side::Right, right);
+    set_parent(links, new, parent);
+    set_color(links, new, color);
+}
