@@ -1,40 +1,48 @@
 -- A number that is read digit by digit.
-use Rattle.std.proofs.Common.{◌≡◌, ◌↔◌, ℕ, ◌+◌, ◌*◌, ◌^◌, ◌<◌, ◌≤◌, List, [], ◌∷◌, drop, length, get_or, arith, sym, subst, ◌∙◌}
-use Rattle.std.specs.Char.{digit_value}
-use Rattle.std.specs.Str.Parse.{AllDigits, digits_value, digits_value_after}
-use Rattle.std.proofs.lemmas.List.{drop_more, at_drop_more}
-use Rattle.std.proofs.Math.ListN.{drop_of_length-le}
-use Rattle.ic_commands.specs.Number.{IsNumber}
+use Rattle.std.proofs.Common.{◌≡◌, ℕ, ◌+◌, ◌*◌, ◌^◌, ◌<◌, ◌≤◌, Bool, true, false, cond, List, [], ◌∷◌, take, drop, length, get_or, arith, sym, subst, ap, refl, ◌∙◌}
+use Rattle.std.specs.Char.{digit_value, is_ascii_digit}
+use Rattle.std.specs.List.{prefix_len}
+use Rattle.std.specs.Str.Parse.{AllDigits, digits_value}
+use Rattle.std.proofs.lemmas.List.Sums.{take_while-cons, prefix_len-drop_yes}
+use Rattle.std.proofs.lemmas.List.{take-take}
+use Rattle.std.proofs.lemmas.Int.Digits.{digits_value_more}
+use Rattle.std.proofs.lemmas.Str.Parse.{digits_value-take-le}
+use Rattle.ic_commands.specs.Number.{IsNumber, leading_digits}
 
--- more digits make no number less
-value_after_is_more : (n : ℕ) (ds : List ℕ) → n ≤ digits_value_after 10 n ds
-value_after_is_more n [] = omega arith
-value_after_is_more n (d ∷ ds) = omega (arith, value_after_is_more (n * 10 + digit_value d) ds)
+is_small : (c : ℕ) → is_ascii_digit c ≡ true → digit_value c < 10
+is_small c digit = grind (arith, digit)
 
-module _ (word : List ℕ) where
-  -- the value is that of a number with the digits from i on, and all are digits if these are
+is_digit : (c : ℕ) → digit_value c < 10 → is_ascii_digit c ≡ true
+is_digit c small = grind (arith, small)
+
+all_if : (c : ℕ) (cs : List ℕ) (b : Bool) → is_ascii_digit c ≡ b → AllDigits 10 cs → AllDigits 10 (cond b (c ∷ cs) [])
+all_if c cs true digit all = (is_small c digit, all)
+all_if c cs false _ all = tt
+
+pub all_leading : (text : List ℕ) → AllDigits 10 (leading_digits text)
+all_leading [] = tt
+all_leading (c ∷ cs) = subst (AllDigits 10) (sym (take_while-cons is_ascii_digit c cs)) (all_if c (leading_digits cs) (is_ascii_digit c) refl (all_leading cs))
+
+-- a word of digits alone is what it begins with
+pub whole : (word : List ℕ) → AllDigits 10 word → leading_digits word ≡ word
+whole [] all = refl
+whole (c ∷ cs) all = take_while-cons is_ascii_digit c cs ∙ (rw (is_digit c all.0) (ap (λ ds. c ∷ ds) (whole cs all.1)))
+
+module _ (text : List ℕ) where
+  -- the number is that of the first i bytes, which are digits
   abbrev pub ReadTo : ℕ → ℕ → Type 0
-  ReadTo number i = (digits_value 10 word ≡ digits_value_after 10 number (drop i word)) × (AllDigits 10 word ↔ AllDigits 10 (drop i word))
+  ReadTo number i = (number ≡ digits_value 10 (take i text)) × (prefix_len is_ascii_digit text ≡ i + prefix_len is_ascii_digit (drop i text))
 
-  module _ (number i : ℕ) (there : i < length word) (read : ReadTo number i) where
-    abbrev digit : ℕ
-    digit = get_or word i 0
-
+  module _ (number i : ℕ) (there : i < length text) (read : ReadTo number i) (digit : is_ascii_digit (get_or text i 0) ≡ true) where
     abbrev more : ℕ
-    more = number * 10 + digit_value digit
+    more = number * 10 + digit_value (get_or text i 0)
 
-    value_is : digits_value 10 word ≡ digits_value_after 10 more (drop (i + 1) word)
-    value_is = read.0 ∙ at_drop_more (digits_value_after 10 number) word i 0 there
+    pub read_more : ReadTo more (i + 1)
+    read_more = (omega (arith, read.0, digits_value_more 10 text i there), omega (arith, read.1, prefix_len-drop_yes is_ascii_digit text i 0 there digit))
 
-    all_are : AllDigits 10 word ↔ ((digit_value digit < 10) × AllDigits 10 (drop (i + 1) word))
-    all_are = subst (λ ds. AllDigits 10 word ↔ AllDigits 10 ds) (drop_more word i 0 there) read.1
-
-    pub read_more : digit_value digit < 10 → ReadTo more (i + 1)
-    read_more is_digit = (value_is, ((λ all. (all_are.0 all).1), (λ rest. all_are.1 (is_digit, rest))))
-
-    pub no_number : ¬ ((digit_value digit < 10) × (more < 2 ^ 64)) → ¬ (IsNumber word)
-    no_number not_more is = not_more ((all_are.0 is.0.1).0, omega (arith, is.2, value_is, value_after_is_more more (drop (i + 1) word)))
-
-  pub all_read : (number i : ℕ) → length word ≤ i → ReadTo number i → (digits_value 10 word ≡ number) × AllDigits 10 word
-  all_read number i ended read = subst (λ ds. (digits_value 10 word ≡ digits_value_after 10 number ds) × (AllDigits 10 word ↔ AllDigits 10 ds)
-      → (digits_value 10 word ≡ number) × AllDigits 10 word) (sym (drop_of_length-le word ended)) (λ r. (r.0, r.1.1 tt)) read
+    pub no_number : ¬ ((digit_value (get_or text i 0) < 10) × (more < 2 ^ 64)) → ¬ (IsNumber (leading_digits text))
+    no_number not_more is =
+        let longer : i + 1 ≤ prefix_len is_ascii_digit text = omega (arith, read_more.1) in
+        let part : digits_value 10 (take (i + 1) (leading_digits text)) ≤ digits_value 10 (leading_digits text) = digits_value-take-le 10 (leading_digits text) (i + 1) (omega arith) in
+        let same : take (i + 1) (leading_digits text) ≡ take (i + 1) text = take-take (i + 1) (prefix_len is_ascii_digit text) text longer in
+        not_more (is_small (get_or text i 0) digit, omega (arith, is.2, read_more.0, part, ap (digits_value 10) same))

@@ -1,11 +1,16 @@
 -- The numbers that words write.
 use Rattle.std.specs.Prelude.{◌≡◌, ℕ, ◌+◌, ◌*◌, ◌≤◌, ◌<◌, ◌^◌, List, length, Option, MatchOption}
-use Rattle.std.specs.Char.{digit_value}
+use Rattle.std.specs.Char.{digit_value, is_ascii_digit}
+use Rattle.std.specs.List.{take_while}
 use Rattle.std.specs.Str.Parse.{IsNumeral, digits_value}
 
 -- 1 to 20 decimal digits, of a value below 2^64
 abbrev pub IsNumber : List ℕ → Type 0
 IsNumber word = IsNumeral 10 word × (length word ≤ 20) × (digits_value 10 word < 2 ^ 64)
+
+-- the decimal digits that a text begins with
+abbrev pub leading_digits : List ℕ → List ℕ
+leading_digits text = take_while is_ascii_digit text
 
 -- what a decimal digit behind a number makes, if it is one and the value stays below 2^64
 abbrev pub MoreDigits : ℕ → ℕ → Option ℕ → Type 0

@@ -7,11 +7,11 @@
 //! ```
 #![tactic(auto)]
 
-ghost use Rattle.std.specs.Prelude.{◌≡◌, ◌≢◌, ◌<◌, ◌↔◌, ◌^◌, IsSome, IfSome, IfNone};
+ghost use Rattle.std.specs.Prelude.{◌≡◌, ◌≢◌, ◌<◌, ◌≤◌, ◌↔◌, ◌^◌, IsSome, IfSome, IfNone, length};
 ghost use Rattle.std.specs.Str.Parse.{digits_value};
 ghost use Rattle.ic_unsafe_ref.specs.Places.{index_of};
 ghost use Rattle.ic_any_table.specs.declared.kind.Kind.{Kind};
-ghost use Rattle.ic_commands.specs.Number.{IsNumber, MoreDigits};
+ghost use Rattle.ic_commands.specs.Number.{IsNumber, MoreDigits, leading_digits};
 ghost use Rattle.ic_commands.specs.KindNames.{name_of};
 
 use ic_any_table::Kind;
@@ -55,14 +55,34 @@ pub fn number(word: &[u8]) -> Option<u64>
     ensures valid { IsSome result ↔ IsNumber word.now }
     ensures value { IfSome result (λ number. number ≡ digits_value 10 word.now) }
 {
-    if word.is_empty() || word.len() > MOST_DIGITS {
+    match leading_number(word) {
+        Some((number, digits)) if digits == word.len() => Some(number),
+        _ => None,
+    }
+}
+
+/// The number that the leading digits of a text write, and how many these are. `None` where they are no number: there are none, more than 20,
+/// or their value is 2^64 or more. O(digits).
+#[inline]
+pub fn leading_number(text: &[u8]) -> Option<(u64, usize)>
+    ensures valid { IsSome result ↔ IsNumber (leading_digits text.now) }
+    ensures value { IfSome result (λ read. read.0 ≡ digits_value 10 (leading_digits text.now)) }
+    ensures digits { IfSome result (λ read. read.1 ≡ length (leading_digits text.now)) }
+    ensures within { IfSome result (λ read. read.1 ≤ length text.now) }
+{
+    let mut number = 0;
+    let mut digits = 0;
+    for digit in text {
+        if !digit.is_ascii_digit() {
+            break;
+        }
+        number = with_digit(number, *digit)?;
+        digits += 1;
+    }
+    if digits == 0 || digits > MOST_DIGITS {
         return None;
     }
-    let mut number = 0;
-    for digit in word {
-        number = with_digit(number, *digit)?;
-    }
-    Some(number)
+    Some((number, digits))
 }
 
 // A number with one more digit, where it stays below 2^64.

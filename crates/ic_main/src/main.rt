@@ -10,6 +10,9 @@ use std::rt::Env;
 use std::sync::Wait;
 use std::thread::Threads;
 
+// How many bytes are read at once.
+const CAPACITY: usize = 65536;
+
 /// The arguments after the program's name. Where one is not UTF-8, a single empty word stands for them all.
 fn arguments(rt: &(impl Env + AllocGlobal)) -> io::Result<Vec<String>> {
     match env::args(rt) {
@@ -27,7 +30,7 @@ fn run(
     alloc: Global,
 ) -> io::Result<u8> {
     let words = arguments(rt)?;
-    let mut reader = BufReader::new(alloc, rt.reader())?;
+    let mut reader = BufReader::with_capacity(alloc, CAPACITY, rt.reader())?;
     let mut writer = BufWriter::new(alloc, io::writer(rt))?;
     Ok(run_program(rt, alloc, &words, &mut reader, &mut writer))
 }

@@ -1,12 +1,14 @@
--- Lines and their texts.
-use Rattle.std.specs.Prelude.{◌≡◌, ℕ, ◌⊎◌, List, [], ◌∷◌, ◌++◌}
+-- Lines and their ends.
+use Rattle.std.specs.Prelude.{◌≡◌, ℕ, ◌⊎◌, List, [], ◌∷◌, cond, nat_eq}
 
-abbrev pub EndsWith : ℕ → List ℕ → Type 0
-EndsWith byte bytes = (front : List ℕ) × (bytes ≡ front ++ byte ∷ [])
+-- the bytes behind the spaces that come first
+abbrev pub behind_spaces : List ℕ → List ℕ
+behind_spaces [] = []
+behind_spaces (byte ∷ bytes) = cond (nat_eq byte 32) (behind_spaces bytes) (byte ∷ bytes)
 
--- the text of a line is what stands before the `\r\n` or the `\n` that ends it, or all of it if neither does
-abbrev pub IsTextOf : List ℕ → List ℕ → Type 0
-IsTextOf line text =
-    (line ≡ text ++ 13 ∷ 10 ∷ [])
-    ⊎ ((line ≡ text ++ 10 ∷ []) × (¬ EndsWith 13 text))
-    ⊎ ((line ≡ text) × (¬ EndsWith 10 line))
+-- the bytes begin with the end of a line, `\r\n` or `\n`, and these are behind it; a last line may end without
+abbrev pub IsLineEnd : List ℕ → List ℕ → Type 0
+IsLineEnd bytes behind =
+    (bytes ≡ 13 ∷ 10 ∷ behind)
+    ⊎ (bytes ≡ 10 ∷ behind)
+    ⊎ ((bytes ≡ []) × (behind ≡ []))

@@ -11,6 +11,7 @@
 mod answers;
 mod fault;
 mod line;
+mod names;
 mod own_key;
 mod program;
 mod session;

@@ -159,7 +159,7 @@ fn answer_next<M: Allocator + Copy, R: BufRead>(
 ) -> Result<bool, Stop> {
     match reader.fill_buf() {
         Ok([]) => {
-            session.answer(cut)?;
+            session.answer_lines(cut)?;
             Ok(false)
         }
         Ok(lent) => {

@@ -7,19 +7,19 @@
 //! ```
 
 ghost use Rattle.std.specs.Prelude.{◌≤◌, IfOk, length};
-ghost use Rattle.ic_program.specs.Line.{IsTextOf};
 
 use crate::answers::push_answer;
 use crate::fault::Fault;
 use crate::line::Line;
 use crate::own_key::OwnKey;
+use crate::words::Words;
 use ic_world::{Answer, Command, World};
-use memchr::memchr;
+use memchr::{memchr, memrchr};
 use std::alloc::{AllocError, Allocator};
 use std::str;
 
 // How many bytes of answers there is room for at first.
-const ROOM: usize = 8192;
+const ROOM: usize = 65536;
 
 /// Why no more lines are answered.
 #[derive(Clone, Copy)]
@@ -52,19 +52,34 @@ impl<M: Allocator + Copy> Session<M> {
         })
     }
 
-    /// Answers a line, of which an empty one has no answer. Where it stops, the answers are those of the lines before.
-    #[inline]
-    pub(crate) fn answer(&mut self, line: &[u8]) -> Result<(), Stop> {
-        let Some(lines) = self.lines.checked_add(1) else {
+    /// Answers these lines, of which empty ones have no answer. Where it stops, the answers are those of the lines before.
+    pub(crate) fn answer_lines(&mut self, lines: &[u8]) -> Result<(), Stop> {
+        let mut words = Words::of(lines);
+        // Each line takes a byte at least.
+        for _line in 0..lines.len() {
+            if words.rest().is_empty() {
+                break;
+            }
+            words = self.answer_first(words)?;
+        }
+        Ok(())
+    }
+
+    // Answers the first of these lines, and gives the others.
+    #[inline(always)]
+    fn answer_first<'l>(&mut self, lines: Words<'l>) -> Result<Words<'l>, Stop> {
+        let Some(number) = self.lines.checked_add(1) else {
             // There are more lines than a number counts.
             return Err(Stop::Fault(Fault::Reading(self.lines)));
         };
-        self.lines = lines;
-        match Line::of(without_end(line)) {
-            Line::Empty => Ok(()),
-            Line::Call(command) => self.call(command),
-            Line::NoCommand => Err(stop_at(line, lines)),
+        self.lines = number;
+        let (said, others) = Line::first_of(lines);
+        match said {
+            Line::Empty => {}
+            Line::Call(command) => self.call(command)?,
+            Line::NoCommand => return Err(stop_at(lines.rest(), number)),
         }
+        Ok(others)
     }
 
     // Makes the call, and puts its answer behind the others.
@@ -82,7 +97,7 @@ impl<M: Allocator + Copy> Session<M> {
             _ => return Ok(bytes),
         };
         keep(cut, &bytes[..end])?;
-        let answered = self.answer(cut);
+        let answered = self.answer_lines(cut);
         cut.clear();
         answered?;
         Ok(&bytes[end..])
@@ -90,12 +105,13 @@ impl<M: Allocator + Copy> Session<M> {
 
     /// Answers the lines that end in these bytes, and keeps in `cut` what is read of the line that does not.
     pub(crate) fn answer_all(&mut self, cut: &mut Vec<u8, M>, bytes: &[u8]) -> Result<(), Stop> {
-        let mut rest = self.answer_cut(cut, bytes)?;
-        while let Some(end) = memchr(b'\n', rest) {
-            self.answer(&rest[..end + 1])?;
-            rest = &rest[end + 1..];
-        }
-        keep(cut, rest)
+        let rest = self.answer_cut(cut, bytes)?;
+        let whole = match memrchr(b'\n', rest) {
+            Some(end) => end + 1,
+            None => 0,
+        };
+        self.answer_lines(&rest[..whole])?;
+        keep(cut, &rest[whole..])
     }
 }
 
@@ -117,23 +133,15 @@ fn push<M: Allocator>(answers: &mut Vec<u8, M>, answer: &Answer<M>) -> Result<()
     }
 }
 
-// Why no more lines are answered behind this one, the line of that number, which is no command. A command is ASCII alone, so that only
-// here the line may be other than UTF-8.
-fn stop_at(line: &[u8], number: u64) -> Stop {
+// Why no more lines are answered behind the first of these, the line of that number, which is no command. A command is ASCII alone, so
+// that only here the line may be other than UTF-8.
+fn stop_at(lines: &[u8], number: u64) -> Stop {
+    let line = match memchr(b'\n', lines) {
+        Some(end) => &lines[..end],
+        None => lines,
+    };
     match str::from_utf8(line) {
         Ok(_) => Stop::NoCommand,
         Err(_) => Stop::Fault(Fault::NotText(number)),
-    }
-}
-
-// A line as `lines` gives it: without the `\n` or `\r\n` that ends it.
-#[inline]
-fn without_end(line: &[u8]) -> &[u8]
-    ensures { IsTextOf line.now result.now }
-{
-    match line {
-        [text @ .., b'\r', b'\n'] => text,
-        [text @ .., b'\n'] => text,
-        _ => line,
     }
 }

@@ -1,10 +1,10 @@
-use Rattle.std.proofs.Common.{rules}
-use Rattle.ic_commands.proofs.Digits.{no_number, all_read}
+use Rattle.std.proofs.Common.{◌∙◌, ap, sym, subst, length}
+use Rattle.ic_commands.specs.Number.{IsNumber}
+use Rattle.ic_commands.proofs.Digits.{whole}
 use Rattle.ic_commands.proofs.number.Goals as goal
 
-pub returns-in_err-number-clause-valid : goal.returns-in_err-number-clause-valid
-returns-in_err-number-clause-valid c =
-    search (rules, no_number c.args.word.now c.loop-digit.number c.loop-digit.digit-index c.loop-digit-test.true c.loop-digit.invariant.0 c.in_err-number.ensures, c.from_residual.ensures)
+pub returns-in_default-clause-valid : goal.returns-in_default-clause-valid
+returns-in_default-clause-valid c = (λ e. cc, λ is. absurd (c.if-digits-word.false (c.in-Some.ensures.digits ∙ ap length (whole c.args.word.now is.0.1))))
 
-pub returns-clause-valid : goal.returns-clause-valid
-returns-clause-valid c = search (rules, all_read c.args.word.now c.loop-digit.number c.loop-digit.digit-index c.loop-digit-test.false c.loop-digit.invariant.0)
+pub returns-in_default-2-clause-valid : goal.returns-in_default-2-clause-valid
+returns-in_default-2-clause-valid c = (λ e. cc, λ is. rw c.in_default.is at c.leading_number.ensures.valid.1 (subst IsNumber (sym (whole c.args.word.now is.0.1)) is))

@@ -1,6 +1,0 @@
-use Rattle.std.proofs.Common.{◌<◌, ◌^◌}
-use Rattle.ic_commands.proofs.Digits.{ReadTo}
-use Rattle.ic_commands.proofs.number.Given as goal
-
-abbrev pub invariant-loop-digit : goal.invariant-loop-digit
-invariant-loop-digit l = ReadTo l.word l.number l.digit-index × (l.number < 2 ^ 64)
