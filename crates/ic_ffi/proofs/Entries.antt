@@ -1,0 +1,48 @@
+-- The words of a table as they are written.
+use Rattle.std.proofs.Common.{◌≡◌, ℕ, ◌+◌, ◌%◌, ◌≤◌, List, length, Bool, true, false, nat_eq, Option, slice_set, slice_index_or, sym, ap, ◌∙◌, arith}
+use Rattle.ic_unsafe_ref.specs.declared.place.Place.{Place}
+use Rattle.ic_unsafe_ref.specs.Numbers.{IsWord}
+use Rattle.ic_unsafe_ref.specs.Places.{index_of, word_of, place_at}
+use Rattle.ic_unsafe_ref.proofs.PlaceLemmas.{place_at_word, word_at, word_fits}
+use Rattle.ic_link_ops.specs.PlainTables.{entry_at}
+use Rattle.ic_link_ops.specs.EntryLaws.{linked_in_range}
+use Rattle.ic_link_ops.proofs.EntryLemmas.{entry_same, entry_read}
+use Rattle.ic_ffi.specs.Words.{number_in, place_in, is_marked}
+
+-- the number that a word keeps is that of a place or 0, and so it is read as the number of the place that it names
+pub number_fits : (v : ℕ) → IsWord (number_in v)
+number_fits v = (omega arith, omega arith)
+
+pub number_read : (v : ℕ) → word_of (place_in v) ≡ number_in v
+number_read v = word_at (number_in v) (number_fits v)
+
+-- a number is kept as it is, with the mark and without
+pub number_kept : (n : ℕ) → IsWord n → number_in (n + 1) ≡ n
+number_kept n h = omega (arith, h.0, h.1)
+
+pub mark_kept : (n : ℕ) → IsWord n → is_marked (n + 1) ≡ true
+mark_kept n h = let odd : (n + 1) % 2 ≡ 1 = omega (arith, h.1) in ap (λ m. nat_eq m 1) odd
+
+pub place_kept : (p : Option Place) → place_in (word_of p) ≡ p
+place_kept p =
+    let fits = word_fits p in
+    let same : number_in (word_of p) ≡ word_of p = omega (arith, fits.0, fits.1) in
+    ap place_at same ∙ place_at_word p
+
+module _ {E : Type 0} (is_linked : E → Bool) (d : E) (starts : is_linked d ≡ false) where
+  -- A WRITE AT A LINKED PLACE CHANGES WHAT THE ENTRY SAYS as it changes what was read there
+  pub says_written : {R : Type 0} (says : E → R) (change : R → R) (es : List E) (p : Place) (old new beyond : E) (i : ℕ) → i ≡ index_of p
+      → is_linked (entry_at d es p) ≡ true → old ≡ slice_index_or es i beyond → says new ≡ change (says old)
+      → says (entry_at d (slice_set es i new) p) ≡ change (says (entry_at d es p))
+  says_written says change es p old new beyond i at_p linked read written =
+      let covered = linked_in_range is_linked d starts es (index_of p) linked in
+      ap says (entry_same d es p new i at_p covered) ∙ written ∙ ap (λ e. change (says e)) (sym (entry_read d es p old beyond i at_p covered read))
+
+  -- beyond the last place no place is linked
+  pub none_beyond : (es : List E) (p : Place) → length es ≤ index_of p → is_linked (entry_at d es p) ≡ false
+  none_beyond es p h =
+      let none : is_linked (entry_at d es p) ≡ true → ⊥ = λ on. absurd (omega (arith, h, linked_in_range is_linked d starts es (index_of p) on)) in
+      off (is_linked (entry_at d es p)) none where
+        off : (b : Bool) → (b ≡ true → ⊥) → b ≡ false
+        off true n = absurd (n (λ k. true))
+        off false n = λ k. false

@@ -1,0 +1,78 @@
+-- Doubly linked lists over a caller's words.
+use Rattle.std.specs.Prelude.{ℕ, List, Option, Some, None}
+use Rattle.ic_unsafe_ref.specs.declared.place.Place.{Place}
+use Rattle.ic_link_ops.specs.Sequences.{Cut}
+use Rattle.ic_link_ops.specs.Tables.{Table}
+use Rattle.ic_link_ops.specs.Chains.{Ends}
+use Rattle.ic_link_ops.specs.Edits.{Splits}
+use Rattle.ic_link_ops.specs.LinkedList as doubly
+use Rattle.ic_link_ops.specs.LinkedList.{Neighbors, neighbors_at}
+use Rattle.ic_link_ops.specs.PlainTables as plain
+use Rattle.ic_ffi.specs.declared.words.RawTwo.{RawTwo}
+use Rattle.ic_ffi.specs.declared.words.RawEnds.{RawEnds}
+use Rattle.ic_ffi.specs.declared.table.RawTable.{RawTable}
+use Rattle.ic_ffi.specs.declared.gap.Side.{Side}
+use Rattle.ic_ffi.specs.declared.gap.Side.TheVariants.{After, Before}
+use Rattle.ic_ffi.specs.Words.{place_in, no_words, is_linked_two, next_of_two, prev_of_two}
+use Rattle.ic_ffi.specs.Tables.{raw_table, neighbors_of}
+use Rattle.ic_ffi.specs.Calls as calls
+
+-- the words of a table, and those that are lent, as clauses see them
+abbrev pub table_of : List RawTwo → Table RawTwo
+table_of = plain.table_of no_words
+
+abbrev pub lent_table : RawTable RawTwo → Table RawTwo
+lent_table = raw_table no_words
+
+-- between which places an entry stands
+abbrev pub neighbors : RawTwo → Neighbors
+neighbors = neighbors_of next_of_two is_linked_two prev_of_two
+
+-- THE TABLE SHOWS s for the list with these ends
+abbrev pub Shows : Table RawTwo → Ends → List Place → Type 0
+Shows = doubly.Shows neighbors
+
+-- the ends of a list by its two words
+abbrev pub ends_of : RawEnds → Ends
+ends_of l = record { head = place_in l.head; tail = place_in l.tail }
+
+-- what stands behind a place, and what before it; the first and the last of the list at none
+abbrev pub next_from : Table RawTwo → Ends → Option Place → Option Place
+next_from t list None = list.head
+next_from t list (Some p) = (neighbors_at neighbors t p).next
+
+abbrev pub prev_from : Table RawTwo → Ends → Option Place → Option Place
+prev_from t list None = list.tail
+prev_from t list (Some p) = (neighbors_at neighbors t p).prev
+
+-- a list is cut at a gap: what is handed out is on the side of the gap on which the call edits
+abbrev pub SplitsBeside : Side → (old new : Table RawTwo) → (kept handed : Ends) → Cut → Type 0
+SplitsBeside After old new kept handed cut = Splits Shows old new kept handed cut.front cut.back
+SplitsBeside Before old new kept handed cut = Splits Shows old new kept handed cut.back cut.front
+
+-- what a call does to such words
+abbrev pub ShowsList : List RawTwo → RawEnds → List Place → Type 0
+ShowsList = calls.ShowsList Shows is_linked_two no_words ends_of
+
+abbrev pub FreeIn : List RawTwo → Place → Type 0
+FreeIn = calls.FreeIn Shows is_linked_two no_words ends_of
+
+abbrev pub Inserted : (old new : List RawTwo) (list list' : RawEnds) (status : ℕ) → Cut → Place → Type 0
+Inserted = calls.Inserted Shows is_linked_two no_words ends_of
+
+abbrev pub Removed : (old new : List RawTwo) (list list' : RawEnds) (status : ℕ) → Place → (front back : List Place) → Type 0
+Removed = calls.Removed Shows is_linked_two no_words ends_of
+
+abbrev pub Popped : (old new : List RawTwo) (list list' : RawEnds) (status number : ℕ) → Place → (front back : List Place) → Type 0
+Popped = calls.Popped Shows is_linked_two no_words ends_of
+
+abbrev pub Replaced : (old new : List RawTwo) (list list' : RawEnds) (status : ℕ) → Place → (front back : List Place) → Place → Type 0
+Replaced = calls.Replaced Shows is_linked_two no_words ends_of
+
+abbrev pub Spliced : (old new : List RawTwo) (list list' : RawEnds) (status : ℕ) → RawEnds → Cut → List Place → Type 0
+Spliced = calls.Spliced Shows is_linked_two no_words ends_of
+
+-- what is handed out is on the side of the gap on which the call edits
+abbrev pub Split : Side → (old new : List RawTwo) (list list' : RawEnds) (status : ℕ) → RawEnds → Cut → Type 0
+Split After old new list list' status rest cut = calls.Split Shows is_linked_two no_words ends_of old new list list' status rest cut cut.front cut.back
+Split Before old new list list' status rest cut = calls.Split Shows is_linked_two no_words ends_of old new list list' status rest cut cut.back cut.front

@@ -1,0 +1,60 @@
+-- Singly linked lists over a caller's words.
+use Rattle.std.specs.Prelude.{ℕ, List, Option, Some, None}
+use Rattle.ic_unsafe_ref.specs.declared.place.Place.{Place}
+use Rattle.ic_link_ops.specs.Sequences.{Cut}
+use Rattle.ic_link_ops.specs.Tables.{Table}
+use Rattle.ic_link_ops.specs.SinglyLinkedList as singly
+use Rattle.ic_link_ops.specs.SinglyLinkedList.{Successor, successor_at}
+use Rattle.ic_link_ops.specs.PlainTables as plain
+use Rattle.ic_ffi.specs.declared.words.RawOne.{RawOne}
+use Rattle.ic_ffi.specs.declared.words.RawFront.{RawFront}
+use Rattle.ic_ffi.specs.declared.table.RawTable.{RawTable}
+use Rattle.ic_ffi.specs.Words.{place_in, no_word, is_linked_one, next_of_one}
+use Rattle.ic_ffi.specs.Tables.{raw_table, successor_of}
+use Rattle.ic_ffi.specs.Calls as calls
+
+-- the words of a table, and those that are lent, as clauses see them
+abbrev pub table_of : List RawOne → Table RawOne
+table_of = plain.table_of no_word
+
+abbrev pub lent_table : RawTable RawOne → Table RawOne
+lent_table = raw_table no_word
+
+-- what stands behind an entry's place
+abbrev pub successor : RawOne → Successor
+successor = successor_of next_of_one is_linked_one
+
+-- THE TABLE SHOWS s for the list with this front
+abbrev pub Shows : Table RawOne → Option Place → List Place → Type 0
+Shows = singly.Shows successor
+
+-- the front of a list by its word
+abbrev pub front_of : RawFront → Option Place
+front_of l = place_in l.head
+
+-- what stands behind a place, the first of the list at none
+abbrev pub next_from : Table RawOne → Option Place → Option Place → Option Place
+next_from t front None = front
+next_from t front (Some p) = (successor_at successor t p).next
+
+-- what a call does to such words
+abbrev pub ShowsList : List RawOne → RawFront → List Place → Type 0
+ShowsList = calls.ShowsList Shows is_linked_one no_word front_of
+
+abbrev pub FreeIn : List RawOne → Place → Type 0
+FreeIn = calls.FreeIn Shows is_linked_one no_word front_of
+
+abbrev pub Inserted : (old new : List RawOne) (list list' : RawFront) (status : ℕ) → Cut → Place → Type 0
+Inserted = calls.Inserted Shows is_linked_one no_word front_of
+
+abbrev pub Popped : (old new : List RawOne) (list list' : RawFront) (status number : ℕ) → Place → (front back : List Place) → Type 0
+Popped = calls.Popped Shows is_linked_one no_word front_of
+
+abbrev pub Exchanged : (old new : List RawOne) (list list' : RawFront) (status number : ℕ) → Place → (front back : List Place) → Place → Type 0
+Exchanged = calls.Exchanged Shows is_linked_one no_word front_of
+
+abbrev pub Spliced : (old new : List RawOne) (list list' : RawFront) (status : ℕ) → RawFront → Cut → List Place → Type 0
+Spliced = calls.Spliced Shows is_linked_one no_word front_of
+
+abbrev pub Split : (old new : List RawOne) (list list' : RawFront) (status : ℕ) → RawFront → Cut → Type 0
+Split old new list list' status rest cut = calls.Split Shows is_linked_one no_word front_of old new list list' status rest cut cut.front cut.back

@@ -1,0 +1,44 @@
+-- A table over words that a caller lends.
+use Rattle.std.specs.Prelude.{◌≡◌, ◌∷◌, [], List, ℕ, Bool, Option}
+use Rattle.std.specs.Borrow.{MutBor}
+use Rattle.ic_unsafe_ref.specs.declared.place.Place.{Place}
+use Rattle.ic_link_ops.specs.Tables.{Table, IsCovered, IsUnlinked}
+use Rattle.ic_link_ops.specs.PlainTables.{table_with}
+use Rattle.ic_link_ops.specs.Links.{link_of}
+use Rattle.ic_link_ops.specs.LinkedList.{Neighbors}
+use Rattle.ic_link_ops.specs.SinglyLinkedList.{Successor}
+use Rattle.ic_link_ops.specs.Readings as readings
+use Rattle.ic_ffi.specs.declared.table.RawTable.{RawTable}
+
+module _ {W : Type 0} where
+  -- it is a view of these words, as they are
+  abbrev pub IsView : MutBor (List W) → RawTable W → Type 0
+  IsView words t = (t.entries.ghost_name ≡ words.ghost_name) × (t.entries.now ≡ words.now)
+
+  -- the words that are lent, in the order of their places
+  abbrev pub raw_entries : RawTable W → List W
+  raw_entries t = t.entries.now
+
+  -- as a table: the name of the borrow tells it from other tables that are lent
+  abbrev pub raw_table : W → RawTable W → Table W
+  raw_table unlinked t = table_with unlinked (t.entries.ghost_name ∷ []) (raw_entries t)
+
+  -- the place is one of the table, and not linked
+  pub record IsFree (is_linked : W → Bool) (t : Table W) (p : Place) : Type 0 where
+    pub covered : IsCovered t p
+    pub unlinked : IsUnlinked is_linked t p
+
+module _ {W : Type 0} (next_word : W → ℕ) where
+  -- what the words say of neighbors, as links do
+  abbrev pub joins_of : W → Option Place → Option Place → Type 0
+  joins_of w = readings.XorJoins next_word (link_of w)
+
+  abbrev pub other_of : W → Option Place → Option Place
+  other_of w = readings.xor_other next_word (link_of w)
+
+  module _ (is_linked : W → Bool) where
+    abbrev pub successor_of : W → Successor
+    successor_of w = readings.successor_of next_word is_linked (link_of w)
+
+    abbrev pub neighbors_of : (W → Option Place) → W → Neighbors
+    neighbors_of prev w = readings.neighbors_of next_word is_linked prev (link_of w)

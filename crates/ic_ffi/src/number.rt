@@ -1,0 +1,40 @@
+//! Places as words and as numbers that cross to C.
+//!
+//! ```text
+//! place_of(7)   // the place with index 7
+//! ```
+
+ghost use Rattle.std.specs.Prelude.{◌≡◌};
+ghost use Rattle.ic_ffi.specs.Words.{place_in, place_of, HasNumber};
+
+use crate::status::NONE;
+use ic_unsafe_ref::Place;
+
+/// The place that a word names, whatever its bits are: the lowest one, and those from `2^34` on, count for nothing.
+#[inline]
+pub(crate) fn place_in(word: u64) -> Option<Place>
+    ensures { result ≡ place_in word }
+{
+    Place::from_word(word / 2 % 8_589_934_592 * 2)
+}
+
+/// The place with that index, and none at [`NONE`](crate::NONE).
+#[inline]
+pub(crate) fn place_of(index: u32) -> Option<Place>
+    ensures { result ≡ place_of index }
+{
+    Place::from_word(2 * u64::from(index.wrapping_add(1)))
+}
+
+/// The index of the place, [`NONE`] where it is too large. No call puts such a place in.
+#[inline]
+#[tactic(auto, using(crate::proofs::Numbers::index_named))]
+pub(crate) fn number_of(place: Place) -> u32
+    ensures { HasNumber place result }
+{
+    let index = place.index();
+    if index >= NONE as usize {
+        return NONE;
+    }
+    index as u32
+}

@@ -1,0 +1,182 @@
+//! The static library `libic_ffi.a` as `include/ic.h` declares it. The header says what each call does; the crate `ic` has safe types.
+//!
+//! A call requires that `table` points to `places` links, that each other pointer points to one value of its type, that no two of these
+//! overlap, and that nothing else uses them during the call. It requires nothing of what they hold, nor of the places.
+
+#![no_std]
+#![allow(non_camel_case_types)]
+
+/// Names no place.
+pub const IC_NONE: u32 = u32::MAX;
+
+/// The edit is made.
+pub const IC_OK: u32 = 0;
+/// A place is not below `places`.
+pub const IC_OUT_OF_RANGE: u32 = 1;
+/// The place to insert is in a list of this table.
+pub const IC_LINKED: u32 = 2;
+/// The place to edit at is in no list of this table.
+pub const IC_NOT_LINKED: u32 = 3;
+/// There is no member where the call needs one.
+pub const IC_NULL: u32 = 4;
+/// Table, list and member do not belong together.
+pub const IC_BROKEN: u32 = 5;
+
+/// A link of a singly linked list or an XOR list.
+#[repr(C)]
+#[derive(Clone, Copy, Debug, Default, PartialEq, Eq)]
+pub struct ic_link1 {
+    pub next: u64,
+}
+
+/// A link of a doubly linked list.
+#[repr(C)]
+#[derive(Clone, Copy, Debug, Default, PartialEq, Eq)]
+pub struct ic_link2 {
+    pub next: u64,
+    pub prev: u64,
+}
+
+/// A singly linked list.
+#[repr(C)]
+#[derive(Clone, Copy, Debug, Default, PartialEq, Eq)]
+pub struct ic_stack {
+    pub head: u64,
+}
+
+/// A doubly linked list.
+#[repr(C)]
+#[derive(Clone, Copy, Debug, Default, PartialEq, Eq)]
+pub struct ic_list {
+    pub head: u64,
+    pub tail: u64,
+}
+
+/// An XOR list.
+#[repr(C)]
+#[derive(Clone, Copy, Debug, Default, PartialEq, Eq)]
+pub struct ic_xor_list {
+    pub head: u64,
+    pub tail: u64,
+}
+
+/// The number of a place in a word, or 0 for `IC_NONE`.
+#[inline]
+pub const fn ic_word(place: u32) -> u64 {
+    place.wrapping_add(1) as u64 * 2
+}
+
+/// The place that a word names, or `IC_NONE`.
+#[inline]
+pub const fn ic_place(word: u64) -> u32 {
+    ((word / 2) as u32).wrapping_sub(1)
+}
+
+extern "C" {
+    pub fn ic_list_push_front(table: *mut ic_link2, places: usize, list: *mut ic_list, place: u32) -> u32;
+    pub fn ic_list_push_back(table: *mut ic_link2, places: usize, list: *mut ic_list, place: u32) -> u32;
+    pub fn ic_list_pop_front(table: *mut ic_link2, places: usize, list: *mut ic_list, popped: *mut u32) -> u32;
+    pub fn ic_list_pop_back(table: *mut ic_link2, places: usize, list: *mut ic_list, popped: *mut u32) -> u32;
+    pub fn ic_list_insert_after(table: *mut ic_link2, places: usize, list: *mut ic_list, at: u32, place: u32) -> u32;
+    pub fn ic_list_insert_before(table: *mut ic_link2, places: usize, list: *mut ic_list, at: u32, place: u32) -> u32;
+    pub fn ic_list_remove(table: *mut ic_link2, places: usize, list: *mut ic_list, at: u32) -> u32;
+    pub fn ic_list_replace(table: *mut ic_link2, places: usize, list: *mut ic_list, at: u32, place: u32) -> u32;
+    pub fn ic_list_splice_after(
+        table: *mut ic_link2,
+        places: usize,
+        list: *mut ic_list,
+        at: u32,
+        given: *mut ic_list,
+    ) -> u32;
+    pub fn ic_list_splice_before(
+        table: *mut ic_link2,
+        places: usize,
+        list: *mut ic_list,
+        at: u32,
+        given: *mut ic_list,
+    ) -> u32;
+    pub fn ic_list_split_after(
+        table: *mut ic_link2,
+        places: usize,
+        list: *mut ic_list,
+        at: u32,
+        rest: *mut ic_list,
+    ) -> u32;
+    pub fn ic_list_split_before(
+        table: *mut ic_link2,
+        places: usize,
+        list: *mut ic_list,
+        at: u32,
+        rest: *mut ic_list,
+    ) -> u32;
+    pub fn ic_stack_push_front(table: *mut ic_link1, places: usize, list: *mut ic_stack, place: u32) -> u32;
+    pub fn ic_stack_pop_front(table: *mut ic_link1, places: usize, list: *mut ic_stack, popped: *mut u32) -> u32;
+    pub fn ic_stack_insert_after(table: *mut ic_link1, places: usize, list: *mut ic_stack, at: u32, place: u32) -> u32;
+    pub fn ic_stack_remove_after(
+        table: *mut ic_link1,
+        places: usize,
+        list: *mut ic_stack,
+        at: u32,
+        removed: *mut u32,
+    ) -> u32;
+    pub fn ic_stack_replace_after(
+        table: *mut ic_link1,
+        places: usize,
+        list: *mut ic_stack,
+        at: u32,
+        place: u32,
+        out: *mut u32,
+    ) -> u32;
+    pub fn ic_stack_splice_after(
+        table: *mut ic_link1,
+        places: usize,
+        list: *mut ic_stack,
+        at: u32,
+        given: *mut ic_stack,
+    ) -> u32;
+    pub fn ic_stack_split_after(
+        table: *mut ic_link1,
+        places: usize,
+        list: *mut ic_stack,
+        at: u32,
+        rest: *mut ic_stack,
+    ) -> u32;
+    pub fn ic_xor_push_front(table: *mut ic_link1, places: usize, list: *mut ic_xor_list, place: u32) -> u32;
+    pub fn ic_xor_push_back(table: *mut ic_link1, places: usize, list: *mut ic_xor_list, place: u32) -> u32;
+    pub fn ic_xor_pop_front(table: *mut ic_link1, places: usize, list: *mut ic_xor_list, popped: *mut u32) -> u32;
+    pub fn ic_xor_pop_back(table: *mut ic_link1, places: usize, list: *mut ic_xor_list, popped: *mut u32) -> u32;
+    pub fn ic_xor_insert_between(
+        table: *mut ic_link1,
+        places: usize,
+        list: *mut ic_xor_list,
+        before: u32,
+        place: u32,
+        behind: u32,
+    ) -> u32;
+    pub fn ic_xor_remove(table: *mut ic_link1, places: usize, list: *mut ic_xor_list, before: u32, at: u32) -> u32;
+    pub fn ic_xor_replace(
+        table: *mut ic_link1,
+        places: usize,
+        list: *mut ic_xor_list,
+        before: u32,
+        at: u32,
+        place: u32,
+    ) -> u32;
+    pub fn ic_xor_splice_between(
+        table: *mut ic_link1,
+        places: usize,
+        list: *mut ic_xor_list,
+        before: u32,
+        given: *mut ic_xor_list,
+        behind: u32,
+    ) -> u32;
+    pub fn ic_xor_split_between(
+        table: *mut ic_link1,
+        places: usize,
+        list: *mut ic_xor_list,
+        before: u32,
+        behind: u32,
+        rest: *mut ic_xor_list,
+    ) -> u32;
+    pub fn ic_xor_reverse(list: *mut ic_xor_list) -> u32;
+}
