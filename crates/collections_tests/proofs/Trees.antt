@@ -25,9 +25,9 @@ use Rattle.ic_rbtree.specs.Entry.{IfVacant, IsVacantFor, CanInsert}
 use Rattle.ic_rbtree.specs.Ordered.{InsertsAmong}
 use Rattle.ic_rbtree.specs.PlainTrees.{TreeLinkOps, plain_table, PlainShows, PlainShowsSome}
 use Rattle.ic_rbtree.specs.Tree.{root_of}
-use Rattle.ic_rbtree.specs.declared.entry.Entry.{Entry}
-use Rattle.ic_rbtree.specs.declared.entry.Entry.TheVariants.{Occupied, Vacant}
-use Rattle.ic_rbtree.specs.declared.entry.InsertCursor.{InsertCursor}
+use Rattle.ic_rbtree.specs.declared.keys.entry.Entry.{Entry}
+use Rattle.ic_rbtree.specs.declared.keys.entry.Entry.TheVariants.{Occupied, Vacant}
+use Rattle.ic_rbtree.specs.declared.keys.entry.InsertCursor.{InsertCursor}
 use Rattle.ic_rbtree.specs.declared.tree.RBTree.{RBTree}
 
 pub none_shown : {A : Type 0} (links : TreeLinkOps A) (root : Option Place) → root ≡ None → PlainShowsSome links root
