@@ -1,5 +1,5 @@
 -- That a cursor can be made anew on the member to which another moved, and on the one from which it moves.
-use Rattle.std.proofs.Common.{◌≡◌, Option, Some, List, ◌∷◌, drop, sym, ◌∙◌}
+use Rattle.std.proofs.Common.{◌≡◌, Option, Some, List, drop, sym, ◌∙◌}
 use Rattle.ic_unsafe_ref.specs.declared.place.Place.{Place}
 use Rattle.ic_link_ops.specs.Positions.{Site, ShowsAt, Stands, MovesOn}
 use Rattle.ic_link_ops.specs.Tables.{Table}

@@ -1,5 +1,5 @@
 -- What a call makes of a collection, of whatever kind: how the words of its kind become those of all kinds. And moves.
-use Rattle.std.proofs.Common.{◌≡◌, Bool, Option, Some, List, refl}
+use Rattle.std.proofs.Common.{◌≡◌, Bool, Option, List, refl}
 use Rattle.ic_unsafe_ref.specs.declared.place.Place.{Place}
 use Rattle.ic_link_ops.specs.Sequences.{Cut, join, first, last, IsAfter, IsBefore}
 use Rattle.ic_link_ops.specs.Tables.{Table}

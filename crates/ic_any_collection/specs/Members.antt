@@ -1,5 +1,5 @@
 -- The collections of all kinds: which sequence a table shows for one, and where its cursor stands.
-use Rattle.std.specs.Prelude.{◌≡◌, Bool, true, false, Option, Some, None, List}
+use Rattle.std.specs.Prelude.{◌≡◌, Bool, true, false, Option, List}
 use Rattle.ic_unsafe_ref.specs.declared.place.Place.{Place}
 use Rattle.ic_link_ops.specs.Sequences.{Cut, join, IsAfter, IsBefore}
 use Rattle.ic_link_ops.specs.Tables.{Table}

@@ -1,9 +1,9 @@
 -- Steps of a table, and the linked places after them.
-use Rattle.std.proofs.Common.{◌≡◌, ◌≢◌, List, [], ◌∷◌, ◌++◌, Bool, true, false, refl, sym, ◌∙◌, ap, subst}
+use Rattle.std.proofs.Common.{◌≡◌, List, [], ◌∷◌, ◌++◌, Bool, refl, ◌∙◌, ap}
 use Rattle.ic_unsafe_ref.specs.declared.place.Place.{Place}
 use Rattle.ic_link_ops.specs.Sequences.{IsAbsent}
-use Rattle.ic_link_ops.specs.Tables.{Table, ChangesOnly, IsLinked, IsUnlinked, LinksAlso, Unlinks, Exchanges}
-use Rattle.ic_link_ops.specs.LinkSteps.{acquires, releases, releases_each, Replays}
+use Rattle.ic_link_ops.specs.Tables.{Table, ChangesOnly, IsLinked, IsUnlinked, LinksAlso, Unlinks}
+use Rattle.ic_link_ops.specs.LinkSteps.{releases, releases_each, Replays}
 use Rattle.ic_link_ops.proofs.LinkedSets.{everywhere}
 
 module _ {E : Type 0} {linked : E → Bool} {a b : Table E} {p : Place} where
@@ -13,17 +13,6 @@ module _ {E : Type 0} {linked : E → Bool} {a b : Table E} {p : Place} where
 
   pub unlinks_only : IsLinked linked a p → IsUnlinked linked b p → ChangesOnly a b p → Unlinks linked a b p
   unlinks_only was is only = record { was = was; is = is; others = λ q n. ap linked (only.others q n) }
-
-  -- p is linked, and then a place that was linked before is unlinked
-  pub exchanges : {out : Place} → IsLinked linked a out → Replays linked a b (acquires p ∷ releases out ∷ []) → Exchanges linked a b p out
-  exchanges {out} stood l =
-      let apart : p ≢ out = λ e. (let on : linked (a.entry p) ≡ true = subst (λ x. linked (a.entry x) ≡ true) (sym e) stood in let never : false ≡ true = sym l.1.was ∙ on in cc) in record {
-        was = l.1.was;
-        is = l.2.others p apart ∙ l.1.is;
-        out_was = stood;
-        out_is = l.2.is;
-        others = λ q n m. l.2.others q m ∙ l.1.others q n;
-      }
 
 -- releases of two lists, one after the other
 pub releases_append : (s t : List Place) → releases_each (s ++ t) ≡ releases_each s ++ releases_each t

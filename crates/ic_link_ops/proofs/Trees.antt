@@ -1,10 +1,10 @@
 -- Trees in a table: their members, what a setter makes of them, and that below a root there is one tree at most.
-use Rattle.std.proofs.Common.{◌≡◌, ◌≢◌, ◌<◌, Option, Some, List, [], ◌∷◌, ◌++◌, true, false, refl, sym, ap, ◌∙◌, subst}
+use Rattle.std.proofs.Common.{◌≡◌, ◌≢◌, ◌<◌, Option, Some, [], ◌∷◌, true, false, refl, sym, ap, ◌∙◌, subst}
 use Rattle.std.specs.List.{AllByRecursion}
 use Rattle.ic_unsafe_ref.specs.declared.place.Place.{Place}
 use Rattle.ic_unsafe_ref.specs.Places.{index_of}
 use Rattle.ic_link_ops.specs.declared.color.Color.{Color}
-use Rattle.ic_link_ops.specs.Sequences.{IsAbsent, first}
+use Rattle.ic_link_ops.specs.Sequences.{IsAbsent}
 use Rattle.ic_link_ops.specs.Tables.{Table, IsCovered}
 use Rattle.ic_link_ops.specs.Trees.{Tree, leaf, fork, top, in_order}
 use Rattle.ic_link_ops.specs.RedBlackTree.{Node, IsAt, IsTree}
@@ -26,11 +26,6 @@ absent_parts c a p b q out =
 pub leaf_is : (t : Tree) → in_order t ≡ [] → t ≡ leaf
 leaf_is leaf e = refl
 leaf_is (fork c a p b) e = absurd (split_member (in_order a) p (in_order b) (rw e tt))
-
--- a sequence with a member has a first one
-some_first : (s : List Place) (p : Place) (t : List Place) → (x : Place) × (first (s ++ p ∷ t) ≡ Some x)
-some_first [] p t = (p, refl)
-some_first (x ∷ s) p t = (x, refl)
 
 -- a linked place with these readings
 abbrev member : Color → Option Place → Option Place → Option Place → Node
@@ -82,11 +77,6 @@ module _ {E : Type 0} (n : E → Node) where
     tree_kept old new (Some p) a (λ q m. same q (λ k. m (absent_parts c a p b q k).1)) h.1,
     tree_kept old new (Some p) b (λ q m. same q (λ k. m (absent_parts c a p b q k).2)) h.2,
   )
-
-  -- a tree in which p does not stand stays where p alone changes
-  pub tree_beside : (old new : Place → E) (p : Place) (up : Option Place) (t : Tree)
-      → IsAbsent p (in_order t) → ((q : Place) → q ≢ p → new q ≡ old q) → IsTree n old up t → IsTree n new up t
-  tree_beside old new p up t out same h = tree_kept old new up t (λ q m. same q (λ e. m (rw e out))) h
 
   -- what is not linked is no member
   pub tree_absent : (entry : Place → E) (up : Option Place) (t : Tree) (q : Place)

@@ -49,13 +49,6 @@ module _ {E : Type 0} (n : E → Node) where
     entries = h.are.1.0;
   }
 
-  -- THE MEASURE of a climb is the number of frames
-  pub depth_is : {base v : Table E} (law : (q : Place) → (n (v.entry q)).linked ≡ true → IsCovered v q) (root : Option Place) (fs : List Frame) (t : Tree) (ps : List Piece)
-      → Stands n base v root fs t ps → depth n v (above fs) ≡ length fs
-  depth_is {base} {v} law root fs t ps h =
-      let few : length (in_order (plug fs t)) ≤ v.extent.places = holds_length v law (stands_holds root (plug fs t) ps (go_top n h)) in
-      above_steps v fs (top t) v.extent.places h.are.0.0 (omega (arith, length_frames fs t))
-
   some_steps : (v : Table E) (k : ℕ) (p : Place) → 1 ≤ k → steps_up k (λ q. (n (v.entry q)).parent) (Some p) ≡ suc (steps_up (k - 1) (λ q. (n (v.entry q)).parent) ((n (v.entry p)).parent))
   unfolding steps_up
   some_steps v zero p h = absurd (omega arith)

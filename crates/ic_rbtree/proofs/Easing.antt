@@ -20,7 +20,7 @@ use Rattle.ic_rbtree.specs.Shortage.{wanted, color_above, IsNearlyRight}
 use Rattle.ic_rbtree.specs.Removal.{is_red, red_at}
 use Rattle.ic_rbtree.specs.Insertion.{color_below, are_across, RedPair, above_pair, blackened, RedAt, Eased, PairAt, Recolors, IsStraight, Lifts}
 use Rattle.ic_rbtree.proofs.Branches.{branch_across, top_branch, as_branch, order_plug, order_branch, order_rotated, side_far, side_tint, side_up}
-use Rattle.ic_rbtree.proofs.Turning.{turn, below_linked}
+use Rattle.ic_rbtree.proofs.Turning.{turn}
 use Rattle.ic_rbtree.proofs.Zipper.{go_up, go_down, go_across, go_top, painted_top, painted_above}
 use Rattle.ic_rbtree.proofs.Shapes.{recolored, settled, straightened, right_plug}
 use Rattle.ic_rbtree.proofs.Climbing.{side_found}
@@ -116,9 +116,6 @@ module _ {E : Type 0} (n : E → Node) where
 
     uncle_tree : IsTree n v.entry (Some g) m.uncle
     uncle_tree = h.red.stands.are.0.0.2.1
-
-    pub uncle_linked : (o : Option Place) → o ≡ top m.uncle → (y : Place) → o ≡ Some y → (n (v.entry y)).linked ≡ true
-    uncle_linked o eo y is = below_linked n v.entry (Some g) m.uncle y uncle_tree (sym eo ∙ is)
 
     pub uncle_red : (o : Option Place) → o ≡ top m.uncle → (r : Bool) → r ≡ red_at n v o → r ≡ is_red (top_color m.uncle)
     uncle_red o eo r er = er ∙ red_tells n v (Some g) o m.uncle eo uncle_tree

@@ -1,5 +1,5 @@
 -- For callers: trees over the plain table of tree links.
-use Rattle.std.proofs.Common.{◌≡◌, ◌≤◌, Option, None, List, length, refl}
+use Rattle.std.proofs.Common.{◌≡◌, Option, None, List, refl}
 use Rattle.ic_unsafe_ref.specs.declared.place.Place.{Place}
 use Rattle.ic_unsafe_ref.specs.Places.{index_of}
 use Rattle.ic_link_ops.specs.EntryLaws.{linked_in_range}
@@ -8,7 +8,7 @@ use Rattle.ic_link_ops.specs.PlainTables.{entries}
 use Rattle.ic_link_ops.specs.Tables.{IsCovered, IsLinked}
 use Rattle.ic_link_ops.specs.ThreeWords.{no_words}
 use Rattle.ic_link_ops.proofs.CollectionLaws.{IsKind}
-use Rattle.ic_link_ops.proofs.ShownTrees.{holds_length, red_black_trees}
+use Rattle.ic_link_ops.proofs.ShownTrees.{red_black_trees}
 use Rattle.ic_rbtree.specs.PlainTrees.{TreeLinkOps, is_linked, plain_table, ShowsTree, PlainShows, members_of}
 use Rattle.ic_rbtree.proofs.Members.{members_shown}
 
@@ -23,10 +23,6 @@ module _ {A : Type 0} (links : TreeLinkOps A) where
   plain_covered p linked = linked_in_range is_linked (link_of no_words) refl (entries links) (index_of p) linked
 
   module _ {root : Option Place} {s : List Place} (shown : PlainShows links root s) where
-    -- the members of a tree are what it shows for it,
+    -- and the members of a tree are what it shows for it
     pub plain_members : members_of links root ≡ s
     plain_members = members_shown (plain_table links) plain_covered root s shown
-
-    -- and no more than it covers
-    pub plain_length : length s ≤ (plain_table links).extent.places
-    plain_length = holds_length (plain_table links) plain_covered shown.held

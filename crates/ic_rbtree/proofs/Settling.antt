@@ -16,7 +16,7 @@ use Rattle.ic_rbtree.specs.Focus.{Focus, IsMended}
 use Rattle.ic_rbtree.specs.Steps.{Rotates}
 use Rattle.ic_rbtree.specs.Shortage.{IsShort}
 use Rattle.ic_rbtree.specs.Removal.{is_red, red_child, red_at, red_below, AreRead, ShortAt, Beside, Leant, Rises}
-use Rattle.ic_rbtree.proofs.Branches.{branch_across, across_twice, top_branch, as_branch, branch_open, order_plug, order_branch, order_rotated, side_near, side_far, side_tint, side_linked}
+use Rattle.ic_rbtree.proofs.Branches.{branch_across, across_twice, top_branch, as_branch, branch_open, order_plug, order_branch, order_rotated, side_near, side_far, side_tint}
 use Rattle.ic_rbtree.proofs.Turning.{turn, below_linked}
 use Rattle.ic_rbtree.proofs.Zipper.{go_up, go_down, go_across, go_top, painted_top, painted_above}
 use Rattle.ic_rbtree.proofs.Shortening.{short_turned, short_settled, short_up, short_ends}
@@ -102,9 +102,6 @@ module _ {E : Type 0} (n : E → Node) where
     pub near_is : child_on d (n (v.entry w)) ≡ top sib_open.0
     near_is = top_near v (Some q) d Black sib_open.0 w sib_open.1 (sib_tree n opened)
 
-    near_tree : IsTree n v.entry (Some w) sib_open.0
-    near_tree = (branch_open n v.entry (Some q) d Black sib_open.0 w sib_open.1 (sib_tree n opened)).1
-
     far_tree : IsTree n v.entry (Some w) sib_open.1
     far_tree = (branch_open n v.entry (Some q) d Black sib_open.0 w sib_open.1 (sib_tree n opened)).2
 
@@ -172,14 +169,8 @@ module _ {E : Type 0} (n : E → Node) where
     tree_here : IsTree n v.entry (Some q) (branch d Black l.near w (far_child Red))
     tree_here = sib_tree n l.at
 
-    pub upper_linked : (n (v.entry w)).linked ≡ true
-    upper_linked = below_linked n v.entry (Some q) (branch d Black l.near w (far_child Red)) w tree_here (top_branch d Black l.near w (far_child Red))
-
     pub outer_some : (i : Side) (x : Option Place) → i ≡ across d → x ≡ child_on i (n (v.entry w)) → x ≡ Some l.far
     outer_some i x ek e = e ∙ (ap (λ (y : Side). child_on y (n (v.entry w))) ek ∙ top_far v (Some q) d Black l.near w (far_child Red) tree_here)
-
-    pub outer_linked : (n (v.entry l.far)).linked ≡ true
-    outer_linked = side_linked n v.entry Left l.far Red (top l.left) (top l.right) (Some w) (branch_open n v.entry (Some q) d Black l.near w (far_child Red) tree_here).2.0
 
     pub color_here : (x : Color) → x ≡ (n (v.entry q)).color → x ≡ c
     color_here x e = e ∙ side_tint n v.entry d q c (top k.subtree) (Some w) (above k.frames)

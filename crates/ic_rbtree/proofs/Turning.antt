@@ -15,7 +15,7 @@ use Rattle.ic_link_ops.proofs.SequenceLemmas.{none_not, some_same}
 use Rattle.ic_link_ops.specs.Times.{one_at, times, times_around}
 use Rattle.ic_link_ops.proofs.Times.{one_at_self, times_branch}
 use Rattle.ic_rbtree.specs.Pieces.{Piece, cell, below, around, Held, Stands}
-use Rattle.ic_rbtree.specs.Steps.{Turn, unturned, Adopts, Relinks, Rotates, IsSideOf}
+use Rattle.ic_rbtree.specs.Steps.{Turn, Adopts, Relinks, Rotates, IsSideOf}
 use Rattle.ic_rbtree.proofs.Branches.{top_branch, branch_open, branch_close, side_near, side_far, side_up, side_linked}
 use Rattle.ic_rbtree.proofs.Pieces.{regroup, set_near, set_far, set_up}
 
@@ -114,14 +114,6 @@ module _ {E : Type 0} (n : E → Node) where
       absurd (omega (arith, times_top was b t))
   relinks_some v w root parent to q was Right is l set only base (frame Left c p b ∷ fs) x ps e ex out h =
       absurd (l (ap (λ (z : Place). (n (v.entry z)).left) (some_same (sym is ∙ e)) ∙ side_near n v.entry Left p c (Some was) (top b) (above fs) h.are.0.0.0))
-
-  -- the child that a rotation brings up
-  pub has_upper : {base v : Table E} (root : Option Place) (fs : List Frame) (d : Side) (p : Place) (x : Turn) (ps : List Piece) → Stands n base v root fs (unturned d p x) ps
-      → child_on (across d) (n (v.entry p)) ≡ Some x.upper
-  has_upper {base} {v} root fs d p x ps s =
-      let low : Tree = branch d x.upper_color x.inner x.upper x.outer in
-      let h = open_at root fs d x.color x.near p low ps s in
-      side_far n v.entry d p x.color (top x.near) (top low) (above fs) h.are.0 ∙ top_branch d x.upper_color x.inner x.upper x.outer
 
   -- A ROTATION, write by write
   pub rotates : (v v1 v2 v3 v4 v5 v6 : Table E) (root new_root upper inner parent : Option Place) (z p : Place) (d far : Side) → far ≡ across d

@@ -31,10 +31,6 @@ use Rattle.ic_world.proofs.Steps.{asks_none}
 pub eq_of : (m n : ℕ) → nat_eq m n ≡ true → m ≡ n
 eq_of m n t = elim (cases_eq m n) [ inl e ↦ e | inr d ↦ absurd (let f : nat_eq m n ≡ false = ne_eqb m n d in cc) ]
 
-not_true : (b : Bool) → not b ≡ true → b ≡ false
-not_true true e = cc
-not_true false e = refl
-
 -- two that were taken out and put back, each as it is then
 put_back : {X : Type 0} (xs : List X) (c d : ℕ) (n x y : X) → c ≢ d → set (set (set (set xs c n) d n) c x) d y ≡ set (set xs d y) c x
 put_back xs c d n x y differ =

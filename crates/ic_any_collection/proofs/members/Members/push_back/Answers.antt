@@ -1,4 +1,4 @@
-use Rattle.std.proofs.Common.{◌∙◌, refl, sym, append-nil}
+use Rattle.std.proofs.Common.{append-nil}
 use Rattle.ic_link_ops.specs.Sequences.{at_front, at_back}
 use Rattle.ic_any_table.specs.Fields.{look}
 use Rattle.ic_any_table.specs.TwoWays as two

@@ -1,4 +1,4 @@
-use Rattle.std.proofs.Common.{◌∙◌, refl, sym}
+use Rattle.std.proofs.Common.{refl}
 use Rattle.ic_link_ops.specs.Sequences.{at_front}
 use Rattle.ic_any_table.specs.Fields.{look}
 use Rattle.ic_any_table.specs.TwoWays as two
