@@ -11,7 +11,7 @@ use Rattle.ic_link_ops.specs.Frames.{child_on, with_child}
 use Rattle.ic_link_ops.proofs.SequenceLemmas.{none_not, some_same}
 use Rattle.ic_rbtree.specs.Removal.{AreRead}
 use Rattle.ic_rbtree.specs.Taking.{or_else, both_of}
-use Rattle.ic_rbtree.specs.Closed.{IsIn, IsNode, IsClosedBut, IsClosed}
+use Rattle.ic_rbtree.specs.Closed.{IsIn, IsNode, IsNamed, IsClosedBut, IsClosed}
 
 -- an end that is there is in the set
 pub in_there : (S : Place → Bool) {o : Option Place} {q : Place} → IsIn S o → o ≡ Some q → S q ≡ true
@@ -69,6 +69,10 @@ module _ {E : Type 0} (n : E → Node) where
       pub color_written : {c : Color} → n (w.entry p) ≡ record (n (v.entry p)) { color = c } → IsClosedBut n w root but S
       color_written set = written (ap (λ (x : Node). x.linked) set) (same (λ x. x.left) set refl) (same (λ x. x.right) set refl) (same (λ x. x.parent) set refl)
 
+    -- an end in S is none or linked
+    pub in_linked : {o : Option Place} → IsIn S o → IsNamed n v o
+    in_linked i q e = h.linked q (in_there S i e)
+
     -- what leads into S
     pub child_in : (d : Side) (p : Place) → S p ≡ true → (but ≡ Some p → ⊥) → IsIn S (child_on d (n (v.entry p)))
     child_in Left p m out = h.left p m out
@@ -100,10 +104,6 @@ module _ {E : Type 0} (n : E → Node) where
       left = λ q e. h.linked q (in_there S (h.left p m (none_not p)) e);
       right = λ q e. h.linked q (in_there S (h.right p m (none_not p)) e);
     }
-
-    -- an end in S is linked
-    pub in_linked : {o : Option Place} → IsIn S o → (q : Place) → o ≡ Some q → IsNode n v q
-    in_linked i q e = h.linked q (in_there S i e)
 
     -- closed, and so closed but at a place
     pub weaker : (but : Option Place) → IsClosedBut n v root but S

@@ -19,6 +19,10 @@ module _ {E : Type 0} (n : E → Node) where
   abbrev pub IsNode : Table E → Place → Type 0
   IsNode v p = (n (v.entry p)).linked ≡ true
 
+  -- an end is none or linked, as its node says
+  abbrev pub IsNamed : Table E → Option Place → Type 0
+  IsNamed v o = (q : Place) → o ≡ Some q → IsNode v q
+
   -- the same places are, as their nodes say
   abbrev pub KeepsNodes : Table E → Table E → Type 0
   KeepsNodes v w = (q : Place) → (n (w.entry q)).linked ≡ (n (v.entry q)).linked

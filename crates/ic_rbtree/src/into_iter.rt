@@ -10,9 +10,10 @@
 ghost use Rattle.std.specs.Prelude.{◌≡◌, Some, List, [], ◌∷◌, IfSome, IfNone};
 ghost use Rattle.std.specs.Iterator.{item_count};
 ghost use Rattle.ic_unsafe_ref.specs.declared.place.Place.{Place};
-ghost use Rattle.ic_link_ops.specs.Tables.{IsLinked, KeepsBeside, KeepsLinked};
+ghost use Rattle.ic_link_ops.specs.Tables.{KeepsBeside};
 ghost use Rattle.ic_link_ops.specs.LinkSteps.{releases, releases_each};
 ghost use Rattle.ic_link_ops.specs.RedBlackTree.{Shows, ShowsSome};
+ghost use Rattle.ic_rbtree.specs.Closed.{IsNamed, KeepsNodes};
 ghost use Rattle.ic_rbtree.specs.Ends.{end_on, others_on, ShowsFrom, Hangs, CanDescend, IsOuter};
 ghost use Rattle.ic_rbtree.specs.Steps.{TakesNoStep};
 ghost use Rattle.ic_rbtree.specs.Tree.{root_of};
@@ -166,9 +167,10 @@ fn take_end<L: RBTreeOps>(links: &mut L, near: &mut End, far: &mut End, side: Si
 
 // A subtree hangs on this side of a member now, if there is one.
 fn hang<L: RBTreeOps>(links: &mut L, parent: Option<Place>, side: Side, to: Option<Place>)
-    requires { (q : Place) → parent ≡ Some q → IsLinked L.linked (L.table links.old) q }
+    requires parent { IsNamed L.node (L.table links.old) parent }
+    requires named { IsNamed L.node (L.table links.old) to }
     ensures moved { Hangs L.node (L.table links.old) (L.table links.new) parent side to }
-    ensures linked { KeepsLinked L.linked (L.table links.old) (L.table links.new) }
+    ensures linked { KeepsNodes L.node (L.table links.old) (L.table links.new) }
     ensures no_step { TakesNoStep L.Does links.old links.new }
 {
     if let Some(parent) = parent {

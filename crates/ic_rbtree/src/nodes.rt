@@ -7,7 +7,7 @@
 ghost use Rattle.std.specs.Prelude.{◌≡◌};
 ghost use Rattle.ic_link_ops.specs.Tables.{Table, ChangesOnly};
 ghost use Rattle.ic_link_ops.specs.RedBlackTree.{Node, node_at};
-ghost use Rattle.ic_rbtree.specs.Closed.{IsNode};
+ghost use Rattle.ic_rbtree.specs.Closed.{IsNode, IsNamed};
 
 use ic_link_ops::Color;
 use ic_link_ops::rbtree::RBTreeOps;
@@ -49,23 +49,26 @@ pub trait Nodes {
         requires linked { IsNode node (table self.now) place }
         ensures { result ≡ (node_at node (table self.now) place).color };
 
-    /// Sets the left child of `place`. It asks that the place is linked. O(1).
+    /// Sets the left child of `place`. It asks that the place is linked, and what it names too. O(1).
     fn set_left(&mut self, place: Place, left: Option<Place>)
         requires linked { IsNode node (table self.old) place }
+        requires named { IsNamed node (table self.old) left }
         ensures set { node_at node (table self.new) place ≡ record (node_at node (table self.old) place) { left = left } }
         ensures frame { ChangesOnly (table self.old) (table self.new) place }
         ensures quiet { Quiet self.old self.new };
 
-    /// Sets the right child of `place`. It asks that the place is linked. O(1).
+    /// Sets the right child of `place`. It asks that the place is linked, and what it names too. O(1).
     fn set_right(&mut self, place: Place, right: Option<Place>)
         requires linked { IsNode node (table self.old) place }
+        requires named { IsNamed node (table self.old) right }
         ensures set { node_at node (table self.new) place ≡ record (node_at node (table self.old) place) { right = right } }
         ensures frame { ChangesOnly (table self.old) (table self.new) place }
         ensures quiet { Quiet self.old self.new };
 
-    /// Sets the parent of `place`. It asks that the place is linked. O(1).
+    /// Sets the parent of `place`. It asks that the place is linked, and what it names too. O(1).
     fn set_parent(&mut self, place: Place, parent: Option<Place>)
         requires linked { IsNode node (table self.old) place }
+        requires named { IsNamed node (table self.old) parent }
         ensures set { node_at node (table self.new) place ≡ record (node_at node (table self.old) place) { parent = parent } }
         ensures frame { ChangesOnly (table self.old) (table self.new) place }
         ensures quiet { Quiet self.old self.new };

@@ -5,7 +5,7 @@ ghost use Rattle.ic_unsafe_ref.specs.declared.place.Place.{Place};
 ghost use Rattle.ic_link_ops.specs.Tables.{ChangesOnly};
 ghost use Rattle.ic_link_ops.specs.RedBlackTree.{node_at};
 ghost use Rattle.ic_link_ops.specs.Frames.{with_child};
-ghost use Rattle.ic_rbtree.specs.Closed.{IsNode, KeepsNodes, IsSafe, IsSafeBut, StaysClosed, StaysClosedBut, ClosesAt};
+ghost use Rattle.ic_rbtree.specs.Closed.{IsNode, IsNamed, KeepsNodes, IsSafe, IsSafeBut, StaysClosed, StaysClosedBut, ClosesAt};
 ghost use Rattle.ic_rbtree.specs.Taking.{TakesPlace};
 ghost use Rattle.ic_rbtree.specs.Steps.{Adopts, Relinks, Rotates};
 
@@ -15,7 +15,8 @@ use ic_link_ops::{Color, End, Side};
 use ic_unsafe_ref::Place;
 
 pub(crate) fn set_child<N: Nodes>(links: &mut N, place: Place, side: Side, to: Option<Place>)
-    requires { IsNode N.node (N.table links.old) place }
+    requires linked { IsNode N.node (N.table links.old) place }
+    requires named { IsNamed N.node (N.table links.old) to }
     ensures set { node_at N.node (N.table links.new) place
         ≡ with_child side (node_at N.node (N.table links.old) place) to }
     ensures frame { ChangesOnly (N.table links.old) (N.table links.new) place }
@@ -30,7 +31,8 @@ pub(crate) fn set_child<N: Nodes>(links: &mut N, place: Place, side: Side, to: O
 }
 
 pub(crate) fn set_parent<N: Nodes>(links: &mut N, place: Place, parent: Option<Place>)
-    requires { IsNode N.node (N.table links.old) place }
+    requires linked { IsNode N.node (N.table links.old) place }
+    requires named { IsNamed N.node (N.table links.old) parent }
     ensures set { node_at N.node (N.table links.new) place
         ≡ record (node_at N.node (N.table links.old) place) { parent = parent } }
     ensures frame { ChangesOnly (N.table links.old) (N.table links.new) place }
@@ -55,7 +57,8 @@ pub(crate) fn set_color<N: Nodes>(links: &mut N, place: Place, color: Color)
 
 // A subtree gets another parent.
 pub(crate) fn adopt<N: Nodes>(links: &mut N, child: Option<Place>, parent: Option<Place>)
-    requires { (q : Place) → child ≡ Some q → IsNode N.node (N.table links.old) q }
+    requires child { IsNamed N.node (N.table links.old) child }
+    requires parent { IsNamed N.node (N.table links.old) parent }
     ensures moved { Adopts N.node (N.table links.old) (N.table links.new) child parent }
     ensures linked { KeepsNodes N.node (N.table links.old) (N.table links.new) }
     ensures safe { (root : Option Place) → StaysClosedBut N.node (N.table links.old) (N.table links.new) root root (parent ∷ []) }
@@ -74,7 +77,8 @@ pub(crate) fn relink<N: Nodes>(
     was: Place,
     to: Option<Place>,
 )
-    requires { (q : Place) → parent ≡ Some q → IsNode N.node (N.table links.old) q }
+    requires parent { IsNamed N.node (N.table links.old) parent }
+    requires named { IsNamed N.node (N.table links.old) to }
     ensures moved { Relinks N.node (N.table links.old) (N.table links.new) root.old root.new parent was to }
     ensures linked { KeepsNodes N.node (N.table links.old) (N.table links.new) }
     ensures safe { StaysClosedBut N.node (N.table links.old) (N.table links.new) root.old root.new (to ∷ []) }

@@ -1,4 +1,3 @@
-use Rattle.std.proofs.Common.{sym, ◌∙◌}
 use Rattle.ic_rbtree.proofs.Ends.{hangs_some, hangs_none}
 use Rattle.ic_rbtree.proofs.into_iter.hang.Goals as goal
 
@@ -10,7 +9,4 @@ pub returns-in_default-clause-moved : goal.returns-in_default-clause-moved
 returns-in_default-clause-moved g c = hangs_none g.L.RBTreeOps.node _ c.args.parent c.args.to c.args.side c.in_default.is
 
 pub set_child-requires : goal.set_child-requires
-set_child-requires g c = g.met.L.RBTreeOps.linked_alike _ ∙ c.requires c.in-Some.parent c.in-Some.is
-
-pub returns-in-Some-clause-linked : goal.returns-in-Some-clause-linked
-returns-in-Some-clause-linked g c q = sym (g.met.L.RBTreeOps.linked_alike _) ∙ (c.set_child.ensures.linked q ∙ g.met.L.RBTreeOps.linked_alike _)
+set_child-requires g c = record { linked = c.requires.parent c.in-Some.parent c.in-Some.is; named = c.requires.named }

@@ -23,18 +23,22 @@ parent-parent-requires g c =
     record { linked = sym (g.met.L.RBTreeOps.linked_alike _) ∙ end_linked n x }
 
 pub adopt-requires : goal.adopt-requires
-adopt-requires g c q is =
+adopt-requires g c =
     let n = g.L.RBTreeOps.node in
     let s = c.requires.shown in
     let x = at_end n (g.L.LinkOps.table c.args.links.now) c.args.side c.args.near.now c.args.far.now c.in_ok-place.place s.0 (sym c.get.ensures ∙ c.in_ok-place.was) s.1 in
-    child_linked n x c.child-below.result (end_child n x c.other.result c.child-below.result c.other.ensures c.child-below.ensures) q is
+    let child = child_linked n x c.child-below.result (end_child n x c.other.result c.child-below.result c.other.ensures c.child-below.ensures) in
+    let parent = parent_linked n x c.parent-parent.result (end_parent n x c.parent-parent.result c.parent-parent.ensures) in
+    record { child = child; parent = parent }
 
 pub hang-requires : goal.hang-requires
-hang-requires g c q is =
+hang-requires g c =
     let n = g.L.RBTreeOps.node in
     let s = c.requires.shown in
     let x = at_end n (g.L.LinkOps.table c.args.links.now) c.args.side c.args.near.now c.args.far.now c.in_ok-place.place s.0 (sym c.get.ensures ∙ c.in_ok-place.was) s.1 in
-    sym (g.met.L.RBTreeOps.linked_alike _) ∙ (c.adopt.ensures.linked q ∙ parent_linked n x c.parent-parent.result (end_parent n x c.parent-parent.result c.parent-parent.ensures) q is)
+    let child = child_linked n x c.child-below.result (end_child n x c.other.result c.child-below.result c.other.ensures c.child-below.ensures) in
+    let parent = parent_linked n x c.parent-parent.result (end_parent n x c.parent-parent.result c.parent-parent.ensures) in
+    record { parent = λ q e. c.adopt.ensures.linked q ∙ parent q e; named = λ q e. c.adopt.ensures.linked q ∙ child q e }
 
 pub outer-next-requires : goal.outer-next-requires
 outer-next-requires g c =
@@ -49,7 +53,7 @@ release_link-requires g c =
     let n = g.L.RBTreeOps.node in
     let s = c.requires.shown in
     let x = at_end n (g.L.LinkOps.table c.args.links.now) c.args.side c.args.near.now c.args.far.now c.in_ok-place.place s.0 (sym c.get.ensures ∙ c.in_ok-place.was) s.1 in
-    record { linked = c.hang.ensures.linked c.in_ok-place.place ∙ (sym (g.met.L.RBTreeOps.linked_alike _) ∙ (c.adopt.ensures.linked c.in_ok-place.place ∙ end_linked n x)) }
+    record { linked = sym (g.met.L.RBTreeOps.linked_alike _) ∙ (c.hang.ensures.linked c.in_ok-place.place ∙ (c.adopt.ensures.linked c.in_ok-place.place ∙ end_linked n x)) }
 
 pub returns-clause-removed : goal.returns-clause-removed
 returns-clause-removed g c w shown =

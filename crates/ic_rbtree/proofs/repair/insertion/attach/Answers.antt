@@ -1,18 +1,32 @@
 use Rattle.std.proofs.Common.{◌∷◌, ◌++◌, Option, None, sym, ◌∙◌, subst}
 use Rattle.ic_unsafe_ref.specs.declared.place.Place.{Place}
 use Rattle.ic_link_ops.specs.declared.color.Color.TheVariants.{Red, Black}
+use Rattle.ic_link_ops.proofs.SequenceLemmas.{none_not}
 use Rattle.ic_rbtree.specs.Closed.{IsIn}
 use Rattle.ic_rbtree.specs.Pieces.{Shown}
 use Rattle.ic_rbtree.proofs.Attaching.{hole, leaf_written, attached_first, attached_red}
-use Rattle.ic_rbtree.proofs.Closed.{in_there, node_written, restarted}
+use Rattle.ic_rbtree.proofs.Closed.{in_there, in_linked, node_written, restarted}
 use Rattle.ic_rbtree.proofs.Low.{frames_low}
 use Rattle.ic_rbtree.proofs.repair.insertion.attach.Goals as goal
 
+pub set_child-requires : goal.set_child-requires
+set_child-requires g c = record { linked = c.requires.1.linked c.args.place c.requires.2.0; named = λ q e. absurd (none_not q e) }
+
+pub set_child-requires-2 : goal.set_child-requires-2
+set_child-requires-2 g c = record { linked = c.set_child.ensures.linked c.args.place ∙ c.requires.1.linked c.args.place c.requires.2.0; named = λ q e. absurd (none_not q e) }
+
+pub set_parent-requires : goal.set_parent-requires
+set_parent-requires g c =
+    let n = g.N.Nodes.node in
+    let r = c.requires in
+    record { linked = c.set_child-2.ensures.linked c.args.place ∙ (c.set_child.ensures.linked c.args.place ∙ r.1.linked c.args.place r.2.0); named = λ q e. c.set_child-2.ensures.linked q ∙ (c.set_child.ensures.linked q ∙ in_linked n r.1 r.2.1.0 q e) }
+
 pub set_child-requires-in-Some : goal.set_child-requires-in-Some
 set_child-requires-in-Some g c =
+    let n = g.N.Nodes.node in
     let r = c.requires in
     let q = c.in-Some.parent in
-    c.set_color-in-Some.ensures.linked q ∙ (c.set_parent.ensures.linked q ∙ (c.set_child-2.ensures.linked q ∙ (c.set_child.ensures.linked q ∙ r.1.linked q (in_there r.0 r.2.1.0 c.in-Some.is))))
+    record { linked = c.set_color-in-Some.ensures.linked q ∙ (c.set_parent.ensures.linked q ∙ (c.set_child-2.ensures.linked q ∙ (c.set_child.ensures.linked q ∙ r.1.linked q (in_there r.0 r.2.1.0 c.in-Some.is)))); named = λ q e. c.set_color-in-Some.ensures.linked q ∙ (c.set_parent.ensures.linked q ∙ (c.set_child-2.ensures.linked q ∙ (c.set_child.ensures.linked q ∙ in_linked n r.1 r.2.0 q e))) }
 
 pub repair_red-requires : goal.repair_red-requires
 repair_red-requires g c =

@@ -15,13 +15,19 @@ pub relink-requires : goal.relink-requires
 relink-requires g c =
     let n = g.N.Nodes.node in
     let r = c.requires in
-    in_linked n r.1 (in_parent n r.1 c.args.place r.2.0 c.parent-parent.ensures)
+    record {
+      parent = in_linked n r.1 (in_parent n r.1 c.args.place r.2.0 c.parent-parent.ensures);
+      named = in_linked n r.1 (in_only n r.1 c.args.place r.2.0 c.only_child-child.ensures);
+    }
 
 pub adopt-requires : goal.adopt-requires
-adopt-requires g c q e =
+adopt-requires g c =
     let n = g.N.Nodes.node in
     let r = c.requires in
-    c.relink.ensures.linked q ∙ in_linked n r.1 (in_only n r.1 c.args.place r.2.0 c.only_child-child.ensures) q e
+    record {
+      child = λ q e. c.relink.ensures.linked q ∙ in_linked n r.1 (in_only n r.1 c.args.place r.2.0 c.only_child-child.ensures) q e;
+      parent = λ q e. c.relink.ensures.linked q ∙ in_linked n r.1 (in_parent n r.1 c.args.place r.2.0 c.parent-parent.ensures) q e;
+    }
 
 pub close_gap-requires : goal.close_gap-requires
 close_gap-requires g c =

@@ -4,6 +4,12 @@ use Rattle.ic_rbtree.proofs.Closed.{restarted}
 use Rattle.ic_rbtree.proofs.Turning.{relinks_some}
 use Rattle.ic_rbtree.proofs.repair.writers.relink.Goals as goal
 
+pub side_of-side-requires : goal.side_of-side-requires
+side_of-side-requires g c = c.requires.parent c.in-Some.parent c.in-Some.is
+
+pub set_child-requires : goal.set_child-requires
+set_child-requires g c = record { linked = c.requires.parent c.in-Some.parent c.in-Some.is; named = c.requires.named }
+
 pub returns-in-Some-clause-moved : goal.returns-in-Some-clause-moved
 returns-in-Some-clause-moved g c = relinks_some _ _ _ _ _ _ c.in-Some.parent _ _ c.in-Some.is c.side_of-side.ensures c.set_child.ensures.set c.set_child.ensures.frame
 

@@ -3,12 +3,53 @@ use Rattle.ic_rbtree.proofs.Closed.{in_there, in_child, in_parent, in_linked}
 use Rattle.ic_rbtree.proofs.Turning.{rotates}
 use Rattle.ic_rbtree.proofs.repair.writers.rotate.Goals as goal
 
-pub adopt-requires : goal.adopt-requires
-adopt-requires g c q e =
+pub set_child-requires : goal.set_child-requires
+set_child-requires g c =
     let n = g.N.Nodes.node in
     let r = c.requires in
     let up = in_there r.0 (in_child n r.1 _ c.args.place r.2.0 c.child.ensures) c.in-Some.is in
-    c.set_child.ensures.linked q ∙ in_linked n r.1 (in_child n r.1 _ c.in-Some.upper up c.child-inner.ensures) q e
+    record { linked = r.1.linked c.args.place r.2.0; named = in_linked n r.1 (in_child n r.1 _ c.in-Some.upper up c.child-inner.ensures) }
+
+pub adopt-requires : goal.adopt-requires
+adopt-requires g c =
+    let n = g.N.Nodes.node in
+    let r = c.requires in
+    let up = in_there r.0 (in_child n r.1 _ c.args.place r.2.0 c.child.ensures) c.in-Some.is in
+    record {
+      child = λ q e. c.set_child.ensures.linked q ∙ in_linked n r.1 (in_child n r.1 _ c.in-Some.upper up c.child-inner.ensures) q e;
+      parent = λ q e. c.set_child.ensures.linked q ∙ in_linked n r.1 r.2.0 q e;
+    }
+
+pub set_parent-requires : goal.set_parent-requires
+set_parent-requires g c =
+    let n = g.N.Nodes.node in
+    let r = c.requires in
+    let up = in_there r.0 (in_child n r.1 _ c.args.place r.2.0 c.child.ensures) c.in-Some.is in
+    record { linked = c.adopt.ensures.linked c.in-Some.upper ∙ (c.set_child.ensures.linked c.in-Some.upper ∙ r.1.linked c.in-Some.upper up); named = λ q e. c.adopt.ensures.linked q ∙ (c.set_child.ensures.linked q ∙ in_linked n r.1 (in_parent n r.1 c.args.place r.2.0 c.parent-parent.ensures) q e) }
+
+pub relink-requires : goal.relink-requires
+relink-requires g c =
+    let n = g.N.Nodes.node in
+    let r = c.requires in
+    let up = in_there r.0 (in_child n r.1 _ c.args.place r.2.0 c.child.ensures) c.in-Some.is in
+    record {
+      parent = λ q e. c.set_parent.ensures.linked q ∙ (c.adopt.ensures.linked q ∙ (c.set_child.ensures.linked q ∙ in_linked n r.1 (in_parent n r.1 c.args.place r.2.0 c.parent-parent.ensures) q e));
+      named = λ q e. c.set_parent.ensures.linked q ∙ (c.adopt.ensures.linked q ∙ (c.set_child.ensures.linked q ∙ in_linked n r.1 up q e));
+    }
+
+pub set_child-requires-2 : goal.set_child-requires-2
+set_child-requires-2 g c =
+    let n = g.N.Nodes.node in
+    let r = c.requires in
+    let up = in_there r.0 (in_child n r.1 _ c.args.place r.2.0 c.child.ensures) c.in-Some.is in
+    record { linked = c.relink.ensures.linked c.in-Some.upper ∙ (c.set_parent.ensures.linked c.in-Some.upper ∙ (c.adopt.ensures.linked c.in-Some.upper ∙ (c.set_child.ensures.linked c.in-Some.upper ∙ r.1.linked c.in-Some.upper up))); named = λ q e. c.relink.ensures.linked q ∙ (c.set_parent.ensures.linked q ∙ (c.adopt.ensures.linked q ∙ (c.set_child.ensures.linked q ∙ in_linked n r.1 r.2.0 q e))) }
+
+pub set_parent-requires-2 : goal.set_parent-requires-2
+set_parent-requires-2 g c =
+    let n = g.N.Nodes.node in
+    let r = c.requires in
+    let up = in_there r.0 (in_child n r.1 _ c.args.place r.2.0 c.child.ensures) c.in-Some.is in
+    record { linked = c.set_child-2.ensures.linked c.args.place ∙ (c.relink.ensures.linked c.args.place ∙ (c.set_parent.ensures.linked c.args.place ∙ (c.adopt.ensures.linked c.args.place ∙ (c.set_child.ensures.linked c.args.place ∙ r.1.linked c.args.place r.2.0)))); named = λ q e. c.set_child-2.ensures.linked q ∙ (c.relink.ensures.linked q ∙ (c.set_parent.ensures.linked q ∙ (c.adopt.ensures.linked q ∙ (c.set_child.ensures.linked q ∙ in_linked n r.1 up q e)))) }
 
 pub returns-clause-rotated : goal.returns-clause-rotated
 returns-clause-rotated g c =

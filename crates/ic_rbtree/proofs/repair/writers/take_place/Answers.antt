@@ -1,24 +1,50 @@
 use Rattle.std.proofs.Common.{◌≡◌, Some, sym, ◌∙◌}
 use Rattle.ic_link_ops.proofs.SequenceLemmas.{some_same}
-use Rattle.ic_rbtree.proofs.Closed.{in_there, read_in, node_written}
+use Rattle.ic_rbtree.proofs.Closed.{read_in, in_linked, node_written}
 use Rattle.ic_rbtree.proofs.Taking.{taken_place}
 use Rattle.ic_rbtree.proofs.repair.writers.take_place.Goals as goal
 
 pub relink-requires : goal.relink-requires
-relink-requires g c q e =
+relink-requires g c =
+    let n = g.N.Nodes.node in
     let r = c.requires.safe in
-    r.1.linked q (in_there r.0 (read_in r.0 (r.1.parent c.args.place r.2.0 (λ s. c.requires.apart (sym (some_same s)))) c.parent-parent.ensures) e)
+    let up = read_in r.0 (r.1.parent c.args.place r.2.0 (λ s. c.requires.apart (sym (some_same s)))) c.parent-parent.ensures in
+    record { parent = in_linked n r.1 up; named = in_linked n r.1 r.2.1.0 }
 
 pub adopt-requires : goal.adopt-requires
-adopt-requires g c q e =
+adopt-requires g c =
+    let n = g.N.Nodes.node in
     let r = c.requires.safe in
-    c.relink.ensures.linked q ∙ r.1.linked q (in_there r.0 (read_in r.0 (r.1.left c.args.place r.2.0 (λ s. c.requires.apart (sym (some_same s)))) c.left-left.ensures) e)
+    let below = read_in r.0 (r.1.left c.args.place r.2.0 (λ s. c.requires.apart (sym (some_same s)))) c.left-left.ensures in
+    record { child = λ q e. c.relink.ensures.linked q ∙ in_linked n r.1 below q e; parent = λ q e. c.relink.ensures.linked q ∙ in_linked n r.1 r.2.1.0 q e }
 
 pub adopt-requires-2 : goal.adopt-requires-2
-adopt-requires-2 g c q e =
+adopt-requires-2 g c =
+    let n = g.N.Nodes.node in
     let r = c.requires.safe in
-    c.adopt.ensures.linked q ∙ (c.relink.ensures.linked q
-    ∙ r.1.linked q (in_there r.0 (read_in r.0 (r.1.right c.args.place r.2.0 (λ s. c.requires.apart (sym (some_same s)))) c.right-right.ensures) e))
+    let below = read_in r.0 (r.1.right c.args.place r.2.0 (λ s. c.requires.apart (sym (some_same s)))) c.right-right.ensures in
+    record { child = λ q e. c.adopt.ensures.linked q ∙ (c.relink.ensures.linked q ∙ in_linked n r.1 below q e); parent = λ q e. c.adopt.ensures.linked q ∙ (c.relink.ensures.linked q ∙ in_linked n r.1 r.2.1.0 q e) }
+
+pub set_child-requires : goal.set_child-requires
+set_child-requires g c =
+    let n = g.N.Nodes.node in
+    let r = c.requires.safe in
+    let below = read_in r.0 (r.1.left c.args.place r.2.0 (λ s. c.requires.apart (sym (some_same s)))) c.left-left.ensures in
+    record { linked = c.adopt-2.ensures.linked c.args.new ∙ (c.adopt.ensures.linked c.args.new ∙ (c.relink.ensures.linked c.args.new ∙ r.1.linked c.args.new r.2.1.0)); named = λ q e. c.adopt-2.ensures.linked q ∙ (c.adopt.ensures.linked q ∙ (c.relink.ensures.linked q ∙ in_linked n r.1 below q e)) }
+
+pub set_child-requires-2 : goal.set_child-requires-2
+set_child-requires-2 g c =
+    let n = g.N.Nodes.node in
+    let r = c.requires.safe in
+    let below = read_in r.0 (r.1.right c.args.place r.2.0 (λ s. c.requires.apart (sym (some_same s)))) c.right-right.ensures in
+    record { linked = c.set_child.ensures.linked c.args.new ∙ (c.adopt-2.ensures.linked c.args.new ∙ (c.adopt.ensures.linked c.args.new ∙ (c.relink.ensures.linked c.args.new ∙ r.1.linked c.args.new r.2.1.0))); named = λ q e. c.set_child.ensures.linked q ∙ (c.adopt-2.ensures.linked q ∙ (c.adopt.ensures.linked q ∙ (c.relink.ensures.linked q ∙ in_linked n r.1 below q e))) }
+
+pub set_parent-requires : goal.set_parent-requires
+set_parent-requires g c =
+    let n = g.N.Nodes.node in
+    let r = c.requires.safe in
+    let up = read_in r.0 (r.1.parent c.args.place r.2.0 (λ s. c.requires.apart (sym (some_same s)))) c.parent-parent.ensures in
+    record { linked = c.set_child-2.ensures.linked c.args.new ∙ (c.set_child.ensures.linked c.args.new ∙ (c.adopt-2.ensures.linked c.args.new ∙ (c.adopt.ensures.linked c.args.new ∙ (c.relink.ensures.linked c.args.new ∙ r.1.linked c.args.new r.2.1.0)))); named = λ q e. c.set_child-2.ensures.linked q ∙ (c.set_child.ensures.linked q ∙ (c.adopt-2.ensures.linked q ∙ (c.adopt.ensures.linked q ∙ (c.relink.ensures.linked q ∙ in_linked n r.1 up q e)))) }
 
 pub returns-clause-taken : goal.returns-clause-taken
 returns-clause-taken g c =
