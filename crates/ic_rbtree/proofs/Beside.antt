@@ -1,5 +1,5 @@
 -- From a position in a shown tree to the member beside it, and to the hole between them.
-use Rattle.std.proofs.Common.{◌≡◌, Option, Some, None, List, [], ◌∷◌, refl, sym, ap, ◌∙◌, subst}
+use Rattle.std.proofs.Common.{◌≡◌, ◌<◌, Option, Some, None, List, [], ◌∷◌, refl, sym, ap, ◌∙◌, subst}
 use Rattle.ic_unsafe_ref.specs.declared.place.Place.{Place}
 use Rattle.ic_link_ops.specs.declared.color.Color.{Color}
 use Rattle.ic_link_ops.specs.declared.side.Side.{Side}
@@ -8,13 +8,16 @@ use Rattle.ic_link_ops.specs.Sequences.{Cut, join}
 use Rattle.ic_link_ops.specs.Tables.{Table}
 use Rattle.ic_link_ops.specs.Trees.{Tree, leaf, fork, top, in_order}
 use Rattle.ic_link_ops.specs.RedBlackTree.{Node, Shows}
-use Rattle.ic_link_ops.specs.Frames.{frame, across, child_on, branch}
+use Rattle.ic_link_ops.specs.Shape.{IsRight}
+use Rattle.ic_link_ops.specs.Frames.{frame, across, child_on, branch, plug}
 use Rattle.ic_link_ops.specs.Positions.{HasMember}
 use Rattle.ic_link_ops.proofs.ShownTrees.{no_root}
+use Rattle.ic_rbtree.specs.Height.{height, turns}
 use Rattle.ic_rbtree.specs.Pieces.{Stands}
-use Rattle.ic_rbtree.specs.Sides.{IsBeside, beyond, nearest, StandsAt, IsOutermost, IsNearestAbove}
+use Rattle.ic_rbtree.specs.Sides.{IsBeside, beyond, nearest, StandsAt, IsOutermost, IsNearestAbove, IsOutermostWithin, IsNearestAboveWithin}
 use Rattle.ic_rbtree.specs.Insertion.{IsHole}
 use Rattle.ic_rbtree.proofs.Nearest.{nearest_or, choose, is_beside, nearest_there, nearest_plain, nearest_around, beside_member, beside_null, nearest_nothing, nothing_both}
+use Rattle.ic_rbtree.proofs.Low.{shown_low}
 use Rattle.ic_rbtree.proofs.Zipper.{go_down}
 use Rattle.ic_rbtree.proofs.Removing.{Spot, spot, shown_of}
 use Rattle.ic_rbtree.proofs.Branches.{top_leaf}
@@ -29,15 +32,22 @@ nearest_twice Left s = refl
 nearest_twice Right s = refl
 
 module _ {E : Type 0} (n : E → Node) where
+  -- what holds in any tree holds in one that is not too high
+  pub outermost_here : (v : Table E) {p : Place} {d : Side} {y : Place} → IsOutermost n v p d y → IsOutermostWithin n v p d y
+  outermost_here v h base root fs t ps s e low = h base root fs t ps s e
+
+  pub nearest_here : (v : Table E) {p : Place} (d : Side) {r : Option Place} → IsNearestAbove n v p d r → IsNearestAboveWithin n v p d r
+  nearest_here v d h base root fs t ps s e low = h base root fs t ps s e
+
   module _ {v : Table E} {root : Option Place} where
     -- the root of a shown tree
     pub root_can : {s : List Place} {r : Place} → Shows n v root s → root ≡ Some r → StandsAt n v r
     root_can h is = let k = shown_of n h in (v, root, [], k.tree, [], k.stands, sym k.stands.are.0.1 ∙ is)
 
-    pub root_end : {s : List Place} {r : Place} (d : Side) {y : Place} → Shows n v root s → root ≡ Some r → IsOutermost n v r d y → (nearest (across d) s ≡ Some y) × (child_on d (n (v.entry y)) ≡ None)
+    pub root_end : {s : List Place} {r : Place} (d : Side) {y : Place} → Shows n v root s → root ≡ Some r → IsOutermostWithin n v r d y → (nearest (across d) s ≡ Some y) × (child_on d (n (v.entry y)) ≡ None)
     root_end d h is outermost =
         let k = shown_of n h in
-        let e = outermost v root [] k.tree [] k.stands (sym k.stands.are.0.1 ∙ is) in
+        let e = outermost v root [] k.tree [] k.stands (sym k.stands.are.0.1 ∙ is) (shown_low n k.stands k.shape) in
         (sym (ap (nearest (across d)) k.order) ∙ e.nearest_is, e.childless)
 
     -- a member, and its subtree on a side
@@ -57,15 +67,18 @@ module _ {E : Type 0} (n : E → Node) where
           go_down n d x.c p (choose (across d) x.a x.b) (choose d x.a x.b)
           (subst (λ t. Stands n v v root x.fs t []) (fork_branch d x.c x.a p x.b) x.stands)
 
+      below_low : (d : Side) → height (plug (frame d x.c p (choose (across d) x.a x.b) ∷ x.fs) (choose d x.a x.b)) < turns
+      below_low d = shown_low n (below_stands d) (subst (λ t. IsRight (plug x.fs t)) (fork_branch d x.c x.a p x.b) x.right)
+
       pub below_can : (d : Side) {q : Place} → child_on d (n (v.entry p)) ≡ Some q → StandsAt n v q
       below_can d is = (v, root, frame d x.c p (choose (across d) x.a x.b) ∷ x.fs, choose d x.a x.b, [], below_stands d, sym (child_is d) ∙ is)
 
       -- beside it is the outermost member below its child there,
-      below_end : (d : Side) {q y : Place} → child_on d (n (v.entry p)) ≡ Some q → IsOutermost n v q (across d) y
+      below_end : (d : Side) {q y : Place} → child_on d (n (v.entry p)) ≡ Some q → IsOutermostWithin n v q (across d) y
           → (nearest d (choose d front back) ≡ Some y) × (child_on (across d) (n (v.entry y)) ≡ None)
       below_end d {q} is outermost =
           let below : top (choose d x.a x.b) ≡ Some q = sym (child_is d) ∙ is in
-          let e = outermost v root (frame d x.c p (choose (across d) x.a x.b) ∷ x.fs) (choose d x.a x.b) [] (below_stands d) below in (
+          let e = outermost v root (frame d x.c p (choose (across d) x.a x.b) ∷ x.fs) (choose d x.a x.b) [] (below_stands d) below (below_low d) in (
             nearest_around d x.fs x.a x.b front back x.front_is x.back_is
                 ∙ nearest_there d (choose d x.a x.b) q (nearest d (beyond d x.fs)) None below
                 ∙ sym (nearest_plain d (in_order (choose d x.a x.b)))
@@ -75,10 +88,10 @@ module _ {E : Type 0} (n : E → Node) where
           )
 
       -- and where it has none, the nearest one above
-      above_end : (d : Side) {r : Option Place} → child_on d (n (v.entry p)) ≡ None → IsNearestAbove n v p d r → r ≡ nearest d (choose d front back)
+      above_end : (d : Side) {r : Option Place} → child_on d (n (v.entry p)) ≡ None → IsNearestAboveWithin n v p d r → r ≡ nearest d (choose d front back)
       above_end d none nearest_above =
           let bare : choose d x.a x.b ≡ leaf = top_leaf (choose d x.a x.b) (sym (child_is d) ∙ none) in
-          nearest_above v root x.fs (fork x.c x.a p x.b) [] x.stands refl
+          nearest_above v root x.fs (fork x.c x.a p x.b) [] x.stands refl (shown_low n x.stands x.right)
           ∙ sym (nearest_nothing d (nearest d (beyond d x.fs)))
           ∙ ap (λ t. nearest_or d (in_order t) (nearest d (beyond d x.fs))) (sym bare)
           ∙ sym (nearest_around d x.fs x.a x.b front back x.front_is x.back_is)
@@ -89,27 +102,31 @@ module _ {E : Type 0} (n : E → Node) where
       null_step {o} here end = is_beside d gap o (end ∙ sym (ap (nearest d) (beside_null d gap here)))
 
       -- in front of which there is a hole,
-      pub null_end : {k : Side} {r y : Place} → k ≡ across d → IsBeside d gap None → root ≡ Some r → IsOutermost n v r k y → IsHole n v (Some y) k gap
+      pub null_end : {k : Side} {r y : Place} → k ≡ across d → IsBeside d gap None → root ≡ Some r → IsOutermostWithin n v r k y → IsHole n v (Some y) k gap
       null_end {k} {r} {y} other here is outermost =
-          let e = root_end (across d) shown is (subst (λ z. IsOutermost n v r z y) other outermost) in
+          let e = root_end (across d) shown is (subst (λ z. IsOutermostWithin n v r z y) other outermost) in
           subst (λ z. IsHole n v (Some y) z gap) (sym other)
           (e.1, is_beside d gap (Some y) (sym (ap (nearest d) (beside_null d gap here) ∙ sym (nearest_twice d (join gap)) ∙ e.0)))
 
       -- from a member the outermost one below its child,
-      pub member_end : {k : Side} (p : Place) {q y : Place} → k ≡ across d → IsBeside d gap (Some p) → child_on d (n (v.entry p)) ≡ Some q → IsOutermost n v q k y → IsHole n v (Some y) k gap
+      pub member_end : {k : Side} (p : Place) {q y : Place} → k ≡ across d → IsBeside d gap (Some p) → child_on d (n (v.entry p)) ≡ Some q → IsOutermostWithin n v q k y → IsHole n v (Some y) k gap
       member_end {k} p {q} {y} other here is outermost =
           let m = beside_member d gap p here in
           let x = spot n m.0 p m.1 (shown_of n (subst (λ s. Shows n v root s) m.2 shown)) in
-          let e = below_end x d is (subst (λ z. IsOutermost n v q z y) other outermost) in
+          let e = below_end x d is (subst (λ z. IsOutermostWithin n v q z y) other outermost) in
           subst (λ z. IsHole n v (Some y) z gap) (sym other) (e.1, is_beside d gap (Some y) (sym (ap (nearest d) m.3 ∙ e.0)))
 
       -- or the nearest above
-      pub member_above : (p : Place) {r : Option Place} → IsBeside d gap (Some p) → child_on d (n (v.entry p)) ≡ None → IsNearestAbove n v p d r → IsBeside (across d) gap r
+      pub member_above : (p : Place) {r : Option Place} → IsBeside d gap (Some p) → child_on d (n (v.entry p)) ≡ None → IsNearestAboveWithin n v p d r → IsBeside (across d) gap r
       member_above p {r} here none nearest_above =
           let m = beside_member d gap p here in
           let x = spot n m.0 p m.1 (shown_of n (subst (λ s. Shows n v root s) m.2 shown)) in
           is_beside d gap r (above_end x d none nearest_above ∙ sym (ap (nearest d) m.3))
 
-      -- a hole of the empty tree
+      -- in an empty tree null is beside null,
+      pub null_alone : IsBeside d gap None → root ≡ None → IsBeside (across d) gap None
+      null_alone here is = null_step here (sym (ap (nearest d) (no_root (subst (λ o. Shows n v o (join gap)) is shown)) ∙ nearest_plain d [] ∙ nearest_nothing d None))
+
+      -- and there is a hole
       pub null_hole : IsBeside d gap None → root ≡ None → IsHole n v None d gap
       null_hole here is = nothing_both gap.front gap.back (no_root (subst (λ o. Shows n v o (join gap)) is shown))

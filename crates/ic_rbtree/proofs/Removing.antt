@@ -3,7 +3,7 @@ use Rattle.std.proofs.Common.{◌≡◌, inl, inr, true, Option, Some, None, Lis
 use Rattle.std.proofs.lemmas.List.{append_cancel_left}
 use Rattle.ic_unsafe_ref.specs.declared.place.Place.{Place}
 use Rattle.ic_link_ops.specs.declared.color.Color.{Color}
-use Rattle.ic_link_ops.specs.declared.side.Side.TheVariants.{Right}
+use Rattle.ic_link_ops.specs.declared.side.Side.TheVariants.{Left, Right}
 use Rattle.ic_link_ops.specs.Sequences.{Cut, join, first, IsAbsent, IsDistinct}
 use Rattle.ic_link_ops.specs.Tables.{Table, ChangesOnly}
 use Rattle.ic_link_ops.specs.Edits.{Removes}
@@ -18,7 +18,8 @@ use Rattle.ic_link_ops.proofs.Times.{one_at_self, apart, times_order, times_dist
 use Rattle.ic_link_ops.proofs.ShownTrees.{holds_once}
 use Rattle.ic_link_ops.proofs.ShownTrees.{shows_beside}
 use Rattle.ic_rbtree.specs.Pieces.{Piece, loose, Stands, Shown}
-use Rattle.ic_rbtree.specs.Taking.{Parts, only, IsLone, both_of, TakesOut, TakesPlace, IsLeftmost}
+use Rattle.ic_rbtree.specs.Sides.{IsOutermostWithin}
+use Rattle.ic_rbtree.specs.Taking.{Parts, only, IsLone, both_of, TakesOut, TakesPlace}
 use Rattle.ic_rbtree.proofs.Zipper.{go_down, go_top}
 use Rattle.ic_rbtree.proofs.Shapes.{right_plug}
 use Rattle.ic_rbtree.proofs.Shortening.{shape_open}
@@ -123,7 +124,7 @@ module _ {E : Type 0} (n : E → Node) where
       right_stands : Stands n base v root (frame Right x.c p x.a ∷ x.fs) x.b ps
       right_stands = go_down n Right x.c p x.a x.b x.stands
 
-      module _ (z : Place) (leftmost : IsLeftmost n v r z) where
+      module _ (z : Place) (leftmost : IsOutermostWithin n v r Left z) where
         -- the next member, at its place
         pub record Next : Type 0 where
           pub gs : List Frame

@@ -22,6 +22,7 @@ use Rattle.ic_rbtree.specs.declared.keys.descent.Descent.{Descent}
 use Rattle.ic_rbtree.specs.declared.keys.key_adapter.Bound.{Bound}
 use Rattle.ic_rbtree.specs.declared.keys.key_adapter.Bound.TheVariants.{Included, Excluded, Unbounded}
 use Rattle.ic_rbtree.specs.Borders.{IsBorder, equal_at, at_most_at, if_passes, Finds, IsLowerBorder, IsUpperBorder}
+use Rattle.ic_rbtree.specs.Closed.{IsIn}
 use Rattle.ic_rbtree.specs.Comparing.{goes_left, meets_lower, is_beyond, order_of}
 use Rattle.ic_rbtree.specs.Descents.{side_of, gap_in, SendsPast, passed, at_root, equal_there, EndsAt}
 use Rattle.ic_rbtree.specs.declared.keys.entry.InsertCursor.{InsertCursor}
@@ -38,6 +39,15 @@ use Rattle.ic_rbtree.proofs.Gaps.{gap_join, gap_border, gap_same, gap_all, gap_n
 use Rattle.ic_rbtree.proofs.Heights.{looks_few}
 use Rattle.ic_rbtree.proofs.Nearest.{nearest_frame}
 use Rattle.ic_rbtree.proofs.Removing.{order_around, stands_of}
+
+-- past a member, the descent is on the side that the comparison tells, below the member
+pub passed_side : {A : Type 0} (d : Descent) {d' : Descent} (p : Place) (left : Bool) (equal : Bool) (f : Side → A) → d' ≡ passed d p left equal → f d'.side ≡ f (side_of left)
+passed_side d p true equal f is = ap (λ (z : Descent). f z.side) is
+passed_side d p false equal f is = ap (λ (z : Descent). f z.side) is
+
+pub passed_parent : (S : Place → Bool) (d : Descent) {d' : Descent} {p : Place} (equal : Bool) → S p ≡ true → (left : Bool) → d' ≡ passed d p left equal → IsIn S d'.parent
+passed_parent S d equal here true is = subst (λ (z : Descent). IsIn S z.parent) (sym is) here
+passed_parent S d equal here false is = subst (λ (z : Descent). IsIn S z.parent) (sym is) here
 
 -- a gap of a subtree, seen from above the frames
 abbrev pub gap_around : List Frame → Cut → Cut
@@ -123,10 +133,11 @@ module _ {E : Type 0} (n : E → Node) where
           high leaf e = absurd (none_not p e)
           high (fork c a q b) e = omega arith
 
+        pub sent_low : {s : List Place} (h : Shows n v root s) → h.tree ≡ tree → length x.fs + 1 ≤ 66
+        sent_low h same = path_few n h x.fs x.t (length x.fs + 1) (x.same ∙ sym same) sent_high
+
         pub sent_room : {s : List Place} (h : Shows n v root s) → h.tree ≡ tree → start + 66 ≤ 18446744073709551615 → count < 18446744073709551615
-        sent_room h same room =
-            let few : length x.fs + 1 ≤ 66 = path_few n h x.fs x.t (length x.fs + 1) (x.same ∙ sym same) sent_high in
-            omega (arith, few, room, x.counted)
+        sent_room h same room = let few = sent_low h same in omega (arith, few, room, x.counted)
 
         -- and its object is placed
         pub sent_placed : {V : Type 0} (objects : Objects V) {s : List Place} (h : Shows n v root s) → h.tree ≡ tree → ArePlaced objects s → IsSome (object_at objects p)
@@ -176,6 +187,13 @@ module _ {E : Type 0} (n : E → Node) where
             → {next : Option Place} → next ≡ child_on (side_of left) (n (v.entry p)) → {more : ℕ} → more ≡ count + 1 → Sent v root at equals tree next d' start more
         sent_on left is_passed there goes equal_is {next} next_is {more} more_is =
             subst (λ z. Sent v root at equals tree next z start more) (sym is_passed) (past left there goes equal_is next_is more_is)
+
+      -- after so many looks there is no member further down
+      pub sent_over : {s : List Place} (h : Shows n v root s) → h.tree ≡ tree → 66 ≤ length x.fs → here ≡ None
+      sent_over h same all = by here refl where
+        by : (o : Option Place) → here ≡ o → o ≡ None
+        by None e = refl
+        by (Some p) e = let few = sent_low e h same in absurd (omega (arith, few, all))
 
       -- THE END
       module _ (none : here ≡ None) where

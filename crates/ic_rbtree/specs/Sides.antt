@@ -1,5 +1,5 @@
 -- Gaps and descents by sides: what is said of one side holds of the other, mirrored.
-use Rattle.std.specs.Prelude.{◌≡◌, Option, Some, None, List}
+use Rattle.std.specs.Prelude.{◌≡◌, ◌<◌, Option, Some, None, List}
 use Rattle.ic_unsafe_ref.specs.declared.place.Place.{Place}
 use Rattle.ic_link_ops.specs.declared.color.Color.{Color}
 use Rattle.ic_link_ops.specs.declared.side.Side.{Side}
@@ -9,6 +9,7 @@ use Rattle.ic_link_ops.specs.Tables.{Table}
 use Rattle.ic_link_ops.specs.Trees.{Tree, leaf, top, in_order}
 use Rattle.ic_link_ops.specs.RedBlackTree.{Node}
 use Rattle.ic_link_ops.specs.Frames.{Frame, across, child_on, branch, plug, before, after}
+use Rattle.ic_rbtree.specs.Height.{height, turns}
 use Rattle.ic_rbtree.specs.Pieces.{Piece, Stands}
 
 -- the gap is beside the position: after it on the right, before it on the left
@@ -51,3 +52,14 @@ module _ {E : Type 0} (n : E → Node) where
   IsNearestAbove v p d result =
       (base : Table E) (root : Option Place) (fs : List Frame) (t : Tree) (ps : List Piece) → Stands n base v root fs t ps → top t ≡ Some p
       → result ≡ nearest d (beyond d fs)
+
+  -- both, in a tree that is not too high: what so many turns find
+  abbrev pub IsOutermostWithin : Table E → Place → Side → Place → Type 0
+  IsOutermostWithin v p d y =
+      (base : Table E) (root : Option Place) (fs : List Frame) (t : Tree) (ps : List Piece) → Stands n base v root fs t ps → top t ≡ Some p
+      → height (plug fs t) < turns → IsEnd v d y fs t
+
+  abbrev pub IsNearestAboveWithin : Table E → Place → Side → Option Place → Type 0
+  IsNearestAboveWithin v p d result =
+      (base : Table E) (root : Option Place) (fs : List Frame) (t : Tree) (ps : List Piece) → Stands n base v root fs t ps → top t ≡ Some p
+      → height (plug fs t) < turns → result ≡ nearest d (beyond d fs)

@@ -4,17 +4,15 @@ use Rattle.ic_unsafe_ref.specs.declared.place.Place.{Place}
 use Rattle.ic_link_ops.specs.declared.color.Color.{Color}
 use Rattle.ic_link_ops.specs.declared.color.Color.TheVariants.{Red, Black}
 use Rattle.ic_link_ops.specs.declared.side.Side.{Side}
-use Rattle.ic_link_ops.specs.declared.side.Side.TheVariants.{Left}
 use Rattle.ic_link_ops.specs.Tables.{Table}
 use Rattle.ic_link_ops.specs.Trees.{Tree, leaf, fork, top, in_order}
 use Rattle.ic_link_ops.specs.Shape.{top_color, weight, blacks, IsEven, NoRedPair, IsRight}
 use Rattle.ic_link_ops.specs.RedBlackTree.{Node}
 use Rattle.ic_link_ops.specs.Frames.{Frame, plug, above, before, after}
-use Rattle.ic_rbtree.specs.Height.{turns, height}
+use Rattle.ic_rbtree.specs.Height.{turns}
 use Rattle.ic_rbtree.specs.Pieces.{Piece, loose, Stands, Shown}
 use Rattle.ic_rbtree.specs.Focus.{Focus, IsInFocus, IsMended}
 use Rattle.ic_rbtree.specs.Shortage.{EvenAround, PairsAround}
-use Rattle.ic_rbtree.specs.Sides.{IsEnd}
 use Rattle.ic_rbtree.specs.Removal.{IsOn}
 use Rattle.ic_rbtree.specs.Steps.{IsSideOf}
 
@@ -83,12 +81,6 @@ both_of None b = None
 both_of (Some x) b = b
 
 module _ {E : Type 0} (n : E → Node) where
-  -- y is the leftmost member at or below p, in a tree that is not too high
-  abbrev pub IsLeftmost : Table E → Place → Place → Type 0
-  IsLeftmost v p y =
-      (base : Table E) (root : Option Place) (fs : List Frame) (t : Tree) (ps : List Piece) → Stands n base v root fs t ps → top t ≡ Some p
-      → height (plug fs t) < turns → IsEnd n v Left y fs t
-
   -- a member is taken out of the sequence, and is on its own
   abbrev pub TakesAway : Table E → Table E → Option Place → Option Place → Place → Type 0
   TakesAway v w root new_root p =

@@ -33,6 +33,7 @@ mod repair;
 mod steps;
 mod tree;
 mod whole;
+mod within;
 
 pub use cursors::{Cursor, CursorMut, CursorOwning};
 pub use ic_cursors::Listing;
@@ -40,6 +41,7 @@ pub use ic_link_ops::Color;
 pub use ic_link_ops::rbtree::{Link, LinkOps, RBTreeOps};
 pub use into_iter::IntoIter;
 pub use iter::Iter;
+pub use keys::descent::Descent;
 pub use keys::entry::{Entry, InsertCursor, RefusedInsert};
 pub use keys::key_adapter;
 pub use keys::key_adapter::{Bound, KeyAdapter};

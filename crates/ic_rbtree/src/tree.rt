@@ -5,18 +5,28 @@
 //! tree.cursor_mut(&mut links).insert_before(object)?; // the last member
 //! ```
 
-ghost use Rattle.std.specs.Prelude.{◌≡◌, ◌≢◌, ◌↔◌, Some, None, [], ◌∷◌, IsTrue};
-ghost use Rattle.ic_rbtree.specs.Closed.{IsSafe, IsSafeBut, StaysClosed, ClosesAt, KeepsNodes};
+ghost use Rattle.std.specs.Prelude.{◌≡◌, ◌≢◌, ◌↔◌, Bool, Some, None, List, [], ◌∷◌, IsTrue};
+ghost use Rattle.ic_unsafe_ref.specs.declared.place.Place.{Place};
+ghost use Rattle.ic_link_ops.specs.Frames.{across};
+ghost use Rattle.ic_link_ops.specs.RedBlackTree.{Shows};
+ghost use Rattle.ic_link_ops.specs.Sequences.{Cut, join};
+ghost use Rattle.ic_rbtree.specs.Closed.{IsIn, IsClosed, IsSafe, IsSafeBut, IsSafeWith, StaysClosed, ClosesAt, KeepsNodes};
+ghost use Rattle.ic_rbtree.specs.Comparing.{compared, HasRoom, Looks};
+ghost use Rattle.ic_rbtree.specs.Descents.{EndsAt};
 ghost use Rattle.ic_rbtree.specs.Insertion.{Attaches};
+ghost use Rattle.ic_rbtree.specs.Sides.{IsBeside};
 ghost use Rattle.ic_rbtree.specs.Taking.{TakesAway, TakesPlace};
 ghost use Rattle.ic_rbtree.specs.Tree.{root_of, adapter_of};
 
+use crate::Probe;
+use crate::keys::descent::Descent;
 use crate::nodes::Nodes;
 use crate::repair::insertion::attach;
 use crate::repair::removal::unlink;
 use crate::repair::writers::take_place;
+use crate::within::{descend_within, step_within};
 use ic_link_ops::{End, Side};
-use ic_unsafe_ref::Place;
+use ic_unsafe_ref::{Place, Values};
 
 /// A red-black tree of objects in an order, of which it keeps the root, and the adapter that finds their keys.
 ///
@@ -148,5 +158,42 @@ impl<A> RBTree<A> {
         ensures adapter { adapter_of self.new ≡ adapter_of self.old }
     {
         take_place(nodes, &mut self.root, place, new);
+    }
+
+    /// Where a step to a side leads from a position: to the member beside it, from null to the end on the other side, from that end
+    /// to null.
+    ///
+    /// It asks for a closed set that has the position. It ends whatever the words say. O(log n), and O(1) on average over a walk.
+    #[inline]
+    pub fn step<N: Nodes>(&self, nodes: &N, current: Option<Place>, side: Side) -> Option<Place>
+        requires { IsSafe N.node (N.table nodes.now) (root_of self.now) (current ∷ []) }
+        ensures { (gap : Cut) → Shows N.node (N.table nodes.now) (root_of self.now) (join gap) → IsBeside side gap current
+            → IsBeside (across side) gap result }
+    {
+        step_within(nodes, self.root.get(), current, side)
+    }
+
+    /// Goes down from the root to the gap to which a probe sends: behind the members that are less than what is searched, in front of
+    /// those that are greater, and past equal ones to the side `equals`.
+    ///
+    /// It asks for a closed set with a value at each of its places, and that the probe's count is at most `u64::MAX - 66`. It ends
+    /// whatever the words say. O(log n): v looks in a tree of n members, where `2^v <= (n + 1)^2`.
+    #[inline]
+    pub fn search<N: Nodes, V, P: Probe<V>, O: Values<V>>(
+        &self,
+        nodes: &N,
+        values: &O,
+        probe: &mut P,
+        equals: Side,
+    ) -> Descent
+        requires safe { IsSafeWith N.node (N.table nodes.now) (root_of self.now) (O.values values.now) }
+        requires room { HasRoom (P.count probe.old) }
+        ensures ends { (s : List Place) (h : Shows N.node (N.table nodes.now) (root_of self.now) s)
+            → EndsAt N.node (N.table nodes.now) (compared (P.order probe.old) (O.values values.now)) equals h.tree result }
+        ensures looks { (s : List Place) → Shows N.node (N.table nodes.now) (root_of self.now) s
+            → Looks P.order P.count probe.old probe.new s }
+        ensures safe { (S : Place → Bool) → IsClosed N.node (N.table nodes.now) (root_of self.now) S → IsIn S result.parent }
+    {
+        descend_within(nodes, self.root.get(), values, probe, equals)
     }
 }

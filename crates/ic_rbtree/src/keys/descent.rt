@@ -1,6 +1,7 @@
 //! The way from the root to where a key belongs, by one look a member.
 
 ghost use Rattle.std.specs.Prelude.{◌≡◌, ◌+◌, ◌<◌, true, List};
+ghost use Rattle.std.specs.Ordering.{is_eq};
 ghost use Rattle.std.specs.declared.cmp.Ordering.{Ordering};
 ghost use Rattle.ic_unsafe_ref.specs.declared.place.Place.{Place};
 ghost use Rattle.ic_unsafe_ref.specs.Objects.{is_placed};
@@ -15,15 +16,19 @@ use ic_link_ops::{End, Side};
 use ic_unsafe_ref::{Place, Values};
 use std::cmp::Ordering;
 
-// Where a descent has come to: below `parent`, on a side of it, between two members. `equal` says whether the one behind
-// compared equal.
+/// Where a search from the root has come to: a gap between two members.
 #[derive(Drop)]
-pub(crate) struct Descent {
-    pub(crate) parent: End,
-    pub(crate) side: Side,
-    pub(crate) front: End,
-    pub(crate) back: End,
-    pub(crate) equal: bool,
+pub struct Descent {
+    /// The member below which the gap is, none in an empty tree.
+    pub parent: End,
+    /// The side of that member.
+    pub side: Side,
+    /// The member in front of the gap.
+    pub front: End,
+    /// The member behind the gap.
+    pub back: End,
+    /// Whether the member behind the gap compared equal.
+    pub equal: bool,
 }
 
 // Whether a descent goes left at a member that answers so, where it turns to the side `equals` at an equal one.
@@ -52,7 +57,7 @@ fn compare_at<V, P: Probe<V>, O: Values<V>>(objects: &O, probe: &mut P, place: P
 impl Descent {
     // At the root.
     #[inline]
-    fn new() -> Descent
+    pub(crate) fn new() -> Descent
         ensures { result ≡ at_root }
     {
         Descent {
@@ -62,6 +67,28 @@ impl Descent {
             back: End::of(None),
             equal: false,
         }
+    }
+
+    // Compares what is searched with a member, and goes past it. Says whether it went left.
+    #[inline]
+    pub(crate) fn look<V, P: Probe<V>, O: Values<V>>(
+        &mut self,
+        objects: &O,
+        probe: &mut P,
+        place: Place,
+        equals: Side,
+    ) -> bool
+        requires placed { is_placed (O.values objects.now) place ≡ true }
+        requires room { P.count probe.old < 18446744073709551615 }
+        ensures passed { self.new ≡ passed self.old place result (is_eq (compared (P.order probe.old) (O.values objects.now) place)) }
+        ensures left { result ≡ goes_left equals (compared (P.order probe.old) (O.values objects.now) place) }
+        ensures counted { P.count probe.new ≡ P.count probe.old + 1 }
+        ensures same { P.order probe.new ≡ P.order probe.old }
+    {
+        let order = compare_at(objects, probe, place);
+        let left = goes_left(order, equals);
+        self.pass(place, left, order.is_eq());
+        left
     }
 
     // Goes past the member to one side of it.
@@ -104,10 +131,7 @@ pub(crate) fn descend<L: RBTreeOps, V, P: Probe<V>, O: Values<V>>(
     let mut descent = Descent::new();
     let mut at = root;
     while let Some(place) = at {
-        let order = compare_at(objects, probe, place);
-        let left = goes_left(order, equals);
-        descent.pass(place, left, order.is_eq());
-        if left {
+        if descent.look(objects, probe, place, equals) {
             let Some(next) = links.left(place) else {
                 return descent;
             };

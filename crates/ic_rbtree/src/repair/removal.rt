@@ -4,7 +4,7 @@ ghost use Rattle.std.specs.Prelude.{Option, Some, [], ◌∷◌};
 ghost use Rattle.ic_unsafe_ref.specs.declared.place.Place.{Place};
 ghost use Rattle.ic_rbtree.specs.Closed.{IsNode, KeepsNodes, IsSafe, StaysClosed, StaysClosedBut};
 ghost use Rattle.ic_rbtree.specs.Removal.{Mends, Raises, Leans, Settles, Fades, Steps};
-ghost use Rattle.ic_rbtree.specs.Taking.{Closes, TakesOut, TakesAway, IsLeftmost};
+ghost use Rattle.ic_rbtree.specs.Taking.{Closes, TakesOut, TakesAway};
 
 use crate::nodes::Nodes;
 use crate::readings::{
@@ -12,6 +12,7 @@ use crate::readings::{
 };
 use crate::repair::TURNS;
 use crate::repair::writers::{adopt, relink, rotate, set_color, take_place};
+use crate::within::outermost_within;
 use ic_link_ops::{Color, End, Side};
 use ic_unsafe_ref::Place;
 
@@ -195,23 +196,6 @@ pub(crate) fn take_out<N: Nodes>(links: &mut N, root: &mut End, place: Place)
     close_gap(links, root, color, child, parent, side);
 }
 
-// The leftmost member at or below a place.
-#[inline]
-pub(crate) fn leftmost<N: Nodes>(links: &N, place: Place) -> Place
-    requires { (root : Option Place) × IsSafe N.node (N.table links.now) root (Some place ∷ []) }
-    ensures leftmost { IsLeftmost N.node (N.table links.now) place result }
-    ensures safe { (root : Option Place) → StaysClosed N.node (N.table links.now) (N.table links.now) root root (Some place ∷ []) (Some result ∷ []) }
-{
-    let mut place = place;
-    for _ in 0..TURNS {
-        let Some(below) = child(links, place, Side::Left) else {
-            return place;
-        };
-        place = below;
-    }
-    place
-}
-
 // Takes a member out of the tree, and leaves it linked. One with two children changes places with the next.
 pub(crate) fn unlink<N: Nodes>(links: &mut N, root: &mut End, place: Place)
     requires { IsSafe N.node (N.table links.old) root.old (Some place ∷ []) }
@@ -221,7 +205,7 @@ pub(crate) fn unlink<N: Nodes>(links: &mut N, root: &mut End, place: Place)
     ensures quiet { N.Quiet links.old links.new }
 {
     let out = match second_child(&*links, place) {
-        Some(right) => leftmost(&*links, right),
+        Some(right) => outermost_within(&*links, right, Side::Left),
         None => place,
     };
     take_out(links, root, out);

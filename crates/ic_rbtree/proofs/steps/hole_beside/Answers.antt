@@ -3,7 +3,7 @@ use Rattle.ic_link_ops.proofs.Positions.{member_there}
 use Rattle.ic_rbtree.specs.Sides.{IsBeside}
 use Rattle.ic_rbtree.specs.Insertion.{IsHole}
 use Rattle.ic_rbtree.proofs.Removing.{spot_linked}
-use Rattle.ic_rbtree.proofs.Beside.{root_can, member_spot, below_can, null_end, null_hole, member_end}
+use Rattle.ic_rbtree.proofs.Beside.{root_can, member_spot, below_can, null_end, null_hole, member_end, outermost_here}
 use Rattle.ic_rbtree.proofs.steps.hole_beside.Goals as goal
 use Rattle.ic_rbtree.proofs.steps.hole_beside.Goals.{in-None, in-Some}
 
@@ -33,8 +33,8 @@ returns-in-None-below g c gap shown here = elim c.match-current.branch [
 pub returns-in-Some-below : goal.returns-in-Some-below
 returns-in-Some-below g c gap shown here = elim c.match-current.branch [
   | in-None w ↦
-      null_end g.L.RBTreeOps.node c.args.side gap shown c.other-end.ensures (subst (λ o. IsBeside c.args.side gap o) w.in-None.is here) (sym w.below-is ∙ c.in-Some-below.is) c.outermost.ensures
+      null_end g.L.RBTreeOps.node c.args.side gap shown c.other-end.ensures (subst (λ o. IsBeside c.args.side gap o) w.in-None.is here) (sym w.below-is ∙ c.in-Some-below.is) (outermost_here g.L.RBTreeOps.node _ c.outermost.ensures)
   | in-Some w ↦
       member_end g.L.RBTreeOps.node c.args.side gap shown w.in-Some.place c.other-end.ensures (subst (λ o. IsBeside c.args.side gap o) w.in-Some.is here)
-      (sym w.child-below.ensures ∙ (sym w.below-is ∙ c.in-Some-below.is)) c.outermost.ensures
+      (sym w.child-below.ensures ∙ (sym w.below-is ∙ c.in-Some-below.is)) (outermost_here g.L.RBTreeOps.node _ c.outermost.ensures)
 ]

@@ -4,7 +4,7 @@ use Rattle.ic_link_ops.specs.Sequences.{join}
 use Rattle.ic_link_ops.proofs.Positions.{member_there}
 use Rattle.ic_rbtree.specs.Sides.{IsBeside, nearest}
 use Rattle.ic_rbtree.proofs.Removing.{spot_linked}
-use Rattle.ic_rbtree.proofs.Beside.{member_spot, spot_can, below_can, nearest_twice, null_step, member_end, member_above}
+use Rattle.ic_rbtree.proofs.Beside.{member_spot, spot_can, below_can, nearest_twice, null_step, member_end, member_above, outermost_here, nearest_here}
 use Rattle.ic_rbtree.proofs.steps.step.Goals as goal
 
 pub child-requires : goal.child-requires
@@ -34,12 +34,12 @@ returns-in-Some-child g c = record {
       subst (λ o. IsBeside (across c.args.side) gap o) (sym (c.get-in-Some-child.ensures ∙ c.of-in-Some-child.ensures))
       (subst (λ k. IsBeside k gap (Some c.outermost.result)) c.other-in-Some-child.ensures
       (member_end g.L.RBTreeOps.node c.args.side gap shown c.in-Some.place c.other-in-Some-child.ensures (subst (λ o. IsBeside c.args.side gap o) c.in-Some.is here) (sym c.in-Some-child.ensures)
-      c.outermost.ensures).1);
+      (outermost_here g.L.RBTreeOps.node _ c.outermost.ensures)).1);
 }
 
 pub returns-in-None : goal.returns-in-None
 returns-in-None g c = record {
   leads = λ gap shown here.
       subst (λ o. IsBeside (across c.args.side) gap o) (sym (c.get-in-None.ensures ∙ c.of-in-None.ensures))
-      (member_above g.L.RBTreeOps.node c.args.side gap shown c.in-Some.place (subst (λ o. IsBeside c.args.side gap o) c.in-Some.is here) (sym c.in-None.ensures) c.above_on.ensures);
+      (member_above g.L.RBTreeOps.node c.args.side gap shown c.in-Some.place (subst (λ o. IsBeside c.args.side gap o) c.in-Some.is here) (sym c.in-None.ensures) (nearest_here g.L.RBTreeOps.node _ c.args.side c.above_on.ensures));
 }

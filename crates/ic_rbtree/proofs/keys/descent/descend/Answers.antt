@@ -15,15 +15,14 @@ loop-at-init g c = record {
   same = refl;
 }
 
-pub compare_at-order-requires-clause-placed : goal.compare_at-order-requires-clause-placed
-compare_at-order-requires-clause-placed g c =
+pub look-requires : goal.look-requires
+look-requires g c =
     let r = c.requires.placed in
-    sent_placed g.L.RBTreeOps.node (c.loop-at.invariant.each r.members r.shown) c.in-Some.is (g.O.Values.values c.args.objects.now) r.shown refl r.placed
-
-pub compare_at-order-requires-clause-room : goal.compare_at-order-requires-clause-room
-compare_at-order-requires-clause-room g c =
-    let r = c.requires.placed in
-    sent_room g.L.RBTreeOps.node (c.loop-at.invariant.each r.members r.shown) c.in-Some.is r.shown refl c.requires.room
+    let x = c.loop-at.invariant.each r.members r.shown in
+    record {
+      placed = sent_placed g.L.RBTreeOps.node x c.in-Some.is (g.O.Values.values c.args.objects.now) r.shown refl r.placed;
+      room = sent_room g.L.RBTreeOps.node x c.in-Some.is r.shown refl c.requires.room;
+    }
 
 pub left-requires : goal.left-requires
 left-requires g c =
@@ -35,38 +34,38 @@ right-requires g c =
     let r = c.requires.placed in
     record { linked = sym (g.met.L.RBTreeOps.linked_alike _) ∙ sent_linked g.L.RBTreeOps.node (c.loop-at.invariant.each r.members r.shown) c.in-Some.is }
 
-pub loop-at-smaller-then-left : goal.loop-at-smaller-then-left
-loop-at-smaller-then-left g c =
+pub loop-at-smaller-then-look : goal.loop-at-smaller-then-look
+loop-at-smaller-then-look g c =
     let r = c.requires.placed in
     let room = sent_room g.L.RBTreeOps.node (c.loop-at.invariant.each r.members r.shown) c.in-Some.is r.shown refl c.requires.room in
-    omega (arith, room, c.compare_at-order.ensures.counted)
+    omega (arith, room, c.look.ensures.counted)
 
 pub loop-at-smaller : goal.loop-at-smaller
 loop-at-smaller g c =
     let r = c.requires.placed in
     let room = sent_room g.L.RBTreeOps.node (c.loop-at.invariant.each r.members r.shown) c.in-Some.is r.shown refl c.requires.room in
-    omega (arith, room, c.compare_at-order.ensures.counted)
+    omega (arith, room, c.look.ensures.counted)
 
 -- past the member, to its left child
 to_left : (g : Over) (c : After-left g) (next : Option Place) → c.left.result ≡ next → (s : List Place) (h : Shows g.L.RBTreeOps.node (g.L.LinkOps.table c.args.links.now) c.args.root s)
-    → Sent g.L.RBTreeOps.node (g.L.LinkOps.table c.args.links.now) c.args.root (compared (g.P.Probe.order c.args.probe.now) (g.O.Values.values c.args.objects.now)) c.args.equals h.tree next c.pass.new.self
-    (g.P.Probe.count c.args.probe.now) (g.P.Probe.count c.compare_at-order.new.probe)
+    → Sent g.L.RBTreeOps.node (g.L.LinkOps.table c.args.links.now) c.args.root (compared (g.P.Probe.order c.args.probe.now) (g.O.Values.values c.args.objects.now)) c.args.equals h.tree next c.look.new.self
+    (g.P.Probe.count c.args.probe.now) (g.P.Probe.count c.look.new.probe)
 to_left g c next is s h =
-    sent_on g.L.RBTreeOps.node (c.loop-at.invariant.each s h) c.in-Some.is c.goes_left-left.result c.pass.ensures
-    (c.compare_at-order.ensures.answer ∙ ap (λ o. compared o (g.O.Values.values c.args.objects.now) c.in-Some.place) c.loop-at.invariant.same) c.goes_left-left.ensures c.is_eq.ensures
-    (sym is ∙ c.left.ensures ∙ ap (λ left. child_on (side_of left) (node_at g.L.RBTreeOps.node (g.L.LinkOps.table c.args.links.now) c.in-Some.place)) (sym c.if-left.true)) c.compare_at-order.ensures.counted
+    sent_on g.L.RBTreeOps.node (c.loop-at.invariant.each s h) c.in-Some.is c.look.result c.look.ensures.passed
+    (ap (λ o. compared o (g.O.Values.values c.args.objects.now) c.in-Some.place) c.loop-at.invariant.same) c.look.ensures.left refl
+    (sym is ∙ c.left.ensures ∙ ap (λ left. child_on (side_of left) (node_at g.L.RBTreeOps.node (g.L.LinkOps.table c.args.links.now) c.in-Some.place)) (sym c.if-look.true)) c.look.ensures.counted
 
 -- past the member, to its right child
 to_right : (g : Over) (c : After-right g) (next : Option Place) → c.right.result ≡ next → (s : List Place) (h : Shows g.L.RBTreeOps.node (g.L.LinkOps.table c.args.links.now) c.args.root s)
-    → Sent g.L.RBTreeOps.node (g.L.LinkOps.table c.args.links.now) c.args.root (compared (g.P.Probe.order c.args.probe.now) (g.O.Values.values c.args.objects.now)) c.args.equals h.tree next c.pass.new.self
-    (g.P.Probe.count c.args.probe.now) (g.P.Probe.count c.compare_at-order.new.probe)
+    → Sent g.L.RBTreeOps.node (g.L.LinkOps.table c.args.links.now) c.args.root (compared (g.P.Probe.order c.args.probe.now) (g.O.Values.values c.args.objects.now)) c.args.equals h.tree next c.look.new.self
+    (g.P.Probe.count c.args.probe.now) (g.P.Probe.count c.look.new.probe)
 to_right g c next is s h =
-    sent_on g.L.RBTreeOps.node (c.loop-at.invariant.each s h) c.in-Some.is c.goes_left-left.result c.pass.ensures
-    (c.compare_at-order.ensures.answer ∙ ap (λ o. compared o (g.O.Values.values c.args.objects.now) c.in-Some.place) c.loop-at.invariant.same) c.goes_left-left.ensures c.is_eq.ensures
-    (sym is ∙ c.right.ensures ∙ ap (λ left. child_on (side_of left) (node_at g.L.RBTreeOps.node (g.L.LinkOps.table c.args.links.now) c.in-Some.place)) (sym c.if-left.false)) c.compare_at-order.ensures.counted
+    sent_on g.L.RBTreeOps.node (c.loop-at.invariant.each s h) c.in-Some.is c.look.result c.look.ensures.passed
+    (ap (λ o. compared o (g.O.Values.values c.args.objects.now) c.in-Some.place) c.loop-at.invariant.same) c.look.ensures.left refl
+    (sym is ∙ c.right.ensures ∙ ap (λ left. child_on (side_of left) (node_at g.L.RBTreeOps.node (g.L.LinkOps.table c.args.links.now) c.in-Some.place)) (sym c.if-look.false)) c.look.ensures.counted
 
-pub loop-at-preserved-then-left : goal.loop-at-preserved-then-left
-loop-at-preserved-then-left g c = record { each = to_left g c.before (Some c.in-Some-left.next) c.in-Some-left.is; same = c.compare_at-order.ensures.same ∙ c.loop-at.invariant.same }
+pub loop-at-preserved-then-look : goal.loop-at-preserved-then-look
+loop-at-preserved-then-look g c = record { each = to_left g c.before (Some c.in-Some-left.next) c.in-Some-left.is; same = c.look.ensures.same ∙ c.loop-at.invariant.same }
 
 pub returns-in_default-left-clause-ends : goal.returns-in_default-left-clause-ends
 returns-in_default-left-clause-ends g c s h = sent_ends g.L.RBTreeOps.node (to_left g c.before None c.in_default-left.is s h) refl
@@ -78,11 +77,11 @@ returns-in_default-left-clause-looks g c s h =
       looks = length x.fs;
       counted = x.counted;
       few = record { few = sent_few g.L.RBTreeOps.node x h refl; some = sent_some g.L.RBTreeOps.node x refl h refl };
-      order_is = c.compare_at-order.ensures.same ∙ c.loop-at.invariant.same;
+      order_is = c.look.ensures.same ∙ c.loop-at.invariant.same;
     }
 
 pub loop-at-preserved : goal.loop-at-preserved
-loop-at-preserved g c = record { each = to_right g c.before (Some c.in-Some-right.next) c.in-Some-right.is; same = c.compare_at-order.ensures.same ∙ c.loop-at.invariant.same }
+loop-at-preserved g c = record { each = to_right g c.before (Some c.in-Some-right.next) c.in-Some-right.is; same = c.look.ensures.same ∙ c.loop-at.invariant.same }
 
 pub returns-in_default-right-clause-ends : goal.returns-in_default-right-clause-ends
 returns-in_default-right-clause-ends g c s h = sent_ends g.L.RBTreeOps.node (to_right g c.before None c.in_default-right.is s h) refl
@@ -94,7 +93,7 @@ returns-in_default-right-clause-looks g c s h =
       looks = length x.fs;
       counted = x.counted;
       few = record { few = sent_few g.L.RBTreeOps.node x h refl; some = sent_some g.L.RBTreeOps.node x refl h refl };
-      order_is = c.compare_at-order.ensures.same ∙ c.loop-at.invariant.same;
+      order_is = c.look.ensures.same ∙ c.loop-at.invariant.same;
     }
 
 pub returns-clause-ends : goal.returns-clause-ends

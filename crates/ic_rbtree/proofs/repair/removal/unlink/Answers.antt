@@ -9,8 +9,8 @@ use Rattle.ic_rbtree.proofs.Removing.{spot, shows_of, lone_taken, next, place_ta
 use Rattle.ic_rbtree.proofs.repair.removal.unlink.Goals as goal
 use Rattle.ic_rbtree.proofs.repair.removal.unlink.Goals.{in-Some, in-None}
 
-pub leftmost-out-requires : goal.leftmost-out-requires
-leftmost-out-requires g c =
+pub outermost_within-out-requires : goal.outermost_within-out-requires
+outermost_within-out-requires g c =
     let r = c.requires in
     (c.args.root.now, (r.0, r.1, (in_there r.0 (in_both g.N.Nodes.node r.1 c.args.place r.2.0 c.second_child.ensures) c.in-Some.is, tt)))
 
@@ -20,7 +20,7 @@ take_out-requires g c =
     let out : r.0 c.match-second_child.out ≡ true = elim c.match-second_child.branch [
       | in-Some w ↦
           subst (λ (z : Place). r.0 z ≡ true) (sym w.out-is)
-          (w.leftmost-out.ensures.safe c.args.root.now r.0 r.1 (in_there r.0 (in_both g.N.Nodes.node r.1 c.args.place r.2.0 c.second_child.ensures) w.in-Some.is, tt)).1.0
+          (w.outermost_within-out.ensures.safe c.args.root.now r.0 r.1 (in_there r.0 (in_both g.N.Nodes.node r.1 c.args.place r.2.0 c.second_child.ensures) w.in-Some.is, tt)).1.0
       | in-None w ↦ subst (λ (z : Place). r.0 z ≡ true) (sym w.out-is) r.2.0
     ] in
     (r.0, r.1, (out, tt))
@@ -34,7 +34,7 @@ take_place-requires-clause-safe g c =
     let out : r.0 c.match-second_child.out ≡ true = elim c.match-second_child.branch [
       | in-Some w ↦
           subst (λ (z : Place). r.0 z ≡ true) (sym w.out-is)
-          (w.leftmost-out.ensures.safe c.args.root.now r.0 r.1 (in_there r.0 (in_both g.N.Nodes.node r.1 c.args.place r.2.0 c.second_child.ensures) w.in-Some.is, tt)).1.0
+          (w.outermost_within-out.ensures.safe c.args.root.now r.0 r.1 (in_there r.0 (in_both g.N.Nodes.node r.1 c.args.place r.2.0 c.second_child.ensures) w.in-Some.is, tt)).1.0
       | in-None w ↦ subst (λ (z : Place). r.0 z ≡ true) (sym w.out-is) r.2.0
     ] in
     (r.0, weaker g.N.Nodes.node (c.take_out.ensures.safe r.0 r.1 (out, tt)).0 (Some c.match-second_child.out), (r.2.0, (out, tt)))
@@ -44,7 +44,7 @@ returns-then-not-is_at-clause-taken g c base front back ps h =
     let n = g.N.Nodes.node in
     elim c.match-second_child.branch [
       | in-Some w ↦
-          place_taken n (spot n front c.args.place back h) w.in-Some.right c.second_child.result c.second_child.ensures w.in-Some.is w.leftmost-out.result w.leftmost-out.ensures.leftmost
+          place_taken n (spot n front c.args.place back h) w.in-Some.right c.second_child.result c.second_child.ensures w.in-Some.is w.outermost_within-out.result w.outermost_within-out.ensures.outermost
           (subst (λ (z : Place). TakesOut n (g.N.Nodes.table c.args.links.now) (g.N.Nodes.table c.take_out.new.links) c.args.root.now c.take_out.new.root z) w.out-is c.take_out.ensures.taken)
           (subst (λ (z : Place). TakesPlace n (g.N.Nodes.table c.take_out.new.links) (g.N.Nodes.table c.take_place.new.links) c.take_out.new.root c.take_place.new.root c.args.place z) w.out-is
           c.take_place.ensures.taken)
@@ -58,7 +58,7 @@ returns-else-not-is_at-clause-taken g c base front back ps h =
     elim c.match-second_child.branch [
       | in-Some w ↦
           let here = some_same (is_end_yes (Some c.match-second_child.out) c.args.place (sym c.if-not-is_at.ensures)) in
-          let behind = (next n x w.in-Some.right c.second_child.result c.second_child.ensures w.in-Some.is w.leftmost-out.result w.leftmost-out.ensures.leftmost).behind in
+          let behind = (next n x w.in-Some.right c.second_child.result c.second_child.ensures w.in-Some.is w.outermost_within-out.result w.outermost_within-out.ensures.outermost).behind in
           let apart = subst (λ (s : List Place). IsAbsent c.args.place s) behind (distinct_right front (c.args.place ∷ back) (shows_of n h).held.distinct).0 in
           absurd (apart.0 (sym here ∙ w.out-is))
       | in-None w ↦
@@ -71,7 +71,7 @@ returns-then-not-is_at-clause-safe g c S h i =
     let out : S c.match-second_child.out ≡ true = elim c.match-second_child.branch [
       | in-Some w ↦
           subst (λ (z : Place). S z ≡ true) (sym w.out-is)
-          (w.leftmost-out.ensures.safe c.args.root.now S h (in_there S (in_both g.N.Nodes.node h c.args.place i.0 c.second_child.ensures) w.in-Some.is, tt)).1.0
+          (w.outermost_within-out.ensures.safe c.args.root.now S h (in_there S (in_both g.N.Nodes.node h c.args.place i.0 c.second_child.ensures) w.in-Some.is, tt)).1.0
       | in-None w ↦ subst (λ (z : Place). S z ≡ true) (sym w.out-is) i.0
     ] in
     (c.take_place.ensures.safe S (weaker g.N.Nodes.node (c.take_out.ensures.safe S h (out, tt)).0 (Some c.match-second_child.out)) (i.0, (out, tt)), tt)
@@ -81,7 +81,7 @@ returns-else-not-is_at-clause-safe g c S h i =
     let out : S c.match-second_child.out ≡ true = elim c.match-second_child.branch [
       | in-Some w ↦
           subst (λ (z : Place). S z ≡ true) (sym w.out-is)
-          (w.leftmost-out.ensures.safe c.args.root.now S h (in_there S (in_both g.N.Nodes.node h c.args.place i.0 c.second_child.ensures) w.in-Some.is, tt)).1.0
+          (w.outermost_within-out.ensures.safe c.args.root.now S h (in_there S (in_both g.N.Nodes.node h c.args.place i.0 c.second_child.ensures) w.in-Some.is, tt)).1.0
       | in-None w ↦ subst (λ (z : Place). S z ≡ true) (sym w.out-is) i.0
     ] in
     c.take_out.ensures.safe S h (out, tt)

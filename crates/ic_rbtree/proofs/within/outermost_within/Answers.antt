@@ -1,10 +1,9 @@
 use Rattle.std.proofs.Common.{sym, ap, ◌∙◌, arith}
-use Rattle.ic_link_ops.specs.declared.side.Side.TheVariants.{Left}
 use Rattle.ic_rbtree.specs.Height.{height}
 use Rattle.ic_rbtree.proofs.Closed.{in_there, in_child}
 use Rattle.ic_rbtree.proofs.Descending.{down_starts, step_down, down_ends}
 use Rattle.ic_rbtree.proofs.Heights.{length_frames_height}
-use Rattle.ic_rbtree.proofs.repair.removal.leftmost.Goals as goal
+use Rattle.ic_rbtree.proofs.within.outermost_within.Goals as goal
 
 pub loop-init : goal.loop-init
 loop-init g c = record {
@@ -21,19 +20,19 @@ loop-preserved g c = record {
       let i = c.loop.invariant.each base root fs t ps s e in
       let d = step_down g.N.Nodes.node fs t i.0 i.1 i.2 (sym c.in-Some.ensures) in
       (d.0, d.1, d.2, omega (arith, d.3, i.3));
-  safe = λ root S h i. in_there S (in_child g.N.Nodes.node h Left c.loop.place (c.loop.invariant.safe root S h i) c.child.ensures) c.in-Some.is;
+  safe = λ root S h i. in_there S (in_child g.N.Nodes.node h _ c.loop.place (c.loop.invariant.safe root S h i) c.child.ensures) c.in-Some.is;
 }
 
-pub returns-in_default-clause-leftmost : goal.returns-in_default-clause-leftmost
-returns-in_default-clause-leftmost g c base root fs t ps s e low =
+pub returns-in_default-clause-outermost : goal.returns-in_default-clause-outermost
+returns-in_default-clause-outermost g c base root fs t ps s e low =
     let i = c.loop.invariant.each base root fs t ps s e in
     down_ends g.N.Nodes.node fs t i.0 i.1 i.2 (sym c.child.ensures ∙ c.in_default.is)
 
 pub returns-in_default-clause-safe : goal.returns-in_default-clause-safe
 returns-in_default-clause-safe g c root S h i = (h, (c.loop.invariant.safe root S h i.0, tt))
 
-pub returns-clause-leftmost : goal.returns-clause-leftmost
-returns-clause-leftmost g c base root fs t ps s e low =
+pub returns-clause-outermost : goal.returns-clause-outermost
+returns-clause-outermost g c base root fs t ps s e low =
     let i = c.loop.invariant.each base root fs t ps s e in
     absurd (omega (arith, i.3, length_frames_height i.0 i.1, ap height i.2.same, low))
 
