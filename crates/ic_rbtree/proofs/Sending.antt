@@ -23,7 +23,7 @@ use Rattle.ic_rbtree.specs.declared.keys.key_adapter.Bound.{Bound}
 use Rattle.ic_rbtree.specs.declared.keys.key_adapter.Bound.TheVariants.{Included, Excluded, Unbounded}
 use Rattle.ic_rbtree.specs.Borders.{IsBorder, equal_at, at_most_at, if_passes, Finds, IsLowerBorder, IsUpperBorder}
 use Rattle.ic_rbtree.specs.Closed.{IsIn}
-use Rattle.ic_rbtree.specs.Comparing.{goes_left, meets_lower, is_beyond, order_of}
+use Rattle.ic_rbtree.specs.Comparing.{Looks, goes_left, meets_lower, is_beyond, order_of}
 use Rattle.ic_rbtree.specs.Descents.{side_of, gap_in, SendsPast, passed, at_root, equal_there, EndsAt}
 use Rattle.ic_rbtree.specs.declared.keys.entry.InsertCursor.{InsertCursor}
 use Rattle.ic_rbtree.specs.Entry.{IsVacantFor}
@@ -239,6 +239,16 @@ module _ {E : Type 0} (n : E → Node) where
       sent_few {s} h same =
           subst (λ z. 2 ^ length x.fs ≤ (length z + 1) ^ 2) (ap in_order (x.same ∙ sym same) ∙ h.held.order)
           (looks_few x.fs x.t (length x.fs) (subst IsRight (sym (x.same ∙ sym same)) h.shape) (omega arith))
+
+  -- THE LOOKS of a descent that has ended
+  pub sent_looks : {P V : Type 0} (order : P → V → Ordering) (count : P → ℕ) {old new : P} {v : Table E} {root : Option Place} {at : Place → Ordering} {equals : Side} {s : List Place} (h : Shows n v root s)
+      {here : Option Place} {d : Descent} → Sent v root at equals h.tree here d (count old) (count new) → here ≡ None → order new ≡ order old → Looks order count old new s
+  sent_looks order count h x none same = record {
+    looks = length x.fs;
+    counted = x.counted;
+    few = record { few = sent_few x h refl; some = sent_some x none h refl };
+    order_is = same;
+  }
 
 -- THE ANSWERS of searches, by where a descent ends
 equal_kept : (at : Place → Ordering) (o : Option Place) (x : Bool) → x ≡ equal_there at o → (result : Option Place) → result ≡ cond x o None → result ≡ if_passes (equal_at at) o

@@ -1,9 +1,9 @@
-use Rattle.std.proofs.Common.{refl, ap, ◌∙◌, arith, length}
+use Rattle.std.proofs.Common.{refl, ap, ◌∙◌, arith}
 use Rattle.ic_link_ops.specs.RedBlackTree.{node_at}
 use Rattle.ic_link_ops.specs.Frames.{child_on}
 use Rattle.ic_rbtree.specs.Comparing.{compared}
 use Rattle.ic_rbtree.proofs.Closed.{in_there, in_child}
-use Rattle.ic_rbtree.proofs.Sending.{sent_first, sent_on, sent_ends, sent_few, sent_some, sent_over, passed_side, passed_parent}
+use Rattle.ic_rbtree.proofs.Sending.{sent_first, sent_on, sent_ends, sent_looks, sent_over, passed_side, passed_parent}
 use Rattle.ic_rbtree.proofs.within.descend_within.Goals as goal
 
 pub loop-init : goal.loop-init
@@ -31,13 +31,7 @@ returns-in_default-clause-ends g c s h = sent_ends g.N.Nodes.node (c.loop.invari
 
 pub returns-in_default-clause-looks : goal.returns-in_default-clause-looks
 returns-in_default-clause-looks g c s h =
-    let x = c.loop.invariant.each s h in
-    record {
-      looks = length x.fs;
-      counted = x.counted;
-      few = record { few = sent_few g.N.Nodes.node x h refl; some = sent_some g.N.Nodes.node x c.in_default.is h refl };
-      order_is = c.loop.invariant.same;
-    }
+    sent_looks g.N.Nodes.node g.P.Probe.order g.P.Probe.count h (c.loop.invariant.each s h) c.in_default.is c.loop.invariant.same
 
 pub returns-in_default-clause-safe : goal.returns-in_default-clause-safe
 returns-in_default-clause-safe g c S h = (c.loop.invariant.safe S h).1
@@ -62,12 +56,7 @@ pub returns-clause-looks : goal.returns-clause-looks
 returns-clause-looks g c s h =
     let x = c.loop.invariant.each s h in
     let none = sent_over g.N.Nodes.node x h refl (let n = c.loop.invariant.counted in omega (arith, n, x.counted)) in
-    record {
-      looks = length x.fs;
-      counted = x.counted;
-      few = record { few = sent_few g.N.Nodes.node x h refl; some = sent_some g.N.Nodes.node x none h refl };
-      order_is = c.loop.invariant.same;
-    }
+    sent_looks g.N.Nodes.node g.P.Probe.order g.P.Probe.count h x none c.loop.invariant.same
 
 pub returns-clause-safe : goal.returns-clause-safe
 returns-clause-safe g c S h = (c.loop.invariant.safe S h).1

@@ -1,10 +1,10 @@
-use Rattle.std.proofs.Common.{◌≡◌, Option, Some, None, List, refl, sym, ap, ◌∙◌, arith, length}
+use Rattle.std.proofs.Common.{◌≡◌, Option, Some, None, List, refl, sym, ap, ◌∙◌, arith}
 use Rattle.ic_unsafe_ref.specs.declared.place.Place.{Place}
 use Rattle.ic_link_ops.specs.RedBlackTree.{Shows, node_at}
 use Rattle.ic_link_ops.specs.Frames.{child_on}
 use Rattle.ic_rbtree.specs.Comparing.{compared}
 use Rattle.ic_rbtree.specs.Descents.{side_of}
-use Rattle.ic_rbtree.proofs.Sending.{Sent, sent_first, sent_linked, sent_room, sent_placed, sent_on, sent_ends, sent_few, sent_some}
+use Rattle.ic_rbtree.proofs.Sending.{Sent, sent_first, sent_linked, sent_room, sent_placed, sent_on, sent_ends, sent_looks}
 use Rattle.ic_rbtree.proofs.keys.descent.descend.Goals as goal
 use Rattle.ic_rbtree.proofs.keys.descent.descend.Goals.{After-left, After-right}
 use Rattle.ic_rbtree.proofs.keys.descent.descend.Given.{Over}
@@ -72,13 +72,7 @@ returns-in_default-left-clause-ends g c s h = sent_ends g.L.RBTreeOps.node (to_l
 
 pub returns-in_default-left-clause-looks : goal.returns-in_default-left-clause-looks
 returns-in_default-left-clause-looks g c s h =
-    let x = to_left g c.before None c.in_default-left.is s h in
-    record {
-      looks = length x.fs;
-      counted = x.counted;
-      few = record { few = sent_few g.L.RBTreeOps.node x h refl; some = sent_some g.L.RBTreeOps.node x refl h refl };
-      order_is = c.look.ensures.same ∙ c.loop-at.invariant.same;
-    }
+    sent_looks g.L.RBTreeOps.node g.P.Probe.order g.P.Probe.count h (to_left g c.before None c.in_default-left.is s h) refl (c.look.ensures.same ∙ c.loop-at.invariant.same)
 
 pub loop-at-preserved : goal.loop-at-preserved
 loop-at-preserved g c = record { each = to_right g c.before (Some c.in-Some-right.next) c.in-Some-right.is; same = c.look.ensures.same ∙ c.loop-at.invariant.same }
@@ -88,23 +82,11 @@ returns-in_default-right-clause-ends g c s h = sent_ends g.L.RBTreeOps.node (to_
 
 pub returns-in_default-right-clause-looks : goal.returns-in_default-right-clause-looks
 returns-in_default-right-clause-looks g c s h =
-    let x = to_right g c.before None c.in_default-right.is s h in
-    record {
-      looks = length x.fs;
-      counted = x.counted;
-      few = record { few = sent_few g.L.RBTreeOps.node x h refl; some = sent_some g.L.RBTreeOps.node x refl h refl };
-      order_is = c.look.ensures.same ∙ c.loop-at.invariant.same;
-    }
+    sent_looks g.L.RBTreeOps.node g.P.Probe.order g.P.Probe.count h (to_right g c.before None c.in_default-right.is s h) refl (c.look.ensures.same ∙ c.loop-at.invariant.same)
 
 pub returns-clause-ends : goal.returns-clause-ends
 returns-clause-ends g c s h = sent_ends g.L.RBTreeOps.node (c.loop-at.invariant.each s h) c.in_default.is
 
 pub returns-clause-looks : goal.returns-clause-looks
 returns-clause-looks g c s h =
-    let x = c.loop-at.invariant.each s h in
-    record {
-      looks = length x.fs;
-      counted = x.counted;
-      few = record { few = sent_few g.L.RBTreeOps.node x h refl; some = sent_some g.L.RBTreeOps.node x c.in_default.is h refl };
-      order_is = c.loop-at.invariant.same;
-    }
+    sent_looks g.L.RBTreeOps.node g.P.Probe.order g.P.Probe.count h (c.loop-at.invariant.each s h) c.in_default.is c.loop-at.invariant.same
