@@ -4,6 +4,7 @@
 //! the last gap at null. What each does, the traits say.
 
 ghost use Rattle.std.specs.Prelude.{None, ⊤};
+ghost use Rattle.ic_link_ops.specs.Sequences.{Cut, join, IsAfter, IsBefore};
 ghost use Rattle.ic_link_ops.specs.LinkedList as doubly;
 ghost use Rattle.ic_link_ops.specs.Positions.{site, Stands};
 
@@ -33,6 +34,34 @@ impl<T> Collection for LinkedList<T> {
     }
 }
 
+// The neighbors of a position, for edits. A cursor's step asks for the end of a list out of line, since it comes to null once a round; an
+// edit is made at null as often as anywhere.
+impl<T> LinkedList<T> {
+    // What stands behind the position: at null the first member.
+    #[inline]
+    fn behind<L: LinkedListOps>(&self, links: &L, at: &End) -> Option<Place>
+        requires { Stands (doubly.Shows L.neighbors) L.table (site links.now self.now at.now) }
+        ensures { (gap : Cut) → doubly.Shows L.neighbors (L.table links.now) self.now (join gap) → IsAfter gap at.now → IsBefore gap result }
+    {
+        match at.get() {
+            None => self.first(),
+            Some(place) => links.next(place),
+        }
+    }
+
+    // What stands in front of the position: at null the last member.
+    #[inline]
+    fn before<L: LinkedListOps>(&self, links: &L, at: &End) -> Option<Place>
+        requires { Stands (doubly.Shows L.neighbors) L.table (site links.now self.now at.now) }
+        ensures { (gap : Cut) → doubly.Shows L.neighbors (L.table links.now) self.now (join gap) → IsBefore gap at.now → IsAfter gap result }
+    {
+        match at.get() {
+            None => self.last(),
+            Some(place) => links.prev(place),
+        }
+    }
+}
+
 impl<T, L: LinkedListOps> Kind<L> for LinkedList<T> {
     ghost Shows = { doubly.Shows L.neighbors };
 
@@ -48,7 +77,7 @@ impl<T, L: LinkedListOps> Kind<L> for LinkedList<T> {
 
     #[inline]
     fn insert_after_at(&mut self, links: &mut L, at: &mut End, object: Place) -> bool {
-        let behind = self.next_of(&*links, at).get();
+        let behind = self.behind(&*links, at);
         self.insert_between(links, at.get(), object, behind)
     }
 }
@@ -64,7 +93,7 @@ impl<T, L: LinkedListOps> TwoWay<L> for LinkedList<T> {
 
     #[inline]
     fn insert_before_at(&mut self, links: &mut L, at: &mut End, object: Place) -> bool {
-        let before = self.prev_of(&*links, at).get();
+        let before = self.before(&*links, at);
         self.insert_between(links, before, object, at.get())
     }
 
@@ -93,13 +122,13 @@ impl<T, L: LinkedListOps> TwoWay<L> for LinkedList<T> {
 impl<T, L: LinkedListOps> Sliced<L> for LinkedList<T> {
     #[inline]
     fn splice_after_at(&mut self, links: &mut L, at: &mut End, given: LinkedList<T>) {
-        let behind = self.next_of(&*links, at).get();
+        let behind = self.behind(&*links, at);
         self.splice_between(links, at.get(), given, behind);
     }
 
     #[inline]
     fn split_after_at(&mut self, links: &mut L, at: &mut End) -> LinkedList<T> {
-        let behind = self.next_of(&*links, at).get();
+        let behind = self.behind(&*links, at);
         self.split_between(links, at.get(), behind)
     }
 }
@@ -107,13 +136,13 @@ impl<T, L: LinkedListOps> Sliced<L> for LinkedList<T> {
 impl<T, L: LinkedListOps> TwoWaySliced<L> for LinkedList<T> {
     #[inline]
     fn splice_before_at(&mut self, links: &mut L, at: &mut End, given: LinkedList<T>) {
-        let before = self.prev_of(&*links, at).get();
+        let before = self.before(&*links, at);
         self.splice_between(links, before, given, at.get());
     }
 
     #[inline]
     fn split_before_at(&mut self, links: &mut L, at: &mut End) -> LinkedList<T> {
-        let before = self.prev_of(&*links, at).get();
+        let before = self.before(&*links, at);
         let rest = self.split_between(links, before, at.get());
         mem::replace(self, rest)
     }

@@ -13,7 +13,7 @@ pub splice_between-requires-clause-behind : goal.splice_between-requires-clause-
 splice_between-requires-clause-behind g c q e =
     let at = c.requires.stands in
     gap_behind_linked (between_linked g.met.L.LinkedListOps.linked_alike) at.gap.front at.gap.back at.shown
-    (sym e ∙ c.get-behind.ensures ∙ c.next_of.ensures.moved.leads at.gap at.shown at.after)
+    (sym e ∙ c.behind-behind.ensures at.gap at.shown at.after)
 
 pub splice_between-requires-clause-first : goal.splice_between-requires-clause-first
 splice_between-requires-clause-first g c q e =
@@ -26,10 +26,10 @@ splice_between-requires-clause-last g c q e = tail_linked (between_linked g.met.
 pub returns-clause-spliced : goal.returns-clause-spliced
 returns-clause-spliced g c =
     let e = c.splice_between.ensures in record {
-      spliced = λ gap t shown after given apart. e.spliced gap t shown (c.get.ensures ∙ after) (c.get-behind.ensures ∙ c.next_of.ensures.moved.leads gap shown after) given apart;
+      spliced = λ gap t shown after given apart. e.spliced gap t shown (c.get.ensures ∙ after) (c.behind-behind.ensures gap shown after) given apart;
       no_step = e.no_step;
       position = refl;
-      stands = λ gap t shown after given apart. put_behind gap t (e.spliced gap t shown (c.get.ensures ∙ after) (c.get-behind.ensures ∙ c.next_of.ensures.moved.leads gap shown after) given apart).shows after;
+      stands = λ gap t shown after given apart. put_behind gap t (e.spliced gap t shown (c.get.ensures ∙ after) (c.behind-behind.ensures gap shown after) given apart).shows after;
     }
 
 pub returns-clause-kept : goal.returns-clause-kept

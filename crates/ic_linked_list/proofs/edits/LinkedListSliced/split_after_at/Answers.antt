@@ -13,15 +13,15 @@ pub split_between-requires-clause-behind : goal.split_between-requires-clause-be
 split_between-requires-clause-behind g c q e =
     let at = c.requires.stands in
     gap_behind_linked (between_linked g.met.L.LinkedListOps.linked_alike) at.gap.front at.gap.back at.shown
-    (sym e ∙ c.get-behind.ensures ∙ c.next_of.ensures.moved.leads at.gap at.shown at.after)
+    (sym e ∙ c.behind-behind.ensures at.gap at.shown at.after)
 
 pub returns-clause-split : goal.returns-clause-split
 returns-clause-split g c =
     let e = c.split_between.ensures in record {
-      split = λ gap shown after. e.split gap shown (c.get.ensures ∙ after) (c.get-behind.ensures ∙ c.next_of.ensures.moved.leads gap shown after);
+      split = λ gap shown after. e.split gap shown (c.get.ensures ∙ after) (c.behind-behind.ensures gap shown after);
       no_step = e.no_step;
       position = refl;
-      stands = split_behind c.requires.stands (λ gap shown after. e.split gap shown (c.get.ensures ∙ after) (c.get-behind.ensures ∙ c.next_of.ensures.moved.leads gap shown after)) refl;
+      stands = split_behind c.requires.stands (λ gap shown after. e.split gap shown (c.get.ensures ∙ after) (c.behind-behind.ensures gap shown after)) refl;
     }
 
 pub returns-clause-kept : goal.returns-clause-kept

@@ -7,7 +7,7 @@ use Rattle.ic_linked_list.proofs.edits.LinkedListTwoWaySliced.splice_before_at.G
 pub splice_between-requires-clause-before : goal.splice_between-requires-clause-before
 splice_between-requires-clause-before g c q e =
     let k = gap_there c.requires.stands in
-    gap_linked (between_linked g.met.L.LinkedListOps.linked_alike) k.0.front k.0.back k.1 (sym e ∙ c.get-before.ensures ∙ c.prev_of.ensures.moved.leads k.0 k.1 k.2)
+    gap_linked (between_linked g.met.L.LinkedListOps.linked_alike) k.0.front k.0.back k.1 (sym e ∙ c.before-before.ensures k.0 k.1 k.2)
 
 pub splice_between-requires-clause-behind : goal.splice_between-requires-clause-behind
 splice_between-requires-clause-behind g c q e =
@@ -25,10 +25,10 @@ splice_between-requires-clause-last g c q e = tail_linked (between_linked g.met.
 pub returns-clause-spliced : goal.returns-clause-spliced
 returns-clause-spliced g c =
     let e = c.splice_between.ensures in record {
-      spliced = λ gap t shown before given apart. e.spliced gap t shown (c.get-before.ensures ∙ c.prev_of.ensures.moved.leads gap shown before) (c.get.ensures ∙ before) given apart;
+      spliced = λ gap t shown before given apart. e.spliced gap t shown (c.before-before.ensures gap shown before) (c.get.ensures ∙ before) given apart;
       no_step = e.no_step;
       position = refl;
-      stands = λ gap t shown before given apart. put_in_front gap t (e.spliced gap t shown (c.get-before.ensures ∙ c.prev_of.ensures.moved.leads gap shown before) (c.get.ensures ∙ before) given apart).shows before;
+      stands = λ gap t shown before given apart. put_in_front gap t (e.spliced gap t shown (c.before-before.ensures gap shown before) (c.get.ensures ∙ before) given apart).shows before;
     }
 
 pub returns-clause-kept : goal.returns-clause-kept

@@ -12,7 +12,7 @@ use Rattle.ic_linked_list.proofs.edits.LinkedListTwoWaySliced.split_before_at.Gi
 pub split_between-rest-requires-clause-before : goal.split_between-rest-requires-clause-before
 split_between-rest-requires-clause-before g c q e =
     let k = gap_there c.requires.stands in
-    gap_linked (between_linked g.met.L.LinkedListOps.linked_alike) k.0.front k.0.back k.1 (sym e ∙ c.get-before.ensures ∙ c.prev_of.ensures.moved.leads k.0 k.1 k.2)
+    gap_linked (between_linked g.met.L.LinkedListOps.linked_alike) k.0.front k.0.back k.1 (sym e ∙ c.before-before.ensures k.0 k.1 k.2)
 
 pub split_between-rest-requires-clause-behind : goal.split_between-rest-requires-clause-behind
 split_between-rest-requires-clause-behind g c q e =
@@ -24,7 +24,7 @@ splits : (g : Over) (c : goal.After-replace g) (gap : Cut) → Shows g.L.LinkedL
     → IsBefore gap c.args.at.now
     → Splits (Shows g.L.LinkedListOps.neighbors) (g.L.LinkOps.table c.args.links.now) (g.L.LinkOps.table c.split_between-rest.new.links) c.replace.new.dest c.replace.result gap.back gap.front
 splits g c gap shown before =
-    let split = c.split_between-rest.ensures.split gap shown (c.get-before.ensures ∙ c.prev_of.ensures.moved.leads gap shown before) (c.get.ensures ∙ before) in record {
+    let split = c.split_between-rest.ensures.split gap shown (c.before-before.ensures gap shown before) (c.get.ensures ∙ before) in record {
       keeps = rw c.replace.ensures.after split.hands_out;
       hands_out = rw c.replace.ensures.value split.keeps;
       frame = record { extent = split.frame.extent; others = λ q out. split.frame.others q (absent_turned q gap.front gap.back out) };

@@ -11,7 +11,7 @@ pub take_off-requires : goal.take_off-requires
 take_off-requires g c =
     let at = c.requires.stands in
     record {
-      member = (at.gap.front, drop 1 at.gap.back, rw (first_is at.gap.back (sym c.in_ok-place.was ∙ c.get.ensures ∙ c.next_of.ensures.moved.leads at.gap at.shown at.after)) at at.shown, c.get-2.ensures ∙ at.after);
+      member = (at.gap.front, drop 1 at.gap.back, rw (first_is at.gap.back (sym c.in_ok-place.was ∙ c.behind.ensures at.gap at.shown at.after)) at at.shown, c.get.ensures ∙ at.after);
     }
 
 -- the member behind is gone, of whatever sequence was shown
@@ -19,15 +19,15 @@ removes : (g : Over) (c : goal.After-take_off g) (gap : Cut) → Shows g.L.Singl
     → IsAfter gap c.args.at.now
     → Removes (Shows g.L.SinglyLinkedListOps.successor) (g.L.LinkOps.table c.args.links.now) (g.L.LinkOps.table c.take_off.new.links) c.take_off.new.self gap
 removes g c gap shown after =
-    let is = first_is gap.back (sym c.in_ok-place.was ∙ c.get.ensures ∙ c.next_of.ensures.moved.leads gap shown after) in
+    let is = first_is gap.back (sym c.in_ok-place.was ∙ c.behind.ensures gap shown after) in
     let whole = rw is at shown in record {
-      shows = c.take_off.ensures.removed gap.front (drop 1 gap.back) whole (c.get-2.ensures ∙ after);
-      frame = rw is (c.take_off.ensures.frame gap.front (drop 1 gap.back) whole (c.get-2.ensures ∙ after));
+      shows = c.take_off.ensures.removed gap.front (drop 1 gap.back) whole (c.get.ensures ∙ after);
+      frame = rw is (c.take_off.ensures.frame gap.front (drop 1 gap.back) whole (c.get.ensures ∙ after));
     }
 
 pub returns-clause-removed : goal.returns-clause-removed
 returns-clause-removed g c = record {
-  answer = λ gap shown after. sym c.in_ok-place.was ∙ c.get.ensures ∙ c.next_of.ensures.moved.leads gap shown after;
+  answer = λ gap shown after. sym c.in_ok-place.was ∙ c.behind.ensures gap shown after;
   removed = removes g c;
   released = c.take_off.ensures.released;
   position = refl;

@@ -20,7 +20,7 @@ acquired alike shown links others =
 pub next-behind-requires : goal.next-behind-requires
 next-behind-requires g c =
     let at = c.requires.stands in
-    let whole = rw (first_is at.gap.back (sym c.in-Some.is ∙ c.get-next.ensures ∙ c.next_of.ensures.moved.leads at.gap at.shown at.after)) at at.shown in
+    let whole = rw (first_is at.gap.back (sym c.in-Some.is ∙ c.behind-next.ensures at.gap at.shown at.after)) at at.shown in
     let a = c.if-not-acquire_link.ensures in
     let now = (acquired g.met.L.SinglyLinkedListOps.linked_alike {t' = g.L.LinkOps.table c.acquire_link.new.self} whole (g.met.L.LinkOps.does_replay _ _ _ a.acquired) a.frame.others).0 in
     record { linked = followed_linked g.met.L.SinglyLinkedListOps.linked_alike _ _ _ (shows_middle at.gap.front (drop 1 at.gap.back) (two_ended now)) }
@@ -28,7 +28,7 @@ next-behind-requires g c =
 pub put_between-requires-clause-before : goal.put_between-requires-clause-before
 put_between-requires-clause-before g c q e =
     let at = c.requires.stands in
-    let whole = rw (first_is at.gap.back (sym c.in-Some.is ∙ c.get-next.ensures ∙ c.next_of.ensures.moved.leads at.gap at.shown at.after)) at at.shown in
+    let whole = rw (first_is at.gap.back (sym c.in-Some.is ∙ c.behind-next.ensures at.gap at.shown at.after)) at at.shown in
     let a = c.if-not-acquire_link.ensures in
     let now = (acquired g.met.L.SinglyLinkedListOps.linked_alike {t' = g.L.LinkOps.table c.acquire_link.new.self} whole (g.met.L.LinkOps.does_replay _ _ _ a.acquired) a.frame.others).0 in
     gap_linked (followed_linked g.met.L.SinglyLinkedListOps.linked_alike) at.gap.front (c.in-Some.out ∷ drop 1 at.gap.back) (two_ended now) (sym e ∙ c.get.ensures ∙ at.after)
@@ -36,7 +36,7 @@ put_between-requires-clause-before g c q e =
 pub release_link-requires : goal.release_link-requires
 release_link-requires g c =
     let at = c.requires.stands in
-    let whole = rw (first_is at.gap.back (sym c.in-Some.is ∙ c.get-next.ensures ∙ c.next_of.ensures.moved.leads at.gap at.shown at.after)) at at.shown in
+    let whole = rw (first_is at.gap.back (sym c.in-Some.is ∙ c.behind-next.ensures at.gap at.shown at.after)) at at.shown in
     let a = c.if-not-acquire_link.ensures in
     let now = (acquired g.met.L.SinglyLinkedListOps.linked_alike {t' = g.L.LinkOps.table c.acquire_link.new.self} whole (g.met.L.LinkOps.does_replay _ _ _ a.acquired) a.frame.others).0 in
     record {
@@ -50,7 +50,7 @@ replaces : (g : Over) (c : goal.After-release_link g) (gap : Cut)
     → Replaces (Shows g.L.SinglyLinkedListOps.successor) (g.L.LinkOps.table c.args.links.now) (g.L.LinkOps.table c.release_link.new.self) c.put_between.new.self gap c.args.object
 replaces g c gap shown after =
     let rest = drop 1 gap.back in
-    let is = first_is gap.back (sym c.in-Some.is ∙ c.get-next.ensures ∙ c.next_of.ensures.moved.leads gap shown after) in
+    let is = first_is gap.back (sym c.in-Some.is ∙ c.behind-next.ensures gap shown after) in
     let out = c.in-Some.out in
     let place = c.args.object in
     let a = c.if-not-acquire_link.ensures in
@@ -75,7 +75,7 @@ replaces g c gap shown after =
 pub returns-clause-replaced : goal.returns-clause-replaced
 returns-clause-replaced g c =
     let L = g.met.L.LinkOps in record {
-      answer = λ gap shown after. sym (c.next_of.ensures.moved.leads gap shown after) ∙ sym c.get-next.ensures ∙ c.in-Some.is;
+      answer = λ gap shown after. sym (c.behind-next.ensures gap shown after) ∙ c.in-Some.is;
       replaced = replaces g c;
       exchanged = L.does_on _ _ _ _ _ (L.does_on _ _ _ _ _ c.if-not-acquire_link.ensures.acquired c.put_between.ensures.no_step) c.release_link.ensures.released;
       refused = λ gap shown after. tt;

@@ -4,15 +4,15 @@ use Rattle.ic_singly_linked_list.proofs.edits.SinglyLinkedListSliced.splice_afte
 
 pub splice_list-requires-clause-shown : goal.splice_list-requires-clause-shown
 splice_list-requires-clause-shown g c =
-    let at = c.requires.stands in (at.gap, at.shown, c.get.ensures ∙ at.after, c.get-behind.ensures ∙ c.next_of.ensures.moved.leads at.gap at.shown at.after)
+    let at = c.requires.stands in (at.gap, at.shown, c.get.ensures ∙ at.after, c.behind-behind.ensures at.gap at.shown at.after)
 
 pub returns-clause-spliced : goal.returns-clause-spliced
 returns-clause-spliced g c =
     let e = c.splice_list.ensures in record {
-      spliced = λ gap t shown after given apart. e.spliced gap t shown (c.get.ensures ∙ after) (c.get-behind.ensures ∙ c.next_of.ensures.moved.leads gap shown after) given apart;
+      spliced = λ gap t shown after given apart. e.spliced gap t shown (c.get.ensures ∙ after) (c.behind-behind.ensures gap shown after) given apart;
       no_step = e.no_step;
       position = refl;
-      stands = λ gap t shown after given apart. put_behind gap t (e.spliced gap t shown (c.get.ensures ∙ after) (c.get-behind.ensures ∙ c.next_of.ensures.moved.leads gap shown after) given apart).shows after;
+      stands = λ gap t shown after given apart. put_behind gap t (e.spliced gap t shown (c.get.ensures ∙ after) (c.behind-behind.ensures gap shown after) given apart).shows after;
     }
 
 pub returns-clause-kept : goal.returns-clause-kept

@@ -13,10 +13,10 @@ split_between-requires g c =
 pub returns-clause-split : goal.returns-clause-split
 returns-clause-split g c =
     let e = c.split_between.ensures in record {
-      split = λ gap shown after. e.split gap shown (c.get.ensures ∙ after) (c.get-behind.ensures ∙ c.next_of.ensures.moved.leads gap shown after);
+      split = λ gap shown after. e.split gap shown (c.get.ensures ∙ after) (c.behind-behind.ensures gap shown after);
       no_step = e.no_step;
       position = refl;
-      stands = split_behind c.requires.stands (λ gap shown after. e.split gap shown (c.get.ensures ∙ after) (c.get-behind.ensures ∙ c.next_of.ensures.moved.leads gap shown after)) refl;
+      stands = split_behind c.requires.stands (λ gap shown after. e.split gap shown (c.get.ensures ∙ after) (c.behind-behind.ensures gap shown after)) refl;
     }
 
 pub returns-clause-kept : goal.returns-clause-kept
