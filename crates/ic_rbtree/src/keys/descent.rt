@@ -112,7 +112,8 @@ impl Descent {
 // less, and past equal ones to the side `equals`.
 //
 // Each side tests its own child, so that the two loads are two branches: which one is next is then guessed, and loaded ahead. One load from
-// an address that is picked waits for each comparison, and takes twice as long in a tree that memory keeps.
+// an address that is picked waits for each comparison, and takes twice as long in a tree that memory keeps. The left child is read before
+// the comparison, so that where the table's entries stand is read once for both sides.
 #[inline]
 pub(crate) fn descend<L: RBTreeOps, V, P: Probe<V>, O: Values<V>>(
     links: &L,
@@ -131,8 +132,9 @@ pub(crate) fn descend<L: RBTreeOps, V, P: Probe<V>, O: Values<V>>(
     let mut descent = Descent::new();
     let mut at = root;
     while let Some(place) = at {
+        let left = links.left(place);
         if descent.look(objects, probe, place, equals) {
-            let Some(next) = links.left(place) else {
+            let Some(next) = left else {
                 return descent;
             };
             at = Some(next);

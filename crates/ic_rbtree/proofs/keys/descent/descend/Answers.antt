@@ -6,7 +6,7 @@ use Rattle.ic_rbtree.specs.Comparing.{compared}
 use Rattle.ic_rbtree.specs.Descents.{side_of}
 use Rattle.ic_rbtree.proofs.Sending.{Sent, sent_first, sent_linked, sent_room, sent_placed, sent_on, sent_ends, sent_looks}
 use Rattle.ic_rbtree.proofs.keys.descent.descend.Goals as goal
-use Rattle.ic_rbtree.proofs.keys.descent.descend.Goals.{After-left, After-right}
+use Rattle.ic_rbtree.proofs.keys.descent.descend.Goals.{Then-look, After-right}
 use Rattle.ic_rbtree.proofs.keys.descent.descend.Given.{Over}
 
 pub loop-at-init : goal.loop-at-init
@@ -24,8 +24,8 @@ look-requires g c =
       room = sent_room g.L.RBTreeOps.node x c.in-Some.is r.shown refl c.requires.room;
     }
 
-pub left-requires : goal.left-requires
-left-requires g c =
+pub left-left-requires : goal.left-left-requires
+left-left-requires g c =
     let r = c.requires.placed in
     record { linked = sym (g.met.L.RBTreeOps.linked_alike _) ∙ sent_linked g.L.RBTreeOps.node (c.loop-at.invariant.each r.members r.shown) c.in-Some.is }
 
@@ -47,13 +47,13 @@ loop-at-smaller g c =
     omega (arith, room, c.look.ensures.counted)
 
 -- past the member, to its left child
-to_left : (g : Over) (c : After-left g) (next : Option Place) → c.left.result ≡ next → (s : List Place) (h : Shows g.L.RBTreeOps.node (g.L.LinkOps.table c.args.links.now) c.args.root s)
+to_left : (g : Over) (c : Then-look g) (next : Option Place) → c.left-left.result ≡ next → (s : List Place) (h : Shows g.L.RBTreeOps.node (g.L.LinkOps.table c.args.links.now) c.args.root s)
     → Sent g.L.RBTreeOps.node (g.L.LinkOps.table c.args.links.now) c.args.root (compared (g.P.Probe.order c.args.probe.now) (g.O.Values.values c.args.objects.now)) c.args.equals h.tree next c.look.new.self
     (g.P.Probe.count c.args.probe.now) (g.P.Probe.count c.look.new.probe)
 to_left g c next is s h =
     sent_on g.L.RBTreeOps.node (c.loop-at.invariant.each s h) c.in-Some.is c.look.result c.look.ensures.passed
     (ap (λ o. compared o (g.O.Values.values c.args.objects.now) c.in-Some.place) c.loop-at.invariant.same) c.look.ensures.left refl
-    (sym is ∙ c.left.ensures ∙ ap (λ left. child_on (side_of left) (node_at g.L.RBTreeOps.node (g.L.LinkOps.table c.args.links.now) c.in-Some.place)) (sym c.if-look.true)) c.look.ensures.counted
+    (sym is ∙ c.left-left.ensures ∙ ap (λ left. child_on (side_of left) (node_at g.L.RBTreeOps.node (g.L.LinkOps.table c.args.links.now) c.in-Some.place)) (sym c.if-look.true)) c.look.ensures.counted
 
 -- past the member, to its right child
 to_right : (g : Over) (c : After-right g) (next : Option Place) → c.right.result ≡ next → (s : List Place) (h : Shows g.L.RBTreeOps.node (g.L.LinkOps.table c.args.links.now) c.args.root s)
