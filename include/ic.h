@@ -1,8 +1,8 @@
-/* Linked lists over tables of links in the caller's memory: doubly linked, singly linked and XOR lists.
+/* Lists and a red-black tree over tables of links in the caller's memory. The lists are doubly linked, singly linked and XOR lists.
  *
- * An object is a place, which is an index of your own arrays. A table has a link for each place, and a list is a chain of places
- * through one table. A place is in at most one list of a table. An object that has to be in several lists at once has a link in
- * several tables. The library allocates nothing, keeps nothing between calls, and calls nothing.
+ * An object is a place, which is an index of your own arrays. A table has a link for each place, and a list or a tree leads from place
+ * to place through one table. A place is in at most one list or tree of a table. An object that has to be in several at once has a link
+ * in several tables. The library allocates nothing, keeps nothing between calls, and calls nothing.
  *
  *     struct ic_link2 links[100] = {0};          // a hundred unlinked places
  *     struct ic_list list = {0};                 // a list with no members
@@ -11,22 +11,24 @@
  *     ic_list_push_back(links, 100, &list, 7);   // IC_LINKED: nothing is changed
  *     ic_list_pop_front(links, 100, &list, &oldest);
  *
- * Every bit pattern is a value, and zeroed memory is a table of unlinked places and an empty list. A copy of a table and its lists is
- * as good as the original.
+ * Every bit pattern is a value, and zeroed memory is a table of unlinked places, an empty list and an empty tree. A copy of a table with
+ * its lists and trees is as good as the original.
  *
- * What a call requires: `table` points to `places` links, each other pointer to one value of its type, no two of these overlap, and no
- * other thread writes or reads them during the call. Nothing else: words, lengths and places may be any.
+ * What a call requires: `table` points to `places` links, `keys` to `key_count` keys, each other pointer to one value of its type, no two
+ * of these overlap, and no other thread writes or reads them during the call. Other threads may read what a call takes as const. Nothing
+ * else: words, keys, lengths and places may be any.
  *
  * What every call does, whatever it is handed:
  *   - It returns one of the statuses below.
- *   - It writes to nothing but table[0 .. places - 1], the lists and the out parameter that it is handed.
+ *   - It writes to nothing but table[0 .. places - 1], the lists, the tree and the out parameter that it is handed.
  *   - If the status is not IC_OK, it has changed nothing, out parameters included.
- *   - It takes a constant number of steps, but for ic_stack_splice_after, which takes at most `places` more.
+ *   - It takes at most a fixed number of steps, but for ic_stack_splice_after, which takes at most `places` more. A call of a list takes a
+ *     few, and a call of a tree O(log n).
  *
- * Where the table holds the list, and the member that you name is one of its members, the call makes the edit that its comment says.
- * Every other list of the table stays as it was. A member of another list of the same table is refused with IC_BROKEN where the words of
- * its neighbors tell, as for an edit beyond the end of a doubly linked or XOR list. In the middle of a list, and in singly linked lists,
- * they do not: then the call mixes both lists up, within the table.
+ * Where the table holds the list or tree, and the member that you name is one of its members, the call makes the edit that its comment
+ * says. Every other list and tree of the table stays as it was. A member of another list of the same table is refused with IC_BROKEN where
+ * the words of its neighbors tell, as for an edit beyond the end of a doubly linked or XOR list. In the middle of a list, in singly linked
+ * lists and in trees they do not: then the call mixes both up, within the table.
  */
 #ifndef IC_H
 #define IC_H
@@ -38,17 +40,17 @@
 extern "C" {
 #endif
 
-/* Names no place. As a cursor it is the position between the last member and the first. */
+/* Names no place. As a cursor of a list it is the position between the last member and the first. */
 #define IC_NONE UINT32_MAX
 
 /* What a call returns. */
 enum ic_status {
     IC_OK = 0,           /* the edit is made */
-    IC_OUT_OF_RANGE = 1, /* a place is not below `places` */
-    IC_LINKED = 2,       /* the place to insert is in a list of this table */
-    IC_NOT_LINKED = 3,   /* the place to edit at is in no list of this table */
+    IC_OUT_OF_RANGE = 1, /* a place is not below `places`, or there are fewer keys than places */
+    IC_LINKED = 2,       /* the place to insert is in a list or tree of this table */
+    IC_NOT_LINKED = 3,   /* the member that is named is in no list or tree of this table */
     IC_NULL = 4,         /* there is no member where the call needs one */
-    IC_BROKEN = 5        /* table, list and member do not belong together */
+    IC_BROKEN = 5        /* table, list or tree, and member do not belong together */
 };
 
 /* A link of a singly linked list or an XOR list. */
@@ -59,6 +61,11 @@ struct ic_link1 {
 /* A link of a doubly linked list. */
 struct ic_link2 {
     uint64_t next, prev;
+};
+
+/* A link of a tree: both children, and the parent. */
+struct ic_link3 {
+    uint64_t left, right, parent;
 };
 
 /* A singly linked list. */
@@ -76,9 +83,15 @@ struct ic_xor_list {
     uint64_t head, tail;
 };
 
+/* A red-black tree. */
+struct ic_tree {
+    uint64_t root;
+};
+
 /* ---- Words -------------------------------------------------------------------------------------------------------------------- */
 
-/* The number of a place in a word: 2 * (place + 1), or 0 for IC_NONE. The first word of a link has 1 more where the place is linked. */
+/* The number of a place in a word: 2 * (place + 1), or 0 for IC_NONE. The first word of a link has 1 more where the place is linked, and
+ * `parent` where it is black in its tree. */
 static inline uint64_t ic_word(uint32_t place) {
     return (uint64_t)(uint32_t)(place + 1u) * 2;
 }
@@ -298,6 +311,124 @@ uint32_t ic_xor_split_between(struct ic_link1 *table, size_t places, struct ic_x
 
 /* Reverses the list. It reads and writes no table. IC_OK always. */
 uint32_t ic_xor_reverse(struct ic_xor_list *list);
+
+/* ---- Red-black trees: 24 bytes a place, all calls O(log n) ------------------------------------------------------------------------
+ *
+ * Good for timers, priorities and indices: objects in order that come and leave anywhere, and are searched for. n is how many members
+ * there are. You order them in one of two ways:
+ *
+ *   - By a number each, in an array of your own: keys[place]. ic_tree_insert puts a place where its key belongs, and ic_tree_find and both
+ *     bounds search by it. To change a member's key, take the member off, and insert it again then.
+ *   - By any comparison of yours, as with sys/tree.h or the rb_link_node of Linux. Go down from the root to where the place belongs, and
+ *     put it in there:
+ *
+ *         uint32_t at = ic_tree_root(&tree), under = IC_NONE;
+ *         int left = 0;
+ *         while (at != IC_NONE) {
+ *             left = strcmp(names[place], names[at]) < 0;
+ *             under = at;
+ *             at = left ? ic_tree_left(links, at) : ic_tree_right(links, at);
+ *         }
+ *         status = (left ? ic_tree_insert_left : ic_tree_insert_right)(links, 100, &tree, under, place);
+ *
+ * Removal, and the steps to the next member and back, need no comparison.
+ */
+
+/* Whether a place below the table's length is in a tree of the table. */
+static inline int ic_tree_is_linked(const struct ic_link3 *table, uint32_t place) {
+    return (int)(table[place].left & 1);
+}
+
+static inline int ic_tree_is_empty(const struct ic_tree *tree) {
+    return tree->root == 0;
+}
+
+/* The root, or IC_NONE. */
+static inline uint32_t ic_tree_root(const struct ic_tree *tree) {
+    return ic_place(tree->root);
+}
+
+/* The left child of a member, or IC_NONE. The members under it are in front of the member. */
+static inline uint32_t ic_tree_left(const struct ic_link3 *table, uint32_t at) {
+    return ic_place(table[at].left);
+}
+
+/* The right child of a member, or IC_NONE. The members under it are behind the member. */
+static inline uint32_t ic_tree_right(const struct ic_link3 *table, uint32_t at) {
+    return ic_place(table[at].right);
+}
+
+/* The parent of a member, or IC_NONE. */
+static inline uint32_t ic_tree_parent(const struct ic_link3 *table, uint32_t at) {
+    return ic_place(table[at].parent);
+}
+
+/* Links a place as the left child of the member `at`, which has none, and balances the tree: the place is just in front of `at`. Where
+ * `at` is IC_NONE, the tree has to be empty, and the place is its root.
+ * IC_OUT_OF_RANGE: `at` or `place` is. IC_LINKED: `place` is. IC_NOT_LINKED: `at` is not. IC_BROKEN: `at` has a left child, or is IC_NONE
+ * and the tree has members, or the root is none of this table. */
+uint32_t ic_tree_insert_left(struct ic_link3 *table, size_t places, struct ic_tree *tree, uint32_t at, uint32_t place);
+
+/* Links a place as the right child of the member `at`, which has none: the place is just behind `at`. As ic_tree_insert_left otherwise. */
+uint32_t ic_tree_insert_right(struct ic_link3 *table, size_t places, struct ic_tree *tree, uint32_t at, uint32_t place);
+
+/* Takes the member `at` off.
+ * IC_NULL: `at` is IC_NONE. IC_OUT_OF_RANGE or IC_NOT_LINKED: of `at`. IC_BROKEN: the root is none of this table. */
+uint32_t ic_tree_remove(struct ic_link3 *table, size_t places, struct ic_tree *tree, uint32_t at);
+
+/* Links a place where the member `at` is, which is taken off. Nothing is compared, so hand in a place that belongs there. O(1).
+ * IC_NULL: `at` is IC_NONE. IC_OUT_OF_RANGE: `at` or `place` is. IC_LINKED: `place` is, as where it is `at`. IC_NOT_LINKED: `at` is not.
+ * IC_BROKEN: the root is none of this table. */
+uint32_t ic_tree_replace(struct ic_link3 *table, size_t places, struct ic_tree *tree, uint32_t at, uint32_t place);
+
+/* ---- Trees by keys ----
+ *
+ * The keys are numbers, the least in front. There has to be one for each place, and those of unlinked places are not read but for that of
+ * the place to insert. The searches are for trees whose members are in order by their keys. In others they find some member or none.
+ */
+
+/* Links a place by its key: behind all members whose keys are not greater than keys[place].
+ * IC_OUT_OF_RANGE: `place` is, or there are fewer keys than places. IC_LINKED: `place` is. IC_BROKEN: the root is none of this table. */
+uint32_t ic_tree_insert(struct ic_link3 *table, size_t places, const uint64_t *keys, size_t key_count, struct ic_tree *tree,
+                        uint32_t place);
+
+/* Sets *found to the first member whose key is `key`.
+ * IC_NULL: there is none. IC_OUT_OF_RANGE: there are fewer keys than places. IC_BROKEN: the root is none of this table. */
+uint32_t ic_tree_find(const struct ic_link3 *table, size_t places, const uint64_t *keys, size_t key_count, const struct ic_tree *tree,
+                      uint64_t key, uint32_t *found);
+
+/* Sets *found to the first member whose key is not less than `key`. Refusals as of ic_tree_find. */
+uint32_t ic_tree_lower_bound(const struct ic_link3 *table, size_t places, const uint64_t *keys, size_t key_count,
+                             const struct ic_tree *tree, uint64_t key, uint32_t *found);
+
+/* Sets *found to the LAST member whose key is NOT GREATER than `key`. Refusals as of ic_tree_find.
+ * That is not the upper_bound of C++, which is the first member whose key is greater: the one behind this, or the first member where this
+ * returns IC_NULL. Both bounds are named as in the Rust crate intrusive-collections: where members have keys from `low` to `high`, the
+ * lower bound of `low` is the first of these, and the upper bound of `high` is the last. */
+uint32_t ic_tree_upper_bound(const struct ic_link3 *table, size_t places, const uint64_t *keys, size_t key_count,
+                             const struct ic_tree *tree, uint64_t key, uint32_t *found);
+
+/* ---- Steps through a tree ----
+ *
+ * A walk over all n members takes O(n) steps. The step from a member is to be made before the member is taken off.
+ */
+
+/* Sets *found to the member behind the member `at`, from IC_NONE to the first one.
+ * IC_NULL: `at` is the last one, or the tree is empty. IC_OUT_OF_RANGE or IC_NOT_LINKED: of `at`. IC_BROKEN: the root is none of this table. */
+uint32_t ic_tree_next(const struct ic_link3 *table, size_t places, const struct ic_tree *tree, uint32_t at, uint32_t *found);
+
+/* Sets *found to the member in front of the member `at`, from IC_NONE to the last one. As ic_tree_next otherwise. */
+uint32_t ic_tree_prev(const struct ic_link3 *table, size_t places, const struct ic_tree *tree, uint32_t at, uint32_t *found);
+
+/* Sets *found to the first member. IC_NULL: the tree is empty. */
+static inline uint32_t ic_tree_first(const struct ic_link3 *table, size_t places, const struct ic_tree *tree, uint32_t *found) {
+    return ic_tree_next(table, places, tree, IC_NONE, found);
+}
+
+/* Sets *found to the last member. IC_NULL: the tree is empty. */
+static inline uint32_t ic_tree_last(const struct ic_link3 *table, size_t places, const struct ic_tree *tree, uint32_t *found) {
+    return ic_tree_prev(table, places, tree, IC_NONE, found);
+}
 
 #ifdef __cplusplus
 }

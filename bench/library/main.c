@@ -10,11 +10,11 @@
 #include <string.h>
 #include <time.h>
 
-/* What a workload is called with: how much to do, the values of the objects, and their places in another random order. */
+/* What a workload is called with: how much to do, the values of the objects, and their places in two more random orders. */
 struct room {
     uint32_t members;
     uint64_t operations, *values;
-    uint32_t *order;
+    uint32_t *order, *other;
 };
 
 /* The generator that all programs share. */
@@ -177,6 +177,165 @@ static uint64_t xor_list(const struct room *room, uint64_t *time) {
     return hash + checksum;
 }
 
+/* ---- The tree, whose keys are the values ---- */
+
+/* A tree over a table, as the calls take them. */
+struct keyed {
+    struct ic_link3 *links;
+    uint64_t *keys;
+    uint32_t members;
+    struct ic_tree tree;
+};
+
+static uint32_t insert(struct keyed *it, uint32_t place) {
+    return ic_tree_insert(it->links, it->members, it->keys, it->members, &it->tree, place);
+}
+
+static uint32_t take(struct keyed *it, uint32_t place) {
+    return ic_tree_remove(it->links, it->members, &it->tree, place);
+}
+
+static uint32_t find(const struct keyed *it, uint64_t key, uint32_t *found) {
+    return ic_tree_find(it->links, it->members, it->keys, it->members, &it->tree, key, found);
+}
+
+static uint32_t first(const struct keyed *it, uint32_t *found) {
+    return ic_tree_first(it->links, it->members, &it->tree, found);
+}
+
+static uint32_t next(const struct keyed *it, uint32_t at, uint32_t *found) {
+    return ic_tree_next(it->links, it->members, &it->tree, at, found);
+}
+
+TIMED timed_insert(struct keyed *it, const uint32_t *order, uint32_t count) {
+    uint64_t failed = 0;
+    for (uint32_t index = 0; index < count; index++)
+        failed += insert(it, order[index]);
+    return failed;
+}
+
+TIMED timed_remove(struct keyed *it, const uint32_t *order, uint32_t count) {
+    uint64_t failed = 0;
+    for (uint32_t index = 0; index < count; index++)
+        failed += take(it, order[index]);
+    return failed;
+}
+
+TIMED timed_find(const struct keyed *it, uint64_t operations) {
+    uint64_t random = 1, sum = 0;
+    while (operations--) {
+        uint32_t found;
+        if (find(it, 2 * below(&random, it->members), &found) == IC_OK)
+            sum += it->keys[found];
+    }
+    return sum;
+}
+
+TIMED timed_lower_bound(const struct keyed *it, uint64_t operations) {
+    uint64_t random = 1, sum = 0;
+    while (operations--) {
+        uint32_t found;
+        uint64_t key = 2 * below(&random, it->members) + 1;
+        if (ic_tree_lower_bound(it->links, it->members, it->keys, it->members, &it->tree, key, &found) == IC_OK)
+            sum += it->keys[found];
+    }
+    return sum;
+}
+
+TIMED timed_turn(struct keyed *it, uint64_t operations) {
+    uint64_t random = 1, failed = 0;
+    while (operations--) {
+        uint32_t found;
+        if (find(it, 2 * below(&random, it->members), &found) == IC_OK) {
+            failed += take(it, found);
+            failed += insert(it, found);
+        }
+    }
+    return failed;
+}
+
+TIMED timed_queue(struct keyed *it, uint64_t operations) {
+    uint64_t failed = 0;
+    while (operations--) {
+        uint32_t place = 0;
+        failed += first(it, &place);
+        failed += take(it, place);
+        it->keys[place] += 2 * (uint64_t)it->members;
+        failed += insert(it, place);
+    }
+    return failed;
+}
+
+TIMED timed_tree_step(const struct keyed *it, uint64_t operations) {
+    uint32_t at = IC_NONE;
+    first(it, &at);
+    while (operations--)
+        if (at == IC_NONE)
+            first(it, &at);
+        else if (next(it, at, &at) != IC_OK)
+            at = IC_NONE;
+    return at != IC_NONE ? it->keys[at] : 0;
+}
+
+TIMED timed_tree_iter(const struct keyed *it, uint64_t rounds) {
+    uint64_t sum = 0;
+    while (rounds--) {
+        uint32_t at, status = first(it, &at);
+        for (; status == IC_OK; status = next(it, at, &at))
+            sum += it->keys[at];
+    }
+    return sum;
+}
+
+/* An empty tree over a table of unlinked places. */
+static void reset(struct keyed *it) {
+    memset(it->links, 0, it->members * sizeof *it->links);
+    it->tree.root = 0;
+}
+
+static void fill(struct keyed *it, const uint32_t *order) {
+    reset(it);
+    for (uint32_t index = 0; index < it->members; index++)
+        insert(it, order[index]);
+}
+
+static uint64_t tree(const char *workload, const struct room *room, uint64_t *time) {
+    uint32_t members = room->members, half = members / 2;
+    uint64_t operations = room->operations, checksum = 0;
+    struct keyed it = {.links = room_for(members, sizeof *it.links), .keys = room->values, .members = members};
+    fill(&it, room->order);
+    *time = 0;
+    if (!strcmp(workload, "insert")) {
+        for (uint64_t rounds = operations / members; rounds--;) {
+            reset(&it);
+            uint64_t start = now();
+            checksum += timed_insert(&it, room->order, members);
+            *time += now() - start;
+        }
+    } else if (!strcmp(workload, "remove")) {
+        for (uint64_t rounds = operations / half; rounds--;) {
+            fill(&it, room->order);
+            uint64_t start = now();
+            checksum += timed_remove(&it, room->other, half);
+            *time += now() - start;
+        }
+    } else {
+        uint64_t start = now();
+        checksum = !strcmp(workload, "find")          ? timed_find(&it, operations)
+                   : !strcmp(workload, "lower_bound") ? timed_lower_bound(&it, operations)
+                   : !strcmp(workload, "turn")        ? timed_turn(&it, operations)
+                   : !strcmp(workload, "queue")       ? timed_queue(&it, operations)
+                   : !strcmp(workload, "tree_step")   ? timed_tree_step(&it, operations)
+                                                      : timed_tree_iter(&it, operations / members);
+        *time = now() - start;
+    }
+    uint64_t hash = 0;
+    uint32_t at, status = first(&it, &at);
+    for (; status == IC_OK; status = next(&it, at, &at))
+        hash = hash * 31 + it.keys[at];
+    return hash + checksum;
+}
+
 int main(int count, char **words) {
     if (count != 4)
         return 2;
@@ -184,12 +343,18 @@ int main(int count, char **words) {
     uint64_t state = 1, time;
     uint32_t *values = shuffled(&state, room.members);
     room.order = shuffled(&state, room.members);
+    room.other = shuffled(&state, room.members);
     room.values = room_for(room.members, sizeof *room.values);
     for (uint32_t index = 0; index < room.members; index++)
         room.values[index] = 2 * (uint64_t)values[index];
+    static const char *const of_lists[] = {"pair", "touch", "splice", "step", "iter"};
+    int is_doubly = 0;
+    for (size_t index = 0; index < sizeof of_lists / sizeof *of_lists; index++)
+        is_doubly |= !strcmp(words[1], of_lists[index]);
     uint64_t checksum = !strcmp(words[1], "singly") ? singly(&room, &time)
                         : !strcmp(words[1], "xor")  ? xor_list(&room, &time)
-                                                    : doubly(words[1], &room, &time);
+                        : is_doubly                 ? doubly(words[1], &room, &time)
+                                                    : tree(words[1], &room, &time);
     printf("%" PRIu64 " %" PRIu64 "\n", time, checksum);
     return 0;
 }

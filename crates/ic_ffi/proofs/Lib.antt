@@ -5,3 +5,6 @@ pub mod Views
 pub mod Doubly
 pub mod Singly
 pub mod Xor
+pub mod Seen
+pub mod Trees
+pub mod Keys

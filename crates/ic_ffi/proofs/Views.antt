@@ -1,10 +1,12 @@
 -- What holds of a view holds of the words that were lent.
 use Rattle.std.proofs.Common.{◌≡◌, ℕ, Bool, List, [], refl, ap}
+use Rattle.std.specs.declared.cmp.Ordering.{Ordering}
 use Rattle.ic_unsafe_ref.specs.declared.place.Place.{Place}
 use Rattle.ic_link_ops.specs.Sequences.{Cut}
 use Rattle.ic_link_ops.specs.Tables.{Table, KeepsBeside, IsUnlinked}
 use Rattle.ic_link_ops.specs.PlainTables.{entry_at, table_of}
-use Rattle.ic_link_ops.specs.Edits.{Inserts, Replaces}
+use Rattle.ic_link_ops.specs.Edits.{Inserts, Removes, Replaces}
+use Rattle.ic_rbtree.specs.Ordered.{InsertsInOrder}
 use Rattle.ic_ffi.specs.declared.table.RawTable.{RawTable}
 use Rattle.ic_ffi.specs.Answers.{IsAccepted}
 use Rattle.ic_ffi.specs.Words.{HasNumber}
@@ -37,6 +39,24 @@ module _ {W : Type 0} (unlinked : W) where
         record { shows = kept _ _ _ _ i.done.shows (λ q. refl); frame = frame_back a b i.done.frame } in
         let is : h' ≡ h = k i.accepted in
         record { accepted = i.accepted; done = rw (← e, f, is) back }
+
+    pub ordered_back : (at : Place → Ordering) (p : Place) (a b : RawTable W) {es fs : List W} {h h' : H} {s : List Place} {status : ℕ} → raw_entries a ≡ es → fs ≡ raw_entries b
+        → (status ≡ 0 → h' ≡ h) → IsAccepted status (InsertsInOrder Shows at (raw_table unlinked a) (raw_table unlinked b) h s p)
+        → IsAccepted status (InsertsInOrder Shows at (table_of unlinked es) (table_of unlinked fs) h' s p)
+    ordered_back at p a b {es} {fs} {h} {h'} {s} {status} e f k i =
+        let put = inserted_back a b {h' = h'} e f k (record { accepted = i.accepted; done = i.done.inserted }) in
+        record { accepted = i.accepted; done = record { gap = i.done.gap; same = i.done.same; border = i.done.border; inserted = put.done } }
+
+    pub removed_back : (is_linked : W → Bool) (out : Place) (a b : RawTable W) {es fs : List W} {h h' : H} {cut : Cut} {status : ℕ} → raw_entries a ≡ es
+        → fs ≡ raw_entries b → (status ≡ 0 → h' ≡ h)
+        → IsAccepted status (Removes Shows (raw_table unlinked a) (raw_table unlinked b) h cut × IsUnlinked is_linked (raw_table unlinked b) out)
+        → IsAccepted status (Removes Shows (table_of unlinked es) (table_of unlinked fs) h' cut × IsUnlinked is_linked (table_of unlinked fs) out)
+    removed_back is_linked out a b {es} {fs} {h} {h'} {cut} e f k r =
+        let back : Removes Shows (table_of unlinked (raw_entries a)) (table_of unlinked (raw_entries b)) h cut =
+        record { shows = kept _ _ _ _ r.done.0.shows (λ q. refl); frame = frame_back a b r.done.0.frame } in
+        let off : IsUnlinked is_linked (table_of unlinked (raw_entries b)) out = r.done.1 in
+        let is : h' ≡ h = k r.accepted in
+        record { accepted = r.accepted; done = (rw (← e, f, is) back, rw f off) }
 
     pub replaced_back : (is_linked : W → Bool) (out : Place) (a b : RawTable W) {es fs : List W} {h h' : H} {cut : Cut} {p : Place} {status : ℕ} → raw_entries a ≡ es
         → fs ≡ raw_entries b → (status ≡ 0 → h' ≡ h)

@@ -6,3 +6,6 @@ pub mod Calls
 pub mod Doubly
 pub mod Singly
 pub mod Xor
+pub mod Tree
+pub mod Seen
+pub mod Keys

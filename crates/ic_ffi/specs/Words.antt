@@ -1,9 +1,12 @@
 -- What a caller's words say.
-use Rattle.std.specs.Prelude.{◌≡◌, ℕ, ◌+◌, ◌*◌, ◌/◌, ◌%◌, ◌<◌, Bool, nat_eq, Option, Some}
+use Rattle.std.specs.Prelude.{◌≡◌, ℕ, ◌+◌, ◌*◌, ◌/◌, ◌%◌, ◌<◌, Bool, cond, nat_eq, Option, Some}
 use Rattle.ic_unsafe_ref.specs.declared.place.Place.{Place}
 use Rattle.ic_unsafe_ref.specs.Places.{index_of, place_at}
+use Rattle.ic_link_ops.specs.declared.color.Color.{Color}
+use Rattle.ic_link_ops.specs.declared.color.Color.TheVariants.{Red, Black}
 use Rattle.ic_ffi.specs.declared.words.RawOne.{RawOne}
 use Rattle.ic_ffi.specs.declared.words.RawTwo.{RawTwo}
+use Rattle.ic_ffi.specs.declared.words.RawThree.{RawThree}
 
 -- the number that a word keeps: even and below 2 ^ 34, whatever the word's bits are
 abbrev pub number_in : ℕ → ℕ
@@ -47,3 +50,13 @@ next_of_two w = number_in w.next
 
 abbrev pub prev_of_two : RawTwo → Option Place
 prev_of_two w = place_in w.prev
+
+-- three words: those of an unlinked place, whether a place is linked, and in which color
+abbrev pub no_tree_words : RawThree
+no_tree_words = record { left = 0; right = 0; parent = 0 }
+
+abbrev pub is_linked_three : RawThree → Bool
+is_linked_three w = is_marked w.left
+
+abbrev pub color_of : RawThree → Color
+color_of w = cond (is_marked w.parent) Black Red

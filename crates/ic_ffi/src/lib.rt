@@ -1,9 +1,13 @@
-//! Lists for C, and for whoever keeps a table and its lists in words of his own.
+//! Lists and red-black trees for C, and for whoever keeps a table and what stands in it in words of his own.
 //!
 //! ```text
 //! struct ic_link2 links[64] = {0};  // 64 places, none of them linked
 //! struct ic_list list = {0};        // no members
 //! ic_list_push_back(links, 64, &list, 7);
+//!
+//! struct ic_link3 nodes[64] = {0};
+//! struct ic_tree tree = {0};
+//! ic_tree_insert(nodes, 64, keys, 64, &tree, 7);  // in the order of keys[0 .. 63]
 //! ```
 //!
 //! No call requires anything of its arguments. Each tests what it reads and writes by, returns a status, and leaves all as it was
@@ -13,11 +17,16 @@
 mod gap;
 mod list;
 mod list_calls;
+mod nodes;
 mod number;
+mod search;
+mod search_calls;
 mod stack;
 mod stack_calls;
 mod status;
 mod table;
+mod tree;
+mod tree_calls;
 mod words;
 mod xor_calls;
 mod xor_list;
@@ -25,4 +34,4 @@ mod xor_list;
 pub use gap::{Gap, Side};
 pub use status::{BROKEN, LINKED, NONE, NOT_LINKED, NULL, OK, OUT_OF_RANGE};
 pub use table::RawTable;
-pub use words::{RawEnds, RawFront, RawOne, RawTwo};
+pub use words::{RawEnds, RawFront, RawOne, RawRoot, RawThree, RawTwo};

@@ -23,7 +23,7 @@ use ic_unsafe_ref::Place;
 /// It has the link traits that its words can keep, as `LentTable` of `ic_link_ops` has over links. Links are a generic type, which does
 /// not cross to C.
 pub struct RawTable<'a, W> {
-    entries: &'a mut [W],
+    pub(crate) entries: &'a mut [W],
 }
 
 impl<W> Drop for RawTable<'_, W> {
@@ -63,7 +63,7 @@ impl<W: Words> RawTable<'_, W> {
 
     // The words of `place`.
     #[inline]
-    fn at(&self, place: Place) -> &W
+    pub(crate) fn at(&self, place: Place) -> &W
         requires covered { IsCovered (raw_table W.unlinked self.now) place }
         ensures { result.now ≡ (raw_table W.unlinked self.now).entry place }
     {

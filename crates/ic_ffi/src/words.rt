@@ -1,15 +1,19 @@
-//! The words that cross to C. Every pattern of bits is a value, and zeroed memory is a table of unlinked places or an empty list.
+//! The words that cross to C. Every pattern of bits is a value, and zeroed memory is a table of unlinked places, or an empty
+//! list or tree.
 //!
 //! ```text
 //! struct ic_link1 { uint64_t next; };
 //! struct ic_link2 { uint64_t next, prev; };
+//! struct ic_link3 { uint64_t left, right, parent; };
 //! struct ic_stack { uint64_t head; };
 //! struct ic_list  { uint64_t head, tail; };  /* and struct ic_xor_list */
+//! struct ic_tree  { uint64_t root; };
 //! ```
 
 ghost use Rattle.std.specs.Prelude.{◌≡◌, ◌≢◌};
 ghost use Rattle.ic_ffi.specs.Doubly.{ends_of};
 ghost use Rattle.ic_ffi.specs.Singly.{front_of};
+ghost use Rattle.ic_ffi.specs.Tree.{root_in};
 
 use crate::number::place_in;
 use crate::status::OK;
@@ -34,6 +38,17 @@ pub struct RawTwo {
     prev: u64,
 }
 
+/// What a table of trees keeps at a place: the numbers of its children and of its parent.
+///
+/// The lowest bit of the left child's word says whether the place is linked, and that of the parent's whether it is black.
+#[repr(C)]
+#[derive(Clone, Copy)]
+pub struct RawThree {
+    pub(crate) left: u64,
+    pub(crate) right: u64,
+    pub(crate) parent: u64,
+}
+
 /// A singly linked list: the number of its first place.
 #[repr(C)]
 #[derive(Clone, Copy)]
@@ -47,6 +62,13 @@ pub struct RawFront {
 pub struct RawEnds {
     pub(crate) head: u64,
     pub(crate) tail: u64,
+}
+
+/// A red-black tree: the number of its root.
+#[repr(C)]
+#[derive(Clone, Copy)]
+pub struct RawRoot {
+    pub(crate) root: u64,
 }
 
 impl Words for RawOne {
@@ -169,6 +191,41 @@ impl PrevPlace for RawTwo {
     ghost keeps_prev = { λ old new h. h };
 }
 
+impl Words for RawThree {
+    ghost use Rattle.ic_ffi.specs.Words.{no_tree_words, is_linked_three};
+    ghost use Rattle.std.specs.Prelude.{refl};
+
+    ghost unlinked = { no_tree_words };
+
+    ghost is_linked = { is_linked_three };
+
+    #[inline]
+    fn unlinked() -> Self {
+        RawThree {
+            left: 0,
+            right: 0,
+            parent: 0,
+        }
+    }
+
+    #[inline]
+    fn is_linked(&self) -> bool {
+        self.left % 2 == 1
+    }
+
+    #[inline]
+    fn link(&mut self) {
+        self.left = 1;
+    }
+
+    #[inline]
+    fn unlink(&mut self) {
+        self.left = 0;
+    }
+
+    ghost starts_unlinked = { refl };
+}
+
 impl RawFront {
     // Keeps this front, if the status is that of a call that was accepted.
     #[inline]
@@ -197,5 +254,20 @@ impl RawEnds {
         }
         self.head = Place::to_word(first);
         self.tail = Place::to_word(last);
+    }
+}
+
+impl RawRoot {
+    // Keeps this root, if the status is that of a call that was accepted.
+    #[inline]
+    #[tactic(auto, using(crate::proofs::Entries::place_kept))]
+    pub(crate) fn keep(&mut self, status: u32, root: Option<Place>)
+        ensures kept { status ≡ 0 → root_in self.new ≡ root }
+        ensures refused { status ≢ 0 → self.new ≡ self.old }
+    {
+        if status != OK {
+            return;
+        }
+        self.root = Place::to_word(root);
     }
 }

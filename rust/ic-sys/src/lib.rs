@@ -1,7 +1,8 @@
 //! The static library `libic_ffi.a` as `include/ic.h` declares it. The header says what each call does; the crate `ic` has safe types.
 //!
-//! A call requires that `table` points to `places` links, that each other pointer points to one value of its type, that no two of these
-//! overlap, and that nothing else uses them during the call. It requires nothing of what they hold, nor of the places.
+//! A call requires that `table` points to `places` links, `keys` to `key_count` keys, and each other pointer to one value of its type, that
+//! no two of these overlap, and that nothing else uses them during the call, but that others may read what is `*const`. It requires nothing
+//! of what they hold, nor of the places.
 
 #![no_std]
 #![allow(non_camel_case_types)]
@@ -11,15 +12,15 @@ pub const IC_NONE: u32 = u32::MAX;
 
 /// The edit is made.
 pub const IC_OK: u32 = 0;
-/// A place is not below `places`.
+/// A place is not below `places`, or there are fewer keys than places.
 pub const IC_OUT_OF_RANGE: u32 = 1;
-/// The place to insert is in a list of this table.
+/// The place to insert is in a list or tree of this table.
 pub const IC_LINKED: u32 = 2;
-/// The place to edit at is in no list of this table.
+/// The member that is named is in no list or tree of this table.
 pub const IC_NOT_LINKED: u32 = 3;
 /// There is no member where the call needs one.
 pub const IC_NULL: u32 = 4;
-/// Table, list and member do not belong together.
+/// Table, list or tree, and member do not belong together.
 pub const IC_BROKEN: u32 = 5;
 
 /// A link of a singly linked list or an XOR list.
@@ -35,6 +36,15 @@ pub struct ic_link1 {
 pub struct ic_link2 {
     pub next: u64,
     pub prev: u64,
+}
+
+/// A link of a tree: both children, and the parent.
+#[repr(C)]
+#[derive(Clone, Copy, Debug, Default, PartialEq, Eq)]
+pub struct ic_link3 {
+    pub left: u64,
+    pub right: u64,
+    pub parent: u64,
 }
 
 /// A singly linked list.
@@ -58,6 +68,13 @@ pub struct ic_list {
 pub struct ic_xor_list {
     pub head: u64,
     pub tail: u64,
+}
+
+/// A red-black tree.
+#[repr(C)]
+#[derive(Clone, Copy, Debug, Default, PartialEq, Eq)]
+pub struct ic_tree {
+    pub root: u64,
 }
 
 /// The number of a place in a word, or 0 for `IC_NONE`.
@@ -179,4 +196,45 @@ extern "C" {
         rest: *mut ic_xor_list,
     ) -> u32;
     pub fn ic_xor_reverse(list: *mut ic_xor_list) -> u32;
+    pub fn ic_tree_insert_left(table: *mut ic_link3, places: usize, tree: *mut ic_tree, at: u32, place: u32) -> u32;
+    pub fn ic_tree_insert_right(table: *mut ic_link3, places: usize, tree: *mut ic_tree, at: u32, place: u32) -> u32;
+    pub fn ic_tree_remove(table: *mut ic_link3, places: usize, tree: *mut ic_tree, at: u32) -> u32;
+    pub fn ic_tree_replace(table: *mut ic_link3, places: usize, tree: *mut ic_tree, at: u32, place: u32) -> u32;
+    pub fn ic_tree_insert(
+        table: *mut ic_link3,
+        places: usize,
+        keys: *const u64,
+        key_count: usize,
+        tree: *mut ic_tree,
+        place: u32,
+    ) -> u32;
+    pub fn ic_tree_find(
+        table: *const ic_link3,
+        places: usize,
+        keys: *const u64,
+        key_count: usize,
+        tree: *const ic_tree,
+        key: u64,
+        found: *mut u32,
+    ) -> u32;
+    pub fn ic_tree_lower_bound(
+        table: *const ic_link3,
+        places: usize,
+        keys: *const u64,
+        key_count: usize,
+        tree: *const ic_tree,
+        key: u64,
+        found: *mut u32,
+    ) -> u32;
+    pub fn ic_tree_upper_bound(
+        table: *const ic_link3,
+        places: usize,
+        keys: *const u64,
+        key_count: usize,
+        tree: *const ic_tree,
+        key: u64,
+        found: *mut u32,
+    ) -> u32;
+    pub fn ic_tree_next(table: *const ic_link3, places: usize, tree: *const ic_tree, at: u32, found: *mut u32) -> u32;
+    pub fn ic_tree_prev(table: *const ic_link3, places: usize, tree: *const ic_tree, at: u32, found: *mut u32) -> u32;
 }

@@ -1,7 +1,7 @@
-//! What the kinds of lists share. A link owns a place of its thread's table, which knows the link at each linked place.
+//! What the kinds of collections share. A link owns a place of its thread's table, which knows the link at each linked place.
 //!
-//! The module of a kind has a `Position`, which is `Copy` and has `NULL` and a member `at`, and functions on its list and table:
-//! `first`, `last`, `next`, `insert_after`, `splice_after` and `split_after`.
+//! The module of a kind has a `Position`, which is `Copy` and has `NULL` and a member `at`, and functions on its list or tree and table:
+//! `first`, `last`, `next`, `insert_after` and `pop_front`.
 
 use std::ptr::NonNull;
 
@@ -210,18 +210,6 @@ macro_rules! cursors {
                 self.list.link(pointer, |raw, links, place| insert_after(raw, links, position, place));
             }
 
-            pub fn splice_after(&mut self, mut list: $List<A>) {
-                table(|links| splice_after(&mut self.list.raw, links, self.position, &mut list.raw)).unwrap();
-            }
-
-            pub fn split_after(&mut self) -> $List<A>
-            where
-                A: Clone,
-            {
-                let raw = table(|links| split_after(&mut self.list.raw, links, self.position)).unwrap();
-                $List { raw, adapter: self.list.adapter.clone() }
-            }
-
             pub fn into_ref(self) -> Option<&'a Value<A>> {
                 self.list.value(self.position.at).map(|value| unsafe { &*value })
             }
@@ -257,9 +245,9 @@ macro_rules! cursors {
     };
 }
 
-/// The list of a kind, and its iterators.
-macro_rules! list {
-    ($List:ident, $Ops:ident, $RawList:ty, $RawLink:ty) => {
+/// The collection of a kind, which is a list or a tree, and its iterators. It is printed as a `debug_list` or a `debug_set`.
+macro_rules! collection {
+    ($List:ident, $Ops:ident, $RawList:ty, $RawLink:ty, $debug:ident) => {
         pub struct $List<A: Adapter<LinkOps: $Ops>> {
             raw: $RawList,
             adapter: A,
@@ -315,23 +303,30 @@ macro_rules! list {
             }
 
             pub fn front(&self) -> Cursor<'_, A> {
-                Cursor { position: first(&self.raw), list: self }
+                Cursor { position: table(|links| first(&self.raw, links)), list: self }
             }
 
             pub fn front_mut(&mut self) -> CursorMut<'_, A> {
-                CursorMut { position: first(&self.raw), list: self }
+                CursorMut { position: table(|links| first(&self.raw, links)), list: self }
             }
 
             pub fn front_owning(self) -> CursorOwning<A> {
-                CursorOwning { position: first(&self.raw), list: self }
+                CursorOwning { position: table(|links| first(&self.raw, links)), list: self }
             }
 
             pub fn iter(&self) -> Iter<'_, A> {
-                Iter { front: first(&self.raw), back: table(|links| last(&self.raw, links)), list: self }
+                let (front, back) = table(|links| (first(&self.raw, links), last(&self.raw, links)));
+                Iter { front, back, list: self }
+            }
+
+            /// The pointer to the first member, which is taken off.
+            fn first_off(&mut self) -> Option<Pointer<A>> {
+                let place = table(|links| pop_front(&mut self.raw, links)).unwrap();
+                self.pointer(place)
             }
 
             pub fn clear(&mut self) {
-                while self.pop_front().is_some() {}
+                while self.first_off().is_some() {}
             }
 
             pub fn fast_clear(&mut self) {
@@ -343,15 +338,6 @@ macro_rules! list {
                 A: Clone,
             {
                 $List { raw: self.raw.take(), adapter: self.adapter.clone() }
-            }
-
-            pub fn push_front(&mut self, pointer: Pointer<A>) {
-                self.link(pointer, |raw, links, place| raw.push_front(links, place));
-            }
-
-            pub fn pop_front(&mut self) -> Option<Pointer<A>> {
-                let place = table(|links| self.raw.pop_front(links)).unwrap();
-                self.pointer(place)
             }
         }
 
@@ -372,7 +358,7 @@ macro_rules! list {
             Value<A>: fmt::Debug,
         {
             fn fmt(&self, f: &mut fmt::Formatter<'_>) -> fmt::Result {
-                f.debug_list().entries(self.iter()).finish()
+                f.$debug().entries(self.iter()).finish()
             }
         }
 
@@ -428,14 +414,50 @@ macro_rules! list {
             type Item = Pointer<A>;
 
             fn next(&mut self) -> Option<Pointer<A>> {
-                self.list.pop_front()
+                self.list.first_off()
             }
         }
     };
 }
 
-/// What a kind has whose cursors go both ways. Its module also has `prev`, `insert_before`, `remove`, `replace`, `splice_before` and
-/// `split_before`, which hand out where the cursor is then.
+/// What only lists have. Their modules also have `splice_after` and `split_after`.
+macro_rules! list {
+    ($List:ident, $Ops:ident, $RawList:ty, $RawLink:ty) => {
+        fn pop_front(list: &mut $RawList, links: &mut [$RawLink]) -> Result<Option<u32>, Error> {
+            list.pop_front(links)
+        }
+
+        cursors!($List, $Ops);
+        collection!($List, $Ops, $RawList, $RawLink, debug_list);
+
+        impl<A: Adapter<LinkOps: $Ops>> $List<A> {
+            pub fn push_front(&mut self, pointer: Pointer<A>) {
+                self.link(pointer, |raw, links, place| raw.push_front(links, place));
+            }
+
+            pub fn pop_front(&mut self) -> Option<Pointer<A>> {
+                self.first_off()
+            }
+        }
+
+        impl<A: Adapter<LinkOps: $Ops>> CursorMut<'_, A> {
+            pub fn splice_after(&mut self, mut list: $List<A>) {
+                table(|links| splice_after(&mut self.list.raw, links, self.position, &mut list.raw)).unwrap();
+            }
+
+            pub fn split_after(&mut self) -> $List<A>
+            where
+                A: Clone,
+            {
+                let raw = table(|links| split_after(&mut self.list.raw, links, self.position)).unwrap();
+                $List { raw, adapter: self.list.adapter.clone() }
+            }
+        }
+    };
+}
+
+/// What a kind has whose cursors go both ways. Its module also has `prev` and `pop_back`, and `insert_before`, `remove` and `replace`,
+/// which hand out where the cursor is then.
 macro_rules! two_way {
     ($List:ident, $Ops:ident) => {
         impl<'a, A: Adapter<LinkOps: $Ops>> Cursor<'a, A> {
@@ -481,20 +503,6 @@ macro_rules! two_way {
                 let position = self.position;
                 self.position = self.list.link(pointer, |raw, links, place| insert_before(raw, links, position, place));
             }
-
-            pub fn splice_before(&mut self, mut list: $List<A>) {
-                let position = self.position;
-                self.position = table(|links| splice_before(&mut self.list.raw, links, position, &mut list.raw)).unwrap();
-            }
-
-            pub fn split_before(&mut self) -> $List<A>
-            where
-                A: Clone,
-            {
-                let (raw, position) = table(|links| split_before(&mut self.list.raw, links, self.position)).unwrap();
-                self.position = position;
-                $List { raw, adapter: self.list.adapter.clone() }
-            }
         }
 
         impl<A: Adapter<LinkOps: $Ops>> $List<A> {
@@ -510,12 +518,9 @@ macro_rules! two_way {
                 CursorOwning { position: table(|links| last(&self.raw, links)), list: self }
             }
 
-            pub fn push_back(&mut self, pointer: Pointer<A>) {
-                self.link(pointer, |raw, links, place| raw.push_back(links, place));
-            }
-
-            pub fn pop_back(&mut self) -> Option<Pointer<A>> {
-                let place = table(|links| self.raw.pop_back(links)).unwrap();
+            /// The pointer to the last member, which is taken off.
+            fn last_off(&mut self) -> Option<Pointer<A>> {
+                let place = table(|links| pop_back(&mut self.raw, links)).unwrap();
                 self.pointer(place)
             }
         }
@@ -534,7 +539,45 @@ macro_rules! two_way {
 
         impl<A: Adapter<LinkOps: $Ops>> DoubleEndedIterator for IntoIter<A> {
             fn next_back(&mut self) -> Option<Pointer<A>> {
-                self.list.pop_back()
+                self.list.last_off()
+            }
+        }
+    };
+}
+
+/// What only lists have whose cursors go both ways. Their modules also have `splice_before` and `split_before`.
+macro_rules! two_way_list {
+    ($List:ident, $Ops:ident, $RawList:ty, $RawLink:ty) => {
+        list!($List, $Ops, $RawList, $RawLink);
+        two_way!($List, $Ops);
+
+        fn pop_back(list: &mut $RawList, links: &mut [$RawLink]) -> Result<Option<u32>, Error> {
+            list.pop_back(links)
+        }
+
+        impl<A: Adapter<LinkOps: $Ops>> $List<A> {
+            pub fn push_back(&mut self, pointer: Pointer<A>) {
+                self.link(pointer, |raw, links, place| raw.push_back(links, place));
+            }
+
+            pub fn pop_back(&mut self) -> Option<Pointer<A>> {
+                self.last_off()
+            }
+        }
+
+        impl<A: Adapter<LinkOps: $Ops>> CursorMut<'_, A> {
+            pub fn splice_before(&mut self, mut list: $List<A>) {
+                let position = self.position;
+                self.position = table(|links| splice_before(&mut self.list.raw, links, position, &mut list.raw)).unwrap();
+            }
+
+            pub fn split_before(&mut self) -> $List<A>
+            where
+                A: Clone,
+            {
+                let (raw, position) = table(|links| split_before(&mut self.list.raw, links, self.position)).unwrap();
+                self.position = position;
+                $List { raw, adapter: self.list.adapter.clone() }
             }
         }
     };

@@ -18,7 +18,7 @@ impl Position {
     const NULL: Position = Position { at: None };
 }
 
-fn first(list: &List) -> Position {
+fn first(list: &List, _: &[Link2]) -> Position {
     Position { at: list.first() }
 }
 
@@ -72,7 +72,5 @@ fn split_before(list: &mut List, links: &mut [Link2], position: Position) -> Res
 }
 
 link!(LinkedListOps, Link2);
-cursors!(LinkedList, LinkedListOps);
-list!(LinkedList, LinkedListOps, List, Link2);
-two_way!(LinkedList, LinkedListOps);
+two_way_list!(LinkedList, LinkedListOps, List, Link2);
 from_pointer!(LinkedList, LinkedListOps);

@@ -18,7 +18,7 @@ impl Position {
     const NULL: Position = Position { at: None };
 }
 
-fn first(list: &Stack) -> Position {
+fn first(list: &Stack, _: &[Link1]) -> Position {
     Position { at: list.first() }
 }
 
@@ -44,7 +44,6 @@ fn split_after(list: &mut Stack, links: &mut [Link1], position: Position) -> Res
 }
 
 link!(SinglyLinkedListOps, Link1);
-cursors!(SinglyLinkedList, SinglyLinkedListOps);
 list!(SinglyLinkedList, SinglyLinkedListOps, Stack, Link1);
 from_pointer!(SinglyLinkedList, SinglyLinkedListOps);
 

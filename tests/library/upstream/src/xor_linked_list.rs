@@ -41,7 +41,7 @@ fn position(at: Option<u32>, before: Option<u32>) -> Position {
     Position { at, before: at.and(before) }
 }
 
-fn first(list: &XorList) -> Position {
+fn first(list: &XorList, _: &[Link1]) -> Position {
     position(list.first(), None)
 }
 
@@ -104,9 +104,7 @@ fn split_before(list: &mut XorList, links: &mut [Link1], at: Position) -> Result
 }
 
 link!(XorLinkedListOps, Link1);
-cursors!(XorLinkedList, XorLinkedListOps);
-list!(XorLinkedList, XorLinkedListOps, XorList, Link1);
-two_way!(XorLinkedList, XorLinkedListOps);
+two_way_list!(XorLinkedList, XorLinkedListOps, XorList, Link1);
 
 impl<A: Adapter<LinkOps: XorLinkedListOps>> XorLinkedList<A> {
     /// The place of an object, or none of a null pointer.

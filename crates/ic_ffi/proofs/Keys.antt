@@ -1,0 +1,41 @@
+-- Members that searches find.
+use Rattle.std.proofs.Common.{◌≡◌, ℕ, ◌≤◌, Bool, true, false, cond, Option, Some, None, List, length, refl, sym, ◌∙◌, subst, arith}
+use Rattle.std.proofs.lemmas.Bool.{ltb-true}
+use Rattle.std.specs.declared.cmp.Ordering.{Ordering}
+use Rattle.ic_unsafe_ref.specs.declared.place.Place.{Place}
+use Rattle.ic_unsafe_ref.specs.Objects.{is_placed, at_indexes}
+use Rattle.ic_unsafe_ref.specs.Places.{index_of}
+use Rattle.ic_unsafe_ref.proofs.IndexLemmas.{placed_in_range}
+use Rattle.ic_link_ops.specs.declared.side.Side.TheVariants.{Left, Right}
+use Rattle.ic_link_ops.specs.Sequences.{first}
+use Rattle.ic_link_ops.specs.Tables.{Table}
+use Rattle.ic_rbtree.specs.Borders.{if_passes, equal_at}
+use Rattle.ic_ffi.specs.declared.words.RawThree.{RawThree}
+use Rattle.ic_ffi.specs.declared.search.Target.{Target}
+use Rattle.ic_ffi.specs.declared.search.Target.TheVariants.{Equal, AtLeast, AtMost}
+use Rattle.ic_ffi.specs.Gaps.{Stands}
+use Rattle.ic_ffi.specs.Keys.{IsTarget}
+use Rattle.ic_ffi.specs.Seen.{has_place}
+use Rattle.ic_ffi.specs.Tree.{Shows}
+use Rattle.ic_ffi.specs.Words.{is_linked_three}
+use Rattle.ic_ffi.proofs.Trees.{beside_stands}
+
+-- each place of the table has a key
+pub keyed : (t : Table RawThree) (keys : List ℕ) → t.extent.places ≤ length keys → (p : Place) → has_place t p ≡ true → is_placed (at_indexes keys) p ≡ true
+keyed t keys enough p has = let covered = ltb-true (index_of p) t.extent.places has in placed_in_range keys p (omega (arith, covered, enough))
+
+-- a place that passes is the one that is tested
+passed : (test : Place → Bool) (o : Option Place) (q : Place) → if_passes test o ≡ Some q → o ≡ Some q
+passed test None q e = e
+passed test (Some p) q e = pick (test p) e where
+  pick : (b : Bool) → cond b (Some p) None ≡ Some q → Some p ≡ Some q
+  pick true e = e
+  pick false e = cc
+
+-- a member that is searched is linked
+pub target_stands : {t : Table RawThree} {root : Option Place} {s : List Place} (target : Target) (at : Place → Ordering) → Shows t root s → {position : Option Place} → IsTarget target at s position
+    → Stands is_linked_three t position
+target_stands {t} {root} Equal at shown f =
+    λ q is. beside_stands Left f.gap (subst (Shows t root) (sym f.same) shown) refl q (passed (equal_at at) (first f.gap.back) q (sym f.answer ∙ is))
+target_stands {t} {root} AtLeast at shown b = beside_stands Left b.gap (subst (Shows t root) (sym b.same) shown) b.before
+target_stands {t} {root} AtMost at shown b = beside_stands Right b.gap (subst (Shows t root) (sym b.same) shown) b.after

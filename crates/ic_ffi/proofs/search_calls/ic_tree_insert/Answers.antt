@@ -1,0 +1,13 @@
+use Rattle.std.proofs.Common.{◌≤◌, length, ◌∙◌, sym, subst, rules}
+use Rattle.ic_ffi.specs.Keys.{against, key_of}
+use Rattle.ic_ffi.specs.Words.{no_tree_words}
+use Rattle.ic_ffi.proofs.Views.{free_viewed, viewed, ordered_back}
+use Rattle.ic_ffi.proofs.Trees.{kept}
+use Rattle.ic_ffi.proofs.search_calls.ic_tree_insert.Goals as goal
+
+pub returns-clause-inserted : goal.returns-clause-inserted
+returns-clause-inserted c s p is enough shown free =
+    let view = c.new-links.ensures.1 in
+    ordered_back no_tree_words kept (against (key_of c.args.keys.now p) c.args.keys.now) p c.new-links.result c.insert-status.new.links view (search rules) (search rules)
+    (c.insert-status.ensures.inserted s p (rw c.tree_of-edited.ensures (viewed no_tree_words kept c.new-links.result view shown))
+    (c.place_of.ensures ∙ is) (subst (λ es. length es ≤ length c.args.keys.now) (sym view) enough) (free_viewed no_tree_words c.new-links.result view free))

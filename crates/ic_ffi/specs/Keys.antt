@@ -1,0 +1,37 @@
+-- Searches of a tree by keys that stand in an array, one for each place.
+use Rattle.std.specs.Prelude.{ℕ, Option, List, slice_index}
+use Rattle.std.specs.Ordering.{nat_cmp}
+use Rattle.std.specs.declared.cmp.Ordering.{Ordering}
+use Rattle.ic_unsafe_ref.specs.declared.place.Place.{Place}
+use Rattle.ic_unsafe_ref.specs.Objects.{at_indexes}
+use Rattle.ic_unsafe_ref.specs.Places.{index_of}
+use Rattle.ic_rbtree.specs.Borders.{Finds, IsLowerBorder, IsUpperBorder}
+use Rattle.ic_rbtree.specs.Comparing.{compared}
+use Rattle.ic_rbtree.specs.Ordered as ordered
+use Rattle.ic_rbtree.specs.declared.keys.key_adapter.Bound.TheVariants.{Included}
+use Rattle.ic_ffi.specs.declared.words.RawThree.{RawThree}
+use Rattle.ic_ffi.specs.declared.words.RawRoot.{RawRoot}
+use Rattle.ic_ffi.specs.declared.search.Target.{Target}
+use Rattle.ic_ffi.specs.declared.search.Target.TheVariants.{Equal, AtLeast, AtMost}
+use Rattle.ic_ffi.specs.Answers.{IsAccepted}
+use Rattle.ic_ffi.specs.Tree.{Shows, ShowsTree, FreeIn, root_in, table_of}
+
+-- how a key stands to that of each place: `Less` where it is less
+abbrev pub against : ℕ → List ℕ → Place → Ordering
+against key keys = compared (nat_cmp key) (at_indexes keys)
+
+-- the key of a place
+abbrev pub key_of : List ℕ → Place → ℕ
+key_of keys p = slice_index keys (index_of p)
+
+-- THE MEMBER THAT IS SEARCHED: the first with this key; the first with a key of at least that; the last with a key of at most that
+abbrev pub IsTarget : Target → (Place → Ordering) → List Place → Option Place → Type 0
+IsTarget Equal at s position = Finds at s position
+IsTarget AtLeast at s position = IsLowerBorder (Included at) s position
+IsTarget AtMost at s position = IsUpperBorder (Included at) s position
+
+-- p, which is free, is inserted behind all members with no greater key than its own
+abbrev pub InsertedInOrder : (keys : List ℕ) (old new : List RawThree) (tree tree' : RawRoot) (status : ℕ) → List Place → Place → Type 0
+InsertedInOrder keys old new tree tree' status s p =
+    ShowsTree old tree s → FreeIn old p
+    → IsAccepted status (ordered.InsertsInOrder Shows (against (key_of keys p) keys) (table_of old) (table_of new) (root_in tree') s p)

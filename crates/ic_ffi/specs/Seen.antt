@@ -1,0 +1,37 @@
+-- What the surgery of a tree sees of a caller's words: every place that the table has, and no other.
+use Rattle.std.specs.Prelude.{◌≡◌, ℕ, Bool, cond, nat_lt, Option, Some, None}
+use Rattle.ic_unsafe_ref.specs.declared.place.Place.{Place}
+use Rattle.ic_unsafe_ref.specs.Places.{index_of}
+use Rattle.ic_link_ops.specs.Tables.{Table, KeepsLinked}
+use Rattle.ic_link_ops.specs.RedBlackTree.{Node}
+use Rattle.ic_ffi.specs.declared.words.RawThree.{RawThree}
+use Rattle.ic_ffi.specs.declared.nodes.Seen.{Seen}
+use Rattle.ic_ffi.specs.Words.{place_in, is_linked_three, color_of}
+
+-- the place that is named, or the one that names it, if the table has no such place
+abbrev pub named_within : ℕ → Place → Option Place → Option Place
+named_within places own None = None
+named_within places own (Some q) = Some (cond (nat_lt (index_of q) places) q own)
+
+-- what a place says: it is linked if the table has it
+abbrev pub seen_node : Seen → Node
+seen_node e = record {
+  linked = nat_lt (index_of e.place) e.places;
+  left = named_within e.places e.place (place_in e.words.left);
+  right = named_within e.places e.place (place_in e.words.right);
+  parent = named_within e.places e.place (place_in e.words.parent);
+  color = color_of e.words;
+}
+
+-- the table as it is seen
+abbrev pub seen : Table RawThree → Table Seen
+seen t = record { extent = t.extent; entry = λ p. record { words = t.entry p; place = p; places = t.extent.places } }
+
+-- whether a table has the place
+abbrev pub has_place : Table RawThree → Place → Bool
+has_place t p = nat_lt (index_of p) t.extent.places
+
+-- what no surgery changes: which places have the mark of a linked one, and the table's extent
+pub record KeepsMarks (old new : Table RawThree) : Type 0 where
+  pub extent : new.extent ≡ old.extent
+  pub marks : KeepsLinked is_linked_three old new

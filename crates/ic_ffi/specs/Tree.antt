@@ -1,0 +1,59 @@
+-- Red-black trees over a caller's words.
+use Rattle.std.specs.Prelude.{ℕ, List, Option}
+use Rattle.ic_unsafe_ref.specs.declared.place.Place.{Place}
+use Rattle.ic_link_ops.specs.declared.side.Side.{Side}
+use Rattle.ic_link_ops.specs.Sequences.{Cut}
+use Rattle.ic_link_ops.specs.Tables.{Table, IsLinked}
+use Rattle.ic_link_ops.specs.RedBlackTree as trees
+use Rattle.ic_link_ops.specs.RedBlackTree.{Node}
+use Rattle.ic_link_ops.specs.PlainTables as plain
+use Rattle.ic_rbtree.specs.Insertion as holes
+use Rattle.ic_ffi.specs.declared.words.RawThree.{RawThree}
+use Rattle.ic_ffi.specs.declared.words.RawRoot.{RawRoot}
+use Rattle.ic_ffi.specs.declared.table.RawTable.{RawTable}
+use Rattle.ic_ffi.specs.Words.{place_in, HasNumber, no_tree_words, is_linked_three, color_of}
+use Rattle.ic_ffi.specs.Tables.{raw_table}
+use Rattle.ic_ffi.specs.Calls as calls
+
+-- the words of a table, and those that are lent, as clauses see them
+abbrev pub table_of : List RawThree → Table RawThree
+table_of = plain.table_of no_tree_words
+
+abbrev pub lent_table : RawTable RawThree → Table RawThree
+lent_table = raw_table no_tree_words
+
+-- what an entry says of a tree
+abbrev pub node : RawThree → Node
+node w = record { linked = is_linked_three w; left = place_in w.left; right = place_in w.right; parent = place_in w.parent; color = color_of w }
+
+-- THE TABLE SHOWS s for the tree with this root
+abbrev pub Shows : Table RawThree → Option Place → List Place → Type 0
+Shows = trees.Shows node
+
+-- the root of a tree by its word
+abbrev pub root_in : RawRoot → Option Place
+root_in t = place_in t.root
+
+-- THE HOLE on a side of a member, where it has no child: the gap before it on the left, behind it on the right. At none the tree is empty
+abbrev pub IsHole : Side → Table RawThree → Option Place → Cut → Type 0
+IsHole side t at cut = holes.IsHole node t at side cut
+
+-- the number is that of a linked place
+abbrev pub NamesLinked : List RawThree → ℕ → Type 0
+NamesLinked words number = (q : Place) × IsLinked is_linked_three (table_of words) q × HasNumber q number
+
+-- what a call does to such words
+abbrev pub ShowsTree : List RawThree → RawRoot → List Place → Type 0
+ShowsTree = calls.ShowsList Shows is_linked_three no_tree_words root_in
+
+abbrev pub FreeIn : List RawThree → Place → Type 0
+FreeIn = calls.FreeIn Shows is_linked_three no_tree_words root_in
+
+abbrev pub Inserted : (old new : List RawThree) (tree tree' : RawRoot) (status : ℕ) → Cut → Place → Type 0
+Inserted = calls.Inserted Shows is_linked_three no_tree_words root_in
+
+abbrev pub Removed : (old new : List RawThree) (tree tree' : RawRoot) (status : ℕ) → Place → (front back : List Place) → Type 0
+Removed = calls.Removed Shows is_linked_three no_tree_words root_in
+
+abbrev pub Replaced : (old new : List RawThree) (tree tree' : RawRoot) (status : ℕ) → Place → (front back : List Place) → Place → Type 0
+Replaced = calls.Replaced Shows is_linked_three no_tree_words root_in

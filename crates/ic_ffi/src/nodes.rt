@@ -1,0 +1,112 @@
+//! The words of a tree as its surgery sees them.
+//!
+//! ```text
+//! tree.unlink(&mut links, place); // whatever the words say, it writes to no place but those of the table
+//! ```
+
+ghost use Rattle.std.specs.Prelude.{◌≡◌};
+ghost use Rattle.ic_ffi.specs.Seen.{named_within};
+ghost use Rattle.ic_ffi.specs.Tree.{lent_table};
+ghost use Rattle.ic_ffi.specs.Words.{place_in};
+
+use crate::number::place_in;
+use crate::table::RawTable;
+use crate::words::RawThree;
+use ic_link_ops::Color;
+use ic_rbtree::Nodes;
+use ic_unsafe_ref::Place;
+
+/// What is seen at a place: the words there, which place it is, and how many places the table has.
+///
+/// Clauses speak of it, and no code makes one.
+#[derive(Clone, Copy)]
+pub struct Seen {
+    words: RawThree,
+    place: Place,
+    places: usize,
+}
+
+impl RawTable<'_, RawThree> {
+    // The place that a word of `place` names, `place` itself where the table has none of that number.
+    #[inline]
+    fn named(&self, place: Place, word: u64) -> Option<Place>
+        ensures { result ≡ named_within (lent_table self.now).extent.places place (place_in word) }
+    {
+        let named = place_in(word)?;
+        if self.covers(named) {
+            Some(named)
+        } else {
+            Some(place)
+        }
+    }
+}
+
+/// The places that the table has count as linked, so that no name leads to another, whatever the words say.
+impl Nodes for RawTable<'_, RawThree> {
+    ghost use Rattle.ic_ffi.specs.Seen.{seen, seen_node, KeepsMarks};
+    ghost use Rattle.std.proofs.Common.{refl, ◌∙◌};
+
+    type Entry = Seen;
+
+    ghost table = { λ t. seen (lent_table t) };
+
+    ghost node = { seen_node };
+
+    ghost Quiet = { λ old new. KeepsMarks (lent_table old) (lent_table new) };
+
+    #[inline]
+    fn left(&self, place: Place) -> Option<Place> {
+        self.named(place, self.at(place).left)
+    }
+
+    #[inline]
+    fn right(&self, place: Place) -> Option<Place> {
+        self.named(place, self.at(place).right)
+    }
+
+    #[inline]
+    fn parent(&self, place: Place) -> Option<Place> {
+        self.named(place, self.at(place).parent)
+    }
+
+    #[inline]
+    fn color(&self, place: Place) -> Color {
+        if self.at(place).parent % 2 == 1 {
+            Color::Black
+        } else {
+            Color::Red
+        }
+    }
+
+    #[inline]
+    fn set_left(&mut self, place: Place, left: Option<Place>) {
+        let words = &mut self.entries[place.index()];
+        words.left = Place::to_word(left) + words.left % 2;
+    }
+
+    #[inline]
+    fn set_right(&mut self, place: Place, right: Option<Place>) {
+        let words = &mut self.entries[place.index()];
+        words.right = Place::to_word(right);
+    }
+
+    #[inline]
+    fn set_parent(&mut self, place: Place, parent: Option<Place>) {
+        let words = &mut self.entries[place.index()];
+        words.parent = Place::to_word(parent) + words.parent % 2;
+    }
+
+    #[inline]
+    fn set_color(&mut self, place: Place, color: Color) {
+        let black = match color {
+            Color::Red => 0,
+            Color::Black => 1,
+        };
+        let words = &mut self.entries[place.index()];
+        words.parent = words.parent / 2 * 2 + black;
+    }
+
+    ghost quiet_still = { λ t. record { extent = refl; marks = λ q. refl } };
+
+    ghost quiet_on = { λ a b c x y. record { extent = y.extent ∙ x.extent; marks = λ q. y.marks q ∙ x.marks q } };
+}

@@ -1,0 +1,130 @@
+//! The calls of red-black trees by keys, which stand in an array of their own, one for each place.
+//!
+//! ```text
+//! uint64_t keys[64] = {0};
+//! struct ic_link3 links[64] = {0};
+//! struct ic_tree tree = {0};
+//! uint32_t found;
+//! keys[7] = 30;
+//! ic_tree_insert(links, 64, keys, 64, &tree, 7);                // IC_OK
+//! ic_tree_lower_bound(links, 64, keys, 64, &tree, 20, &found);  // IC_OK, and found is 7
+//! ```
+
+ghost use Rattle.std.specs.Prelude.{◌≡◌, ◌≢◌, ◌≤◌, List, Some, length};
+ghost use Rattle.ic_unsafe_ref.specs.declared.place.Place.{Place};
+ghost use Rattle.ic_rbtree.specs.Borders.{Finds, IsLowerBorder, IsUpperBorder};
+ghost use Rattle.ic_rbtree.specs.declared.keys.key_adapter.Bound.TheVariants.{Included};
+ghost use Rattle.ic_ffi.specs.Answers.{HandsOut};
+ghost use Rattle.ic_ffi.specs.Keys.{against, IsTarget, InsertedInOrder};
+ghost use Rattle.ic_ffi.specs.Tree.{ShowsTree, FreeIn, NamesLinked};
+ghost use Rattle.ic_ffi.specs.Words.{place_of};
+
+use crate::number::place_of;
+use crate::search::{self, Target};
+use crate::table::RawTable;
+use crate::tree_calls::tree_of;
+use crate::words::{RawRoot, RawThree};
+
+/// Puts a place in behind all members with no greater key than its own. O(log n).
+///
+/// The place has to be one of the table, and not linked, and there has to be a key for each place of the table.
+#[unsafe(no_mangle)]
+pub extern "C" fn ic_tree_insert(
+    table: &mut [RawThree],
+    keys: &[u64],
+    tree: &mut RawRoot,
+    place: u32,
+) -> u32
+    ensures inserted { (s : List Place) (p : Place) → place_of place ≡ Some p → length table.old ≤ length keys.now
+        → InsertedInOrder keys.now table.old table.new tree.old tree.new result s p }
+    ensures free { (p : Place) → place_of place ≡ Some p → result ≡ 0 → FreeIn table.old p }
+    ensures refused { result ≢ 0 → (table.new ≡ table.old) × (tree.new ≡ tree.old) }
+{
+    let mut links = RawTable::new(table);
+    let mut edited = tree_of(&*tree);
+    let status = search::insert(&mut links, &mut edited, keys, place_of(place));
+    tree.keep(status, edited.root());
+    status
+}
+
+// Hands out the member that is searched.
+#[inline]
+fn look_for(
+    table: &mut [RawThree],
+    keys: &[u64],
+    tree: &RawRoot,
+    key: u64,
+    target: Target,
+    found: &mut u32,
+) -> u32
+    ensures found { (s : List Place) → length table.old ≤ length keys.now → ShowsTree table.old tree.now s
+        → HandsOut (IsTarget target (against key keys.now) s) result found.new }
+    ensures linked { result ≡ 0 → NamesLinked table.old found.new }
+    ensures refused { result ≢ 0 → found.new ≡ found.old }
+    ensures same { table.new ≡ table.old }
+{
+    let links = RawTable::new(table);
+    search::look(&links, &tree_of(tree), keys, key, target, found)
+}
+
+/// Hands out the first member with this key, or returns [`NULL`](crate::NULL) where there is none. It writes nothing else. O(log n).
+///
+/// There has to be a key for each place of the table. The members are found where their keys never fall from one to the next.
+#[unsafe(no_mangle)]
+pub extern "C" fn ic_tree_find(
+    table: &mut [RawThree],
+    keys: &[u64],
+    tree: &RawRoot,
+    key: u64,
+    found: &mut u32,
+) -> u32
+    ensures found { (s : List Place) → length table.old ≤ length keys.now → ShowsTree table.old tree.now s
+        → HandsOut (Finds (against key keys.now) s) result found.new }
+    ensures linked { result ≡ 0 → NamesLinked table.old found.new }
+    ensures refused { result ≢ 0 → found.new ≡ found.old }
+    ensures same { table.new ≡ table.old }
+{
+    look_for(table, keys, tree, key, Target::Equal, found)
+}
+
+/// Hands out the first member with a key of at least `key`, or returns [`NULL`](crate::NULL) where there is none. It writes nothing
+/// else. O(log n).
+///
+/// There has to be a key for each place of the table. The members are found where their keys never fall from one to the next.
+#[unsafe(no_mangle)]
+pub extern "C" fn ic_tree_lower_bound(
+    table: &mut [RawThree],
+    keys: &[u64],
+    tree: &RawRoot,
+    key: u64,
+    found: &mut u32,
+) -> u32
+    ensures found { (s : List Place) → length table.old ≤ length keys.now → ShowsTree table.old tree.now s
+        → HandsOut (IsLowerBorder (Included (against key keys.now)) s) result found.new }
+    ensures linked { result ≡ 0 → NamesLinked table.old found.new }
+    ensures refused { result ≢ 0 → found.new ≡ found.old }
+    ensures same { table.new ≡ table.old }
+{
+    look_for(table, keys, tree, key, Target::AtLeast, found)
+}
+
+/// Hands out the last member with a key of at most `key`, or returns [`NULL`](crate::NULL) where there is none. It writes nothing
+/// else. O(log n).
+///
+/// There has to be a key for each place of the table. The members are found where their keys never fall from one to the next.
+#[unsafe(no_mangle)]
+pub extern "C" fn ic_tree_upper_bound(
+    table: &mut [RawThree],
+    keys: &[u64],
+    tree: &RawRoot,
+    key: u64,
+    found: &mut u32,
+) -> u32
+    ensures found { (s : List Place) → length table.old ≤ length keys.now → ShowsTree table.old tree.now s
+        → HandsOut (IsUpperBorder (Included (against key keys.now)) s) result found.new }
+    ensures linked { result ≡ 0 → NamesLinked table.old found.new }
+    ensures refused { result ≢ 0 → found.new ≡ found.old }
+    ensures same { table.new ≡ table.old }
+{
+    look_for(table, keys, tree, key, Target::AtMost, found)
+}

@@ -1,0 +1,173 @@
+//! The calls of red-black trees.
+//!
+//! ```text
+//! struct ic_link3 links[64] = {0};
+//! struct ic_tree tree = {0};
+//! ic_tree_insert_left(links, 64, &tree, IC_NONE, 7); // IC_OK: the only member
+//! ic_tree_insert_right(links, 64, &tree, 7, 8);      // IC_OK: behind it
+//! ic_tree_remove(links, 64, &tree, 7);               // IC_OK
+//! ```
+
+ghost use Rattle.std.specs.Prelude.{◌≡◌, ◌≢◌, List, Option, Some, None};
+ghost use Rattle.ic_unsafe_ref.specs.declared.place.Place.{Place};
+ghost use Rattle.ic_link_ops.specs.declared.side.Side.TheVariants.{Left, Right};
+ghost use Rattle.ic_link_ops.specs.Sequences.{Cut, join, first, last, IsAfter, IsBefore};
+ghost use Rattle.ic_link_ops.specs.Frames.{across};
+ghost use Rattle.ic_rbtree.specs.Sides.{IsBeside};
+ghost use Rattle.ic_rbtree.specs.Tree.{root_of};
+ghost use Rattle.ic_ffi.specs.Answers.{IsFound};
+ghost use Rattle.ic_ffi.specs.Words.{place_of};
+ghost use Rattle.ic_ffi.specs.Tree.{ShowsTree, IsHole, FreeIn, NamesLinked, root_in, table_of, Inserted, Removed, Replaced};
+
+use crate::number::{place_in, place_of};
+use crate::table::RawTable;
+use crate::tree;
+use crate::words::{RawRoot, RawThree};
+use ic_link_ops::Side;
+use ic_rbtree::RBTree;
+
+// The tree of its word.
+#[inline]
+pub(crate) fn tree_of(words: &RawRoot) -> tree::Tree
+    ensures { root_of result ≡ root_in words.now }
+{
+    RBTree::from_root((), place_in(words.root))
+}
+
+// Puts the place with that number in on this side of a member, at none as the only one.
+#[inline]
+fn insert_at(table: &mut [RawThree], tree: &mut RawRoot, side: Side, at: u32, place: u32) -> u32
+    ensures inserted { (cut : Cut) (p : Place) → IsHole side (table_of table.old) (place_of at) cut → place_of place ≡ Some p
+        → Inserted table.old table.new tree.old tree.new result cut p }
+    ensures free { (p : Place) → place_of place ≡ Some p → result ≡ 0 → FreeIn table.old p }
+    ensures refused { result ≢ 0 → (table.new ≡ table.old) × (tree.new ≡ tree.old) }
+{
+    let mut links = RawTable::new(table);
+    let mut edited = tree_of(&*tree);
+    let status = tree::insert(&mut links, &mut edited, side, place_of(at), place_of(place));
+    tree.keep(status, edited.root());
+    status
+}
+
+/// Puts a place in as the left child of the member `at`, in front of it, at [`NONE`](crate::NONE) as the only member. O(log n).
+///
+/// The place has to be one of the table, and not linked. The member must have no left child, and at none the tree no member.
+#[unsafe(no_mangle)]
+pub extern "C" fn ic_tree_insert_left(
+    table: &mut [RawThree],
+    tree: &mut RawRoot,
+    at: u32,
+    place: u32,
+) -> u32
+    ensures inserted { (cut : Cut) (p : Place) → IsHole Left (table_of table.old) (place_of at) cut → place_of place ≡ Some p
+        → Inserted table.old table.new tree.old tree.new result cut p }
+    ensures free { (p : Place) → place_of place ≡ Some p → result ≡ 0 → FreeIn table.old p }
+    ensures refused { result ≢ 0 → (table.new ≡ table.old) × (tree.new ≡ tree.old) }
+{
+    insert_at(table, tree, Side::Left, at, place)
+}
+
+/// Puts a place in as the right child of the member `at`, behind it, at [`NONE`](crate::NONE) as the only member. O(log n).
+///
+/// The place has to be one of the table, and not linked. The member must have no right child, and at none the tree no member.
+#[unsafe(no_mangle)]
+pub extern "C" fn ic_tree_insert_right(
+    table: &mut [RawThree],
+    tree: &mut RawRoot,
+    at: u32,
+    place: u32,
+) -> u32
+    ensures inserted { (cut : Cut) (p : Place) → IsHole Right (table_of table.old) (place_of at) cut → place_of place ≡ Some p
+        → Inserted table.old table.new tree.old tree.new result cut p }
+    ensures free { (p : Place) → place_of place ≡ Some p → result ≡ 0 → FreeIn table.old p }
+    ensures refused { result ≢ 0 → (table.new ≡ table.old) × (tree.new ≡ tree.old) }
+{
+    insert_at(table, tree, Side::Right, at, place)
+}
+
+/// Takes the member `at` off, or returns [`NULL`](crate::NULL) at [`NONE`](crate::NONE). O(log n).
+#[unsafe(no_mangle)]
+pub extern "C" fn ic_tree_remove(table: &mut [RawThree], tree: &mut RawRoot, at: u32) -> u32
+    ensures removed { (front back : List Place) (p : Place) → place_of at ≡ Some p
+        → Removed table.old table.new tree.old tree.new result p front back }
+    ensures null { place_of at ≡ None → result ≡ 4 }
+    ensures refused { result ≢ 0 → (table.new ≡ table.old) × (tree.new ≡ tree.old) }
+{
+    let mut links = RawTable::new(table);
+    let mut edited = tree_of(&*tree);
+    let status = tree::remove(&mut links, &mut edited, place_of(at));
+    tree.keep(status, edited.root());
+    status
+}
+
+/// Puts a place where the member `at` is, which is unlinked then, or returns [`NULL`](crate::NULL) at [`NONE`](crate::NONE). O(1).
+///
+/// The place has to be one of the table, and not linked.
+#[unsafe(no_mangle)]
+pub extern "C" fn ic_tree_replace(
+    table: &mut [RawThree],
+    tree: &mut RawRoot,
+    at: u32,
+    place: u32,
+) -> u32
+    ensures replaced { (front back : List Place) (out p : Place) → place_of at ≡ Some out → place_of place ≡ Some p
+        → Replaced table.old table.new tree.old tree.new result out front back p }
+    ensures free { (p : Place) → place_of place ≡ Some p → result ≡ 0 → FreeIn table.old p }
+    ensures null { place_of at ≡ None → result ≡ 4 }
+    ensures refused { result ≢ 0 → (table.new ≡ table.old) × (tree.new ≡ tree.old) }
+{
+    let mut links = RawTable::new(table);
+    let mut edited = tree_of(&*tree);
+    let status = tree::replace(&mut links, &mut edited, place_of(at), place_of(place));
+    tree.keep(status, edited.root());
+    status
+}
+
+// Hands out the member on this side of another one, from none the outermost one on the other side.
+#[inline]
+fn step_at(table: &mut [RawThree], tree: &RawRoot, side: Side, at: u32, found: &mut u32) -> u32
+    ensures found { (cut : Cut) (member : Option Place) → IsBeside side cut (place_of at) → IsBeside (across side) cut member
+        → ShowsTree table.old tree.now (join cut) → IsFound member result found.new }
+    ensures linked { result ≡ 0 → NamesLinked table.old found.new }
+    ensures refused { result ≢ 0 → found.new ≡ found.old }
+    ensures same { table.new ≡ table.old }
+{
+    let links = RawTable::new(table);
+    tree::step(&links, &tree_of(tree), side, place_of(at), found)
+}
+
+/// Hands out the member behind the member `at`, from [`NONE`](crate::NONE) the first one, or returns [`NULL`](crate::NULL) where
+/// there is none. It writes nothing else. O(log n), and O(1) on average over a walk.
+#[unsafe(no_mangle)]
+pub extern "C" fn ic_tree_next(
+    table: &mut [RawThree],
+    tree: &RawRoot,
+    at: u32,
+    found: &mut u32,
+) -> u32
+    ensures found { (cut : Cut) → IsAfter cut (place_of at) → ShowsTree table.old tree.now (join cut)
+        → IsFound (first cut.back) result found.new }
+    ensures linked { result ≡ 0 → NamesLinked table.old found.new }
+    ensures refused { result ≢ 0 → found.new ≡ found.old }
+    ensures same { table.new ≡ table.old }
+{
+    step_at(table, tree, Side::Right, at, found)
+}
+
+/// Hands out the member in front of the member `at`, from [`NONE`](crate::NONE) the last one, or returns [`NULL`](crate::NULL) where
+/// there is none. It writes nothing else. O(log n), and O(1) on average over a walk.
+#[unsafe(no_mangle)]
+pub extern "C" fn ic_tree_prev(
+    table: &mut [RawThree],
+    tree: &RawRoot,
+    at: u32,
+    found: &mut u32,
+) -> u32
+    ensures found { (cut : Cut) → IsBefore cut (place_of at) → ShowsTree table.old tree.now (join cut)
+        → IsFound (last cut.front) result found.new }
+    ensures linked { result ≡ 0 → NamesLinked table.old found.new }
+    ensures refused { result ≢ 0 → found.new ≡ found.old }
+    ensures same { table.new ≡ table.old }
+{
+    step_at(table, tree, Side::Left, at, found)
+}

@@ -1,0 +1,251 @@
+/* Random calls on trees beside plain sequences, which are arrays of places in order by their keys.
+ *
+ *     tree_sequences [CALLS [SEED]]
+ *
+ * Two trees are in one table. After each call the words of the tree have to be those of a red-black tree in the sequence's order, which the
+ * reads of the header walk through, and all other words have to be as they were. One of some calls has a fault, and must be refused for it.
+ * Prints for each call how often it returned each status.
+ */
+#define CALLS(X)                                                                           \
+    X(tree_insert_left) X(tree_insert_right) X(tree_remove) X(tree_replace)                \
+    X(tree_insert) X(tree_find) X(tree_lower_bound) X(tree_upper_bound)                    \
+    X(tree_next) X(tree_prev)
+
+enum { PLACES = 64, TREES = 2, NOBODY = TREES, MORE_KEYS = 3, TALLEST = 12, UNSET = 123456789 };
+
+#include "expected.h"
+#include "plain.h"
+
+static struct ic_link3 table[PLACES], table_was[PLACES];
+static struct ic_tree trees[TREES], trees_were[TREES];
+static uint64_t keys[PLACES + MORE_KEYS];
+static struct sequence sequences[TREES];
+static int owner[PLACES], is_growing;
+
+/* ---- What the words have to be ------------------------------------------------------------------------------------------------ */
+
+/* The members under a place are those of the sequence from `next` on. Returns how many black ones are on each way down. */
+static int check_under(const struct sequence *plain, uint32_t *next, uint32_t at, uint32_t parent, int parent_is_black, int height) {
+    if (at == IC_NONE)
+        return 0;
+    expect(at < PLACES && owner[at] != NOBODY && height <= TALLEST, "left a child that is no member, or a tree that is too high");
+    uint32_t left = ic_tree_left(table, at), right = ic_tree_right(table, at);
+    int is_black = (int)(table[at].parent & 1);
+    expect(ic_tree_parent(table, at) == parent, "left another parent");
+    expect(table[at].left == ic_word(left) + 1 && table[at].right == ic_word(right), "left other words of children");
+    expect(table[at].parent == ic_word(parent) + (uint64_t)is_black, "left another word of the parent");
+    expect(is_black || parent_is_black, "left a red member under a red one, or a red root");
+    int black = check_under(plain, next, left, at, is_black, height + 1);
+    expect(at == member(plain, (*next)++), "left another order");
+    expect(black == check_under(plain, next, right, at, is_black, height + 1), "left more black members on one side");
+    return black + is_black;
+}
+
+static void check(int tree) {
+    const struct sequence *plain = &sequences[tree];
+    uint32_t next = 0;
+    expect(trees[tree].root == ic_word(ic_tree_root(&trees[tree])), "left another root");
+    expect(ic_tree_is_empty(&trees[tree]) == !plain->count, "has an emptiness that reads wrong");
+    check_under(plain, &next, ic_tree_root(&trees[tree]), IC_NONE, 0, 1);
+    expect(next == plain->count, "left out some members");
+    for (uint32_t i = 1; i < plain->count; i++)
+        expect(keys[plain->members[i - 1]] <= keys[plain->members[i]], "is not tested in order");
+}
+
+/* The words of all but one tree, and of all places but its members and those that were unlinked or linked, are as they were. */
+static void check_others(int tree, uint32_t in, uint32_t out) {
+    for (uint32_t at = 0; at < PLACES; at++) {
+        expect(ic_tree_is_linked(table, at) == (owner[at] != NOBODY), "has marks that read wrong");
+        if (owner[at] != tree && at != in && at != out)
+            expect(!memcmp(&table[at], &table_was[at], sizeof *table), "has changed another link");
+    }
+    for (int other = 0; other < TREES; other++)
+        expect(other == tree || trees[other].root == trees_were[other].root, "has changed another tree");
+}
+
+static void check_same(void) {
+    expect(!memcmp(table, table_was, sizeof table) && !memcmp(trees, trees_were, sizeof trees), "has changed something");
+}
+
+/* ---- What is handed in -------------------------------------------------------------------------------------------------------- */
+
+/* A place to link: mostly one that is unlinked. */
+static uint32_t to_link(void) {
+    uint32_t place = below(PLACES);
+    for (uint32_t tries = below(64); tries && owner[place] != NOBODY; tries--)
+        place = (place + 1) % PLACES;
+    if (below(16) == 0)
+        place = below(2) ? PLACES : below(IC_NONE - PLACES) + PLACES;
+    fault(place >= PLACES, IC_OUT_OF_RANGE);
+    fault(place < PLACES && owner[place] != NOBODY, IC_LINKED);
+    return place;
+}
+
+/* The member, or now and then a place that is none. */
+static uint32_t or_none(uint32_t at) {
+    uint32_t other = below(PLACES + 1);
+    if (below(16) || (other < PLACES && owner[other] != NOBODY))
+        return at;
+    fault(1, other == PLACES ? IC_OUT_OF_RANGE : IC_NOT_LINKED);
+    return other;
+}
+
+/* How many keys there are: now and then fewer than places. */
+static size_t key_count(void) {
+    size_t count = below(16) ? PLACES + below(MORE_KEYS + 1) : below(PLACES);
+    fault(count < PLACES, IC_OUT_OF_RANGE);
+    return count;
+}
+
+static uint64_t any_key(void) {
+    switch (below(8)) {
+    case 0: return any();
+    case 1: return below(2) ? 0 : UINT64_MAX;
+    case 2: return keys[below(PLACES)];
+    default: return below(24);
+    }
+}
+
+/* Gives an unlinked place a key that is not below that of one member, nor above that of another. */
+static void give_key(uint32_t place, uint32_t low, uint32_t high) {
+    uint64_t least = low == IC_NONE ? 0 : keys[low], range = (high == IC_NONE ? UINT64_MAX : keys[high]) - least;
+    if (place < PLACES && owner[place] == NOBODY)
+        keys[place] = least + (below(4) ? any() % (below(2) && range > 8 ? 8 : range < UINT64_MAX ? range + 1 : range) : 0);
+}
+
+/* How many members have a smaller key, or one that is not greater. */
+static uint32_t count_below(const struct sequence *plain, uint64_t key, int or_equal) {
+    uint32_t count = 0;
+    while (count < plain->count && (keys[plain->members[count]] < key || (or_equal && keys[plain->members[count]] == key)))
+        count++;
+    return count;
+}
+
+/* ---- Calls -------------------------------------------------------------------------------------------------------------------- */
+
+static void link_at(int t, uint32_t i, uint32_t place) {
+    insert(&sequences[t], i, &place, 1);
+    owner[place] = t;
+    check_others(t, place, place);
+}
+
+/* Under the member on the one side of the gap, if there is room: in front of the one behind, or behind the one in front. */
+static void step_insert_at(int t, uint32_t i) {
+    struct sequence *plain = &sequences[t];
+    int is_left = now == CALL_tree_insert_left;
+    uint32_t place = to_link(), at = is_left ? member(plain, i) : before(plain, i), named = or_none(at);
+    give_key(place, before(plain, i), member(plain, i));
+    fault(named == at && at == IC_NONE && plain->count, IC_BROKEN);
+    fault(named == at && at != IC_NONE && (is_left ? ic_tree_left(table, at) : ic_tree_right(table, at)) != IC_NONE, IC_BROKEN);
+    if (made((is_left ? ic_tree_insert_left : ic_tree_insert_right)(table, PLACES, &trees[t], named, place)))
+        link_at(t, i, place);
+}
+
+static void step_insert(int t) {
+    uint32_t place = to_link();
+    size_t count = key_count();
+    if (place < PLACES && owner[place] == NOBODY)
+        keys[place] = any_key();
+    if (made(ic_tree_insert(table, PLACES, keys, count, &trees[t], place)))
+        link_at(t, count_below(&sequences[t], keys[place], 1), place);
+}
+
+static void step_remove(int t, uint32_t i) {
+    uint32_t at = member(&sequences[t], i), named = at == IC_NONE ? at : or_none(at);
+    fault(at == IC_NONE, IC_NULL);
+    if (made(ic_tree_remove(table, PLACES, &trees[t], named))) {
+        take(&sequences[t], i, 1);
+        owner[at] = NOBODY;
+        check_others(t, at, at);
+    }
+}
+
+static void step_replace(int t, uint32_t i) {
+    struct sequence *plain = &sequences[t];
+    uint32_t place = to_link(), at = member(plain, i), named = at == IC_NONE ? at : or_none(at);
+    fault(at == IC_NONE, IC_NULL);
+    give_key(place, before(plain, i), i < plain->count ? member(plain, i + 1) : IC_NONE);
+    if (made(ic_tree_replace(table, PLACES, &trees[t], named, place))) {
+        plain->members[i] = place;
+        owner[at] = NOBODY;
+        owner[place] = t;
+        check_others(t, place, at);
+    }
+}
+
+/* What a call that reads gave is a member, and nothing if it refused. */
+static void check_found(uint32_t status, uint32_t found, uint32_t expected) {
+    expect(found == (made(status) ? expected : UNSET), "gave another member");
+}
+
+static void step_search(int t) {
+    const struct sequence *plain = &sequences[t];
+    uint64_t key = any_key();
+    uint32_t lower = member(plain, count_below(plain, key, 0)), upper = before(plain, count_below(plain, key, 1)), found = UNSET;
+    uint32_t expected = now == CALL_tree_lower_bound ? lower : now == CALL_tree_upper_bound ? upper : IC_NONE;
+    if (now == CALL_tree_find && lower != IC_NONE && keys[lower] == key)
+        expected = lower;
+    size_t count = key_count();
+    fault(expected == IC_NONE, IC_NULL);
+    uint32_t status = now == CALL_tree_find          ? ic_tree_find(table, PLACES, keys, count, &trees[t], key, &found)
+                      : now == CALL_tree_lower_bound ? ic_tree_lower_bound(table, PLACES, keys, count, &trees[t], key, &found)
+                                                     : ic_tree_upper_bound(table, PLACES, keys, count, &trees[t], key, &found);
+    check_found(status, found, expected);
+}
+
+static void step_on(int t, uint32_t i) {
+    const struct sequence *plain = &sequences[t];
+    int is_next = now == CALL_tree_next;
+    uint32_t at = member(plain, i), named = or_none(at), found = UNSET;
+    uint32_t expected = at == IC_NONE && is_next ? member(plain, 0) : is_next ? member(plain, i + 1) : before(plain, i);
+    fault(expected == IC_NONE && named == at, IC_NULL);
+    uint32_t status = (is_next ? ic_tree_next : ic_tree_prev)(table, PLACES, &trees[t], named, &found);
+    check_found(status, found, expected);
+}
+
+static void step(void) {
+    int t = (int)below(TREES);
+    uint32_t i = below(sequences[t].count + 1);
+    memcpy(table_was, table, sizeof table);
+    memcpy(trees_were, trees, sizeof trees);
+    switch (now) {
+    case CALL_tree_insert_left:
+    case CALL_tree_insert_right: step_insert_at(t, i); break;
+    case CALL_tree_remove: step_remove(t, i); break;
+    case CALL_tree_replace: step_replace(t, i); break;
+    case CALL_tree_insert: step_insert(t); break;
+    case CALL_tree_find:
+    case CALL_tree_lower_bound:
+    case CALL_tree_upper_bound: step_search(t); break;
+    default: step_on(t, i);
+    }
+    if (faults || now > CALL_tree_insert)
+        check_same();
+    else
+        check(t);
+}
+
+/* Any call, by turns with more inserts and more removals, so that trees of all sizes come up. */
+static enum call choose(void) {
+    enum call call = (enum call)below(COUNT);
+    int inserts = call == CALL_tree_insert_left || call == CALL_tree_insert_right || call == CALL_tree_insert;
+    if (!below(512))
+        is_growing = !is_growing;
+    return (is_growing ? call == CALL_tree_remove : inserts) && below(8) ? choose() : call;
+}
+
+int main(int count, char **words) {
+    uint64_t wanted = calls_wanted(count, words);
+    for (int place = 0; place < PLACES; place++) {
+        table[place] = (struct ic_link3){any() << 1, any(), any()};
+        owner[place] = NOBODY;
+    }
+    while (done < wanted) {
+        now = choose();
+        faults = 0;
+        step();
+    }
+    for (int call = 0; call < COUNT; call++)
+        report(names[call], returned[call]);
+    return 0;
+}
