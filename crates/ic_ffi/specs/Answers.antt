@@ -1,7 +1,11 @@
 -- What a status says.
-use Rattle.std.specs.Prelude.{◌≡◌, ℕ, Option, Some, None}
+use Rattle.std.specs.Prelude.{◌≡◌, ◌≤◌, ℕ, Option, Some, None}
 use Rattle.ic_unsafe_ref.specs.declared.place.Place.{Place}
 use Rattle.ic_ffi.specs.Words.{HasNumber}
+
+-- one of the six statuses
+abbrev pub IsStatus : ℕ → Type 0
+IsStatus status = status ≤ 5
 
 -- THE CALL IS ACCEPTED, and does this
 pub record IsAccepted (status : ℕ) (Does : Type 0) : Type 0 where

@@ -9,7 +9,7 @@ ghost use Rattle.ic_unsafe_ref.specs.declared.place.Place.{Place};
 ghost use Rattle.ic_link_ops.specs.Sequences.{Cut, join, first, last, IsDisjoint};
 ghost use Rattle.ic_link_ops.specs.Tables.{IsUnlinked};
 ghost use Rattle.ic_link_ops.specs.Edits.{Inserts, Removes, Replaces, Splices};
-ghost use Rattle.ic_ffi.specs.Answers.{IsAccepted};
+ghost use Rattle.ic_ffi.specs.Answers.{IsStatus, IsAccepted};
 ghost use Rattle.ic_ffi.specs.Gaps.{IsBeside, Stands, StandBeside, before, gap_of};
 ghost use Rattle.ic_ffi.specs.Tables.{IsFree};
 ghost use Rattle.ic_ffi.specs.Words.{is_linked_two};
@@ -93,6 +93,7 @@ fn follows(
 fn gap_at(links: &RawTable<'_, RawTwo>, list: &List, side: Side, at: Option<Place>) -> Gap
     ensures stands { result.status ≡ 0 → StandBeside is_linked_two (lent_table links.now) result }
     ensures shown { (cut : Cut) → Shows (lent_table links.now) list.now (join cut) → IsBeside side cut at → result ≡ gap_of cut }
+    ensures status { IsStatus result.status }
 {
     let status = links.standing(at);
     if status != OK {
@@ -131,6 +132,7 @@ fn beside(links: &RawTable<'_, RawTwo>, list: &List, member: Place) -> Gap
     ensures member { result.status ≡ 0 → Stands is_linked_two (lent_table links.now) (Some member) }
     ensures shown { (front back : List Place) → Shows (lent_table links.now) list.now (front ++ member ∷ back)
         → result ≡ gap_of (record { front = front; back = back }) }
+    ensures status { IsStatus result.status }
 {
     let at = Some(member);
     let status = links.standing(at);
@@ -167,6 +169,7 @@ pub(crate) fn insert(
     ensures free { (p : Place) → place ≡ Some p → result ≡ 0 → IsFree is_linked_two (lent_table links.old) p }
     ensures refused { result ≢ 0 → (links.new ≡ links.old) × (list.new ≡ list.old) }
     ensures extent { (lent_table links.new).extent ≡ (lent_table links.old).extent }
+    ensures status { IsStatus result }
 {
     let gap = gap_at(&*links, &*list, side, at);
     if gap.status != OK {
@@ -192,6 +195,7 @@ pub(crate) fn remove(links: &mut RawTable<'_, RawTwo>, list: &mut List, at: Opti
     ensures null { at ≡ None → result ≡ 4 }
     ensures refused { result ≢ 0 → (links.new ≡ links.old) × (list.new ≡ list.old) }
     ensures extent { (lent_table links.new).extent ≡ (lent_table links.old).extent }
+    ensures status { IsStatus result }
 {
     let Some(member) = at else {
         return NULL;
@@ -221,6 +225,7 @@ pub(crate) fn replace(
     ensures null { at ≡ None → result ≡ 4 }
     ensures refused { result ≢ 0 → (links.new ≡ links.old) × (list.new ≡ list.old) }
     ensures extent { (lent_table links.new).extent ≡ (lent_table links.old).extent }
+    ensures status { IsStatus result }
 {
     let Some(member) = at else {
         return NULL;
@@ -255,6 +260,7 @@ pub(crate) fn splice(
         → IsAccepted result (Splices Shows (lent_table links.old) (lent_table links.new) list.new cut t) }
     ensures refused { result ≢ 0 → (links.new ≡ links.old) × (list.new ≡ list.old) }
     ensures extent { (lent_table links.new).extent ≡ (lent_table links.old).extent }
+    ensures status { IsStatus result }
 {
     let gap = gap_at(&*links, &*list, side, at);
     if gap.status != OK {
@@ -295,6 +301,7 @@ pub(crate) fn split(
         → IsAccepted result (SplitsBeside side (lent_table links.old) (lent_table links.new) list.new rest.new cut) }
     ensures refused { result ≢ 0 → (links.new ≡ links.old) × (list.new ≡ list.old) × (rest.new ≡ rest.old) }
     ensures extent { (lent_table links.new).extent ≡ (lent_table links.old).extent }
+    ensures status { IsStatus result }
 {
     let gap = gap_at(&*links, &*list, side, at);
     if gap.status != OK {

@@ -16,6 +16,7 @@ ghost use Rattle.ic_ffi.specs.declared.gap.Side.TheVariants.{After, Before};
 ghost use Rattle.ic_ffi.specs.Gaps.{IsBeside};
 ghost use Rattle.ic_ffi.specs.Words.{place_of};
 ghost use Rattle.ic_ffi.specs.Doubly.{ShowsList, FreeIn, ends_of, Inserted, Removed, Popped, Replaced, Spliced, Split};
+ghost use Rattle.ic_ffi.specs.Answers.{IsStatus};
 
 use crate::gap::Side;
 use crate::list;
@@ -41,6 +42,7 @@ fn insert_at(table: &mut [RawTwo], list: &mut RawEnds, side: Side, at: u32, plac
         → Inserted table.old table.new list.old list.new result cut p }
     ensures free { (p : Place) → place_of place ≡ Some p → result ≡ 0 → FreeIn table.old p }
     ensures refused { result ≢ 0 → (table.new ≡ table.old) × (list.new ≡ list.old) }
+    ensures status { IsStatus result }
 {
     let mut links = RawTable::new(table);
     let mut edited = list_of(&*list);
@@ -56,6 +58,7 @@ fn remove_at(table: &mut [RawTwo], list: &mut RawEnds, at: Option<Place>) -> u32
         → Removed table.old table.new list.old list.new result p front back }
     ensures null { at ≡ None → result ≡ 4 }
     ensures refused { result ≢ 0 → (table.new ≡ table.old) × (list.new ≡ list.old) }
+    ensures status { IsStatus result }
 {
     let mut links = RawTable::new(table);
     let mut edited = list_of(&*list);
@@ -71,6 +74,7 @@ fn pop(table: &mut [RawTwo], list: &mut RawEnds, end: Option<Place>, popped: &mu
         → Popped table.old table.new list.old list.new result popped.new p front back }
     ensures null { end ≡ None → result ≡ 4 }
     ensures refused { result ≢ 0 → (table.new ≡ table.old) × (list.new ≡ list.old) × (popped.new ≡ popped.old) }
+    ensures status { IsStatus result }
 {
     let Some(place) = end else {
         return NULL;
@@ -95,6 +99,7 @@ fn splice_at(
         → Spliced table.old table.new list.old list.new result given.old cut t }
     ensures emptied { result ≡ 0 → ends_of given.new ≡ no_members }
     ensures refused { result ≢ 0 → (table.new ≡ table.old) × (list.new ≡ list.old) × (given.new ≡ given.old) }
+    ensures status { IsStatus result }
 {
     let mut links = RawTable::new(table);
     let mut edited = list_of(&*list);
@@ -122,6 +127,7 @@ fn split_at(
     ensures split { (cut : Cut) → IsBeside side cut (place_of at)
         → Split side table.old table.new list.old list.new result rest.new cut }
     ensures refused { result ≢ 0 → (table.new ≡ table.old) × (list.new ≡ list.old) × (rest.new ≡ rest.old) }
+    ensures status { IsStatus result }
 {
     let mut links = RawTable::new(table);
     let mut edited = list_of(&*list);
@@ -141,6 +147,7 @@ pub extern "C" fn ic_list_push_front(table: &mut [RawTwo], list: &mut RawEnds, p
         → Inserted table.old table.new list.old list.new result (at_front s) p }
     ensures free { (p : Place) → place_of place ≡ Some p → result ≡ 0 → FreeIn table.old p }
     ensures refused { result ≢ 0 → (table.new ≡ table.old) × (list.new ≡ list.old) }
+    ensures status { IsStatus result }
 {
     insert_at(table, list, Side::After, NONE, place)
 }
@@ -154,6 +161,7 @@ pub extern "C" fn ic_list_push_back(table: &mut [RawTwo], list: &mut RawEnds, pl
         → Inserted table.old table.new list.old list.new result (at_back s) p }
     ensures free { (p : Place) → place_of place ≡ Some p → result ≡ 0 → FreeIn table.old p }
     ensures refused { result ≢ 0 → (table.new ≡ table.old) × (list.new ≡ list.old) }
+    ensures status { IsStatus result }
 {
     insert_at(table, list, Side::Before, NONE, place)
 }
@@ -168,6 +176,7 @@ pub extern "C" fn ic_list_pop_front(
     ensures popped { (s : List Place) (p : Place) → Popped table.old table.new list.old list.new result popped.new p [] s }
     ensures empty { ShowsList table.old list.old [] → result ≡ 4 }
     ensures refused { result ≢ 0 → (table.new ≡ table.old) × (list.new ≡ list.old) × (popped.new ≡ popped.old) }
+    ensures status { IsStatus result }
 {
     let first = place_in(list.head);
     pop(table, list, first, popped)
@@ -183,6 +192,7 @@ pub extern "C" fn ic_list_pop_back(
     ensures popped { (s : List Place) (p : Place) → Popped table.old table.new list.old list.new result popped.new p s [] }
     ensures empty { ShowsList table.old list.old [] → result ≡ 4 }
     ensures refused { result ≢ 0 → (table.new ≡ table.old) × (list.new ≡ list.old) × (popped.new ≡ popped.old) }
+    ensures status { IsStatus result }
 {
     let last = place_in(list.tail);
     pop(table, list, last, popped)
@@ -202,6 +212,7 @@ pub extern "C" fn ic_list_insert_after(
         → Inserted table.old table.new list.old list.new result cut p }
     ensures free { (p : Place) → place_of place ≡ Some p → result ≡ 0 → FreeIn table.old p }
     ensures refused { result ≢ 0 → (table.new ≡ table.old) × (list.new ≡ list.old) }
+    ensures status { IsStatus result }
 {
     insert_at(table, list, Side::After, at, place)
 }
@@ -220,6 +231,7 @@ pub extern "C" fn ic_list_insert_before(
         → Inserted table.old table.new list.old list.new result cut p }
     ensures free { (p : Place) → place_of place ≡ Some p → result ≡ 0 → FreeIn table.old p }
     ensures refused { result ≢ 0 → (table.new ≡ table.old) × (list.new ≡ list.old) }
+    ensures status { IsStatus result }
 {
     insert_at(table, list, Side::Before, at, place)
 }
@@ -231,6 +243,7 @@ pub extern "C" fn ic_list_remove(table: &mut [RawTwo], list: &mut RawEnds, at: u
         → Removed table.old table.new list.old list.new result p front back }
     ensures null { place_of at ≡ None → result ≡ 4 }
     ensures refused { result ≢ 0 → (table.new ≡ table.old) × (list.new ≡ list.old) }
+    ensures status { IsStatus result }
 {
     remove_at(table, list, place_of(at))
 }
@@ -250,6 +263,7 @@ pub extern "C" fn ic_list_replace(
     ensures free { (p : Place) → place_of place ≡ Some p → result ≡ 0 → FreeIn table.old p }
     ensures null { place_of at ≡ None → result ≡ 4 }
     ensures refused { result ≢ 0 → (table.new ≡ table.old) × (list.new ≡ list.old) }
+    ensures status { IsStatus result }
 {
     let mut links = RawTable::new(table);
     let mut edited = list_of(&*list);
@@ -270,6 +284,7 @@ pub extern "C" fn ic_list_splice_after(
         → Spliced table.old table.new list.old list.new result given.old cut t }
     ensures emptied { result ≡ 0 → ends_of given.new ≡ no_members }
     ensures refused { result ≢ 0 → (table.new ≡ table.old) × (list.new ≡ list.old) × (given.new ≡ given.old) }
+    ensures status { IsStatus result }
 {
     splice_at(table, list, Side::After, at, given)
 }
@@ -286,6 +301,7 @@ pub extern "C" fn ic_list_splice_before(
         → Spliced table.old table.new list.old list.new result given.old cut t }
     ensures emptied { result ≡ 0 → ends_of given.new ≡ no_members }
     ensures refused { result ≢ 0 → (table.new ≡ table.old) × (list.new ≡ list.old) × (given.new ≡ given.old) }
+    ensures status { IsStatus result }
 {
     splice_at(table, list, Side::Before, at, given)
 }
@@ -301,6 +317,7 @@ pub extern "C" fn ic_list_split_after(
     ensures split { (cut : Cut) → IsAfter cut (place_of at)
         → Split After table.old table.new list.old list.new result rest.new cut }
     ensures refused { result ≢ 0 → (table.new ≡ table.old) × (list.new ≡ list.old) × (rest.new ≡ rest.old) }
+    ensures status { IsStatus result }
 {
     split_at(table, list, Side::After, at, rest)
 }
@@ -316,6 +333,7 @@ pub extern "C" fn ic_list_split_before(
     ensures split { (cut : Cut) → IsBefore cut (place_of at)
         → Split Before table.old table.new list.old list.new result rest.new cut }
     ensures refused { result ≢ 0 → (table.new ≡ table.old) × (list.new ≡ list.old) × (rest.new ≡ rest.old) }
+    ensures status { IsStatus result }
 {
     split_at(table, list, Side::Before, at, rest)
 }

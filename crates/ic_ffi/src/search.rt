@@ -12,7 +12,7 @@ ghost use Rattle.ic_link_ops.specs.RedBlackTree as trees;
 ghost use Rattle.ic_rbtree.specs.Descents.{EndsAt};
 ghost use Rattle.ic_rbtree.specs.Ordered.{InsertsInOrder};
 ghost use Rattle.ic_rbtree.specs.Tree.{root_of};
-ghost use Rattle.ic_ffi.specs.Answers.{IsAccepted, HandsOut};
+ghost use Rattle.ic_ffi.specs.Answers.{IsStatus, IsAccepted, HandsOut};
 ghost use Rattle.ic_ffi.specs.Gaps.{Stands};
 ghost use Rattle.ic_ffi.specs.Keys.{against, key_of, IsTarget};
 ghost use Rattle.ic_ffi.specs.Seen.{seen, seen_node};
@@ -66,6 +66,7 @@ pub(crate) fn searchable(links: &RawTable<'_, RawThree>, tree: &Tree, keys: &[u6
     ensures root { result ≡ 0 → Stands is_linked_three (lent_table links.now) (root_of tree.now) }
     ensures shown { (s : List Place) → Shows (lent_table links.now) (root_of tree.now) s
         → (lent_table links.now).extent.places ≤ length keys.now → result ≡ 0 }
+    ensures status { IsStatus result }
 {
     if keys.len() < links.places() {
         return OUT_OF_RANGE;
@@ -131,6 +132,7 @@ pub(crate) fn look(
         → (lent_table links.now).extent.places ≤ length keys.now → HandsOut (IsTarget target (against key keys.now) s) result found.new }
     ensures linked { result ≡ 0 → (q : Place) × IsLinked is_linked_three (lent_table links.now) q × HasNumber q found.new }
     ensures refused { result ≢ 0 → found.new ≡ found.old }
+    ensures status { IsStatus result }
 {
     let status = searchable(links, tree, keys);
     if status != OK {
@@ -155,6 +157,7 @@ pub(crate) fn insert(
     ensures free { (p : Place) → place ≡ Some p → result ≡ 0 → IsFree is_linked_three (lent_table links.old) p }
     ensures refused { result ≢ 0 → (links.new ≡ links.old) × (tree.new ≡ tree.old) }
     ensures extent { (lent_table links.new).extent ≡ (lent_table links.old).extent }
+    ensures status { IsStatus result }
 {
     let status = searchable(&*links, &*tree, keys);
     if status != OK {

@@ -14,7 +14,7 @@ ghost use Rattle.std.specs.Prelude.{◌≡◌, ◌≢◌, ◌≤◌, List, Some,
 ghost use Rattle.ic_unsafe_ref.specs.declared.place.Place.{Place};
 ghost use Rattle.ic_rbtree.specs.Borders.{Finds, IsLowerBorder, IsUpperBorder};
 ghost use Rattle.ic_rbtree.specs.declared.keys.key_adapter.Bound.TheVariants.{Included};
-ghost use Rattle.ic_ffi.specs.Answers.{HandsOut};
+ghost use Rattle.ic_ffi.specs.Answers.{IsStatus, HandsOut};
 ghost use Rattle.ic_ffi.specs.Keys.{against, IsTarget, InsertedInOrder};
 ghost use Rattle.ic_ffi.specs.Tree.{ShowsTree, FreeIn, NamesLinked};
 ghost use Rattle.ic_ffi.specs.Words.{place_of};
@@ -39,6 +39,7 @@ pub extern "C" fn ic_tree_insert(
         → InsertedInOrder keys.now table.old table.new tree.old tree.new result s p }
     ensures free { (p : Place) → place_of place ≡ Some p → result ≡ 0 → FreeIn table.old p }
     ensures refused { result ≢ 0 → (table.new ≡ table.old) × (tree.new ≡ tree.old) }
+    ensures status { IsStatus result }
 {
     let mut links = RawTable::new(table);
     let mut edited = tree_of(&*tree);
@@ -62,6 +63,7 @@ fn look_for(
     ensures linked { result ≡ 0 → NamesLinked table.old found.new }
     ensures refused { result ≢ 0 → found.new ≡ found.old }
     ensures same { table.new ≡ table.old }
+    ensures status { IsStatus result }
 {
     let links = RawTable::new(table);
     search::look(&links, &tree_of(tree), keys, key, target, found)
@@ -83,6 +85,7 @@ pub extern "C" fn ic_tree_find(
     ensures linked { result ≡ 0 → NamesLinked table.old found.new }
     ensures refused { result ≢ 0 → found.new ≡ found.old }
     ensures same { table.new ≡ table.old }
+    ensures status { IsStatus result }
 {
     look_for(table, keys, tree, key, Target::Equal, found)
 }
@@ -104,6 +107,7 @@ pub extern "C" fn ic_tree_lower_bound(
     ensures linked { result ≡ 0 → NamesLinked table.old found.new }
     ensures refused { result ≢ 0 → found.new ≡ found.old }
     ensures same { table.new ≡ table.old }
+    ensures status { IsStatus result }
 {
     look_for(table, keys, tree, key, Target::AtLeast, found)
 }
@@ -125,6 +129,7 @@ pub extern "C" fn ic_tree_upper_bound(
     ensures linked { result ≡ 0 → NamesLinked table.old found.new }
     ensures refused { result ≢ 0 → found.new ≡ found.old }
     ensures same { table.new ≡ table.old }
+    ensures status { IsStatus result }
 {
     look_for(table, keys, tree, key, Target::AtMost, found)
 }

@@ -9,7 +9,7 @@ ghost use Rattle.ic_unsafe_ref.specs.declared.place.Place.{Place};
 ghost use Rattle.ic_link_ops.specs.Sequences.{Cut, join, last, IsDisjoint, IsAfter};
 ghost use Rattle.ic_link_ops.specs.Tables.{IsLinked, IsUnlinked};
 ghost use Rattle.ic_link_ops.specs.Edits.{Inserts, Removes, Replaces, Splices, Splits};
-ghost use Rattle.ic_ffi.specs.Answers.{IsAccepted};
+ghost use Rattle.ic_ffi.specs.Answers.{IsStatus, IsAccepted};
 ghost use Rattle.ic_ffi.specs.Gaps.{Stands, StandBeside, before, gap_of};
 ghost use Rattle.ic_ffi.specs.Tables.{IsFree};
 ghost use Rattle.ic_ffi.specs.Words.{is_linked_one, HasNumber};
@@ -45,6 +45,7 @@ fn next_of(links: &RawTable<'_, RawOne>, list: &Stack, place: Option<Place>) -> 
 fn gap_after(links: &RawTable<'_, RawOne>, list: &Stack, at: Option<Place>) -> Gap
     ensures stands { result.status ≡ 0 → StandBeside is_linked_one (lent_table links.now) result }
     ensures shown { (cut : Cut) → Shows (lent_table links.now) list.now (join cut) → IsAfter cut at → result ≡ gap_of cut }
+    ensures status { IsStatus result.status }
 {
     let status = links.standing(at);
     if status != OK {
@@ -75,6 +76,7 @@ pub(crate) fn insert(
     ensures free { (p : Place) → place ≡ Some p → result ≡ 0 → IsFree is_linked_one (lent_table links.old) p }
     ensures refused { result ≢ 0 → (links.new ≡ links.old) × (list.new ≡ list.old) }
     ensures extent { (lent_table links.new).extent ≡ (lent_table links.old).extent }
+    ensures status { IsStatus result }
 {
     let gap = gap_after(&*links, &*list, at);
     if gap.status != OK {
@@ -105,6 +107,7 @@ pub(crate) fn remove(
     ensures nothing { (s : List Place) → Shows (lent_table links.old) list.old s → at ≡ last s → result ≡ 4 }
     ensures refused { result ≢ 0 → (links.new ≡ links.old) × (list.new ≡ list.old) × (removed.new ≡ removed.old) }
     ensures extent { (lent_table links.new).extent ≡ (lent_table links.old).extent }
+    ensures status { IsStatus result }
 {
     let gap = gap_after(&*links, &*list, at);
     if gap.status != OK {
@@ -137,6 +140,7 @@ pub(crate) fn replace(
     ensures nothing { (s : List Place) → Shows (lent_table links.old) list.old s → at ≡ last s → result ≡ 4 }
     ensures refused { result ≢ 0 → (links.new ≡ links.old) × (list.new ≡ list.old) × (replaced.new ≡ replaced.old) }
     ensures extent { (lent_table links.new).extent ≡ (lent_table links.old).extent }
+    ensures status { IsStatus result }
 {
     let gap = gap_after(&*links, &*list, at);
     if gap.status != OK {
@@ -192,6 +196,7 @@ pub(crate) fn splice(
         → IsAccepted result (Splices Shows (lent_table links.old) (lent_table links.new) list.new cut t) }
     ensures refused { result ≢ 0 → (links.new ≡ links.old) × (list.new ≡ list.old) }
     ensures extent { (lent_table links.new).extent ≡ (lent_table links.old).extent }
+    ensures status { IsStatus result }
 {
     let gap = gap_after(&*links, &*list, at);
     if gap.status != OK {
@@ -219,6 +224,7 @@ pub(crate) fn split(
         → IsAccepted result (Splits Shows (lent_table links.old) (lent_table links.new) list.new rest.new cut.front cut.back) }
     ensures refused { result ≢ 0 → (links.new ≡ links.old) × (list.new ≡ list.old) × (rest.new ≡ rest.old) }
     ensures extent { (lent_table links.new).extent ≡ (lent_table links.old).extent }
+    ensures status { IsStatus result }
 {
     let gap = gap_after(&*links, &*list, at);
     if gap.status != OK {

@@ -13,6 +13,7 @@ ghost use Rattle.ic_unsafe_ref.specs.declared.place.Place.{Place};
 ghost use Rattle.ic_link_ops.specs.Sequences.{Cut, at_front, last, IsAfter};
 ghost use Rattle.ic_ffi.specs.Words.{place_of};
 ghost use Rattle.ic_ffi.specs.Singly.{ShowsList, FreeIn, front_of, Inserted, Popped, Exchanged, Spliced, Split};
+ghost use Rattle.ic_ffi.specs.Answers.{IsStatus};
 
 use crate::number::{place_in, place_of};
 use crate::stack;
@@ -38,6 +39,7 @@ pub extern "C" fn ic_stack_push_front(table: &mut [RawOne], list: &mut RawFront,
         → Inserted table.old table.new list.old list.new result (at_front s) p }
     ensures free { (p : Place) → place_of place ≡ Some p → result ≡ 0 → FreeIn table.old p }
     ensures refused { result ≢ 0 → (table.new ≡ table.old) × (list.new ≡ list.old) }
+    ensures status { IsStatus result }
 {
     ic_stack_insert_after(table, list, NONE, place)
 }
@@ -52,6 +54,7 @@ pub extern "C" fn ic_stack_pop_front(
     ensures popped { (s : List Place) (p : Place) → Popped table.old table.new list.old list.new result popped.new p [] s }
     ensures empty { ShowsList table.old list.old [] → result ≡ 4 }
     ensures refused { result ≢ 0 → (table.new ≡ table.old) × (list.new ≡ list.old) × (popped.new ≡ popped.old) }
+    ensures status { IsStatus result }
 {
     ic_stack_remove_after(table, list, NONE, popped)
 }
@@ -70,6 +73,7 @@ pub extern "C" fn ic_stack_insert_after(
         → Inserted table.old table.new list.old list.new result cut p }
     ensures free { (p : Place) → place_of place ≡ Some p → result ≡ 0 → FreeIn table.old p }
     ensures refused { result ≢ 0 → (table.new ≡ table.old) × (list.new ≡ list.old) }
+    ensures status { IsStatus result }
 {
     let mut links = RawTable::new(table);
     let mut edited = stack_of(&*list);
@@ -91,6 +95,7 @@ pub extern "C" fn ic_stack_remove_after(
         → Popped table.old table.new list.old list.new result removed.new p front back }
     ensures nothing { (s : List Place) → ShowsList table.old list.old s → place_of at ≡ last s → result ≡ 4 }
     ensures refused { result ≢ 0 → (table.new ≡ table.old) × (list.new ≡ list.old) × (removed.new ≡ removed.old) }
+    ensures status { IsStatus result }
 {
     let mut links = RawTable::new(table);
     let mut edited = stack_of(&*list);
@@ -116,6 +121,7 @@ pub extern "C" fn ic_stack_replace_after(
     ensures free { (p : Place) → place_of place ≡ Some p → result ≡ 0 → FreeIn table.old p }
     ensures nothing { (s : List Place) → ShowsList table.old list.old s → place_of at ≡ last s → result ≡ 4 }
     ensures refused { result ≢ 0 → (table.new ≡ table.old) × (list.new ≡ list.old) × (replaced.new ≡ replaced.old) }
+    ensures status { IsStatus result }
 {
     let mut links = RawTable::new(table);
     let mut edited = stack_of(&*list);
@@ -144,6 +150,7 @@ pub extern "C" fn ic_stack_splice_after(
         → Spliced table.old table.new list.old list.new result given.old cut t }
     ensures emptied { result ≡ 0 → front_of given.new ≡ None }
     ensures refused { result ≢ 0 → (table.new ≡ table.old) × (list.new ≡ list.old) × (given.new ≡ given.old) }
+    ensures status { IsStatus result }
 {
     let mut links = RawTable::new(table);
     let mut edited = stack_of(&*list);
@@ -164,6 +171,7 @@ pub extern "C" fn ic_stack_split_after(
     ensures split { (cut : Cut) → IsAfter cut (place_of at)
         → Split table.old table.new list.old list.new result rest.new cut }
     ensures refused { result ≢ 0 → (table.new ≡ table.old) × (list.new ≡ list.old) × (rest.new ≡ rest.old) }
+    ensures status { IsStatus result }
 {
     let mut links = RawTable::new(table);
     let mut edited = stack_of(&*list);

@@ -10,6 +10,7 @@ ghost use Rattle.ic_unsafe_ref.specs.declared.place.Place.{Place};
 ghost use Rattle.ic_link_ops.specs.Tables.{IsCovered, IsLinked, ChangesOnly};
 ghost use Rattle.ic_ffi.specs.Tables.{IsView, IsFree, raw_table};
 ghost use Rattle.ic_ffi.specs.Gaps.{Stands};
+ghost use Rattle.ic_ffi.specs.Answers.{IsStatus};
 
 use crate::status::{LINKED, NOT_LINKED, OK, OUT_OF_RANGE};
 use ic_link_ops::linked_list::LinkedListOps;
@@ -85,7 +86,8 @@ impl<W: Words> RawTable<'_, W> {
     /// [`OK`] where `place` is none or a linked place of the table, else why not. O(1).
     #[inline]
     pub fn standing(&self, place: Option<Place>) -> u32
-        ensures { (result ≡ 0) ↔ Stands W.is_linked (raw_table W.unlinked self.now) place }
+        ensures stands { (result ≡ 0) ↔ Stands W.is_linked (raw_table W.unlinked self.now) place }
+        ensures status { IsStatus result }
     {
         let Some(place) = place else {
             return OK;
@@ -108,6 +110,7 @@ impl<W: Words> RawTable<'_, W> {
         ensures linked { result ≡ 0 → IsLinked W.is_linked (raw_table W.unlinked self.new) place }
         ensures frame { result ≡ 0 → ChangesOnly (raw_table W.unlinked self.old) (raw_table W.unlinked self.new) place }
         ensures refused { result ≢ 0 → self.new ≡ self.old }
+        ensures status { IsStatus result }
     {
         if !self.covers(place) {
             return OUT_OF_RANGE;

@@ -13,7 +13,7 @@ ghost use Rattle.ic_link_ops.specs.RedBlackTree.{node_at};
 ghost use Rattle.ic_link_ops.specs.Frames.{across, child_on};
 ghost use Rattle.ic_rbtree.specs.Sides.{IsBeside};
 ghost use Rattle.ic_rbtree.specs.Tree.{root_of};
-ghost use Rattle.ic_ffi.specs.Answers.{IsAccepted, IsFound};
+ghost use Rattle.ic_ffi.specs.Answers.{IsStatus, IsAccepted, IsFound};
 ghost use Rattle.ic_ffi.specs.Gaps.{Stands, before};
 ghost use Rattle.ic_ffi.specs.Tables.{IsFree};
 ghost use Rattle.ic_ffi.specs.Words.{is_linked_three, HasNumber};
@@ -37,6 +37,7 @@ pub(crate) fn standing(links: &RawTable<'_, RawThree>, tree: &Tree, at: Option<P
     ensures root { result ≡ 0 → Stands is_linked_three (lent_table links.now) (root_of tree.now) }
     ensures shown { (s : List Place) → Shows (lent_table links.now) (root_of tree.now) s → Stands is_linked_three (lent_table links.now) at
         → result ≡ 0 }
+    ensures status { IsStatus result }
 {
     let status = links.standing(at);
     if status != OK {
@@ -68,6 +69,7 @@ fn hole(links: &RawTable<'_, RawThree>, tree: &Tree, side: Side, at: Option<Plac
     ensures root { result ≡ 0 → Stands is_linked_three (lent_table links.now) (root_of tree.now) }
     ensures shown { (cut : Cut) → Shows (lent_table links.now) (root_of tree.now) (join cut) → IsHole side (lent_table links.now) at cut
         → result ≡ 0 }
+    ensures status { IsStatus result }
 {
     let status = standing(links, tree, at);
     if status != OK {
@@ -98,6 +100,7 @@ pub(crate) fn insert(
     ensures free { (p : Place) → place ≡ Some p → result ≡ 0 → IsFree is_linked_three (lent_table links.old) p }
     ensures refused { result ≢ 0 → (links.new ≡ links.old) × (tree.new ≡ tree.old) }
     ensures extent { (lent_table links.new).extent ≡ (lent_table links.old).extent }
+    ensures status { IsStatus result }
 {
     let status = hole(&*links, &*tree, side, at);
     if status != OK {
@@ -123,6 +126,7 @@ pub(crate) fn remove(links: &mut RawTable<'_, RawThree>, tree: &mut Tree, at: Op
     ensures null { at ≡ None → result ≡ 4 }
     ensures refused { result ≢ 0 → (links.new ≡ links.old) × (tree.new ≡ tree.old) }
     ensures extent { (lent_table links.new).extent ≡ (lent_table links.old).extent }
+    ensures status { IsStatus result }
 {
     let Some(member) = at else {
         return NULL;
@@ -152,6 +156,7 @@ pub(crate) fn replace(
     ensures null { at ≡ None → result ≡ 4 }
     ensures refused { result ≢ 0 → (links.new ≡ links.old) × (tree.new ≡ tree.old) }
     ensures extent { (lent_table links.new).extent ≡ (lent_table links.old).extent }
+    ensures status { IsStatus result }
 {
     let Some(member) = at else {
         return NULL;
@@ -182,6 +187,7 @@ pub(crate) fn hand_out(
     ensures found { Stands is_linked_three (lent_table links.now) member → IsFound member result found.new }
     ensures linked { result ≡ 0 → (q : Place) × IsLinked is_linked_three (lent_table links.now) q × HasNumber q found.new }
     ensures refused { result ≢ 0 → found.new ≡ found.old }
+    ensures status { IsStatus result }
 {
     let Some(place) = member else {
         return NULL;
@@ -206,6 +212,7 @@ pub(crate) fn step(
         → IsBeside side cut at → IsBeside (across side) cut member → IsFound member result found.new }
     ensures linked { result ≡ 0 → (q : Place) × IsLinked is_linked_three (lent_table links.now) q × HasNumber q found.new }
     ensures refused { result ≢ 0 → found.new ≡ found.old }
+    ensures status { IsStatus result }
 {
     let status = standing(links, tree, at);
     if status != OK {

@@ -15,7 +15,7 @@ ghost use Rattle.ic_link_ops.specs.Sequences.{Cut, join, first, last, IsAfter, I
 ghost use Rattle.ic_link_ops.specs.Frames.{across};
 ghost use Rattle.ic_rbtree.specs.Sides.{IsBeside};
 ghost use Rattle.ic_rbtree.specs.Tree.{root_of};
-ghost use Rattle.ic_ffi.specs.Answers.{IsFound};
+ghost use Rattle.ic_ffi.specs.Answers.{IsStatus, IsFound};
 ghost use Rattle.ic_ffi.specs.Words.{place_of};
 ghost use Rattle.ic_ffi.specs.Tree.{ShowsTree, IsHole, FreeIn, NamesLinked, root_in, table_of, Inserted, Removed, Replaced};
 
@@ -41,6 +41,7 @@ fn insert_at(table: &mut [RawThree], tree: &mut RawRoot, side: Side, at: u32, pl
         → Inserted table.old table.new tree.old tree.new result cut p }
     ensures free { (p : Place) → place_of place ≡ Some p → result ≡ 0 → FreeIn table.old p }
     ensures refused { result ≢ 0 → (table.new ≡ table.old) × (tree.new ≡ tree.old) }
+    ensures status { IsStatus result }
 {
     let mut links = RawTable::new(table);
     let mut edited = tree_of(&*tree);
@@ -63,6 +64,7 @@ pub extern "C" fn ic_tree_insert_left(
         → Inserted table.old table.new tree.old tree.new result cut p }
     ensures free { (p : Place) → place_of place ≡ Some p → result ≡ 0 → FreeIn table.old p }
     ensures refused { result ≢ 0 → (table.new ≡ table.old) × (tree.new ≡ tree.old) }
+    ensures status { IsStatus result }
 {
     insert_at(table, tree, Side::Left, at, place)
 }
@@ -81,6 +83,7 @@ pub extern "C" fn ic_tree_insert_right(
         → Inserted table.old table.new tree.old tree.new result cut p }
     ensures free { (p : Place) → place_of place ≡ Some p → result ≡ 0 → FreeIn table.old p }
     ensures refused { result ≢ 0 → (table.new ≡ table.old) × (tree.new ≡ tree.old) }
+    ensures status { IsStatus result }
 {
     insert_at(table, tree, Side::Right, at, place)
 }
@@ -92,6 +95,7 @@ pub extern "C" fn ic_tree_remove(table: &mut [RawThree], tree: &mut RawRoot, at:
         → Removed table.old table.new tree.old tree.new result p front back }
     ensures null { place_of at ≡ None → result ≡ 4 }
     ensures refused { result ≢ 0 → (table.new ≡ table.old) × (tree.new ≡ tree.old) }
+    ensures status { IsStatus result }
 {
     let mut links = RawTable::new(table);
     let mut edited = tree_of(&*tree);
@@ -115,6 +119,7 @@ pub extern "C" fn ic_tree_replace(
     ensures free { (p : Place) → place_of place ≡ Some p → result ≡ 0 → FreeIn table.old p }
     ensures null { place_of at ≡ None → result ≡ 4 }
     ensures refused { result ≢ 0 → (table.new ≡ table.old) × (tree.new ≡ tree.old) }
+    ensures status { IsStatus result }
 {
     let mut links = RawTable::new(table);
     let mut edited = tree_of(&*tree);
@@ -131,6 +136,7 @@ fn step_at(table: &mut [RawThree], tree: &RawRoot, side: Side, at: u32, found: &
     ensures linked { result ≡ 0 → NamesLinked table.old found.new }
     ensures refused { result ≢ 0 → found.new ≡ found.old }
     ensures same { table.new ≡ table.old }
+    ensures status { IsStatus result }
 {
     let links = RawTable::new(table);
     tree::step(&links, &tree_of(tree), side, place_of(at), found)
@@ -150,6 +156,7 @@ pub extern "C" fn ic_tree_next(
     ensures linked { result ≡ 0 → NamesLinked table.old found.new }
     ensures refused { result ≢ 0 → found.new ≡ found.old }
     ensures same { table.new ≡ table.old }
+    ensures status { IsStatus result }
 {
     step_at(table, tree, Side::Right, at, found)
 }
@@ -168,6 +175,7 @@ pub extern "C" fn ic_tree_prev(
     ensures linked { result ≡ 0 → NamesLinked table.old found.new }
     ensures refused { result ≢ 0 → found.new ≡ found.old }
     ensures same { table.new ≡ table.old }
+    ensures status { IsStatus result }
 {
     step_at(table, tree, Side::Left, at, found)
 }

@@ -17,6 +17,7 @@ ghost use Rattle.ic_ffi.specs.declared.words.RawOne.{RawOne};
 ghost use Rattle.ic_ffi.specs.Words.{place_of};
 ghost use Rattle.ic_ffi.specs.Doubly.{ends_of};
 ghost use Rattle.ic_ffi.specs.Xor.{Shows, ShowsList, FreeIn, Inserted, Removed, Popped, Replaced, Spliced, Split};
+ghost use Rattle.ic_ffi.specs.Answers.{IsStatus};
 
 use crate::number::{number_of, place_in, place_of};
 use crate::status::{BROKEN, NULL, OK};
@@ -48,6 +49,7 @@ fn put_at(
         → Inserted table.old table.new list.old list.new result cut p }
     ensures free { (p : Place) → place_of place ≡ Some p → result ≡ 0 → FreeIn table.old p }
     ensures refused { result ≢ 0 → (table.new ≡ table.old) × (list.new ≡ list.old) }
+    ensures status { IsStatus result }
 {
     let mut links = RawTable::new(table);
     let mut edited = list_of(&*list);
@@ -65,6 +67,7 @@ pub extern "C" fn ic_xor_push_front(table: &mut [RawOne], list: &mut RawEnds, pl
         → Inserted table.old table.new list.old list.new result (at_front s) p }
     ensures free { (p : Place) → place_of place ≡ Some p → result ≡ 0 → FreeIn table.old p }
     ensures refused { result ≢ 0 → (table.new ≡ table.old) × (list.new ≡ list.old) }
+    ensures status { IsStatus result }
 {
     let first = place_in(list.head);
     put_at(table, list, None, place, first)
@@ -79,6 +82,7 @@ pub extern "C" fn ic_xor_push_back(table: &mut [RawOne], list: &mut RawEnds, pla
         → Inserted table.old table.new list.old list.new result (at_back s) p }
     ensures free { (p : Place) → place_of place ≡ Some p → result ≡ 0 → FreeIn table.old p }
     ensures refused { result ≢ 0 → (table.new ≡ table.old) × (list.new ≡ list.old) }
+    ensures status { IsStatus result }
 {
     let last = place_in(list.tail);
     put_at(table, list, last, place, None)
@@ -96,6 +100,7 @@ fn remove_at(
         → Removed table.old table.new list.old list.new result p front back }
     ensures null { at ≡ None → result ≡ 4 }
     ensures refused { result ≢ 0 → (table.new ≡ table.old) × (list.new ≡ list.old) }
+    ensures status { IsStatus result }
 {
     let mut links = RawTable::new(table);
     let mut edited = list_of(&*list);
@@ -109,6 +114,7 @@ fn remove_at(
 fn remove_last_at(table: &mut [RawOne], list: &mut RawEnds, member: Place) -> u32
     ensures removed { (front : List Place) → Removed table.old table.new list.old list.new result member front [] }
     ensures refused { result ≢ 0 → (table.new ≡ table.old) × (list.new ≡ list.old) }
+    ensures status { IsStatus result }
 {
     let mut links = RawTable::new(table);
     let mut edited = list_of(&*list);
@@ -127,6 +133,7 @@ pub extern "C" fn ic_xor_pop_front(
     ensures popped { (s : List Place) (p : Place) → Popped table.old table.new list.old list.new result popped.new p [] s }
     ensures empty { ShowsList table.old list.old [] → result ≡ 4 }
     ensures refused { result ≢ 0 → (table.new ≡ table.old) × (list.new ≡ list.old) × (popped.new ≡ popped.old) }
+    ensures status { IsStatus result }
 {
     let first = place_in(list.head);
     let Some(place) = first else {
@@ -145,6 +152,7 @@ pub extern "C" fn ic_xor_pop_back(table: &mut [RawOne], list: &mut RawEnds, popp
     ensures popped { (s : List Place) (p : Place) → Popped table.old table.new list.old list.new result popped.new p s [] }
     ensures empty { ShowsList table.old list.old [] → result ≡ 4 }
     ensures refused { result ≢ 0 → (table.new ≡ table.old) × (list.new ≡ list.old) × (popped.new ≡ popped.old) }
+    ensures status { IsStatus result }
 {
     let Some(place) = place_in(list.tail) else {
         return NULL;
@@ -171,6 +179,7 @@ pub extern "C" fn ic_xor_insert_between(
         → Inserted table.old table.new list.old list.new result cut p }
     ensures free { (p : Place) → place_of place ≡ Some p → result ≡ 0 → FreeIn table.old p }
     ensures refused { result ≢ 0 → (table.new ≡ table.old) × (list.new ≡ list.old) }
+    ensures status { IsStatus result }
 {
     let mut links = RawTable::new(table);
     let mut edited = list_of(&*list);
@@ -197,6 +206,7 @@ pub extern "C" fn ic_xor_remove(
         → Removed table.old table.new list.old list.new result p front back }
     ensures null { place_of at ≡ None → result ≡ 4 }
     ensures refused { result ≢ 0 → (table.new ≡ table.old) × (list.new ≡ list.old) }
+    ensures status { IsStatus result }
 {
     remove_at(table, list, place_of(before), place_of(at))
 }
@@ -218,6 +228,7 @@ pub extern "C" fn ic_xor_replace(
     ensures free { (p : Place) → place_of place ≡ Some p → result ≡ 0 → FreeIn table.old p }
     ensures null { place_of at ≡ None → result ≡ 4 }
     ensures refused { result ≢ 0 → (table.new ≡ table.old) × (list.new ≡ list.old) }
+    ensures status { IsStatus result }
 {
     let mut links = RawTable::new(table);
     let mut edited = list_of(&*list);
@@ -245,6 +256,7 @@ pub extern "C" fn ic_xor_splice_between(
         → Spliced table.old table.new list.old list.new result given.old cut t }
     ensures emptied { result ≡ 0 → ends_of given.new ≡ no_members }
     ensures refused { result ≢ 0 → (table.new ≡ table.old) × (list.new ≡ list.old) × (given.new ≡ given.old) }
+    ensures status { IsStatus result }
 {
     let mut links = RawTable::new(table);
     let mut edited = list_of(&*list);
@@ -272,6 +284,7 @@ pub extern "C" fn ic_xor_split_between(
     ensures split { (cut : Cut) → IsAfter cut (place_of before) → IsBefore cut (place_of behind)
         → Split table.old table.new list.old list.new result rest.new cut }
     ensures refused { result ≢ 0 → (table.new ≡ table.old) × (list.new ≡ list.old) × (rest.new ≡ rest.old) }
+    ensures status { IsStatus result }
 {
     let mut links = RawTable::new(table);
     let mut edited = list_of(&*list);

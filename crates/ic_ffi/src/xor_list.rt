@@ -10,7 +10,7 @@ ghost use Rattle.ic_link_ops.specs.Sequences.{Cut, join, first, last, IsDisjoint
 ghost use Rattle.ic_link_ops.specs.Chains.{Ends};
 ghost use Rattle.ic_link_ops.specs.Tables.{IsLinked, IsUnlinked};
 ghost use Rattle.ic_link_ops.specs.Edits.{Inserts, Removes, Replaces, Splices, Splits};
-ghost use Rattle.ic_ffi.specs.Answers.{IsAccepted};
+ghost use Rattle.ic_ffi.specs.Answers.{IsStatus, IsAccepted};
 ghost use Rattle.ic_ffi.specs.Gaps.{Stands};
 ghost use Rattle.ic_ffi.specs.Gaps as gaps;
 ghost use Rattle.ic_ffi.specs.Tables.{IsFree};
@@ -55,8 +55,9 @@ fn faces(
 // Whether both places are linked or none, or why not.
 #[inline]
 fn standing(links: &RawTable<'_, RawOne>, before: Option<Place>, behind: Option<Place>) -> u32
-    ensures { (list : Ends) (cut : Cut) → Shows (lent_table links.now) list (join cut) → IsAfter cut before → IsBefore cut behind
+    ensures shown { (list : Ends) (cut : Cut) → Shows (lent_table links.now) list (join cut) → IsAfter cut before → IsBefore cut behind
         → result ≡ 0 }
+    ensures status { IsStatus result }
 {
     let status = links.standing(before);
     if status != OK {
@@ -120,6 +121,7 @@ pub(crate) fn put(
     ensures free { (p : Place) → place ≡ Some p → result ≡ 0 → IsFree is_linked_one (lent_table links.old) p }
     ensures refused { result ≢ 0 → (links.new ≡ links.old) × (list.new ≡ list.old) }
     ensures extent { (lent_table links.new).extent ≡ (lent_table links.old).extent }
+    ensures status { IsStatus result }
 {
     if !is_gap(&*links, &*list, before, behind) {
         return BROKEN;
@@ -150,6 +152,7 @@ pub(crate) fn insert(
     ensures free { (p : Place) → place ≡ Some p → result ≡ 0 → IsFree is_linked_one (lent_table links.old) p }
     ensures refused { result ≢ 0 → (links.new ≡ links.old) × (list.new ≡ list.old) }
     ensures extent { (lent_table links.new).extent ≡ (lent_table links.old).extent }
+    ensures status { IsStatus result }
 {
     let status = standing(&*links, before, behind);
     if status != OK {
@@ -174,6 +177,7 @@ fn take_out(
         × IsUnlinked is_linked_one (lent_table links.new) member) }
     ensures refused { result ≢ 0 → (links.new ≡ links.old) × (list.new ≡ list.old) }
     ensures extent { (lent_table links.new).extent ≡ (lent_table links.old).extent }
+    ensures status { IsStatus result }
 {
     let status = links.standing(before);
     if status != OK {
@@ -202,6 +206,7 @@ pub(crate) fn remove(
     ensures null { at ≡ None → result ≡ 4 }
     ensures refused { result ≢ 0 → (links.new ≡ links.old) × (list.new ≡ list.old) }
     ensures extent { (lent_table links.new).extent ≡ (lent_table links.old).extent }
+    ensures status { IsStatus result }
 {
     let Some(member) = at else {
         return NULL;
@@ -222,6 +227,7 @@ pub(crate) fn remove_last(links: &mut RawTable<'_, RawOne>, list: &mut List, mem
         × IsUnlinked is_linked_one (lent_table links.new) member) }
     ensures refused { result ≢ 0 → (links.new ≡ links.old) × (list.new ≡ list.old) }
     ensures extent { (lent_table links.new).extent ≡ (lent_table links.old).extent }
+    ensures status { IsStatus result }
 {
     let status = links.standing(Some(member));
     if status != OK {
@@ -249,6 +255,7 @@ fn exchange(
     ensures free { (p : Place) → place ≡ Some p → result ≡ 0 → IsFree is_linked_one (lent_table links.old) p }
     ensures refused { result ≢ 0 → (links.new ≡ links.old) × (list.new ≡ list.old) }
     ensures extent { (lent_table links.new).extent ≡ (lent_table links.old).extent }
+    ensures status { IsStatus result }
 {
     let status = links.standing(before);
     if status != OK {
@@ -286,6 +293,7 @@ pub(crate) fn replace(
     ensures null { at ≡ None → result ≡ 4 }
     ensures refused { result ≢ 0 → (links.new ≡ links.old) × (list.new ≡ list.old) }
     ensures extent { (lent_table links.new).extent ≡ (lent_table links.old).extent }
+    ensures status { IsStatus result }
 {
     let Some(member) = at else {
         return NULL;
@@ -327,6 +335,7 @@ pub(crate) fn splice(
         → IsAccepted result (Splices Shows (lent_table links.old) (lent_table links.new) list.new cut t) }
     ensures refused { result ≢ 0 → (links.new ≡ links.old) × (list.new ≡ list.old) }
     ensures extent { (lent_table links.new).extent ≡ (lent_table links.old).extent }
+    ensures status { IsStatus result }
 {
     let status = standing(&*links, before, behind);
     if status != OK {
@@ -355,6 +364,7 @@ pub(crate) fn split(
         → IsAccepted result (Splits Shows (lent_table links.old) (lent_table links.new) list.new rest.new cut.front cut.back) }
     ensures refused { result ≢ 0 → (links.new ≡ links.old) × (list.new ≡ list.old) × (rest.new ≡ rest.old) }
     ensures extent { (lent_table links.new).extent ≡ (lent_table links.old).extent }
+    ensures status { IsStatus result }
 {
     let status = standing(&*links, before, behind);
     if status != OK {

@@ -6,7 +6,7 @@ use Rattle.ic_ffi.proofs.list.beside.Goals as goal
 
 pub returns-then-status-ne-OK-clause-shown : goal.returns-then-status-ne-OK-clause-shown
 returns-then-status-ne-OK-clause-shown c front back shown =
-    absurd (c.if-status-ne-OK.true (c.standing-status.ensures.1 (member_stands front c.args.member back shown)))
+    absurd (c.if-status-ne-OK.true (c.standing-status.ensures.stands.1 (member_stands front c.args.member back shown)))
 
 pub returns-then-not-leads-clause-shown : goal.returns-then-not-leads-clause-shown
 returns-then-not-leads-clause-shown c front back shown =

@@ -6,7 +6,7 @@ use Rattle.ic_ffi.proofs.list.gap_at.Goals as goal
 
 pub returns-then-status-ne-OK-clause-shown : goal.returns-then-status-ne-OK-clause-shown
 returns-then-status-ne-OK-clause-shown c cut shown beside =
-    absurd (c.if-status-ne-OK.true (c.standing-status.ensures.1 (beside_stands c.args.side cut shown beside)))
+    absurd (c.if-status-ne-OK.true (c.standing-status.ensures.stands.1 (beside_stands c.args.side cut shown beside)))
 
 pub returns-then-not-follows-clause-shown : goal.returns-then-not-follows-clause-shown
 returns-then-not-follows-clause-shown c cut shown beside =

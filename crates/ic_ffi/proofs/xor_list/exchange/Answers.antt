@@ -8,7 +8,7 @@ use Rattle.ic_ffi.proofs.xor_list.exchange.Goals as goal
 
 pub returns-then-status-ne-OK-clause-replaced : goal.returns-then-status-ne-OK-clause-replaced
 returns-then-status-ne-OK-clause-replaced c front back p shown before behind is free =
-    absurd (c.if-status-ne-OK.true (c.standing-status.ensures.1 (before_stands front (c.args.member ∷ back) shown before)))
+    absurd (c.if-status-ne-OK.true (c.standing-status.ensures.stands.1 (before_stands front (c.args.member ∷ back) shown before)))
 
 pub returns-clause-replaced : goal.returns-clause-replaced
 returns-clause-replaced c front back p shown before behind is free =

@@ -5,7 +5,7 @@ use Rattle.ic_ffi.proofs.xor_list.remove.Goals as goal
 
 pub returns-then-status-ne-OK-clause-removed : goal.returns-then-status-ne-OK-clause-removed
 returns-then-status-ne-OK-clause-removed c front back p shown before is =
-    absurd (c.if-status-ne-OK.true (c.standing-status.ensures.1 (rw (sym c.in-Some.is ∙ is) (member_stands front p back shown))))
+    absurd (c.if-status-ne-OK.true (c.standing-status.ensures.stands.1 (rw (sym c.in-Some.is ∙ is) (member_stands front p back shown))))
 
 pub returns-clause-removed : goal.returns-clause-removed
 returns-clause-removed c front back p shown' before is =

@@ -5,7 +5,7 @@ use Rattle.ic_ffi.proofs.xor_list.replace.Goals as goal
 
 pub returns-then-status-ne-OK-clause-replaced : goal.returns-then-status-ne-OK-clause-replaced
 returns-then-status-ne-OK-clause-replaced c front back out p shown before at is free =
-    absurd (c.if-status-ne-OK.true (c.standing-status.ensures.1 (rw (sym c.in-Some.is ∙ at) (member_stands front out back shown))))
+    absurd (c.if-status-ne-OK.true (c.standing-status.ensures.stands.1 (rw (sym c.in-Some.is ∙ at) (member_stands front out back shown))))
 
 pub returns-clause-replaced : goal.returns-clause-replaced
 returns-clause-replaced c front back out p shown' before at is free =

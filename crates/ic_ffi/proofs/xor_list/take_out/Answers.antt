@@ -7,7 +7,7 @@ use Rattle.ic_ffi.proofs.xor_list.take_out.Goals as goal
 
 pub returns-then-status-ne-OK-clause-removed : goal.returns-then-status-ne-OK-clause-removed
 returns-then-status-ne-OK-clause-removed c front back shown before behind =
-    absurd (c.if-status-ne-OK.true (c.standing-status.ensures.1 (before_stands front (c.args.member ∷ back) shown before)))
+    absurd (c.if-status-ne-OK.true (c.standing-status.ensures.stands.1 (before_stands front (c.args.member ∷ back) shown before)))
 
 pub returns-clause-removed : goal.returns-clause-removed
 returns-clause-removed c front back shown before behind =
