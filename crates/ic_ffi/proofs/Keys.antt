@@ -6,19 +6,24 @@ use Rattle.ic_unsafe_ref.specs.declared.place.Place.{Place}
 use Rattle.ic_unsafe_ref.specs.Objects.{is_placed, at_indexes}
 use Rattle.ic_unsafe_ref.specs.Places.{index_of}
 use Rattle.ic_unsafe_ref.proofs.IndexLemmas.{placed_in_range}
+use Rattle.ic_link_ops.specs.declared.side.Side.{Side}
 use Rattle.ic_link_ops.specs.declared.side.Side.TheVariants.{Left, Right}
-use Rattle.ic_link_ops.specs.Sequences.{first}
-use Rattle.ic_link_ops.specs.Tables.{Table}
-use Rattle.ic_rbtree.specs.Borders.{if_passes, equal_at}
+use Rattle.ic_link_ops.specs.Sequences.{Cut, join, first}
+use Rattle.ic_link_ops.specs.Tables.{Table, IsCovered}
+use Rattle.ic_link_ops.specs.RedBlackTree as trees
+use Rattle.ic_rbtree.specs.Borders.{IsBorder, less_at, if_passes, equal_at}
+use Rattle.ic_rbtree.specs.Descents.{gap_in, EndsAt}
+use Rattle.ic_rbtree.specs.declared.keys.descent.Descent.{Descent}
+use Rattle.ic_rbtree.proofs.Gaps.{gap_join, gap_border}
 use Rattle.ic_ffi.specs.declared.words.RawThree.{RawThree}
 use Rattle.ic_ffi.specs.declared.search.Target.{Target}
 use Rattle.ic_ffi.specs.declared.search.Target.TheVariants.{Equal, AtLeast, AtMost}
 use Rattle.ic_ffi.specs.Gaps.{Stands}
 use Rattle.ic_ffi.specs.Keys.{IsTarget}
-use Rattle.ic_ffi.specs.Seen.{has_place}
-use Rattle.ic_ffi.specs.Tree.{Shows}
+use Rattle.ic_ffi.specs.Seen.{seen, seen_node, has_place}
+use Rattle.ic_ffi.specs.Tree.{Shows, IsHole}
 use Rattle.ic_ffi.specs.Words.{is_linked_three}
-use Rattle.ic_ffi.proofs.Trees.{beside_stands}
+use Rattle.ic_ffi.proofs.Trees.{beside_stands, hole_told, seen_shows}
 
 -- each place of the table has a key
 pub keyed : (t : Table RawThree) (keys : List ℕ) → t.extent.places ≤ length keys → (p : Place) → has_place t p ≡ true → is_placed (at_indexes keys) p ≡ true
@@ -39,3 +44,25 @@ target_stands {t} {root} Equal at shown f =
     λ q is. beside_stands Left f.gap (subst (Shows t root) (sym f.same) shown) refl q (passed (equal_at at) (first f.gap.back) q (sym f.answer ∙ is))
 target_stands {t} {root} AtLeast at shown b = beside_stands Left b.gap (subst (Shows t root) (sym b.same) shown) b.before
 target_stands {t} {root} AtMost at shown b = beside_stands Right b.gap (subst (Shows t root) (sym b.same) shown) b.after
+
+-- A PLACE FITS into a gap where a search past equal keys ends
+pub record Fits (t : Table RawThree) (root : Option Place) (at : Place → Ordering) (s : List Place) (side : Side) (parent : Option Place) : Type 0 where
+  pub gap : Cut
+  pub same : join gap ≡ s
+  pub border : IsBorder (less_at at) gap
+  pub shown : Shows t root (join gap)
+  pub hole : IsHole side t parent gap
+
+pub fits : (t : Table RawThree) → ((q : Place) → is_linked_three (t.entry q) ≡ true → IsCovered t q) → {root parent : Option Place} {at : Place → Ordering} {s : List Place} (d : Descent)
+    → Shows t root s → parent ≡ d.parent → ((s : List Place) (h : trees.Shows seen_node (seen t) root s) → EndsAt seen_node (seen t) at Right h.tree d) → Fits t root at s d.side parent
+fits t law {root} {parent} {at} {s} d shown is ends =
+    let h = seen_shows t law shown in
+    let gap : Cut = gap_in (less_at at) h.tree in
+    let same : join gap ≡ s = gap_join (less_at at) h.tree ∙ h.held.order in
+    record {
+      gap = gap;
+      same = same;
+      border = gap_border (less_at at) h.tree;
+      shown = subst (Shows t root) (sym same) shown;
+      hole = subst (λ o. IsHole d.side t o gap) (sym is) (hole_told t d.side d.parent gap (ends s h).hole);
+    }

@@ -170,5 +170,9 @@ pub(crate) fn insert(
         return OUT_OF_RANGE;
     }
     let descent = descend(&*links, &*tree, keys, keys[own.index()], Side::Right);
-    tree::insert(links, tree, descent.side, descent.parent.get(), place)
+    let parent = descent.parent.get();
+    if links.standing(parent) != OK {
+        return BROKEN;
+    }
+    tree::insert(links, tree, descent.side, parent, place)
 }

@@ -71,7 +71,8 @@ fn look_for(
 
 /// Hands out the first member with this key, or returns [`NULL`](crate::NULL) where there is none. It writes nothing else. O(log n).
 ///
-/// There has to be a key for each place of the table. The members are found where their keys never fall from one to the next.
+/// There has to be a key for each place of the table, and from one member to the next the keys must not fall, else it may find another
+/// one or none.
 #[unsafe(no_mangle)]
 pub extern "C" fn ic_tree_find(
     table: &mut [RawThree],
@@ -93,7 +94,8 @@ pub extern "C" fn ic_tree_find(
 /// Hands out the first member with a key of at least `key`, or returns [`NULL`](crate::NULL) where there is none. It writes nothing
 /// else. O(log n).
 ///
-/// There has to be a key for each place of the table. The members are found where their keys never fall from one to the next.
+/// There has to be a key for each place of the table, and from one member to the next the keys must not fall, else it may find another
+/// one or none.
 #[unsafe(no_mangle)]
 pub extern "C" fn ic_tree_lower_bound(
     table: &mut [RawThree],
@@ -115,7 +117,8 @@ pub extern "C" fn ic_tree_lower_bound(
 /// Hands out the last member with a key of at most `key`, or returns [`NULL`](crate::NULL) where there is none. It writes nothing
 /// else. O(log n).
 ///
-/// There has to be a key for each place of the table. The members are found where their keys never fall from one to the next.
+/// There has to be a key for each place of the table, and from one member to the next the keys must not fall, else it may find another
+/// one or none.
 #[unsafe(no_mangle)]
 pub extern "C" fn ic_tree_upper_bound(
     table: &mut [RawThree],

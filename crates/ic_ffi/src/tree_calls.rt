@@ -52,7 +52,8 @@ fn insert_at(table: &mut [RawThree], tree: &mut RawRoot, side: Side, at: u32, pl
 
 /// Puts a place in as the left child of the member `at`, in front of it, at [`NONE`](crate::NONE) as the only member. O(log n).
 ///
-/// The place has to be one of the table, and not linked. The member must have no left child, and at none the tree no member.
+/// The place has to be one of the table, and not linked. Where the member has a left child, or at none the tree a member, it returns
+/// [`BROKEN`](crate::BROKEN).
 #[unsafe(no_mangle)]
 pub extern "C" fn ic_tree_insert_left(
     table: &mut [RawThree],
@@ -71,7 +72,8 @@ pub extern "C" fn ic_tree_insert_left(
 
 /// Puts a place in as the right child of the member `at`, behind it, at [`NONE`](crate::NONE) as the only member. O(log n).
 ///
-/// The place has to be one of the table, and not linked. The member must have no right child, and at none the tree no member.
+/// The place has to be one of the table, and not linked. Where the member has a right child, or at none the tree a member, it
+/// returns [`BROKEN`](crate::BROKEN).
 #[unsafe(no_mangle)]
 pub extern "C" fn ic_tree_insert_right(
     table: &mut [RawThree],
