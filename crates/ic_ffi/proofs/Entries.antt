@@ -1,5 +1,5 @@
 -- The words of a table as they are written.
-use Rattle.std.proofs.Common.{◌≡◌, ℕ, ◌+◌, ◌%◌, ◌≤◌, List, length, Bool, true, false, nat_eq, Option, slice_set, slice_index_or, sym, ap, ◌∙◌, arith}
+use Rattle.std.proofs.Common.{◌≡◌, ℕ, List, Bool, true, false, Option, slice_set, slice_index_or, sym, ap, ◌∙◌, arith}
 use Rattle.ic_unsafe_ref.specs.declared.place.Place.{Place}
 use Rattle.ic_unsafe_ref.specs.Numbers.{IsWord}
 use Rattle.ic_unsafe_ref.specs.Places.{index_of, word_of, place_at}
@@ -7,7 +7,7 @@ use Rattle.ic_unsafe_ref.proofs.PlaceLemmas.{place_at_word, word_at, word_fits}
 use Rattle.ic_link_ops.specs.PlainTables.{entry_at}
 use Rattle.ic_link_ops.specs.EntryLaws.{linked_in_range}
 use Rattle.ic_link_ops.proofs.EntryLemmas.{entry_same, entry_read}
-use Rattle.ic_ffi.specs.Words.{number_in, place_in, is_marked}
+use Rattle.ic_ffi.specs.Words.{number_in, place_in}
 
 -- the number that a word keeps is that of a place or 0, and so it is read as the number of the place that it names
 pub number_fits : (v : ℕ) → IsWord (number_in v)
@@ -16,13 +16,7 @@ number_fits v = (omega arith, omega arith)
 pub number_read : (v : ℕ) → word_of (place_in v) ≡ number_in v
 number_read v = word_at (number_in v) (number_fits v)
 
--- a number is kept as it is, with the mark and without
-pub number_kept : (n : ℕ) → IsWord n → number_in (n + 1) ≡ n
-number_kept n h = omega (arith, h.0, h.1)
-
-pub mark_kept : (n : ℕ) → IsWord n → is_marked (n + 1) ≡ true
-mark_kept n h = let odd : (n + 1) % 2 ≡ 1 = omega (arith, h.1) in ap (λ m. nat_eq m 1) odd
-
+-- and a place is kept as it is
 pub place_kept : (p : Option Place) → place_in (word_of p) ≡ p
 place_kept p =
     let fits = word_fits p in
@@ -37,12 +31,3 @@ module _ {E : Type 0} (is_linked : E → Bool) (d : E) (starts : is_linked d ≡
   says_written says change es p old new beyond i at_p linked read written =
       let covered = linked_in_range is_linked d starts es (index_of p) linked in
       ap says (entry_same d es p new i at_p covered) ∙ written ∙ ap (λ e. change (says e)) (sym (entry_read d es p old beyond i at_p covered read))
-
-  -- beyond the last place no place is linked
-  pub none_beyond : (es : List E) (p : Place) → length es ≤ index_of p → is_linked (entry_at d es p) ≡ false
-  none_beyond es p h =
-      let none : is_linked (entry_at d es p) ≡ true → ⊥ = λ on. absurd (omega (arith, h, linked_in_range is_linked d starts es (index_of p) on)) in
-      off (is_linked (entry_at d es p)) none where
-        off : (b : Bool) → (b ≡ true → ⊥) → b ≡ false
-        off true n = absurd (n (λ k. true))
-        off false n = λ k. false

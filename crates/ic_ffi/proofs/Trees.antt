@@ -13,7 +13,7 @@ use Rattle.ic_link_ops.specs.Trees.{Tree, leaf, fork, top}
 use Rattle.ic_link_ops.specs.Frames.{child_on}
 use Rattle.ic_link_ops.specs.PlainTables.{entry_at}
 use Rattle.ic_link_ops.specs.Times.{one_at, times}
-use Rattle.ic_link_ops.specs.RedBlackTree.{Node, IsTree}
+use Rattle.ic_link_ops.specs.RedBlackTree.{IsTree}
 use Rattle.ic_link_ops.specs.RedBlackTree as trees
 use Rattle.ic_link_ops.proofs.SequenceLemmas.{gap_not, none_not, some_same, absent_with}
 use Rattle.ic_link_ops.proofs.Times.{one_at_self}
