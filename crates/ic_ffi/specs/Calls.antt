@@ -1,12 +1,12 @@
 -- WHAT A CALL DOES to the words of a table and of its list, by the sequence that they show: in the same words for every kind.
-use Rattle.std.specs.Prelude.{ℕ, Bool, ◌∷◌, ◌++◌, List}
+use Rattle.std.specs.Prelude.{ℕ, Bool, ◌∷◌, ◌++◌, List, Option}
 use Rattle.ic_unsafe_ref.specs.declared.place.Place.{Place}
 use Rattle.ic_link_ops.specs.Sequences.{Cut, join, IsDisjoint}
 use Rattle.ic_link_ops.specs.Tables.{Table, IsUnlinked}
 use Rattle.ic_link_ops.specs.PlainTables.{table_of}
 use Rattle.ic_link_ops.specs.Edits.{Inserts, Removes, Replaces, Splices, Splits}
 use Rattle.ic_ffi.specs.Answers.{IsAccepted}
-use Rattle.ic_ffi.specs.Gaps.{before}
+use Rattle.ic_ffi.specs.Gaps.{before, Stands}
 use Rattle.ic_ffi.specs.Tables.{IsFree}
 use Rattle.ic_ffi.specs.Words.{HasNumber}
 
@@ -20,6 +20,10 @@ module _ {W R H : Type 0} (Shows : Table W → H → List Place → Type 0) (lin
   -- the place is free in the table of these words
   abbrev pub FreeIn : List W → Place → Type 0
   FreeIn words = IsFree linked (table_of unlinked words)
+
+  -- an end is none or a linked place of it
+  abbrev pub StandsIn : List W → Option Place → Type 0
+  StandsIn words at = Stands linked (table_of unlinked words) at
 
   module _ (old new : List W) (list list' : R) (status : ℕ) where
     -- p, which is free, is inserted

@@ -57,6 +57,9 @@ ShowsList = calls.ShowsList Shows is_linked_two no_words ends_of
 abbrev pub FreeIn : List RawTwo → Place → Type 0
 FreeIn = calls.FreeIn Shows is_linked_two no_words ends_of
 
+abbrev pub StandsIn : List RawTwo → Option Place → Type 0
+StandsIn = calls.StandsIn Shows is_linked_two no_words ends_of
+
 abbrev pub Inserted : (old new : List RawTwo) (list list' : RawEnds) (status : ℕ) → Cut → Place → Type 0
 Inserted = calls.Inserted Shows is_linked_two no_words ends_of
 

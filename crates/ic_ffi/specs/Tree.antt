@@ -49,6 +49,9 @@ ShowsTree = calls.ShowsList Shows is_linked_three no_tree_words root_in
 abbrev pub FreeIn : List RawThree → Place → Type 0
 FreeIn = calls.FreeIn Shows is_linked_three no_tree_words root_in
 
+abbrev pub StandsIn : List RawThree → Option Place → Type 0
+StandsIn = calls.StandsIn Shows is_linked_three no_tree_words root_in
+
 abbrev pub Inserted : (old new : List RawThree) (tree tree' : RawRoot) (status : ℕ) → Cut → Place → Type 0
 Inserted = calls.Inserted Shows is_linked_three no_tree_words root_in
 

@@ -31,6 +31,9 @@ ShowsList = calls.ShowsList Shows is_linked_one no_word ends_of
 abbrev pub FreeIn : List RawOne → Place → Type 0
 FreeIn = calls.FreeIn Shows is_linked_one no_word ends_of
 
+abbrev pub StandsIn : List RawOne → Option Place → Type 0
+StandsIn = calls.StandsIn Shows is_linked_one no_word ends_of
+
 abbrev pub Inserted : (old new : List RawOne) (list list' : RawEnds) (status : ℕ) → Cut → Place → Type 0
 Inserted = calls.Inserted Shows is_linked_one no_word ends_of
 

@@ -91,6 +91,7 @@ fn follows(
 // The gap beside a place, at none the outermost one.
 #[inline]
 fn gap_at(links: &RawTable<'_, RawTwo>, list: &List, side: Side, at: Option<Place>) -> Gap
+    ensures at { result.status ≡ 0 → Stands is_linked_two (lent_table links.now) at }
     ensures stands { result.status ≡ 0 → StandBeside is_linked_two (lent_table links.now) result }
     ensures shown { (cut : Cut) → Shows (lent_table links.now) list.now (join cut) → IsBeside side cut at → result ≡ gap_of cut }
     ensures status { IsStatus result.status }
@@ -167,9 +168,11 @@ pub(crate) fn insert(
         → IsFree is_linked_two (lent_table links.old) p
         → IsAccepted result (Inserts Shows (lent_table links.old) (lent_table links.new) list.new cut p) }
     ensures free { (p : Place) → place ≡ Some p → result ≡ 0 → IsFree is_linked_two (lent_table links.old) p }
+    ensures none { place ≡ None → result ≢ 0 }
     ensures refused { result ≢ 0 → (links.new ≡ links.old) × (list.new ≡ list.old) }
     ensures extent { (lent_table links.new).extent ≡ (lent_table links.old).extent }
     ensures status { IsStatus result }
+    ensures stands { result ≡ 0 → Stands is_linked_two (lent_table links.old) at }
 {
     let gap = gap_at(&*links, &*list, side, at);
     if gap.status != OK {
@@ -196,6 +199,7 @@ pub(crate) fn remove(links: &mut RawTable<'_, RawTwo>, list: &mut List, at: Opti
     ensures refused { result ≢ 0 → (links.new ≡ links.old) × (list.new ≡ list.old) }
     ensures extent { (lent_table links.new).extent ≡ (lent_table links.old).extent }
     ensures status { IsStatus result }
+    ensures stands { result ≡ 0 → Stands is_linked_two (lent_table links.old) at }
 {
     let Some(member) = at else {
         return NULL;
@@ -222,10 +226,12 @@ pub(crate) fn replace(
         → IsAccepted result (Replaces Shows (lent_table links.old) (lent_table links.new) list.new (before out front back) p
         × IsUnlinked is_linked_two (lent_table links.new) out) }
     ensures free { (p : Place) → place ≡ Some p → result ≡ 0 → IsFree is_linked_two (lent_table links.old) p }
+    ensures none { place ≡ None → result ≢ 0 }
     ensures null { at ≡ None → result ≡ 4 }
     ensures refused { result ≢ 0 → (links.new ≡ links.old) × (list.new ≡ list.old) }
     ensures extent { (lent_table links.new).extent ≡ (lent_table links.old).extent }
     ensures status { IsStatus result }
+    ensures stands { result ≡ 0 → Stands is_linked_two (lent_table links.old) at }
 {
     let Some(member) = at else {
         return NULL;
@@ -261,6 +267,7 @@ pub(crate) fn splice(
     ensures refused { result ≢ 0 → (links.new ≡ links.old) × (list.new ≡ list.old) }
     ensures extent { (lent_table links.new).extent ≡ (lent_table links.old).extent }
     ensures status { IsStatus result }
+    ensures stands { result ≡ 0 → Stands is_linked_two (lent_table links.old) at }
 {
     let gap = gap_at(&*links, &*list, side, at);
     if gap.status != OK {
@@ -302,6 +309,7 @@ pub(crate) fn split(
     ensures refused { result ≢ 0 → (links.new ≡ links.old) × (list.new ≡ list.old) × (rest.new ≡ rest.old) }
     ensures extent { (lent_table links.new).extent ≡ (lent_table links.old).extent }
     ensures status { IsStatus result }
+    ensures stands { result ≡ 0 → Stands is_linked_two (lent_table links.old) at }
 {
     let gap = gap_at(&*links, &*list, side, at);
     if gap.status != OK {

@@ -15,7 +15,7 @@ ghost use Rattle.ic_link_ops.specs.Chains.{no_members};
 ghost use Rattle.ic_ffi.specs.declared.gap.Side.TheVariants.{After, Before};
 ghost use Rattle.ic_ffi.specs.Gaps.{IsBeside};
 ghost use Rattle.ic_ffi.specs.Words.{place_of};
-ghost use Rattle.ic_ffi.specs.Doubly.{ShowsList, FreeIn, ends_of, Inserted, Removed, Popped, Replaced, Spliced, Split};
+ghost use Rattle.ic_ffi.specs.Doubly.{ShowsList, FreeIn, StandsIn, ends_of, Inserted, Removed, Popped, Replaced, Spliced, Split};
 ghost use Rattle.ic_ffi.specs.Answers.{IsStatus};
 
 use crate::gap::Side;
@@ -41,8 +41,10 @@ fn insert_at(table: &mut [RawTwo], list: &mut RawEnds, side: Side, at: u32, plac
     ensures inserted { (cut : Cut) (p : Place) → IsBeside side cut (place_of at) → place_of place ≡ Some p
         → Inserted table.old table.new list.old list.new result cut p }
     ensures free { (p : Place) → place_of place ≡ Some p → result ≡ 0 → FreeIn table.old p }
+    ensures none { place_of place ≡ None → result ≢ 0 }
     ensures refused { result ≢ 0 → (table.new ≡ table.old) × (list.new ≡ list.old) }
     ensures status { IsStatus result }
+    ensures stands { result ≡ 0 → StandsIn table.old (place_of at) }
 {
     let mut links = RawTable::new(table);
     let mut edited = list_of(&*list);
@@ -59,6 +61,7 @@ fn remove_at(table: &mut [RawTwo], list: &mut RawEnds, at: Option<Place>) -> u32
     ensures null { at ≡ None → result ≡ 4 }
     ensures refused { result ≢ 0 → (table.new ≡ table.old) × (list.new ≡ list.old) }
     ensures status { IsStatus result }
+    ensures stands { result ≡ 0 → StandsIn table.old at }
 {
     let mut links = RawTable::new(table);
     let mut edited = list_of(&*list);
@@ -100,6 +103,7 @@ fn splice_at(
     ensures emptied { result ≡ 0 → ends_of given.new ≡ no_members }
     ensures refused { result ≢ 0 → (table.new ≡ table.old) × (list.new ≡ list.old) × (given.new ≡ given.old) }
     ensures status { IsStatus result }
+    ensures stands { result ≡ 0 → StandsIn table.old (place_of at) }
 {
     let mut links = RawTable::new(table);
     let mut edited = list_of(&*list);
@@ -128,6 +132,7 @@ fn split_at(
         → Split side table.old table.new list.old list.new result rest.new cut }
     ensures refused { result ≢ 0 → (table.new ≡ table.old) × (list.new ≡ list.old) × (rest.new ≡ rest.old) }
     ensures status { IsStatus result }
+    ensures stands { result ≡ 0 → StandsIn table.old (place_of at) }
 {
     let mut links = RawTable::new(table);
     let mut edited = list_of(&*list);
@@ -146,6 +151,7 @@ pub extern "C" fn ic_list_push_front(table: &mut [RawTwo], list: &mut RawEnds, p
     ensures inserted { (s : List Place) (p : Place) → place_of place ≡ Some p
         → Inserted table.old table.new list.old list.new result (at_front s) p }
     ensures free { (p : Place) → place_of place ≡ Some p → result ≡ 0 → FreeIn table.old p }
+    ensures none { place_of place ≡ None → result ≢ 0 }
     ensures refused { result ≢ 0 → (table.new ≡ table.old) × (list.new ≡ list.old) }
     ensures status { IsStatus result }
 {
@@ -160,6 +166,7 @@ pub extern "C" fn ic_list_push_back(table: &mut [RawTwo], list: &mut RawEnds, pl
     ensures inserted { (s : List Place) (p : Place) → place_of place ≡ Some p
         → Inserted table.old table.new list.old list.new result (at_back s) p }
     ensures free { (p : Place) → place_of place ≡ Some p → result ≡ 0 → FreeIn table.old p }
+    ensures none { place_of place ≡ None → result ≢ 0 }
     ensures refused { result ≢ 0 → (table.new ≡ table.old) × (list.new ≡ list.old) }
     ensures status { IsStatus result }
 {
@@ -211,8 +218,10 @@ pub extern "C" fn ic_list_insert_after(
     ensures inserted { (cut : Cut) (p : Place) → IsAfter cut (place_of at) → place_of place ≡ Some p
         → Inserted table.old table.new list.old list.new result cut p }
     ensures free { (p : Place) → place_of place ≡ Some p → result ≡ 0 → FreeIn table.old p }
+    ensures none { place_of place ≡ None → result ≢ 0 }
     ensures refused { result ≢ 0 → (table.new ≡ table.old) × (list.new ≡ list.old) }
     ensures status { IsStatus result }
+    ensures stands { result ≡ 0 → StandsIn table.old (place_of at) }
 {
     insert_at(table, list, Side::After, at, place)
 }
@@ -230,8 +239,10 @@ pub extern "C" fn ic_list_insert_before(
     ensures inserted { (cut : Cut) (p : Place) → IsBefore cut (place_of at) → place_of place ≡ Some p
         → Inserted table.old table.new list.old list.new result cut p }
     ensures free { (p : Place) → place_of place ≡ Some p → result ≡ 0 → FreeIn table.old p }
+    ensures none { place_of place ≡ None → result ≢ 0 }
     ensures refused { result ≢ 0 → (table.new ≡ table.old) × (list.new ≡ list.old) }
     ensures status { IsStatus result }
+    ensures stands { result ≡ 0 → StandsIn table.old (place_of at) }
 {
     insert_at(table, list, Side::Before, at, place)
 }
@@ -244,6 +255,7 @@ pub extern "C" fn ic_list_remove(table: &mut [RawTwo], list: &mut RawEnds, at: u
     ensures null { place_of at ≡ None → result ≡ 4 }
     ensures refused { result ≢ 0 → (table.new ≡ table.old) × (list.new ≡ list.old) }
     ensures status { IsStatus result }
+    ensures stands { result ≡ 0 → StandsIn table.old (place_of at) }
 {
     remove_at(table, list, place_of(at))
 }
@@ -261,9 +273,11 @@ pub extern "C" fn ic_list_replace(
     ensures replaced { (front back : List Place) (out p : Place) → place_of at ≡ Some out → place_of place ≡ Some p
         → Replaced table.old table.new list.old list.new result out front back p }
     ensures free { (p : Place) → place_of place ≡ Some p → result ≡ 0 → FreeIn table.old p }
+    ensures none { place_of place ≡ None → result ≢ 0 }
     ensures null { place_of at ≡ None → result ≡ 4 }
     ensures refused { result ≢ 0 → (table.new ≡ table.old) × (list.new ≡ list.old) }
     ensures status { IsStatus result }
+    ensures stands { result ≡ 0 → StandsIn table.old (place_of at) }
 {
     let mut links = RawTable::new(table);
     let mut edited = list_of(&*list);
@@ -285,6 +299,7 @@ pub extern "C" fn ic_list_splice_after(
     ensures emptied { result ≡ 0 → ends_of given.new ≡ no_members }
     ensures refused { result ≢ 0 → (table.new ≡ table.old) × (list.new ≡ list.old) × (given.new ≡ given.old) }
     ensures status { IsStatus result }
+    ensures stands { result ≡ 0 → StandsIn table.old (place_of at) }
 {
     splice_at(table, list, Side::After, at, given)
 }
@@ -302,6 +317,7 @@ pub extern "C" fn ic_list_splice_before(
     ensures emptied { result ≡ 0 → ends_of given.new ≡ no_members }
     ensures refused { result ≢ 0 → (table.new ≡ table.old) × (list.new ≡ list.old) × (given.new ≡ given.old) }
     ensures status { IsStatus result }
+    ensures stands { result ≡ 0 → StandsIn table.old (place_of at) }
 {
     splice_at(table, list, Side::Before, at, given)
 }
@@ -318,6 +334,7 @@ pub extern "C" fn ic_list_split_after(
         → Split After table.old table.new list.old list.new result rest.new cut }
     ensures refused { result ≢ 0 → (table.new ≡ table.old) × (list.new ≡ list.old) × (rest.new ≡ rest.old) }
     ensures status { IsStatus result }
+    ensures stands { result ≡ 0 → StandsIn table.old (place_of at) }
 {
     split_at(table, list, Side::After, at, rest)
 }
@@ -334,6 +351,7 @@ pub extern "C" fn ic_list_split_before(
         → Split Before table.old table.new list.old list.new result rest.new cut }
     ensures refused { result ≢ 0 → (table.new ≡ table.old) × (list.new ≡ list.old) × (rest.new ≡ rest.old) }
     ensures status { IsStatus result }
+    ensures stands { result ≡ 0 → StandsIn table.old (place_of at) }
 {
     split_at(table, list, Side::Before, at, rest)
 }

@@ -4,7 +4,7 @@
 //! let member = find(&links, &tree, keys, key, Target::AtLeast);
 //! ```
 
-ghost use Rattle.std.specs.Prelude.{◌≡◌, ◌≢◌, ◌≤◌, List, Option, Some, length};
+ghost use Rattle.std.specs.Prelude.{◌≡◌, ◌≢◌, ◌≤◌, List, Option, Some, length, None};
 ghost use Rattle.std.specs.Ordering.{nat_cmp};
 ghost use Rattle.ic_unsafe_ref.specs.declared.place.Place.{Place};
 ghost use Rattle.ic_link_ops.specs.Tables.{IsCovered, IsLinked};
@@ -155,6 +155,7 @@ pub(crate) fn insert(
         → IsAccepted result (InsertsInOrder Shows (against (key_of keys.now p) keys.now) (lent_table links.old) (lent_table links.new)
         (root_of tree.new) s p) }
     ensures free { (p : Place) → place ≡ Some p → result ≡ 0 → IsFree is_linked_three (lent_table links.old) p }
+    ensures none { place ≡ None → result ≢ 0 }
     ensures refused { result ≢ 0 → (links.new ≡ links.old) × (tree.new ≡ tree.old) }
     ensures extent { (lent_table links.new).extent ≡ (lent_table links.old).extent }
     ensures status { IsStatus result }

@@ -10,7 +10,7 @@
 //! ic_tree_lower_bound(links, 64, keys, 64, &tree, 20, &found);  // IC_OK, and found is 7
 //! ```
 
-ghost use Rattle.std.specs.Prelude.{◌≡◌, ◌≢◌, ◌≤◌, List, Some, length};
+ghost use Rattle.std.specs.Prelude.{◌≡◌, ◌≢◌, ◌≤◌, List, Some, length, None};
 ghost use Rattle.ic_unsafe_ref.specs.declared.place.Place.{Place};
 ghost use Rattle.ic_rbtree.specs.Borders.{Finds, IsLowerBorder, IsUpperBorder};
 ghost use Rattle.ic_rbtree.specs.declared.keys.key_adapter.Bound.TheVariants.{Included};
@@ -38,6 +38,7 @@ pub extern "C" fn ic_tree_insert(
     ensures inserted { (s : List Place) (p : Place) → place_of place ≡ Some p → length table.old ≤ length keys.now
         → InsertedInOrder keys.now table.old table.new tree.old tree.new result s p }
     ensures free { (p : Place) → place_of place ≡ Some p → result ≡ 0 → FreeIn table.old p }
+    ensures none { place_of place ≡ None → result ≢ 0 }
     ensures refused { result ≢ 0 → (table.new ≡ table.old) × (tree.new ≡ tree.old) }
     ensures status { IsStatus result }
 {

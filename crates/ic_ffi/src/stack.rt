@@ -43,6 +43,7 @@ fn next_of(links: &RawTable<'_, RawOne>, list: &Stack, place: Option<Place>) -> 
 // The gap behind a place, at none the first one.
 #[inline]
 fn gap_after(links: &RawTable<'_, RawOne>, list: &Stack, at: Option<Place>) -> Gap
+    ensures at { result.status ≡ 0 → Stands is_linked_one (lent_table links.now) at }
     ensures stands { result.status ≡ 0 → StandBeside is_linked_one (lent_table links.now) result }
     ensures shown { (cut : Cut) → Shows (lent_table links.now) list.now (join cut) → IsAfter cut at → result ≡ gap_of cut }
     ensures status { IsStatus result.status }
@@ -74,9 +75,11 @@ pub(crate) fn insert(
         → IsFree is_linked_one (lent_table links.old) p
         → IsAccepted result (Inserts Shows (lent_table links.old) (lent_table links.new) list.new cut p) }
     ensures free { (p : Place) → place ≡ Some p → result ≡ 0 → IsFree is_linked_one (lent_table links.old) p }
+    ensures none { place ≡ None → result ≢ 0 }
     ensures refused { result ≢ 0 → (links.new ≡ links.old) × (list.new ≡ list.old) }
     ensures extent { (lent_table links.new).extent ≡ (lent_table links.old).extent }
     ensures status { IsStatus result }
+    ensures stands { result ≡ 0 → Stands is_linked_one (lent_table links.old) at }
 {
     let gap = gap_after(&*links, &*list, at);
     if gap.status != OK {
@@ -108,6 +111,7 @@ pub(crate) fn remove(
     ensures refused { result ≢ 0 → (links.new ≡ links.old) × (list.new ≡ list.old) × (removed.new ≡ removed.old) }
     ensures extent { (lent_table links.new).extent ≡ (lent_table links.old).extent }
     ensures status { IsStatus result }
+    ensures stands { result ≡ 0 → Stands is_linked_one (lent_table links.old) at }
 {
     let gap = gap_after(&*links, &*list, at);
     if gap.status != OK {
@@ -137,10 +141,12 @@ pub(crate) fn replace(
         → IsAccepted result (Replaces Shows (lent_table links.old) (lent_table links.new) list.new (before out front back) p
         × IsUnlinked is_linked_one (lent_table links.new) out × HasNumber out replaced.new) }
     ensures free { (p : Place) → place ≡ Some p → result ≡ 0 → IsFree is_linked_one (lent_table links.old) p }
+    ensures none { place ≡ None → result ≢ 0 }
     ensures nothing { (s : List Place) → Shows (lent_table links.old) list.old s → at ≡ last s → result ≡ 4 }
     ensures refused { result ≢ 0 → (links.new ≡ links.old) × (list.new ≡ list.old) × (replaced.new ≡ replaced.old) }
     ensures extent { (lent_table links.new).extent ≡ (lent_table links.old).extent }
     ensures status { IsStatus result }
+    ensures stands { result ≡ 0 → Stands is_linked_one (lent_table links.old) at }
 {
     let gap = gap_after(&*links, &*list, at);
     if gap.status != OK {
@@ -197,6 +203,7 @@ pub(crate) fn splice(
     ensures refused { result ≢ 0 → (links.new ≡ links.old) × (list.new ≡ list.old) }
     ensures extent { (lent_table links.new).extent ≡ (lent_table links.old).extent }
     ensures status { IsStatus result }
+    ensures stands { result ≡ 0 → Stands is_linked_one (lent_table links.old) at }
 {
     let gap = gap_after(&*links, &*list, at);
     if gap.status != OK {
@@ -225,6 +232,7 @@ pub(crate) fn split(
     ensures refused { result ≢ 0 → (links.new ≡ links.old) × (list.new ≡ list.old) × (rest.new ≡ rest.old) }
     ensures extent { (lent_table links.new).extent ≡ (lent_table links.old).extent }
     ensures status { IsStatus result }
+    ensures stands { result ≡ 0 → Stands is_linked_one (lent_table links.old) at }
 {
     let gap = gap_after(&*links, &*list, at);
     if gap.status != OK {

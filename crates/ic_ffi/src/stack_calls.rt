@@ -12,7 +12,7 @@ ghost use Rattle.std.specs.Prelude.{◌≡◌, ◌≢◌, [], List, Some, None};
 ghost use Rattle.ic_unsafe_ref.specs.declared.place.Place.{Place};
 ghost use Rattle.ic_link_ops.specs.Sequences.{Cut, at_front, last, IsAfter};
 ghost use Rattle.ic_ffi.specs.Words.{place_of};
-ghost use Rattle.ic_ffi.specs.Singly.{ShowsList, FreeIn, front_of, Inserted, Popped, Exchanged, Spliced, Split};
+ghost use Rattle.ic_ffi.specs.Singly.{ShowsList, FreeIn, StandsIn, front_of, Inserted, Popped, Exchanged, Spliced, Split};
 ghost use Rattle.ic_ffi.specs.Answers.{IsStatus};
 
 use crate::number::{place_in, place_of};
@@ -38,6 +38,7 @@ pub extern "C" fn ic_stack_push_front(table: &mut [RawOne], list: &mut RawFront,
     ensures inserted { (s : List Place) (p : Place) → place_of place ≡ Some p
         → Inserted table.old table.new list.old list.new result (at_front s) p }
     ensures free { (p : Place) → place_of place ≡ Some p → result ≡ 0 → FreeIn table.old p }
+    ensures none { place_of place ≡ None → result ≢ 0 }
     ensures refused { result ≢ 0 → (table.new ≡ table.old) × (list.new ≡ list.old) }
     ensures status { IsStatus result }
 {
@@ -72,8 +73,10 @@ pub extern "C" fn ic_stack_insert_after(
     ensures inserted { (cut : Cut) (p : Place) → IsAfter cut (place_of at) → place_of place ≡ Some p
         → Inserted table.old table.new list.old list.new result cut p }
     ensures free { (p : Place) → place_of place ≡ Some p → result ≡ 0 → FreeIn table.old p }
+    ensures none { place_of place ≡ None → result ≢ 0 }
     ensures refused { result ≢ 0 → (table.new ≡ table.old) × (list.new ≡ list.old) }
     ensures status { IsStatus result }
+    ensures stands { result ≡ 0 → StandsIn table.old (place_of at) }
 {
     let mut links = RawTable::new(table);
     let mut edited = stack_of(&*list);
@@ -96,6 +99,7 @@ pub extern "C" fn ic_stack_remove_after(
     ensures nothing { (s : List Place) → ShowsList table.old list.old s → place_of at ≡ last s → result ≡ 4 }
     ensures refused { result ≢ 0 → (table.new ≡ table.old) × (list.new ≡ list.old) × (removed.new ≡ removed.old) }
     ensures status { IsStatus result }
+    ensures stands { result ≡ 0 → StandsIn table.old (place_of at) }
 {
     let mut links = RawTable::new(table);
     let mut edited = stack_of(&*list);
@@ -119,9 +123,11 @@ pub extern "C" fn ic_stack_replace_after(
     ensures replaced { (front back : List Place) (out p : Place) → place_of at ≡ last front → place_of place ≡ Some p
         → Exchanged table.old table.new list.old list.new result replaced.new out front back p }
     ensures free { (p : Place) → place_of place ≡ Some p → result ≡ 0 → FreeIn table.old p }
+    ensures none { place_of place ≡ None → result ≢ 0 }
     ensures nothing { (s : List Place) → ShowsList table.old list.old s → place_of at ≡ last s → result ≡ 4 }
     ensures refused { result ≢ 0 → (table.new ≡ table.old) × (list.new ≡ list.old) × (replaced.new ≡ replaced.old) }
     ensures status { IsStatus result }
+    ensures stands { result ≡ 0 → StandsIn table.old (place_of at) }
 {
     let mut links = RawTable::new(table);
     let mut edited = stack_of(&*list);
@@ -151,6 +157,7 @@ pub extern "C" fn ic_stack_splice_after(
     ensures emptied { result ≡ 0 → front_of given.new ≡ None }
     ensures refused { result ≢ 0 → (table.new ≡ table.old) × (list.new ≡ list.old) × (given.new ≡ given.old) }
     ensures status { IsStatus result }
+    ensures stands { result ≡ 0 → StandsIn table.old (place_of at) }
 {
     let mut links = RawTable::new(table);
     let mut edited = stack_of(&*list);
@@ -172,6 +179,7 @@ pub extern "C" fn ic_stack_split_after(
         → Split table.old table.new list.old list.new result rest.new cut }
     ensures refused { result ≢ 0 → (table.new ≡ table.old) × (list.new ≡ list.old) × (rest.new ≡ rest.old) }
     ensures status { IsStatus result }
+    ensures stands { result ≡ 0 → StandsIn table.old (place_of at) }
 {
     let mut links = RawTable::new(table);
     let mut edited = stack_of(&*list);

@@ -98,9 +98,11 @@ pub(crate) fn insert(
         → IsHole side (lent_table links.old) at cut → place ≡ Some p → IsFree is_linked_three (lent_table links.old) p
         → IsAccepted result (Inserts Shows (lent_table links.old) (lent_table links.new) (root_of tree.new) cut p) }
     ensures free { (p : Place) → place ≡ Some p → result ≡ 0 → IsFree is_linked_three (lent_table links.old) p }
+    ensures none { place ≡ None → result ≢ 0 }
     ensures refused { result ≢ 0 → (links.new ≡ links.old) × (tree.new ≡ tree.old) }
     ensures extent { (lent_table links.new).extent ≡ (lent_table links.old).extent }
     ensures status { IsStatus result }
+    ensures stands { result ≡ 0 → Stands is_linked_three (lent_table links.old) at }
 {
     let status = hole(&*links, &*tree, side, at);
     if status != OK {
@@ -127,6 +129,7 @@ pub(crate) fn remove(links: &mut RawTable<'_, RawThree>, tree: &mut Tree, at: Op
     ensures refused { result ≢ 0 → (links.new ≡ links.old) × (tree.new ≡ tree.old) }
     ensures extent { (lent_table links.new).extent ≡ (lent_table links.old).extent }
     ensures status { IsStatus result }
+    ensures stands { result ≡ 0 → Stands is_linked_three (lent_table links.old) at }
 {
     let Some(member) = at else {
         return NULL;
@@ -153,10 +156,12 @@ pub(crate) fn replace(
         → IsAccepted result (Replaces Shows (lent_table links.old) (lent_table links.new) (root_of tree.new) (before out front back) p
         × IsUnlinked is_linked_three (lent_table links.new) out) }
     ensures free { (p : Place) → place ≡ Some p → result ≡ 0 → IsFree is_linked_three (lent_table links.old) p }
+    ensures none { place ≡ None → result ≢ 0 }
     ensures null { at ≡ None → result ≡ 4 }
     ensures refused { result ≢ 0 → (links.new ≡ links.old) × (tree.new ≡ tree.old) }
     ensures extent { (lent_table links.new).extent ≡ (lent_table links.old).extent }
     ensures status { IsStatus result }
+    ensures stands { result ≡ 0 → Stands is_linked_three (lent_table links.old) at }
 {
     let Some(member) = at else {
         return NULL;
@@ -213,6 +218,7 @@ pub(crate) fn step(
     ensures linked { result ≡ 0 → (q : Place) × IsLinked is_linked_three (lent_table links.now) q × HasNumber q found.new }
     ensures refused { result ≢ 0 → found.new ≡ found.old }
     ensures status { IsStatus result }
+    ensures stands { result ≡ 0 → Stands is_linked_three (lent_table links.now) at }
 {
     let status = standing(links, tree, at);
     if status != OK {

@@ -17,7 +17,7 @@ ghost use Rattle.ic_rbtree.specs.Sides.{IsBeside};
 ghost use Rattle.ic_rbtree.specs.Tree.{root_of};
 ghost use Rattle.ic_ffi.specs.Answers.{IsStatus, IsFound};
 ghost use Rattle.ic_ffi.specs.Words.{place_of};
-ghost use Rattle.ic_ffi.specs.Tree.{ShowsTree, IsHole, FreeIn, NamesLinked, root_in, table_of, Inserted, Removed, Replaced};
+ghost use Rattle.ic_ffi.specs.Tree.{ShowsTree, IsHole, FreeIn, StandsIn, NamesLinked, root_in, table_of, Inserted, Removed, Replaced};
 
 use crate::number::{place_in, place_of};
 use crate::table::RawTable;
@@ -40,8 +40,10 @@ fn insert_at(table: &mut [RawThree], tree: &mut RawRoot, side: Side, at: u32, pl
     ensures inserted { (cut : Cut) (p : Place) → IsHole side (table_of table.old) (place_of at) cut → place_of place ≡ Some p
         → Inserted table.old table.new tree.old tree.new result cut p }
     ensures free { (p : Place) → place_of place ≡ Some p → result ≡ 0 → FreeIn table.old p }
+    ensures none { place_of place ≡ None → result ≢ 0 }
     ensures refused { result ≢ 0 → (table.new ≡ table.old) × (tree.new ≡ tree.old) }
     ensures status { IsStatus result }
+    ensures stands { result ≡ 0 → StandsIn table.old (place_of at) }
 {
     let mut links = RawTable::new(table);
     let mut edited = tree_of(&*tree);
@@ -64,8 +66,10 @@ pub extern "C" fn ic_tree_insert_left(
     ensures inserted { (cut : Cut) (p : Place) → IsHole Left (table_of table.old) (place_of at) cut → place_of place ≡ Some p
         → Inserted table.old table.new tree.old tree.new result cut p }
     ensures free { (p : Place) → place_of place ≡ Some p → result ≡ 0 → FreeIn table.old p }
+    ensures none { place_of place ≡ None → result ≢ 0 }
     ensures refused { result ≢ 0 → (table.new ≡ table.old) × (tree.new ≡ tree.old) }
     ensures status { IsStatus result }
+    ensures stands { result ≡ 0 → StandsIn table.old (place_of at) }
 {
     insert_at(table, tree, Side::Left, at, place)
 }
@@ -84,8 +88,10 @@ pub extern "C" fn ic_tree_insert_right(
     ensures inserted { (cut : Cut) (p : Place) → IsHole Right (table_of table.old) (place_of at) cut → place_of place ≡ Some p
         → Inserted table.old table.new tree.old tree.new result cut p }
     ensures free { (p : Place) → place_of place ≡ Some p → result ≡ 0 → FreeIn table.old p }
+    ensures none { place_of place ≡ None → result ≢ 0 }
     ensures refused { result ≢ 0 → (table.new ≡ table.old) × (tree.new ≡ tree.old) }
     ensures status { IsStatus result }
+    ensures stands { result ≡ 0 → StandsIn table.old (place_of at) }
 {
     insert_at(table, tree, Side::Right, at, place)
 }
@@ -98,6 +104,7 @@ pub extern "C" fn ic_tree_remove(table: &mut [RawThree], tree: &mut RawRoot, at:
     ensures null { place_of at ≡ None → result ≡ 4 }
     ensures refused { result ≢ 0 → (table.new ≡ table.old) × (tree.new ≡ tree.old) }
     ensures status { IsStatus result }
+    ensures stands { result ≡ 0 → StandsIn table.old (place_of at) }
 {
     let mut links = RawTable::new(table);
     let mut edited = tree_of(&*tree);
@@ -119,9 +126,11 @@ pub extern "C" fn ic_tree_replace(
     ensures replaced { (front back : List Place) (out p : Place) → place_of at ≡ Some out → place_of place ≡ Some p
         → Replaced table.old table.new tree.old tree.new result out front back p }
     ensures free { (p : Place) → place_of place ≡ Some p → result ≡ 0 → FreeIn table.old p }
+    ensures none { place_of place ≡ None → result ≢ 0 }
     ensures null { place_of at ≡ None → result ≡ 4 }
     ensures refused { result ≢ 0 → (table.new ≡ table.old) × (tree.new ≡ tree.old) }
     ensures status { IsStatus result }
+    ensures stands { result ≡ 0 → StandsIn table.old (place_of at) }
 {
     let mut links = RawTable::new(table);
     let mut edited = tree_of(&*tree);
@@ -139,6 +148,7 @@ fn step_at(table: &mut [RawThree], tree: &RawRoot, side: Side, at: u32, found: &
     ensures refused { result ≢ 0 → found.new ≡ found.old }
     ensures same { table.new ≡ table.old }
     ensures status { IsStatus result }
+    ensures stands { result ≡ 0 → StandsIn table.old (place_of at) }
 {
     let links = RawTable::new(table);
     tree::step(&links, &tree_of(tree), side, place_of(at), found)
@@ -159,6 +169,7 @@ pub extern "C" fn ic_tree_next(
     ensures refused { result ≢ 0 → found.new ≡ found.old }
     ensures same { table.new ≡ table.old }
     ensures status { IsStatus result }
+    ensures stands { result ≡ 0 → StandsIn table.old (place_of at) }
 {
     step_at(table, tree, Side::Right, at, found)
 }
@@ -178,6 +189,7 @@ pub extern "C" fn ic_tree_prev(
     ensures refused { result ≢ 0 → found.new ≡ found.old }
     ensures same { table.new ≡ table.old }
     ensures status { IsStatus result }
+    ensures stands { result ≡ 0 → StandsIn table.old (place_of at) }
 {
     step_at(table, tree, Side::Left, at, found)
 }

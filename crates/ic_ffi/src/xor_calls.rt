@@ -16,7 +16,7 @@ ghost use Rattle.ic_link_ops.specs.Chains.{no_members};
 ghost use Rattle.ic_ffi.specs.declared.words.RawOne.{RawOne};
 ghost use Rattle.ic_ffi.specs.Words.{place_of};
 ghost use Rattle.ic_ffi.specs.Doubly.{ends_of};
-ghost use Rattle.ic_ffi.specs.Xor.{Shows, ShowsList, FreeIn, Inserted, Removed, Popped, Replaced, Spliced, Split};
+ghost use Rattle.ic_ffi.specs.Xor.{Shows, ShowsList, FreeIn, StandsIn, Inserted, Removed, Popped, Replaced, Spliced, Split};
 ghost use Rattle.ic_ffi.specs.Answers.{IsStatus};
 
 use crate::number::{number_of, place_in, place_of};
@@ -48,6 +48,7 @@ fn put_at(
     ensures inserted { (cut : Cut) (p : Place) → IsAfter cut before → IsBefore cut behind → place_of place ≡ Some p
         → Inserted table.old table.new list.old list.new result cut p }
     ensures free { (p : Place) → place_of place ≡ Some p → result ≡ 0 → FreeIn table.old p }
+    ensures none { place_of place ≡ None → result ≢ 0 }
     ensures refused { result ≢ 0 → (table.new ≡ table.old) × (list.new ≡ list.old) }
     ensures status { IsStatus result }
 {
@@ -66,6 +67,7 @@ pub extern "C" fn ic_xor_push_front(table: &mut [RawOne], list: &mut RawEnds, pl
     ensures inserted { (s : List Place) (p : Place) → place_of place ≡ Some p
         → Inserted table.old table.new list.old list.new result (at_front s) p }
     ensures free { (p : Place) → place_of place ≡ Some p → result ≡ 0 → FreeIn table.old p }
+    ensures none { place_of place ≡ None → result ≢ 0 }
     ensures refused { result ≢ 0 → (table.new ≡ table.old) × (list.new ≡ list.old) }
     ensures status { IsStatus result }
 {
@@ -81,6 +83,7 @@ pub extern "C" fn ic_xor_push_back(table: &mut [RawOne], list: &mut RawEnds, pla
     ensures inserted { (s : List Place) (p : Place) → place_of place ≡ Some p
         → Inserted table.old table.new list.old list.new result (at_back s) p }
     ensures free { (p : Place) → place_of place ≡ Some p → result ≡ 0 → FreeIn table.old p }
+    ensures none { place_of place ≡ None → result ≢ 0 }
     ensures refused { result ≢ 0 → (table.new ≡ table.old) × (list.new ≡ list.old) }
     ensures status { IsStatus result }
 {
@@ -101,6 +104,8 @@ fn remove_at(
     ensures null { at ≡ None → result ≡ 4 }
     ensures refused { result ≢ 0 → (table.new ≡ table.old) × (list.new ≡ list.old) }
     ensures status { IsStatus result }
+    ensures stands { result ≡ 0 → StandsIn table.old at }
+    ensures before { result ≡ 0 → StandsIn table.old before }
 {
     let mut links = RawTable::new(table);
     let mut edited = list_of(&*list);
@@ -178,8 +183,11 @@ pub extern "C" fn ic_xor_insert_between(
     ensures inserted { (cut : Cut) (p : Place) → IsAfter cut (place_of before) → IsBefore cut (place_of behind) → place_of place ≡ Some p
         → Inserted table.old table.new list.old list.new result cut p }
     ensures free { (p : Place) → place_of place ≡ Some p → result ≡ 0 → FreeIn table.old p }
+    ensures none { place_of place ≡ None → result ≢ 0 }
     ensures refused { result ≢ 0 → (table.new ≡ table.old) × (list.new ≡ list.old) }
     ensures status { IsStatus result }
+    ensures before { result ≡ 0 → StandsIn table.old (place_of before) }
+    ensures behind { result ≡ 0 → StandsIn table.old (place_of behind) }
 {
     let mut links = RawTable::new(table);
     let mut edited = list_of(&*list);
@@ -207,6 +215,8 @@ pub extern "C" fn ic_xor_remove(
     ensures null { place_of at ≡ None → result ≡ 4 }
     ensures refused { result ≢ 0 → (table.new ≡ table.old) × (list.new ≡ list.old) }
     ensures status { IsStatus result }
+    ensures stands { result ≡ 0 → StandsIn table.old (place_of at) }
+    ensures before { result ≡ 0 → StandsIn table.old (place_of before) }
 {
     remove_at(table, list, place_of(before), place_of(at))
 }
@@ -226,9 +236,12 @@ pub extern "C" fn ic_xor_replace(
     ensures replaced { (front back : List Place) (out p : Place) → place_of before ≡ last front → place_of at ≡ Some out
         → place_of place ≡ Some p → Replaced table.old table.new list.old list.new result out front back p }
     ensures free { (p : Place) → place_of place ≡ Some p → result ≡ 0 → FreeIn table.old p }
+    ensures none { place_of place ≡ None → result ≢ 0 }
     ensures null { place_of at ≡ None → result ≡ 4 }
     ensures refused { result ≢ 0 → (table.new ≡ table.old) × (list.new ≡ list.old) }
     ensures status { IsStatus result }
+    ensures stands { result ≡ 0 → StandsIn table.old (place_of at) }
+    ensures before { result ≡ 0 → StandsIn table.old (place_of before) }
 {
     let mut links = RawTable::new(table);
     let mut edited = list_of(&*list);
@@ -257,6 +270,8 @@ pub extern "C" fn ic_xor_splice_between(
     ensures emptied { result ≡ 0 → ends_of given.new ≡ no_members }
     ensures refused { result ≢ 0 → (table.new ≡ table.old) × (list.new ≡ list.old) × (given.new ≡ given.old) }
     ensures status { IsStatus result }
+    ensures before { result ≡ 0 → StandsIn table.old (place_of before) }
+    ensures behind { result ≡ 0 → StandsIn table.old (place_of behind) }
 {
     let mut links = RawTable::new(table);
     let mut edited = list_of(&*list);
@@ -285,6 +300,8 @@ pub extern "C" fn ic_xor_split_between(
         → Split table.old table.new list.old list.new result rest.new cut }
     ensures refused { result ≢ 0 → (table.new ≡ table.old) × (list.new ≡ list.old) × (rest.new ≡ rest.old) }
     ensures status { IsStatus result }
+    ensures before { result ≡ 0 → StandsIn table.old (place_of before) }
+    ensures behind { result ≡ 0 → StandsIn table.old (place_of behind) }
 {
     let mut links = RawTable::new(table);
     let mut edited = list_of(&*list);

@@ -55,6 +55,8 @@ fn faces(
 // Whether both places are linked or none, or why not.
 #[inline]
 fn standing(links: &RawTable<'_, RawOne>, before: Option<Place>, behind: Option<Place>) -> u32
+    ensures before { result ≡ 0 → Stands is_linked_one (lent_table links.now) before }
+    ensures behind { result ≡ 0 → Stands is_linked_one (lent_table links.now) behind }
     ensures shown { (list : Ends) (cut : Cut) → Shows (lent_table links.now) list (join cut) → IsAfter cut before → IsBefore cut behind
         → result ≡ 0 }
     ensures status { IsStatus result }
@@ -119,6 +121,7 @@ pub(crate) fn put(
         → place ≡ Some p → IsFree is_linked_one (lent_table links.old) p
         → IsAccepted result (Inserts Shows (lent_table links.old) (lent_table links.new) list.new cut p) }
     ensures free { (p : Place) → place ≡ Some p → result ≡ 0 → IsFree is_linked_one (lent_table links.old) p }
+    ensures none { place ≡ None → result ≢ 0 }
     ensures refused { result ≢ 0 → (links.new ≡ links.old) × (list.new ≡ list.old) }
     ensures extent { (lent_table links.new).extent ≡ (lent_table links.old).extent }
     ensures status { IsStatus result }
@@ -150,9 +153,12 @@ pub(crate) fn insert(
         → place ≡ Some p → IsFree is_linked_one (lent_table links.old) p
         → IsAccepted result (Inserts Shows (lent_table links.old) (lent_table links.new) list.new cut p) }
     ensures free { (p : Place) → place ≡ Some p → result ≡ 0 → IsFree is_linked_one (lent_table links.old) p }
+    ensures none { place ≡ None → result ≢ 0 }
     ensures refused { result ≢ 0 → (links.new ≡ links.old) × (list.new ≡ list.old) }
     ensures extent { (lent_table links.new).extent ≡ (lent_table links.old).extent }
     ensures status { IsStatus result }
+    ensures before { result ≡ 0 → Stands is_linked_one (lent_table links.old) before }
+    ensures behind { result ≡ 0 → Stands is_linked_one (lent_table links.old) behind }
 {
     let status = standing(&*links, before, behind);
     if status != OK {
@@ -178,6 +184,7 @@ fn take_out(
     ensures refused { result ≢ 0 → (links.new ≡ links.old) × (list.new ≡ list.old) }
     ensures extent { (lent_table links.new).extent ≡ (lent_table links.old).extent }
     ensures status { IsStatus result }
+    ensures before { result ≡ 0 → Stands is_linked_one (lent_table links.old) before }
 {
     let status = links.standing(before);
     if status != OK {
@@ -207,6 +214,8 @@ pub(crate) fn remove(
     ensures refused { result ≢ 0 → (links.new ≡ links.old) × (list.new ≡ list.old) }
     ensures extent { (lent_table links.new).extent ≡ (lent_table links.old).extent }
     ensures status { IsStatus result }
+    ensures stands { result ≡ 0 → Stands is_linked_one (lent_table links.old) at }
+    ensures before { result ≡ 0 → Stands is_linked_one (lent_table links.old) before }
 {
     let Some(member) = at else {
         return NULL;
@@ -253,9 +262,11 @@ fn exchange(
         → IsAccepted result (Replaces Shows (lent_table links.old) (lent_table links.new) list.new (gaps.before member front back) p
         × IsUnlinked is_linked_one (lent_table links.new) member) }
     ensures free { (p : Place) → place ≡ Some p → result ≡ 0 → IsFree is_linked_one (lent_table links.old) p }
+    ensures none { place ≡ None → result ≢ 0 }
     ensures refused { result ≢ 0 → (links.new ≡ links.old) × (list.new ≡ list.old) }
     ensures extent { (lent_table links.new).extent ≡ (lent_table links.old).extent }
     ensures status { IsStatus result }
+    ensures before { result ≡ 0 → Stands is_linked_one (lent_table links.old) before }
 {
     let status = links.standing(before);
     if status != OK {
@@ -290,10 +301,13 @@ pub(crate) fn replace(
         → IsAccepted result (Replaces Shows (lent_table links.old) (lent_table links.new) list.new (gaps.before out front back) p
         × IsUnlinked is_linked_one (lent_table links.new) out) }
     ensures free { (p : Place) → place ≡ Some p → result ≡ 0 → IsFree is_linked_one (lent_table links.old) p }
+    ensures none { place ≡ None → result ≢ 0 }
     ensures null { at ≡ None → result ≡ 4 }
     ensures refused { result ≢ 0 → (links.new ≡ links.old) × (list.new ≡ list.old) }
     ensures extent { (lent_table links.new).extent ≡ (lent_table links.old).extent }
     ensures status { IsStatus result }
+    ensures stands { result ≡ 0 → Stands is_linked_one (lent_table links.old) at }
+    ensures before { result ≡ 0 → Stands is_linked_one (lent_table links.old) before }
 {
     let Some(member) = at else {
         return NULL;
@@ -336,6 +350,8 @@ pub(crate) fn splice(
     ensures refused { result ≢ 0 → (links.new ≡ links.old) × (list.new ≡ list.old) }
     ensures extent { (lent_table links.new).extent ≡ (lent_table links.old).extent }
     ensures status { IsStatus result }
+    ensures before { result ≡ 0 → Stands is_linked_one (lent_table links.old) before }
+    ensures behind { result ≡ 0 → Stands is_linked_one (lent_table links.old) behind }
 {
     let status = standing(&*links, before, behind);
     if status != OK {
@@ -365,6 +381,8 @@ pub(crate) fn split(
     ensures refused { result ≢ 0 → (links.new ≡ links.old) × (list.new ≡ list.old) × (rest.new ≡ rest.old) }
     ensures extent { (lent_table links.new).extent ≡ (lent_table links.old).extent }
     ensures status { IsStatus result }
+    ensures before { result ≡ 0 → Stands is_linked_one (lent_table links.old) before }
+    ensures behind { result ≡ 0 → Stands is_linked_one (lent_table links.old) behind }
 {
     let status = standing(&*links, before, behind);
     if status != OK {
