@@ -11,6 +11,7 @@
 //! ```
 #![tactic(auto)]
 
+mod hint;
 mod objects;
 mod place;
 mod unsafe_ref;

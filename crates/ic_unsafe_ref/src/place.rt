@@ -8,6 +8,7 @@
 ghost use Rattle.std.specs.Prelude.{◌≡◌, ℕ, ◌+◌, ◌*◌, ◌<◌, ◌≤◌, ◌%◌, ◌^◌, MatchOption};
 ghost use Rattle.ic_unsafe_ref.specs.Numbers.{IsNumber, IsWord};
 
+use crate::hint::known;
 use std::fmt;
 
 /// Where an object stands: an index, below 4,294,967,296 of each place that [`Place::new`] makes and that a table covers.
@@ -58,7 +59,9 @@ impl Place {
         ensures value { result ≡ index_of self }
         ensures small { result + 1 < 2 ^ 33 }
     {
-        (self.number / 2 - 1) as usize
+        // An even number addresses an entry with no mask.
+        let number = known(self.number, self.number % 2 == 0);
+        (number / 2 - 1) as usize
     }
 
     /// The place that a word names: none at 0. One test.

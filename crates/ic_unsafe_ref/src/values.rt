@@ -8,6 +8,7 @@
 ghost use Rattle.std.specs.Prelude.{◌≡◌, true, Some};
 ghost use Rattle.ic_unsafe_ref.specs.Objects.{object_at, is_placed, at_indexes};
 
+use crate::hint::known;
 use crate::{Objects, Place};
 use std::alloc::Allocator;
 
@@ -31,7 +32,8 @@ impl<V, A: Allocator> Values<V> for Objects<V, A> {
 
     #[inline]
     fn value(&self, place: Place) -> &V {
-        self.get(place).unwrap()
+        let value = self.get(place);
+        known(value, value.is_some()).unwrap()
     }
 }
 
