@@ -26,7 +26,7 @@ use room::{Size, Watch};
 use std::{env, io};
 use workloads::checksum;
 
-const WORKLOADS: [&str; 26] = [
+const WORKLOADS: [&str; 27] = [
     "pair",
     "pair-lent",
     "touch",
@@ -38,6 +38,7 @@ const WORKLOADS: [&str; 26] = [
     "iter",
     "iter-lent",
     "singly",
+    "singly-lent",
     "xor",
     "find",
     "find-flat",

@@ -1,16 +1,21 @@
-//! Work on a singly linked list, over any table.
+//! Work on a singly linked list, over the table that is handed in, or over the links that it lends.
 //!
 //! ```text
-//! let checksum = on_singly(&mut watch, &mut links, &objects, &order, size);
+//! let checksum = on_singly(is_lent, &mut watch, &mut links, &objects, &order, size);
 //! ```
 
-ghost use Rattle.std.specs.Prelude.{◌≡◌, ◌<◌, All};
+ghost use Rattle.std.specs.Prelude.{◌≡◌, ◌<◌, All, length};
 ghost use Rattle.ic_unsafe_ref.specs.Places.{index_of};
+ghost use Rattle.ic_link_ops.specs.Links.{link_of};
+ghost use Rattle.ic_link_ops.specs.OneWord.{no_word, has_word, next_word_of};
+ghost use Rattle.ic_link_ops.specs.PlainTables as plain;
+ghost use Rattle.ic_link_ops.specs.Readings.{successor_of};
 ghost use Rattle.ic_link_ops.specs.SinglyLinkedList.{ShowsSome};
 ghost use Rattle.ic_link_ops.specs.Tables.{IsCovered};
 
 use crate::room::{Size, Watch, value_at};
-use ic_link_ops::singly_linked_list::SinglyLinkedListOps;
+use ic_link_ops::LentTable;
+use ic_link_ops::singly_linked_list::{Link, LinkOps, SinglyLinkedListOps};
 use ic_singly_linked_list::SinglyLinkedList;
 use ic_unsafe_ref::{Objects, Place, UnsafeRef};
 
@@ -61,8 +66,8 @@ fn push_all<L: SinglyLinkedListOps>(
 }
 
 // All members are taken off and put back, so often.
-#[inline(never)]
-fn timed_singly<L: SinglyLinkedListOps>(
+#[inline(always)]
+fn turn<L: SinglyLinkedListOps>(
     list: &mut SinglyLinkedList<u64>,
     links: &mut L,
     order: &[Place],
@@ -71,11 +76,46 @@ fn timed_singly<L: SinglyLinkedListOps>(
     requires covered { All (λ place. index_of place < (L.table links.old).extent.places) order.now }
     requires shown { ShowsSome L.successor (L.table links.old) list.old }
     ensures shown { ShowsSome L.successor (L.table links.new) list.new }
+    ensures extent { (L.table links.new).extent ≡ (L.table links.old).extent }
 {
     for _round in 0..rounds {
         pop_all(list, links, order.len());
         push_all(list, links, order);
     }
+}
+
+// The work over links that are lent, on a list that is the loop's own meanwhile.
+#[inline(never)]
+fn timed_singly_links(
+    list: &mut SinglyLinkedList<u64>,
+    links: &mut [Link],
+    order: &[Place],
+    rounds: u64,
+)
+    requires covered { All (λ place. index_of place < length links.old) order.now }
+    requires shown { ShowsSome (successor_of next_word_of has_word) (plain.table_of (link_of no_word) links.old) list.old }
+    ensures covers { length links.new ≡ length links.old }
+    ensures shown { ShowsSome (successor_of next_word_of has_word) (plain.table_of (link_of no_word) links.new) list.new }
+{
+    let mut links = LentTable::new(links);
+    let mut own = list.take();
+    turn(&mut own, &mut links, order, rounds);
+    *list = own;
+}
+
+// The work over the table that is handed in.
+#[inline(never)]
+fn timed_singly_table(
+    list: &mut SinglyLinkedList<u64>,
+    table: &mut LinkOps,
+    order: &[Place],
+    rounds: u64,
+)
+    requires covered { All (λ place. index_of place < (plain.table no_word table.old).extent.places) order.now }
+    requires shown { ShowsSome (successor_of next_word_of has_word) (plain.table no_word table.old) list.old }
+    ensures shown { ShowsSome (successor_of next_word_of has_word) (plain.table no_word table.new) list.new }
+{
+    turn(list, table, order, rounds);
 }
 
 // What the members are and in which order they stand, as one number.
@@ -98,20 +138,34 @@ fn hash<L: SinglyLinkedListOps>(
     hash
 }
 
+// The work over a lent table.
+fn lent(list: &mut SinglyLinkedList<u64>, table: &mut LinkOps, order: &[Place], rounds: u64)
+    requires covered { All (λ place. index_of place < (plain.table no_word table.old).extent.places) order.now }
+    requires shown { ShowsSome (successor_of next_word_of has_word) (plain.table no_word table.old) list.old }
+    ensures { ShowsSome (successor_of next_word_of has_word) (plain.table no_word table.new) list.new }
+{
+    timed_singly_links(list, table.lend(), order, rounds);
+}
+
 /// A list of these objects in this order: does the work on it, and returns a checksum.
-pub fn on_singly<L: SinglyLinkedListOps>(
+pub fn on_singly(
+    is_lent: bool,
     watch: &mut Watch<'_>,
-    links: &mut L,
+    links: &mut LinkOps,
     objects: &Objects<u64>,
     order: &[Place],
     size: Size,
 ) -> u64
-    requires covered { All (λ place. index_of place < (L.table links.old).extent.places) order.now }
+    requires covered { All (λ place. index_of place < (plain.table no_word links.old).extent.places) order.now }
 {
     let mut list = SinglyLinkedList::new();
     push_all(&mut list, links, order);
     let start = watch.start();
-    timed_singly(&mut list, links, order, size.rounds());
+    if is_lent {
+        lent(&mut list, links, order, size.rounds());
+    } else {
+        timed_singly_table(&mut list, links, order, size.rounds());
+    }
     watch.stop(start);
     hash(&list, &*links, objects, size.members)
 }

@@ -61,13 +61,13 @@ fn doubly(
     Some(checksum)
 }
 
-// A singly linked list of them.
-fn singly(watch: &mut Watch<'_>, room: &Room, size: Size) -> Option<u64> {
+// A singly linked list of them, over the table that is handed in or over a lent one.
+fn singly(is_lent: bool, watch: &mut Watch<'_>, room: &Room, size: Size) -> Option<u64> {
     let alloc = watch.rt.alloc();
     let mut links = singly_linked_list::LinkOps::new(alloc);
     links.cover(size.members as usize).ok()?;
     let order = places_of(alloc, &room.objects, &room.order, links.covers()).ok()?;
-    Some(on_singly(watch, &mut links, &room.objects, &order, size))
+    Some(on_singly(is_lent, watch, &mut links, &room.objects, &order, size))
 }
 
 // An XOR list of them.
@@ -122,7 +122,7 @@ fn tree(
     Some(checksum)
 }
 
-/// Does the workload, and returns its checksum. Behind a doubly linked list's workload `-lent` stands for a lent table, and
+/// Does the workload, and returns its checksum. Behind the workload of a doubly or singly linked list `-lent` stands for a lent table, and
 /// behind one of a tree by its keys `-flat` for keys in an array. Without memory there is no checksum.
 pub fn checksum(name: &str, watch: &mut Watch<'_>, size: Size) -> Option<u64> {
     let mut room = make_room(watch.rt.alloc(), size.members)?;
@@ -132,7 +132,7 @@ pub fn checksum(name: &str, watch: &mut Watch<'_>, size: Size) -> Option<u64> {
     };
     match work {
         "pair" | "touch" | "splice" | "step" | "iter" => doubly(work, is_other, watch, &room, size),
-        "singly" => singly(watch, &room, size),
+        "singly" => singly(is_other, watch, &room, size),
         "xor" => xor(watch, &room, size),
         "world" => Some(on_world(watch, &room.objects, &room.order, size)),
         _ => tree(work, is_other, watch, &mut room, size),

@@ -1,6 +1,6 @@
 use Rattle.std.proofs.Common.{◌≡◌}
 use Rattle.ic_link_ops.specs.SinglyLinkedList.{ShowsSome}
-use Rattle.bench.proofs.singly.timed_singly.Given as goal
+use Rattle.bench.proofs.singly.turn.Given as goal
 
 abbrev pub invariant-loop-round : goal.invariant-loop-round
 invariant-loop-round g l = record {
