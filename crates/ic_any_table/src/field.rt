@@ -204,6 +204,16 @@ impl<M: Allocator> SinglyLinkedListOps for Field<M> {
         }
     }
 
+    #[inline]
+    fn link_before(&mut self, place: Place, next: Option<Place>) -> bool {
+        match self {
+            Field::Singly(links) => links.link_before(place, next),
+            Field::Xor(links) => links.link_before(place, next),
+            Field::TwoWay(TwoWay::Doubly(links)) => links.link_before(place, next),
+            Field::TwoWay(TwoWay::Tree(TreeTable(links))) => links.link_before(place, next),
+        }
+    }
+
     ghost linked_alike = { λ e. refl };
 }
 
@@ -246,6 +256,20 @@ impl<M: Allocator> XorLinkedListOps for Field<M> {
             Field::Xor(links) => links.set(place, prev, next),
             Field::TwoWay(TwoWay::Doubly(links)) => links.set(place, prev, next),
             Field::TwoWay(TwoWay::Tree(TreeTable(links))) => links.set(place, prev, next),
+        }
+    }
+
+    #[inline]
+    fn link_between(&mut self, place: Place, prev: Option<Place>, next: Option<Place>) -> bool {
+        match self {
+            Field::Singly(links) => XorLinkedListOps::link_between(links, place, prev, next),
+            Field::Xor(links) => XorLinkedListOps::link_between(links, place, prev, next),
+            Field::TwoWay(TwoWay::Doubly(links)) => XorLinkedListOps::link_between(
+                links, place, prev, next,
+            ),
+            Field::TwoWay(TwoWay::Tree(TreeTable(links))) => XorLinkedListOps::link_between(
+                links, place, prev, next,
+            ),
         }
     }
 

@@ -108,5 +108,13 @@ impl<M: Allocator> LinkedListOps for TwoWay<M> {
         }
     }
 
+    #[inline]
+    fn link_between(&mut self, place: Place, prev: Option<Place>, next: Option<Place>) -> bool {
+        match self {
+            TwoWay::Doubly(links) => LinkedListOps::link_between(links, place, prev, next),
+            TwoWay::Tree(TreeTable(links)) => LinkedListOps::link_between(links, place, prev, next),
+        }
+    }
+
     ghost linked_alike = { λ e. refl };
 }

@@ -5,12 +5,14 @@ use Rattle.std.proofs.lemmas.Grind.{get_or-set_at}
 use Rattle.ic_unsafe_ref.specs.declared.place.Place.{Place}
 use Rattle.ic_unsafe_ref.specs.Places.{index_of, place_at, word_of}
 use Rattle.ic_unsafe_ref.proofs.PlaceLemmas.{same_index, place_at_word}
-use Rattle.ic_link_ops.specs.Tables.{ChangesOnly}
+use Rattle.ic_link_ops.specs.Tables.{ChangesOnly, LinksAlso}
 use Rattle.ic_link_ops.specs.PlainTables.{entry_at, table_with, linked_by}
 use Rattle.ic_link_ops.specs.Links.{link_of}
 use Rattle.ic_link_ops.specs.Readings.{successor_of, neighbors_of}
 use Rattle.ic_link_ops.specs.EntryLaws.{linked_in_range}
+use Rattle.ic_link_ops.specs.LinkedList.{IsBetween}
 use Rattle.ic_link_ops.specs.declared.link.Link.{Link}
+use Rattle.ic_link_ops.proofs.StepLemmas.{links_only}
 
 module _ {E : Type 0} (d : E) where
   -- a write at p changes only the entry of p
@@ -29,6 +31,16 @@ module _ {E : Type 0} (d : E) where
   pub entry_read : (es : List E) (p : Place) (e beyond : E) (i : ℕ) → i ≡ index_of p → index_of p < length es → e ≡ slice_index_or es i beyond → entry_at d es p ≡ e
   entry_read es p e beyond i at_p covered read = rw (← at_p) (get_or_default es i d beyond (rw at_p covered) ∙ sym read)
 
+module _ {W : Type 0} (is_linked : W → Bool) (d : W) where
+  -- A WRITE THAT LINKS: the place was unlinked, is linked now, and all others are as they were
+  pub links_entry : {identity : List ℕ} (es : List (Link W)) (p : Place) (old new beyond : Link W) (i : ℕ) → i ≡ index_of p → index_of p < length es
+      → old ≡ slice_index_or es i beyond → linked_by is_linked old ≡ false → linked_by is_linked new ≡ true
+      → LinksAlso (linked_by is_linked) (table_with (link_of d) identity es) (table_with (link_of d) identity (slice_set es i new)) p
+  links_entry es p old new beyond i at_p covered read was is =
+      let linked = linked_by is_linked in
+      links_only (ap linked (entry_read (link_of d) es p old beyond i at_p covered read) ∙ was) (ap linked (entry_same (link_of d) es p new i at_p covered) ∙ is)
+      (changes_only (link_of d) es p new i at_p)
+
 module _ {W : Type 0} (is_linked : W → Bool) (d : W) (starts : is_linked d ≡ false) where
   -- A WRITE AT A LINKED PLACE CHANGES WHAT THE ENTRY SAYS as it changes what was read there
   pub says_written : {R : Type 0} (says : Link W → R) (change : R → R) (es : List (Link W)) (p : Place) (old new beyond : Link W) (i : ℕ) → i ≡ index_of p
@@ -45,6 +57,19 @@ module _ {W : Type 0} (next_word : W → ℕ) (is_linked : W → Bool) where
   successor_set old new next stays names =
       let behind : place_at (next_word new) ≡ next = ap place_at names ∙ place_at_word next in
       λ k. record { linked = stays k; next = behind k }
+
+  -- so does that of a linked place
+  pub successor_is : (new : W) (next : Option Place) → is_linked new ≡ true → next_word new ≡ word_of next
+      → successor_of next_word is_linked (link_of new) ≡ record { linked = true; next = next }
+  successor_is new next linked names =
+      let behind : place_at (next_word new) ≡ next = ap place_at names ∙ place_at_word next in
+      λ k. record { linked = linked k; next = behind k }
+
+  -- and it stands between two, if it names the one before as well
+  pub between_is : (prev : W → Option Place) (new : W) (before next : Option Place) → is_linked new ≡ true → next_word new ≡ word_of next → prev new ≡ before
+      → IsBetween (neighbors_of next_word is_linked prev) (link_of new) before next
+  between_is prev new before next linked names kept =
+      record { linked = linked; prev = kept; next = ap place_at names ∙ place_at_word next }
 
   -- the same where it names the one before as well
   pub next_set : (prev : W → Option Place) (old new : W) (next : Option Place) → is_linked new ≡ is_linked old → next_word new ≡ word_of next → prev new ≡ prev old

@@ -113,6 +113,21 @@ impl<W: Words> Link<W> {
     }
 }
 
+impl<W: NextWord> Link<W> {
+    ghost use Rattle.ic_link_ops.specs.Links.{words_of};
+    ghost use Rattle.ic_link_ops.specs.Words.{bits_of};
+
+    // Makes the link that of a linked place, with this word for what follows.
+    #[inline]
+    pub(crate) fn link_to(&mut self, word: Word)
+        ensures linked { W.is_linked (words_of self.new) ≡ true }
+        ensures next_word { W.next_word (words_of self.new) ≡ bits_of word }
+    {
+        self.words.link();
+        self.words.set_next_word(word);
+    }
+}
+
 impl<W: Words> Default for Link<W> {
     ghost use Rattle.ic_link_ops.specs.Links.{link_of};
 

@@ -6,10 +6,12 @@
 //! links.is_linked(place) // false, for each of the three places
 //! ```
 
-ghost use Rattle.std.specs.Prelude.{◌≡◌, Option, []};
+ghost use Rattle.std.specs.Prelude.{◌≡◌, Option, [], ◌∷◌};
+ghost use Rattle.std.specs.Bool.{OnTrue, OnFalse};
 ghost use Rattle.ic_unsafe_ref.specs.declared.place.Place.{Place};
-ghost use Rattle.ic_link_ops.specs.Tables.{IsLinked, ChangesOnly};
-ghost use Rattle.ic_link_ops.specs.LinkedList.{Neighbors, neighbors_at};
+ghost use Rattle.ic_link_ops.specs.Tables.{IsCovered, IsLinked, ChangesOnly};
+ghost use Rattle.ic_link_ops.specs.LinkSteps.{acquires};
+ghost use Rattle.ic_link_ops.specs.LinkedList.{Neighbors, neighbors_at, IsBetween};
 
 use crate::end::End;
 use crate::lent_table::LentTable;
@@ -51,6 +53,25 @@ pub trait LinkedListOps: link_ops::LinkOps {
             ≡ record (neighbors_at neighbors (Self.table self.old) place) { prev = prev } }
         ensures frame { ChangesOnly (Self.table self.old) (Self.table self.new) place }
         ensures no_step { Self.Does self.old self.new [] };
+
+    /// Links `place` between two others, unless it is refused, and says whether it did. It asks that the place is covered. O(1).
+    ///
+    /// It is `acquire_link` and both setters in one, for a table that can write each word once.
+    #[inline]
+    fn link_between(&mut self, place: Place, prev: Option<Place>, next: Option<Place>) -> bool
+        requires covered { IsCovered (Self.table self.old) place }
+        ensures acquired { OnTrue result (Self.Does self.old self.new (acquires place ∷ [])) }
+        ensures set { OnTrue result (IsBetween neighbors ((Self.table self.new).entry place) prev next) }
+        ensures refused { OnFalse result (Self.Refused self.old self.new place) }
+        ensures frame { ChangesOnly (Self.table self.old) (Self.table self.new) place }
+    {
+        if !self.acquire_link(place) {
+            return false;
+        }
+        self.set_prev(place, prev);
+        self.set_next(place, next);
+        true
+    }
 
     // The law: both traits say alike whether a place is linked.
     ghost linked_alike: { (e : Self.Entry) → (neighbors e).linked ≡ Self.linked e };
@@ -169,6 +190,18 @@ impl<W: PrevPlace, A: Allocator> LinkedListOps for PlainTable<W, A> {
         entry.words.set_prev(prev);
     }
 
+    #[inline]
+    fn link_between(&mut self, place: Place, prev: Option<Place>, next: Option<Place>) -> bool {
+        let index = place.index();
+        if self.entries[index].is_linked() {
+            return false;
+        }
+        let linked = &mut self.entries[index];
+        linked.link_to(Word::of(next));
+        linked.words.set_prev(prev);
+        true
+    }
+
     ghost linked_alike = { λ e. refl };
 }
 
@@ -198,6 +231,18 @@ impl<W: PrevPlace> LinkedListOps for LentTable<'_, W> {
     fn set_prev(&mut self, place: Place, prev: Option<Place>) {
         let link = &mut self.entries[place.index()];
         link.words.set_prev(prev);
+    }
+
+    #[inline]
+    fn link_between(&mut self, place: Place, prev: Option<Place>, next: Option<Place>) -> bool {
+        let index = place.index();
+        if self.entries[index].is_linked() {
+            return false;
+        }
+        let linked = &mut self.entries[index];
+        linked.link_to(Word::of(next));
+        linked.words.set_prev(prev);
+        true
     }
 
     ghost linked_alike = { λ e. refl };

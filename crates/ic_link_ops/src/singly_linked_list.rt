@@ -5,9 +5,11 @@
 //! links.cover(3)?;
 //! ```
 
-ghost use Rattle.std.specs.Prelude.{◌≡◌, Option, []};
+ghost use Rattle.std.specs.Prelude.{◌≡◌, Option, true, [], ◌∷◌};
+ghost use Rattle.std.specs.Bool.{OnTrue, OnFalse};
 ghost use Rattle.ic_unsafe_ref.specs.declared.place.Place.{Place};
-ghost use Rattle.ic_link_ops.specs.Tables.{IsLinked, ChangesOnly};
+ghost use Rattle.ic_link_ops.specs.Tables.{IsCovered, IsLinked, ChangesOnly};
+ghost use Rattle.ic_link_ops.specs.LinkSteps.{acquires};
 ghost use Rattle.ic_link_ops.specs.SinglyLinkedList.{Successor, successor_at};
 
 use crate::lent_table::LentTable;
@@ -36,6 +38,24 @@ pub trait SinglyLinkedListOps: link_ops::LinkOps {
             ≡ record (successor_at successor (Self.table self.old) place) { next = next } }
         ensures frame { ChangesOnly (Self.table self.old) (Self.table self.new) place }
         ensures no_step { Self.Does self.old self.new [] };
+
+    /// Links `place` in front of another, unless it is refused, and says whether it did. It asks that the place is covered. O(1).
+    ///
+    /// It is `acquire_link` and `set_next` in one, for a table that can write the word once.
+    #[inline]
+    fn link_before(&mut self, place: Place, next: Option<Place>) -> bool
+        requires covered { IsCovered (Self.table self.old) place }
+        ensures acquired { OnTrue result (Self.Does self.old self.new (acquires place ∷ [])) }
+        ensures set { OnTrue result (successor_at successor (Self.table self.new) place ≡ record { linked = true; next = next }) }
+        ensures refused { OnFalse result (Self.Refused self.old self.new place) }
+        ensures frame { ChangesOnly (Self.table self.old) (Self.table self.new) place }
+    {
+        if !self.acquire_link(place) {
+            return false;
+        }
+        self.set_next(place, next);
+        true
+    }
 
     // The law: both traits say alike whether a place is linked.
     ghost linked_alike: { (e : Self.Entry) → (successor e).linked ≡ Self.linked e };
@@ -67,6 +87,17 @@ impl<W: NextWord, A: Allocator> SinglyLinkedListOps for PlainTable<W, A> {
         entry.words.set_next_word(Word::of(next));
     }
 
+    #[inline]
+    fn link_before(&mut self, place: Place, next: Option<Place>) -> bool {
+        let index = place.index();
+        if self.entries[index].is_linked() {
+            return false;
+        }
+        let linked = &mut self.entries[index];
+        linked.link_to(Word::of(next));
+        true
+    }
+
     ghost linked_alike = { λ e. refl };
 }
 
@@ -85,6 +116,17 @@ impl<W: NextWord> SinglyLinkedListOps for LentTable<'_, W> {
     fn set_next(&mut self, place: Place, next: Option<Place>) {
         let link = &mut self.entries[place.index()];
         link.words.set_next_word(Word::of(next));
+    }
+
+    #[inline]
+    fn link_before(&mut self, place: Place, next: Option<Place>) -> bool {
+        let index = place.index();
+        if self.entries[index].is_linked() {
+            return false;
+        }
+        let linked = &mut self.entries[index];
+        linked.link_to(Word::of(next));
+        true
     }
 
     ghost linked_alike = { λ e. refl };

@@ -5,9 +5,11 @@
 //! links.cover(3)?;
 //! ```
 
-ghost use Rattle.std.specs.Prelude.{◌≡◌, Option, []};
+ghost use Rattle.std.specs.Prelude.{◌≡◌, Option, [], ◌∷◌};
+ghost use Rattle.std.specs.Bool.{OnTrue, OnFalse};
 ghost use Rattle.ic_unsafe_ref.specs.declared.place.Place.{Place};
-ghost use Rattle.ic_link_ops.specs.Tables.{IsLinked, ChangesOnly};
+ghost use Rattle.ic_link_ops.specs.Tables.{IsCovered, IsLinked, ChangesOnly};
+ghost use Rattle.ic_link_ops.specs.LinkSteps.{acquires};
 
 use crate::lent_table::LentTable;
 use crate::link::{self, NextWord};
@@ -54,6 +56,24 @@ pub trait XorLinkedListOps: link_ops::LinkOps {
         ensures linked { IsLinked Self.linked (Self.table self.new) place }
         ensures frame { ChangesOnly (Self.table self.old) (Self.table self.new) place }
         ensures no_step { Self.Does self.old self.new [] };
+
+    /// Links `place` between two others, unless it is refused, and says whether it did. It asks that the place is covered. O(1).
+    ///
+    /// It is `acquire_link` and `set` in one, for a table that can write the word once.
+    #[inline]
+    fn link_between(&mut self, place: Place, prev: Option<Place>, next: Option<Place>) -> bool
+        requires covered { IsCovered (Self.table self.old) place }
+        ensures acquired { OnTrue result (Self.Does self.old self.new (acquires place ∷ [])) }
+        ensures set { OnTrue result (Joins ((Self.table self.new).entry place) prev next) }
+        ensures refused { OnFalse result (Self.Refused self.old self.new place) }
+        ensures frame { ChangesOnly (Self.table self.old) (Self.table self.new) place }
+    {
+        if !self.acquire_link(place) {
+            return false;
+        }
+        self.set(place, prev, next);
+        true
+    }
 
     // The laws: the two sides are alike, one neighbor tells the other, and `other` finds it.
     ghost symmetric: { (e : Self.Entry) (a b : Option Place) → Joins e a b → Joins e b a };
@@ -112,6 +132,17 @@ impl<W: NextWord, A: Allocator> XorLinkedListOps for PlainTable<W, A> {
     }
 
     #[inline]
+    fn link_between(&mut self, place: Place, prev: Option<Place>, next: Option<Place>) -> bool {
+        let index = place.index();
+        if self.entries[index].is_linked() {
+            return false;
+        }
+        let linked = &mut self.entries[index];
+        linked.link_to(Word::between(prev, next));
+        true
+    }
+
+    #[inline]
     fn replace_next_or_prev(&mut self, place: Place, old: Option<Place>, new: Option<Place>) {
         let entry = &mut self.entries[place.index()];
         let word = entry.words.next_word();
@@ -148,6 +179,17 @@ impl<W: NextWord> XorLinkedListOps for LentTable<'_, W> {
     fn set(&mut self, place: Place, prev: Option<Place>, next: Option<Place>) {
         let link = &mut self.entries[place.index()];
         link.words.set_next_word(Word::between(prev, next));
+    }
+
+    #[inline]
+    fn link_between(&mut self, place: Place, prev: Option<Place>, next: Option<Place>) -> bool {
+        let index = place.index();
+        if self.entries[index].is_linked() {
+            return false;
+        }
+        let linked = &mut self.entries[index];
+        linked.link_to(Word::between(prev, next));
+        true
     }
 
     #[inline]

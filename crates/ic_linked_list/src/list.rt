@@ -282,10 +282,11 @@ impl<T> LinkedList<T> {
             → IsAfter gap before → IsBefore gap behind
             → KeepsBeside (L.table links.old) (L.table links.new) (place ∷ join gap) }
     {
-        if !links.acquire_link(place) {
+        if !links.link_between(place, before, behind) {
             return false;
         }
-        self.put_between(links, before, place, behind);
+        lead(links, &mut self.head, before, Some(place));
+        follow(links, &mut self.tail, behind, Some(place));
         true
     }
 

@@ -281,10 +281,12 @@ impl<T> XorLinkedList<T> {
             → IsAfter gap before → IsBefore gap behind
             → KeepsBeside (L.table links.old) (L.table links.new) (place ∷ join gap) }
     {
-        if !links.acquire_link(place) {
+        if !links.link_between(place, before, behind) {
             return false;
         }
-        self.put_between(links, before, place, behind);
+        let inserted = Some(place);
+        lead(links, &mut self.head, before, behind, inserted);
+        follow(links, &mut self.tail, behind, before, inserted);
         true
     }
 }

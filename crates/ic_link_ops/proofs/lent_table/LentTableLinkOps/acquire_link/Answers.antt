@@ -1,9 +1,7 @@
-use Rattle.std.proofs.Common.{refl, sym, ap, ◌∙◌}
+use Rattle.std.proofs.Common.{refl, sym, ◌∙◌}
 use Rattle.ic_link_ops.specs.Links.{link_of}
-use Rattle.ic_link_ops.specs.PlainTables.{linked_by}
 use Rattle.ic_link_ops.specs.LentTables.{lent_entries}
-use Rattle.ic_link_ops.proofs.EntryLemmas.{changes_only, entry_read, entry_same}
-use Rattle.ic_link_ops.proofs.StepLemmas.{links_only}
+use Rattle.ic_link_ops.proofs.EntryLemmas.{changes_only, links_entry}
 use Rattle.ic_link_ops.proofs.lent_table.LentTableLinkOps.acquire_link.Goals as goal
 
 pub returns-clause-frame : goal.returns-clause-frame
@@ -11,10 +9,5 @@ returns-clause-frame g c = changes_only _ _ _ _ _ c.index-index.ensures.value
 
 pub returns-clause-acquired : goal.returns-clause-acquired
 returns-clause-acquired g c =
-    let at = c.index-index.ensures.value in
-    let linked = linked_by g.W.Words.is_linked in
-    let unlinked = link_of g.W.Words.unlinked in
-    let was = entry_read unlinked (lent_entries c.args.self.now) c.args.place _ _ c.index-index.result at c.requires.covered refl in
-    let is = entry_same unlinked (lent_entries c.args.self.now) c.args.place (link_of c.link.new.self) c.index-index.result at c.requires.covered in
-    links_only (ap linked was ∙ sym c.is_linked.ensures ∙ c.if-is_linked.false) (ap linked is ∙ c.link.ensures)
-    (changes_only unlinked (lent_entries c.args.self.now) c.args.place (link_of c.link.new.self) c.index-index.result at)
+    links_entry g.W.Words.is_linked g.W.Words.unlinked (lent_entries c.args.self.now) c.args.place _ (link_of c.link.new.self) _ c.index-index.result c.index-index.ensures.value c.requires.covered
+    refl (sym c.is_linked.ensures ∙ c.if-is_linked.false) c.link.ensures

@@ -1,8 +1,7 @@
-use Rattle.std.proofs.Common.{sym, ap, ◌∙◌}
+use Rattle.std.proofs.Common.{sym, ◌∙◌}
 use Rattle.ic_link_ops.specs.Links.{link_of}
-use Rattle.ic_link_ops.specs.PlainTables.{entries, linked_by}
-use Rattle.ic_link_ops.proofs.EntryLemmas.{changes_only, entry_read, entry_same}
-use Rattle.ic_link_ops.proofs.StepLemmas.{links_only}
+use Rattle.ic_link_ops.specs.PlainTables.{entries}
+use Rattle.ic_link_ops.proofs.EntryLemmas.{changes_only, links_entry}
 use Rattle.ic_link_ops.proofs.table.PlainTableLinkOps.acquire_link.Goals as goal
 
 pub returns-clause-frame : goal.returns-clause-frame
@@ -10,10 +9,5 @@ returns-clause-frame g c = changes_only _ _ _ _ _ c.index-index.ensures.value
 
 pub returns-clause-acquired : goal.returns-clause-acquired
 returns-clause-acquired g c =
-    let at = c.index-index.ensures.value in
-    let linked = linked_by g.W.Words.is_linked in
-    let unlinked = link_of g.W.Words.unlinked in
-    let was = entry_read unlinked (entries c.args.self.now) c.args.place c.index.result.now _ c.index-index.result at c.requires.covered c.index.ensures in
-    let is = entry_same unlinked (entries c.args.self.now) c.args.place (link_of c.link.new.self) c.index-index.result at c.requires.covered in
-    links_only (ap linked was ∙ sym c.is_linked.ensures ∙ c.if-is_linked.false) (ap linked is ∙ c.link.ensures)
-    (changes_only unlinked (entries c.args.self.now) c.args.place (link_of c.link.new.self) c.index-index.result at)
+    links_entry g.W.Words.is_linked g.W.Words.unlinked (entries c.args.self.now) c.args.place c.index.result.now (link_of c.link.new.self) _ c.index-index.result c.index-index.ensures.value c.requires.covered
+    c.index.ensures (sym c.is_linked.ensures ∙ c.if-is_linked.false) c.link.ensures

@@ -1,39 +1,51 @@
-use Rattle.std.proofs.Common.{sym, ◌∙◌}
+use Rattle.std.proofs.Common.{refl, sym, ◌∙◌}
+use Rattle.ic_link_ops.specs.XorLinkedList.{IsJoined}
 use Rattle.ic_link_ops.proofs.SequenceLemmas.{gap_not}
-use Rattle.ic_link_ops.proofs.ShownLists.{shows_beside, free_absent, gap_linked, gap_behind_linked}
+use Rattle.ic_link_ops.proofs.ShownLists.{shows_beside, shows_insert, free_absent, gap_linked, gap_behind_linked}
 use Rattle.ic_link_ops.proofs.XorLists.{joined_linked}
 use Rattle.ic_xor_linked_list.proofs.list.XorLinkedList.insert_between.Goals as goal
 
-pub put_between-requires-clause-before : goal.put_between-requires-clause-before
-put_between-requires-clause-before g c q e =
+pub lead-requires : goal.lead-requires
+lead-requires g c q e =
     let r = c.requires.shown in
-    let a = c.if-not-acquire_link.ensures in
+    let a = c.if-not-link_between.ensures in
     let out = free_absent joined_linked r.1 (g.met.L.LinkOps.does_replay _ _ _ a.acquired).was in
-    gap_linked joined_linked r.0.front r.0.back (shows_beside {new = g.L.LinkOps.table c.acquire_link.new.self} r.1 out a.frame.others) (sym e ∙ r.2)
+    gap_linked joined_linked r.0.front r.0.back (shows_beside {new = g.L.LinkOps.table c.link_between.new.self} r.1 out a.frame.others) (sym e ∙ r.2)
 
-pub put_between-requires-clause-behind : goal.put_between-requires-clause-behind
-put_between-requires-clause-behind g c q e =
+pub follow-requires : goal.follow-requires
+follow-requires g c q e =
     let r = c.requires.shown in
-    let a = c.if-not-acquire_link.ensures in
+    let a = c.if-not-link_between.ensures in
     let out = free_absent joined_linked r.1 (g.met.L.LinkOps.does_replay _ _ _ a.acquired).was in
-    gap_behind_linked joined_linked r.0.front r.0.back (shows_beside {new = g.L.LinkOps.table c.acquire_link.new.self} r.1 out a.frame.others) (sym e ∙ r.3)
+    g.met.L.LinkOps.does_replay _ _ _ c.lead.ensures.no_step q
+    ∙ gap_behind_linked joined_linked r.0.front r.0.back (shows_beside {new = g.L.LinkOps.table c.link_between.new.self} r.1 out a.frame.others) (sym e ∙ r.3)
 
 pub returns-clause-frame : goal.returns-clause-frame
 returns-clause-frame g c gap shown before behind =
-    let a = c.if-not-acquire_link.ensures in record {
-      extent = c.put_between.ensures.extent ∙ a.frame.extent;
+    let a = c.if-not-link_between.ensures in record {
+      extent = c.follow.ensures.extent ∙ c.lead.ensures.extent ∙ a.frame.extent;
       others = λ q out.
           let beside = gap_not gap.front gap.back before behind out.1 in
-          c.put_between.ensures.others q beside.0 out.0 beside.1 ∙ a.frame.others q out.0;
+          c.follow.ensures.turns.others q beside.1 ∙ c.lead.ensures.turns.others q beside.0 ∙ a.frame.others q out.0;
     }
 
 pub returns-clause-acquired : goal.returns-clause-acquired
-returns-clause-acquired g c = g.met.L.LinkOps.does_on _ _ _ _ _ c.if-not-acquire_link.ensures.acquired c.put_between.ensures.no_step
+returns-clause-acquired g c =
+    let L = g.met.L.LinkOps in
+    L.does_on _ _ _ _ _ (L.does_on _ _ _ _ _ c.if-not-link_between.ensures.acquired c.lead.ensures.no_step) c.follow.ensures.no_step
 
 pub returns-clause-inserted : goal.returns-clause-inserted
 returns-clause-inserted g c gap shown before behind =
-    let a = c.if-not-acquire_link.ensures in
-    let out = free_absent joined_linked shown (g.met.L.LinkOps.does_replay _ _ _ a.acquired).was in record {
-      shows = c.put_between.ensures.shows gap.front gap.back (shows_beside shown out a.frame.others) out before behind;
+    let a = c.if-not-link_between.ensures in
+    let links = g.met.L.LinkOps.does_replay _ _ _ a.acquired in
+    let out = free_absent joined_linked shown links.was in
+    let apart = gap_not gap.front gap.back before behind out in
+    let stands : IsJoined g.L.LinkOps.linked g.L.XorLinkedListOps.Joins ((g.L.LinkOps.table c.link_between.new.self).entry c.args.place) c.args.before c.args.behind
+    = record { linked = links.is; joined = a.set } in record {
+      shows = shows_insert {t3 = g.L.LinkOps.table c.follow.new.links} gap.front gap.back before behind
+          (shows_beside {new = g.L.LinkOps.table c.link_between.new.self} (rw (← c.self.view_is) at shown) out a.frame.others) out
+          c.lead.ensures.turns c.follow.ensures.turns
+          (rw (c.follow.ensures.turns.others _ apart.1, c.lead.ensures.turns.others _ apart.0) stands) (λ q other. refl)
+          c.lead.ensures.head c.follow.ensures.tail;
       frame = returns-clause-frame g c gap shown before behind;
     }
