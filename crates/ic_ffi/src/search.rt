@@ -108,7 +108,7 @@ pub(crate) fn find(
     match target {
         Target::Equal => {
             let descent = descend(links, tree, keys, key, Side::Left);
-            if !descent.equal {
+            if !descent.is_equal() {
                 return None;
             }
             descent.back.get()

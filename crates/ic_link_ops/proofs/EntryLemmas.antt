@@ -58,19 +58,6 @@ module _ {W : Type 0} (next_word : W → ℕ) (is_linked : W → Bool) where
       let behind : place_at (next_word new) ≡ next = ap place_at names ∙ place_at_word next in
       λ k. record { linked = stays k; next = behind k }
 
-  -- so does that of a linked place
-  pub successor_is : (new : W) (next : Option Place) → is_linked new ≡ true → next_word new ≡ word_of next
-      → successor_of next_word is_linked (link_of new) ≡ record { linked = true; next = next }
-  successor_is new next linked names =
-      let behind : place_at (next_word new) ≡ next = ap place_at names ∙ place_at_word next in
-      λ k. record { linked = linked k; next = behind k }
-
-  -- and it stands between two, if it names the one before as well
-  pub between_is : (prev : W → Option Place) (new : W) (before next : Option Place) → is_linked new ≡ true → next_word new ≡ word_of next → prev new ≡ before
-      → IsBetween (neighbors_of next_word is_linked prev) (link_of new) before next
-  between_is prev new before next linked names kept =
-      record { linked = linked; prev = kept; next = ap place_at names ∙ place_at_word next }
-
   -- the same where it names the one before as well
   pub next_set : (prev : W → Option Place) (old new : W) (next : Option Place) → is_linked new ≡ is_linked old → next_word new ≡ word_of next → prev new ≡ prev old
       → neighbors_of next_word is_linked prev (link_of new) ≡ record (neighbors_of next_word is_linked prev (link_of old)) { next = next }
@@ -83,3 +70,16 @@ module _ {W : Type 0} (next_word : W → ℕ) (is_linked : W → Bool) where
       → neighbors_of next_word is_linked prev (link_of new) ≡ record (neighbors_of next_word is_linked prev (link_of old)) { prev = place }
   prev_set prev old new place stays kept names =
       λ k. record { linked = stays k; prev = names k; next = place_at (kept k) }
+
+  -- what the link of a linked place says, where its next word is that for a place
+  pub successor_is : (new : W) (next : Option Place) → is_linked new ≡ true → next_word new ≡ word_of next
+      → successor_of next_word is_linked (link_of new) ≡ record { linked = true; next = next }
+  successor_is new next linked names =
+      let behind : place_at (next_word new) ≡ next = ap place_at names ∙ place_at_word next in
+      λ k. record { linked = linked k; next = behind k }
+
+  -- and it stands between two, if it names the one before as well
+  pub between_is : (prev : W → Option Place) (new : W) (before next : Option Place) → is_linked new ≡ true → next_word new ≡ word_of next → prev new ≡ before
+      → IsBetween (neighbors_of next_word is_linked prev) (link_of new) before next
+  between_is prev new before next linked names kept =
+      record { linked = linked; prev = kept; next = ap place_at names ∙ place_at_word next }

@@ -15,16 +15,17 @@ use Rattle.ic_link_ops.specs.Trees.{Tree, leaf, fork, top, in_order}
 use Rattle.ic_link_ops.specs.Shape.{IsRight}
 use Rattle.ic_link_ops.specs.RedBlackTree.{Node, Shows}
 use Rattle.ic_link_ops.specs.Frames.{Frame, frame, plug, above, before, after, child_on}
+use Rattle.ic_link_ops.specs.Walk.{is_end}
 use Rattle.ic_link_ops.specs.Positions.{Site, ShowsAt, Stands as PositionStands}
 use Rattle.ic_link_ops.proofs.Positions.{stands_by_gap, stands_null}
-use Rattle.ic_link_ops.proofs.SequenceLemmas.{none_not}
+use Rattle.ic_link_ops.proofs.SequenceLemmas.{none_not, some_same}
 use Rattle.ic_rbtree.specs.declared.keys.descent.Descent.{Descent}
 use Rattle.ic_rbtree.specs.declared.keys.key_adapter.Bound.{Bound}
 use Rattle.ic_rbtree.specs.declared.keys.key_adapter.Bound.TheVariants.{Included, Excluded, Unbounded}
 use Rattle.ic_rbtree.specs.Borders.{IsBorder, equal_at, at_most_at, if_passes, Finds, IsLowerBorder, IsUpperBorder}
 use Rattle.ic_rbtree.specs.Closed.{IsIn}
 use Rattle.ic_rbtree.specs.Comparing.{Looks, goes_left, meets_lower, is_beyond, order_of}
-use Rattle.ic_rbtree.specs.Descents.{side_of, gap_in, SendsPast, passed, at_root, equal_there, EndsAt}
+use Rattle.ic_rbtree.specs.Descents.{side_of, gap_in, SendsPast, passed, at_root, last_equal, is_last, is_equal, equal_there, EndsAt}
 use Rattle.ic_rbtree.specs.declared.keys.entry.InsertCursor.{InsertCursor}
 use Rattle.ic_rbtree.specs.Entry.{IsVacantFor}
 use Rattle.ic_rbtree.specs.Height.{height}
@@ -33,12 +34,13 @@ use Rattle.ic_rbtree.specs.Pieces.{Stands}
 use Rattle.ic_rbtree.specs.Removal.{IsOn}
 use Rattle.ic_rbtree.specs.Sides.{IsBeside}
 use Rattle.ic_rbtree.proofs.Branches.{side_near, top_leaf}
-use Rattle.ic_rbtree.proofs.Climbed.{path_few}
+use Rattle.ic_rbtree.proofs.Climbed.{path_few, is_end_there}
 use Rattle.ic_rbtree.proofs.Descending.{opened}
 use Rattle.ic_rbtree.proofs.Gaps.{gap_join, gap_border, gap_same, gap_all, gap_none}
 use Rattle.ic_rbtree.proofs.Heights.{looks_few}
 use Rattle.ic_rbtree.proofs.Nearest.{nearest_frame}
 use Rattle.ic_rbtree.proofs.Removing.{order_around, stands_of}
+use Rattle.ic_rbtree.proofs.Turning.{end_is}
 
 -- past a member, the descent is on the side that the comparison tells, below the member
 pub passed_side : {A : Type 0} (d : Descent) {d' : Descent} (p : Place) (left : Bool) (equal : Bool) (f : Side → A) → d' ≡ passed d p left equal → f d'.side ≡ f (side_of left)
@@ -80,6 +82,32 @@ gap_plug test (frame Right c p b ∷ fs) t h =
     ∙ ap (λ x. gap_around fs (cond x left right)) (right_is (test p) h.0)
     ∙ (λ k. record { front = same k; back = (gap_in test t).back ++ after fs })
 
+-- the last member that compared equal did, whichever side it was passed on
+module _ (at : Place → Ordering) where
+  marked : (old : Option Place) (p : Place) (equal : Bool) → equal ≡ equal_at at p → ((q : Place) → old ≡ Some q → equal_at at q ≡ true)
+      → (q : Place) → last_equal old p equal ≡ Some q → equal_at at q ≡ true
+  marked old p true same was q is = subst (λ z. equal_at at z ≡ true) (some_same is) (sym same)
+  marked old p false same was q is = was q is
+
+  -- and an equal one on the left of which the descent went is the last one then,
+  marked_here : (old : Option Place) (p q : Place) (equal : Bool) → equal ≡ equal_at at p → Some p ≡ Some q → equal_at at q ≡ true → last_equal old p equal ≡ Some q
+  marked_here old p q true same is here_too = is
+  marked_here old p q false same is here_too = let k : false ≡ true = same ∙ ap (equal_at at) (some_same is) ∙ here_too in cc
+
+  -- since none is passed on the right where equal ones are passed on the left
+  never : (equals : Side) (a b : Ordering) → true ≡ is_eq a → false ≡ goes_left equals a → goes_left equals b ≡ true → is_eq b ≡ true → ⊥
+  never Left Less b e goes back here_too = cc
+  never Left Equal b e goes back here_too = cc
+  never Left Greater b e goes back here_too = cc
+  never Right a Less e goes back here_too = cc
+  never Right a Equal e goes back here_too = cc
+  never Right a Greater e goes back here_too = cc
+
+  marked_back : (equals : Side) (old : Option Place) (p q : Place) (equal : Bool) → equal ≡ equal_at at p → false ≡ goes_left equals (at p) → goes_left equals (at q) ≡ true → equal_at at q ≡ true
+      → old ≡ Some q → last_equal old p equal ≡ Some q
+  marked_back equals old p q true same goes back here_too is = absurd (never equals (at p) (at q) same goes back here_too)
+  marked_back equals old p q false same goes back here_too is = is
+
 -- the objects at a sequence's members are placed, and so is each of them
 pub placed_there : {V : Type 0} (objects : Objects V) (s : List Place) (p : Place) (t : List Place) → ArePlaced objects (s ++ p ∷ t) → IsSome (object_at objects p)
 placed_there objects [] p t h = h.0
@@ -98,7 +126,9 @@ module _ {E : Type 0} (n : E → Node) where
     pub side_is : IsOn d.side fs
     pub front_is : d.front ≡ last (before fs)
     pub back_is : d.back ≡ first (after fs)
-    pub equal_is : d.equal ≡ equal_there at d.back
+    pub is_marked : (q : Place) → d.equal ≡ Some q → equal_at at q ≡ true
+    pub back_marked : (q : Place) → d.back ≡ Some q → equal_at at q ≡ true → d.equal ≡ Some q
+    pub back_goes : (q : Place) → d.back ≡ Some q → goes_left equals (at q) ≡ true
     pub counted : count ≡ start + length fs
 
   module _ {v : Table E} {root : Option Place} {at : Place → Ordering} {equals : Side} where
@@ -114,7 +144,9 @@ module _ {E : Type 0} (n : E → Node) where
       side_is = tt;
       front_is = refl;
       back_is = refl;
-      equal_is = refl;
+      is_marked = λ q e. absurd (none_not q e);
+      back_marked = λ q e. absurd (none_not q e);
+      back_goes = λ q e. absurd (none_not q e);
       counted = omega arith;
     }
 
@@ -162,7 +194,9 @@ module _ {E : Type 0} (n : E → Node) where
               side_is = refl;
               front_is = x.front_is;
               back_is = refl;
-              equal_is = equal_is ∙ ap is_eq there;
+              is_marked = marked at d.equal p _ (equal_is ∙ ap is_eq there) x.is_marked;
+              back_marked = λ q e too. marked_here at d.equal p q _ (equal_is ∙ ap is_eq there) e too;
+              back_goes = λ q e. sym (goes ∙ ap (goes_left equals) (there ∙ ap at (some_same e)));
               counted = omega (arith, more_is, x.counted);
             }
         past false there goes equal_is next_is more_is =
@@ -178,7 +212,9 @@ module _ {E : Type 0} (n : E → Node) where
               side_is = refl;
               front_is = sym (nearest_frame Left o.c p o.b x.fs);
               back_is = x.back_is;
-              equal_is = x.equal_is;
+              is_marked = marked at d.equal p _ (equal_is ∙ ap is_eq there) x.is_marked;
+              back_marked = λ q e too. marked_back at equals d.equal p q _ (equal_is ∙ ap is_eq there) (goes ∙ ap (goes_left equals) there) (x.back_goes q e) too (x.back_marked q e too);
+              back_goes = x.back_goes;
               counted = omega (arith, more_is, x.counted);
             }
 
@@ -219,12 +255,22 @@ module _ {E : Type 0} (n : E → Node) where
               beside Left c q b fs = refl
               beside Right c q b fs = sym (nearest_frame Left c q b fs)
 
+        equal_by : (o : Option Place) → d.back ≡ o → is_last d.equal o ≡ equal_there at o
+        equal_by None e = refl
+        equal_by (Some p) e = pick (equal_at at p) refl where
+          pick : (b : Bool) → equal_at at p ≡ b → is_end d.equal p ≡ equal_at at p
+          pick true is = is_end_there (x.back_marked p e is) ∙ sym is
+          pick false not_it = other (is_end d.equal p) refl ∙ sym not_it where
+            other : (b : Bool) → b ≡ is_end d.equal p → is_end d.equal p ≡ false
+            other true is = let k = x.is_marked p (end_is d.equal p true is refl) in cc
+            other false is = sym is
+
         pub sent_ends : EndsAt n v at equals tree d
         sent_ends = record {
           hole = subst (IsHole n v d.parent d.side) (sym gap_is) hole_is;
           front_is = x.front_is ∙ sym (ap (λ (g : Cut). last g.front) gap_is);
           back_is = x.back_is ∙ sym (ap (λ (g : Cut). first g.back) gap_is);
-          equal_is = x.equal_is;
+          equal_is = equal_by d.back refl;
         }
 
         -- there was a look at the root, if there is one
@@ -274,16 +320,16 @@ module _ {E : Type 0} (n : E → Node) where
 
   module _ {v : Table E} {root : Option Place} {s : List Place} (h : Shows n v root s) where
     module _ {at : Place → Ordering} {d : Descent} where
-      pub finds : EndsAt n v at Left h.tree d → {result : Option Place} → result ≡ cond d.equal d.back None → Finds at s result
+      pub finds : EndsAt n v at Left h.tree d → {result : Option Place} → result ≡ cond (is_equal d) d.back None → Finds at s result
       finds x {result} is = record {
         gap = gap_in (at_most_at at) h.tree;
         same = gap_join (at_most_at at) h.tree ∙ h.held.order;
         border = gap_border (at_most_at at) h.tree;
-        answer = equal_kept at d.back d.equal x.equal_is result is ∙ ap (if_passes (equal_at at)) x.back_is;
+        answer = equal_kept at d.back (is_equal d) x.equal_is result is ∙ ap (if_passes (equal_at at)) x.back_is;
       }
 
       -- AN ENTRY is occupied where the member behind the gap compares equal,
-      pub occupies : EndsAt n v at Left h.tree d → d.equal ≡ true → {result : Option Place} → result ≡ d.back → Finds at s result × IsSome result
+      pub occupies : EndsAt n v at Left h.tree d → is_equal d ≡ true → {result : Option Place} → result ≡ d.back → Finds at s result × IsSome result
       occupies x equal {result} is = (finds x (is ∙ ap (λ z. cond z d.back None) (sym equal)), subst IsSome (sym is) (some d.back (sym x.equal_is ∙ equal))) where
         some : (o : Option Place) → equal_there at o ≡ true → IsSome o
         some None e = e
@@ -322,7 +368,7 @@ lt_of Equal e k = sym k
 lt_of Greater e k = e
 
 module _ {E : Type 0} (n : E → Node) {A L : Type 0} where
-  pub vacant_for : {v : Table E} {root : Option Place} {s : List Place} (h : Shows n v root s) {at : Place → Ordering} {d : Descent} → EndsAt n v at Left h.tree d → d.equal ≡ false
+  pub vacant_for : {v : Table E} {root : Option Place} {s : List Place} (h : Shows n v root s) {at : Place → Ordering} {d : Descent} → EndsAt n v at Left h.tree d → is_equal d ≡ false
       → (c : InsertCursor A L) → c.parent ≡ d.parent → c.side ≡ d.side → IsVacantFor n at v s c
   vacant_for {v} h {at} {d} x equal c parent_is side_is =
       let gap : Cut = gap_in (at_most_at at) h.tree in

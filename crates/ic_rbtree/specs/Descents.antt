@@ -7,6 +7,7 @@ use Rattle.ic_link_ops.specs.Sequences.{Cut, first, last}
 use Rattle.ic_link_ops.specs.Trees.{Tree, leaf, fork, in_order}
 use Rattle.ic_link_ops.specs.Frames.{Frame, frame}
 use Rattle.ic_link_ops.specs.Tables.{Table}
+use Rattle.ic_link_ops.specs.Walk.{is_end}
 use Rattle.ic_link_ops.specs.RedBlackTree.{Node}
 use Rattle.std.specs.declared.cmp.Ordering.{Ordering}
 use Rattle.ic_rbtree.specs.Comparing.{goes_left}
@@ -38,12 +39,24 @@ SendsPast test (frame d c p b ∷ fs) = (d ≡ side_of (test p)) × SendsPast te
 
 -- at the root, before any member
 abbrev pub at_root : Descent
-at_root = record { parent = None; side = Left; front = None; back = None; equal = false }
+at_root = record { parent = None; side = Left; front = None; back = None; equal = None }
+
+-- the last member that compared equal, after one that may have
+abbrev pub last_equal : Option Place → Place → Bool → Option Place
+last_equal old p equal = cond equal (Some p) old
 
 -- past one more member, to one side of it
 abbrev pub passed : Descent → Place → Bool → Bool → Descent
-passed old p true equal = record { parent = Some p; side = Left; front = old.front; back = Some p; equal = equal }
-passed old p false equal = record { parent = Some p; side = Right; front = Some p; back = old.back; equal = old.equal }
+passed old p true equal = record { parent = Some p; side = Left; front = old.front; back = Some p; equal = last_equal old.equal p equal }
+passed old p false equal = record { parent = Some p; side = Right; front = Some p; back = old.back; equal = last_equal old.equal p equal }
+
+-- whether a member is behind the gap, and is the last that compared equal
+abbrev pub is_last : Option Place → Option Place → Bool
+is_last equal None = false
+is_last equal (Some p) = is_end equal p
+
+abbrev pub is_equal : Descent → Bool
+is_equal d = is_last d.equal d.back
 
 -- whether there is a place, and it compares equal
 abbrev pub equal_there : (Place → Ordering) → Option Place → Bool
@@ -56,4 +69,4 @@ module _ {E : Type 0} (n : E → Node) where
     pub hole : IsHole n t d.parent d.side (gap_in (λ p. goes_left equals (at p)) tree)
     pub front_is : d.front ≡ last (gap_in (λ p. goes_left equals (at p)) tree).front
     pub back_is : d.back ≡ first (gap_in (λ p. goes_left equals (at p)) tree).back
-    pub equal_is : d.equal ≡ equal_there at d.back
+    pub equal_is : is_equal d ≡ equal_there at d.back

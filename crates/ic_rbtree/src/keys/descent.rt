@@ -1,6 +1,7 @@
 //! The way from the root to where a key belongs, by one look a member.
 
-ghost use Rattle.std.specs.Prelude.{◌≡◌, ◌+◌, ◌<◌, true, List};
+ghost use Rattle.std.specs.Prelude.{◌≡◌, ◌+◌, ◌<◌, true, None, cond, List};
+ghost use Rattle.std.specs.Bool.{OnTrue};
 ghost use Rattle.std.specs.Ordering.{is_eq};
 ghost use Rattle.std.specs.declared.cmp.Ordering.{Ordering};
 ghost use Rattle.ic_unsafe_ref.specs.declared.place.Place.{Place};
@@ -8,9 +9,10 @@ ghost use Rattle.ic_unsafe_ref.specs.Objects.{is_placed};
 ghost use Rattle.ic_link_ops.specs.RedBlackTree.{Shows};
 ghost use Rattle.ic_link_ops.specs.PlacedObjects.{ShowsPlaced};
 ghost use Rattle.ic_rbtree.specs.Comparing.{compared, goes_left, HasRoom, Looks};
-ghost use Rattle.ic_rbtree.specs.Descents.{at_root, passed, EndsAt};
+ghost use Rattle.ic_rbtree.specs.Descents.{at_root, passed, is_equal, EndsAt};
 
 use crate::Probe;
+use crate::readings::is_at;
 use ic_link_ops::rbtree::RBTreeOps;
 use ic_link_ops::{End, Side};
 use ic_unsafe_ref::{Place, Values};
@@ -27,8 +29,8 @@ pub struct Descent {
     pub front: End,
     /// The member behind the gap.
     pub back: End,
-    /// Whether the member behind the gap compared equal.
-    pub equal: bool,
+    /// The last member that compared equal, which may be behind the gap.
+    pub equal: End,
 }
 
 // Whether a descent goes left at a member that answers so, where it turns to the side `equals` at an equal one.
@@ -55,6 +57,17 @@ fn compare_at<V, P: Probe<V>, O: Values<V>>(objects: &O, probe: &mut P, place: P
 }
 
 impl Descent {
+    /// Whether the member behind the gap compared equal. One comparison of places.
+    #[inline]
+    pub fn is_equal(&self) -> bool
+        ensures { result ≡ is_equal self.now }
+    {
+        match self.back.get() {
+            Some(place) => is_at(self.equal.get(), place),
+            None => false,
+        }
+    }
+
     // At the root.
     #[inline]
     pub(crate) fn new() -> Descent
@@ -65,7 +78,7 @@ impl Descent {
             side: Side::Left,
             front: End::of(None),
             back: End::of(None),
-            equal: false,
+            equal: End::of(None),
         }
     }
 
@@ -97,10 +110,12 @@ impl Descent {
         ensures { self.new ≡ passed self.old place left equal }
     {
         self.parent = End::of(Some(place));
+        if equal {
+            self.equal = End::of(Some(place));
+        }
         if left {
             self.side = Side::Left;
             self.back = End::of(Some(place));
-            self.equal = equal;
         } else {
             self.side = Side::Right;
             self.front = End::of(Some(place));
@@ -108,12 +123,43 @@ impl Descent {
     }
 }
 
+/// How a descent comes to the next member.
+#[derive(Drop)]
+pub(crate) enum Turn {
+    /// By a branch, which a processor guesses, and loads ahead. Right guesses are fastest: keys that come in order have them.
+    Guessed,
+    /// By both children, of which it picks one. No guess is wrong, as every second one is for keys at random.
+    Picked,
+}
+
+// One of two places or none, picked as a word, which takes no branch.
+#[inline]
+fn pick(takes_left: bool, left: Option<Place>, right: Option<Place>) -> Option<Place>
+    ensures { result ≡ cond takes_left left right }
+{
+    let picked = if takes_left {
+        End::of(left)
+    } else {
+        End::of(right)
+    };
+    picked.get()
+}
+
+// Whether a member has no child.
+#[inline]
+fn are_none(left: Option<Place>, right: Option<Place>) -> bool
+    ensures { OnTrue result ((left ≡ None) × (right ≡ None)) }
+{
+    left.is_none() && right.is_none()
+}
+
 // Goes down from the root to a gap: left of the members that are greater than what is searched, right of those that are
 // less, and past equal ones to the side `equals`.
 //
-// Each side tests its own child, so that the two loads are two branches: which one is next is then guessed, and loaded ahead. One load from
-// an address that is picked waits for each comparison, and takes twice as long in a tree that memory keeps. The left child is read before
-// the comparison, so that where the table's entries stand is read once for both sides.
+// Where the turn is guessed, each side tests its own child, so that the two loads are two branches. One load from an address that is
+// picked would wait for each comparison, in a tree that memory keeps for twice as long. Where it is picked, a test of both children stands
+// between the loads and the choice: the compiler would else make one load of them, from a picked address. The left child is read before the
+// comparison in both, so that where the table's entries stand is read once.
 #[inline]
 pub(crate) fn descend<L: RBTreeOps, V, P: Probe<V>, O: Values<V>>(
     links: &L,
@@ -121,6 +167,7 @@ pub(crate) fn descend<L: RBTreeOps, V, P: Probe<V>, O: Values<V>>(
     objects: &O,
     probe: &mut P,
     equals: Side,
+    turn: Turn,
 ) -> Descent
     requires placed { ShowsPlaced (Shows L.node (L.table links.now) root) (O.values objects.now) }
     requires room { HasRoom (P.count probe.old) }
@@ -133,7 +180,15 @@ pub(crate) fn descend<L: RBTreeOps, V, P: Probe<V>, O: Values<V>>(
     let mut at = root;
     while let Some(place) = at {
         let left = links.left(place);
-        if descent.look(objects, probe, place, equals) {
+        if let Turn::Picked = turn {
+            let right = links.right(place);
+            let goes_left = descent.look(objects, probe, place, equals);
+            let next = pick(goes_left, left, right);
+            if are_none(left, right) {
+                return descent;
+            }
+            at = next;
+        } else if descent.look(objects, probe, place, equals) {
             let Some(next) = left else {
                 return descent;
             };

@@ -16,7 +16,7 @@ ghost use Rattle.ic_rbtree.specs.CursorMut as editing;
 ghost use Rattle.ic_rbtree.specs.Entry.{IfOccupied, IfVacant, IsVacantFor, CanInsert, InsertsInto, links_of, IsBorrowed};
 ghost use Rattle.ic_rbtree.specs.Tree.{root_of, adapter_of};
 
-use crate::keys::descent::descend;
+use crate::keys::descent::{Turn, descend};
 use crate::linking::insert;
 use crate::{CursorMut, KeyAdapter, KeyProbe, Probe, RBTree};
 use ic_link_ops::rbtree::RBTreeOps;
@@ -86,8 +86,9 @@ impl<A: KeyAdapter> RBTree<A> {
         ensures looks { (s : List Place) → Shows L.node (L.table links.old) (root_of self.old) s
             → Looks P.order P.count probe.old probe.new s }
     {
-        let descent = descend(&*links, self.root.get(), objects, probe, Side::Left);
-        if descent.equal {
+        let root = self.root.get();
+        let descent = descend(&*links, root, objects, probe, Side::Left, Turn::Picked);
+        if descent.is_equal() {
             let current = End::of(descent.back.get());
             return Entry::Occupied(CursorMut::new(self, links, current));
         }

@@ -10,7 +10,7 @@ ghost use Rattle.ic_rbtree.specs.Borders.{Finds, IsLowerBorder, IsUpperBorder};
 ghost use Rattle.ic_rbtree.specs.Descents.{gap_in};
 ghost use Rattle.ic_rbtree.specs.Tree.{root_of};
 
-use crate::keys::descent::descend;
+use crate::keys::descent::{Turn, descend};
 use crate::{Bound, KeyAdapter, Probe, RBTree};
 use ic_link_ops::rbtree::RBTreeOps;
 use ic_link_ops::{End, LinkOps, Side};
@@ -32,8 +32,9 @@ impl<A: KeyAdapter> RBTree<A> {
         ensures looks { (s : List Place) → Shows L.node (L.table links.now) (root_of self.now) s
             → Looks P.order P.count probe.old probe.new s }
     {
-        let descent = descend(links, self.root.get(), objects, probe, Side::Left);
-        if !descent.equal {
+        let root = self.root.get();
+        let descent = descend(links, root, objects, probe, Side::Left, Turn::Picked);
+        if !descent.is_equal() {
             return End::of(None);
         }
         descent.back
@@ -56,12 +57,13 @@ impl<A: KeyAdapter> RBTree<A> {
         ensures looks { (s : List Place) → Shows L.node (L.table links.now) (root_of self.now) s
             → LooksWithin P.order P.count bound.old bound.new s }
     {
+        let root = self.root.get();
         match bound {
             Bound::Included(probe) => {
-                descend(links, self.root.get(), objects, probe, Side::Left).back
+                descend(links, root, objects, probe, Side::Left, Turn::Picked).back
             }
             Bound::Excluded(probe) => {
-                descend(links, self.root.get(), objects, probe, Side::Right).back
+                descend(links, root, objects, probe, Side::Right, Turn::Picked).back
             }
             Bound::Unbounded => End::of(self.first(links)),
         }
@@ -84,12 +86,13 @@ impl<A: KeyAdapter> RBTree<A> {
         ensures looks { (s : List Place) → Shows L.node (L.table links.now) (root_of self.now) s
             → LooksWithin P.order P.count bound.old bound.new s }
     {
+        let root = self.root.get();
         match bound {
             Bound::Included(probe) => {
-                descend(links, self.root.get(), objects, probe, Side::Right).front
+                descend(links, root, objects, probe, Side::Right, Turn::Picked).front
             }
             Bound::Excluded(probe) => {
-                descend(links, self.root.get(), objects, probe, Side::Left).front
+                descend(links, root, objects, probe, Side::Left, Turn::Picked).front
             }
             Bound::Unbounded => End::of(self.last(links)),
         }

@@ -7,17 +7,17 @@ use Rattle.ic_ffi.specs.Tree.{lent_table}
 use Rattle.ic_ffi.proofs.Trees.{in_range, seen_shows}
 use Rattle.ic_ffi.proofs.search.find.Goals as goal
 
-pub returns-then-not-descent : goal.returns-then-not-descent
-returns-then-not-descent c s shown =
+pub returns-then-not-is_equal : goal.returns-then-not-is_equal
+returns-then-not-is_equal c s shown =
     let h = seen_shows (lent_table c.args.links.now) (in_range c.args.links.now) shown in
     let d = c.descend-descent.result in
-    rw c.in-Equal.is (finds seen_node h (c.descend-descent.ensures s h) (ap (λ x. cond x d.back None) (sym c.if-not-descent.true)))
+    rw c.in-Equal.is (finds seen_node h (c.descend-descent.ensures s h) (ap (λ x. cond x d.back None) (sym c.if-not-is_equal.true ∙ c.is_equal.ensures)))
 
-pub returns-else-not-descent : goal.returns-else-not-descent
-returns-else-not-descent c s shown =
+pub returns-else-not-is_equal : goal.returns-else-not-is_equal
+returns-else-not-is_equal c s shown =
     let h = seen_shows (lent_table c.args.links.now) (in_range c.args.links.now) shown in
     let d = c.descend-descent.result in
-    rw c.in-Equal.is (finds seen_node h (c.descend-descent.ensures s h) (c.get.ensures ∙ ap (λ x. cond x d.back None) (sym c.if-not-descent.false)))
+    rw c.in-Equal.is (finds seen_node h (c.descend-descent.ensures s h) (c.get.ensures ∙ ap (λ x. cond x d.back None) (sym c.if-not-is_equal.false ∙ c.is_equal.ensures)))
 
 pub returns-in-AtLeast : goal.returns-in-AtLeast
 returns-in-AtLeast c s shown =

@@ -1,16 +1,16 @@
-use Rattle.std.proofs.Common.{refl, ◌∙◌}
+use Rattle.std.proofs.Common.{refl, sym, ◌∙◌}
 use Rattle.ic_rbtree.proofs.Sending.{ends_at_root, found_stands, occupies, vacant_for}
 use Rattle.ic_rbtree.proofs.tree.RBTree.entry_by.Goals as goal
 
-pub returns-then-descent-clause-occupied : goal.returns-then-descent-clause-occupied
-returns-then-descent-clause-occupied g c s h =
+pub returns-then-is_equal-clause-occupied : goal.returns-then-is_equal-clause-occupied
+returns-then-is_equal-clause-occupied g c s h =
     let n = g.L.RBTreeOps.node in
-    occupies n h (ends_at_root n c.get.ensures c.descend-descent.ensures.ends h) c.if-descent.true (c.new.ensures.position ∙ c.of-current.ensures ∙ c.get-then-descent.ensures)
+    occupies n h (ends_at_root n c.get-root.ensures c.descend-descent.ensures.ends h) (sym c.is_equal.ensures ∙ c.if-is_equal.true) (c.new.ensures.position ∙ c.of-current.ensures ∙ c.get.ensures)
 
-pub returns-then-descent-clause-stands : goal.returns-then-descent-clause-stands
-returns-then-descent-clause-stands g c = let r = c.requires.placed in rw (c.new.ensures.borrows.2, c.new.ensures.borrows.3) (found_stands r.shown refl (returns-then-descent-clause-occupied g c r.members r.shown).0)
+pub returns-then-is_equal-clause-stands : goal.returns-then-is_equal-clause-stands
+returns-then-is_equal-clause-stands g c = let r = c.requires.placed in rw (c.new.ensures.borrows.2, c.new.ensures.borrows.3) (found_stands r.shown refl (returns-then-is_equal-clause-occupied g c r.members r.shown).0)
 
 pub returns-clause-vacant : goal.returns-clause-vacant
 returns-clause-vacant g c s h =
     let n = g.L.RBTreeOps.node in
-    vacant_for n h (ends_at_root n c.get.ensures c.descend-descent.ensures.ends h) c.if-descent.false _ (c.of-parent.ensures ∙ c.get-2.ensures) refl
+    vacant_for n h (ends_at_root n c.get-root.ensures c.descend-descent.ensures.ends h) (sym c.is_equal.ensures ∙ c.if-is_equal.false) _ (c.of-parent.ensures ∙ c.get-2.ensures) refl

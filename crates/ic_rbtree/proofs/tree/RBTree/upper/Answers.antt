@@ -5,11 +5,11 @@ use Rattle.ic_rbtree.proofs.tree.RBTree.upper.Goals as goal
 
 pub returns-in-Included-clause-upper : goal.returns-in-Included-clause-upper
 returns-in-Included-clause-upper g c s h =
-    let n = g.L.RBTreeOps.node in rw c.in-Included.is (beyond_included n h (ends_at_root n c.get.ensures c.descend.ensures.ends h) refl)
+    let n = g.L.RBTreeOps.node in rw c.in-Included.is (beyond_included n h (ends_at_root n c.get-root.ensures c.descend.ensures.ends h) refl)
 
 pub returns-in-Excluded-clause-upper : goal.returns-in-Excluded-clause-upper
 returns-in-Excluded-clause-upper g c s h =
-    let n = g.L.RBTreeOps.node in rw c.in-Excluded.is (beyond_excluded n h (ends_at_root n c.get-in-Excluded.ensures c.descend-in-Excluded.ensures.ends h) refl)
+    let n = g.L.RBTreeOps.node in rw c.in-Excluded.is (beyond_excluded n h (ends_at_root n c.get-root.ensures c.descend-in-Excluded.ensures.ends h) refl)
 
 pub returns-in-Unbounded-clause-upper : goal.returns-in-Unbounded-clause-upper
 returns-in-Unbounded-clause-upper g c s h = rw c.in-Unbounded.is (upper_unbounded g.L.RBTreeOps.node h (c.of.ensures ∙ c.last.ensures s h))
