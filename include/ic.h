@@ -90,15 +90,15 @@ struct ic_tree {
 
 /* ---- Words -------------------------------------------------------------------------------------------------------------------- */
 
-/* The number of a place in a word: 2 * (place + 1), or 0 for IC_NONE. The first word of a link has 1 more where the place is linked, and
+/* The number of a place in a word: 8 * (place + 1), or 0 for IC_NONE. The first word of a link has 1 more where the place is linked, and
  * `parent` where it is black in its tree. */
 static inline uint64_t ic_word(uint32_t place) {
-    return (uint64_t)(uint32_t)(place + 1u) * 2;
+    return (uint64_t)(uint32_t)(place + 1u) * 8;
 }
 
 /* The place that a word names, or IC_NONE. */
 static inline uint32_t ic_place(uint64_t word) {
-    return (uint32_t)(word / 2) - 1u;
+    return (uint32_t)(word / 8) - 1u;
 }
 
 /* ---- Doubly linked lists: 16 bytes a place, all calls O(1) ------------------------------------------------------------------------

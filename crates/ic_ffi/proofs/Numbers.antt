@@ -12,5 +12,5 @@ none_named = place_at_word None
 -- and each smaller number the place with that index
 pub index_named : (p : Place) (i : ℕ) → i ≡ index_of p → i < 4294967295 → place_of i ≡ Some p
 index_named p i is small =
-    let same : 2 * ((i + 1) % 4294967296) ≡ word_of (Some p) = omega (arith, is, small) in
+    let same : 8 * ((i + 1) % 4294967296) ≡ word_of (Some p) = omega (arith, is, small) in
     ap place_at same ∙ place_at_word (Some p)

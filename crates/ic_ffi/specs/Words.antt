@@ -8,9 +8,9 @@ use Rattle.ic_ffi.specs.declared.words.RawOne.{RawOne}
 use Rattle.ic_ffi.specs.declared.words.RawTwo.{RawTwo}
 use Rattle.ic_ffi.specs.declared.words.RawThree.{RawThree}
 
--- the number that a word keeps: even and below 2 ^ 34, whatever the word's bits are
+-- the number that a word keeps: a multiple of 8 below 2 ^ 36, whatever the word's bits are
 abbrev pub number_in : ℕ → ℕ
-number_in v = v / 2 % 8589934592 * 2
+number_in v = v / 8 % 8589934592 * 8
 
 -- the place that it names, none at 0
 abbrev pub place_in : ℕ → Option Place
@@ -22,7 +22,7 @@ is_marked v = nat_eq (v % 2) 1
 
 -- the place with that index, and none at 4,294,967,295
 abbrev pub place_of : ℕ → Option Place
-place_of i = place_at (2 * ((i + 1) % 4294967296))
+place_of i = place_at (8 * ((i + 1) % 4294967296))
 
 -- the number names that place, if its index is below 4,294,967,295
 abbrev pub HasNumber : Place → ℕ → Type 0

@@ -10,12 +10,12 @@ ghost use Rattle.ic_ffi.specs.Words.{place_in, place_of, HasNumber};
 use crate::status::NONE;
 use ic_unsafe_ref::Place;
 
-/// The place that a word names, whatever its bits are: the lowest one, and those from `2^34` on, count for nothing.
+/// The place that a word names, whatever its bits are: the three lowest, and those from `2^36` on, count for nothing.
 #[inline]
 pub(crate) fn place_in(word: u64) -> Option<Place>
     ensures { result ≡ place_in word }
 {
-    Place::from_word(word / 2 % 8_589_934_592 * 2)
+    Place::from_word(word / 8 % 8_589_934_592 * 8)
 }
 
 /// The place with that index, and none at [`NONE`](crate::NONE).
@@ -23,7 +23,7 @@ pub(crate) fn place_in(word: u64) -> Option<Place>
 pub(crate) fn place_of(index: u32) -> Option<Place>
     ensures { result ≡ place_of index }
 {
-    Place::from_word(2 * u64::from(index.wrapping_add(1)))
+    Place::from_word(8 * u64::from(index.wrapping_add(1)))
 }
 
 /// The index of the place, [`NONE`] where it is too large. No call puts such a place in.

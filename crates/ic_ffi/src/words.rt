@@ -23,7 +23,7 @@ use ic_unsafe_ref::Place;
 /// What a table of singly linked or of XOR lists keeps at a place.
 ///
 /// The lowest bit says whether the place is linked. The others are the number of the next place, or the exclusive or of the numbers of
-/// both neighbors, where a place has the number `2 * (index + 1)` and none has 0.
+/// both neighbors, where a place has the number `8 * (index + 1)` and none has 0.
 #[repr(C)]
 #[derive(Clone, Copy)]
 pub struct RawOne {

@@ -1,5 +1,5 @@
 -- The third word of a tree link: what it says, as its parts are set.
-use Rattle.std.proofs.Common.{◌≡◌, ℕ, zero, suc, ◌+◌, ◌*◌, ◌/◌, ◌%◌, ◌<◌, Option, None, cond, nat_eq, true, false, arith, refl, sym, ap, ◌∙◌}
+use Rattle.std.proofs.Common.{◌≡◌, ℕ, zero, suc, ◌+◌, ◌*◌, ◌/◌, ◌%◌, ◌<◌, Option, None, cond, nat_eq, true, false, arith, refl, ap, ◌∙◌}
 use Rattle.ic_unsafe_ref.specs.declared.place.Place.{Place}
 use Rattle.ic_unsafe_ref.specs.Places.{place_at, word_of}
 use Rattle.ic_unsafe_ref.proofs.PlaceLemmas.{place_at_word, word_at, word_fits}
@@ -14,32 +14,26 @@ parts_at_0 = λ k. record { linked = false; parent = place_at_word None k; color
 pub parts_at_3 : parts_at 3 ≡ linked
 parts_at_3 = λ k. record { linked = true; parent = place_at_word None k; color = Black }
 
--- a word below 4 names no parent
-pub no_parent : (n : ℕ) → n / 4 ≡ 0 → None ≡ (parts_at n).parent
-no_parent n h =
-    let none : n / 4 * 2 ≡ 0 = omega (arith, h) in
-    sym (ap place_at none ∙ place_at_word None)
-
 -- with another parent
-pub parent_set : (n : ℕ) (parent : Option Place) → parts_at (word_of parent * 2 + n % 4) ≡ record (parts_at n) { parent = parent }
+pub parent_set : (n : ℕ) (parent : Option Place) → parts_at (word_of parent + n % 8) ≡ record (parts_at n) { parent = parent }
 parent_set n parent =
     let even = (word_fits parent).1 in
-    let links : (word_of parent * 2 + n % 4) / 2 % 2 ≡ n / 2 % 2 = omega (arith, even) in
-    let names : (word_of parent * 2 + n % 4) / 4 * 2 ≡ word_of parent = omega (arith, even) in
-    let colors : (word_of parent * 2 + n % 4) % 2 ≡ n % 2 = omega (arith, even) in
-    let at : place_at ((word_of parent * 2 + n % 4) / 4 * 2) ≡ parent = ap place_at names ∙ place_at_word parent in
+    let links : (word_of parent + n % 8) / 2 % 2 ≡ n / 2 % 2 = omega (arith, even) in
+    let names : (word_of parent + n % 8) / 8 * 8 ≡ word_of parent = omega (arith, even) in
+    let colors : (word_of parent + n % 8) % 2 ≡ n % 2 = omega (arith, even) in
+    let at : place_at ((word_of parent + n % 8) / 8 * 8) ≡ parent = ap place_at names ∙ place_at_word parent in
     λ k. record { linked = nat_eq (links k) 1; parent = at k; color = cond (nat_eq (colors k) 0) Red Black }
 
 -- with another color
 pub color_set : (n : ℕ) (color : Color) → parts_at (n / 2 * 2 + one_if_black color) ≡ record (parts_at n) { color = color }
 color_set n Red =
     let links : (n / 2 * 2 + 0) / 2 % 2 ≡ n / 2 % 2 = omega arith in
-    let names : (n / 2 * 2 + 0) / 4 * 2 ≡ n / 4 * 2 = omega arith in
+    let names : (n / 2 * 2 + 0) / 8 * 8 ≡ n / 8 * 8 = omega arith in
     let colors : (n / 2 * 2 + 0) % 2 ≡ 0 = omega arith in
     λ k. record { linked = nat_eq (links k) 1; parent = place_at (names k); color = cond (nat_eq (colors k) 0) Red Black }
 color_set n Black =
     let links : (n / 2 * 2 + 1) / 2 % 2 ≡ n / 2 % 2 = omega arith in
-    let names : (n / 2 * 2 + 1) / 4 * 2 ≡ n / 4 * 2 = omega arith in
+    let names : (n / 2 * 2 + 1) / 8 * 8 ≡ n / 8 * 8 = omega arith in
     let colors : (n / 2 * 2 + 1) % 2 ≡ 1 = omega arith in
     λ k. record { linked = nat_eq (links k) 1; parent = place_at (names k); color = cond (nat_eq (colors k) 0) Red Black }
 
@@ -54,10 +48,10 @@ one_if_not_red zero h = refl
 one_if_not_red (suc zero) h = refl
 one_if_not_red (suc (suc x)) h = absurd (omega (arith, h))
 
--- the word is the number of what it says
-pub number_of_parts : (n : ℕ) → n < 34359738368 → number_of (parts_at n) ≡ n
+-- the word tells what it says
+pub number_of_parts : (n : ℕ) → n < 68719476736 → number_of (parts_at n) ≡ n / 8 * 4 + n % 4
 number_of_parts n h =
-    let names : word_of (place_at (n / 4 * 2)) ≡ n / 4 * 2 = word_at (n / 4 * 2) (omega (arith, h), omega arith) in
+    let names : word_of (place_at (n / 8 * 8)) ≡ n / 8 * 8 = word_at (n / 8 * 8) (omega (arith, h), omega arith) in
     let links : one_if (nat_eq (n / 2 % 2) 1) ≡ n / 2 % 2 = one_if_one (n / 2 % 2) (omega arith) in
     let colors : one_if_black (cond (nat_eq (n % 2) 0) Red Black) ≡ n % 2 = one_if_not_red (n % 2) (omega arith) in
     omega (arith, names, links, colors)

@@ -5,7 +5,7 @@ use Rattle.ic_unsafe_ref.specs.Places.{place_at, word_of}
 use Rattle.ic_link_ops.specs.declared.rbtree.ThreeWords.{ThreeWords}
 use Rattle.ic_link_ops.specs.declared.link.Link.{Link}
 use Rattle.ic_link_ops.specs.Links.{words_of}
-use Rattle.ic_link_ops.specs.Words.{bits_of, none}
+use Rattle.ic_link_ops.specs.Words.{bits_of, told, none}
 use Rattle.ic_link_ops.specs.TreeWords.{unlinked, number_of}
 use Rattle.ic_link_ops.specs.RedBlackTree.{Node}
 
@@ -34,6 +34,6 @@ node_of l = record {
   color = (words_of l).third.color;
 }
 
--- the words as numbers
-abbrev pub bits_in_order : ThreeWords → List ℕ
-bits_in_order w = word_of w.left ∷ bits_of w.right ∷ number_of w.third ∷ []
+-- the words as they are told, the flags of the third one beside twice the parent's
+abbrev pub told_in_order : ThreeWords → List ℕ
+told_in_order w = told (word_of w.left) ∷ told (bits_of w.right) ∷ number_of w.third ∷ []

@@ -27,14 +27,14 @@ abbrev pub one_if_black : Color → ℕ
 one_if_black Red = 0
 one_if_black Black = 1
 
--- the word: 4 * (parent + 1) + 2 * linked + black, where a place's word is 2 * (index + 1)
+-- the word as it is told: 4 * (parent + 1) + 2 * linked + black, where 8 * (parent + 1) is kept
 abbrev pub number_of : Parts → ℕ
-number_of parts = 2 * word_of parts.parent + 2 * one_if parts.linked + one_if_black parts.color
+number_of parts = word_of parts.parent / 2 + 2 * one_if parts.linked + one_if_black parts.color
 
 -- what a word says
 abbrev pub parts_at : ℕ → Parts
 parts_at n = record {
   linked = nat_eq (n / 2 % 2) 1;
-  parent = place_at (n / 4 * 2);
+  parent = place_at (n / 8 * 8);
   color = cond (nat_eq (n % 2) 0) Red Black;
 }

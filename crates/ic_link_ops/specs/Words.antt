@@ -1,5 +1,5 @@
 -- The words of links.
-use Rattle.std.specs.Prelude.{ℕ, Bool, nat_eq, not, refl}
+use Rattle.std.specs.Prelude.{ℕ, ◌+◌, ◌/◌, ◌%◌, Bool, nat_eq, not, refl}
 use Rattle.std.proofs.Common.{arith}
 use Rattle.ic_link_ops.specs.declared.word.Word.{Word}
 use Rattle.ic_link_ops.specs.declared.marked_word.MarkedWord.{MarkedWord}
@@ -11,6 +11,10 @@ bits_of w = w.bits
 -- the mark 1 of an unlinked place, or a word
 abbrev pub marked_bits_of : MarkedWord → ℕ
 marked_bits_of w = w.bits
+
+-- a word as it is told: a quarter of what is kept, and the mark as it is
+abbrev pub told : ℕ → ℕ
+told n = n / 4 + n % 2
 
 -- whether it is a word, and not the mark
 abbrev pub is_word : MarkedWord → Bool

@@ -22,7 +22,7 @@ impl MarkedWord {
 
     const MARK: u64 = 1;
 
-    /// The mark of an unlinked place: 1, which no word is, since words are even.
+    /// The mark of an unlinked place: 1, which no word is, since words are multiples of 8.
     #[inline]
     pub fn mark() -> MarkedWord
         ensures { result ≡ mark }

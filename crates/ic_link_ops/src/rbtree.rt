@@ -104,20 +104,21 @@ pub type LinkOps<A = Global> = PlainTable<ThreeWords, A>;
 
 impl link::Link<ThreeWords> {
     ghost use Rattle.ic_link_ops.specs.Links.{words_of};
-    ghost use Rattle.ic_link_ops.specs.ThreeWords.{bits_in_order};
+    ghost use Rattle.ic_link_ops.specs.ThreeWords.{told_in_order};
 
     /// The three words: those of the left and the right child, and that of the parent and the color.
     ///
-    /// A child that is none has 0, and what an XOR list wrote stands on the right. The third word is
-    /// `4 * (parent + 1) + 2 * linked + black`, with 0 in place of `parent + 1` for no parent, and 1 for true.
+    /// A child has `2 * (index + 1)`, and one that is none 0. What an XOR list wrote stands on the right. The third word is
+    /// `4 * (parent + 1) + 2 * linked + black`, with 0 in place of `parent + 1` for no parent, and 1 for true. What names a place is kept
+    /// as four times, and twice, as much.
     #[inline]
     pub fn words(&self) -> [u64; 3]
-        ensures { result ≡ bits_in_order (words_of self.now) }
+        ensures { result ≡ told_in_order (words_of self.now) }
     {
         [
-            Place::to_word(self.words.left.get()),
-            self.words.right.bits(),
-            self.words.third.bits(),
+            Place::to_word(self.words.left.get()) / 4,
+            self.words.right.bits() / 4,
+            self.words.third.number(),
         ]
     }
 }

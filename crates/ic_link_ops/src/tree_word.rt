@@ -14,7 +14,8 @@ use crate::color::Color;
 use ic_unsafe_ref::Place;
 use std::marker::Model;
 
-/// `4 * (parent + 1) + 2 * linked + black`, with 0 in place of `parent + 1` for no parent, and 1 for true.
+/// It is kept as `8 * (parent + 1) + 2 * linked + black`, with 0 in place of `parent + 1` for no parent, and 1 for true. So the parent's
+/// number is what is left without the three lowest bits.
 ///
 /// A clause sees what it says. It is linked whatever its color and its parent are.
 #[derive(Drop)]
@@ -30,7 +31,7 @@ impl Model for TreeWord {
 
     ghost view = { λ w. parts_at w.bits };
 
-    ghost invariant = { λ w. w.bits < 2 ^ 35 };
+    ghost invariant = { λ w. w.bits < 2 ^ 36 };
 }
 
 impl TreeWord {
@@ -60,17 +61,12 @@ impl TreeWord {
         self.bits / 2 % 2 == 1
     }
 
-    /// The parent, `None` at the root: all but the two lowest bits.
+    /// The parent, `None` at the root: all but the three lowest bits.
     #[inline]
-    #[tactic(auto, using(crate::proofs::TreeWordLemmas::no_parent))]
     pub fn parent(&self) -> Option<Place>
         ensures { result ≡ self.now.parent }
     {
-        let above = self.bits / 4;
-        if above == 0 {
-            return None;
-        }
-        Place::from_word(above * 2)
+        Place::from_word(self.bits / 8 * 8)
     }
 
     /// The color: the lowest bit, 1 for black.
@@ -91,7 +87,7 @@ impl TreeWord {
     pub fn set_parent(&mut self, parent: Option<Place>)
         ensures { self.new ≡ record self.old { parent = parent } }
     {
-        self.bits = Place::to_word(parent) * 2 + self.bits % 4;
+        self.bits = Place::to_word(parent) + self.bits % 8;
     }
 
     /// Replaces the color, and leaves the parent and whether the place is linked.
@@ -107,12 +103,12 @@ impl TreeWord {
         self.bits = self.bits / 2 * 2 + black;
     }
 
-    /// The number that is kept, for a text of an entry.
+    /// What the word says as one number: `4 * (parent + 1) + 2 * linked + black`, with 0 in place of `parent + 1` for no parent.
     #[inline]
     #[tactic(auto, using(crate::proofs::TreeWordLemmas::number_of_parts))]
-    pub fn bits(&self) -> u64
+    pub fn number(&self) -> u64
         ensures { result ≡ number_of self.now }
     {
-        self.bits
+        self.bits / 8 * 4 + self.bits % 4
     }
 }

@@ -1,7 +1,7 @@
 //! The word of which links are made.
 //!
-//! A place is kept as its number, `2 * (index + 1)`, and no place as 0, so that each word of a linked place is even and
-//! below `2^34`. The exclusive or of two words is such a word again, so a place is read from it with no test of its range.
+//! A place is kept as its number, `8 * (index + 1)`, and no place as 0, so that each word of a linked place is a multiple of 8
+//! below `2^36`. The exclusive or of two words is such a word again, so a place is read from it with no test of its range.
 //!
 //! ```text
 //! let word = Word::between(Some(first), Some(third));

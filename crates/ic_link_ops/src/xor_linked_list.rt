@@ -95,14 +95,16 @@ pub type LinkOps<A = Global> = PlainTable<OneWord<Xor>, A>;
 impl link::Link<OneWord<Xor>> {
     ghost use Rattle.ic_link_ops.specs.Links.{words_of};
     ghost use Rattle.ic_link_ops.specs.OneWord.{next_word_of};
+    ghost use Rattle.ic_link_ops.specs.Words.{told};
 
-    /// The exclusive or of the neighbors' numbers, where a place has the number `2 * (index + 1)` and none has 0; the
-    /// mark 1 while the place is unlinked.
+    /// The exclusive or of what stands for the neighbors: `2 * (index + 1)` for a place, and 0 for none. The mark 1 while the
+    /// place is unlinked. It is kept as four times as much.
     #[inline]
     pub fn word(&self) -> u64
-        ensures { result ≡ next_word_of (words_of self.now) }
+        ensures { result ≡ told (next_word_of (words_of self.now)) }
     {
-        self.words.word.bits()
+        let bits = self.words.word.bits();
+        bits / 4 + bits % 2
     }
 }
 

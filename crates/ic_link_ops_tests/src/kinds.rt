@@ -136,7 +136,7 @@ fn what_an_xor_list_wrote_is_read_by_others(rt: HostRuntime) {
     let (mut links, place): (linked_list::LinkOps, Place) = one_linked(&rt, rt.alloc());
     let (first, third, last) = (Place::new(0), Place::new(2), Place::new(LAST));
     let second = is_read(&mut links, place, [first, third], Place::new(1));
-    let far = Place::from_word(8_589_934_594);
+    let far = Place::from_word(34_359_738_376);
     let beyond = is_read(&mut links, place, [first, last], far);
     let none = is_read(&mut links, place, [third, third], None);
     check(&rt, [second, beyond, none] == [true; 3]);

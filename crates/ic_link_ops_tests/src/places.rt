@@ -15,10 +15,10 @@ fn limits() -> [Option<usize>; 7] {
         index(Place::new(4_294_967_295)),
         index(Place::new(4_294_967_296)),
         index(Place::from_word(0)),
-        index(Place::from_word(16)),
-        index(Place::from_word(8_589_934_592)),
-        index(Place::from_word(8_589_934_594)),
-        index(Place::from_word(17_179_869_182)),
+        index(Place::from_word(64)),
+        index(Place::from_word(34_359_738_368)),
+        index(Place::from_word(34_359_738_376)),
+        index(Place::from_word(68_719_476_728)),
     ]
 }
 

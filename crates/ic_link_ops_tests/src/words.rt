@@ -25,24 +25,24 @@ fn marks(word: Word) -> ([u64; 3], [bool; 2]) {
     (numbers, [mark.is_word(), marked.is_word()])
 }
 
-// A tree's word as a number, unlinked, linked, then with a parent and then red, and that parent's word; and whether it is red and
+// What a tree's word tells, unlinked, linked, then with a parent and then red, and that parent's word; and whether it is red and
 // linked then.
 fn tree_numbers(parent: Option<Place>) -> ([u64; 5], bool) {
     let mut word = TreeWord::linked();
-    let black = word.bits();
+    let black = word.number();
     word.set_parent(parent);
-    let below = word.bits();
+    let below = word.number();
     word.set_color(Color::Red);
     let above = Place::to_word(End::of(word.parent()).get());
     let is_red = word.color() == Color::Red && word.is_linked();
-    let unlinked = TreeWord::unlinked().bits();
-    ([unlinked, black, below, word.bits(), above], is_red)
+    let unlinked = TreeWord::unlinked().number();
+    ([unlinked, black, below, word.number(), above], is_red)
 }
 
 #[test]
 fn numbers_of_words(rt: HostRuntime) {
     let (third, sixth) = (Place::new(2), Place::new(5));
-    check(&rt, numbers(third, sixth) == [0, 12, 10, 12, 6, 12]);
-    check(&rt, marks(Word::of(sixth)) == ([1, 12, 12], [false, true]));
-    check(&rt, tree_numbers(Place::new(0)) == ([0, 3, 7, 6, 2], true));
+    check(&rt, numbers(third, sixth) == [0, 48, 40, 48, 24, 48]);
+    check(&rt, marks(Word::of(sixth)) == ([1, 48, 48], [false, true]));
+    check(&rt, tree_numbers(Place::new(0)) == ([0, 3, 7, 6, 8], true));
 }

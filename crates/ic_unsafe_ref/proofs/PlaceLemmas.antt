@@ -10,13 +10,13 @@ use Rattle.ic_unsafe_ref.specs.Numbers.{IsNumber, IsWord, is_number_or_not}
 use Rattle.ic_unsafe_ref.specs.Places.{index_of, place_of, place_at, word_of, is_number_once, same_number}
 
 -- the number of a place by its index
-pub number_of : (p : Place) → p.number ≡ 2 * (index_of p + 1)
+pub number_of : (p : Place) → p.number ≡ 8 * (index_of p + 1)
 unfolding index_of
 number_of p = omega (arith, p.is_number.0, p.is_number.2)
 
 -- a place is its index
 pub same_index : (p q : Place) → index_of p ≡ index_of q → p ≡ q
-same_index p q e = same_number p q (number_of p ∙ ap (λ i. 2 * (i + 1)) e ∙ sym (number_of q))
+same_index p q e = same_number p q (number_of p ∙ ap (λ i. 8 * (i + 1)) e ∙ sym (number_of q))
 
 -- numbers tell places apart as indexes do
 pub number_tells : (p q : Place) → nat_eq p.number q.number ≡ nat_eq (index_of p) (index_of q)
@@ -36,7 +36,7 @@ pub index_small : (p : Place) → index_of p < 8589934591
 unfolding index_of
 index_small p = omega (arith, p.is_number.0, p.is_number.1)
 
-pub index_of_place : (i : ℕ) (h : IsNumber (2 * (i + 1))) → index_of (place_of (2 * (i + 1)) h) ≡ i
+pub index_of_place : (i : ℕ) (h : IsNumber (8 * (i + 1))) → index_of (place_of (8 * (i + 1)) h) ≡ i
 unfolding index_of
 index_of_place i h = omega arith
 
@@ -59,10 +59,10 @@ place_at_other n other =
     ]
 
 -- the index of the place that a word names
-pub index_at : (i : ℕ) (p : Place) → place_at (2 * (i + 1)) ≡ Some p → i ≡ index_of p
+pub index_at : (i : ℕ) (p : Place) → place_at (8 * (i + 1)) ≡ Some p → i ≡ index_of p
 unfolding place_at
 index_at i p =
-    elim (is_number_or_not (2 * (i + 1))) as (λ d. elim d [ inl h ↦ Some (place_of (2 * (i + 1)) h) | inr h ↦ None ] ≡ Some p → i ≡ index_of p) [
+    elim (is_number_or_not (8 * (i + 1))) as (λ d. elim d [ inl h ↦ Some (place_of (8 * (i + 1)) h) | inr h ↦ None ] ≡ Some p → i ≡ index_of p) [
       | inl h ↦ λ e. sym (index_of_place i h) ∙ ap index_of (same_Some _ _ e)
       | inr h ↦ λ e. cc
     ]
@@ -82,15 +82,15 @@ word_at n h =
           ap word_of (place_at_is n is) ∙ sym (number_of (place_of n is))
     ]
 
--- the word of a place or none is even and below 2 ^ 34, and so is the exclusive or of two such words
+-- the word of a place or none is a multiple of 8 below 2 ^ 36, and so is the exclusive or of two such words
 pub word_fits : (to : Option Place) → IsWord (word_of to)
 word_fits None = (omega arith, refl)
 word_fits (Some p) = let e = number_of p in (omega (arith, e, p.is_number.1), omega (arith, e, p.is_number.2))
 
 pub xor_fits : {a b : ℕ} → IsWord a → IsWord b → IsWord (bit_xor a b)
-xor_fits {a} {b} h k = (xor_lt 34 a b h.0 k.0, xor_mod a b 1 ∙ ap (λ m. bit_xor m (b % 2)) h.1 ∙ ap (bit_xor 0) k.1)
+xor_fits {a} {b} h k = (xor_lt 36 a b h.0 k.0, xor_mod a b 3 ∙ ap (λ m. bit_xor m (b % 8)) h.1 ∙ ap (bit_xor 0) k.1)
 
 -- every index below 2 ^ 33 - 1 is that of a place, more than a table covers
 pub place_with : (i : ℕ) → i < 8589934591 → (p : Place) × (index_of p ≡ i)
 place_with i h =
-    let is : IsNumber (2 * (i + 1)) = (omega arith, omega (arith, h), omega arith) in (place_of (2 * (i + 1)) is, index_of_place i is)
+    let is : IsNumber (8 * (i + 1)) = (omega arith, omega (arith, h), omega arith) in (place_of (8 * (i + 1)) is, index_of_place i is)

@@ -9,7 +9,7 @@ use Rattle.ic_unsafe_ref.specs.declared.place.Place.{Place}
 
 -- how many places stand before it
 unfoldable pub index_of : Place → ℕ
-index_of p = p.number / 2 - 1
+index_of p = p.number / 8 - 1
 
 -- the place with that number
 abbrev pub place_of : (n : ℕ) → IsNumber n → Place
@@ -18,7 +18,7 @@ place_of n h = record { number = n; is_number = h }
 -- the word for a place or none: the place's number, or 0
 abbrev pub word_of : Option Place → ℕ
 word_of None = 0
-word_of (Some p) = 2 * (index_of p + 1)
+word_of (Some p) = 8 * (index_of p + 1)
 
 -- the place that a word names: none at 0 and at what is no place's number
 unfoldable pub place_at : ℕ → Option Place

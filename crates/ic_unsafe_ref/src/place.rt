@@ -13,9 +13,10 @@ use std::fmt;
 
 /// Where an object stands: an index, below 4,294,967,296 of each place that [`Place::new`] makes and that a table covers.
 ///
-/// It is kept as its number, `2 * (index + 1)`, which is what links keep for a neighbor: even, and never 0. A number may
-/// be any below `2^34`, twice as many as the first 4,294,967,296 places have, so that the exclusive or of two numbers is a
-/// number or 0 and is read with no test of its range.
+/// It is kept as its number, `8 * (index + 1)`, which is what links keep for a neighbor: a multiple of 8, and never 0. That is as many
+/// bytes as the words of that many links of one word, so that a number addresses an entry. A number may be any below `2^36`, twice as
+/// many as the first 4,294,967,296 places have, so that the exclusive or of two numbers is a number or 0 and is read with no test of its
+/// range.
 #[derive(Clone, Copy, PartialEq, Eq, PartialOrd, Ord)]
 pub struct Place {
     number: u64,
@@ -48,7 +49,7 @@ impl Place {
         ensures { index_of result ≡ index }
     {
         Place {
-            number: 2 * (index as u64 + 1),
+            number: 8 * (index as u64 + 1),
         }
     }
 
@@ -59,15 +60,15 @@ impl Place {
         ensures value { result ≡ index_of self }
         ensures small { result + 1 < 2 ^ 33 }
     {
-        // An even number addresses an entry with no mask.
-        let number = known(self.number, self.number % 2 == 0);
-        (number / 2 - 1) as usize
+        // A multiple of 8 addresses an entry with no shift and no mask, and what is not 0 is no end.
+        let number = known(self.number, self.number % 8 == 0 && self.number != 0);
+        (number / 8 - 1) as usize
     }
 
     /// The place that a word names: none at 0. One test.
     ///
-    /// Tables and collections keep neighbors and ends as such words, which take no decoding to copy. It asks for an even
-    /// word below `2^34`, as [`Place::to_word`] answers and as the exclusive or of two such words is.
+    /// Tables and collections keep neighbors and ends as such words, which take no decoding to copy. It asks for a
+    /// multiple of 8 below `2^36`, as [`Place::to_word`] answers and as the exclusive or of two such words is.
     #[inline]
     #[tactic(auto, using(crate::proofs::PlaceLemmas::place_at_other))]
     pub fn from_word(word: u64) -> Option<Place>

@@ -23,7 +23,7 @@ use Rattle.ic_world.specs.Tables.{no_table}
 linked_index_is : (t : Table Entry) (p : Place) → linked_index t (index_of p) ≡ is_linked (t.entry p)
 linked_index_is t p = ap (linked_there t) (place_at_word (Some p))
 
-linked_index_past : (t : Table Entry) (i : ℕ) → 8589934591 ≤ i → (o : Option Place) → place_at (2 * (i + 1)) ≡ o → linked_there t o ≡ false
+linked_index_past : (t : Table Entry) (i : ℕ) → 8589934591 ≤ i → (o : Option Place) → place_at (8 * (i + 1)) ≡ o → linked_there t o ≡ false
 linked_index_past t i h None e = refl
 linked_index_past t i h (Some p) e = absurd (omega (arith, h, index_at i p e, index_small p))
 
@@ -85,7 +85,7 @@ beyond t i h =
     contains-from_list_nat (linked_below t n) i
     ∙ elim (side n i) [
       | inl k ↦ above t n i k
-      | inr k ↦ below t n i k ∙ linked_index_past t i h (place_at (2 * (i + 1))) refl
+      | inr k ↦ below t n i k ∙ linked_index_past t i h (place_at (8 * (i + 1))) refl
     ]
 
 -- a set is the linked set of t, if it has the linked places and no other index

@@ -15,7 +15,7 @@ linked_there t None = false
 linked_there t (Some p) = is_linked (t.entry p)
 
 abbrev pub linked_index : Table Entry → ℕ → Bool
-linked_index t i = linked_there t (place_at (2 * (i + 1)))
+linked_index t i = linked_there t (place_at (8 * (i + 1)))
 
 -- the linked places below an index, and those of the whole table
 abbrev pub linked_below : Table Entry → ℕ → List ℕ

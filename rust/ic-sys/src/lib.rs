@@ -80,13 +80,13 @@ pub struct ic_tree {
 /// The number of a place in a word, or 0 for `IC_NONE`.
 #[inline]
 pub const fn ic_word(place: u32) -> u64 {
-    place.wrapping_add(1) as u64 * 2
+    place.wrapping_add(1) as u64 * 8
 }
 
 /// The place that a word names, or `IC_NONE`.
 #[inline]
 pub const fn ic_place(word: u64) -> u32 {
-    ((word / 2) as u32).wrapping_sub(1)
+    ((word / 8) as u32).wrapping_sub(1)
 }
 
 extern "C" {

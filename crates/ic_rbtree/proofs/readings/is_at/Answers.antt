@@ -7,10 +7,10 @@ use Rattle.ic_rbtree.proofs.readings.is_at.Goals as goal
 
 -- words tell whether an end is a place
 same_words : (end : Option Place) (p : Place) → nat_eq (word_of end) (word_of (Some p)) ≡ is_end end p
-same_words None p = ne_eqb 0 (2 * (index_of p + 1)) (λ e. absurd (omega (arith, e)))
+same_words None p = ne_eqb 0 (8 * (index_of p + 1)) (λ e. absurd (omega (arith, e)))
 same_words (Some q) p =
-    let words : nat_eq (2 * (index_of q + 1)) (2 * (index_of p + 1)) ≡ nat_eq q.number p.number =
-    ap (λ (m : ℕ). nat_eq m (2 * (index_of p + 1))) (sym (number_of q)) ∙ ap (λ (m : ℕ). nat_eq q.number m) (sym (number_of p)) in
+    let words : nat_eq (8 * (index_of q + 1)) (8 * (index_of p + 1)) ≡ nat_eq q.number p.number =
+    ap (λ (m : ℕ). nat_eq m (8 * (index_of p + 1))) (sym (number_of q)) ∙ ap (λ (m : ℕ). nat_eq q.number m) (sym (number_of p)) in
     words ∙ number_tells q p
 
 pub returns : goal.returns

@@ -13,3 +13,7 @@ give_up-by_owner-requires-clause-jobs g c =
         only = λ p out. also.others p out.0 ∙ c.next_links-links.ensures.nothing p;
       },
     )
+
+pub give_up-by_other-requires-clause-jobs : goal.give_up-by_other-requires-clause-jobs
+give_up-by_other-requires-clause-jobs g c =
+    ([], record { shown = rw c.new-other_jobs.ensures (new_shows_nothing plain_lists _); only = λ p out. c.next_links-other_links.ensures.nothing p })
