@@ -73,7 +73,7 @@ def page(figures):
             "## Beside the Rust crate",
             "",
             "How many times the Rust crate's time ours takes, by the number of members: over the table that is handed in, and behind the "
-            "stroke in another form. That is a lent table for lists, and an array of keys for trees. Below 1 ours is faster. Then come the "
+            "stroke in another form. That is a lent table for lists, and for trees a table with the keys beside the links. Below 1 ours is faster. Then come the "
             "instructions of one operation with 1,000 members.",
             "",
             *table(rows[0][0], [row for _head, row in rows]),
@@ -143,7 +143,7 @@ class Plot:
 
     def legend(self):
         at = self.LEFT
-        for name, what in ((OURS, "table handed in"), (OTHER, "lent table, or an array of keys")):
+        for name, what in ((OURS, "table handed in"), (OTHER, "lent table, or keys beside the links")):
             for members in self.figures.options.sizes:
                 yield self.dot(at, 46, name, members)
                 at += 16

@@ -90,7 +90,7 @@ struct ic_tree {
 
 /* ---- Words -------------------------------------------------------------------------------------------------------------------- */
 
-/* The number of a place in a word: 8 * (place + 1), or 0 for IC_NONE. The first word of a link has 1 more where the place is linked, and
+/* The word for a place: 8 * (place + 1), or 0 for IC_NONE. The first word of a link has 1 more where the place is linked, and
  * `parent` where it is black in its tree. */
 static inline uint64_t ic_word(uint32_t place) {
     return (uint64_t)(uint32_t)(place + 1u) * 8;

@@ -41,7 +41,7 @@ impl KeyAdapter for ByValue {
 
 // Where the object with this key stands, if it is a member.
 #[inline]
-fn find<L: RBTreeOps, O: Values<u64>>(
+pub(crate) fn find<L: RBTreeOps, O: Values<u64>>(
     tree: &RBTree<ByValue>,
     links: &L,
     objects: &O,
@@ -71,10 +71,14 @@ fn from_key<L: RBTreeOps, O: Values<u64>>(
 
 // Where the object with the least key stands, if there is a member.
 #[inline]
-fn least<L: RBTreeOps>(tree: &RBTree<ByValue>, links: &L, objects: &Objects<u64>) -> Option<Place>
-    requires sorted { ShowsSorted (λ v. v) (Shows L.node (L.table links.now) (root_of tree.now)) objects.now }
+pub(crate) fn least<L: RBTreeOps, O: Values<u64>>(
+    tree: &RBTree<ByValue>,
+    links: &L,
+    objects: &O,
+) -> Option<Place>
+    requires sorted { ShowsSorted (λ v. v) (Shows L.node (L.table links.now) (root_of tree.now)) (O.values objects.now) }
     ensures member { IfSome result (HasMember (Shows L.node (L.table links.now) (root_of tree.now))) }
-    ensures placed { IfSome result (λ place. is_placed objects.now place ≡ true) }
+    ensures placed { IfSome result (λ place. is_placed (O.values objects.now) place ≡ true) }
 {
     tree.front(links).get_ptr()
 }
@@ -109,7 +113,11 @@ fn insert<L: RBTreeOps, O: Values<u64>>(
 
 // Takes a member off.
 #[inline]
-fn remove<L: RBTreeOps>(tree: &mut RBTree<ByValue>, links: &mut L, object: UnsafeRef<u64>)
+pub(crate) fn remove<L: RBTreeOps>(
+    tree: &mut RBTree<ByValue>,
+    links: &mut L,
+    object: UnsafeRef<u64>,
+)
     requires member { HasMember (Shows L.node (L.table links.old) (root_of tree.old)) object }
     ensures sorted { StaysSorted (λ v. v) (Shows L.node (L.table links.old) (root_of tree.old))
         (Shows L.node (L.table links.new) (root_of tree.new)) }
@@ -246,7 +254,7 @@ fn remove_again<O: Values<u64>>(
 
 // Finds keys at random, and adds up the objects found.
 #[inline(never)]
-fn timed_find<L: RBTreeOps, O: Values<u64>>(
+pub(crate) fn timed_find<L: RBTreeOps, O: Values<u64>>(
     tree: &RBTree<ByValue>,
     links: &L,
     objects: &O,
@@ -267,7 +275,7 @@ fn timed_find<L: RBTreeOps, O: Values<u64>>(
 
 // Looks for the first object above keys at random, and adds these up.
 #[inline(never)]
-fn timed_lower_bound<L: RBTreeOps, O: Values<u64>>(
+pub(crate) fn timed_lower_bound<L: RBTreeOps, O: Values<u64>>(
     tree: &RBTree<ByValue>,
     links: &L,
     objects: &O,
@@ -346,7 +354,7 @@ fn timed_tree_step<L: RBTreeOps>(
 
 // The sum of the tree's objects, so often.
 #[inline(never)]
-fn timed_tree_iter<L: RBTreeOps, O: Values<u64>>(
+pub(crate) fn timed_tree_iter<L: RBTreeOps, O: Values<u64>>(
     tree: &RBTree<ByValue>,
     links: &L,
     objects: &O,
@@ -364,7 +372,11 @@ fn timed_tree_iter<L: RBTreeOps, O: Values<u64>>(
 }
 
 // What the members are and in which order they stand, as one number.
-fn hash<L: RBTreeOps, O: Values<u64>>(tree: &RBTree<ByValue>, links: &L, objects: &O) -> u64
+pub(crate) fn hash<L: RBTreeOps, O: Values<u64>>(
+    tree: &RBTree<ByValue>,
+    links: &L,
+    objects: &O,
+) -> u64
     requires placed { ShowsPlaced (Shows L.node (L.table links.now) (root_of tree.now)) (O.values objects.now) }
 {
     let mut hash = 0_u64;

@@ -11,6 +11,7 @@
 //! `bench/README.md` says what each workload does. The functions `timed_*` are what is timed, and what callgrind counts.
 #![tactic(auto)]
 
+mod beside;
 mod by_world;
 mod keyed;
 mod lines;
@@ -26,7 +27,7 @@ use room::{Size, Watch};
 use std::{env, io};
 use workloads::checksum;
 
-const WORKLOADS: [&str; 27] = [
+const WORKLOADS: [&str; 33] = [
     "pair",
     "pair-lent",
     "touch",
@@ -42,17 +43,23 @@ const WORKLOADS: [&str; 27] = [
     "xor",
     "find",
     "find-flat",
+    "find-keyed",
     "lower_bound",
     "lower_bound-flat",
+    "lower_bound-keyed",
     "insert",
     "insert-flat",
+    "insert-keyed",
     "remove",
     "turn",
     "turn-flat",
+    "turn-keyed",
     "queue",
+    "queue-keyed",
     "tree_step",
     "tree_iter",
     "tree_iter-flat",
+    "tree_iter-keyed",
     "world",
 ];
 

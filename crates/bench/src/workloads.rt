@@ -4,6 +4,7 @@
 //! let checksum = checksum("find", &mut watch, size);
 //! ```
 
+use crate::beside::{on_keyed, set_keys};
 use crate::by_world::on_world;
 use crate::keyed::{on_queue, on_steps, on_tree, on_values};
 use crate::lists::on_list;
@@ -122,6 +123,16 @@ fn tree(
     Some(checksum)
 }
 
+// A tree of their values, which stand beside the links.
+fn keyed(name: &str, watch: &mut Watch<'_>, room: &Room, size: Size) -> Option<u64> {
+    let alloc = watch.rt.alloc();
+    let mut links = rbtree::LinkOpsWith::new(alloc);
+    links.cover(size.members as usize).ok()?;
+    let order = places_of(alloc, &room.objects, &room.order, links.covers()).ok()?;
+    set_keys(&mut links, &room.objects, &order);
+    Some(on_keyed(name, watch, &mut links, &order, size))
+}
+
 /// Does the workload, and returns its checksum. Behind the workload of a doubly or singly linked list `-lent` stands for a lent table, and
 /// behind one of a tree by its keys `-flat` for keys in an array. Without memory there is no checksum.
 pub fn checksum(name: &str, watch: &mut Watch<'_>, size: Size) -> Option<u64> {
@@ -135,6 +146,7 @@ pub fn checksum(name: &str, watch: &mut Watch<'_>, size: Size) -> Option<u64> {
         "singly" => singly(is_other, watch, &room, size),
         "xor" => xor(watch, &room, size),
         "world" => Some(on_world(watch, &room.objects, &room.order, size)),
+        _ if name.ends_with("-keyed") => keyed(work, watch, &room, size),
         _ => tree(work, is_other, watch, &mut room, size),
     }
 }

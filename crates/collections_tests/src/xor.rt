@@ -91,7 +91,7 @@ fn write_anew(rt: &impl Abort, notes: &mut Text, list: &XorLinkedList<u64>, link
     write_object(notes, cursor.clone_pointer());
 }
 
-// Notes the words of the links, in the order of their places. The word is the exclusive or of what stands for the neighbors, 2 * (index + 1)
+// Notes the words of the links, in the order of their places. The word is the exclusive or of the neighbors' numbers, 2 * (index + 1)
 // for a place, and 1 says that it is unlinked.
 fn write_words(notes: &mut Text, links: &LinkOps) {
     for index in 0..links.covers() {

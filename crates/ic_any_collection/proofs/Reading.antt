@@ -4,7 +4,7 @@ use Rattle.std.proofs.lemmas.Bool.{eqb-false, false_from_ne_true}
 use Rattle.std.proofs.lemmas.List.{length-append}
 use Rattle.ic_unsafe_ref.specs.declared.place.Place.{Place}
 use Rattle.ic_unsafe_ref.specs.Places.{index_of}
-use Rattle.ic_unsafe_ref.proofs.PlaceLemmas.{same_index, number_tells}
+use Rattle.ic_unsafe_ref.proofs.PlaceLemmas.{same_index, word_tells}
 use Rattle.ic_link_ops.specs.Sequences.{Cut, join, first, last, IsAfter, IsBefore, IsAbsent, IsDistinct}
 use Rattle.ic_link_ops.specs.Tables.{Table}
 use Rattle.ic_link_ops.specs.Walk.{is_end}
@@ -24,11 +24,11 @@ leads_behind {Shows = Shows} {table = table} {old = old} {p = p} {s = s} moves a
     moves.leads (record { front = gap.front ++ p ∷ []; back = back }) there (at ∙ sym (last_of_push gap.front p))
 
 -- two places that are compared as numbers
-pub same_place : (p q : Place) → nat_eq p.number q.number ≡ true → p ≡ q
-same_place p q equal = same_index p q (eqb-true _ _ (sym (number_tells p q) ∙ equal))
+pub same_place : (p q : Place) → nat_eq p.word q.word ≡ true → p ≡ q
+same_place p q equal = same_index p q (eqb-true _ _ (sym (word_tells p q) ∙ equal))
 
-pub other_place : (p q : Place) → nat_eq p.number q.number ≡ false → q ≢ p
-other_place p q differs same = eqb-false p.number q.number differs (ap (λ x. x.number) (sym same))
+pub other_place : (p q : Place) → nat_eq p.word q.word ≡ false → q ≢ p
+other_place p q differs same = eqb-false p.word q.word differs (ap (λ x. x.word) (sym same))
 
 -- A WALK FROM THE FRONT of s: `done` is behind it, `prev` the last of that, and `current` the first of what is left
 pub record Walks (s done : List Place) (prev current : Option Place) : Type 0 where

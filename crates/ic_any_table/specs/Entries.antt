@@ -1,5 +1,5 @@
 -- What an entry says, whatever table keeps it.
-use Rattle.std.specs.Prelude.{◌≡◌, Bool, Option, None, [], ◌∷◌, bit_xor}
+use Rattle.std.specs.Prelude.{◌≡◌, Bool, Option, None, [], ◌∷◌, bit_xor, ⊤}
 use Rattle.ic_unsafe_ref.specs.declared.place.Place.{Place}
 use Rattle.ic_unsafe_ref.specs.Places.{place_at, word_of}
 use Rattle.ic_link_ops.specs.Tables.{Table}
@@ -20,13 +20,13 @@ use Rattle.ic_any_table.specs.declared.kind.Kind.{Kind}
 use Rattle.ic_any_table.specs.Kinds.{number_of, kind_with}
 
 -- what the links of each kind of table say
-abbrev pub of_one : {K : Type 0} → Link (OneWord K) → Entry
+abbrev pub of_one : {K : Type 0} → Link (OneWord K) ⊤ → Entry
 of_one l = record { linked = one.has_word (words_of l); word = one.next_word_of (words_of l); prev = None; parent = None; color = Red }
 
 abbrev pub of_two : DoublyLink → Entry
 of_two l = record { linked = two.has_words (words_of l); word = two.next_word_of (words_of l); prev = two.prev_of (words_of l); parent = None; color = Red }
 
-abbrev pub of_three : Link ThreeWords → Entry
+abbrev pub of_three : Link ThreeWords ⊤ → Entry
 of_three l = record { linked = three.has_link (words_of l); word = three.right_word_of (words_of l); prev = three.left_of (words_of l); parent = (three.node_of l).parent; color = (three.node_of l).color }
 
 -- what an entry says to each kind of collection

@@ -12,7 +12,7 @@ use ic_unsafe_ref::Place;
 pub struct Entry {
     /// Whether the place is linked.
     pub linked: bool,
-    /// The word for what follows: the number of a place, or the exclusive or of two.
+    /// The word for what follows: that of a place, or the exclusive or of two.
     pub word: u64,
     /// The place before: none in a table that keeps none.
     pub prev: Option<Place>,

@@ -21,6 +21,7 @@ mod atomic_link_ops;
 mod claims;
 mod gathering;
 mod hand;
+mod link_values;
 pub mod linked_list;
 mod machine;
 mod plain_link_ops;

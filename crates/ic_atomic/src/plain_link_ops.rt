@@ -8,7 +8,7 @@ ghost use Rattle.std.specs.Prelude.{◌≡◌};
 ghost use Rattle.ic_unsafe_ref.specs.declared.place.Place.{Place};
 ghost use Rattle.ic_link_ops.specs.Tables.{IsCovered, IsLinked};
 
-use ic_link_ops::{LentTable, LinkOps, PlainTable, Words};
+use ic_link_ops::{LentTable, LinkOps, LinkValue, PlainTable, Words};
 use ic_unsafe_ref::Place;
 use std::alloc::Allocator;
 
@@ -29,7 +29,7 @@ pub trait PlainLinkOps: LinkOps {
     ghost refused_is_linked: { (old new : Self) (p : Place) → Self.Refused old new p → IsLinked Self.linked (Self.table old) p };
 }
 
-impl<W: Words, A: Allocator> PlainLinkOps for PlainTable<W, A> {
+impl<W: Words, A: Allocator, V: LinkValue> PlainLinkOps for PlainTable<W, A, V> {
     #[inline]
     fn covers(&self) -> usize {
         PlainTable::covers(self)
@@ -43,7 +43,7 @@ impl<W: Words, A: Allocator> PlainLinkOps for PlainTable<W, A> {
     ghost refused_is_linked = { λ old new p h. h.0 };
 }
 
-impl<W: Words> PlainLinkOps for LentTable<'_, W> {
+impl<W: Words, V: LinkValue> PlainLinkOps for LentTable<'_, W, V> {
     #[inline]
     fn covers(&self) -> usize {
         LentTable::covers(self)

@@ -1,13 +1,23 @@
 -- The words of a table as they are written.
 use Rattle.std.proofs.Common.{◌≡◌, ℕ, List, Bool, true, false, Option, slice_set, slice_index_or, sym, ap, ◌∙◌, arith}
+use Rattle.std.proofs.lemmas.List.{length-set}
 use Rattle.ic_unsafe_ref.specs.declared.place.Place.{Place}
-use Rattle.ic_unsafe_ref.specs.Numbers.{IsWord}
+use Rattle.ic_unsafe_ref.specs.PlaceWords.{IsWord}
 use Rattle.ic_unsafe_ref.specs.Places.{index_of, word_of, place_at}
 use Rattle.ic_unsafe_ref.proofs.PlaceLemmas.{place_at_word, word_at, word_fits}
-use Rattle.ic_link_ops.specs.PlainTables.{entry_at}
+use Rattle.ic_link_ops.specs.PlainTables.{entry_at, table_with}
+use Rattle.ic_link_ops.specs.Tables.{ChangesOnly}
 use Rattle.ic_link_ops.specs.EntryLaws.{linked_in_range}
-use Rattle.ic_link_ops.proofs.EntryLemmas.{entry_same, entry_read}
+use Rattle.ic_link_ops.proofs.EntryLemmas.{entry_same, entry_read, others_same}
 use Rattle.ic_ffi.specs.Words.{number_in, place_in}
+
+-- a write at p changes only the entry of p
+pub changes_only : {E : Type 0} (d : E) {identity : List ℕ} (es : List E) (p : Place) (e : E) (i : ℕ) → i ≡ index_of p
+    → ChangesOnly (table_with d identity es) (table_with d identity (slice_set es i e)) p
+changes_only d {identity} es p e i at_p = record {
+  extent = ap (λ (n : ℕ). record { places = n; identity = identity }) (length-set es i e);
+  others = others_same d es p e i at_p;
+}
 
 -- the number that a word keeps is that of a place or 0, and so it is read as the number of the place that it names
 pub number_fits : (v : ℕ) → IsWord (number_in v)

@@ -22,15 +22,15 @@ use ic_unsafe_ref::Place;
 
 /// What a table of singly linked or of XOR lists keeps at a place.
 ///
-/// The lowest bit says whether the place is linked. The others are the number of the next place, or the exclusive or of the numbers of
-/// both neighbors, where a place has the number `8 * (index + 1)` and none has 0.
+/// The lowest bit says whether the place is linked. The others are the word for the next place, or the exclusive or of the words for
+/// both neighbors, where a place has the word `8 * (index + 1)` and none has 0.
 #[repr(C)]
 #[derive(Clone, Copy)]
 pub struct RawOne {
     next: u64,
 }
 
-/// What a table of doubly linked lists keeps at a place: the word of [`RawOne`], and the number of the previous place.
+/// What a table of doubly linked lists keeps at a place: the word of [`RawOne`], and the word for the previous place.
 #[repr(C)]
 #[derive(Clone, Copy)]
 pub struct RawTwo {
@@ -38,7 +38,7 @@ pub struct RawTwo {
     prev: u64,
 }
 
-/// What a table of trees keeps at a place: the numbers of its children and of its parent.
+/// What a table of trees keeps at a place: the words for its children and for its parent.
 ///
 /// The lowest bit of the left child's word says whether the place is linked, and that of the parent's whether it is black.
 #[repr(C)]
@@ -49,14 +49,14 @@ pub struct RawThree {
     pub(crate) parent: u64,
 }
 
-/// A singly linked list: the number of its first place.
+/// A singly linked list: the word for its first place.
 #[repr(C)]
 #[derive(Clone, Copy)]
 pub struct RawFront {
     pub(crate) head: u64,
 }
 
-/// A doubly linked list or an XOR list: the numbers of its first place and of its last.
+/// A doubly linked list or an XOR list: the words for its first place and for its last.
 #[repr(C)]
 #[derive(Clone, Copy)]
 pub struct RawEnds {
@@ -64,7 +64,7 @@ pub struct RawEnds {
     pub(crate) tail: u64,
 }
 
-/// A red-black tree: the number of its root.
+/// A red-black tree: the word for its root.
 #[repr(C)]
 #[derive(Clone, Copy)]
 pub struct RawRoot {

@@ -1,27 +1,23 @@
 -- The entries of a table as they are written and grow.
-use Rattle.std.proofs.Common.{◌≡◌, ℕ, ◌<◌, List, length, Option, Bool, true, false, slice_set, slice_index_or, sym, ap, ◌∙◌}
+use Rattle.std.proofs.Common.{◌≡◌, ◌≢◌, ℕ, ◌∷◌, ◌<◌, List, length, Option, Bool, true, false, slice_set, slice_index_or, sym, ap, ◌∙◌}
 use Rattle.std.proofs.lemmas.List.{get_or-set_other, get_or_default, length-set}
+use Rattle.std.proofs.Math.Seq.{map-set_same}
 use Rattle.std.proofs.lemmas.Grind.{get_or-set_at}
 use Rattle.ic_unsafe_ref.specs.declared.place.Place.{Place}
 use Rattle.ic_unsafe_ref.specs.Places.{index_of, place_at, word_of}
 use Rattle.ic_unsafe_ref.proofs.PlaceLemmas.{same_index, place_at_word}
 use Rattle.ic_link_ops.specs.Tables.{ChangesOnly, LinksAlso}
-use Rattle.ic_link_ops.specs.PlainTables.{entry_at, table_with, linked_by}
-use Rattle.ic_link_ops.specs.Links.{link_of}
+use Rattle.ic_link_ops.specs.PlainTables.{entry_at, table_with, values_beside, linked_by}
+use Rattle.ic_link_ops.specs.Links.{link_of, words_of, value_of}
 use Rattle.ic_link_ops.specs.Readings.{successor_of, neighbors_of}
 use Rattle.ic_link_ops.specs.EntryLaws.{linked_in_range}
 use Rattle.ic_link_ops.specs.LinkedList.{IsBetween}
 use Rattle.ic_link_ops.specs.declared.link.Link.{Link}
-use Rattle.ic_link_ops.proofs.StepLemmas.{links_only}
 
 module _ {E : Type 0} (d : E) where
-  -- a write at p changes only the entry of p
-  pub changes_only : {identity : List ℕ} (es : List E) (p : Place) (e : E) (i : ℕ) → i ≡ index_of p
-      → ChangesOnly (table_with d identity es) (table_with d identity (slice_set es i e)) p
-  changes_only {identity} es p e i at_p = record {
-    extent = ap (λ n. record { places = n; identity = identity }) (length-set es i e);
-    others = λ q apart. get_or-set_other es i (index_of q) e d (λ k. apart (same_index q p (k ∙ at_p)));
-  }
+  -- a write at p changes no entry of another place
+  pub others_same : (es : List E) (p : Place) (e : E) (i : ℕ) → i ≡ index_of p → (q : Place) → q ≢ p → entry_at d (slice_set es i e) q ≡ entry_at d es q
+  others_same es p e i at_p q apart = get_or-set_other es i (index_of q) e d (λ k. apart (same_index q p (k ∙ at_p)))
 
   -- and there it is
   pub entry_same : (es : List E) (p : Place) (e : E) (i : ℕ) → i ≡ index_of p → index_of p < length es → entry_at d (slice_set es i e) p ≡ e
@@ -31,24 +27,40 @@ module _ {E : Type 0} (d : E) where
   pub entry_read : (es : List E) (p : Place) (e beyond : E) (i : ℕ) → i ≡ index_of p → index_of p < length es → e ≡ slice_index_or es i beyond → entry_at d es p ≡ e
   entry_read es p e beyond i at_p covered read = rw (← at_p) (get_or_default es i d beyond (rw at_p covered) ∙ sym read)
 
-module _ {W : Type 0} (is_linked : W → Bool) (d : W) where
-  -- A WRITE THAT LINKS: the place was unlinked, is linked now, and all others are as they were
-  pub links_entry : {identity : List ℕ} (es : List (Link W)) (p : Place) (old new beyond : Link W) (i : ℕ) → i ≡ index_of p → index_of p < length es
-      → old ≡ slice_index_or es i beyond → linked_by is_linked old ≡ false → linked_by is_linked new ≡ true
-      → LinksAlso (linked_by is_linked) (table_with (link_of d) identity es) (table_with (link_of d) identity (slice_set es i new)) p
-  links_entry es p old new beyond i at_p covered read was is =
-      let linked = linked_by is_linked in
-      links_only (ap linked (entry_read (link_of d) es p old beyond i at_p covered read) ∙ was) (ap linked (entry_same (link_of d) es p new i at_p covered) ∙ is)
-      (changes_only (link_of d) es p new i at_p)
+module _ {W V : Type 0} (told : List V → List ℕ) where
+  -- A WRITE AT p THAT LEAVES THE VALUE BESIDE changes only the entry of p
+  pub changes_only : (d : Link W V) (es : List (Link W V)) (p : Place) (old new beyond : Link W V) (i : ℕ) → i ≡ index_of p → old ≡ slice_index_or es i beyond → value_of new ≡ value_of old
+      → ChangesOnly (table_with d (told (values_beside es)) es) (table_with d (told (values_beside (slice_set es i new))) (slice_set es i new)) p
+  changes_only d es p old new beyond i at_p read stays = record {
+    extent = λ k. record { places = length-set es i new k; identity = told (map-set_same value_of es i new beyond (stays ∙ ap value_of read) k) };
+    others = others_same d es p new i at_p;
+  }
 
-module _ {W : Type 0} (is_linked : W → Bool) (d : W) (starts : is_linked d ≡ false) where
+-- of a table that is lent as well
+module _ {W V : Type 0} (told : List V → List ℕ) where
+  pub view_changes_only : {name : ℕ} (d : Link W V) (es : List (Link W V)) (p : Place) (old new beyond : Link W V) (i : ℕ) → i ≡ index_of p → old ≡ slice_index_or es i beyond → value_of new ≡ value_of old
+      → ChangesOnly (table_with d (name ∷ told (values_beside es)) es) (table_with d (name ∷ told (values_beside (slice_set es i new))) (slice_set es i new)) p
+  view_changes_only {name} = changes_only (λ vs. name ∷ told vs)
+
+module _ {W V : Type 0} (is_linked : W → Bool) (d : Link W V) where
+  -- A WRITE THAT LINKS: the place was unlinked, is linked now, and all others are as they were
+  pub links_entry : {names names' : List ℕ} (es : List (Link W V)) (p : Place) (old new beyond : Link W V) (i : ℕ) → i ≡ index_of p → index_of p < length es
+      → old ≡ slice_index_or es i beyond → linked_by is_linked old ≡ false → linked_by is_linked new ≡ true
+      → LinksAlso (linked_by is_linked) (table_with d names es) (table_with d names' (slice_set es i new)) p
+  links_entry es p old new beyond i at_p covered read was is =
+      let linked = linked_by is_linked in record {
+        was = ap linked (entry_read d es p old beyond i at_p covered read) ∙ was;
+        is = ap linked (entry_same d es p new i at_p covered) ∙ is;
+        others = λ q apart. ap linked (others_same d es p new i at_p q apart);
+      }
+
   -- A WRITE AT A LINKED PLACE CHANGES WHAT THE ENTRY SAYS as it changes what was read there
-  pub says_written : {R : Type 0} (says : Link W → R) (change : R → R) (es : List (Link W)) (p : Place) (old new beyond : Link W) (i : ℕ) → i ≡ index_of p
-      → linked_by is_linked (entry_at (link_of d) es p) ≡ true → old ≡ slice_index_or es i beyond → says new ≡ change (says old)
-      → says (entry_at (link_of d) (slice_set es i new) p) ≡ change (says (entry_at (link_of d) es p))
-  says_written says change es p old new beyond i at_p linked read written =
-      let covered = linked_in_range (linked_by is_linked) (link_of d) starts es (index_of p) linked in
-      ap says (entry_same (link_of d) es p new i at_p covered) ∙ written ∙ ap (λ e. change (says e)) (sym (entry_read (link_of d) es p old beyond i at_p covered read))
+  pub says_written : (starts : linked_by is_linked d ≡ false) {R : Type 0} (says : Link W V → R) (change : R → R) (es : List (Link W V)) (p : Place) (old new beyond : Link W V) (i : ℕ)
+      → i ≡ index_of p → linked_by is_linked (entry_at d es p) ≡ true → old ≡ slice_index_or es i beyond → says new ≡ change (says old)
+      → says (entry_at d (slice_set es i new) p) ≡ change (says (entry_at d es p))
+  says_written starts says change es p old new beyond i at_p linked read written =
+      let covered = linked_in_range (linked_by is_linked) d starts es (index_of p) linked in
+      ap says (entry_same d es p new i at_p covered) ∙ written ∙ ap (λ e. change (says e)) (sym (entry_read d es p old beyond i at_p covered read))
 
 module _ {W : Type 0} (next_word : W → ℕ) (is_linked : W → Bool) where
   -- a link whose next word is that for a place names it as the next
@@ -79,7 +91,7 @@ module _ {W : Type 0} (next_word : W → ℕ) (is_linked : W → Bool) where
       λ k. record { linked = linked k; next = behind k }
 
   -- and it stands between two, if it names the one before as well
-  pub between_is : (prev : W → Option Place) (new : W) (before next : Option Place) → is_linked new ≡ true → next_word new ≡ word_of next → prev new ≡ before
-      → IsBetween (neighbors_of next_word is_linked prev) (link_of new) before next
+  pub between_is : {V : Type 0} (prev : W → Option Place) (new : Link W V) (before next : Option Place) → linked_by is_linked new ≡ true → next_word (words_of new) ≡ word_of next
+      → prev (words_of new) ≡ before → IsBetween (neighbors_of next_word is_linked prev) new before next
   between_is prev new before next linked names kept =
       record { linked = linked; prev = kept; next = ap place_at names ∙ place_at_word next }

@@ -26,6 +26,7 @@ pub mod ShownTrees
 pub mod Times
 pub mod Frames
 pub mod EntryLemmas
+pub mod ValuesBeside
 pub mod LentTables
 pub mod TreeWordLemmas
 pub mod PlacedEnds

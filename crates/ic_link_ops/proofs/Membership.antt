@@ -2,7 +2,7 @@
 use Rattle.std.proofs.Common.{◌≡◌, ◌≢◌, ◌↔◌, Option, Some, None, List, [], ◌∷◌, ◌++◌, drop, true, false, IsTrue, nat_eq, refl, sym, ◌∙◌, ap, subst, eqb-true}
 use Rattle.std.proofs.lemmas.Bool.{eqb-false}
 use Rattle.ic_unsafe_ref.specs.declared.place.Place.{Place}
-use Rattle.ic_unsafe_ref.proofs.PlaceLemmas.{same_index, number_tells}
+use Rattle.ic_unsafe_ref.proofs.PlaceLemmas.{same_index, word_tells}
 use Rattle.ic_link_ops.specs.Sequences.{IsAbsent, IsMember, IsDistinct, first, last}
 use Rattle.ic_link_ops.specs.Tables.{Table, IsCovered}
 use Rattle.ic_link_ops.specs.Chains.{IsChain}
@@ -25,10 +25,10 @@ module _ {E : Type 0} {between : E → Option Place → Option Place → Type 0}
 
   -- ONE STEP: the member is another place, and the one behind it is next
   pub seeks_more : {t : Table E} {s : List Place} {q p : Place} {current : Option Place} → IsDistinct s → (k : Seeks between t s q (Some p))
-      → nat_eq p.number q.number ≡ false → current ≡ first (drop 1 k.walk.rest)
+      → nat_eq p.word q.word ≡ false → current ≡ first (drop 1 k.walk.rest)
       → (k' : Seeks between t s q current) × (k.walk.rest ≡ p ∷ k'.walk.rest) × (k'.walk.done ≡ k.walk.done ++ p ∷ [])
   seeks_more {q = q} {p = p} d k differs next =
-      let other : q ≢ p = λ same. eqb-false p.number q.number differs (ap (λ x. x.number) (sym same)) in
+      let other : q ≢ p = λ same. eqb-false p.word q.word differs (ap (λ x. x.word) (sym same)) in
       let more = releases_more d k.walk (λ x apart. refl) next in (
         record { walk = more.0; passed = subst (IsAbsent q) (sym more.2) (absent_both q k.walk.done (p ∷ []) k.passed (other, tt)) },
         more.1,
@@ -47,10 +47,10 @@ module _ {E : Type 0} {between : E → Option Place → Option Place → Type 0}
     kept_left covered d k keeps = rw keeps (releases_left step law covered d k.walk)
 
   -- IT IS FOUND where the member is that place
-  pub found : {t : Table E} {s : List Place} {q p : Place} → Seeks between t s q (Some p) → nat_eq p.number q.number ≡ true
+  pub found : {t : Table E} {s : List Place} {q p : Place} → Seeks between t s q (Some p) → nat_eq p.word q.word ≡ true
       → IsTrue true ↔ IsMember q s
   found {s = s} {q = q} {p = p} k equal =
-      let same : q ≡ p = sym (same_index p q (eqb-true _ _ (sym (number_tells p q) ∙ equal))) in
+      let same : q ≡ p = sym (same_index p q (eqb-true _ _ (sym (word_tells p q) ∙ equal))) in
       let parts : s ≡ k.walk.done ++ p ∷ drop 1 k.walk.rest = k.walk.parts ∙ ap (λ (l : List Place). k.walk.done ++ l) (first_is k.walk.rest k.walk.at) in
       ((λ _ out. (absent_right q k.walk.done (p ∷ drop 1 k.walk.rest) (subst (IsAbsent q) parts out)).0 same), (λ _. refl))
 

@@ -17,10 +17,10 @@ parts_at_3 = λ k. record { linked = true; parent = place_at_word None k; color 
 -- with another parent
 pub parent_set : (n : ℕ) (parent : Option Place) → parts_at (word_of parent + n % 8) ≡ record (parts_at n) { parent = parent }
 parent_set n parent =
-    let even = (word_fits parent).1 in
-    let links : (word_of parent + n % 8) / 2 % 2 ≡ n / 2 % 2 = omega (arith, even) in
-    let names : (word_of parent + n % 8) / 8 * 8 ≡ word_of parent = omega (arith, even) in
-    let colors : (word_of parent + n % 8) % 2 ≡ n % 2 = omega (arith, even) in
+    let fits = (word_fits parent).1 in
+    let links : (word_of parent + n % 8) / 2 % 2 ≡ n / 2 % 2 = omega (arith, fits) in
+    let names : (word_of parent + n % 8) / 8 * 8 ≡ word_of parent = omega (arith, fits) in
+    let colors : (word_of parent + n % 8) % 2 ≡ n % 2 = omega (arith, fits) in
     let at : place_at ((word_of parent + n % 8) / 8 * 8) ≡ parent = ap place_at names ∙ place_at_word parent in
     λ k. record { linked = nat_eq (links k) 1; parent = at k; color = cond (nat_eq (colors k) 0) Red Black }
 

@@ -1,5 +1,5 @@
 -- The links of the table of doubly links.
-use Rattle.std.specs.Prelude.{◌≡◌, ℕ, ◌<◌, List, length, slice_index_or, Bool, true, refl}
+use Rattle.std.specs.Prelude.{◌≡◌, ℕ, ◌<◌, List, length, slice_index_or, Bool, true, refl, ⊤}
 use Rattle.ic_unsafe_ref.specs.declared.place.Place.{Place}
 use Rattle.ic_link_ops.specs.declared.link.Link.{Link}
 use Rattle.ic_link_ops.specs.declared.linked_list.TwoWords.{TwoWords}
@@ -15,11 +15,11 @@ use Rattle.ic_link_ops.specs.PlainTables as plain
 
 -- a link with two words
 abbrev pub DoublyLink : Type 0
-DoublyLink = Link TwoWords
+DoublyLink = Link TwoWords ⊤
 
 -- a table of links with two words
 abbrev pub DoublyLinkOps : Type 0 → Type 0
-DoublyLinkOps A = PlainTable TwoWords A
+DoublyLinkOps A = PlainTable TwoWords A ⊤
 
 -- the link of an unlinked place
 abbrev pub unlinked : DoublyLink

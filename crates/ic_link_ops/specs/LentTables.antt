@@ -1,29 +1,29 @@
 -- A plain table that is lent: a view of its links.
-use Rattle.std.specs.Prelude.{◌≡◌, ◌∷◌, [], List}
+use Rattle.std.specs.Prelude.{◌≡◌, ◌∷◌, ℕ, List}
 use Rattle.std.specs.Borrow.{Lends, Fml, RattleType, MutBor, Array}
 use Rattle.std.specs.declared.alloc.Allocator.{Ghosts}
 use Rattle.ic_link_ops.specs.Tables.{Table}
-use Rattle.ic_link_ops.specs.Links.{link_of}
-use Rattle.ic_link_ops.specs.PlainTables.{table_with, with_entries}
+use Rattle.ic_link_ops.specs.Links.{link_with}
+use Rattle.ic_link_ops.specs.PlainTables.{table_with, values_beside, with_entries}
 use Rattle.ic_link_ops.specs.declared.link.Link.{Link}
 use Rattle.ic_link_ops.specs.declared.table.PlainTable.{PlainTable}
 use Rattle.ic_link_ops.specs.contracts.table.PlainTable.{the_row}
 use Rattle.ic_link_ops.specs.contracts.link.Link.{the_row as link_row}
 use Rattle.ic_link_ops.specs.declared.lent_table.LentTable.{LentTable}
 
-module _ {W : Type 0} where
+module _ {W V : Type 0} where
   -- it is a view of these links, as they are
-  abbrev pub IsView : MutBor (List (Link W)) → LentTable W → Type 0
+  abbrev pub IsView : MutBor (List (Link W V)) → LentTable W V → Type 0
   IsView links t = (t.entries.ghost_name ≡ links.ghost_name) × (t.entries.now ≡ links.now)
 
   -- the links that are lent, in the order of their places
-  abbrev pub lent_entries : LentTable W → List (Link W)
+  abbrev pub lent_entries : LentTable W V → List (Link W V)
   lent_entries t = t.entries.now
 
   -- as a table: the name of the borrow tells it from other tables that are lent
-  abbrev pub lent_table : W → LentTable W → Table (Link W)
-  lent_table unlinked t = table_with (link_of unlinked) (t.entries.ghost_name ∷ []) (lent_entries t)
+  abbrev pub lent_table : W → V → (List V → List ℕ) → LentTable W V → Table (Link W V)
+  lent_table unlinked initial told t = table_with (link_with unlinked initial) (t.entries.ghost_name ∷ told (values_beside (lent_entries t))) (lent_entries t)
 
 -- once the borrow of its links ends, the table has those that stand there last
-abbrev pub LendsLinks : (W A : RattleType) → Ghosts A.Denot → MutBor (PlainTable W.Denot A.Denot) → MutBor (List (Link W.Denot)) → Fml
-LendsLinks W A alloc table links = Lends (the_row W A alloc) (Array (link_row W) 0) table links (with_entries table.now)
+abbrev pub LendsLinks : (W A V : RattleType) → Ghosts A.Denot → MutBor (PlainTable W.Denot A.Denot V.Denot) → MutBor (List (Link W.Denot V.Denot)) → Fml
+LendsLinks W A V alloc table links = Lends (the_row W A V alloc) (Array (link_row W V) 0) table links (with_entries table.now)

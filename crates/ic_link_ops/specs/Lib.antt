@@ -3,6 +3,7 @@ pub mod Tables
 pub mod Chains
 pub mod Turns
 pub mod LinkSteps
+pub mod ValuesBeside
 pub mod Edits
 pub mod TwoLists
 pub mod Errors

@@ -1,20 +1,21 @@
 -- Plain tables: one link for each place that they cover.
 use Rattle.std.specs.Vec.{with_items}
-use Rattle.std.specs.Prelude.{ℕ, List, [], length, slice_index_or, Bool}
+use Rattle.std.specs.Prelude.{ℕ, List, [], length, slice_index_or, map, Bool, ⊤}
 use Rattle.ic_unsafe_ref.specs.declared.place.Place.{Place}
 use Rattle.ic_unsafe_ref.specs.Places.{index_of}
 use Rattle.ic_link_ops.specs.Tables.{Table}
-use Rattle.ic_link_ops.specs.Links.{link_of, words_of}
+use Rattle.ic_link_ops.specs.Links.{link_of, link_with, words_of, value_of}
 use Rattle.ic_link_ops.specs.declared.link.Link.{Link}
 use Rattle.ic_link_ops.specs.declared.table.PlainTable.{PlainTable}
 
--- the links of a table, in the order of their places
-abbrev pub entries : {W A : Type 0} → PlainTable W A → List (Link W)
-entries t = t.entries.items
+module _ {W A V : Type 0} where
+  -- the links of a table, in the order of their places
+  abbrev pub entries : PlainTable W A V → List (Link W V)
+  entries t = t.entries.items
 
--- the table with these links instead, as many as it has
-abbrev pub with_entries : {W A : Type 0} → PlainTable W A → List (Link W) → PlainTable W A
-with_entries t es = record t { entries = with_items t.entries es }
+  -- the table with these links instead, as many as it has
+  abbrev pub with_entries : PlainTable W A V → List (Link W V) → PlainTable W A V
+  with_entries t es = record t { entries = with_items t.entries es }
 
 module _ {E : Type 0} (unlinked : E) where
   -- the entry of a place, which is unlinked beyond the last one
@@ -29,11 +30,19 @@ module _ {E : Type 0} (unlinked : E) where
   abbrev pub table_of : List E → Table E
   table_of = table_with []
 
-module _ {W : Type 0} where
-  -- what clauses see of a table whose new links have these words
-  abbrev pub table : {A : Type 0} → W → PlainTable W A → Table (Link W)
-  table unlinked t = table_of (link_of unlinked) (entries t)
+module _ {W V : Type 0} where
+  -- the values beside links, in the order of their places
+  abbrev pub values_beside : List (Link W V) → List V
+  values_beside es = map value_of es
+
+  -- what clauses see of a table whose new links have these words and this value, and whose values are told so
+  abbrev pub table_beside : {A : Type 0} → W → V → (List V → List ℕ) → PlainTable W A V → Table (Link W V)
+  table_beside unlinked initial told t = table_with (link_with unlinked initial) (told (values_beside (entries t))) (entries t)
 
   -- whether a link is that of a linked place, by its words
-  abbrev pub linked_by : (W → Bool) → Link W → Bool
+  abbrev pub linked_by : (W → Bool) → Link W V → Bool
   linked_by is_linked l = is_linked (words_of l)
+
+-- of a table with no values
+abbrev pub table : {W A : Type 0} → W → PlainTable W A ⊤ → Table (Link W ⊤)
+table unlinked t = table_of (link_of unlinked) (entries t)

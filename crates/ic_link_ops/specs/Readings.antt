@@ -7,20 +7,20 @@ use Rattle.ic_link_ops.specs.Links.{words_of}
 use Rattle.ic_link_ops.specs.SinglyLinkedList.{Successor}
 use Rattle.ic_link_ops.specs.LinkedList.{Neighbors}
 
-module _ {W : Type 0} (next_word : W → ℕ) where
+module _ {W V : Type 0} (next_word : W → ℕ) where
   -- the next word is the exclusive or of the words of a and b
-  abbrev pub XorJoins : Link W → Option Place → Option Place → Type 0
+  abbrev pub XorJoins : Link W V → Option Place → Option Place → Type 0
   XorJoins l a b = next_word (words_of l) ≡ bit_xor (word_of a) (word_of b)
 
-  -- the place whose number is left of the next word without that of a
-  abbrev pub xor_other : Link W → Option Place → Option Place
+  -- the place whose word is left of the next word without that of a
+  abbrev pub xor_other : Link W V → Option Place → Option Place
   xor_other l a = place_at (bit_xor (next_word (words_of l)) (word_of a))
 
   module _ (is_linked : W → Bool) where
-    -- what stands behind: the place whose number the next word is
-    abbrev pub successor_of : Link W → Successor
+    -- what stands behind: the place whose word the next word is
+    abbrev pub successor_of : Link W V → Successor
     successor_of l = record { linked = is_linked (words_of l); next = place_at (next_word (words_of l)) }
 
     -- between which places it stands
-    abbrev pub neighbors_of : (W → Option Place) → Link W → Neighbors
+    abbrev pub neighbors_of : (W → Option Place) → Link W V → Neighbors
     neighbors_of prev l = record { linked = is_linked (words_of l); prev = prev (words_of l); next = place_at (next_word (words_of l)) }

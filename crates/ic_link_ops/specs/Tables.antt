@@ -5,7 +5,8 @@ use Rattle.ic_unsafe_ref.specs.Places.{index_of}
 use Rattle.ic_link_ops.specs.Sequences.{IsAbsent}
 
 -- how many places a table covers, and what makes it this table and not another of its type: nothing where it owns its entries,
--- the variant's number where its type is a sum of tables, the name of each borrow that it holds. Each call keeps both
+-- the variant's number where its type is a sum of tables, the name of each borrow that it holds, and what tells the values beside
+-- its links. Each call keeps both
 pub record Extent : Type 0 where
   pub places : ℕ
   pub identity : List ℕ

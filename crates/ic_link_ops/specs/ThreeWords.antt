@@ -25,7 +25,7 @@ abbrev pub right_word_of : ThreeWords → ℕ
 right_word_of w = bits_of w.right
 
 -- what the words say of a tree
-abbrev pub node_of : Link ThreeWords → Node
+abbrev pub node_of : {V : Type 0} → Link ThreeWords V → Node
 node_of l = record {
   linked = (words_of l).third.linked;
   left = (words_of l).left;

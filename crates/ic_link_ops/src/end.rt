@@ -20,7 +20,7 @@ pub struct End {
 impl Model for End {
     ghost use Rattle.std.specs.Prelude.{Option};
     ghost use Rattle.ic_unsafe_ref.specs.declared.place.Place.{Place};
-    ghost use Rattle.ic_unsafe_ref.specs.Numbers.{IsWord};
+    ghost use Rattle.ic_unsafe_ref.specs.PlaceWords.{IsWord};
     ghost use Rattle.ic_unsafe_ref.specs.Places.{place_at};
 
     ghost Value = { Option Place };

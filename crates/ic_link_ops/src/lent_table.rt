@@ -14,6 +14,7 @@ ghost use Rattle.ic_link_ops.specs.Tables.{IsCovered, IsLinked, IsUnlinked, Chan
 
 use crate::link::{Link, Words};
 use crate::link_ops::LinkOps;
+use crate::link_value::LinkValue;
 use ic_unsafe_ref::Place;
 
 /// The links that a plain table lends, viewed as a table for as long as they are borrowed.
@@ -21,11 +22,11 @@ use ic_unsafe_ref::Place;
 /// It has the link traits that the table has. In a loop over it no call reads again where the links are kept, as each call
 /// over the table itself does. When the view ends, the links are what it showed, and so the table's: hand them to a function
 /// of the loop, as above, since a proof follows what a call leaves behind them.
-pub struct LentTable<'a, W> {
-    pub(crate) entries: &'a mut [Link<W>],
+pub struct LentTable<'a, W, V = ()> {
+    pub(crate) entries: &'a mut [Link<W, V>],
 }
 
-impl<W> Drop for LentTable<'_, W> {
+impl<W, V> Drop for LentTable<'_, W, V> {
     fn drop(self)
         ensures links { self.exit.0.now ≡ self.entry.entries.now }
     {
@@ -33,35 +34,35 @@ impl<W> Drop for LentTable<'_, W> {
     }
 }
 
-impl<'a, W> LentTable<'a, W> {
+impl<'a, W, V> LentTable<'a, W, V> {
     ghost use Rattle.ic_link_ops.specs.LentTables.{IsView};
 
     /// A view of the links that [`PlainTable::lend`](crate::PlainTable::lend) lends. O(1).
     #[inline]
-    pub fn new(links: &'a mut [Link<W>]) -> LentTable<'a, W>
+    pub fn new(links: &'a mut [Link<W, V>]) -> LentTable<'a, W, V>
         ensures { IsView links.entry result }
     {
         LentTable { entries: links }
     }
 }
 
-impl<W: Words> LentTable<'_, W> {
+impl<W: Words, V: LinkValue> LentTable<'_, W, V> {
     ghost use Rattle.ic_link_ops.specs.PlainTables.{linked_by};
     ghost use Rattle.ic_link_ops.specs.LentTables.{lent_table};
 
     /// How many places are covered: those with a smaller index.
     #[inline]
     pub fn covers(&self) -> usize
-        ensures { result ≡ (lent_table W.unlinked self.now).extent.places }
+        ensures { result ≡ (lent_table W.unlinked V.initial V.told self.now).extent.places }
     {
         self.entries.len()
     }
 
     /// The link of `place`. It asks that the place is covered. O(1).
     #[inline]
-    pub fn link(&self, place: Place) -> &Link<W>
-        requires covered { IsCovered (lent_table W.unlinked self.now) place }
-        ensures { result.now ≡ (lent_table W.unlinked self.now).entry place }
+    pub fn link(&self, place: Place) -> &Link<W, V>
+        requires covered { IsCovered (lent_table W.unlinked V.initial V.told self.now) place }
+        ensures { result.now ≡ (lent_table W.unlinked V.initial V.told self.now).entry place }
     {
         let entries = &*self.entries;
         &entries[place.index()]
@@ -70,8 +71,8 @@ impl<W: Words> LentTable<'_, W> {
     /// Whether `place` is linked. It asks that the place is covered. O(1).
     #[inline]
     pub fn is_linked(&self, place: Place) -> bool
-        requires covered { IsCovered (lent_table W.unlinked self.now) place }
-        ensures { result ≡ linked_by W.is_linked ((lent_table W.unlinked self.now).entry place) }
+        requires covered { IsCovered (lent_table W.unlinked V.initial V.told self.now) place }
+        ensures { result ≡ linked_by W.is_linked ((lent_table W.unlinked V.initial V.told self.now).entry place) }
     {
         self.link(place).is_linked()
     }
@@ -79,18 +80,18 @@ impl<W: Words> LentTable<'_, W> {
     /// Unlinks `place`, whoever linked it, as [`PlainTable::force_unlink`](crate::PlainTable::force_unlink) does. O(1).
     #[inline]
     pub fn force_unlink(&mut self, place: Place)
-        requires covered { IsCovered (lent_table W.unlinked self.old) place }
-        ensures unlinked { IsUnlinked (linked_by W.is_linked) (lent_table W.unlinked self.new) place }
-        ensures frame { ChangesOnly (lent_table W.unlinked self.old) (lent_table W.unlinked self.new) place }
+        requires covered { IsCovered (lent_table W.unlinked V.initial V.told self.old) place }
+        ensures unlinked { IsUnlinked (linked_by W.is_linked) (lent_table W.unlinked V.initial V.told self.new) place }
+        ensures frame { ChangesOnly (lent_table W.unlinked V.initial V.told self.old) (lent_table W.unlinked V.initial V.told self.new) place }
     {
         let link = &mut self.entries[place.index()];
         link.words.unlink();
     }
 }
 
-impl<W: Words> LinkOps for LentTable<'_, W> {
+impl<W: Words, V: LinkValue> LinkOps for LentTable<'_, W, V> {
     ghost use Rattle.ic_unsafe_ref.specs.Places.{index_of};
-    ghost use Rattle.ic_link_ops.specs.Links.{link_of};
+    ghost use Rattle.ic_link_ops.specs.Links.{link_with};
     ghost use Rattle.ic_link_ops.specs.PlainTables.{linked_by};
     ghost use Rattle.ic_link_ops.specs.LentTables.{lent_entries, lent_table};
     ghost use Rattle.ic_link_ops.specs.EntryLaws.{linked_in_range};
@@ -98,15 +99,15 @@ impl<W: Words> LinkOps for LentTable<'_, W> {
     ghost use Rattle.ic_link_ops.specs.StepLaws.{replays_on};
     ghost use Rattle.std.proofs.Common.{ap, refl};
 
-    type Entry = Link<W>;
+    type Entry = Link<W, V>;
 
-    ghost table = { lent_table W.unlinked };
+    ghost table = { lent_table W.unlinked V.initial V.told };
 
     ghost linked = { linked_by W.is_linked };
 
-    ghost Does = { λ old new s. Replays (linked_by W.is_linked) (lent_table W.unlinked old) (lent_table W.unlinked new) s };
+    ghost Does = { λ old new s. Replays (linked_by W.is_linked) (lent_table W.unlinked V.initial V.told old) (lent_table W.unlinked V.initial V.told new) s };
 
-    ghost Refused = { λ old new p. IsLinked (linked_by W.is_linked) (lent_table W.unlinked old) p × (new ≡ old) };
+    ghost Refused = { λ old new p. IsLinked (linked_by W.is_linked) (lent_table W.unlinked V.initial V.told old) p × (new ≡ old) };
 
     #[inline]
     fn acquire_link(&mut self, place: Place) -> bool {
@@ -124,13 +125,13 @@ impl<W: Words> LinkOps for LentTable<'_, W> {
         self.force_unlink(place);
     }
 
-    ghost linked_is_covered = { λ t p h. linked_in_range (linked_by W.is_linked) (link_of W.unlinked) W.starts_unlinked (lent_entries t) (index_of p) h };
+    ghost linked_is_covered = { λ t p h. linked_in_range (linked_by W.is_linked) (link_with W.unlinked V.initial) W.starts_unlinked (lent_entries t) (index_of p) h };
 
     ghost does_nothing = { λ t q. refl };
 
-    ghost does_on = { λ a b c s t h k. replays_on (linked_by W.is_linked) s t (lent_table W.unlinked a) (lent_table W.unlinked b) (lent_table W.unlinked c) h k };
+    ghost does_on = { λ a b c s t h k. replays_on (linked_by W.is_linked) s t (lent_table W.unlinked V.initial V.told a) (lent_table W.unlinked V.initial V.told b) (lent_table W.unlinked V.initial V.told c) h k };
 
     ghost does_replay = { λ old new s h. h };
 
-    ghost refused_keeps = { λ old new p h. ap (lent_table W.unlinked) h.1 };
+    ghost refused_keeps = { λ old new p h. ap (lent_table W.unlinked V.initial V.told) h.1 };
 }

@@ -8,6 +8,7 @@
 ghost use Rattle.std.specs.Prelude.{◌≡◌, ℕ, Bool, true, false, Option, ⊤};
 ghost use Rattle.ic_unsafe_ref.specs.declared.place.Place.{Place};
 
+use crate::link_value::LinkValue;
 use crate::word::Word;
 use ic_unsafe_ref::Place;
 use std::alloc::AllocError;
@@ -83,24 +84,26 @@ pub trait PrevPlace: NextWord {
     ghost keeps_prev: { (old new : Self) → Self.KeepsOthers old new → prev new ≡ prev old };
 }
 
-/// What a table keeps at a place: whether the place is linked, and the neighbors.
+/// What a table keeps at a place: whether the place is linked, the neighbors, and a value beside them, if the table has values.
 ///
-/// A copy of a link belongs to no place, so it is unlinked.
+/// A copy of a link belongs to no place, so it is unlinked, and has the initial value.
 #[derive(Drop)]
-pub struct Link<W> {
+pub struct Link<W, V = ()> {
     pub(crate) words: W,
+    pub(crate) value: V,
 }
 
-impl<W: Words> Link<W> {
-    ghost use Rattle.ic_link_ops.specs.Links.{link_of, words_of};
+impl<W: Words, V: LinkValue> Link<W, V> {
+    ghost use Rattle.ic_link_ops.specs.Links.{link_with, words_of};
 
     /// An unlinked link, with which a table covers a place.
     #[inline]
-    pub fn new() -> Link<W>
-        ensures { result ≡ link_of W.unlinked }
+    pub fn new() -> Link<W, V>
+        ensures { result ≡ link_with W.unlinked V.initial }
     {
         Link {
             words: W::unlinked(),
+            value: V::initial(),
         }
     }
 
@@ -113,8 +116,8 @@ impl<W: Words> Link<W> {
     }
 }
 
-impl<W: NextWord> Link<W> {
-    ghost use Rattle.ic_link_ops.specs.Links.{words_of};
+impl<W: NextWord, V> Link<W, V> {
+    ghost use Rattle.ic_link_ops.specs.Links.{words_of, value_of};
     ghost use Rattle.ic_link_ops.specs.Words.{bits_of};
 
     // Makes the link that of a linked place, with this word for what follows.
@@ -122,27 +125,28 @@ impl<W: NextWord> Link<W> {
     pub(crate) fn link_to(&mut self, word: Word)
         ensures linked { W.is_linked (words_of self.new) ≡ true }
         ensures next_word { W.next_word (words_of self.new) ≡ bits_of word }
+        ensures value { value_of self.new ≡ value_of self.old }
     {
         self.words.link();
         self.words.set_next_word(word);
     }
 }
 
-impl<W: Words> Default for Link<W> {
-    ghost use Rattle.ic_link_ops.specs.Links.{link_of};
+impl<W: Words, V: LinkValue> Default for Link<W, V> {
+    ghost use Rattle.ic_link_ops.specs.Links.{link_with};
 
-    ghost is_default = { λ l. l ≡ link_of W.unlinked };
+    ghost is_default = { λ l. l ≡ link_with W.unlinked V.initial };
 
     /// An unlinked link, as [`Link::new`].
-    fn default() -> Link<W> {
+    fn default() -> Link<W, V> {
         Link::new()
     }
 }
 
-impl<W: Words> Clone for Link<W> {
-    ghost use Rattle.ic_link_ops.specs.Links.{link_of};
+impl<W: Words, V: LinkValue> Clone for Link<W, V> {
+    ghost use Rattle.ic_link_ops.specs.Links.{link_with};
 
-    ghost is_clone = { λ _ copy. copy ≡ link_of W.unlinked };
+    ghost is_clone = { λ _ copy. copy ≡ link_with W.unlinked V.initial };
 
     ghost is_infallible = { λ _. ⊤ };
 
@@ -153,7 +157,7 @@ impl<W: Words> Clone for Link<W> {
 }
 
 /// A link is printed as `linked` or `unlinked`.
-impl<W: Words> fmt::Debug for Link<W> {
+impl<W: Words, V: LinkValue> fmt::Debug for Link<W, V> {
     fn fmt<F: fmt::Write>(&self, f: &mut fmt::Formatter<F>) -> fmt::Result {
         if self.is_linked() {
             f.write_str("linked")

@@ -17,6 +17,7 @@ use crate::end::End;
 use crate::lent_table::LentTable;
 use crate::link::{self, NextWord, PrevPlace, Words};
 use crate::link_ops;
+use crate::link_value::LinkValue;
 use crate::marked_word::MarkedWord;
 use crate::table::PlainTable;
 use crate::word::Word;
@@ -92,6 +93,9 @@ pub type Link = link::Link<TwoWords>;
 /// The plain table of doubly links, two words for each place. It carries singly linked and XOR lists as well.
 pub type LinkOps<A = Global> = PlainTable<TwoWords, A>;
 
+/// The plain table of doubly links with a value beside each.
+pub type LinkOpsWith<V, A = Global> = PlainTable<TwoWords, A, V>;
+
 impl Words for TwoWords {
     ghost use Rattle.ic_link_ops.specs.TwoWords.{no_words, has_words};
     ghost use Rattle.std.specs.Prelude.{refl};
@@ -162,7 +166,7 @@ impl PrevPlace for TwoWords {
     ghost keeps_prev = { λ old new h. h };
 }
 
-impl<W: PrevPlace, A: Allocator> LinkedListOps for PlainTable<W, A> {
+impl<W: PrevPlace, A: Allocator, V: LinkValue> LinkedListOps for PlainTable<W, A, V> {
     ghost use Rattle.std.specs.Prelude.{refl};
     ghost use Rattle.ic_link_ops.specs.Readings.{neighbors_of};
 
@@ -205,7 +209,7 @@ impl<W: PrevPlace, A: Allocator> LinkedListOps for PlainTable<W, A> {
     ghost linked_alike = { λ e. refl };
 }
 
-impl<W: PrevPlace> LinkedListOps for LentTable<'_, W> {
+impl<W: PrevPlace, V: LinkValue> LinkedListOps for LentTable<'_, W, V> {
     ghost use Rattle.std.specs.Prelude.{refl};
     ghost use Rattle.ic_link_ops.specs.Readings.{neighbors_of};
 

@@ -6,7 +6,7 @@
 //! ```
 
 ghost use Rattle.std.specs.Prelude.{◌≡◌, ◌≢◌, true};
-ghost use Rattle.ic_unsafe_ref.specs.Numbers.{IsWord};
+ghost use Rattle.ic_unsafe_ref.specs.PlaceWords.{IsWord};
 
 use crate::word::Word;
 

@@ -16,6 +16,7 @@ use crate::end::End;
 use crate::lent_table::LentTable;
 use crate::link::{self, NextWord, PrevPlace, Words};
 use crate::link_ops;
+use crate::link_value::LinkValue;
 use crate::table::PlainTable;
 use crate::tree_word::TreeWord;
 use crate::word::Word;
@@ -101,6 +102,9 @@ pub type Link = link::Link<ThreeWords>;
 
 /// The plain table of tree links, three words for each place. It carries lists of all kinds as well.
 pub type LinkOps<A = Global> = PlainTable<ThreeWords, A>;
+
+/// The plain table of tree links with a value beside each, a key, say.
+pub type LinkOpsWith<V, A = Global> = PlainTable<ThreeWords, A, V>;
 
 impl link::Link<ThreeWords> {
     ghost use Rattle.ic_link_ops.specs.Links.{words_of};
@@ -194,7 +198,7 @@ impl PrevPlace for ThreeWords {
     ghost keeps_prev = { λ old new h. h };
 }
 
-impl<A: Allocator> RBTreeOps for PlainTable<ThreeWords, A> {
+impl<A: Allocator, V: LinkValue> RBTreeOps for PlainTable<ThreeWords, A, V> {
     ghost use Rattle.std.specs.Prelude.{refl};
     ghost use Rattle.ic_link_ops.specs.ThreeWords.{node_of};
 
@@ -247,7 +251,7 @@ impl<A: Allocator> RBTreeOps for PlainTable<ThreeWords, A> {
     ghost linked_alike = { λ e. refl };
 }
 
-impl RBTreeOps for LentTable<'_, ThreeWords> {
+impl<V: LinkValue> RBTreeOps for LentTable<'_, ThreeWords, V> {
     ghost use Rattle.std.specs.Prelude.{refl};
     ghost use Rattle.ic_link_ops.specs.ThreeWords.{node_of};
 

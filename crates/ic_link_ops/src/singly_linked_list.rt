@@ -15,6 +15,7 @@ ghost use Rattle.ic_link_ops.specs.SinglyLinkedList.{Successor, successor_at};
 use crate::lent_table::LentTable;
 use crate::link::{self, NextWord};
 use crate::link_ops;
+use crate::link_value::LinkValue;
 use crate::one_word::OneWord;
 use crate::table::PlainTable;
 use crate::word::Word;
@@ -61,7 +62,7 @@ pub trait SinglyLinkedListOps: link_ops::LinkOps {
     ghost linked_alike: { (e : Self.Entry) → (successor e).linked ≡ Self.linked e };
 }
 
-/// The kind of links whose word is the number of the next place.
+/// The kind of links whose word is that of the next place.
 pub struct Singly;
 
 /// What the table keeps at a place: one word.
@@ -70,7 +71,10 @@ pub type Link = link::Link<OneWord<Singly>>;
 /// The plain table of singly links, one word for each place. It carries XOR lists as well.
 pub type LinkOps<A = Global> = PlainTable<OneWord<Singly>, A>;
 
-impl<W: NextWord, A: Allocator> SinglyLinkedListOps for PlainTable<W, A> {
+/// The plain table of singly links with a value beside each.
+pub type LinkOpsWith<V, A = Global> = PlainTable<OneWord<Singly>, A, V>;
+
+impl<W: NextWord, A: Allocator, V: LinkValue> SinglyLinkedListOps for PlainTable<W, A, V> {
     ghost use Rattle.std.specs.Prelude.{refl};
     ghost use Rattle.ic_link_ops.specs.Readings.{successor_of};
 
@@ -101,7 +105,7 @@ impl<W: NextWord, A: Allocator> SinglyLinkedListOps for PlainTable<W, A> {
     ghost linked_alike = { λ e. refl };
 }
 
-impl<W: NextWord> SinglyLinkedListOps for LentTable<'_, W> {
+impl<W: NextWord, V: LinkValue> SinglyLinkedListOps for LentTable<'_, W, V> {
     ghost use Rattle.std.specs.Prelude.{refl};
     ghost use Rattle.ic_link_ops.specs.Readings.{successor_of};
 

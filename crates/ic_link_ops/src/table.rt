@@ -13,25 +13,26 @@ ghost use Rattle.ic_link_ops.specs.Tables.{IsCovered, IsLinked, IsUnlinked, Chan
 use crate::errors::CoverError;
 use crate::link::{Link, Words};
 use crate::link_ops::LinkOps;
+use crate::link_value::LinkValue;
 use ic_unsafe_ref::Place;
 use std::alloc::{Allocator, Global};
 
-/// A table with one link for each place that it covers, in one `Vec`.
+/// A table with one link for each place that it covers, in one `Vec`, and a value beside each, if it is made so.
 ///
 /// Each kind of collection has its own by the name `LinkOps`, and a table carries every kind that its words can keep.
 #[derive(Drop)]
-pub struct PlainTable<W, A: Allocator = Global> {
-    pub(crate) entries: Vec<Link<W>, A>,
+pub struct PlainTable<W, A: Allocator = Global, V = ()> {
+    pub(crate) entries: Vec<Link<W, V>, A>,
 }
 
-impl<W: Words, A: Allocator> PlainTable<W, A> {
-    ghost use Rattle.ic_link_ops.specs.PlainTables.{entries, table, linked_by};
+impl<W: Words, A: Allocator, V: LinkValue> PlainTable<W, A, V> {
+    ghost use Rattle.ic_link_ops.specs.PlainTables.{entries, table_beside, linked_by};
     ghost use Rattle.ic_link_ops.specs.LentTables.{LendsLinks};
     ghost use Rattle.std.specs.Borrow.{sem};
 
     /// A table that covers no place. It takes no memory.
-    pub fn new(alloc: A) -> PlainTable<W, A>
-        ensures { (table W.unlinked result).extent.places ≡ 0 }
+    pub fn new(alloc: A) -> PlainTable<W, A, V>
+        ensures { (table_beside W.unlinked V.initial V.told result).extent.places ≡ 0 }
     {
         PlainTable {
             entries: Vec::new(alloc),
@@ -41,16 +42,16 @@ impl<W: Words, A: Allocator> PlainTable<W, A> {
     /// How many places are covered: those with a smaller index.
     #[inline]
     pub fn covers(&self) -> usize
-        ensures { result ≡ (table W.unlinked self.now).extent.places }
+        ensures { result ≡ (table_beside W.unlinked V.initial V.told self.now).extent.places }
     {
         self.entries.len()
     }
 
     /// The link of `place`. It asks that the place is covered. O(1).
     #[inline]
-    pub fn link(&self, place: Place) -> &Link<W>
-        requires covered { IsCovered (table W.unlinked self.now) place }
-        ensures { result.now ≡ (table W.unlinked self.now).entry place }
+    pub fn link(&self, place: Place) -> &Link<W, V>
+        requires covered { IsCovered (table_beside W.unlinked V.initial V.told self.now) place }
+        ensures { result.now ≡ (table_beside W.unlinked V.initial V.told self.now).entry place }
     {
         &self.entries[place.index()]
     }
@@ -58,8 +59,8 @@ impl<W: Words, A: Allocator> PlainTable<W, A> {
     /// Whether `place` is linked. It asks that the place is covered. O(1).
     #[inline]
     pub fn is_linked(&self, place: Place) -> bool
-        requires covered { IsCovered (table W.unlinked self.now) place }
-        ensures { result ≡ linked_by W.is_linked ((table W.unlinked self.now).entry place) }
+        requires covered { IsCovered (table_beside W.unlinked V.initial V.told self.now) place }
+        ensures { result ≡ linked_by W.is_linked ((table_beside W.unlinked V.initial V.told self.now).entry place) }
     {
         self.entries[place.index()].is_linked()
     }
@@ -70,9 +71,9 @@ impl<W: Words, A: Allocator> PlainTable<W, A> {
     /// `fast_clear` leaves; a collection of which the place is a member is broken by it.
     #[inline]
     pub fn force_unlink(&mut self, place: Place)
-        requires covered { IsCovered (table W.unlinked self.old) place }
-        ensures unlinked { IsUnlinked (linked_by W.is_linked) (table W.unlinked self.new) place }
-        ensures frame { ChangesOnly (table W.unlinked self.old) (table W.unlinked self.new) place }
+        requires covered { IsCovered (table_beside W.unlinked V.initial V.told self.old) place }
+        ensures unlinked { IsUnlinked (linked_by W.is_linked) (table_beside W.unlinked V.initial V.told self.new) place }
+        ensures frame { ChangesOnly (table_beside W.unlinked V.initial V.told self.old) (table_beside W.unlinked V.initial V.told self.new) place }
     {
         let entry = &mut self.entries[place.index()];
         entry.words.unlink();
@@ -82,8 +83,8 @@ impl<W: Words, A: Allocator> PlainTable<W, A> {
     ///
     /// When the borrow ends, the table has the links that stand there last. O(1).
     #[inline]
-    pub fn lend(&mut self) -> &mut [Link<W>]
-        ensures* writes_back { sem 𝓛 (LendsLinks W.row A.row A.Allocator self.entry result) }
+    pub fn lend(&mut self) -> &mut [Link<W, V>]
+        ensures* writes_back { sem 𝓛 (LendsLinks W.row A.row V.row A.Allocator self.entry result) }
         ensures links { result.now ≡ entries self.old }
     {
         self.entries.as_mut_slice()
@@ -96,11 +97,11 @@ impl<W: Words, A: Allocator> PlainTable<W, A> {
     /// for memory.
     pub fn cover(&mut self, count: usize) -> Result<(), CoverError>
         ensures too_many { (result ≡ Err CoverError.TooManyPlaces) ↔ 4294967296 < count }
-        ensures covers { OnOk result ((table W.unlinked self.new).extent.places ≡ max (table W.unlinked self.old).extent.places count) }
-        ensures stays { (q : Place) → (table W.unlinked self.new).entry q
-            ≡ (table W.unlinked self.old).entry q }
-        ensures covered { (q : Place) → IsCovered (table W.unlinked self.old) q → IsCovered (table W.unlinked self.new) q }
-        ensures enough { count ≤ (table W.unlinked self.old).extent.places → count ≤ 4294967296 → IsOk result }
+        ensures covers { OnOk result ((table_beside W.unlinked V.initial V.told self.new).extent.places ≡ max (table_beside W.unlinked V.initial V.told self.old).extent.places count) }
+        ensures stays { (q : Place) → (table_beside W.unlinked V.initial V.told self.new).entry q
+            ≡ (table_beside W.unlinked V.initial V.told self.old).entry q }
+        ensures covered { (q : Place) → IsCovered (table_beside W.unlinked V.initial V.told self.old) q → IsCovered (table_beside W.unlinked V.initial V.told self.new) q }
+        ensures enough { count ≤ (table_beside W.unlinked V.initial V.told self.old).extent.places → count ≤ 4294967296 → IsOk result }
         ensures refused { OnErr result (entries self.new ≡ entries self.old) }
     {
         if count > Place::COUNT {
@@ -116,24 +117,24 @@ impl<W: Words, A: Allocator> PlainTable<W, A> {
     }
 }
 
-impl<W: Words, A: Allocator> LinkOps for PlainTable<W, A> {
+impl<W: Words, A: Allocator, V: LinkValue> LinkOps for PlainTable<W, A, V> {
     ghost use Rattle.ic_unsafe_ref.specs.Places.{index_of};
-    ghost use Rattle.ic_link_ops.specs.Links.{link_of};
-    ghost use Rattle.ic_link_ops.specs.PlainTables.{entries, table, linked_by};
+    ghost use Rattle.ic_link_ops.specs.Links.{link_with};
+    ghost use Rattle.ic_link_ops.specs.PlainTables.{entries, table_beside, linked_by};
     ghost use Rattle.ic_link_ops.specs.EntryLaws.{linked_in_range};
     ghost use Rattle.ic_link_ops.specs.LinkSteps.{Replays};
     ghost use Rattle.ic_link_ops.specs.StepLaws.{replays_on};
     ghost use Rattle.std.proofs.Common.{ap, refl};
 
-    type Entry = Link<W>;
+    type Entry = Link<W, V>;
 
-    ghost table = { table W.unlinked };
+    ghost table = { table_beside W.unlinked V.initial V.told };
 
     ghost linked = { linked_by W.is_linked };
 
-    ghost Does = { λ old new s. Replays (linked_by W.is_linked) (table W.unlinked old) (table W.unlinked new) s };
+    ghost Does = { λ old new s. Replays (linked_by W.is_linked) (table_beside W.unlinked V.initial V.told old) (table_beside W.unlinked V.initial V.told new) s };
 
-    ghost Refused = { λ old new p. IsLinked (linked_by W.is_linked) (table W.unlinked old) p × (new ≡ old) };
+    ghost Refused = { λ old new p. IsLinked (linked_by W.is_linked) (table_beside W.unlinked V.initial V.told old) p × (new ≡ old) };
 
     #[inline]
     fn acquire_link(&mut self, place: Place) -> bool {
@@ -151,13 +152,13 @@ impl<W: Words, A: Allocator> LinkOps for PlainTable<W, A> {
         self.force_unlink(place);
     }
 
-    ghost linked_is_covered = { λ t p h. linked_in_range (linked_by W.is_linked) (link_of W.unlinked) W.starts_unlinked (entries t) (index_of p) h };
+    ghost linked_is_covered = { λ t p h. linked_in_range (linked_by W.is_linked) (link_with W.unlinked V.initial) W.starts_unlinked (entries t) (index_of p) h };
 
     ghost does_nothing = { λ t q. refl };
 
-    ghost does_on = { λ a b c s t h k. replays_on (linked_by W.is_linked) s t (table W.unlinked a) (table W.unlinked b) (table W.unlinked c) h k };
+    ghost does_on = { λ a b c s t h k. replays_on (linked_by W.is_linked) s t (table_beside W.unlinked V.initial V.told a) (table_beside W.unlinked V.initial V.told b) (table_beside W.unlinked V.initial V.told c) h k };
 
     ghost does_replay = { λ old new s h. h };
 
-    ghost refused_keeps = { λ old new p h. ap (table W.unlinked) h.1 };
+    ghost refused_keeps = { λ old new p h. ap (table_beside W.unlinked V.initial V.told) h.1 };
 }

@@ -15,7 +15,7 @@ use ic_unsafe_ref::Place;
 use std::marker::Model;
 
 /// It is kept as `8 * (parent + 1) + 2 * linked + black`, with 0 in place of `parent + 1` for no parent, and 1 for true. So the parent's
-/// number is what is left without the three lowest bits.
+/// word is what is left without the three lowest bits.
 ///
 /// A clause sees what it says. It is linked whatever its color and its parent are.
 #[derive(Drop)]

@@ -1,6 +1,6 @@
 //! The word of which links are made.
 //!
-//! A place is kept as its number, `8 * (index + 1)`, and no place as 0, so that each word of a linked place is a multiple of 8
+//! A place is kept as its word, `8 * (index + 1)`, and no place as 0, so that each word of a linked place is a multiple of 8
 //! below `2^36`. The exclusive or of two words is such a word again, so a place is read from it with no test of its range.
 //!
 //! ```text
@@ -9,12 +9,12 @@
 //! ```
 
 ghost use Rattle.std.specs.Prelude.{◌≡◌, bit_xor};
-ghost use Rattle.ic_unsafe_ref.specs.Numbers.{IsWord};
+ghost use Rattle.ic_unsafe_ref.specs.PlaceWords.{IsWord};
 ghost use Rattle.ic_unsafe_ref.specs.Places.{word_of, place_at};
 
 use ic_unsafe_ref::Place;
 
-/// The number of a place, 0 for none, or the exclusive or of two of these.
+/// The word of a place, 0 for none, or the exclusive or of two of these.
 #[derive(Clone, Copy)]
 pub struct Word {
     pub(crate) bits: u64,
@@ -42,7 +42,7 @@ impl Word {
         }
     }
 
-    /// The place whose number the word is, and none where it is 0. One test and a shift.
+    /// The place that the word names, and none where it is 0. One test.
     #[inline]
     pub fn place(self) -> Option<Place>
         ensures { result ≡ place_at (bits_of self) }

@@ -14,6 +14,7 @@ ghost use Rattle.ic_link_ops.specs.LinkSteps.{acquires};
 use crate::lent_table::LentTable;
 use crate::link::{self, NextWord};
 use crate::link_ops;
+use crate::link_value::LinkValue;
 use crate::one_word::OneWord;
 use crate::table::PlainTable;
 use crate::word::Word;
@@ -83,7 +84,7 @@ pub trait XorLinkedListOps: link_ops::LinkOps {
     ghost finds_other: { (e : Self.Entry) (a b : Option Place) → Joins e a b → other e a ≡ b };
 }
 
-/// The kind of links whose word is the exclusive or of two neighbors' numbers.
+/// The kind of links whose word is the exclusive or of two neighbors' words.
 pub struct Xor;
 
 /// What the table keeps at a place: one word.
@@ -92,13 +93,16 @@ pub type Link = link::Link<OneWord<Xor>>;
 /// The plain table of XOR links, one word for each place. It carries singly linked lists as well.
 pub type LinkOps<A = Global> = PlainTable<OneWord<Xor>, A>;
 
+/// The plain table of XOR links with a value beside each.
+pub type LinkOpsWith<V, A = Global> = PlainTable<OneWord<Xor>, A, V>;
+
 impl link::Link<OneWord<Xor>> {
     ghost use Rattle.ic_link_ops.specs.Links.{words_of};
     ghost use Rattle.ic_link_ops.specs.OneWord.{next_word_of};
     ghost use Rattle.ic_link_ops.specs.Words.{told};
 
-    /// The exclusive or of what stands for the neighbors: `2 * (index + 1)` for a place, and 0 for none. The mark 1 while the
-    /// place is unlinked. It is kept as four times as much.
+    /// The exclusive or of the neighbors' numbers: `2 * (index + 1)` for a place, and 0 for none. The mark 1 while the
+    /// place is unlinked. What is kept of neighbors is four times as much.
     #[inline]
     pub fn word(&self) -> u64
         ensures { result ≡ told (next_word_of (words_of self.now)) }
@@ -108,7 +112,7 @@ impl link::Link<OneWord<Xor>> {
     }
 }
 
-impl<W: NextWord, A: Allocator> XorLinkedListOps for PlainTable<W, A> {
+impl<W: NextWord, A: Allocator, V: LinkValue> XorLinkedListOps for PlainTable<W, A, V> {
     ghost use Rattle.ic_link_ops.specs.Readings.{XorJoins, xor_other};
     ghost use Rattle.ic_link_ops.specs.Links.{words_of};
     ghost use Rattle.ic_link_ops.specs.XorLaws.{joins_symmetric, joins_one_other, joins_finds_other};
@@ -158,7 +162,7 @@ impl<W: NextWord, A: Allocator> XorLinkedListOps for PlainTable<W, A> {
     ghost finds_other = { λ e a b j. joins_finds_other (W.next_word (words_of e)) a b j };
 }
 
-impl<W: NextWord> XorLinkedListOps for LentTable<'_, W> {
+impl<W: NextWord, V: LinkValue> XorLinkedListOps for LentTable<'_, W, V> {
     ghost use Rattle.ic_link_ops.specs.Readings.{XorJoins, xor_other};
     ghost use Rattle.ic_link_ops.specs.Links.{words_of};
     ghost use Rattle.ic_link_ops.specs.XorLaws.{joins_symmetric, joins_one_other, joins_finds_other};

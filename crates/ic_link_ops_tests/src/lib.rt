@@ -15,4 +15,6 @@ mod places;
 #[cfg(test)]
 mod tables;
 #[cfg(test)]
+mod values;
+#[cfg(test)]
 mod words;

@@ -1,4 +1,5 @@
 -- For callers: objects and a table of their links stay pooled, after each kind of step. Of a pair of tables, each stays so by itself.
+use Rattle.std.specs.Prelude.{⊤}
 use Rattle.std.proofs.Common.{◌≡◌, ◌↔◌, ℕ, ◌^◌, ◌≤◌, leb, Bool, true, false, Result, Err, Option, None, Some, is_some, inl, inr, refl, sym, ap, ◌∙◌, arith}
 use Rattle.std.proofs.lemmas.Bool.{le-leb, false_from_ne_true}
 use Rattle.std.proofs.lemmas.Bool.Decides.{leb_tells}
@@ -18,7 +19,7 @@ use Rattle.ic_pool.specs.Pooled.{Grows, IsPooled}
 use Rattle.ic_pool.specs.Refusals.{lacks_place, value_of}
 
 -- AT FIRST: nothing is placed, and the table covers no place
-pub pooled_first : {W A T : Type 0} (is_linked : W → Bool) (unlinked : W) → is_linked unlinked ≡ false → (links : PlainTable W A) {objects : Objects T}
+pub pooled_first : {W A T : Type 0} (is_linked : W → Bool) (unlinked : W) → is_linked unlinked ≡ false → (links : PlainTable W A ⊤) {objects : Objects T}
     → (table unlinked links).extent.places ≡ 0 → ((p : Place) → object_at objects p ≡ None) → IsPooled (linked_by is_linked) objects (table unlinked links)
 pooled_first is_linked unlinked starts links {objects} none vacant = record {
   covered = λ p is. let never : false ≡ true = sym (ap is_some (vacant p)) ∙ is in absurd (cc);

@@ -9,7 +9,7 @@ ghost use Rattle.std.specs.Prelude.{◌≡◌, ◌<◌, ◌↔◌, OnOk, Err};
 ghost use Rattle.ic_unsafe_ref.specs.declared.place.Place.{Place};
 ghost use Rattle.ic_unsafe_ref.specs.Places.{index_of};
 
-use ic_link_ops::{CoverError, PlainTable, Words};
+use ic_link_ops::{CoverError, LinkValue, PlainTable, Words};
 use std::alloc::Allocator;
 
 /// Tables of links that grow together: a plain table, or a pair of such tables.
@@ -40,16 +40,16 @@ pub trait Tables {
     ghost keeps_itself: { (tables : Self) → Keeps tables tables };
 }
 
-impl<W: Words, A: Allocator> Tables for PlainTable<W, A> {
+impl<W: Words, A: Allocator, V: LinkValue> Tables for PlainTable<W, A, V> {
     ghost use Rattle.ic_link_ops.specs.Tables.{IsCovered, IsUnlinked};
-    ghost use Rattle.ic_link_ops.specs.PlainTables.{table, linked_by};
+    ghost use Rattle.ic_link_ops.specs.PlainTables.{table_beside, linked_by};
     ghost use Rattle.ic_pool.specs.Pooled.{Grows, grows_room, grows_free, grows_itself};
 
-    ghost Covers = { λ t place. IsCovered (table W.unlinked t) place };
+    ghost Covers = { λ t place. IsCovered (table_beside W.unlinked V.initial V.told t) place };
 
-    ghost IsFree = { λ t place. IsUnlinked (linked_by W.is_linked) (table W.unlinked t) place };
+    ghost IsFree = { λ t place. IsUnlinked (linked_by W.is_linked) (table_beside W.unlinked V.initial V.told t) place };
 
-    ghost Keeps = { λ old new. Grows (table W.unlinked old) (table W.unlinked new) };
+    ghost Keeps = { λ old new. Grows (table_beside W.unlinked V.initial V.told old) (table_beside W.unlinked V.initial V.told new) };
 
     #[inline]
     fn cover(&mut self, count: usize) -> Result<(), CoverError> {
@@ -60,7 +60,7 @@ impl<W: Words, A: Allocator> Tables for PlainTable<W, A> {
 
     ghost keeps_free = { λ old new place grows free. grows_free (linked_by W.is_linked) grows place free };
 
-    ghost keeps_itself = { λ tables. grows_itself (table W.unlinked tables) };
+    ghost keeps_itself = { λ tables. grows_itself (table_beside W.unlinked V.initial V.told tables) };
 }
 
 /// Two tables, or pairs of tables: an object has a link in each.

@@ -19,6 +19,7 @@ use Rattle.ic_link_ops.specs.Walk.{is_end}
 use Rattle.ic_link_ops.specs.Positions.{Site, ShowsAt, Stands as PositionStands}
 use Rattle.ic_link_ops.proofs.Positions.{stands_by_gap, stands_null}
 use Rattle.ic_link_ops.proofs.SequenceLemmas.{none_not, some_same}
+use Rattle.ic_link_ops.proofs.Walks.{is_end_not}
 use Rattle.ic_rbtree.specs.declared.keys.descent.Descent.{Descent}
 use Rattle.ic_rbtree.specs.declared.keys.key_adapter.Bound.{Bound}
 use Rattle.ic_rbtree.specs.declared.keys.key_adapter.Bound.TheVariants.{Included, Excluded, Unbounded}
@@ -40,7 +41,6 @@ use Rattle.ic_rbtree.proofs.Gaps.{gap_join, gap_border, gap_same, gap_all, gap_n
 use Rattle.ic_rbtree.proofs.Heights.{looks_few}
 use Rattle.ic_rbtree.proofs.Nearest.{nearest_frame}
 use Rattle.ic_rbtree.proofs.Removing.{order_around, stands_of}
-use Rattle.ic_rbtree.proofs.Turning.{end_is}
 
 -- past a member, the descent is on the side that the comparison tells, below the member
 pub passed_side : {A : Type 0} (d : Descent) {d' : Descent} (p : Place) (left : Bool) (equal : Bool) (f : Side → A) → d' ≡ passed d p left equal → f d'.side ≡ f (side_of left)
@@ -260,10 +260,7 @@ module _ {E : Type 0} (n : E → Node) where
         equal_by (Some p) e = pick (equal_at at p) refl where
           pick : (b : Bool) → equal_at at p ≡ b → is_end d.equal p ≡ equal_at at p
           pick true is = is_end_there (x.back_marked p e is) ∙ sym is
-          pick false not_it = other (is_end d.equal p) refl ∙ sym not_it where
-            other : (b : Bool) → b ≡ is_end d.equal p → is_end d.equal p ≡ false
-            other true is = let k = x.is_marked p (end_is d.equal p true is refl) in cc
-            other false is = sym is
+          pick false not_it = is_end_not d.equal p (λ same. let k : true ≡ false = sym (x.is_marked p same) ∙ not_it in cc) ∙ sym not_it
 
         pub sent_ends : EndsAt n v at equals tree d
         sent_ends = record {

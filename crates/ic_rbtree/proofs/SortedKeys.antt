@@ -8,7 +8,7 @@ use Rattle.std.specs.declared.cmp.Ordering.{Ordering}
 use Rattle.ic_unsafe_ref.specs.declared.place.Place.{Place}
 use Rattle.ic_unsafe_ref.specs.Objects.{Objects, object_at}
 use Rattle.ic_link_ops.specs.declared.errors.AlreadyLinked.{AlreadyLinked}
-use Rattle.ic_link_ops.specs.Sequences.{join, insert}
+use Rattle.ic_link_ops.specs.Sequences.{IsAbsent, join, insert}
 use Rattle.ic_link_ops.specs.PlacedObjects.{ArePlaced, values_at}
 use Rattle.ic_link_ops.specs.Tables.{Table}
 use Rattle.ic_link_ops.specs.RedBlackTree as Trees
@@ -16,6 +16,7 @@ use Rattle.ic_link_ops.specs.RedBlackTree.{Node}
 use Rattle.ic_link_ops.specs.LinkSteps.{LinkStep}
 use Rattle.ic_link_ops.specs.EditsAt.{RemovesThere}
 use Rattle.ic_link_ops.specs.Positions.{Site, ShowsAt, Stands, HasMember}
+use Rattle.ic_link_ops.proofs.PlacedValues.{all_beside}
 use Rattle.ic_link_ops.proofs.Positions.{member_there}
 use Rattle.ic_link_ops.proofs.ShownTrees.{shows_nothing}
 use Rattle.ic_link_ops.proofs.Each.{all_back, all_with, all_without}
@@ -156,3 +157,19 @@ module _ {T : Type 0} (key : T → ℕ) (objects : Objects T) where
     sorted_taken one stands None off q = subst (λ (z : Site L H). ShowsSorted key (ShowsAt Shows table z) objects) (sym off.null) q
     sorted_taken one stands (Some p) off q = sorted_less one (member_there stands (sym off.answer))
         (λ front back shown. (off.removed (record { front = front; back = p ∷ back }) shown (sym off.answer)).shows) q
+
+-- THE ORDER STAYS where what stands at one place changes, which is no member
+module _ {T : Type 0} (key : T → ℕ) (old new : Objects T) (p : Place) (others : (q : Place) → q ≢ p → object_at new q ≡ object_at old q) where
+  keys_beside : (s : List Place) → IsAbsent p s → keys_at key new s ≡ keys_at key old s
+  keys_beside [] out = refl
+  keys_beside (x ∷ s) out = rw (others x (λ e. out.0 (sym e)), keys_beside s out.1) refl
+
+  pub sorted_beside : {before after : List Place → Type 0} → ((s : List Place) → before s → IsAbsent p s) → ((s : List Place) → before s → IsAbsent p s → after s)
+      → ShowsSorted key before old → ShowsSorted key after new
+  sorted_beside gone stays q =
+      let s = q.placed.members in
+      let out = gone s q.placed.shown in
+      record {
+        placed = record { members = s; shown = stays s q.placed.shown out; placed = all_beside old new p others IsSome s out q.placed.placed };
+        sorted = rw (keys_beside s out) q.sorted;
+      }

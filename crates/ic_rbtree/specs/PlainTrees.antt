@@ -1,5 +1,5 @@
 -- Trees over the plain table of tree links.
-use Rattle.std.specs.Prelude.{Bool, Option, List}
+use Rattle.std.specs.Prelude.{⊤, Bool, Option, List}
 use Rattle.ic_unsafe_ref.specs.declared.place.Place.{Place}
 use Rattle.ic_link_ops.specs.declared.link.Link.{Link}
 use Rattle.ic_link_ops.specs.declared.rbtree.ThreeWords.{ThreeWords}
@@ -12,10 +12,10 @@ use Rattle.ic_rbtree.specs.Members.{members}
 
 -- the link of a tree, and a table of such links
 abbrev pub TreeLink : Type 0
-TreeLink = Link ThreeWords
+TreeLink = Link ThreeWords ⊤
 
 abbrev pub TreeLinkOps : Type 0 → Type 0
-TreeLinkOps A = PlainTable ThreeWords A
+TreeLinkOps A = PlainTable ThreeWords A ⊤
 
 -- whether a link is that of a linked place
 abbrev pub is_linked : TreeLink → Bool

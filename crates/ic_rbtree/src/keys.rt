@@ -10,6 +10,7 @@ pub(crate) mod descent;
 pub(crate) mod entry;
 pub(crate) mod find;
 pub mod key_adapter;
+pub(crate) mod keyed;
 pub(crate) mod ordered;
 pub(crate) mod probe;
 pub(crate) mod range;

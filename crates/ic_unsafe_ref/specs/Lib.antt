@@ -1,4 +1,4 @@
-pub mod Numbers
+pub mod PlaceWords
 pub mod Places
 pub mod Order
 pub mod Objects

@@ -1,7 +1,7 @@
 //! What is proved, told to the compiler.
 //!
 //! ```text
-//! let number = known(self.number, self.number % 8 == 0); // a multiple of 8, for all that is compiled behind it
+//! let word = known(self.word, self.word % 8 == 0); // a multiple of 8, for all that is compiled behind it
 //! ```
 
 ghost use Rattle.std.specs.Prelude.{◌≡◌, true};

@@ -6,21 +6,21 @@
 //! ```
 
 ghost use Rattle.std.specs.Prelude.{◌≡◌, ℕ, ◌+◌, ◌*◌, ◌<◌, ◌≤◌, ◌%◌, ◌^◌, MatchOption};
-ghost use Rattle.ic_unsafe_ref.specs.Numbers.{IsNumber, IsWord};
+ghost use Rattle.ic_unsafe_ref.specs.PlaceWords.{NamesPlace, IsWord};
 
 use crate::hint::known;
 use std::fmt;
 
 /// Where an object stands: an index, below 4,294,967,296 of each place that [`Place::new`] makes and that a table covers.
 ///
-/// It is kept as its number, `8 * (index + 1)`, which is what links keep for a neighbor: a multiple of 8, and never 0. That is as many
-/// bytes as the words of that many links of one word, so that a number addresses an entry. A number may be any below `2^36`, twice as
-/// many as the first 4,294,967,296 places have, so that the exclusive or of two numbers is a number or 0 and is read with no test of its
-/// range.
+/// Its number is `2 * (index + 1)`. It is kept as its word, four times that, which is what links keep for a neighbor: a multiple of 8, and
+/// never 0. That is as many bytes as the words of that many links of one word, so that a word addresses an entry. A word may be any below
+/// `2^36`, twice as many as the first 4,294,967,296 places have, so that the exclusive or of two words is a word and is read with no test of
+/// its range.
 #[derive(Clone, Copy, PartialEq, Eq, PartialOrd, Ord)]
 pub struct Place {
-    number: u64,
-    pub ghost is_number: { IsNumber number },
+    word: u64,
+    pub ghost names_place: { NamesPlace word },
 }
 
 impl Place {
@@ -49,7 +49,7 @@ impl Place {
         ensures { index_of result ≡ index }
     {
         Place {
-            number: 8 * (index as u64 + 1),
+            word: 8 * (index as u64 + 1),
         }
     }
 
@@ -61,8 +61,8 @@ impl Place {
         ensures small { result + 1 < 2 ^ 33 }
     {
         // A multiple of 8 addresses an entry with no shift and no mask, and what is not 0 is no end.
-        let number = known(self.number, self.number % 8 == 0 && self.number != 0);
-        (number / 8 - 1) as usize
+        let word = known(self.word, self.word % 8 == 0 && self.word != 0);
+        (word / 8 - 1) as usize
     }
 
     /// The place that a word names: none at 0. One test.
@@ -76,22 +76,22 @@ impl Place {
         ensures { result ≡ place_at word }
     {
         if word != 0 {
-            Some(Place { number: word })
+            Some(Place { word })
         } else {
             None
         }
     }
 
-    /// The word for a place or none: the place's number, or 0.
+    /// The word for a place or none: `8 * (index + 1)`, or 0.
     #[inline]
-    #[tactic(auto, using(crate::proofs::PlaceLemmas::number_of))]
+    #[tactic(auto, using(crate::proofs::PlaceLemmas::word_is))]
     pub fn to_word(place: Option<Place>) -> u64
         ensures value { result ≡ word_of place }
         ensures fits { IsWord result }
     {
         match place {
             None => 0,
-            Some(place) => place.number,
+            Some(place) => place.word,
         }
     }
 }

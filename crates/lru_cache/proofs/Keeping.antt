@@ -28,14 +28,13 @@ use Rattle.ic_rbtree.specs.SortedObjects.{ShowsSorted}
 use Rattle.ic_rbtree.specs.Tree.{root_of}
 use Rattle.ic_rbtree.specs.declared.tree.RBTree.{RBTree}
 use Rattle.ic_rbtree.proofs.PlainTrees.{plain_trees, plain_covered}
-use Rattle.ic_rbtree.proofs.SortedKeys.{new_is_sorted, sorted_less}
+use Rattle.ic_rbtree.proofs.SortedKeys.{new_is_sorted, sorted_less, sorted_beside}
 use Rattle.lru_cache.specs.declared.entry.ByKey.{ByKey}
 use Rattle.lru_cache.specs.declared.entry.Entry.{Entry}
 use Rattle.lru_cache.specs.declared.store.Store.{Store}
 use Rattle.lru_cache.specs.Cache.{key_of, entry_with, without, touched, HaveOwnKeys}
 use Rattle.lru_cache.specs.Kept.{oldest, IsOnlyAt, StandOnce, entries_of, IsKept}
 use Rattle.lru_cache.proofs.Entries.{itself, Lack, Parts, found_none, found_part, without_part, touched_part}
-use Rattle.lru_cache.proofs.Sorting.{sorted_beside}
 use Rattle.lru_cache.proofs.Linking.{has_it, all_placed, is_member_placed, all_member, no_more, all_first, all_covered, all_put, all_taken, all_turned}
 
 -- what holds of what a position may be on
@@ -251,7 +250,7 @@ module _ {V A : Type 0} {store : Store V A} (k : IsKept store) where
 
     pub sorted_off : (new : Objects (Entry V)) → ((z : Place) → z ≢ p → object_at new z ≡ object_at store.pool.objects z) → ShowsSorted key_of (trees.PlainShows v root) new
     sorted_off new same =
-        sorted_beside key_of store.pool.objects new p same (λ s shown. plain_trees.free (trees.plain_table v) root s p shown off.is)
+        sorted_beside key_of store.pool.objects new p same (λ s shown. plain_trees.free (trees.plain_table v) root s p shown off.is) (λ s shown out. shown)
         (sorted_less key_of store.pool.objects (plain_trees.one (trees.plain_table w) (root_of store.by_key)) (has_it plain_trees k.keyed is) taken k.sorted)
 
     -- REMOVED, from the list too and from the objects
@@ -327,7 +326,7 @@ module _ {V A : Type 0} {store : Store V A} (k : IsKept store) (p : Place) {entr
   pub ready : ShowsSorted key_of (trees.PlainShows store.pool.links.0 (root_of store.by_key)) new
   ready =
       sorted_beside key_of store.pool.objects new p (others_placed places)
-      (λ s shown. plain_trees.free (trees.plain_table store.pool.links.0) (root_of store.by_key) s p shown new_unlinked) k.sorted
+      (λ s shown. plain_trees.free (trees.plain_table store.pool.links.0) (root_of store.by_key) s p shown new_unlinked) (λ s shown out. shown) k.sorted
 
   module _ (only : IsOnlyAt store.pool.objects (key_of entry) None) (v : trees.TreeLinkOps A) (tree : RBTree (ByKey V)) (sorted : ShowsSorted key_of (trees.PlainShows v (root_of tree)) new)
       (put : (s : List Place) → trees.PlainShows store.pool.links.0 (root_of store.by_key) s

@@ -1,5 +1,5 @@
 -- The tree of keys: what a search of it finds, and its order beside one object.
-use Rattle.std.proofs.Common.{◌≡◌, ◌≢◌, ℕ, Bool, true, false, cond, Option, None, Some, IsSome, is_some, List, [], ◌∷◌, filter, refl, sym, ap, ◌∙◌, true≢false}
+use Rattle.std.proofs.Common.{◌≡◌, ℕ, Bool, true, false, cond, Option, None, Some, is_some, List, [], ◌∷◌, filter, refl, sym, ap, ◌∙◌, true≢false}
 use Rattle.std.proofs.lemmas.Cmp.{nat_cmp_total, ranked, tied_itself}
 use Rattle.std.specs.Ordering.{nat_cmp, is_eq}
 use Rattle.std.specs.declared.cmp.Ordering.{Ordering}
@@ -7,8 +7,7 @@ use Rattle.std.specs.declared.cmp.Ordering.TheVariants.{Less, Equal, Greater}
 use Rattle.ic_unsafe_ref.specs.declared.place.Place.{Place}
 use Rattle.ic_unsafe_ref.specs.Objects.{Objects, object_at, is_placed}
 use Rattle.ic_link_ops.specs.PlacedObjects.{ArePlaced}
-use Rattle.ic_link_ops.specs.Sequences.{IsAbsent, IsMember, first}
-use Rattle.ic_link_ops.proofs.PlacedValues.{all_beside}
+use Rattle.ic_link_ops.specs.Sequences.{IsMember, first}
 use Rattle.ic_link_ops.proofs.SequenceLemmas.{none_not}
 use Rattle.ic_rbtree.specs.Borders.{Finds, equal_at}
 use Rattle.ic_rbtree.specs.Comparing.{answer_at, compared, order_of}
@@ -20,22 +19,7 @@ use Rattle.lru_cache.specs.declared.entry.Entry.{Entry}
 use Rattle.lru_cache.specs.Cache.{key_of}
 use Rattle.lru_cache.specs.Kept.{IsOnlyAt, StandOnce}
 
--- THE ORDER STAYS where the objects beside p do, and p is no member
-module _ {T : Type 0} (key : T → ℕ) (old new : Objects T) (p : Place) (same : (q : Place) → q ≢ p → object_at new q ≡ object_at old q) where
-  keys_beside : (s : List Place) → IsAbsent p s → keys_at key new s ≡ keys_at key old s
-  keys_beside [] out = refl
-  keys_beside (x ∷ s) out = rw (same x (λ e. out.0 (sym e)), keys_beside s out.1) refl
-
-  pub sorted_beside : {shows : List Place → Type 0} → ((s : List Place) → shows s → IsAbsent p s) → ShowsSorted key shows old → ShowsSorted key shows new
-  sorted_beside gone q =
-      let s = q.placed.members in
-      let out = gone s q.placed.shown in
-      record {
-        placed = record { members = s; shown = q.placed.shown; placed = all_beside old new p same IsSome s out q.placed.placed };
-        sorted = rw (keys_beside s out) q.sorted;
-      }
-
--- AND WHERE THE SAME PLACES have objects with the same keys
+-- THE ORDER STAYS where the same places have objects with the same keys
 module _ {T : Type 0} (key : T → ℕ) (old new : Objects T) (placed : (q : Place) → is_placed new q ≡ is_placed old q) (alike : (q : Place) → key_at key new q ≡ key_at key old q) where
   keys_alike : (s : List Place) → keys_at key new s ≡ keys_at key old s
   keys_alike [] = refl

@@ -1,4 +1,5 @@
 -- What slots keep over each of their calls, and what that says of their handles.
+use Rattle.std.specs.Prelude.{⊤}
 use Rattle.std.proofs.Common.{◌≡◌, ◌≢◌, ℕ, ◌+◌, ◌-◌, ◌≤◌, Bool, true, false, cond, eqb, leb, eq-eqb, ne_eqb, List, [], ◌∷◌, drop, Option, Some, None, IsSome, is_some, inl, inr, refl, sym, ap, subst, ◌∙◌, arith, ◌↔◌, IsTrue, true≢false}
 use Rattle.std.proofs.lemmas.Bool.{cases_eq, le-leb, lt-leb, false_from_ne_true}
 use Rattle.std.proofs.lemmas.Bool.Decides.{eqb_tells, leb_tells}
@@ -32,11 +33,11 @@ use Rattle.pool_uses.specs.KeptSlots.{is_linked, successor, plain_table, value_i
 use Rattle.pool_uses.specs.Slots.{Naming, named, is_given, named_in, given_in, is_last, IsUsable, HasVacant, IsUnchanged, Inserts, Removes}
 use Rattle.ic_unsafe_ref.proofs.Counting.{fewer_keys, some_key}
 
-lists : {K : Type 0} → IsKind {E = Link (OneWord K)} (Shows successor) is_linked None
+lists : {K : Type 0} → IsKind {E = Link (OneWord K) ⊤} (Shows successor) is_linked None
 lists = singly_lists (λ e. refl)
 
 module _ {T K A : Type 0} where
-  module _ {objects : Objects (Slot T)} {links : PlainTable (OneWord K) A} {vacant : Option Place} {members : List Place} {len : ℕ} (k : Keeps objects links vacant members len) where
+  module _ {objects : Objects (Slot T)} {links : PlainTable (OneWord K) A ⊤} {vacant : Option Place} {members : List Place} {len : ℕ} (k : Keeps objects links vacant members len) where
     -- FEWER VALUES than slots
     count_keeps : len ≤ map.len objects.values
     count_keeps = omega (arith, k.count, fewer_keys (map.len k.values) k.values objects.values refl (λ i is. placed (map.get objects.values i) (ap is_some (sym (k.are i)) ∙ is))) where
@@ -45,7 +46,7 @@ module _ {T K A : Type 0} where
       placed (Some slot) is = refl
 
     -- AFTER THE TABLE HAS GROWN
-    pub keeps_grown : {grown : PlainTable (OneWord K) A} → Grows (plain_table links) (plain_table grown) → Keeps objects grown vacant members len
+    pub keeps_grown : {grown : PlainTable (OneWord K) A ⊤} → Grows (plain_table links) (plain_table grown) → Keeps objects grown vacant members len
     keeps_grown grows = record {
       shown = kept_shown lists grows.entries k.shown;
       usable = k.usable;
@@ -58,7 +59,7 @@ module _ {T K A : Type 0} where
     }
 
     -- A VACANT SLOT goes to the front of the list
-    keeps_pushed : {more : PlainTable (OneWord K) A} {front : Option Place} {p : Place} → IsUsable (object_at objects p) → is_placed objects p ≡ true
+    keeps_pushed : {more : PlainTable (OneWord K) A ⊤} {front : Option Place} {p : Place} → IsUsable (object_at objects p) → is_placed objects p ≡ true
         → LinksAlso is_linked (plain_table links) (plain_table more) p → (plain_table more).extent ≡ (plain_table links).extent
         → ((s : List Place) → Shows successor (plain_table links) vacant s → Shows successor (plain_table more) front (p ∷ s)) → Keeps objects more front (p ∷ members) len
     keeps_pushed {p = p} can placed also extent pushed = record {
@@ -79,7 +80,7 @@ module _ {T K A : Type 0} where
       no_value (Some slot) can = can.0
 
     -- ONE SLOT CHANGES, which is linked nowhere then
-    module _ {new : Objects (Slot T)} {p : Place} {slot : Slot T} (puts : Puts objects new p slot) {after : PlainTable (OneWord K) A} {front : Option Place} {after_members : List Place}
+    module _ {new : Objects (Slot T)} {p : Place} {slot : Slot T} (puts : Puts objects new p slot) {after : PlainTable (OneWord K) A ⊤} {front : Option Place} {after_members : List Place}
         (shown : Shows successor (plain_table after) front after_members) (usable : AllByRecursion (λ q. IsUsable (object_at objects q)) after_members) (free : IsUnlinked is_linked (plain_table after) p)
         (same : (q : Place) → q ≢ p → is_linked ((plain_table after).entry q) ≡ is_linked ((plain_table links).entry q)) (pooled : IsPooled is_linked new (plain_table after))
         (taken : IsSome slot.value → IsTaken (Some slot)) {count : ℕ} (values : map.FinMap nat_cmp T) (beside : (i : ℕ) → i ≢ index_of p → map.get values i ≡ map.get k.values i)
@@ -108,14 +109,14 @@ module _ {T K A : Type 0} where
       }
 
     -- A NEW SLOT, with no value
-    keeps_placed : (grown : PlainTable (OneWord K) A) {new : Objects (Slot T)} {p : Place} → Grows (plain_table links) (plain_table grown)
+    keeps_placed : (grown : PlainTable (OneWord K) A ⊤) {new : Objects (Slot T)} {p : Place} → Grows (plain_table links) (plain_table grown)
         → Places objects new p (record { generation = 0; value = None }) → IsCovered (plain_table grown) p → Keeps new grown vacant members len
     keeps_placed grown {p = p} grows places room =
         keeps_put (placed_puts places) (kept_shown lists grows.entries k.shown) k.usable (new_is_free k.pooled grows places) (λ q n. ap is_linked (grows.entries q))
         (pooled_placed k.pooled grows places room) (λ is. let never : false ≡ true = is in absurd (cc)) k.values (λ i n. refl) (k.are (index_of p) ∙ ap value_in places.vacant) k.count
 
     -- THE FIRST VACANT SLOT is filled
-    keeps_filled : {after : PlainTable (OneWord K) A} {front : Option Place} {new : Objects (Slot T)} {p : Place} {was : Slot T} {value : T} → Some p ≡ first members
+    keeps_filled : {after : PlainTable (OneWord K) A ⊤} {front : Option Place} {new : Objects (Slot T)} {p : Place} {was : Slot T} {value : T} → Some p ≡ first members
         → ((s : List Place) → Shows successor (plain_table links) vacant s → Shows successor (plain_table after) front (drop 1 s)) → Unlinks is_linked (plain_table links) (plain_table after) p
         → (plain_table after).extent ≡ (plain_table links).extent → object_at objects p ≡ Some was
         → Puts objects new p (record was { value = Some value }) → Keeps new after front (drop 1 members) (len + 1)
@@ -149,7 +150,7 @@ module _ {T K A : Type 0} where
           (ap (λ n. n - 1) k.count ∙ sym (len-remove nat_cmp_total k.values (index_of p) ∙ ap (λ b. cond b (map.len k.values - 1) (map.len k.values)) in_values))
 
 -- AT FIRST
-pub kept_none : {T K A : Type 0} (objects : Objects (Slot T)) (links : PlainTable (OneWord K) A) → objects.values ≡ map.empty → ((p : Place) → object_at objects p ≡ None)
+pub kept_none : {T K A : Type 0} (objects : Objects (Slot T)) (links : PlainTable (OneWord K) A ⊤) → objects.values ≡ map.empty → ((p : Place) → object_at objects p ≡ None)
     → (plain_table links).extent.places ≡ 0 → IsKept objects links None 0
 kept_none {T} objects links none vacant no_links =
     let pooled = pooled_first has_word no_word refl links no_links vacant in
@@ -256,7 +257,7 @@ module _ {T : Type 0} where
       vacant = left;
     }
 
-module _ {T K A : Type 0} {objects : Objects (Slot T)} {links : PlainTable (OneWord K) A} {vacant : Option Place} {len : ℕ} (k : IsKept objects links vacant len) where
+module _ {T K A : Type 0} {objects : Objects (Slot T)} {links : PlainTable (OneWord K) A ⊤} {vacant : Option Place} {len : ℕ} (k : IsKept objects links vacant len) where
   abbrev pub members : List Place
   members = k.members
 
@@ -279,7 +280,7 @@ module _ {T K A : Type 0} {objects : Objects (Slot T)} {links : PlainTable (OneW
     by (p ∷ s) head usable = (p, usable.0)
 
   -- AFTER THE TABLE HAS GROWN
-  pub kept_grown : {grown : PlainTable (OneWord K) A} → Grows (plain_table links) (plain_table grown) → IsKept objects grown vacant len
+  pub kept_grown : {grown : PlainTable (OneWord K) A ⊤} → Grows (plain_table links) (plain_table grown) → IsKept objects grown vacant len
   kept_grown grows = record { members = members; keeps = keeps_grown k.keeps grows; listed = k.listed }
 
   -- A SLOT goes to the front of the list, beside which all that are usable are in it
@@ -287,7 +288,7 @@ module _ {T K A : Type 0} {objects : Objects (Slot T)} {links : PlainTable (OneW
   listed_pushed new {p} same q can out = k.listed q (subst IsUsable (same q out.0) can) out.1
 
   -- A NEW SLOT, with no value, goes there
-  pub kept_placed : (grown : PlainTable (OneWord K) A) {more : PlainTable (OneWord K) A} {front : Option Place} {new : Objects (Slot T)} {p : Place} → Grows (plain_table links) (plain_table grown)
+  pub kept_placed : (grown : PlainTable (OneWord K) A ⊤) {more : PlainTable (OneWord K) A ⊤} {front : Option Place} {new : Objects (Slot T)} {p : Place} → Grows (plain_table links) (plain_table grown)
       → Places objects new p (record { generation = 0; value = None }) → IsCovered (plain_table grown) p → LinksAlso is_linked (plain_table grown) (plain_table more) p
       → KeepsBeside (plain_table grown) (plain_table more) (p ∷ members) → ((s : List Place) → Shows successor (plain_table grown) vacant s → Shows successor (plain_table more) front (p ∷ s))
       → IsKept new more front len
@@ -299,7 +300,7 @@ module _ {T K A : Type 0} {objects : Objects (Slot T)} {links : PlainTable (OneW
       }
 
   -- THE FIRST VACANT SLOT is taken off the list and filled
-  module _ (after : PlainTable (OneWord K) A) (front : Option Place) (value : T) {new : Objects (Slot T)} {p : Place} {g : ℕ} (is : Some p ≡ first members)
+  module _ (after : PlainTable (OneWord K) A ⊤) (front : Option Place) (value : T) {new : Objects (Slot T)} {p : Place} {g : ℕ} (is : Some p ≡ first members)
       (popped : (s : List Place) → Shows successor (plain_table links) vacant s → Shows successor (plain_table after) front (drop 1 s)) (off : Unlinks is_linked (plain_table links) (plain_table after) p)
       (extent : (plain_table after).extent ≡ (plain_table links).extent)
       (fills : (s : Slot T) → object_at objects p ≡ Some s → (g ≡ s.generation) × (new ≡ with_object objects p (record s { value = Some value }))) where
@@ -366,7 +367,7 @@ module _ {T K A : Type 0} {objects : Objects (Slot T)} {links : PlainTable (OneW
       ];
     }
 
-    pub kept_vacated : h.generation + 1 ≢ 18446744073709551615 → {more : PlainTable (OneWord K) A} {front : Option Place} → LinksAlso is_linked (plain_table links) (plain_table more) h.place
+    pub kept_vacated : h.generation + 1 ≢ 18446744073709551615 → {more : PlainTable (OneWord K) A ⊤} {front : Option Place} → LinksAlso is_linked (plain_table links) (plain_table more) h.place
         → KeepsBeside (plain_table links) (plain_table more) (h.place ∷ members) → ((s : List Place) → Shows successor (plain_table links) vacant s → Shows successor (plain_table more) front (h.place ∷ s))
         → IsKept new more front (len - 1)
     kept_vacated last also frame pushed = record {

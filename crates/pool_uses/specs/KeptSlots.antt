@@ -1,5 +1,5 @@
 -- What slots keep of their pool and of the list of vacant ones.
-use Rattle.std.specs.Prelude.{◌≡◌, ◌<◌, ◌^◌, leb, ℕ, Bool, Option, Some, None, IsSome, List}
+use Rattle.std.specs.Prelude.{◌≡◌, ◌<◌, ◌^◌, leb, ℕ, Bool, Option, Some, None, IsSome, List, ⊤}
 use Rattle.std.specs.FinMap as map
 use Rattle.std.specs.List.{AllByRecursion}
 use Rattle.std.specs.Ordering.{nat_cmp}
@@ -20,13 +20,13 @@ use Rattle.pool_uses.specs.Slots.{Naming, IsUsable}
 
 -- the table of singly links, as clauses see it
 module _ {K : Type 0} where
-  abbrev pub is_linked : Link (OneWord K) → Bool
+  abbrev pub is_linked : Link (OneWord K) ⊤ → Bool
   is_linked = linked_by has_word
 
-  abbrev pub successor : Link (OneWord K) → Successor
+  abbrev pub successor : Link (OneWord K) ⊤ → Successor
   successor = successor_of next_word_of has_word
 
-  abbrev pub plain_table : {A : Type 0} → PlainTable (OneWord K) A → Table (Link (OneWord K))
+  abbrev pub plain_table : {A : Type 0} → PlainTable (OneWord K) A ⊤ → Table (Link (OneWord K) ⊤)
   plain_table links = table no_word links
 
 module _ {T : Type 0} where
@@ -46,7 +46,7 @@ naming_of objects len = record { slots = objects.values; count = len; is_full = 
 
 -- what slots keep within a call: the list has vacant slots that are not used up, a slot with a value is linked nowhere and not used up,
 -- and `len` is how many have one (`values`: by the index of their places)
-pub record Keeps {T K A : Type 0} (objects : Objects (Slot T)) (links : PlainTable (OneWord K) A) (vacant : Option Place) (members : List Place) (len : ℕ) : Type 0 where
+pub record Keeps {T K A : Type 0} (objects : Objects (Slot T)) (links : PlainTable (OneWord K) A ⊤) (vacant : Option Place) (members : List Place) (len : ℕ) : Type 0 where
   pub shown : Shows successor (plain_table links) vacant members
   pub usable : AllByRecursion (λ p. IsUsable (object_at objects p)) members
   pub pooled : IsPooled is_linked objects (plain_table links)
@@ -57,7 +57,7 @@ pub record Keeps {T K A : Type 0} (objects : Objects (Slot T)) (links : PlainTab
   pub count : len ≡ map.len values
 
 -- WHAT SLOTS KEEP: that, and each slot that is vacant and not used up is in the list
-pub record IsKept {T K A : Type 0} (objects : Objects (Slot T)) (links : PlainTable (OneWord K) A) (vacant : Option Place) (len : ℕ) : Type 0 where
+pub record IsKept {T K A : Type 0} (objects : Objects (Slot T)) (links : PlainTable (OneWord K) A ⊤) (vacant : Option Place) (len : ℕ) : Type 0 where
   pub members : List Place
   pub keeps : Keeps objects links vacant members len
   pub listed : (p : Place) → IsUsable (object_at objects p) → IsMember p members

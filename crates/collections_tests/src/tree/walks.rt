@@ -1,13 +1,12 @@
 //! Walks over the objects of a tree, walks that take its members off, and calls on whole trees.
 
 ghost use Rattle.ic_rbtree.specs.Iter.{CanWalk};
-ghost use Rattle.ic_rbtree.specs.PlainTrees.{plain_table, PlainShowsSome};
+ghost use Rattle.ic_rbtree.specs.PlainTrees.{PlainShowsSome};
 ghost use Rattle.ic_rbtree.specs.Tree.{root_of};
-ghost use Rattle.ic_link_ops.specs.ThreeWords.{node_of};
 
 use crate::notes::{same, write_values};
 use crate::tree::trees::{OwnKey, tree_of};
-use ic_link_ops::rbtree::LinkOps;
+use ic_link_ops::rbtree::{LinkOps, RBTreeOps};
 use ic_rbtree::{Bound, Iter, RBTree};
 use ic_test_support::answers::object;
 use ic_test_support::notes::Text;
@@ -15,8 +14,11 @@ use ic_test_support::tables::write_linked;
 use ic_unsafe_ref::Values;
 
 // Notes the object that a copy of the walk gives from the back, and then what the walk gives at both ends in turn, until neither gives one.
-pub(crate) fn write_walk<O: Values<u64>>(notes: &mut Text, mut walk: Iter<'_, OwnKey, LinkOps, O>)
-    requires can { CanWalk node_of (λ links. plain_table links) O.values walk }
+pub(crate) fn write_walk<L: RBTreeOps, O: Values<u64>>(
+    notes: &mut Text,
+    mut walk: Iter<'_, OwnKey, L, O>,
+)
+    requires can { CanWalk L.node L.table O.values walk }
 {
     if let Ok(mut copy) = walk.clone() {
         write_values(notes, &[copy.next_back()]);

@@ -1,6 +1,6 @@
 //! The way from the root to where a key belongs, by one look a member.
 
-ghost use Rattle.std.specs.Prelude.{◌≡◌, ◌+◌, ◌<◌, true, None, cond, List};
+ghost use Rattle.std.specs.Prelude.{◌≡◌, ◌+◌, ◌<◌, true, IsSome, cond, List};
 ghost use Rattle.std.specs.Bool.{OnTrue};
 ghost use Rattle.std.specs.Ordering.{is_eq};
 ghost use Rattle.std.specs.declared.cmp.Ordering.{Ordering};
@@ -30,7 +30,7 @@ pub struct Descent {
     /// The member behind the gap.
     pub back: End,
     /// The last member that compared equal, which may be behind the gap.
-    pub equal: End,
+    pub(crate) equal: End,
 }
 
 // Whether a descent goes left at a member that answers so, where it turns to the side `equals` at an equal one.
@@ -145,21 +145,21 @@ fn pick(takes_left: bool, left: Option<Place>, right: Option<Place>) -> Option<P
     picked.get()
 }
 
-// Whether a member has no child.
+// Whether a member has both children.
 #[inline]
-fn are_none(left: Option<Place>, right: Option<Place>) -> bool
-    ensures { OnTrue result ((left ≡ None) × (right ≡ None)) }
+fn are_some(left: Option<Place>, right: Option<Place>) -> bool
+    ensures { OnTrue result (IsSome left × IsSome right) }
 {
-    left.is_none() && right.is_none()
+    left.is_some() && right.is_some()
 }
 
 // Goes down from the root to a gap: left of the members that are greater than what is searched, right of those that are
 // less, and past equal ones to the side `equals`.
 //
 // Where the turn is guessed, each side tests its own child, so that the two loads are two branches. One load from an address that is
-// picked would wait for each comparison, in a tree that memory keeps for twice as long. Where it is picked, a test of both children stands
-// between the loads and the choice: the compiler would else make one load of them, from a picked address. The left child is read before the
-// comparison in both, so that where the table's entries stand is read once.
+// picked would wait for each comparison, in a tree that memory keeps for twice as long. Where it is picked, a test of both children behind
+// the loop, which never holds, keeps both loads: the compiler would else make them one, from a picked address. The left child is read
+// before the comparison in both, so that where the table's entries stand is read once.
 #[inline]
 pub(crate) fn descend<L: RBTreeOps, V, P: Probe<V>, O: Values<V>>(
     links: &L,
@@ -183,11 +183,13 @@ pub(crate) fn descend<L: RBTreeOps, V, P: Probe<V>, O: Values<V>>(
         if let Turn::Picked = turn {
             let right = links.right(place);
             let goes_left = descent.look(objects, probe, place, equals);
-            let next = pick(goes_left, left, right);
-            if are_none(left, right) {
+            let Some(next) = pick(goes_left, left, right) else {
+                if are_some(left, right) {
+                    return Descent::new();
+                }
                 return descent;
-            }
-            at = next;
+            };
+            at = Some(next);
         } else if descent.look(objects, probe, place, equals) {
             let Some(next) = left else {
                 return descent;

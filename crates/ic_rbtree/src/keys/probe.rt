@@ -78,7 +78,8 @@ impl<A: KeyAdapter> Probe<A::Value> for KeyProbe<'_, A> {
     #[inline]
     fn compare(&mut self, value: &A::Value) -> Ordering {
         self.looks += 1;
-        self.key.cmp(self.adapter.get_key(value))
+        // The value's key stands in front, so that a search picks its way by one flag of the processor: `v < k`, and not `k > v`.
+        self.adapter.get_key(value).cmp(self.key).reverse()
     }
 }
 

@@ -13,5 +13,5 @@ returns g c =
     let stands : Stands (Shows g.L.RBTreeOps.node) g.L.LinkOps.table (site_of c.front.result) = stands_first s.members (rw (e.links, e.tree) s.shown) (e.position s.members s.shown) in
     record {
       member = rw (← e.links, ← e.tree) (position_member stands c.get_ptr.result c.get_ptr.ensures);
-      placed = position_placed stands c.args.objects.now (λ s u shown other. one_sequence shown other) (rw (e.links, e.tree) s) c.get_ptr.result c.get_ptr.ensures;
+      placed = position_placed stands (g.O.Values.values c.args.objects.now) (λ s u shown other. one_sequence shown other) (rw (e.links, e.tree) s) c.get_ptr.result c.get_ptr.ensures;
     }

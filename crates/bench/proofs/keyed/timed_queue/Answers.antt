@@ -1,7 +1,8 @@
 use Rattle.std.proofs.Common.{subst}
 use Rattle.ic_unsafe_ref.specs.declared.place.Place.{Place}
 use Rattle.ic_link_ops.specs.Sequences.{IsAbsent}
-use Rattle.bench.proofs.Raising.{placed_still, sorted_beside}
+use Rattle.ic_rbtree.proofs.SortedKeys.{sorted_beside}
+use Rattle.bench.proofs.Raising.{placed_still, raised}
 use Rattle.bench.proofs.keyed.timed_queue.Goals as goal
 use Rattle.bench.proofs.keyed.timed_queue.Goals.{in-Some, in_default}
 
@@ -12,8 +13,8 @@ insert-requires-clause-object g c =
 pub insert-requires-clause-sorted : goal.insert-requires-clause-sorted
 insert-requires-clause-sorted g c =
     let off = c.remove.ensures in
-    sorted_beside c.loop-operation.objects c.raise.new.objects c.in-Some.place _ c.raise.ensures
-    (λ s shown. subst (λ (a : Place). IsAbsent a s) c.new.ensures (off.gone s shown))
+    sorted_beside (λ v. v) c.loop-operation.objects c.raise.new.objects c.in-Some.place (raised c.loop-operation.objects c.raise.new.objects c.in-Some.place _ _ c.raise.ensures)
+    (λ s shown. subst (λ (a : Place). IsAbsent a s) c.new.ensures (off.gone s shown)) (λ s shown out. shown)
     (off.sorted c.loop-operation.objects c.loop-operation.invariant.sorted)
 
 pub loop-operation-preserved : goal.loop-operation-preserved

@@ -4,10 +4,10 @@ use Rattle.ic_link_ops.proofs.LinkedSets.{linked_again}
 use Rattle.ic_rbtree.specs.PlainTrees as trees
 use Rattle.ic_rbtree.specs.Tree.{root_of}
 use Rattle.ic_rbtree.proofs.PlainTrees.{plain_trees}
-use Rattle.ic_rbtree.proofs.SortedKeys.{sorted_less}
+use Rattle.ic_rbtree.proofs.SortedKeys.{sorted_less, sorted_beside}
 use Rattle.lru_cache.specs.Cache.{key_of}
 use Rattle.lru_cache.proofs.Exchanging.{exchanged_keys}
-use Rattle.lru_cache.proofs.Sorting.{sorted_alike, sorted_beside}
+use Rattle.lru_cache.proofs.Sorting.{sorted_alike}
 use Rattle.lru_cache.proofs.keys.renew.Goals as goal
 use Rattle.ic_unsafe_ref.proofs.Placing.{exchanged_puts, put_there, put_others, still_placed}
 
@@ -16,7 +16,7 @@ put-requires-clause-sorted g c =
     let off = c.take_off.ensures in
     let one = plain_trees.one (trees.plain_table c.args.links.now) (root_of c.args.by_key.now) in
     sorted_beside key_of c.args.objects.now c.exchange-gone.new.objects c.args.place (put_others (exchanged_puts c.exchange-gone.ensures.exchanged))
-    (λ s shown. plain_trees.free (trees.plain_table c.take_off.new.links) (root_of c.take_off.new.by_key) s c.args.place shown off.released.is)
+    (λ s shown. plain_trees.free (trees.plain_table c.take_off.new.links) (root_of c.take_off.new.by_key) s c.args.place shown off.released.is) (λ s shown out. shown)
     (sorted_less key_of c.args.objects.now one c.requires.member off.taken c.requires.sorted)
 
 pub put-requires-clause-object : goal.put-requires-clause-object

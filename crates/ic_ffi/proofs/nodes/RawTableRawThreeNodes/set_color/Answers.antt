@@ -1,8 +1,8 @@
 use Rattle.std.proofs.Common.{◌≡◌, length, ap, ◌∙◌, sym}
 use Rattle.ic_link_ops.specs.TreeWords.{one_if_black}
-use Rattle.ic_link_ops.proofs.EntryLemmas.{changes_only}
 use Rattle.ic_ffi.specs.Tables.{raw_entries}
 use Rattle.ic_ffi.proofs.Seen.{seen_changes, says_written, color_set}
+use Rattle.ic_ffi.proofs.Entries.{changes_only}
 use Rattle.ic_ffi.proofs.nodes.RawTableRawThreeNodes.set_color.Goals as goal
 use Rattle.ic_ffi.proofs.nodes.RawTableRawThreeNodes.set_color.Goals.{in-Red, in-Black}
 

@@ -1,7 +1,7 @@
 use Rattle.std.proofs.Common.{length}
-use Rattle.ic_link_ops.proofs.EntryLemmas.{changes_only}
 use Rattle.ic_ffi.specs.Tables.{raw_entries}
 use Rattle.ic_ffi.proofs.Seen.{seen_changes, says_written, parent_set}
+use Rattle.ic_ffi.proofs.Entries.{changes_only}
 use Rattle.ic_ffi.proofs.nodes.RawTableRawThreeNodes.set_parent.Goals as goal
 
 pub returns-clause-set : goal.returns-clause-set

@@ -1,8 +1,8 @@
 use Rattle.std.proofs.Common.{length, slice_index_or}
-use Rattle.ic_link_ops.proofs.EntryLemmas.{changes_only}
 use Rattle.ic_ffi.specs.Words.{no_tree_words}
 use Rattle.ic_ffi.specs.Tables.{raw_entries}
 use Rattle.ic_ffi.proofs.Seen.{seen_changes, says_written, right_set}
+use Rattle.ic_ffi.proofs.Entries.{changes_only}
 use Rattle.ic_ffi.proofs.nodes.RawTableRawThreeNodes.set_right.Goals as goal
 
 pub returns-clause-set : goal.returns-clause-set

@@ -1,7 +1,8 @@
 use Rattle.std.proofs.Common.{refl, sym, ap, ◌∙◌}
 use Rattle.ic_ffi.specs.Tables.{raw_entries}
-use Rattle.ic_link_ops.proofs.EntryLemmas.{changes_only, entry_read, entry_same}
+use Rattle.ic_link_ops.proofs.EntryLemmas.{entry_read, entry_same}
 use Rattle.ic_link_ops.proofs.StepLemmas.{links_only}
+use Rattle.ic_ffi.proofs.Entries.{changes_only}
 use Rattle.ic_ffi.proofs.table.RawTableLinkOps.acquire_link.Goals as goal
 
 pub returns-clause-frame : goal.returns-clause-frame

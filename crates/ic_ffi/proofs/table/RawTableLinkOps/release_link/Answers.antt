@@ -1,9 +1,10 @@
 use Rattle.std.proofs.Common.{ap, ◌∙◌}
 use Rattle.ic_unsafe_ref.specs.Places.{index_of}
 use Rattle.ic_link_ops.specs.EntryLaws.{linked_in_range}
-use Rattle.ic_link_ops.proofs.EntryLemmas.{changes_only, entry_same}
+use Rattle.ic_link_ops.proofs.EntryLemmas.{entry_same}
 use Rattle.ic_link_ops.proofs.StepLemmas.{unlinks_only}
 use Rattle.ic_ffi.specs.Tables.{raw_entries}
+use Rattle.ic_ffi.proofs.Entries.{changes_only}
 use Rattle.ic_ffi.proofs.table.RawTableLinkOps.release_link.Goals as goal
 
 pub returns-clause-frame : goal.returns-clause-frame

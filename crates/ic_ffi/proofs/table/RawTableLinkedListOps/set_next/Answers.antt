@@ -1,7 +1,7 @@
 use Rattle.std.proofs.Common.{refl, ◌∙◌}
-use Rattle.ic_link_ops.proofs.EntryLemmas.{changes_only, next_set}
+use Rattle.ic_link_ops.proofs.EntryLemmas.{next_set}
 use Rattle.ic_ffi.specs.Tables.{neighbors_of}
-use Rattle.ic_ffi.proofs.Entries.{says_written}
+use Rattle.ic_ffi.proofs.Entries.{says_written, changes_only}
 use Rattle.ic_ffi.proofs.table.RawTableLinkedListOps.set_next.Goals as goal
 
 pub returns-clause-set : goal.returns-clause-set

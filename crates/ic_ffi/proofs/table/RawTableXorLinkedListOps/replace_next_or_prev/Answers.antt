@@ -1,8 +1,7 @@
 use Rattle.std.proofs.Common.{refl, ◌∙◌, ap, bit_xor}
 use Rattle.ic_unsafe_ref.specs.Places.{word_of}
 use Rattle.ic_link_ops.specs.XorLaws.{joins_replaced}
-use Rattle.ic_link_ops.proofs.EntryLemmas.{changes_only}
-use Rattle.ic_ffi.proofs.Entries.{says_written}
+use Rattle.ic_ffi.proofs.Entries.{says_written, changes_only}
 use Rattle.ic_ffi.proofs.table.RawTableXorLinkedListOps.replace_next_or_prev.Goals as goal
 
 pub returns-clause-replaced : goal.returns-clause-replaced

@@ -1,4 +1,4 @@
-use Rattle.ic_link_ops.proofs.EntryLemmas.{changes_only}
+use Rattle.ic_ffi.proofs.Entries.{changes_only}
 use Rattle.ic_ffi.proofs.table.RawTableXorLinkedListOps.set.Goals as goal
 
 pub returns-clause-frame : goal.returns-clause-frame

@@ -1,5 +1,4 @@
-use Rattle.std.proofs.Common.{◌≡◌, Bool, true, false, cond, Option, Some, None, List, refl, sym, ap, ◌∙◌, subst, arith}
-use Rattle.std.specs.Bool.{OnTrue}
+use Rattle.std.proofs.Common.{◌≡◌, Bool, true, false, cond, Option, Some, None, List, refl, sym, ap, ◌∙◌, arith}
 use Rattle.ic_unsafe_ref.specs.declared.place.Place.{Place}
 use Rattle.ic_link_ops.specs.RedBlackTree.{Node, Shows, node_at}
 use Rattle.ic_link_ops.specs.Frames.{child_on}
@@ -7,7 +6,7 @@ use Rattle.ic_rbtree.specs.Comparing.{compared}
 use Rattle.ic_rbtree.specs.Descents.{side_of}
 use Rattle.ic_rbtree.proofs.Sending.{Sent, sent_first, sent_linked, sent_room, sent_placed, sent_on, sent_ends, sent_looks}
 use Rattle.ic_rbtree.proofs.keys.descent.descend.Goals as goal
-use Rattle.ic_rbtree.proofs.keys.descent.descend.Goals.{Then-look, After-right, After-pick-next, Then-are_none}
+use Rattle.ic_rbtree.proofs.keys.descent.descend.Goals.{Then-look, After-right, After-pick}
 use Rattle.ic_rbtree.proofs.keys.descent.descend.Given.{Over}
 
 pub loop-at-init : goal.loop-at-init
@@ -111,28 +110,14 @@ picked_child : (left : Bool) (n : Node) {a b : Option Place} → a ≡ n.left �
 picked_child true n a_is b_is = a_is
 picked_child false n a_is b_is = b_is
 
-to_picked : (g : Over) (c : After-pick-next g) (s : List Place) (h : Shows g.L.RBTreeOps.node (g.L.LinkOps.table c.args.links.now) c.args.root s)
-    → Sent g.L.RBTreeOps.node (g.L.LinkOps.table c.args.links.now) c.args.root (compared (g.P.Probe.order c.args.probe.now) (g.O.Values.values c.args.objects.now)) c.args.equals h.tree c.pick-next.result c.look-goes_left.new.self
+to_picked : (g : Over) (c : After-pick g) (next : Option Place) → c.pick.result ≡ next → (s : List Place) (h : Shows g.L.RBTreeOps.node (g.L.LinkOps.table c.args.links.now) c.args.root s)
+    → Sent g.L.RBTreeOps.node (g.L.LinkOps.table c.args.links.now) c.args.root (compared (g.P.Probe.order c.args.probe.now) (g.O.Values.values c.args.objects.now)) c.args.equals h.tree next c.look-goes_left.new.self
     (g.P.Probe.count c.args.probe.now) (g.P.Probe.count c.look-goes_left.new.probe)
-to_picked g c s h =
+to_picked g c next is s h =
     sent_on g.L.RBTreeOps.node (c.loop-at.invariant.each s h) c.in-Some.is c.look-goes_left.result c.look-goes_left.ensures.passed
     (ap (λ o. compared o (g.O.Values.values c.args.objects.now) c.in-Some.place) c.loop-at.invariant.same) c.look-goes_left.ensures.left refl
-    (c.pick-next.ensures ∙ picked_child c.look-goes_left.result (node_at g.L.RBTreeOps.node (g.L.LinkOps.table c.args.links.now) c.in-Some.place) c.left-left.ensures c.right-right.ensures)
+    (sym is ∙ c.pick.ensures ∙ picked_child c.look-goes_left.result (node_at g.L.RBTreeOps.node (g.L.LinkOps.table c.args.links.now) c.in-Some.place) c.left-left.ensures c.right-right.ensures)
     c.look-goes_left.ensures.counted
-
-no_child : (left : Bool) {a b : Option Place} → (a ≡ None) × (b ≡ None) → cond left a b ≡ None
-no_child true are = are.0
-no_child false are = are.1
-
-leaf_next : (g : Over) (c : Then-are_none g) → c.pick-next.result ≡ None
-leaf_next g c = c.pick-next.ensures ∙ no_child c.look-goes_left.result (subst (λ x. OnTrue x ((c.left-left.result ≡ None) × (c.right-right.result ≡ None))) c.if-are_none.true c.are_none.ensures)
-
-pub returns-then-are_none-clause-ends : goal.returns-then-are_none-clause-ends
-returns-then-are_none-clause-ends g c s h = sent_ends g.L.RBTreeOps.node (to_picked g c.before.before s h) (leaf_next g c)
-
-pub returns-then-are_none-clause-looks : goal.returns-then-are_none-clause-looks
-returns-then-are_none-clause-looks g c s h =
-    sent_looks g.L.RBTreeOps.node g.P.Probe.order g.P.Probe.count h (to_picked g c.before.before s h) (leaf_next g c) (c.look-goes_left.ensures.same ∙ c.loop-at.invariant.same)
 
 pub loop-at-smaller-in-Picked : goal.loop-at-smaller-in-Picked
 loop-at-smaller-in-Picked g c =
@@ -141,4 +126,11 @@ loop-at-smaller-in-Picked g c =
     omega (arith, room, c.look-goes_left.ensures.counted)
 
 pub loop-at-preserved-in-Picked : goal.loop-at-preserved-in-Picked
-loop-at-preserved-in-Picked g c = record { each = to_picked g c.before.before; same = c.look-goes_left.ensures.same ∙ c.loop-at.invariant.same }
+loop-at-preserved-in-Picked g c = record { each = to_picked g c.before (Some c.in-Some-pick.next) c.in-Some-pick.is; same = c.look-goes_left.ensures.same ∙ c.loop-at.invariant.same }
+
+pub returns-in_default-pick-clause-ends : goal.returns-in_default-pick-clause-ends
+returns-in_default-pick-clause-ends g c s h = sent_ends g.L.RBTreeOps.node (to_picked g c.before.before.before None c.in_default-pick.is s h) refl
+
+pub returns-in_default-pick-clause-looks : goal.returns-in_default-pick-clause-looks
+returns-in_default-pick-clause-looks g c s h =
+    sent_looks g.L.RBTreeOps.node g.P.Probe.order g.P.Probe.count h (to_picked g c.before.before.before None c.in_default-pick.is s h) refl (c.look-goes_left.ensures.same ∙ c.loop-at.invariant.same)

@@ -1,0 +1,9 @@
+use Rattle.ic_rbtree.proofs.SortedKeys.{new_is_sorted}
+use Rattle.bench.proofs.beside.empty.Goals as goal
+
+pub returns : goal.returns
+returns g c =
+    let e = c.clear.ensures in
+    let s = c.requires.sorted.placed in
+    let extent = (e.frame s.members s.shown).extent in
+    record { sorted = new_is_sorted (λ v. v) _ e.empty; values = g.met.L.LinkValues.values_stay _ _ extent; extent = extent }

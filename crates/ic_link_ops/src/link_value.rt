@@ -1,0 +1,149 @@
+//! Values that a table keeps beside its links.
+//!
+//! ```text
+//! let mut links: rbtree::LinkOpsWith<u64> = PlainTable::new(rt.alloc());
+//! links.cover(3)?;
+//! links.set_value(third, deadline); // 0 until then
+//! tree.insert_keyed(&mut links, third)?;
+//! tree.find(&links, &links, &deadline) // the table is its own values
+//! ```
+
+ghost use Rattle.std.specs.Prelude.{◌≡◌, ◌≢◌, true, ℕ, List, [], length};
+ghost use Rattle.ic_unsafe_ref.specs.declared.place.Place.{Place};
+ghost use Rattle.ic_unsafe_ref.specs.Objects.{is_placed, with_object};
+ghost use Rattle.ic_link_ops.specs.Tables.{IsCovered};
+
+use crate::lent_table::LentTable;
+use crate::link::Words;
+use crate::link_ops::LinkOps;
+use crate::table::PlainTable;
+use ic_unsafe_ref::{Place, Values};
+use std::alloc::Allocator;
+
+/// What stands beside each link of a table: nothing, which is `()`, a `u64`, or a type of your own.
+pub trait LinkValue: Drop {
+    // What stands beside a link until a value is set.
+    ghost initial: { Self };
+
+    // The values of a table as numbers, which are part of its extent: so no call of a collection changes them.
+    ghost told: { List Self → List ℕ };
+
+    /// The value that stands beside a link until one is set.
+    fn initial() -> Self
+        ensures { result ≡ initial };
+
+    // The law: the numbers tell the values.
+    ghost tells: { (s t : List Self) → length s ≡ length t → told s ≡ told t → s ≡ t };
+}
+
+/// Nothing beside the links. It takes no memory.
+impl LinkValue for () {
+    ghost use Rattle.ic_link_ops.specs.ValuesBeside.{all_alike};
+
+    ghost initial = { tt };
+
+    ghost told = { λ _. [] };
+
+    fn initial() {}
+
+    ghost tells = { λ s t e _. all_alike s t e };
+}
+
+/// A number beside each link, a key, say: 0 at first.
+impl LinkValue for u64 {
+    ghost initial = { 0 };
+
+    ghost told = { λ s. s };
+
+    fn initial() -> u64 {
+        0
+    }
+
+    ghost tells = { λ s t _ e. e };
+}
+
+/// A table that keeps a value beside each link. A look at a member reads one entry, which has the value and the links.
+///
+/// A value stands at each covered place, and no call of a collection changes one.
+pub trait LinkValues<V>: LinkOps + Values<V> {
+    // Two entries say the same of their place's link.
+    ghost LinksAlike: { Self.Entry → Self.Entry → Type 0 };
+
+    /// Sets the value beside the link of `place`, linked or not. It asks that the place is covered. O(1).
+    ///
+    /// The links stay. A tree finds its members by their keys, so set the key of a place that is no member.
+    fn set_value(&mut self, place: Place, value: V)
+        requires covered { IsCovered (Self.table self.old) place }
+        ensures value { Self.values self.new ≡ with_object (Self.values self.old) place value }
+        ensures links { (q : Place) → LinksAlike ((Self.table self.old).entry q) ((Self.table self.new).entry q) }
+        ensures others { (q : Place) → q ≢ place → (Self.table self.new).entry q ≡ (Self.table self.old).entry q }
+        ensures covers { (Self.table self.new).extent.places ≡ (Self.table self.old).extent.places }
+        ensures no_step { Self.Does self.old self.new [] };
+
+    // The laws: a value stands at each covered place, and the values are part of the extent.
+    ghost covered_has_value: { (t : Self) (p : Place) → IsCovered (Self.table t) p → is_placed (Self.values t) p ≡ true };
+
+    ghost values_stay: { (old new : Self) → (Self.table new).extent ≡ (Self.table old).extent → Self.values new ≡ Self.values old };
+}
+
+impl<W: Words, A: Allocator, V: LinkValue> Values<V> for PlainTable<W, A, V> {
+    ghost use Rattle.ic_unsafe_ref.specs.Objects.{at_indexes};
+    ghost use Rattle.ic_link_ops.specs.PlainTables.{entries, values_beside};
+
+    ghost values = { λ t. at_indexes (values_beside (entries t)) };
+
+    #[inline]
+    fn value(&self, place: Place) -> &V {
+        &self.entries[place.index()].value
+    }
+}
+
+impl<W: Words, A: Allocator, V: LinkValue> LinkValues<V> for PlainTable<W, A, V> {
+    ghost use Rattle.ic_link_ops.specs.Links.{words_of};
+    ghost use Rattle.ic_link_ops.specs.PlainTables.{entries};
+    ghost use Rattle.ic_link_ops.specs.ValuesBeside.{placed_where_covered, values_kept};
+
+    ghost LinksAlike = { λ e f. words_of f ≡ words_of e };
+
+    #[inline]
+    fn set_value(&mut self, place: Place, value: V) {
+        let entry = &mut self.entries[place.index()];
+        entry.value = value;
+    }
+
+    ghost covered_has_value = { λ t p covered. placed_where_covered (entries t) p covered };
+
+    ghost values_stay = { λ old new e. values_kept V.told V.tells (entries old) (entries new) e };
+}
+
+impl<W: Words, V: LinkValue> Values<V> for LentTable<'_, W, V> {
+    ghost use Rattle.ic_unsafe_ref.specs.Objects.{at_indexes};
+    ghost use Rattle.ic_link_ops.specs.PlainTables.{values_beside};
+    ghost use Rattle.ic_link_ops.specs.LentTables.{lent_entries};
+
+    ghost values = { λ t. at_indexes (values_beside (lent_entries t)) };
+
+    #[inline]
+    fn value(&self, place: Place) -> &V {
+        let entries = &*self.entries;
+        &entries[place.index()].value
+    }
+}
+
+impl<W: Words, V: LinkValue> LinkValues<V> for LentTable<'_, W, V> {
+    ghost use Rattle.ic_link_ops.specs.Links.{words_of};
+    ghost use Rattle.ic_link_ops.specs.LentTables.{lent_entries};
+    ghost use Rattle.ic_link_ops.specs.ValuesBeside.{placed_where_covered, lent_kept};
+
+    ghost LinksAlike = { λ e f. words_of f ≡ words_of e };
+
+    #[inline]
+    fn set_value(&mut self, place: Place, value: V) {
+        let link = &mut self.entries[place.index()];
+        link.value = value;
+    }
+
+    ghost covered_has_value = { λ t p covered. placed_where_covered (lent_entries t) p covered };
+
+    ghost values_stay = { λ old new e. lent_kept V.told V.tells (lent_entries old) (lent_entries new) e };
+}

@@ -1,0 +1,45 @@
+//! Values beside links: what stands there at first, and what a call leaves there.
+
+ghost use Rattle.ic_link_ops.specs.Tables.{IsCovered};
+
+use crate::fixture::{at, check};
+use ic_link_ops::rbtree::{LinkOpsWith, ThreeWords};
+use ic_link_ops::{LentTable, Link, LinkValues};
+use ic_unsafe_ref::{Place, Values};
+
+// The value beside a link: at first, as it is set, and once the place is linked.
+fn values<L: LinkValues<u64>>(links: &mut L, place: Place, value: u64) -> [u64; 3]
+    requires covered { IsCovered (L.table links.old) place }
+    ensures covered { IsCovered (L.table links.new) place }
+{
+    let first = *links.value(place);
+    links.set_value(place, value);
+    let set = *links.value(place);
+    let _ = links.acquire_link(place);
+    [first, set, *links.value(place)]
+}
+
+// The same by a view of the links, whether the place is linked there already or not.
+fn values_by_view(links: &mut [Link<ThreeWords, u64>], place: Place, value: u64) -> [u64; 3] {
+    let mut links = LentTable::new(links);
+    if place.index() < links.covers() {
+        return values(&mut links, place, value);
+    }
+    [0; 3]
+}
+
+#[test]
+fn values_beside_links(rt: HostRuntime) {
+    let mut links: LinkOpsWith<u64> = LinkOpsWith::new(rt.alloc());
+    let (place, other) = (at(&rt, 0), at(&rt, 1));
+    let _ = links.cover(2);
+    if place.index() >= links.covers() {
+        return check(&rt, false);
+    }
+    let found = [
+        values(&mut links, place, 30),
+        values_by_view(links.lend(), place, 50),
+        values_by_view(links.lend(), other, 70),
+    ];
+    check(&rt, found == [[0, 30, 30], [30, 50, 50], [0, 70, 70]]);
+}

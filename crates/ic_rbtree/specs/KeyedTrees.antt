@@ -1,0 +1,24 @@
+-- Trees over the table with a number beside each link, the key of its place.
+use Rattle.std.specs.Prelude.{ℕ, Option, List}
+use Rattle.ic_unsafe_ref.specs.declared.place.Place.{Place}
+use Rattle.ic_unsafe_ref.specs.Objects.{Objects, at_indexes}
+use Rattle.ic_link_ops.specs.declared.link.Link.{Link}
+use Rattle.ic_link_ops.specs.declared.rbtree.ThreeWords.{ThreeWords}
+use Rattle.ic_link_ops.specs.declared.table.PlainTable.{PlainTable}
+use Rattle.ic_link_ops.specs.PlainTables.{entries, table_beside, values_beside}
+use Rattle.ic_link_ops.specs.RedBlackTree.{Shows}
+use Rattle.ic_link_ops.specs.Tables.{Table}
+use Rattle.ic_link_ops.specs.ThreeWords.{no_words, node_of}
+use Rattle.ic_rbtree.specs.SortedObjects.{ShowsSorted}
+
+module _ {A : Type 0} where
+  -- what clauses see of it, and its keys by place
+  abbrev pub keyed_table : PlainTable ThreeWords A ℕ → Table (Link ThreeWords ℕ)
+  keyed_table links = table_beside no_words 0 (λ s. s) links
+
+  abbrev pub keys_of : PlainTable ThreeWords A ℕ → Objects ℕ
+  keys_of links = at_indexes (values_beside (entries links))
+
+  -- it shows a tree in the order of its keys
+  abbrev pub ShowsKeys : PlainTable ThreeWords A ℕ → Option Place → Type 0
+  ShowsKeys links root = ShowsSorted (λ (v : ℕ). v) (Shows node_of (keyed_table links) root) (keys_of links)
