@@ -3,8 +3,8 @@
 //! ```text
 //! let mut links: rbtree::LinkOpsWith<u64> = PlainTable::new(rt.alloc());
 //! links.cover(3)?;
-//! links.set_value(third, deadline); // 0 until then
-//! tree.insert_keyed(&mut links, third)?;
+//! links.set_value(job.place(), deadline); // 0 until then
+//! tree.insert_keyed(&mut links, job)?;
 //! tree.find(&links, &links, &deadline) // the table is its own values
 //! ```
 

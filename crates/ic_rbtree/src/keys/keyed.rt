@@ -1,8 +1,8 @@
 //! Inserts in a table that keeps the keys.
 //!
 //! ```text
-//! links.set_value(place, 5);
-//! tree.insert_keyed(&mut links, place)?; // behind the members whose keys are not greater
+//! links.set_value(object.place(), 5);
+//! tree.insert_keyed(&mut links, object)?; // behind the members whose keys are not greater
 //! ```
 
 ghost use Rattle.std.specs.Prelude.{◌≡◌, true, OnOk, OnErr, IfErr, List, [], ◌∷◌};
