@@ -134,7 +134,7 @@ fn keyed(name: &str, watch: &mut Watch<'_>, room: &Room, size: Size) -> Option<u
 }
 
 /// Does the workload, and returns its checksum. Behind the workload of a doubly or singly linked list `-lent` stands for a lent table, and
-/// behind one of a tree by its keys `-flat` for keys in an array. Without memory there is no checksum.
+/// behind one of a tree by its keys `-flat` for keys in an array, and `-keyed` for keys beside the links. Without memory there is no checksum.
 pub fn checksum(name: &str, watch: &mut Watch<'_>, size: Size) -> Option<u64> {
     let mut room = make_room(watch.rt.alloc(), size.members)?;
     let (work, is_other) = match name.split_once('-') {
