@@ -12,5 +12,6 @@
 #![tactic(auto)]
 
 pub mod linked_list;
+pub mod rbtree;
 pub mod singly_linked_list;
 pub mod xor_linked_list;

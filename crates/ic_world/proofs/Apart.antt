@@ -22,7 +22,7 @@ module _ {A V : Type 0} (adapter : A) {objects : Objects V} {room : ℕ} {ts : L
   seen None s e = absurd cc
   seen (Some k) s e = (k, refl, some_same e)
 
-  seen_at : (c : ℕ) (s : Sequence) → collection (family_of adapter objects ts cs) c ≡ Some s → (k : Collection V) × (at cs c ≡ Some k) × (seen_as k (sequence ts k) ≡ s)
+  pub seen_at : (c : ℕ) (s : Sequence) → collection (family_of adapter objects ts cs) c ≡ Some s → (k : Collection V) × (at cs c ≡ Some k) × (seen_as k (sequence ts k) ≡ s)
   seen_at c s e = seen (at cs c) s (sym (collection_at adapter objects ts cs c) ∙ e)
 
   pub are_apart : AreApart (family_of adapter objects ts cs)

@@ -25,4 +25,5 @@ pub mod Neighbors
 pub mod Seeking
 pub mod Inserted
 pub mod Apart
+pub mod Sound
 pub mod Meant

@@ -101,6 +101,7 @@ impl<A: KeyAdapter, M: Allocator + Copy> World<A, M> {
     ghost use Rattle.ic_world.specs.Replies.{reply_of, field_and_kind};
     ghost use Rattle.ic_world.specs.Splices.{IsBesideOf};
     ghost use Rattle.ic_world.specs.Apart.{AreApart, AreAllPlaced};
+    ghost use Rattle.ic_world.specs.Sound.{IsSound};
 
     /// Makes an empty collection in a field, with its cursor at null, and returns its number.
     ///
@@ -282,6 +283,14 @@ impl<A: KeyAdapter, M: Allocator + Copy> World<A, M> {
         ensures { Step A.Key.cmp A.key_of self.old (Command.SpliceBefore collection given) (reply_of (λ _. done) result) self.new }
     {
         self.splice(collection, given, true)
+    }
+
+    /// Says what always holds: an object stands at each linked place; the field of each collection is there and carries its kind, its
+    /// members are linked in it, and its cursor is null or a member; and no member is shared. It does nothing.
+    pub fn family_is_sound(&self)
+        ensures { IsSound self.now }
+    {
+        let _ = self.collections.len();
     }
 
     /// Says that no place stands twice in a collection, nor in two collections of one field. It does nothing.

@@ -7,11 +7,9 @@ use Rattle.std.specs.List.{filter, list_all}
 use Rattle.std.specs.declared.cmp.Ordering.{Ordering}
 use Rattle.ic_unsafe_ref.specs.declared.place.Place.{Place}
 use Rattle.ic_unsafe_ref.specs.Objects.{object_at}
-use Rattle.ic_link_ops.specs.PlacedObjects.{ArePlaced}
 use Rattle.ic_link_ops.specs.Sequences.{Cut, join, insert, first, last}
-use Rattle.ic_link_ops.proofs.SequenceLemmas.{some_same}
 use Rattle.ic_rbtree.specs.Borders.{IsBorder, IsSortedFor, less_at}
-use Rattle.ic_rbtree.proofs.KeyLaws.{value_there, stays_sorted}
+use Rattle.ic_rbtree.proofs.KeyLaws.{value_there}
 use Rattle.ic_rbtree.proofs.SortedAnswers.{put_behind, for_key, found_first, vacant_finds, lower_first, upper_last, range_filter}
 use Rattle.ic_rbtree.proofs.SortedValues.{own_order_is}
 use Rattle.ic_world.specs.declared.call.Command.{Command}
@@ -25,7 +23,7 @@ use Rattle.ic_world.specs.Family.{Family, Sequence, collection, objects_of, is_p
 use Rattle.ic_world.specs.Calls.{Reply, found, looked, range, entry, State, key_at, own_at, names, InsertionReplies, Replies}
 use Rattle.ic_world.specs.Step.{Step, StepOn}
 use Rattle.ic_world.specs.Several.{state_in, with_state, sequence_of}
-use Rattle.ic_world_laws.specs.Sorted.{IsSortedIn, has_key, has_greater, is_greater, is_from, is_until, FindsFirst, FindsEnd, IsWithinBoth, PutsBehind, GoesBehind, IsSortedAfter, StaysSorted}
+use Rattle.ic_world_laws.specs.Sorted.{IsSortedIn, has_key, has_greater, is_greater, is_from, is_until, FindsFirst, FindsEnd, IsWithinBoth, PutsBehind, GoesBehind}
 use Rattle.ic_world_laws.proofs.StepLaws.{of_reply, of_range}
 
 -- a collection that was there is what it was set to
@@ -92,7 +90,7 @@ module _ {A V K : Type 0} {cmp : K → K → Ordering} (total : IsTotalOrder cmp
       → (at : Place → Ordering) → IsSortedFor at s.members → (gap : Cut) → join gap ≡ s.members → IsBorder (less_at at) gap → t.members ≡ insert gap p → PutsBehind cmp key_of old (less_at at) c p new s.members
   behind c p s is new t left at sorted gap cut border members = (sequence_of s.field t, there_is c s is new t left, members ∙ put_behind sorted gap cut border p)
 
-  -- AN OBJECT THAT IS PUT IN ORDER goes behind all that are not greater, and the tree stays sorted
+  -- AN OBJECT THAT IS PUT IN ORDER goes behind all that are not greater
   module _ (c : ℕ) (p : Place) (s : Sequence) (is : collection old c ≡ Some s) (sorted : IsSortedIn cmp key_of old s.members) (there : is_placed old p ≡ true)
       (new : Family A V) (t : State) (cursor : Option Place) (left : new ≡ with_state old c s.field t)
       (n : ℕ) (puts : InsertionReplies cmp (key_of old.adapter) (objects_of old) p cursor (state_in old s) (looked n) t) where
@@ -109,16 +107,8 @@ module _ {A V K : Type 0} {cmp : K → K → Ordering} (total : IsTotalOrder cmp
     puts_behind = behind c p s is new t left (own_at cmp (key_of old.adapter) (objects_of old) p)
         (subst (λ at. IsSortedFor at s.members) (sym own_is) (for_key total key_of old.adapter (objects_of old) (placed c s is) sorted (key_of old.adapter own.0))) puts.0.0 puts.0.1 puts.0.2.0 members_are
 
-    sorted_after : IsSortedAfter cmp key_of c new
-    sorted_after u is_u =
-        let here : IsSortedIn cmp key_of old (insert puts.0.0 p) =
-        stays_sorted total (key_of old.adapter) (objects_of old) p own.1 puts.0.0 (subst (ArePlaced (objects_of old)) (sym puts.0.1) (placed c s is)) (subst (IsSortedIn cmp key_of old) (sym puts.0.1) sorted)
-        (subst (λ at. IsBorder (less_at at) puts.0.0) own_is puts.0.2.0) in
-        subst (λ (z : Sequence). IsSortedIn cmp key_of new z.members) (some_same (sym (there_is c s is new t left) ∙ is_u))
-        (subst (λ w. IsSortedIn cmp key_of w t.members) (sym left) (subst (IsSortedIn cmp key_of old) (sym members_are) here))
-
   abbrev IsInOrder : ℕ → Place → Family A V → Sequence → Reply → Type 0
-  IsInOrder c p new s (looked n) = PutsBehind cmp key_of old (is_greater cmp key_of old p) c p new s.members × IsSortedAfter cmp key_of c new
+  IsInOrder c p new s (looked n) = PutsBehind cmp key_of old (is_greater cmp key_of old p) c p new s.members
   IsInOrder c p new s _ = Unit
 
   -- a call that inserts in order, wherever it leaves the cursor
@@ -128,7 +118,7 @@ module _ {A V K : Type 0} {cmp : K → K → Ordering} (total : IsTotalOrder cmp
   inserts c p call cursor named puts new n step s is sorted = of_reply cmp key_of c (insertion call) (IsInOrder c p new s) old new (looked n) step s is (λ r. tt) (λ there t replies left.
       let placed_p = (and_parts (is_placed old p) true (subst (λ ps. list_all (is_placed old) ps ≡ true) named there)).0 in
       let put = puts (state_in old s) t n replies in
-      (puts_behind c p s is sorted placed_p new t (cursor (state_in old s)) left n put, sorted_after c p s is sorted placed_p new t (cursor (state_in old s)) left n put))
+      puts_behind c p s is sorted placed_p new t (cursor (state_in old s)) left n put)
 
   put_by_key : (c : ℕ) (p : Place) (new : Family A V) (n : ℕ) → StepOn cmp key_of old c (insertion (insertions.Insert p)) (looked n) new
       → (s : Sequence) → collection old c ≡ Some s → IsSortedIn cmp key_of old s.members → IsInOrder c p new s (looked n)
@@ -139,16 +129,11 @@ module _ {A V K : Type 0} {cmp : K → K → Ordering} (total : IsTotalOrder cmp
   put_by_cursor c p = inserts c p (insertions.CursorInsert p) (λ s. s.cursor) refl (λ s t n h. h)
 
   pub goes_behind : (command : Command V K) (new : Family A V) (reply : Reply) → Step cmp key_of old command reply new → GoesBehind cmp key_of old command reply new
-  goes_behind (call.Insert c p) new (looked n) step = λ s is sorted. (put_by_key c p new n step s is sorted).0
-  goes_behind (call.CursorInsert c p) new (looked n) step = λ s is sorted. (put_by_cursor c p new n step s is sorted).0
+  goes_behind (call.Insert c p) new (looked n) step = λ s is sorted. put_by_key c p new n step s is sorted
+  goes_behind (call.CursorInsert c p) new (looked n) step = λ s is sorted. put_by_cursor c p new n step s is sorted
   goes_behind (call.Entry c key p) new (entry false q n) step = λ s is sorted.
       of_reply cmp key_of c (enter key p) (IfVacant (PutsBehind cmp key_of old (has_greater cmp key_of old key) c p new s.members)) old new (entry false q n) step s is (λ r. tt)
       (λ there t replies left. let at = replies.3 in
       behind c p s is new t left (key_at cmp (key_of old.adapter) (objects_of old) key) (for_key total key_of old.adapter (objects_of old) (placed c s is) sorted key) at.0 at.1 at.2.0.1
       (ap (λ (x : State). x.members) at.2.1))
   goes_behind _ new _ step = tt
-
-  pub stays : (command : Command V K) (new : Family A V) (reply : Reply) → Step cmp key_of old command reply new → StaysSorted cmp key_of old command reply new
-  stays (call.Insert c p) new (looked n) step = λ s is sorted. (put_by_key c p new n step s is sorted).1
-  stays (call.CursorInsert c p) new (looked n) step = λ s is sorted. (put_by_cursor c p new n step s is sorted).1
-  stays _ new _ step = tt

@@ -30,7 +30,7 @@ use Rattle.ic_world.specs.Calls.{State, Reply, found, looked, range, entry, refu
 use Rattle.ic_world.specs.Several.{StepBy, OpensWith, asks_collection, state_in, with_state}
 use Rattle.ic_world.specs.Step.{Step, StepOn, Accepts, AcceptsOn, RangeReplies, call_of}
 use Rattle.ic_world.proofs.Steps.{state_back}
-use Rattle.ic_world_laws.specs.Laws.{inserts, IsWellNamed, AreFew, RefusedIfLinked, HasFewLooks}
+use Rattle.ic_world_laws.specs.Laws.{inserts, IsWellNamed, AreFew, IsRefusedExactlyIfLinked, HasFewLooks}
 
 -- a refusal is no object, and not none
 not_object : {r : Refusal} (o : Option Place) → refused r ≡ object_or_nothing o → ⊥
@@ -148,16 +148,16 @@ module _ {A V K : Type 0} (cmp : K → K → Ordering) (key_of : A → V → K) 
   insert_on : (c : ℕ) (p : Place) (call : Call K) (there : State → Bool) → names call ≡ p ∷ []
       → ((s : State) → refusal_of call s ≡ asks (has_call call s.kind) WrongKind (asks (there s) NothingThere (asks_unlinked s p)))
       → ((w : Family A V) (s t : State) → Replies cmp (key_of w.adapter) (objects_of w) call s (refused AlreadyLinked) t → ⊥)
-      → (old new : Family A V) (reply : Reply) → StepOn cmp key_of old c call reply new → RefusedIfLinked old (Some (c, p)) reply
+      → (old new : Family A V) (reply : Reply) → StepOn cmp key_of old c call reply new → IsRefusedExactlyIfLinked old (Some (c, p)) reply
   insert_on c p call there named tests never old new reply step s is well =
       by_tests _ (list_all (is_placed old) (names call)) (has_call call s.kind) (there (state_in old s)) _
       (ap (λ o. asks_collection o (λ s. asks (list_all (is_placed old) (names call)) NoSuchObject (refusal_of call (state_in old s)))) is ∙ ap (asks (list_all (is_placed old) (names call)) NoSuchObject) (tests (state_in old s)))
       (AcceptsOn cmp key_of old c call) old new reply step (λ h. never old _ _ h.3) well
 
-  put_on : (c : ℕ) (p : Place) (at_gap : Where) (old new : Family A V) (reply : Reply) → StepOn cmp key_of old c (one.Put at_gap p) reply new → RefusedIfLinked old (Some (c, p)) reply
+  put_on : (c : ℕ) (p : Place) (at_gap : Where) (old new : Family A V) (reply : Reply) → StepOn cmp key_of old c (one.Put at_gap p) reply new → IsRefusedExactlyIfLinked old (Some (c, p)) reply
   put_on c p at_gap = insert_on c p (one.Put at_gap p) (λ s. true) refl (λ s. refl) (λ w s t h. let no = h.0 in cc)
 
-  swap_on : (c : ℕ) (p : Place) (at_gap : Where) (old new : Family A V) (reply : Reply) → StepOn cmp key_of old c (one.Swap at_gap p) reply new → RefusedIfLinked old (Some (c, p)) reply
+  swap_on : (c : ℕ) (p : Place) (at_gap : Where) (old new : Family A V) (reply : Reply) → StepOn cmp key_of old c (one.Swap at_gap p) reply new → IsRefusedExactlyIfLinked old (Some (c, p)) reply
   swap_on c p at_gap = insert_on c p (one.Swap at_gap p) (λ s. is_some (member_at at_gap s)) refl (λ s. refl) (λ w s t h. let no = h.2.3 in cc)
 
   entry_replies : (w : Family A V) (key : K) (p : Place) (s t : State) (reply : Reply) → Replies cmp (key_of w.adapter) (objects_of w) (one.Enter key p) s reply t → IsWellNamed reply
@@ -167,7 +167,7 @@ module _ {A V K : Type 0} (cmp : K → K → Ordering) (key_of : A → V → K) 
   entry_replies w key p s t (entry true q n) h well = absurd well
   entry_replies w key p s t _ h well = absurd h
 
-  entry_on : (c : ℕ) (key : K) (p : Place) (old new : Family A V) (reply : Reply) → StepOn cmp key_of old c (one.Enter key p) reply new → RefusedIfLinked old (Some (c, p)) reply
+  entry_on : (c : ℕ) (key : K) (p : Place) (old new : Family A V) (reply : Reply) → StepOn cmp key_of old c (one.Enter key p) reply new → IsRefusedExactlyIfLinked old (Some (c, p)) reply
   entry_on c key p old new reply step s is well = by _ (list_all (is_placed old) (p ∷ [])) (is_tree s.kind)
       (ap (λ o. asks_collection o (λ s. asks (list_all (is_placed old) (p ∷ [])) NoSuchObject (asks (is_tree s.kind) WrongKind None))) is) step
     where
@@ -180,7 +180,7 @@ module _ {A V K : Type 0} (cmp : K → K → Ordering) (key_of : A → V → K) 
           subst (λ x. (reply ≡ refused AlreadyLinked) ↔ (finite_set.contains (linked_of old x.field) (index_of p) ≡ true)) (some_same (sym h.2 ∙ is))
           (entry_replies old key p (state_in old h.0) h.1 reply h.3 well)
 
-  pub insert_refused : (command : Command V K) (old new : Family A V) (reply : Reply) → Step cmp key_of old command reply new → RefusedIfLinked old (inserts command) reply
+  pub insert_refused : (command : Command V K) (old new : Family A V) (reply : Reply) → Step cmp key_of old command reply new → IsRefusedExactlyIfLinked old (inserts command) reply
   insert_refused (call.PushFront c p) = put_on c p at.Front
   insert_refused (call.PushBack c p) = put_on c p at.Back
   insert_refused (call.InsertAfter c p) = put_on c p at.After

@@ -35,7 +35,7 @@ module _ {V K : Type 0} where
   descends (call.Entry c key p) = Some c
   descends _ = None
 
--- an insert whose collection, object and kind are right, and of an entry one that is vacant
+-- THE CALL IS WELL NAMED, as its reply tells: it is no refusal of a collection, an object or a kind, and of an entry it is vacant
 abbrev pub IsWellNamed : Reply → Type 0
 IsWellNamed (refused AlreadyLinked) = Unit
 IsWellNamed (refused _) = ⊥
@@ -55,12 +55,13 @@ module _ {V K : Type 0} (s : List Place) where
   AreFew _ _ = Unit
 
 module _ {A V : Type 0} where
-  -- AN INSERT IS REFUSED EXACTLY IF its object is linked in the field of the collection
-  abbrev pub RefusedIfLinked : Family A V → Option (ℕ × Place) → Reply → Type 0
-  RefusedIfLinked w None reply = Unit
-  RefusedIfLinked w (Some (c, p)) reply = (s : Sequence) → collection w c ≡ Some s → IsWellNamed reply
+  -- AN INSERT THAT IS WELL NAMED IS REFUSED EXACTLY IF its object is linked in the field of the collection
+  abbrev pub IsRefusedExactlyIfLinked : Family A V → Option (ℕ × Place) → Reply → Type 0
+  IsRefusedExactlyIfLinked w None reply = Unit
+  IsRefusedExactlyIfLinked w (Some (c, p)) reply = (s : Sequence) → collection w c ≡ Some s → IsWellNamed reply
       → (reply ≡ refused AlreadyLinked) ↔ (set.contains (linked_of w s.field) (index_of p) ≡ true)
 
-  -- LOOKS ARE FEW: v of them in a tree of n members, where 2^v is at most (n + 1)^2, and one at least if there is a member
+  -- LOOKS ARE FEW: the reply tells v of them in a tree that had n members before the call, where 2^v is at most (n + 1)^2, and one at
+  -- least if there was a member
   abbrev pub HasFewLooks : {K : Type 0} → Family A V → Command V K → Reply → Type 0
   HasFewLooks w command reply = IfSome (descends command) (λ c. (s : Sequence) → collection w c ≡ Some s → AreFew s.members command reply)

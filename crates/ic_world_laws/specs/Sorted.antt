@@ -22,20 +22,23 @@ module _ {A V K : Type 0} (cmp : K → K → Ordering) (key_of : A → V → K) 
   abbrev pub WhileSorted : ℕ → (List Place → Type 0) → Type 0
   WhileSorted c Holds = (s : Sequence) → collection w c ≡ Some s → IsSortedIn s.members → Holds s.members
 
-  -- whether a member has the key or a greater one, whether it is within a lower bound and within an upper one, and whether its key is
-  -- greater than that of the object at p
+  -- the key of the member at a place is this one
   abbrev pub has_key : K → Place → Bool
   has_key key = equal_at (key_at cmp (key_of w.adapter) (objects_of w) key)
 
+  -- its key is greater than this one
   abbrev pub has_greater : K → Place → Bool
   has_greater key = less_at (key_at cmp (key_of w.adapter) (objects_of w) key)
 
+  -- it is within this lower bound
   abbrev pub is_from : Bound K → Place → Bool
   is_from bound = meets_lower (bound_at cmp (key_of w.adapter) (objects_of w) bound)
 
+  -- it is within this upper bound
   abbrev pub is_until : Bound K → Place → Bool
   is_until bound = meets_upper (bound_at cmp (key_of w.adapter) (objects_of w) bound)
 
+  -- its key is greater than the key of the object at p
   abbrev pub is_greater : Place → Place → Bool
   is_greater p = less_at (own_at cmp (key_of w.adapter) (objects_of w) p)
 
@@ -57,10 +60,12 @@ module _ {A V K : Type 0} (cmp : K → K → Ordering) (key_of : A → V → K) 
   IsWithinBoth (call.Range c min max) (range places first_looks second_looks) = WhileSorted c (λ s. places ≡ filter (λ q. is_from min q && is_until max q) s)
   IsWithinBoth _ _ = Unit
 
-  -- AN INSERT goes behind all members whose keys are not greater than the object's, and into a vacant entry than the key
+  -- p is in collection c now, behind the members of s that are not greater and in front of those that are
   abbrev pub PutsBehind : (Place → Bool) → ℕ → Place → Family A V → List Place → Type 0
   PutsBehind greater c p new s = (t : Sequence) × (collection new c ≡ Some t) × (t.members ≡ filter (λ q. not (greater q)) s ++ p ∷ filter greater s)
 
+  -- AN INSERT goes behind all members whose keys are not greater than the object's own; into a vacant entry an object goes behind all whose
+  -- keys are not greater than the key that was searched
   abbrev pub GoesBehind : Command V K → Reply → Family A V → Type 0
   GoesBehind (call.Insert c p) (looked looks) new = WhileSorted c (PutsBehind (is_greater p) c p new)
   GoesBehind (call.CursorInsert c p) (looked looks) new = WhileSorted c (PutsBehind (is_greater p) c p new)
@@ -68,11 +73,6 @@ module _ {A V K : Type 0} (cmp : K → K → Ordering) (key_of : A → V → K) 
   GoesBehind _ _ new = Unit
 
 module _ {A V K : Type 0} (cmp : K → K → Ordering) (key_of : A → V → K) where
-  -- AND IT LEAVES the tree sorted
+  -- the members of collection c are sorted after the call
   abbrev pub IsSortedAfter : ℕ → Family A V → Type 0
   IsSortedAfter c new = (t : Sequence) → collection new c ≡ Some t → IsSortedIn cmp key_of new t.members
-
-  abbrev pub StaysSorted : Family A V → Command V K → Reply → Family A V → Type 0
-  StaysSorted old (call.Insert c p) (looked looks) new = WhileSorted cmp key_of old c (λ s. IsSortedAfter c new)
-  StaysSorted old (call.CursorInsert c p) (looked looks) new = WhileSorted cmp key_of old c (λ s. IsSortedAfter c new)
-  StaysSorted old _ _ new = Unit

@@ -1,21 +1,25 @@
-//! What holds of each call of a world, whatever the call is: each law is a named clause.
+//! What holds of each call of a world, whatever the call is, and of any list of them: each law is a named clause.
 //!
 //! ```text
 //! ic_world_laws::answer(&mut world, command) // refused, it can be made again in the same world
+//! ic_world_laws::run(&mut world, &commands, &mut answers)? // each answer is as if it were the only call
 //! ```
 #![tactic(auto)]
 
-ghost use Rattle.std.specs.Prelude.{◌≡◌};
+ghost use Rattle.std.specs.Prelude.{◌≡◌, ◌++◌, List, map as map_list, OnOk, OnErr};
 ghost use Rattle.ic_world.specs.declared.call.Refusal.{Refusal};
 ghost use Rattle.ic_world.specs.Answers.{reply_in};
 ghost use Rattle.ic_world.specs.Calls.{refused};
+ghost use Rattle.ic_world.specs.Sound.{IsSound};
 ghost use Rattle.ic_world.specs.Step.{Step};
-ghost use Rattle.ic_world_laws.specs.Laws.{inserts, RefusedIfLinked, HasFewLooks};
-ghost use Rattle.ic_world_laws.specs.Sorted.{FindsFirst, FindsEnd, IsWithinBoth, GoesBehind, StaysSorted};
+ghost use Rattle.ic_world_laws.specs.Laws.{inserts, IsRefusedExactlyIfLinked, HasFewLooks};
+ghost use Rattle.ic_world_laws.specs.Sorted.{FindsFirst, FindsEnd, IsWithinBoth, GoesBehind};
+ghost use Rattle.ic_world_laws.specs.Entered.{StaysSorted, KeepsOrder, StartsInOrder, RunKeepsOrder};
+ghost use Rattle.ic_world_laws.specs.Runs.{AreLawful};
 
 use ic_rbtree::KeyAdapter;
 use ic_world::{Answer, Command, World};
-use std::alloc::Allocator;
+use std::alloc::{AllocError, Allocator};
 
 /// Makes a call as [`World::answer`], and says what users rely on whatever the call is.
 ///
@@ -26,8 +30,12 @@ use std::alloc::Allocator;
 ///   range tells those of its two searches. A search by `Unbounded` makes none.
 /// - While the tree is sorted, `find` and an occupied `entry` answer the first member of the key, and no member has the key of a vacant
 ///   one; `lower_bound` and `upper_bound` answer the first and the last member within the bound; `range` all members within both.
-/// - An insert in order goes behind all members whose keys are not greater, and leaves a sorted tree sorted. An object goes into a vacant
-///   entry behind all members whose keys are not greater than the key.
+/// - An insert in order goes behind all members whose keys are not greater. An object goes into a vacant entry behind all members whose
+///   keys are not greater than the key.
+/// - A sorted collection stays sorted, and its equal keys stand in the order of their insertion, but by a call that puts an object into it
+///   by position or by another key, that turns, joins, splits or gives it up, or that gives a member another key.
+/// - Members are linked, linked places have objects, no member is shared, and each cursor is null or on a member.
+#[inline]
 pub fn answer<A: KeyAdapter, M: Allocator + Copy>(
     world: &mut World<A, M>,
     command: Command<A::Value, A::Key>,
@@ -36,16 +44,43 @@ where
     A::Value: Copy,
     A::Key: Copy,
     ensures step { Step A.Key.cmp A.key_of world.old command (reply_in result) world.new }
+    ensures sound { IsSound world.new }
     ensures refused_changes_nothing { (refusal : Refusal) → reply_in result ≡ refused refusal → world.new ≡ world.old }
-    ensures insert_is_refused_if_linked { RefusedIfLinked world.old (inserts command) (reply_in result) }
+    ensures insert_is_refused_if_linked { IsRefusedExactlyIfLinked world.old (inserts command) (reply_in result) }
     ensures looks_are_few { HasFewLooks world.old command (reply_in result) }
     ensures key_is_found_first { FindsFirst A.Key.cmp A.key_of world.old command (reply_in result) }
     ensures bound_is_found_at_its_end { FindsEnd A.Key.cmp A.key_of world.old command (reply_in result) }
     ensures range_is_within_both { IsWithinBoth A.Key.cmp A.key_of world.old command (reply_in result) }
     ensures insert_goes_behind { GoesBehind A.Key.cmp A.key_of world.old command (reply_in result) world.new }
-    ensures insert_stays_sorted { StaysSorted A.Key.cmp A.key_of world.old command (reply_in result) world.new }
+    ensures stays_sorted { StaysSorted A.Key.cmp A.key_of world.old command world.new }
+    ensures keeps_order { KeepsOrder A.Key.cmp A.key_of world.old command (reply_in result) world.new }
+    ensures starts_in_order { StartsInOrder A.Key.cmp A.key_of world.old command (reply_in result) world.new }
 {
-    world.no_member_is_shared();
-    world.every_member_is_placed();
+    world.family_is_sound();
     world.answer(command)
+}
+
+/// Makes the calls in order as [`World::run`], and says of each, with the world before it and after it, what [`answer`] says of one.
+///
+/// The answers are appended. So after any list every answer, and the sequences, cursors and linked set of each field, are those of cuts
+/// and joins on sequences without common members; an insert is refused exactly if its object is linked; and a tree that only inserts in
+/// order and removals have changed has its equal keys in the order of their insertion.
+///
+/// Refused for memory, neither the world nor the answers have changed.
+pub fn run<A: KeyAdapter, M: Allocator + Copy>(
+    world: &mut World<A, M>,
+    commands: &[Command<A::Value, A::Key>],
+    answers: &mut Vec<Answer<M>, M>,
+) -> Result<(), AllocError>
+where
+    A::Value: Copy,
+    A::Key: Copy,
+    ensures sound { IsSound world.old × IsSound world.new }
+    ensures lawful { OnOk result ((given : List (Answer M)) × (answers.new.items ≡ answers.old.items ++ given)
+        × AreLawful A.Key.cmp A.key_of world.old commands.now (map_list reply_in given) world.new
+        × RunKeepsOrder A.Key.cmp A.key_of world.old commands.now (map_list reply_in given) world.new) }
+    ensures refused { OnErr result ((world.new ≡ world.old) × (answers.new.items ≡ answers.old.items)) }
+{
+    world.family_is_sound();
+    world.run(commands, answers)
 }

@@ -17,7 +17,7 @@ use Rattle.ic_link_ops.specs.Sequences.{at_front, first}
 use Rattle.ic_link_ops.specs.Edits.{Removes}
 use Rattle.ic_link_ops.specs.Tables.{IsCovered, IsLinked, IsUnlinked, KeepsBeside, LinksAlso, Unlinks}
 use Rattle.ic_link_ops.proofs.Calling.{accepted}
-use Rattle.ic_link_ops.proofs.CollectionLaws.{new_shows_nothing}
+use Rattle.ic_link_ops.proofs.CollectionLaws.{new_shows_nothing, kept_shown}
 use Rattle.ic_link_ops.proofs.Covering.{still_covered}
 use Rattle.ic_link_ops.proofs.DoublyLists as doubly
 use Rattle.ic_link_ops.proofs.LinkedSets.{everywhere}
@@ -39,7 +39,7 @@ use Rattle.timer_queue.specs.Timers as timers
 use Rattle.timer_queue.proofs.KeptValues.{in_order, values_wait}
 use Rattle.scheduler.specs.Kept.{deadline_of, list_at, schedule_of, HasRoom, IsKept}
 use Rattle.scheduler.specs.Refusals.{refusal_number}
-use Rattle.scheduler.specs.Schedule.{queue_at, IsByDeadline, is_due, is_for, task_of, IsEmpty, IsUnchanged, Adds, TakesFront, MovesFirst}
+use Rattle.scheduler.specs.Schedule.{queue_at, places_at, IsByDeadline, is_due, is_for, task_of, IsEmpty, IsUnchanged, Adds, TakesFront, MovesFirst}
 use Rattle.scheduler.proofs.ByDeadline.{by_deadline_with}
 
 -- where there is no place left, and where a refusal is for want of memory
@@ -68,22 +68,39 @@ module _ {V A B : Type 0} where
         ap (λ d. slice_index_or (map f ends) i d) (sym nothing) ∙ get_or-map f ends i no_members
         ∙ ap (values_at objects) (doubly.plain_members q (k.numbered.each i).shown) ∙ (k.numbered.each i).stand.are
 
+    -- and so are the places
+    pub waiting_at_is : (schedule_of objects w root q ends).waiting_at ≡ k.sorted.members
+    waiting_at_is = plain_members w k.sorted.shown
+
+    pub places_are : (i : ℕ) → places_at (schedule_of objects w root q ends) i ≡ k.numbered.members i
+    places_are i =
+        let f : Ends → List Place = λ list. lists.members_of q list in
+        let nothing : f no_members ≡ [] = doubly.plain_members q (new_shows_nothing doubly.plain_lists (lists.plain_table q)) in
+        ap (λ d. slice_index_or (map f ends) i d) (sym nothing) ∙ get_or-map f ends i no_members ∙ doubly.plain_members q (k.numbered.each i).shown
+
     -- FEWER WAIT than there are numbers of them
     pub few_wait : length (schedule_of objects w root q ends).waiting ≤ 8589934591
     few_wait = omega (arith, ap length waiting_is, few_values k.sorted.stand (plain_trees.distinct (trees.plain_table w) root k.sorted.members k.sorted.shown))
 
   -- NOTHING CHANGES where the same is kept
   unchanged : {objects : Objects (Task V)} {w v : trees.TreeLinkOps A} {root top : Option Place} {q r : lists.DoublyLinkOps B} {ends ends' : List Ends} (k : IsKept objects w root q ends) (l : IsKept objects v top r ends')
-      → l.waiting ≡ k.waiting → ((i : ℕ) → l.queued i ≡ k.queued i) → IsUnchanged (schedule_of objects w root q ends) (schedule_of objects v top r ends')
-  unchanged k l waiting queued = record {
+      → l.waiting ≡ k.waiting → ((i : ℕ) → l.queued i ≡ k.queued i) → l.sorted.members ≡ k.sorted.members → ((i : ℕ) → l.numbered.members i ≡ k.numbered.members i)
+      → IsUnchanged (schedule_of objects w root q ends) (schedule_of objects v top r ends')
+  unchanged k l waiting queued members listed = record {
     waiting = waiting_is l ∙ waiting ∙ sym (waiting_is k);
     queues = λ i. queue_is l i ∙ queued i ∙ sym (queue_is k i);
     is_full = refl;
+    waiting_at = waiting_at_is l ∙ members ∙ sym (waiting_at_is k);
+    queued_at = λ i. places_are l i ∙ listed i ∙ sym (places_are k i);
   }
 
   module _ {objects : Objects (Task V)} {w : trees.TreeLinkOps A} {root : Option Place} {q : lists.DoublyLinkOps B} {ends : List Ends} (k : IsKept objects w root q ends) where
     pub same_kept : IsUnchanged (schedule_of objects w root q ends) (schedule_of objects w root q ends)
-    same_kept = unchanged k k refl (λ i. refl)
+    same_kept = unchanged k k refl (λ i. refl) refl (λ i. refl)
+
+    -- those that wait stand for themselves
+    pub own_order : IsByDeadline (schedule_of objects w root q ends).waiting (schedule_of objects w root q ends).waiting
+    own_order = record { rises = subst (λ (l : List (Task V)). IsSorted nat_cmp (map deadline_of l)) (sym (waiting_is k)) k.sorted.sorted; alike = λ d. refl }
 
     pub queue_empty : (i : ℕ) → None ≡ first (k.numbered.members i) → queue_at (schedule_of objects w root q ends) i ≡ []
     queue_empty i none = queue_is k i ∙ sym (k.numbered.each i).stand.are ∙ ap (values_at objects) (nothing_first (k.numbered.members i) none)
@@ -143,7 +160,10 @@ module _ {V A B : Type 0} where
 
       pub same_covered : IsUnchanged (schedule_of objects w root q ends) (schedule_of objects v root r ends)
       unfolding kept_covered
-      same_covered = unchanged k kept_covered refl (λ i. refl)
+      same_covered =
+          unchanged k kept_covered refl (λ i. refl)
+          (sym (plain_members v kept_covered.sorted.shown) ∙ plain_members v (kept_shown plain_trees stays_w k.sorted.shown))
+          (λ i. sym (doubly.plain_members r (kept_covered.numbered.each i).shown) ∙ doubly.plain_members r (kept_shown doubly.plain_lists stays_q (k.numbered.each i).shown))
 
       -- AND `from_box` of a task
       module _ (new : Objects (Task V)) (p : Place) (task : Task V) (places : Places objects new p task) where

@@ -1,3 +1,4 @@
 pub mod ByDeadline
 pub mod Moving
 pub mod Keeping
+pub mod Once

@@ -32,12 +32,14 @@ abbrev pub HasRoom : {B : Type 0} → lists.DoublyLinkOps B → Place → Type 0
 HasRoom links p = IsCovered (lists.plain_table links) p × index_of p < 2 ^ 32
 
 module _ {V A B : Type 0} (objects : Objects (Task V)) (deadline_links : trees.TreeLinkOps A) (root : Option Place) (queue_links : lists.DoublyLinkOps B) (queues : List Ends) where
-  -- the tasks in the tree and those in each list, as the tables show them
+  -- the tasks in the tree and those in each list, and their places, as the tables show them
   abbrev pub schedule_of : Schedule V
   schedule_of = record {
     waiting = values_at objects (trees.members_of deadline_links root);
     queues = map (λ list. values_at objects (lists.members_of queue_links list)) queues;
     is_full = leb (2 ^ 32) objects.next;
+    waiting_at = trees.members_of deadline_links root;
+    queued_at = map (λ list. lists.members_of queue_links list) queues;
   }
 
   -- WHAT IT KEEPS: the tasks in the tree rise by their deadlines, and nothing else is linked in its table; list q has tasks of queue q

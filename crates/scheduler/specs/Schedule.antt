@@ -1,20 +1,35 @@
 -- Schedules: tasks that wait for their deadlines, and queues of tasks that were due.
 use Rattle.std.specs.Prelude.{◌≡◌, ◌≢◌, ℕ, Bool, true, false, not, eqb, leb, List, [], ◌∷◌, ◌++◌, length, map, filter, slice_index_or}
 use Rattle.std.specs.Ordering.{nat_cmp}
+use Rattle.ic_unsafe_ref.specs.declared.place.Place.{Place}
+use Rattle.ic_link_ops.specs.Sequences.{IsDistinct, IsDisjoint}
 use Rattle.ic_rbtree.specs.Borders.{IsSorted}
 use Rattle.scheduler.specs.declared.task.Task.{Task}
 
--- the tasks that wait, as the tree of deadlines has them, those of each queue, from front to back, and whether there is no place left
--- for another task
+-- the tasks that wait, as the tree of deadlines has them; those of each queue, from front to back; whether there is no place left for
+-- another task; and the places at which those that wait stand, and those of each queue, in the same order
 pub record Schedule (V : Type 0) : Type 0 where
   pub waiting : List (Task V)
   pub queues : List (List (Task V))
   pub is_full : Bool
+  pub waiting_at : List Place
+  pub queued_at : List (List Place)
 
 module _ {V : Type 0} where
   -- the tasks of the queue of that number, none beyond the last
   abbrev pub queue_at : Schedule V → ℕ → List (Task V)
   queue_at schedule q = slice_index_or schedule.queues q []
+
+  -- the places of those of the queue of that number
+  abbrev pub places_at : Schedule V → ℕ → List Place
+  places_at schedule q = slice_index_or schedule.queued_at q []
+
+  -- EACH TASK STANDS AT ONE PLACE, in the tree of those that wait or in one queue: never in both, and never in two queues
+  pub record IsOnceEach (schedule : Schedule V) : Type 0 where
+    pub waiting : (length schedule.waiting_at ≡ length schedule.waiting) × IsDistinct schedule.waiting_at
+    pub queued : (q : ℕ) → (length (places_at schedule q) ≡ length (queue_at schedule q)) × IsDistinct (places_at schedule q)
+    pub never_both : (q : ℕ) → IsDisjoint schedule.waiting_at (places_at schedule q)
+    pub never_two : (q r : ℕ) → q ≢ r → IsDisjoint (places_at schedule q) (places_at schedule r)
 
   -- a task with this deadline, this queue and this value
   abbrev pub task_of : ℕ → ℕ → V → Task V
@@ -54,6 +69,8 @@ module _ {V : Type 0} where
     pub waiting : new.waiting ≡ old.waiting
     pub queues : (q : ℕ) → queue_at new q ≡ queue_at old q
     pub is_full : new.is_full ≡ old.is_full
+    pub waiting_at : new.waiting_at ≡ old.waiting_at
+    pub queued_at : (q : ℕ) → places_at new q ≡ places_at old q
 
   -- THE TASK IS ADDED: it waits behind all that were added before
   pub record Adds (task : Task V) (old new : Schedule V) : Type 0 where

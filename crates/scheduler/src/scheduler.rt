@@ -40,7 +40,7 @@ impl<V, A: Allocator> Model for Scheduler<V, A> {
 }
 
 impl<V, A: Allocator> Scheduler<V, A> {
-    ghost use Rattle.scheduler.specs.Schedule.{IsEmpty, IsUnchanged, Adds, Ticks, TakesFront, MovesFirst, is_due, queue_at, task_of};
+    ghost use Rattle.scheduler.specs.Schedule.{IsEmpty, IsOnceEach, StandsFor, IsUnchanged, Adds, Ticks, TakesFront, MovesFirst, is_due, queue_at, task_of};
     ghost use Rattle.scheduler.specs.Refusals.{number_of, refusal_number, value_of};
 
     /// A scheduler with no task. It takes no memory.
@@ -138,5 +138,20 @@ impl<V, A: Allocator> Scheduler<V, A> {
         let object = dequeue(&mut self.queues, &mut self.queue_links, queue)?;
         let task = object.into_box(&mut self.objects);
         Some((task.deadline, task.value))
+    }
+
+    /// Says that each task stands at one place, in the tree of those that wait or in one queue, and never in both. It does nothing.
+    pub fn each_task_is_once(&self)
+        ensures { IsOnceEach self.now }
+    {
+        // What is read is kept by a scheduler, of which this is the law.
+        let _ = self.objects.len();
+    }
+
+    /// Says that the tasks that wait are in order of deadline: so there is a list for which the scheduler stands. It does nothing.
+    pub fn stands_for_what_waits(&self)
+        ensures { StandsFor self.now self.now.waiting }
+    {
+        let _ = self.objects.len();
     }
 }

@@ -1,12 +1,14 @@
 //! What the laws of a world are good for: the proof of each function needs one.
 
-ghost use Rattle.std.specs.Prelude.{◌≡◌, ◌≢◌, ◌≤◌, true, Some, IfSome, IsTrue, length};
+ghost use Rattle.std.specs.Prelude.{◌≡◌, ◌≢◌, ◌≤◌, ◌++◌, [], ◌∷◌, List, true, Some, IfSome, IsTrue, length};
 ghost use Rattle.std.specs.FinSet as set;
+ghost use Rattle.ic_unsafe_ref.specs.declared.place.Place.{Place as AnyPlace};
 ghost use Rattle.ic_unsafe_ref.specs.Places.{index_of};
 ghost use Rattle.ic_link_ops.specs.Sequences.{IsDisjoint};
 ghost use Rattle.ic_world.specs.Answers.{reply_in};
 ghost use Rattle.ic_world.specs.Family.{Sequence, collection as collection_of, linked_of};
 ghost use Rattle.ic_world.specs.Step.{Step};
+ghost use Rattle.ic_world_laws.specs.Entered.{StandsFor};
 
 use ic_program::OwnKey;
 use ic_rbtree::KeyAdapter;
@@ -45,6 +47,24 @@ where
 {
     match ic_world_laws::answer(world, Command::PushBack(collection, object)) {
         Answer::Refused(Refusal::AlreadyLinked) => true,
+        _ => false,
+    }
+}
+
+/// Puts an object into a tree by its key. `true`: it stands behind all of its key that were inserted before.
+fn put_last<A: KeyAdapter, M: Allocator + Copy>(
+    world: &mut World<A, M>,
+    tree: usize,
+    object: Place,
+) -> bool
+where
+    A::Value: Copy,
+    A::Key: Copy,
+    ensures { IsTrue result → (entered : List AnyPlace) → StandsFor A.Key.cmp A.key_of world.old tree entered
+        → StandsFor A.Key.cmp A.key_of world.new tree (entered ++ object ∷ []) }
+{
+    match ic_world_laws::answer(world, Command::Insert(tree, object)) {
+        Answer::Looked(_) => true,
         _ => false,
     }
 }
@@ -94,7 +114,7 @@ fn first_wrong(world: &mut World<OwnKey>) -> &'static str {
         let Ok(object) = world.place(value) else {
             return "an object";
         };
-        if world.insert(keyed, object).is_err() {
+        if !put_last(world, keyed, object) {
             return "an insert";
         }
         if !was_linked(world, list, object) {

@@ -1,5 +1,5 @@
 //! What no session of the program shows: faults of reading and writing, the texts of all refusals, lists of commands one behind the
-//! other, laws at work, and a key adapter.
+//! other, laws at work, what is known after any list of calls, and a key adapter.
 #![tactic(auto)]
 
 #[cfg(test)]
@@ -10,5 +10,7 @@ mod keys;
 mod laws;
 #[cfg(test)]
 mod listed;
+#[cfg(test)]
+mod runs;
 #[cfg(test)]
 mod texts;

@@ -3,7 +3,7 @@
 use ic_program::{Line, OwnKey};
 use ic_test_support::rationed::Rationed;
 use ic_world::{Answer, Command, Refusal, World};
-use std::alloc::Global;
+use std::alloc::{Allocator, Global};
 use std::fmt::Write;
 
 // The request to refuse where none is.
@@ -30,7 +30,7 @@ const LISTS: &[List] = &[
 ];
 
 // The commands of a text, in which they stand between semicolons, as far as there is memory for them.
-fn commands_in(alloc: Global, text: &str) -> Vec<Command<u64, u64>> {
+pub(crate) fn commands_in(alloc: Global, text: &str) -> Vec<Command<u64, u64>> {
     let mut commands = Vec::new(alloc);
     for line in text.split("; ") {
         if let Line::Call(command) = Line::of(line.as_bytes()) {
@@ -41,7 +41,7 @@ fn commands_in(alloc: Global, text: &str) -> Vec<Command<u64, u64>> {
 }
 
 // The answers as a text, as far as there is memory for it.
-fn text_of(alloc: Global, answers: &[Answer<&Rationed>]) -> String {
+pub(crate) fn text_of<M: Allocator>(alloc: Global, answers: &[Answer<M>]) -> String {
     let mut text = String::new(alloc);
     for answer in answers {
         let _ = write!(text, "{answer}; ");

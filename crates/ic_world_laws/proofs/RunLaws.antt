@@ -1,0 +1,74 @@
+-- From the steps of a run to what holds of each call, and of all.
+use Rattle.std.proofs.Common.{List, [], ◌∷◌, Result, Ok, Err, OnOk, OnErr, refl, sym, subst, ◌∙◌}
+use Rattle.std.specs.Cmp.{IsTotalOrder}
+use Rattle.std.specs.declared.cmp.Ordering.{Ordering}
+use Rattle.ic_link_ops.proofs.SequenceLemmas.{some_same}
+use Rattle.ic_world.specs.declared.call.Command.{Command}
+use Rattle.ic_world.specs.Calls.{Reply}
+use Rattle.ic_world.specs.Family.{Family, Sequence}
+use Rattle.ic_world.specs.Sound.{IsSound}
+use Rattle.ic_world.specs.Step.{Step, Runs}
+use Rattle.ic_world_laws.specs.Sorted.{IsSortedIn}
+use Rattle.ic_world_laws.specs.Entered.{entered_after, StandsFor, StaysSorted, RunKeepsOrder}
+use Rattle.ic_world_laws.specs.Runs.{IsLawful, AreLawful}
+use Rattle.ic_world_laws.proofs.StepLaws.{refused_stays, insert_refused, looks_few}
+use Rattle.ic_world_laws.proofs.SortedLaws.{finds_first, finds_end, is_within_both, goes_behind}
+use Rattle.ic_world_laws.proofs.KeepsSound.{keeps_sound}
+use Rattle.ic_world_laws.proofs.KeepsOrder.{sound_placed, keeps_order, starts_in_order}
+
+module _ {A V K : Type 0} {cmp : K → K → Ordering} (total : IsTotalOrder cmp) (key_of : A → V → K) where
+  -- a sorted collection stands for its own members
+  pub stays_sorted : (old : Family A V) → IsSound old → (command : Command V K) (reply : Reply) (new : Family A V) → Step cmp key_of old command reply new → StaysSorted cmp key_of old command new
+  stays_sorted old sound command reply new step c s is sorted orderly t is_t =
+      let after = keeps_order total key_of old sound command reply new step c s.members (s, is, (sorted, (λ p. ((λ h. h), (λ h. h))), (λ key. refl))) orderly in
+      subst (λ (x : Sequence). IsSortedIn cmp key_of new x.members) (some_same (sym after.1 ∙ is_t)) after.2.0
+
+  pub is_lawful : (old : Family A V) → IsSound old → (command : Command V K) (reply : Reply) (new : Family A V) → Step cmp key_of old command reply new → IsLawful cmp key_of old command reply new
+  is_lawful old sound command reply new step = record {
+    step = step;
+    sound = keeps_sound old sound new cmp key_of command reply step;
+    refused_changes_nothing = λ r is. refused_stays cmp key_of command old new reply r step is;
+    insert_is_refused_if_linked = insert_refused cmp key_of command old new reply step;
+    looks_are_few = looks_few cmp key_of command old new reply step;
+    key_is_found_first = finds_first total key_of old (sound_placed old sound) command new reply step;
+    bound_is_found_at_its_end = finds_end total key_of old (sound_placed old sound) command new reply step;
+    range_is_within_both = is_within_both total key_of old (sound_placed old sound) sound.apart command new reply step;
+    insert_goes_behind = goes_behind total key_of old (sound_placed old sound) command new reply step;
+    stays_sorted = stays_sorted old sound command reply new step;
+    keeps_order = keeps_order total key_of old sound command reply new step;
+    starts_in_order = starts_in_order total key_of old command reply new step;
+  }
+
+  -- ALL CALLS OF A RUN
+  pub are_lawful : (old : Family A V) → IsSound old → (commands : List (Command V K)) (replies : List Reply) (new : Family A V) → Runs cmp key_of old commands replies new
+      → AreLawful cmp key_of old commands replies new
+  are_lawful old sound [] [] new run = run
+  are_lawful old sound (command ∷ commands) (reply ∷ replies) new run =
+      let lawful = is_lawful old sound command reply run.0 run.1 in
+      (run.0, lawful, are_lawful run.0 lawful.sound commands replies new run.2)
+  are_lawful old sound [] (reply ∷ replies) new run = absurd run
+  are_lawful old sound (command ∷ commands) [] new run = absurd run
+
+  -- and the order of entry over them
+  pub keep_order : (old : Family A V) (commands : List (Command V K)) (replies : List Reply) (new : Family A V) → AreLawful cmp key_of old commands replies new → RunKeepsOrder cmp key_of old commands replies new
+  keep_order old [] [] new run = λ c entered stands orderly. subst (λ w. StandsFor cmp key_of w c entered) (sym run) stands
+  keep_order old (command ∷ commands) (reply ∷ replies) new run = λ c entered stands orderly.
+      keep_order run.0 commands replies new run.2 c (entered_after c command reply entered) (run.1.keeps_order c entered stands orderly.0) (orderly.1 run.0 run.1.step)
+  keep_order old [] (reply ∷ replies) new run = absurd run
+  keep_order old (command ∷ commands) [] new run = absurd run
+
+  -- the last family is sound
+  pub last_sound : (old : Family A V) → IsSound old → (commands : List (Command V K)) (replies : List Reply) (new : Family A V) → AreLawful cmp key_of old commands replies new → IsSound new
+  last_sound old sound [] [] new run = subst IsSound (sym run) sound
+  last_sound old sound (command ∷ commands) (reply ∷ replies) new run = last_sound run.0 run.1.sound commands replies new run.2
+  last_sound old sound [] (reply ∷ replies) new run = absurd run
+  last_sound old sound (command ∷ commands) [] new run = absurd run
+
+-- of a result that has one of two facts
+pub of_result : {X E P Q R : Type 0} (r : Result X E) → (P → R) → (Q → R) → OnOk r P → OnErr r Q → R
+of_result (Ok x) f g p q = f p
+of_result (Err e) f g p q = g q
+
+pub on_ok : {X E P Q : Type 0} (r : Result X E) → (P → Q) → OnOk r P → OnOk r Q
+on_ok (Ok x) f p = f p
+on_ok (Err e) f p = p

@@ -1,0 +1,41 @@
+-- ANY LIST OF CALLS: what holds of each of them, with the family before it and the one after it.
+use Rattle.std.specs.Prelude.{◌≡◌, List, [], ◌∷◌}
+use Rattle.std.specs.declared.cmp.Ordering.{Ordering}
+use Rattle.ic_world.specs.declared.call.Refusal.{Refusal}
+use Rattle.ic_world.specs.declared.call.Command.{Command}
+use Rattle.ic_world.specs.Calls.{Reply, refused}
+use Rattle.ic_world.specs.Family.{Family}
+use Rattle.ic_world.specs.Sound.{IsSound}
+use Rattle.ic_world.specs.Step.{Step}
+use Rattle.ic_world_laws.specs.Laws.{inserts, IsRefusedExactlyIfLinked, HasFewLooks}
+use Rattle.ic_world_laws.specs.Sorted.{FindsFirst, FindsEnd, IsWithinBoth, GoesBehind}
+use Rattle.ic_world_laws.specs.Entered.{StaysSorted, KeepsOrder, StartsInOrder}
+
+-- `cmp`, `key_of`: the order of the keys, and the key of a value
+module _ {A V K : Type 0} (cmp : K → K → Ordering) (key_of : A → V → K) where
+  -- ONE CALL of them: a step of the model, and what users rely on of it
+  pub record IsLawful (old : Family A V) (command : Command V K) (reply : Reply) (new : Family A V) : Type 0 where
+    -- the answer, and each field's sequences, cursors and linked set, are those of cuts and joins
+    pub step : Step cmp key_of old command reply new
+    -- on sequences without common members, all of them linked and placed
+    pub sound : IsSound new
+    -- a refused call changes nothing, and a well-named insert is refused exactly if its object is linked in that field
+    pub refused_changes_nothing : (refusal : Refusal) → reply ≡ refused refusal → new ≡ old
+    pub insert_is_refused_if_linked : IsRefusedExactlyIfLinked old (inserts command) reply
+    -- a descent over n members looks at v, with 2^v at most (n + 1)^2
+    pub looks_are_few : HasFewLooks old command reply
+    -- while a tree is sorted, the answers of its keyed calls are filters
+    pub key_is_found_first : FindsFirst cmp key_of old command reply
+    pub bound_is_found_at_its_end : FindsEnd cmp key_of old command reply
+    pub range_is_within_both : IsWithinBoth cmp key_of old command reply
+    pub insert_goes_behind : GoesBehind cmp key_of old command reply new
+    -- and it stays so by each call that is orderly for it, with equal keys in the order of their insertion
+    pub stays_sorted : StaysSorted cmp key_of old command new
+    pub keeps_order : KeepsOrder cmp key_of old command reply new
+    pub starts_in_order : StartsInOrder cmp key_of old command reply new
+
+  -- ALL CALLS OF A LIST: there are families between them such that each call is lawful from one to the next, and as many replies as calls
+  abbrev pub AreLawful : Family A V → List (Command V K) → List Reply → Family A V → Type 0
+  AreLawful old [] [] new = new ≡ old
+  AreLawful old (command ∷ commands) (reply ∷ replies) new = (mid : Family A V) × IsLawful old command reply mid × AreLawful mid commands replies new
+  AreLawful old _ _ new = ⊥

@@ -1,0 +1,88 @@
+//! What is known of a world after any list of calls: the proof of each function needs the contract of `ic_world_laws::run` alone.
+
+ghost use Rattle.std.specs.Prelude.{List, map as map_list, IfSome};
+ghost use Rattle.ic_unsafe_ref.specs.declared.place.Place.{Place as AnyPlace};
+ghost use Rattle.ic_world.specs.Answers.{reply_in};
+ghost use Rattle.ic_world.specs.Apart.{AreApart};
+ghost use Rattle.ic_world_laws.specs.Entered.{StandsFor, IsInOrderOf, AreOrderly, entered_over};
+
+use crate::listed::{commands_in, text_of};
+use ic_program::OwnKey;
+use ic_rbtree::KeyAdapter;
+use ic_unsafe_ref::Place;
+use ic_world::{Answer, Command, World};
+use std::alloc::{Allocator, Global};
+
+/// Makes any calls, and returns their answers and what a tree shows then: where they are orderly for it, it is sorted, and its equal keys
+/// stand in the order of their insertion.
+fn shown_after<A: KeyAdapter, M: Allocator + Copy>(
+    alloc: M,
+    world: &mut World<A, M>,
+    commands: &[Command<A::Value, A::Key>],
+    tree: usize,
+) -> Option<(Vec<Answer<M>, M>, Vec<Place, M>)>
+where
+    A::Value: Copy,
+    A::Key: Copy,
+    ensures { (entered : List AnyPlace) → StandsFor A.Key.cmp A.key_of world.old tree entered → IfSome result (λ told.
+        AreOrderly A.Key.cmp A.key_of world.old tree commands.now (map_list reply_in told.0.items) entered
+        → IsInOrderOf A.Key.cmp A.key_of world.new (entered_over tree commands.now (map_list reply_in told.0.items) entered) told.1.items) }
+{
+    let mut answers = Vec::new(alloc);
+    let Ok(()) = ic_world_laws::run(world, commands, &mut answers) else {
+        return None;
+    };
+    let Ok(shown) = world.show(tree) else {
+        return None;
+    };
+    Some((answers, shown))
+}
+
+/// Makes any calls: whatever they are, no object is in two collections of one field then, nor twice in one. Whether there was memory for
+/// the answers.
+fn are_apart_after<A: KeyAdapter, M: Allocator + Copy>(
+    world: &mut World<A, M>,
+    commands: &[Command<A::Value, A::Key>],
+    answers: &mut Vec<Answer<M>, M>,
+) -> bool
+where
+    A::Value: Copy,
+    A::Key: Copy,
+    ensures { AreApart world.new }
+{
+    ic_world_laws::run(world, commands, answers).is_ok()
+}
+
+const OPENED: &str =
+    "field tree; open 0 tree; open 0 doubly; place 5; place 3; place 5; place 5; push_back 1 3; insert 0 3";
+
+const OPENED_ANSWERS: &str = "\
+field 0; collection 0; collection 1; object 0; object 1; object 2; object 3; ok; refused 10 AlreadyLinked; ";
+
+// The first of the equal keys is taken out, and put in again behind the others.
+const INSERTED: &str = "\
+pop_front 1; insert 0 0; insert 0 1; insert 0 2; insert 0 3; find 0 5; remove 0; insert 0 0; show 0";
+
+const INSERTED_ANSWERS: &str = "\
+object 3; ok looks 0; ok looks 1; ok looks 1; ok looks 2; object 0 looks 2; object 0; ok looks 2; items 1 2 3 0; ";
+
+// Whether a new world answers these lists so, and shows the tree in order behind them.
+fn is_right(alloc: Global) -> bool {
+    let mut world = World::new(alloc, OwnKey);
+    let mut answers = Vec::new(alloc);
+    let ran = are_apart_after(&mut world, &commands_in(alloc, OPENED), &mut answers);
+    if !ran || text_of(alloc, &answers).as_str() != OPENED_ANSWERS {
+        return false;
+    }
+    match shown_after(alloc, &mut world, &commands_in(alloc, INSERTED), 0) {
+        None => false,
+        Some((answers, shown)) => {
+            text_of(alloc, &answers).as_str() == INSERTED_ANSWERS && shown.len() == 4
+        }
+    }
+}
+
+#[test]
+fn any_list_is_lawful(rt: HostRuntime) {
+    assert!(rt; is_right(rt.alloc()));
+}
