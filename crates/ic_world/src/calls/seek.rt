@@ -160,6 +160,10 @@ fn seek_on<T, M: Allocator>(
     requires covered { IsCovered (look links.now) object }
     ensures { Sought (Seek.On object) object (look links.now) members.old result members.new }
 {
+    // An unlinked object is no member, and nothing is walked.
+    if !links.is_linked(object) {
+        return Err(Refusal::NotAMember);
+    }
     if !members.contains(links, object) {
         return Err(Refusal::NotAMember);
     }
@@ -195,8 +199,13 @@ fn seek_with<T, M: Allocator>(
     beside: Option<Place>,
 ) -> Result<(), Refusal>
     requires held { Held (look links.now) members.old }
+    requires covered { IsCovered (look links.now) object }
     ensures { Sought (Seek.With way object beside) object (look links.now) members.old result members.new }
 {
+    // An unlinked object is no member, and nothing is walked.
+    if !links.is_linked(object) {
+        return Err(Refusal::NotAMember);
+    }
     let Some(prev) = members.find_prev(links, object) else {
         return Err(Refusal::NotAMember);
     };

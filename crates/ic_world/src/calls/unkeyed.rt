@@ -102,7 +102,7 @@ impl<A: KeyAdapter, M: Allocator + Copy> World<A, M> {
         }
     }
 
-    /// Puts the cursor on a member. Of lists O(members), in a tree O(log n).
+    /// Puts the cursor on a member. Of lists O(members), in a tree O(log n); for an object that is linked nowhere O(1).
     ///
     /// Refused: `NoSuchCollection`, `NoSuchObject`, `WrongKind` of an XOR list, `NotAMember`.
     pub fn seek(&mut self, collection: usize, object: Place) -> Result<(), Refusal>
@@ -111,7 +111,8 @@ impl<A: KeyAdapter, M: Allocator + Copy> World<A, M> {
         self.call(collection, &Seek::On(object))
     }
 
-    /// Puts the cursor of an XOR list on a member, with the one in front of it, `None` at the front. O(members).
+    /// Puts the cursor of an XOR list on a member, with the one in front of it, `None` at the front. O(members), for an object that is
+    /// linked nowhere O(1).
     ///
     /// Refused: `NoSuchCollection`, `NoSuchObject` of either object, `WrongKind` of the other kinds, `NotAMember`, `NotANeighbour`.
     pub fn seek_with_prev(
@@ -125,7 +126,8 @@ impl<A: KeyAdapter, M: Allocator + Copy> World<A, M> {
         self.call(collection, &Seek::With(Direction::Prev, object, prev))
     }
 
-    /// Puts the cursor of an XOR list on a member, with the one behind it, `None` at the back. O(members).
+    /// Puts the cursor of an XOR list on a member, with the one behind it, `None` at the back. O(members), for an object that is
+    /// linked nowhere O(1).
     ///
     /// Refused: `NoSuchCollection`, `NoSuchObject` of either object, `WrongKind` of the other kinds, `NotAMember`, `NotANeighbour`.
     pub fn seek_with_next(

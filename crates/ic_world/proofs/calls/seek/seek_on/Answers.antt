@@ -1,10 +1,18 @@
-use Rattle.std.proofs.Common.{◌∙◌, refl}
+use Rattle.std.proofs.Common.{◌∙◌, refl, sym}
 use Rattle.ic_any_table.specs.Fields.{look}
 use Rattle.ic_any_collection.specs.Members.{members_in, kind_in}
-use Rattle.ic_world.proofs.Neighbors.{member_gap, contains_tells}
+use Rattle.ic_any_collection.proofs.AllKinds.{unlinked_absent}
+use Rattle.ic_world.proofs.Neighbors.{member_gap, contains_tells, not_among}
 use Rattle.ic_world.proofs.Seeking.{pointer_not_xor}
 use Rattle.ic_world.proofs.Tested.{goes_on, stops}
 use Rattle.ic_world.proofs.calls.seek.seek_on.Goals as goal
+
+pub returns-then-not-is_linked : goal.returns-then-not-is_linked
+returns-then-not-is_linked g c =
+    let t = look c.args.links.now in
+    let out = not_among (members_in t c.args.members.now) c.args.object
+    (unlinked_absent t c.args.members.now _ c.requires.held.shown (sym c.is_linked.ensures ∙ c.if-not-is_linked.true)) in
+    record { tested = stops _ _ _ out; moved = tt; unchanged = refl }
 
 pub returns-then-not-contains : goal.returns-then-not-contains
 returns-then-not-contains g c =
