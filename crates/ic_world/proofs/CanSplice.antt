@@ -1,7 +1,8 @@
 -- What holds where no test of a splice refuses it, and the splice by its parts.
-use Rattle.std.proofs.Common.{◌≡◌, ◌≢◌, ℕ, Bool, true, false, not, nat_eq, List, [], ◌∷◌, set, Option, Some, None, map, get_or, refl, sym, ap, ◌∙◌, subst, inl, inr, ne_eqb, eq-eqb}
+use Rattle.std.proofs.Common.{◌≡◌, ◌≢◌, ℕ, Bool, true, false, not, nat_eq, List, [], ◌∷◌, set, Option, Some, None, map, get_or, refl, sym, ap, ◌∙◌, subst, inl, inr, ne_eqb, eq-eqb, ◌<◌, length, arith}
 use Rattle.std.proofs.lemmas.Bool.{cases_eq}
-use Rattle.std.proofs.lemmas.List.{get_or-set_other, set-set, set_comm, length-map, map-set}
+use Rattle.std.proofs.lemmas.Option.{same_Some}
+use Rattle.std.proofs.lemmas.List.{get_or-set_other, length-map, map-set}
 use Rattle.ic_unsafe_ref.specs.declared.place.Place.{Place}
 use Rattle.ic_unsafe_ref.specs.Objects.{Objects}
 use Rattle.ic_link_ops.specs.Sequences.{IsDisjoint}
@@ -19,26 +20,18 @@ use Rattle.ic_world.specs.declared.collection.Collection.{Collection}
 use Rattle.ic_world.specs.declared.call.Refusal.TheVariants.{WrongKind, SameCollection, OtherField}
 use Rattle.ic_world.specs.Family.{Family, Sequence, collection, same_kind}
 use Rattle.ic_world.specs.FamilyCodes.{kind_again}
-use Rattle.ic_world.specs.Splices.{IsBesideOf, can_splice, Emptied, PutsBeside, CanJoin, CanBeJoined, PutsTogether, AreJoined}
+use Rattle.ic_world.specs.Splices.{IsBesideOf, can_splice, Emptied, PutsBeside, CanJoin, CanBeJoined, PutsTogether, IsJoined, AreJoined}
+use Rattle.ic_world.specs.Collections.{its_field, its_members, having, with_members}
 use Rattle.ic_world.specs.Calls.{done}
 use Rattle.ic_world.specs.Tables.{table, table_of, sequence, seen_as, at, family_of, IsWhole}
 use Rattle.ic_world.specs.Several.{StepSplice, refusal_of_splice}
-use Rattle.ic_world.proofs.Readings.{collection_at, collection_is, table_read}
+use Rattle.ic_world.proofs.Readings.{collection_at, collection_is, table_read, one_read, with_is}
 use Rattle.ic_world.proofs.Edits.{after}
 use Rattle.ic_world.proofs.Splices.{splice_whole, splice_family}
 use Rattle.ic_world.proofs.Steps.{asks_none}
 
 pub eq_of : (m n : ℕ) → nat_eq m n ≡ true → m ≡ n
 eq_of m n t = elim (cases_eq m n) [ inl e ↦ e | inr d ↦ absurd (let f : nat_eq m n ≡ false = ne_eqb m n d in cc) ]
-
--- two that were taken out and put back, each as it is then
-put_back : {X : Type 0} (xs : List X) (c d : ℕ) (n x y : X) → c ≢ d → set (set (set (set xs c n) d n) c x) d y ≡ set (set xs d y) c x
-put_back xs c d n x y differ =
-    ap (λ z. set z d y) (set_comm (set xs c n) d c n x (λ e. differ (sym e)) ∙ ap (λ z. set z d n) (set-set xs c n x)) ∙ set-set (set xs c x) d n y ∙ set_comm xs c d x y differ
-
--- an item stands in the place of another
-abbrev Exchanged : {X : Type 0} → List (Option X) → ℕ → Option X → (was : Option X) → List (Option X) → Type 0
-Exchanged old i item was new = record { was : was ≡ get_or old i None; set : new ≡ set old i item }
 
 -- a splice that no test refuses is of two collections of one kind and field, which has the call
 pub can_splice_of : {A V : Type 0} (old : Family A V) (has : Kind → Bool) (c d : ℕ) (s t : Sequence) → collection old c ≡ Some s → collection old d ≡ Some t → refusal_of_splice old has c d ≡ None
@@ -112,62 +105,99 @@ module _ {A V : Type 0} {adapter : A} {objects : Objects V} {room : ℕ} {ts : L
     apart = subst (λ s. IsDisjoint s (sequence ts k)) (sym given_is) (whole.apart d c l k (λ e. fits.differ (sym e)) fits.is_l fits.is_k (sym fits.fields));
   }
 
-  -- where both were taken out
-  module _ {mid rest : List (Option (Collection V))} {o p : Option (Collection V)} (first : Exchanged cs c None o mid) (second : Exchanged mid d None p rest) where
-    is_k : o ≡ Some k
-    is_k = first.was ∙ fits.is_k
+  -- what is asked of them
+  pub can_be_joined : CanBeJoined before ts cs c d
+  can_be_joined = record { list = k; given = l; list_is = fits.is_k; given_is = fits.is_l; differ = fits.differ; can = fit_together }
 
-    is_l : p ≡ Some l
-    is_l = second.was ∙ ap (λ xs. at xs d) first.set ∙ get_or-set_other cs c d None None (λ e. fits.differ (sym e)) ∙ fits.is_l
+  -- THE INVARIANT and THE STEP
+  pub joined : {us : List (Table Entry)} {new : List (Option (Collection V))} → AreJoined before ts us cs new c d
+      → IsWhole objects room us new × StepSplice (IsBesideOf before) (can_splice before) old c d done (family_of adapter objects us new)
+  joined {us} joins =
+      let j = joins k l fits.is_k fits.is_l in
+      subst (λ x. IsWhole objects room us x × StepSplice (IsBesideOf before) (can_splice before) old c d done (family_of adapter objects us x)) (sym j.is) (by j.list j.given j.puts)
+    where
+      by : {us : List (Table Entry)} (k' l' : Collection V) → PutsTogether before ts us k l k' l'
+          → IsWhole objects room us (set (set cs d (Some l')) c (Some k')) × StepSplice (IsBesideOf before) (can_splice before) old c d done (family_of adapter objects us (set (set cs d (Some l')) c (Some k')))
+      by k' l' j =
+          let same : k' ≡ after k k'.members = λ i. record { field = j.field i; members = k'.members } in
+          let given_same : l' ≡ after l l'.members = λ i. record { field = j.given_field i; members = l'.members } in
+          let put : PutsAll (table ts k.field) j.t k.members k'.members j.puts.0 (sequence ts l) = subst (PutsAll (table ts k.field) j.t k.members k'.members j.puts.0) given_is j.puts.2.1 in
+          rw (j.tables, same, given_same) (
+            splice_whole whole c d k l fits.is_k fits.is_l fits.differ fits.fields j.t k'.members l'.members j.emptied j.puts.0 j.puts.1 put,
+            subst (λ w. StepSplice (IsBesideOf before) (can_splice before) w c d done (family_of adapter objects (set ts k.field j.t) (set (set cs d (Some (after l l'.members))) c (Some (after k k'.members))))) view (rw none_now (
+              refl,
+              seen_as k (sequence ts k),
+              j.puts.0,
+              collection_is adapter objects ts cs c k fits.is_k,
+              j.puts.1,
+              seen_as l (sequence ts l),
+              collection_is adapter objects ts cs d l fits.is_l,
+              j.puts.2.0,
+              splice_family whole c d k l fits.is_k fits.is_l fits.differ fits.fields j.t k'.members l'.members j.emptied j.puts.0 j.puts.1 put,
+            )),
+          )
 
-    -- what is asked of them
-    pub can_be_joined : CanBeJoined before ts o p
-    can_be_joined = rw (is_k, is_l) fit_together
+-- TWO COLLECTIONS THAT CAN BE SPLICED, as they are read: `field` and `k` are the first one's, and `l` the given one's members, which are taken before
+module _ {V M : Type 0} {before : Bool} (tables : List (WorldField M)) {cs : List (Option (Collection V))} {c d : ℕ} (can : CanBeJoined before (map table_of tables) cs c d) (field : ℕ) (has : Some field ≡ its_field (at cs c)) where
+  field_within : field < length tables
+  field_within =
+      let same : field ≡ can.list.field = same_Some _ _ (has ∙ ap its_field can.list_is) in
+      omega (arith, can.can.there, same, length-map tables table_of)
 
-    -- THE INVARIANT and THE STEP, as they are put back
-    pub joined : {us : List (Table Entry)} (o' p' : Option (Collection V)) → AreJoined before ts us o p o' p' → {all new : List (Option (Collection V))} → all ≡ set rest c o' → new ≡ set all d p'
-        → IsWhole objects room us new × StepSplice (IsBesideOf before) (can_splice before) old c d done (family_of adapter objects us new)
-    joined o' p' j {new = new} all_is new_is =
-        let back : new ≡ set (set cs d p') c o' = rw (new_is, all_is, second.set, first.set) (put_back cs c d None o' p' fits.differ) in
-        rw back (by o' p' (rw (is_k, is_l) at j))
-      where
-        by : {us : List (Table Entry)} (o' p' : Option (Collection V)) → AreJoined before ts us (Some k) (Some l) o' p'
-            → IsWhole objects room us (set (set cs d p') c o') × StepSplice (IsBesideOf before) (can_splice before) old c d done (family_of adapter objects us (set (set cs d p') c o'))
-        by None p' j = absurd j
-        by (Some k') None j = absurd j
-        by (Some k') (Some l') j =
-            let same : k' ≡ after k k'.members = λ i. record { field = j.field i; members = k'.members } in
-            let given_same : l' ≡ after l l'.members = λ i. record { field = j.given_field i; members = l'.members } in
-            let put : PutsAll (table ts k.field) j.t k.members k'.members j.puts.0 (sequence ts l) = subst (PutsAll (table ts k.field) j.t k.members k'.members j.puts.0) given_is j.puts.2.1 in
-            rw (j.tables, same, given_same) (
-              splice_whole whole c d k l fits.is_k fits.is_l fits.differ fits.fields j.t k'.members l'.members j.emptied j.puts.0 j.puts.1 put,
-              subst (λ w. StepSplice (IsBesideOf before) (can_splice before) w c d done (family_of adapter objects (set ts k.field j.t) (set (set cs d (Some (after l l'.members))) c (Some (after k k'.members))))) view (rw none_now (
-                refl,
-                seen_as k (sequence ts k),
-                j.puts.0,
-                collection_is adapter objects ts cs c k fits.is_k,
-                j.puts.1,
-                seen_as l (sequence ts l),
-                collection_is adapter objects ts cs d l fits.is_l,
-                j.puts.2.0,
-                splice_family whole c d k l fits.is_k fits.is_l fits.differ fits.fields j.t k'.members l'.members j.emptied j.puts.0 j.puts.1 put,
-              )),
-            )
+  module _ (emptied : Members V) where
+    abbrev between : List (Option (Collection V))
+    between = with_members cs d emptied
 
--- what the members of a joined list say of both lists: `taken` has those of l
-pub joins : {V M : Type 0} (before : Bool) (tables : List (WorldField M)) (k l : Collection V) → CanJoin before (map table_of tables) k l → (now : WorldField M) → now ≡ get_or tables k.field now → (nf : WorldField M)
-    (m emptied taken : Members V) → ((t : Table Entry) (s : List Place) → Keeps t l.members s → Keeps t taken s) → Emptied l.members emptied → PutsBeside before (table_of now) (table_of nf) k.members m (members_in (table_of now) taken)
-    → PutsTogether before (map table_of tables) (map table_of (set tables k.field nf)) k l (after k m) (after l emptied)
-joins before tables k l can now links nf m emptied taken same e puts =
-    let t = table (map table_of tables) k.field in
-    let read : t ≡ table_of now = table_read tables k.field now (rw length-map at can.there) links in
-    let lawful_t : IsLawful t = subst IsLawful (sym read) (lawful_field now.links) in
-    let all : members_in t taken ≡ members_in t l.members = one_sequence t lawful_t taken (members_in t l.members) (same t (members_in t l.members) can.given).shown in
-    record {
-      t = table_of nf;
-      tables = map-set table_of tables k.field nf;
-      field = refl;
-      given_field = refl;
-      emptied = e;
-      puts = subst (PutsBeside before t (table_of nf) k.members m) all (rw read puts);
-    }
+    first_stays : at between c ≡ at cs c
+    first_stays = get_or-set_other cs d c (having emptied (at cs d)) None can.differ
+
+    module _ (l : Members V) (given : Some l ≡ its_members (at cs d)) (k : Members V) (list : Some k ≡ its_members (at between c)) where
+      abbrev one : Collection V
+      one = record { field = field; members = k }
+
+      abbrev other : Collection V
+      other = record { field = can.given.field; members = l }
+
+      one_is : at cs c ≡ Some one
+      one_is = one_read (at cs c) field k has (list ∙ ap its_members first_stays)
+
+      other_is : at cs d ≡ Some other
+      other_is = one_read (at cs d) can.given.field l (sym (ap its_field can.given_is)) given
+
+      pair_fits : CanJoin before (map table_of tables) one other
+      pair_fits =
+          subst (CanJoin before (map table_of tables) one) (same_Some _ _ (sym can.given_is ∙ other_is))
+          (subst (λ x. CanJoin before (map table_of tables) x can.given) (same_Some _ _ (sym can.list_is ∙ one_is)) can.can)
+
+      module _ (now : WorldField M) (links : now ≡ get_or tables field now) (taken : Members V) (same : (t : Table Entry) (s : List Place) → Keeps t l s → Keeps t taken s) where
+        abbrev t : Table Entry
+        t = table (map table_of tables) field
+
+        read : t ≡ table_of now
+        read = table_read tables field now field_within links
+
+        all : members_in t taken ≡ members_in t l
+        all = one_sequence t (subst IsLawful (sym read) (lawful_field now.links)) taken (members_in t l) (same t (members_in t l) pair_fits.given).shown
+
+        -- the members that are put beside the cursor of the first list, as that asks
+        pub taken_held : Held (table_of now) taken
+        taken_held = subst (λ u. Held u taken) read (subst (Keeps t taken) (sym all) (same t (members_in t l) pair_fits.given))
+
+        -- and what is left
+        pub joined_by : Emptied l emptied → (nf : WorldField M) (m : Members V) → PutsBeside before (table_of now) (table_of nf) k m (members_in (table_of now) taken)
+            → AreJoined before (map table_of tables) (map table_of (set tables field nf)) cs (with_members between c m) c d
+        joined_by e nf m puts x y is_x is_y =
+            subst (λ z. IsJoined before (map table_of tables) (map table_of (set tables field nf)) cs (with_members between c m) c d z y) (same_Some _ _ (sym one_is ∙ is_x))
+            (subst (λ z. IsJoined before (map table_of tables) (map table_of (set tables field nf)) cs (with_members between c m) c d one z) (same_Some _ _ (sym other_is ∙ is_y)) (record {
+              list = after one m;
+              given = after other emptied;
+              puts = record {
+                t = table_of nf;
+                tables = map-set table_of tables field nf;
+                field = refl;
+                given_field = refl;
+                emptied = e;
+                puts = subst (PutsBeside before t (table_of nf) k m) all (rw read puts);
+              };
+              is = with_is between c one (first_stays ∙ one_is) m ∙ ap (λ z. set z c (Some (after one m))) (with_is cs d other other_is emptied);
+            }))

@@ -1,5 +1,5 @@
 -- A collection less, which was cleared.
-use Rattle.std.proofs.Common.{◌≡◌, ℕ, ◌<◌, inl, inr, Bool, List, length, set, Option, Some, None, refl, sym, ap, ◌∙◌, arith}
+use Rattle.std.proofs.Common.{◌≡◌, ℕ, inl, inr, Bool, List, length, set, Option, Some, None, refl, sym, ap, ◌∙◌, arith}
 use Rattle.std.proofs.lemmas.Bool.{cases_eq}
 use Rattle.std.proofs.lemmas.List.{get_or-set_same, get_or-set_other, get_or_past, length-set, map-set, set-set}
 use Rattle.std.specs.declared.cmp.Ordering.{Ordering}
@@ -84,14 +84,6 @@ module _ {A V K : Type 0} (cmp : K → K → Ordering) (key_of : A → V → K) 
       λ i. record (with_linked (with_collection old c None) s.field (unlinked (linked_of old s.field) s.members)) { collections = set-set old.collections c (Some (sequence_of s.field (cleared (state_in old s)))) None i } in
       step_accepted cmp key_of old (Dispose c) done (with_collection mid c None) (ap (λ o. asks_collection o (λ _. None)) a.2)
       (s, a.2, refl, ap (λ w. with_collection w c None) (a.4 ∙ ap (with_state old c s.field) a.3.1) ∙ last)
-
-  -- its number is one of the family's
-  pub still_in : StepOn cmp key_of old c (one.Whole Clear) done mid → c < length mid.collections
-  still_in step =
-      let a = cleared_there step in
-      let there : c < length old.collections = some_within old.collections c a.2 in
-      let same = ap (λ (w : Family A V). length w.collections) a.4 ∙ length-set old.collections c (Some (sequence_of a.0.field a.1)) in
-      omega (arith, there, same)
 
   -- and nothing is left linked, since it had no member any more
   pub none_disposed : {left : List Bool} → StepOn cmp key_of old c (one.Whole Clear) done mid → NoneLeftLinked left mid → NoneLeftLinked left (with_collection mid c None)

@@ -25,6 +25,7 @@ use Rattle.ic_world.specs.declared.call.Command.TheVariants.{IsLinked, ForceUnli
 use Rattle.ic_world.specs.declared.call.Refusal.TheVariants.{NoSuchObject}
 use Rattle.ic_world.specs.declared.call.Refusal.TheVariants.{IsMember as IsMemberRefusal}
 use Rattle.ic_world.specs.Family.{Family, Sequence, is_among, collection, linked_of, has_field, is_placed, has_member_in, is_member_in}
+use Rattle.ic_world.specs.Collections.{HasMember}
 use Rattle.ic_world.specs.LeftLinked.{IsKept}
 use Rattle.ic_world.specs.LinkedSets.{linked_in}
 use Rattle.ic_world.specs.Calls.{linked, done}
@@ -114,7 +115,7 @@ module _ {A V M : Type 0} {adapter : A} {objects : Objects V} {room : ℕ} (tabl
   has_at c = ap (has_member_in f p) (map_at (shown_as (map table_of tables)) cs c None)
 
   -- it has the place as a member, as its table tells
-  pub here_is : (c : ℕ) (k : Collection V) (t : WorldField M) → at cs c ≡ Some k → k.field ≡ f → t ≡ get_or tables f t → (b : Bool) → (IsTrue b ↔ IsMember p (members_in (table_of t) k.members))
+  here_is : (c : ℕ) (k : Collection V) (t : WorldField M) → at cs c ≡ Some k → k.field ≡ f → t ≡ get_or tables f t → (b : Bool) → (IsTrue b ↔ IsMember p (members_in (table_of t) k.members))
       → has_member_in f p (get_or (map (shown_as (map table_of tables)) cs) c None) ≡ b
   here_is c k t is same read b tells =
       let within : f < length tables = let a = whole.in_field c k is in omega (arith, a, same, length-map tables table_of) in
@@ -124,16 +125,17 @@ module _ {A V M : Type 0} {adapter : A} {objects : Objects V} {room : ℕ} (tabl
       ∙ ap (is_among p) (sym seen) ∙ among_is p (members_in (table_of t) k.members) b tells
 
   -- one of another field has not, nor has none
-  pub other_is : (c : ℕ) (k : Collection V) → at cs c ≡ Some k → k.field ≢ f → has_member_in f p (get_or (map (shown_as (map table_of tables)) cs) c None) ≡ false
+  other_is : (c : ℕ) (k : Collection V) → at cs c ≡ Some k → k.field ≢ f → has_member_in f p (get_or (map (shown_as (map table_of tables)) cs) c None) ≡ false
   other_is c k is other =
       has_at c ∙ ap (λ o. has_member_in f p (shown_as (map table_of tables) o)) is ∙ ap (λ x. x && is_among p (sequence (map table_of tables) k)) (ne_eqb k.field f other)
 
-  pub none_is : (c : ℕ) → at cs c ≡ None → has_member_in f p (get_or (map (shown_as (map table_of tables)) cs) c None) ≡ false
+  none_is : (c : ℕ) → at cs c ≡ None → has_member_in f p (get_or (map (shown_as (map table_of tables)) cs) c None) ≡ false
   none_is c is = has_at c ∙ ap (λ o. has_member_in f p (shown_as (map table_of tables) o)) is
 
-  -- AN UNLINKED OBJECT is a member of none
-  pub in_none : (t : WorldField M) → t ≡ get_or tables f t → IsUnlinked is_linked (table_of t) p → is_member_in (family_of adapter objects (map table_of tables) cs) f p ≡ false
-  in_none t read free =
+  -- it is a member of none, if no collection of the field has it
+  none_has : (t : WorldField M) → t ≡ get_or tables f t → ((c : ℕ) (k : Collection V) → at cs c ≡ Some k → k.field ≡ f → IsMember p (members_in (table_of t) k.members) → ⊥)
+      → is_member_in (family_of adapter objects (map table_of tables) cs) f p ≡ false
+  none_has t read lacks =
       list_any_none (has_member_in f p) xs (λ c d low. ap (has_member_in f p) (get_or_default xs c d None low) ∙ by c (at cs c) refl)
     where
       xs : List (Option Sequence)
@@ -142,9 +144,23 @@ module _ {A V M : Type 0} {adapter : A} {objects : Objects V} {room : ℕ} (tabl
       by : (c : ℕ) (o : Option (Collection V)) → at cs c ≡ o → has_member_in f p (get_or xs c None) ≡ false
       by c None is = none_is c is
       by c (Some k) is = elim (cases_eq k.field f) [
-        | inl same ↦ here_is c k t is same read false ((λ never. absurd (let no = never in cc)), (λ there. absurd (there (unlinked_absent (table_of t) k.members (members_in (table_of t) k.members) (held_read c k t is same read).shown free))))
+        | inl same ↦ here_is c k t is same read false ((λ never. absurd (let no = never in cc)), (λ there. absurd (lacks c k is same there)))
         | inr other ↦ other_is c k is other
       ]
+
+  -- AN UNLINKED OBJECT is a member of none
+  pub in_none : (t : WorldField M) → t ≡ get_or tables f t → IsUnlinked is_linked (table_of t) p → is_member_in (family_of adapter objects (map table_of tables) cs) f p ≡ false
+  in_none t read free =
+      none_has t read (λ c k is same there. there (unlinked_absent (table_of t) k.members (members_in (table_of t) k.members) (held_read c k t is same read).shown free))
+
+  -- AN OBJECT THAT THE COLLECTIONS OF THE FIELD WERE ASKED FOR is a member as they tell
+  pub asked : (t : WorldField M) → t ≡ get_or tables f t → (b : Bool) → (IsTrue b ↔ HasMember cs f (table_of t) p) → b ≡ is_member_in (family_of adapter objects (map table_of tables) cs) f p
+  asked t read true tells =
+      let h = tells.0 refl in
+      let here = here_is h.number h.one t h.is h.field read true ((λ _. h.member), (λ _. refl)) in
+      sym (list_any_at (has_member_in f p) (map (shown_as (map table_of tables)) cs) h.number None (rw length-map (some_within cs h.number h.is)) here)
+  asked t read false tells =
+      sym (none_has t read (λ c k is same there. let no = tells.1 (record { number = c; one = k; is = is; field = same; member = there }) in cc))
 
   -- A LINKED OBJECT is a member of one, where none was left linked
   pub in_some : (t : WorldField M) → f < length tables → t ≡ get_or tables f t → is_linked ((table_of t).entry p) ≡ true → t.left_linked ≡ false

@@ -1,10 +1,10 @@
 -- A CALL THAT HANDS A PART OUT, for the world: the collection is edited, and then there is one more.
 use Rattle.std.proofs.Common.{◌≡◌, ℕ, ◌<◌, inl, inr, Bool, true, false, List, [], ◌∷◌, ◌++◌, length, map, set, Option, Some, None, refl, sym, ap, ◌∙◌, subst}
-use Rattle.std.proofs.lemmas.List.{length-map, length-set, map-set}
+use Rattle.std.proofs.lemmas.List.{length-map, length-set, map-set, get_or_append_left, get_or_at, set_at, set-append_left}
 use Rattle.ic_unsafe_ref.specs.Objects.{Objects}
 use Rattle.ic_link_ops.specs.Sequences.{IsDisjoint}
 use Rattle.ic_link_ops.specs.Tables.{Table}
-use Rattle.ic_link_ops.proofs.SequenceLemmas.{absent_swap, some_same}
+use Rattle.ic_link_ops.proofs.SequenceLemmas.{absent_swap}
 use Rattle.ic_any_table.specs.declared.entry.Entry.{Entry}
 use Rattle.ic_any_table.specs.declared.field.Field.{Field}
 use Rattle.ic_world.specs.declared.field.WorldField.{WorldField}
@@ -12,15 +12,15 @@ use Rattle.ic_any_collection.specs.declared.members.Members.{Members}
 use Rattle.ic_any_collection.specs.Members.{Held, members_in, kind_in}
 use Rattle.ic_world.specs.declared.collection.Collection.{Collection}
 use Rattle.ic_world.specs.declared.part.Part.{Part}
-use Rattle.ic_world.specs.declared.call.Refusal.{Refusal}
 use Rattle.ic_world.specs.declared.call.Refusal.TheVariants.{WrongKind, OutOfMemory}
 use Rattle.ic_world.specs.Family.{Family, with_opened}
 use Rattle.ic_world.specs.Calls.{opened, refused, asks}
 use Rattle.ic_world.specs.Several.{has_part, PartsOf, OpensWith, StepOut, refusal_of_part, asks_collection}
-use Rattle.ic_world.specs.Turns.{HandsOut, asks_room, state_of}
+use Rattle.ic_world.specs.Turns.{HandsOut, state_of}
 use Rattle.ic_world.specs.LeftLinked.{NoneLeftLinked, IsKept}
 use Rattle.ic_world.specs.Tables.{table, table_of, left_in, sequence, seen_as, at, family_of, IsWhole}
-use Rattle.ic_world.proofs.Readings.{Found, left_back, collection_is}
+use Rattle.ic_world.proofs.Readings.{Found, left_back, collection_is, some_within, with_is}
+use Rattle.ic_world.specs.Collections.{with_members}
 use Rattle.ic_world.proofs.Edits.{Edit, after, at_after, here, new_sequence, same_sequence, edited_family, edited_whole}
 use Rattle.ic_world.proofs.Opened.{appended_whole, appended_family}
 use Rattle.ic_world.proofs.OneCall.{same_state}
@@ -81,61 +81,57 @@ module _ {V : Type 0} {objects : Objects V} {room : ℕ} {ts : List (Table Entry
         ∙ ap (λ w. with_opened w (seen_as more (members_in new handed))) (edited_family whole part_edit _ refl),
   )
 
-module _ {A V M : Type 0} {adapter : A} {objects : Objects V} {room : ℕ} {tables : List (WorldField M)} {cs : List (Option (Collection V))} (kept : IsKept adapter objects room tables cs)
-    {c : ℕ} {k : Collection V} {now : WorldField M} (at_k : Found tables cs c k now) {old : Family A V} (view : family_of adapter objects (map table_of tables) cs ≡ old) (part : Part) (has_room : Bool) (links : Field M) (m : Members V) where
-  abbrev nf : WorldField M
-  nf = record now { links = links }
-
-  abbrev tests : Option Refusal
-  tests = asks (has_part part (kind_in k.members)) WrongKind None
-
-  tested_by : refusal_of_part (family_of adapter objects (map table_of tables) cs) c part ≡ tests
-  tested_by = ap (λ o. asks_collection o (λ s. asks (has_part part s.kind) WrongKind None)) (collection_is adapter objects (map table_of tables) cs c k at_k.is)
-
+module _ {A V M : Type 0} {adapter : A} {objects : Objects V} {room : ℕ} (tables : List (WorldField M)) {cs : List (Option (Collection V))} (kept : IsKept adapter objects room tables cs)
+    (c : ℕ) {k : Collection V} {old : Family A V} (view : family_of adapter objects (map table_of tables) cs ≡ old) (part : Part) where
   -- where it is refused
-  module _ (same : (links ≡ now.links) × (m ≡ k.members)) where
-    pub refused_kept : IsKept adapter objects room (set tables k.field nf) (set cs c (Some (after k m)))
-    refused_kept = rw (same.0, same.1, at_k.table_back, at_k.list_back) kept
+  module _ (is : at cs c ≡ Some k) where
+    tested_by : (b : Bool) → has_part part (kind_in k.members) ≡ b → refusal_of_part (family_of adapter objects (map table_of tables) cs) c part ≡ asks b WrongKind None
+    tested_by b has = ap (λ o. asks_collection o (λ s. asks (has_part part s.kind) WrongKind None)) (collection_is adapter objects (map table_of tables) cs c k is) ∙ ap (λ x. asks x WrongKind None) has
 
-    pub refused_step : (x : Refusal) → Some x ≡ asks_room has_room tests
-        → StepOut old c part (refused x) (family_of adapter objects (map table_of (set tables k.field nf)) (set cs c (Some (after k m))))
-    refused_step x tested =
-        let P : List (WorldField M) → List (Option (Collection V)) → Type 0 = λ xs ys. StepOut old c part (refused x) (family_of adapter objects (map table_of xs) ys) in
-        let at_list = subst (P tables) (sym (ap (λ z. set cs c (Some (after k z))) same.1 ∙ at_k.list_back)) (subst (λ w. StepOut w c part (refused x) (family_of adapter objects (map table_of tables) cs)) view (by _ has_room tested_by tested)) in
-        subst (λ xs. P xs (set cs c (Some (after k m)))) (sym (ap (λ x. set tables k.field (record now { links = x })) same.0 ∙ at_k.table_back)) at_list
-      where
-        by : (o : Option Refusal) (room : Bool) → refusal_of_part (family_of adapter objects (map table_of tables) cs) c part ≡ o → Some x ≡ asks_room room o
-            → StepOut (family_of adapter objects (map table_of tables) cs) c part (refused x) (family_of adapter objects (map table_of tables) cs)
-        by (Some r) room e h = rw e (ap refused (some_same h), refl)
-        by None true e h = absurd cc
-        by None false e h = let f : x ≡ OutOfMemory = some_same h in rw (e, f) refl
+    pub part_lacking : has_part part (kind_in k.members) ≡ false → StepOut old c part (refused WrongKind) old
+    part_lacking lacks = rw (← view, tested_by false lacks) (refl, refl)
+
+    pub part_unroomed : has_part part (kind_in k.members) ≡ true → StepOut old c part (refused OutOfMemory) old
+    part_unroomed has = rw (← view, tested_by true has) refl
 
   -- where it is not
-  module _ (handed : Members V) (parts : HandsOut (PartsOf part) (table_of now) (table_of nf) k.members m handed) where
+  module _ {now : WorldField M} (at_k : Found tables cs c k now) (links : Field M) (m handed : Members V) (parts : HandsOut (PartsOf part) (table_of now) (table_of (record now { links = links })) k.members m handed)
+      (has : has_part part (kind_in k.members) ≡ true) where
+    abbrev nf : WorldField M
+    nf = record now { links = links }
+
+    abbrev handed_one : Collection V
+    handed_one = record { field = k.field; members = handed }
+
     there : HandsOut (PartsOf part) (table (map table_of tables) k.field) (table_of nf) k.members m handed
     there = rw at_k.read parts
 
-    pub handed_step : (n : ℕ) → n ≡ length cs → None ≡ asks_room has_room tests
-        → StepOut old c part (opened n) (family_of adapter objects (map table_of (set tables k.field nf)) (set cs c (Some (after k m)) ++ Some (record { field = k.field; members = handed }) ∷ []))
-    handed_step n number tested =
-        subst (λ w. StepOut w c part (opened n) (family_of adapter objects (map table_of (set tables k.field nf)) (set cs c (Some (after k m)) ++ Some (record { field = k.field; members = handed }) ∷ []))) view
-        (rw (tested_by ∙ sym (passed has_room _ tested), map-set) (part_hands kept.0 c k at_k.is part there n number))
-      where
-        passed : (room : Bool) (o : Option Refusal) → None ≡ asks_room room o → None ≡ o
-        passed room (Some r) h = absurd cc
-        passed true None h = refl
-        passed false None h = refl
+    pub handed_step : (n : ℕ) → n ≡ length cs → StepOut old c part (opened n) (family_of adapter objects (map table_of (set tables k.field nf)) (set cs c (Some (after k m)) ++ Some handed_one ∷ []))
+    handed_step n number =
+        subst (λ w. StepOut w c part (opened n) (family_of adapter objects (map table_of (set tables k.field nf)) (set cs c (Some (after k m)) ++ Some handed_one ∷ []))) view
+        (rw (tested_by at_k.is true has, map-set) (part_hands kept.0 c k at_k.is part there n number))
 
-    pub handed_kept : (n : ℕ) → n ≡ length cs → None ≡ asks_room has_room tests
-        → IsKept adapter objects room (set tables k.field nf) (set cs c (Some (after k m)) ++ Some (record { field = k.field; members = handed }) ∷ [])
-    handed_kept n number tested =
-        (rw map-set (part_whole kept.0 c k at_k.is part there), rw (left_back tables k.field now links at_k.table_back) (none_out (subst (NoneLeftLinked (left_in tables)) view kept.1) c part (opened n) (handed_step n number tested)))
+    pub handed_kept : IsKept adapter objects room (set tables k.field nf) (set cs c (Some (after k m)) ++ Some handed_one ∷ [])
+    handed_kept =
+        (rw map-set (part_whole kept.0 c k at_k.is part there), rw (left_back tables k.field now links at_k.table_back) (none_out (subst (NoneLeftLinked (left_in tables)) view kept.1) c part (opened (length cs)) (handed_step (length cs) refl)))
 
-    -- there is room, where it was not refused
-    pub had_room : None ≡ asks_room has_room tests → has_room ≡ true
-    had_room tested = by has_room _ tested
-      where
-        by : (room : Bool) (o : Option Refusal) → None ≡ asks_room room o → room ≡ true
-        by true o h = refl
-        by false None h = absurd cc
-        by false (Some r) h = absurd cc
+-- the collections, where an empty one was opened for the part first
+module _ {V : Type 0} (cs : List (Option (Collection V))) (c : ℕ) {k : Collection V} (is : at cs c ≡ Some k) (empty : Collection V) where
+  pub still_there : at (cs ++ Some empty ∷ []) c ≡ Some k
+  still_there = get_or_append_left cs (Some empty ∷ []) None c (some_within cs c is) ∙ is
+
+  module _ (m handed : Members V) (n : ℕ) (number : n ≡ length cs) where
+    abbrev first : List (Option (Collection V))
+    first = with_members (cs ++ Some empty ∷ []) c m
+
+    first_is : first ≡ set cs c (Some (after k m)) ++ Some empty ∷ []
+    first_is = with_is (cs ++ Some empty ∷ []) c k still_there m ∙ set-append_left cs (Some empty ∷ []) c (Some (after k m)) (some_within cs c is)
+
+    count : length (set cs c (Some (after k m))) ≡ n
+    count = length-set cs c (Some (after k m)) ∙ sym number
+
+    pub last_there : at first n ≡ Some empty
+    last_there = ap (λ x. at x n) first_is ∙ get_or_at (set cs c (Some (after k m))) (Some empty) [] None n count
+
+    pub handed_list : with_members first n handed ≡ set cs c (Some (after k m)) ++ Some (record { field = empty.field; members = handed }) ∷ []
+    handed_list = with_is first n empty last_there handed ∙ ap (λ x. set x n (Some (record { field = empty.field; members = handed }))) first_is ∙ set_at (set cs c (Some (after k m))) (Some empty) [] _ n count

@@ -5,6 +5,10 @@ pub mod Parted
 pub mod Linked
 pub mod Steps
 pub mod Readings
+pub mod ByNumber
+pub mod Entered
+pub mod TakenOut
+pub mod Live
 pub mod Edits
 pub mod Opened
 pub mod Turned

@@ -1,5 +1,5 @@
 -- A CALL OF ONE COLLECTION, for the world: what the collection's call gives is lifted once, for all calls.
-use Rattle.std.proofs.Common.{◌≡◌, ℕ, ◌⊎◌, inl, inr, true, false, List, [], ◌∷◌, ◌++◌, map, set, get_or, Option, Some, None, Bool, refl, sym, ap, ◌∙◌, subst, arith, Result, Ok, Err, OnErr, IfOk}
+use Rattle.std.proofs.Common.{◌≡◌, ℕ, ◌⊎◌, inl, inr, true, false, List, [], ◌∷◌, ◌++◌, map, set, Option, Some, None, Bool, refl, sym, ap, ◌∙◌, subst, arith, Result, Ok, Err, OnErr, IfOk}
 use Rattle.std.proofs.lemmas.Bool.{cases_eq, and_parts}
 use Rattle.std.proofs.lemmas.List.{map-set, set-get_or}
 use Rattle.std.specs.List.{list_all}
@@ -38,7 +38,7 @@ use Rattle.ic_world.specs.Tables.{table, table_of, sequence, seen_as, at, family
 use Rattle.ic_world.specs.Seen.{Sees}
 use Rattle.ic_world.specs.Step.{StepOn, refusal_on}
 use Rattle.ic_world.specs.Several.{state_in, asks_collection}
-use Rattle.ic_world.proofs.Readings.{Found, left_back, collection_is, linked_at, set_back}
+use Rattle.ic_world.proofs.Readings.{Found, left_back, collection_is, linked_at}
 use Rattle.ic_world.proofs.Edits.{Edit, after, edited_family, edited_whole, unlinked_family}
 use Rattle.ic_world.proofs.LeftLinked.{none_on}
 use Rattle.ic_world.proofs.Turned.{turns_still}
@@ -214,25 +214,22 @@ module _ {A V M : Type 0} {adapter : A} {objects : Objects V} {room : ℕ} {tabl
     kept_by =
         (whole_by, rw (left_back tables k.field now links at_k.table_back) (none_on kept.1 cmp key_of c call (reply_of accepted r) (step_by refl)))
 
--- the call is refused before the collection is touched, which is as it was read: an object that it names is not placed, or the kind lacks it
+-- the call is refused before the collection is touched: an object that it names is not placed, or the kind lacks it
 module _ {A V K : Type 0} (cmp : K → K → Ordering) (key_of : A → V → K) (adapter : A) (objects : Objects V) (ts : List (Table Entry)) (cs : List (Option (Collection V))) (c : ℕ) (k : Collection V)
-    {o : Option (Collection V)} (call : Call K) {old : Family A V} (view : family_of adapter objects ts cs ≡ old) (is : at cs c ≡ Some k) (read : o ≡ get_or cs c o) (there : o ≡ Some k) where
+    (call : Call K) {old : Family A V} (view : family_of adapter objects ts cs ≡ old) (is : at cs c ≡ Some k) where
   abbrev w : Family A V
   w = family_of adapter objects ts cs
 
-  step_early : (r : Refusal) → asks (list_all (is_placed w) (names call)) NoSuchObject (refusal_of call (state_in w (seen_as k (sequence ts k)))) ≡ Some r
-      → StepOn cmp key_of old c call (refused r) (family_of adapter objects ts (set cs c (Some k)))
+  step_early : (r : Refusal) → asks (list_all (is_placed w) (names call)) NoSuchObject (refusal_of call (state_in w (seen_as k (sequence ts k)))) ≡ Some r → StepOn cmp key_of old c call (refused r) old
   step_early r first =
-      let back = set_back cs c (Some k) (rw there at read) in
       let e : refusal_on w c call ≡ Some r =
       ap (λ o. asks_collection o (λ s. asks (list_all (is_placed w) (names call)) NoSuchObject (refusal_of call (state_in w s)))) (collection_is adapter objects ts cs c k is) ∙ first in
-      rw (← view, e, back) (refl, refl)
+      rw (← view, e) (refl, refl)
 
-  pub step_unplaced : list_all (place_is_placed objects) (names call) ≡ false → StepOn cmp key_of old c call (refused NoSuchObject) (family_of adapter objects ts (set cs c (Some k)))
+  pub step_unplaced : list_all (place_is_placed objects) (names call) ≡ false → StepOn cmp key_of old c call (refused NoSuchObject) old
   step_unplaced lacks = step_early NoSuchObject (ap (λ b. asks b NoSuchObject (refusal_of call (state_in w (seen_as k (sequence ts k))))) lacks)
 
-  pub step_lacking : list_all (place_is_placed objects) (names call) ≡ true → has_call call (kind_in k.members) ≡ false
-      → StepOn cmp key_of old c call (refused WrongKind) (family_of adapter objects ts (set cs c (Some k)))
+  pub step_lacking : list_all (place_is_placed objects) (names call) ≡ true → has_call call (kind_in k.members) ≡ false → StepOn cmp key_of old c call (refused WrongKind) old
   step_lacking placed lacks =
       step_early WrongKind (ap (λ b. asks b NoSuchObject (refusal_of call (state_in w (seen_as k (sequence ts k))))) placed
       ∙ ap (λ b. asks b WrongKind (own_refusal call (state_in w (seen_as k (sequence ts k))))) lacks)

@@ -1,6 +1,8 @@
 -- What the family of some parts has at a place, in a field and under a number.
 use Rattle.std.proofs.Common.{◌≡◌, ℕ, Bool, ◌<◌, List, length, map, set, get_or, Option, Some, None, refl, sym, ap, subst, ◌∙◌, arith}
-use Rattle.std.proofs.lemmas.List.{length-map, get_or_default, get_or_past, get_or-map, map-set, set-get_or}
+use Rattle.std.specs.Prelude.{IsSome}
+use Rattle.std.proofs.lemmas.Option.{same_Some}
+use Rattle.std.proofs.lemmas.List.{length-map, get_or_past, get_or-map, map-set, set-get_or}
 use Rattle.std.proofs.Math.ListN.{get_or-map as map_at}
 use Rattle.ic_unsafe_ref.specs.Objects.{Objects}
 use Rattle.ic_link_ops.specs.Tables.{Table}
@@ -8,7 +10,9 @@ use Rattle.ic_any_table.specs.declared.entry.Entry.{Entry}
 use Rattle.ic_any_table.specs.declared.field.Field.{Field}
 use Rattle.ic_world.specs.declared.field.WorldField.{WorldField}
 use Rattle.ic_world.specs.declared.collection.Collection.{Collection}
+use Rattle.ic_any_collection.specs.declared.members.Members.{Members}
 use Rattle.ic_any_collection.specs.Members.{Held}
+use Rattle.ic_world.specs.Collections.{its_field, its_members, having, with_members}
 use Rattle.ic_world.specs.Tables.{table, table_of, left_in, no_table, field_in, sequence, seen_as, shown_as, at, family_of}
 use Rattle.ic_world.specs.LeftLinked.{IsKept}
 use Rattle.ic_world.specs.LinkedSets.{linked_in}
@@ -44,28 +48,41 @@ module _ {V : Type 0} where
     pub read : table (map table_of tables) k.field ≡ table_of now
     pub held : Held (table_of now) k.members
     pub table_back : set tables k.field now ≡ tables
-    pub list_back : set cs c (Some k) ≡ cs
 
-  pub found_at : (cs : List (Option (Collection V))) (c : ℕ) {n len : ℕ} {o x : Option (Collection V)}
-      → c < n → n ≡ len → len ≡ length cs → o ≡ get_or cs c o → o ≡ x → at cs c ≡ x
-  found_at cs c {n} {len} {o} {x} h e l read is = get_or_default cs c None o (omega (arith, h, e, l)) ∙ sym read ∙ is
-
-  pub found : {A M : Type 0} {adapter : A} {objects : Objects V} {room : ℕ} (tables : List (WorldField M)) {cs : List (Option (Collection V))} {c n len : ℕ} {o : Option (Collection V)} {k : Collection V} {now : WorldField M}
-      → IsKept adapter objects room tables cs → c < n → n ≡ len → len ≡ length cs → o ≡ get_or cs c o → o ≡ Some k → now ≡ get_or tables k.field now
-      → Found tables cs c k now
-  found {objects = objects} tables {cs} {c = c} {k = k} {now = now} kept h e l collection is links =
-      let at_c = found_at cs c h e l collection is in
-      let field = kept.0.in_field c k at_c in
+  pub found : {A M : Type 0} {adapter : A} {objects : Objects V} {room : ℕ} (tables : List (WorldField M)) {cs : List (Option (Collection V))} {c : ℕ} {k : Collection V} {now : WorldField M}
+      → IsKept adapter objects room tables cs → at cs c ≡ Some k → now ≡ get_or tables k.field now → Found tables cs c k now
+  found tables {c = c} {k = k} {now = now} kept is links =
+      let field = kept.0.in_field c k is in
       let read = table_read tables k.field now (rw length-map at field) links in
       let P : Table Entry → Type 0 = λ t. Held t k.members in
       record {
-        is = at_c;
+        is = is;
         field = field;
         read = read;
-        held = subst P read (kept.0.held c k at_c);
+        held = subst P read (kept.0.held c k is);
         table_back = set_back tables k.field now links;
-        list_back = set_back cs c (Some k) (rw is at collection);
       }
+
+  -- what a call reads of a collection: that there is one, and which one it is; or that there is none
+  pub is_there : (o : Option (Collection V)) {f : ℕ} → Some f ≡ its_field o → IsSome o
+  is_there None h = absurd cc
+  is_there (Some k) h = refl
+
+  pub some_read : (o : Option (Collection V)) {f : ℕ} → Some f ≡ its_field o → (k : Collection V) × (o ≡ Some k)
+  some_read None h = absurd cc
+  some_read (Some k) h = (k, refl)
+
+  pub none_there : (o : Option (Collection V)) → None ≡ its_field o → o ≡ None
+  none_there None h = refl
+  none_there (Some k) h = absurd cc
+
+  pub one_read : (o : Option (Collection V)) (f : ℕ) (m : Members V) → Some f ≡ its_field o → Some m ≡ its_members o → o ≡ Some (record { field = f; members = m })
+  one_read None f m h e = absurd cc
+  one_read (Some k) f m h e = λ i. Some (record { field = same_Some _ _ (sym h) i; members = same_Some _ _ (sym e) i })
+
+  -- it has other members now
+  pub with_is : (cs : List (Option (Collection V))) (c : ℕ) (k : Collection V) → at cs c ≡ Some k → (m : Members V) → with_members cs c m ≡ set cs c (Some (record { field = k.field; members = m }))
+  with_is cs c k is m = ap (λ o. set cs c (having m o)) is
 
   module _ {A : Type 0} (adapter : A) (objects : Objects V) (ts : List (Table Entry)) (cs : List (Option (Collection V))) where
     pub collection_at : (c : ℕ) → collection (family_of adapter objects ts cs) c ≡ shown_as ts (at cs c)
@@ -83,7 +100,6 @@ module _ {V : Type 0} where
     pub linked_at : (f : ℕ) → f < length ts → linked_of (family_of adapter objects ts cs) f ≡ linked_in (table ts f)
     linked_at f h = ap (λ x. x.linked) (field_at f h)
 
-    -- where nothing stands under a number, what was read there and is written back changes nothing
-    pub missing : (c : ℕ) (o : Option (Collection V)) → at cs c ≡ None → o ≡ get_or cs c o → {old : Family A V} → family_of adapter objects ts cs ≡ old
-        → (collection old c ≡ None) × (family_of adapter objects ts (set cs c o) ≡ old)
-    missing c o is read view = rw (← view, set_back cs c o read) (collection_not c is, refl)
+    -- where nothing stands under a number, the family has nothing
+    pub missing : (c : ℕ) → at cs c ≡ None → {old : Family A V} → family_of adapter objects ts cs ≡ old → collection old c ≡ None
+    missing c is view = rw (← view) (collection_not c is)

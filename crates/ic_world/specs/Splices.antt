@@ -1,5 +1,5 @@
 -- Splices behind a cursor, and in front of it.
-use Rattle.std.specs.Prelude.{◌≡◌, Bool, true, false, List, [], Option, Some, None, length, ◌<◌, slice_set}
+use Rattle.std.specs.Prelude.{◌≡◌, ◌≢◌, ℕ, Bool, true, false, List, [], Option, Some, None, length, ◌<◌, slice_set}
 use Rattle.ic_unsafe_ref.specs.declared.place.Place.{Place}
 use Rattle.ic_link_ops.specs.Sequences.{Cut, IsAfter, IsBefore, IsDisjoint}
 use Rattle.ic_link_ops.specs.Tables.{Table}
@@ -9,7 +9,7 @@ use Rattle.ic_any_collection.specs.declared.members.Members.{Members}
 use Rattle.ic_any_collection.specs.Members.{is_list, is_two_way_list, kind_in, cursor_in, members_in, Keeps, Held, Alike}
 use Rattle.ic_any_collection.specs.Edits.{AtGap, PutsAll}
 use Rattle.ic_world.specs.declared.collection.Collection.{Collection}
-use Rattle.ic_world.specs.Tables.{table}
+use Rattle.ic_world.specs.Tables.{table, at}
 
 -- in front of the cursor, if `before`, and else behind it
 abbrev pub IsBesideOf : Bool → Cut → Option Place → Type 0
@@ -41,9 +41,14 @@ module _ {V : Type 0} where
     pub kinds : kind_in l.members ≡ kind_in k.members
     pub apart : IsDisjoint (members_in (table ts k.field) l.members) (members_in (table ts k.field) k.members)
 
-  abbrev pub CanBeJoined : Bool → List (Table Entry) → (k l : Option (Collection V)) → Type 0
-  CanBeJoined before ts (Some k) (Some l) = CanJoin before ts k l
-  CanBeJoined before ts _ _ = ⊥
+  -- collections c and d are two that can be spliced
+  pub record CanBeJoined (before : Bool) (ts : List (Table Entry)) (cs : List (Option (Collection V))) (c d : ℕ) : Type 0 where
+    pub list : Collection V
+    pub given : Collection V
+    pub list_is : at cs c ≡ Some list
+    pub given_is : at cs d ≡ Some given
+    pub differ : c ≢ d
+    pub can : CanJoin before ts list given
 
   -- THE MEMBERS OF l ARE PUT beside the cursor of k, and of all tables that of k's field alone is changed
   pub record PutsTogether (before : Bool) (ts us : List (Table Entry)) (k l k' l' : Collection V) : Type 0 where
@@ -54,6 +59,12 @@ module _ {V : Type 0} where
     pub emptied : Emptied l.members l'.members
     pub puts : PutsBeside before (table ts k.field) t k.members k'.members (members_in (table ts k.field) l.members)
 
-  abbrev pub AreJoined : Bool → (ts us : List (Table Entry)) (k l k' l' : Option (Collection V)) → Type 0
-  AreJoined before ts us (Some k) (Some l) (Some k') (Some l') = PutsTogether before ts us k l k' l'
-  AreJoined before ts us _ _ _ _ = ⊥
+  -- and collections c and d are these two
+  pub record IsJoined (before : Bool) (ts us : List (Table Entry)) (cs new : List (Option (Collection V))) (c d : ℕ) (k l : Collection V) : Type 0 where
+    pub list : Collection V
+    pub given : Collection V
+    pub puts : PutsTogether before ts us k l list given
+    pub is : new ≡ slice_set (slice_set cs d (Some given)) c (Some list)
+
+  abbrev pub AreJoined : Bool → (ts us : List (Table Entry)) (cs new : List (Option (Collection V))) (c d : ℕ) → Type 0
+  AreJoined before ts us cs new c d = (k l : Collection V) → at cs c ≡ Some k → at cs d ≡ Some l → IsJoined before ts us cs new c d k l

@@ -1,5 +1,5 @@
 -- What a call of one collection gives to the world, whatever it does.
-use Rattle.std.specs.Prelude.{◌≡◌, ◌⊎◌, Bool, true, false, Option, Some, None, List, [], ◌∷◌, ◌++◌, Result, Ok, Err, IfOk, OnErr}
+use Rattle.std.specs.Prelude.{◌≡◌, ◌⊎◌, true, Option, Some, None, List, [], ◌∷◌, ◌++◌, Result, Ok, Err, IfOk, OnErr}
 use Rattle.ic_unsafe_ref.specs.declared.place.Place.{Place}
 use Rattle.ic_link_ops.specs.Sequences.{IsAbsent, IsDisjoint}
 use Rattle.ic_link_ops.specs.Tables.{Table, KeepsBeside, KeepsLinked, IsUnlinked}
@@ -11,7 +11,6 @@ use Rattle.ic_any_collection.specs.declared.members.Members.{Members}
 use Rattle.ic_any_collection.specs.Members.{kind_in, cursor_in, members_in, Held, Alike}
 use Rattle.ic_any_collection.specs.Edits.{IsUnchanged}
 use Rattle.ic_world.specs.declared.call.Refusal.{Refusal}
-use Rattle.ic_world.specs.declared.call.Refusal.TheVariants.{OutOfMemory}
 use Rattle.ic_world.specs.LinkedSets.{linked_in}
 use Rattle.ic_world.specs.Calls.{State}
 
@@ -19,12 +18,6 @@ use Rattle.ic_world.specs.Calls.{State}
 abbrev pub refusal_in : {A : Type 0} → Result A Refusal → Option Refusal
 refusal_in (Ok a) = None
 refusal_in (Err r) = Some r
-
--- the refusal of the tests, and want of memory after them
-abbrev pub asks_room : Bool → Option Refusal → Option Refusal
-asks_room room (Some r) = Some r
-asks_room true None = None
-asks_room false None = Some OutOfMemory
 
 -- P holds of each place
 abbrev pub Each : (Place → Type 0) → List Place → Type 0

@@ -6,7 +6,7 @@
 //! world.splice_after(queue, rest)?;     // and back
 //! ```
 
-ghost use Rattle.std.specs.Prelude.{◌≡◌, true, None, map, slice_index_or, slice_set};
+ghost use Rattle.std.specs.Prelude.{◌≡◌, true, None, map};
 ghost use Rattle.ic_link_ops.specs.Sequences.{IsDisjoint};
 ghost use Rattle.ic_any_table.specs.Fields.{look};
 ghost use Rattle.ic_any_collection.specs.Members.{kind_in, members_in, Held};
@@ -17,40 +17,14 @@ use crate::World;
 use crate::call::{Command, Refusal};
 use crate::calls::kinds::{has_before, is_list, is_two_way_list, same_kind};
 use crate::calls::whole::Whole;
-use crate::collection::Collection;
+use crate::collections_by_number::CollectionsByNumber;
 use crate::field::WorldField;
 use crate::part::Part;
-use crate::world::append;
 use ic_any_collection::Members;
 use ic_any_table::{Field, Kind};
 use ic_rbtree::KeyAdapter;
 use ic_unsafe_ref::Place;
 use std::alloc::Allocator;
-use std::mem;
-
-// Puts an item, or none, in the place of another, which it answers.
-fn exchange<T: Drop, M: Allocator>(
-    items: &mut Vec<Option<T>, M>,
-    number: usize,
-    item: Option<T>,
-) -> Option<T>
-    ensures was { result ≡ slice_index_or items.old.items number None }
-    ensures set { items.new.items ≡ slice_set items.old.items number item }
-{
-    if number >= items.len() {
-        return None;
-    }
-    mem::replace(&mut items[number], item)
-}
-
-// Puts an item, or none, in the place of another.
-fn put<T: Drop, M: Allocator>(items: &mut Vec<Option<T>, M>, number: usize, item: Option<T>)
-    ensures { items.new.items ≡ slice_set items.old.items number item }
-{
-    if number < items.len() {
-        items[number] = item;
-    }
-}
 
 // Puts all members of the given list beside the cursor of another.
 fn put_beside<T, M: Allocator>(
@@ -74,23 +48,23 @@ fn put_beside<T, M: Allocator>(
 }
 
 // Puts all members of the given list beside the cursor of another of its field. The given one stays, with no member.
-fn join<T, M: Allocator>(
-    list: &mut Option<Collection<T>>,
-    given: &mut Option<Collection<T>>,
+fn join<T, M: Allocator + Copy>(
+    collections: &mut CollectionsByNumber<T, M>,
     tables: &mut Vec<WorldField<M>, M>,
+    list: usize,
+    given: usize,
     before: bool,
 )
-    requires { CanBeJoined before (map table_of tables.old.items) list.old given.old }
-    ensures joined { AreJoined before (map table_of tables.old.items) (map table_of tables.new.items) list.old given.old list.new given.new }
+    requires { CanBeJoined before (map table_of tables.old.items) collections.old list given }
+    ensures joined { AreJoined before (map table_of tables.old.items) (map table_of tables.new.items) collections.old collections.new list given }
     ensures left { left_in tables.new.items ≡ left_in tables.old.items }
 {
-    if let Some(list) = list {
-        if let Some(given) = given {
-            let taken = given.members.take();
-            let links = &mut tables[list.field].links;
-            put_beside(&mut list.members, links, taken, before);
-        }
-    }
+    let Some(field) = collections.field_of(list) else {
+        unreachable!();
+    };
+    let taken = collections.members_mut(given).take();
+    let links = &mut tables[field].links;
+    put_beside(collections.members_mut(list), links, taken, before);
 }
 
 impl<A: KeyAdapter, M: Allocator + Copy> World<A, M> {
@@ -112,8 +86,7 @@ impl<A: KeyAdapter, M: Allocator + Copy> World<A, M> {
         if let Some(refusal) = self.open_refused(field, kind) {
             return Err(refusal);
         }
-        let members = Members::new(kind);
-        append(&mut self.collections, Some(Collection { field, members }))
+        self.collections.push(field, Members::new(kind))
     }
 
     // The refusal of a collection of a kind in a field.
@@ -138,7 +111,7 @@ impl<A: KeyAdapter, M: Allocator + Copy> World<A, M> {
         match self.call(collection, &Whole::Clear) {
             Err(refusal) => Err(refusal),
             Ok(()) => {
-                self.collections[collection] = None;
+                self.collections.dispose(collection);
                 Ok(())
             }
         }
@@ -212,13 +185,8 @@ impl<A: KeyAdapter, M: Allocator + Copy> World<A, M> {
     fn seen(&self, collection: usize) -> Option<(usize, Kind)>
         ensures { result ≡ field_and_kind (collection_of self.now collection) }
     {
-        if collection >= self.collections.len() {
-            return None;
-        }
-        match &self.collections[collection] {
-            None => None,
-            Some(found) => Some((found.field, found.members.kind())),
-        }
+        let field = self.collections.field_of(collection)?;
+        Some((field, self.collections.members(collection).kind()))
     }
 
     // The refusal of a splice, of a list or of one with calls at its back.
@@ -255,11 +223,13 @@ impl<A: KeyAdapter, M: Allocator + Copy> World<A, M> {
         if let Some(refusal) = self.splice_refused(collection, given, before) {
             return Err(refusal);
         }
-        let mut list = exchange(&mut self.collections, collection, None);
-        let mut given_list = exchange(&mut self.collections, given, None);
-        join(&mut list, &mut given_list, &mut self.fields, before);
-        put(&mut self.collections, collection, list);
-        put(&mut self.collections, given, given_list);
+        join(
+            &mut self.collections,
+            &mut self.fields,
+            collection,
+            given,
+            before,
+        );
         Ok(())
     }
 
@@ -290,7 +260,7 @@ impl<A: KeyAdapter, M: Allocator + Copy> World<A, M> {
     pub fn family_is_sound(&self)
         ensures { IsSound self.now }
     {
-        let _ = self.collections.len();
+        let _ = &self.collections;
     }
 
     /// Says that no place stands twice in a collection, nor in two collections of one field. It does nothing.
@@ -298,13 +268,13 @@ impl<A: KeyAdapter, M: Allocator + Copy> World<A, M> {
         ensures { AreApart self.now }
     {
         // What is read is kept by a world, of which this is the law.
-        let _ = self.collections.len();
+        let _ = &self.collections;
     }
 
     /// Says that an object stands at each member of each collection. It does nothing.
     pub fn every_member_is_placed(&self)
         ensures { AreAllPlaced self.now }
     {
-        let _ = self.collections.len();
+        let _ = &self.collections;
     }
 }

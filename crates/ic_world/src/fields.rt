@@ -77,31 +77,13 @@ impl<A: KeyAdapter, M: Allocator + Copy> World<A, M> {
         if !found.links.is_linked(object) {
             return false;
         }
-        !found.left_linked || self.is_listed(field, object)
-    }
-
-    // Whether the object, which is placed, stands in a collection of the field: they are asked one after the other.
-    fn is_listed(&self, field: usize, object: Place) -> bool
-        requires placed { is_placed self.now object ≡ true }
-        requires there { has_field self.now field ≡ true }
-        ensures { result ≡ is_member_in self.now field object }
-    {
-        for c in 0..self.collections.len() {
-            if let Some(found) = &self.collections[c] {
-                if found.field == field
-                    && found.members.contains(&self.fields[field].links, object)
-                {
-                    return true;
-                }
-            }
-        }
-        false
+        !found.left_linked || self.collections.any_contains(field, &found.links, object)
     }
 
     /// Unlinks an object in a field where it is a member of no collection, as `fast_clear` leaves it. An unlinked one stays unlinked.
     ///
     /// Refused: `NoSuchField`, `NoSuchObject`, `IsMember`. O(1) where it is not linked, or no [`World::fast_clear`] was made in the field;
-    /// else O(collections), and of lists O(members). It takes no memory.
+    /// else O(live collections of the field), and of lists O(their members). It takes no memory.
     pub fn force_unlink(&mut self, field: usize, object: Place) -> Result<(), Refusal>
         ensures { Step A.Key.cmp A.key_of self.old (Command.ForceUnlink field object) (reply_of (λ _. done) result) self.new }
     {

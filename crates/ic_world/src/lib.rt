@@ -14,6 +14,7 @@ mod call;
 mod calls;
 mod collection;
 mod collections;
+mod collections_by_number;
 mod field;
 mod fields;
 mod objects;

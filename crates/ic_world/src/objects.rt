@@ -112,7 +112,8 @@ impl<A: KeyAdapter, M: Allocator + Copy> World<A, M> {
 
     /// Takes an object out that is linked in no field, and returns its value.
     ///
-    /// Refused: `NoSuchObject`, `StillLinked`. O(fields). It takes no memory.
+    /// Refused: `NoSuchObject`, `StillLinked`. It asks the table of each field, one after the other, until one has it linked: O(fields),
+    /// also for an object that never was linked. It takes no memory.
     pub fn remove_object(&mut self, object: Place) -> Result<A::Value, Refusal>
         ensures step { Step A.Key.cmp A.key_of self.old (Command.RemoveObject object) (reply_of (λ _. done) result) self.new }
         ensures value { IfOk result (λ value. map.get self.old.objects (index_of object) ≡ Some value) }

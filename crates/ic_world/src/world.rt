@@ -9,7 +9,7 @@ ghost use Rattle.ic_world.specs.Pieces.{Appends};
 
 use crate::call::Refusal;
 use crate::calls::one_call::OneCall;
-use crate::collection::Collection;
+use crate::collections_by_number::CollectionsByNumber;
 use crate::field::WorldField;
 use crate::part::Part;
 use ic_any_collection::Members;
@@ -32,7 +32,7 @@ pub struct World<A: KeyAdapter, M: Allocator + Copy = Global> {
     // How many places each field covers at least.
     pub(crate) room: usize,
     pub(crate) fields: Vec<WorldField<M>, M>,
-    pub(crate) collections: Vec<Option<Collection<A::Value>>, M>,
+    pub(crate) collections: CollectionsByNumber<A::Value, M>,
 }
 
 // Appends an item, and answers its number.
@@ -58,9 +58,9 @@ impl<A: KeyAdapter, M: Allocator + Copy> Model for World<A, M> {
     ghost use Rattle.ic_world.specs.Tables.{table_of, family_of};
     ghost use Rattle.ic_world.specs.LeftLinked.{IsKept};
 
-    ghost view = { λ w. family_of w.adapter w.objects (map table_of w.fields.items) w.collections.items };
+    ghost view = { λ w. family_of w.adapter w.objects (map table_of w.fields.items) w.collections };
 
-    ghost invariant = { λ w. IsKept w.adapter w.objects w.room w.fields.items w.collections.items };
+    ghost invariant = { λ w. IsKept w.adapter w.objects w.room w.fields.items w.collections };
 }
 
 impl<A: KeyAdapter, M: Allocator + Copy> World<A, M> {
@@ -82,7 +82,7 @@ impl<A: KeyAdapter, M: Allocator + Copy> World<A, M> {
             objects: Objects::new(alloc),
             room: 0,
             fields: Vec::new(alloc),
-            collections: Vec::new(alloc),
+            collections: CollectionsByNumber::new(alloc),
         }
     }
 
@@ -103,46 +103,38 @@ impl<A: KeyAdapter, M: Allocator + Copy> World<A, M> {
     ) -> Result<C::Answer, Refusal>
         ensures { StepOn A.Key.cmp A.key_of self.old collection (C.call call.now) (reply_of C.reply result) self.new }
     {
-        if collection >= self.collections.len() {
+        let Some(field) = self.collections.field_of(collection) else {
             return Err(Refusal::NoSuchCollection);
+        };
+        if !call.is_placed(&self.objects) {
+            return Err(Refusal::NoSuchObject);
         }
-        let placed = call.is_placed(&self.objects);
-        match &mut self.collections[collection] {
-            None => Err(Refusal::NoSuchCollection),
-            Some(found) => {
-                if !placed {
-                    return Err(Refusal::NoSuchObject);
-                }
-                if !call.is_of(found.members.kind()) {
-                    return Err(Refusal::WrongKind);
-                }
-                let links = &mut self.fields[found.field].links;
-                call.run(&mut found.members, links, &self.objects, self.adapter)
-            }
+        if !call.is_of(self.collections.members(collection).kind()) {
+            return Err(Refusal::WrongKind);
         }
+        let links = &mut self.fields[field].links;
+        let members = self.collections.members_mut(collection);
+        call.run(members, links, &self.objects, self.adapter)
     }
 
     // Hands a part of a collection out to a new one of the same field and kind, and answers its number.
     pub(crate) fn hand_out(&mut self, collection: usize, part: Part) -> Result<usize, Refusal>
         ensures { StepOut self.old collection part (reply_of (λ c. opened c) result) self.new }
     {
-        let number = self.collections.len();
-        if collection >= number {
+        let Some(field) = self.collections.field_of(collection) else {
             return Err(Refusal::NoSuchCollection);
+        };
+        let kind = self.collections.members(collection).kind();
+        if !part.is_of(kind) {
+            return Err(Refusal::WrongKind);
         }
-        let has_room = self.collections.try_reserve(1).is_ok();
-        match &mut self.collections[collection] {
-            None => Err(Refusal::NoSuchCollection),
-            Some(found) => {
-                let field = found.field;
+        match self.collections.push(field, Members::new(kind)) {
+            Err(refusal) => Err(refusal),
+            Ok(number) => {
                 let links = &mut self.fields[field].links;
-                match part.hand_out(&mut found.members, links, has_room) {
-                    Err(refusal) => Err(refusal),
-                    Ok(members) => {
-                        let _ = self.collections.push(Some(Collection { field, members }));
-                        Ok(number)
-                    }
-                }
+                let handed = part.hand_out(self.collections.members_mut(collection), links);
+                *self.collections.members_mut(number) = handed;
+                Ok(number)
             }
         }
     }
@@ -152,12 +144,10 @@ impl<A: KeyAdapter, M: Allocator + Copy> World<A, M> {
         ensures some { IfSome result (λ found. Sees self.now collection (look found.1.now) found.0.now) }
         ensures none { IfNone result (collection_of self.now collection ≡ None) }
     {
-        if collection >= self.collections.len() {
-            return None;
-        }
-        match &self.collections[collection] {
-            None => None,
-            Some(found) => Some((&found.members, &self.fields[found.field].links)),
-        }
+        let field = self.collections.field_of(collection)?;
+        Some((
+            self.collections.members(collection),
+            &self.fields[field].links,
+        ))
     }
 }

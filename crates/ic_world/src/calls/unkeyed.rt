@@ -223,16 +223,11 @@ impl<A: KeyAdapter, M: Allocator + Copy> World<A, M> {
     pub fn fast_clear(&mut self, collection: usize) -> Result<(), Refusal>
         ensures { Step A.Key.cmp A.key_of self.old (Command.FastClear collection) (reply_of (λ _. done) result) self.new }
     {
-        if collection >= self.collections.len() {
+        let Some(field) = self.collections.field_of(collection) else {
             return Err(Refusal::NoSuchCollection);
-        }
-        match &mut self.collections[collection] {
-            None => Err(Refusal::NoSuchCollection),
-            Some(found) => {
-                let _ = found.members.take();
-                self.fields[found.field].left_linked = true;
-                Ok(())
-            }
-        }
+        };
+        let _ = self.collections.members_mut(collection).take();
+        self.fields[field].left_linked = true;
+        Ok(())
     }
 }

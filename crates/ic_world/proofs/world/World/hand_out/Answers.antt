@@ -1,63 +1,147 @@
-use Rattle.std.proofs.Common.{◌∙◌, refl, sym, ap, arith, length, map}
+use Rattle.std.proofs.Common.{◌≡◌, ◌∙◌, refl, sym, ap, subst, arith, map, set}
+use Rattle.std.specs.Prelude.{IsSome}
 use Rattle.std.proofs.lemmas.List.{length-map}
-use Rattle.ic_world.specs.Tables.{table_of, family_of}
-use Rattle.ic_world.proofs.Readings.{found, found_at, missing}
-use Rattle.ic_world.proofs.Steps.{from_ok, if_ok}
-use Rattle.ic_world.proofs.HandedOut.{refused_kept, refused_step, handed_kept, handed_step, had_room}
+use Rattle.std.proofs.lemmas.Option.{same_Some}
+use Rattle.ic_any_collection.specs.Members.{kind_in}
+use Rattle.ic_world.specs.declared.collection.Collection.{Collection}
+use Rattle.ic_world.specs.Calls.{opened, refused}
+use Rattle.ic_world.specs.Collections.{its_members, with_members}
+use Rattle.ic_world.specs.LeftLinked.{IsKept}
+use Rattle.ic_world.specs.Several.{has_part, StepOut}
+use Rattle.ic_world.specs.Tables.{at, table_of, family_of}
+use Rattle.ic_world.proofs.Readings.{found, missing, none_there, one_read}
+use Rattle.ic_world.proofs.HandedOut.{part_lacking, part_unroomed, handed_kept, handed_step, still_there, last_there, handed_list}
 use Rattle.ic_world.proofs.world.World.hand_out.Goals as goal
 
-pub index_mut-requires-in-Some : goal.index_mut-requires-in-Some
-index_mut-requires-in-Some g c =
+pub returns-in_default : goal.returns-in_default
+returns-in_default g c =
+    let cs = c.self.inside.collections in
+    rw (missing c.self.inside.adapter c.self.inside.objects (map table_of c.self.inside.fields.items) cs c.args.collection (none_there (at cs c.args.collection) (sym c.in_default.is ∙ c.field_of.ensures)) c.self.view_is) (refl, refl)
+
+pub returns-then-not-is_of : goal.returns-then-not-is_of
+returns-then-not-is_of g c =
+    let cs = c.self.inside.collections in
     let fields = c.self.inside.fields in
-    let kept = rw (← c.try_reserve.ensures.items) at c.self.invariant in
-    let is = found_at c.try_reserve.new.self.items c.args.collection c.if-collection-number.false c.len-number.ensures (c.self.inside.collections.ok.0 ∙ ap length (sym c.try_reserve.ensures.items)) c.index_mut.ensures.value c.in-Some.is in
-    omega (arith, kept.0.in_field c.args.collection c.in-Some.found is, length-map fields.items table_of, fields.ok.0)
+    let n = c.args.collection in
+    let f = c.in-Some.field in
+    let has = sym c.in-Some.is ∙ c.field_of.ensures in
+    let is = one_read (at cs n) f c.members.result.now has c.members.ensures in
+    part_lacking fields.items c.self.invariant n c.self.view_is c.args.part is (ap (has_part c.args.part) (sym c.kind-kind.ensures) ∙ sym c.is_of.ensures ∙ c.if-not-is_of.true)
 
-pub returns-in-None : goal.returns-in-None
-returns-in-None g c =
-    let cs = c.try_reserve.new.self in
-    let is = found_at cs.items c.args.collection c.if-collection-number.false c.len-number.ensures (c.self.inside.collections.ok.0 ∙ ap length (sym c.try_reserve.ensures.items)) c.index_mut.ensures.value c.in-None.is in
-    let view = ap (family_of c.self.inside.adapter c.self.inside.objects (map table_of c.self.inside.fields.items)) c.try_reserve.ensures.items ∙ c.self.view_is in
-    let e = missing c.self.inside.adapter c.self.inside.objects (map table_of c.self.inside.fields.items) cs.items c.args.collection c.index_mut.result.now is c.index_mut.ensures.value view in
-    rw e.0 (refl, e.1)
-
-pub hand_out-requires : goal.hand_out-requires
-hand_out-requires g c =
-    let kept = rw (← c.try_reserve.ensures.items) at c.self.invariant in
-    let at_k = found c.self.inside.fields.items kept c.if-collection-number.false c.len-number.ensures (c.self.inside.collections.ok.0 ∙ ap length (sym c.try_reserve.ensures.items)) c.index_mut.ensures.value c.in-Some.is c.index_mut-in-Some.ensures.value in
-    record { held = at_k.held }
-
-pub invariant_of-self-in-Err : goal.invariant_of-self-in-Err
-invariant_of-self-in-Err g c =
-    let kept = rw (← c.try_reserve.ensures.items) at c.self.invariant in
-    let at_k = found c.self.inside.fields.items kept c.if-collection-number.false c.len-number.ensures (c.self.inside.collections.ok.0 ∙ ap length (sym c.try_reserve.ensures.items)) c.index_mut.ensures.value c.in-Some.is c.index_mut-in-Some.ensures.value in
-    refused_kept kept at_k (ap (family_of c.self.inside.adapter c.self.inside.objects (map table_of c.self.inside.fields.items)) c.try_reserve.ensures.items ∙ c.self.view_is) c.args.part c.is_ok-has_room.result c.hand_out.new.links c.hand_out.new.members c.in-Err.ensures.unchanged
+pub index_mut-requires : goal.index_mut-requires
+index_mut-requires g c =
+    let cs = c.self.inside.collections in
+    let fields = c.self.inside.fields in
+    let n = c.args.collection in
+    let f = c.in-Some.field in
+    let has = sym c.in-Some.is ∙ c.field_of.ensures in
+    let is = one_read (at cs n) f c.members.result.now has c.members.ensures in
+    omega (arith, c.self.invariant.0.in_field n _ is, length-map fields.items table_of, fields.ok.0)
 
 pub returns-in-Err : goal.returns-in-Err
 returns-in-Err g c =
-    let kept = rw (← c.try_reserve.ensures.items) at c.self.invariant in
-    let at_k = found c.self.inside.fields.items kept c.if-collection-number.false c.len-number.ensures (c.self.inside.collections.ok.0 ∙ ap length (sym c.try_reserve.ensures.items)) c.index_mut.ensures.value c.in-Some.is c.index_mut-in-Some.ensures.value in
+    let cs = c.self.inside.collections in
+    let fields = c.self.inside.fields in
+    let n = c.args.collection in
+    let f = c.in-Some.field in
+    let has = sym c.in-Some.is ∙ c.field_of.ensures in
+    let is = one_read (at cs n) f c.members.result.now has c.members.ensures in
+    let old = c.args.self.now in
     let e = c.in-Err.ensures in
-    (refused_step kept at_k (ap (family_of c.self.inside.adapter c.self.inside.objects (map table_of c.self.inside.fields.items)) c.try_reserve.ensures.items ∙ c.self.view_is) c.args.part c.is_ok-has_room.result c.hand_out.new.links c.hand_out.new.members e.unchanged _ e.tested)
+    let family = ap (family_of c.self.inside.adapter c.self.inside.objects (map table_of fields.items)) e.1 ∙ c.self.view_is in
+    let can = ap (has_part c.args.part) (sym c.kind-kind.ensures) ∙ sym c.is_of.ensures ∙ c.if-not-is_of.false in
+    subst (StepOut old n c.args.part (refused c.in-Err.refusal)) (sym family)
+    (subst (λ x. StepOut old n c.args.part (refused x) old) (sym e.0) (part_unroomed fields.items c.self.invariant n c.self.view_is c.args.part is can))
+
+pub hand_out-handed-requires-clause-held : goal.hand_out-handed-requires-clause-held
+hand_out-handed-requires-clause-held g c =
+    let cs = c.self.inside.collections in
+    let fields = c.self.inside.fields in
+    let n = c.args.collection in
+    let f = c.in-Some.field in
+    let has = sym c.in-Some.is ∙ c.field_of.ensures in
+    let is = one_read (at cs n) f c.members.result.now has c.members.ensures in
+    let empty : Collection _ = record { field = f; members = c.new.result } in
+    let pushed = c.in-Ok.ensures in
+    let m = c.members_mut.result.now in
+    let now_is = one_read (at cs n) f m has (c.members_mut.ensures.value ∙ ap (λ x. its_members (at x n)) pushed.1 ∙ ap its_members (still_there cs n is empty ∙ sym is)) in
+    let same : c.members.result.now ≡ m = same_Some _ _ (c.members.ensures ∙ ap its_members now_is) in
+    let can = ap (λ x. has_part c.args.part (kind_in x)) (sym same) ∙ ap (has_part c.args.part) (sym c.kind-kind.ensures) ∙ sym c.is_of.ensures ∙ c.if-not-is_of.false in
+    let at_k = found fields.items c.self.invariant now_is c.index_mut.ensures.value in
+    at_k.held
+
+pub hand_out-handed-requires-clause-can : goal.hand_out-handed-requires-clause-can
+hand_out-handed-requires-clause-can g c =
+    let cs = c.self.inside.collections in
+    let fields = c.self.inside.fields in
+    let n = c.args.collection in
+    let f = c.in-Some.field in
+    let has = sym c.in-Some.is ∙ c.field_of.ensures in
+    let is = one_read (at cs n) f c.members.result.now has c.members.ensures in
+    let empty : Collection _ = record { field = f; members = c.new.result } in
+    let pushed = c.in-Ok.ensures in
+    let m = c.members_mut.result.now in
+    let now_is = one_read (at cs n) f m has (c.members_mut.ensures.value ∙ ap (λ x. its_members (at x n)) pushed.1 ∙ ap its_members (still_there cs n is empty ∙ sym is)) in
+    let same : c.members.result.now ≡ m = same_Some _ _ (c.members.ensures ∙ ap its_members now_is) in
+    let can = ap (λ x. has_part c.args.part (kind_in x)) (sym same) ∙ ap (has_part c.args.part) (sym c.kind-kind.ensures) ∙ sym c.is_of.ensures ∙ c.if-not-is_of.false in
+    let at_k = found fields.items c.self.invariant now_is c.index_mut.ensures.value in
+    can
+
+pub members_mut-requires-in-Ok : goal.members_mut-requires-in-Ok
+members_mut-requires-in-Ok g c =
+    let cs = c.self.inside.collections in
+    let fields = c.self.inside.fields in
+    let n = c.args.collection in
+    let f = c.in-Some.field in
+    let has = sym c.in-Some.is ∙ c.field_of.ensures in
+    let is = one_read (at cs n) f c.members.result.now has c.members.ensures in
+    let empty : Collection _ = record { field = f; members = c.new.result } in
+    let pushed = c.in-Ok.ensures in
+    let m = c.members_mut.result.now in
+    let now_is = one_read (at cs n) f m has (c.members_mut.ensures.value ∙ ap (λ x. its_members (at x n)) pushed.1 ∙ ap its_members (still_there cs n is empty ∙ sym is)) in
+    let same : c.members.result.now ≡ m = same_Some _ _ (c.members.ensures ∙ ap its_members now_is) in
+    let can = ap (λ x. has_part c.args.part (kind_in x)) (sym same) ∙ ap (has_part c.args.part) (sym c.kind-kind.ensures) ∙ sym c.is_of.ensures ∙ c.if-not-is_of.false in
+    let at_k = found fields.items c.self.invariant now_is c.index_mut.ensures.value in
+    subst (λ x. IsSome (at (with_members x n c.hand_out-handed.new.members) c.in-Ok.number)) (sym pushed.1)
+    (subst IsSome (sym (last_there cs n now_is empty c.hand_out-handed.new.members c.hand_out-handed.result c.in-Ok.number pushed.0)) refl)
 
 pub invariant_of-self-in-Ok : goal.invariant_of-self-in-Ok
 invariant_of-self-in-Ok g c =
-    let kept = rw (← c.try_reserve.ensures.items) at c.self.invariant in
-    let at_k = found c.self.inside.fields.items kept c.if-collection-number.false c.len-number.ensures (c.self.inside.collections.ok.0 ∙ ap length (sym c.try_reserve.ensures.items)) c.index_mut.ensures.value c.in-Some.is c.index_mut-in-Some.ensures.value in
-    let done = c.in-Ok.ensures in
-    let room = from_ok c.try_reserve.result (sym c.is_ok-has_room.ensures.value ∙ had_room kept at_k (ap (family_of c.self.inside.adapter c.self.inside.objects (map table_of c.self.inside.fields.items)) c.try_reserve.ensures.items ∙ c.self.view_is) c.args.part c.is_ok-has_room.result c.hand_out.new.links c.hand_out.new.members c.in-Ok.members done.parted done.tested) c.try_reserve.ensures.ok in
-    let pushed = c.push.ensures.items ∙ if_ok c.push.result _ _ (c.push.ensures.succeeds (omega (arith, room))) in
-    rw pushed
-    (handed_kept kept at_k (ap (family_of c.self.inside.adapter c.self.inside.objects (map table_of c.self.inside.fields.items)) c.try_reserve.ensures.items ∙ c.self.view_is) c.args.part c.is_ok-has_room.result c.hand_out.new.links c.hand_out.new.members c.in-Ok.members done.parted c.len-number.result
-    (c.len-number.ensures ∙ c.self.inside.collections.ok.0 ∙ ap length (sym c.try_reserve.ensures.items)) done.tested)
+    let cs = c.self.inside.collections in
+    let fields = c.self.inside.fields in
+    let n = c.args.collection in
+    let f = c.in-Some.field in
+    let has = sym c.in-Some.is ∙ c.field_of.ensures in
+    let is = one_read (at cs n) f c.members.result.now has c.members.ensures in
+    let empty : Collection _ = record { field = f; members = c.new.result } in
+    let pushed = c.in-Ok.ensures in
+    let m = c.members_mut.result.now in
+    let now_is = one_read (at cs n) f m has (c.members_mut.ensures.value ∙ ap (λ x. its_members (at x n)) pushed.1 ∙ ap its_members (still_there cs n is empty ∙ sym is)) in
+    let same : c.members.result.now ≡ m = same_Some _ _ (c.members.ensures ∙ ap its_members now_is) in
+    let can = ap (λ x. has_part c.args.part (kind_in x)) (sym same) ∙ ap (has_part c.args.part) (sym c.kind-kind.ensures) ∙ sym c.is_of.ensures ∙ c.if-not-is_of.false in
+    let at_k = found fields.items c.self.invariant now_is c.index_mut.ensures.value in
+    let m' = c.hand_out-handed.new.members in
+    let list = ap (λ x. with_members (with_members x n m') c.in-Ok.number c.hand_out-handed.result) pushed.1 ∙ handed_list cs n now_is empty m' c.hand_out-handed.result c.in-Ok.number pushed.0 in
+    subst (IsKept c.self.inside.adapter c.self.inside.objects c.self.inside.room _) (sym list)
+    (handed_kept fields.items c.self.invariant n c.self.view_is c.args.part at_k c.hand_out-handed.new.links m' c.hand_out-handed.result c.hand_out-handed.ensures can)
 
 pub returns-in-Ok : goal.returns-in-Ok
 returns-in-Ok g c =
-    let kept = rw (← c.try_reserve.ensures.items) at c.self.invariant in
-    let at_k = found c.self.inside.fields.items kept c.if-collection-number.false c.len-number.ensures (c.self.inside.collections.ok.0 ∙ ap length (sym c.try_reserve.ensures.items)) c.index_mut.ensures.value c.in-Some.is c.index_mut-in-Some.ensures.value in
-    let done = c.in-Ok.ensures in
-    let room = from_ok c.try_reserve.result (sym c.is_ok-has_room.ensures.value ∙ had_room kept at_k (ap (family_of c.self.inside.adapter c.self.inside.objects (map table_of c.self.inside.fields.items)) c.try_reserve.ensures.items ∙ c.self.view_is) c.args.part c.is_ok-has_room.result c.hand_out.new.links c.hand_out.new.members c.in-Ok.members done.parted done.tested) c.try_reserve.ensures.ok in
-    let pushed = c.push.ensures.items ∙ if_ok c.push.result _ _ (c.push.ensures.succeeds (omega (arith, room))) in
-    rw pushed
-    (handed_step kept at_k (ap (family_of c.self.inside.adapter c.self.inside.objects (map table_of c.self.inside.fields.items)) c.try_reserve.ensures.items ∙ c.self.view_is) c.args.part c.is_ok-has_room.result c.hand_out.new.links c.hand_out.new.members c.in-Ok.members done.parted c.len-number.result
-    (c.len-number.ensures ∙ c.self.inside.collections.ok.0 ∙ ap length (sym c.try_reserve.ensures.items)) done.tested)
+    let cs = c.self.inside.collections in
+    let fields = c.self.inside.fields in
+    let n = c.args.collection in
+    let f = c.in-Some.field in
+    let has = sym c.in-Some.is ∙ c.field_of.ensures in
+    let is = one_read (at cs n) f c.members.result.now has c.members.ensures in
+    let empty : Collection _ = record { field = f; members = c.new.result } in
+    let pushed = c.in-Ok.ensures in
+    let m = c.members_mut.result.now in
+    let now_is = one_read (at cs n) f m has (c.members_mut.ensures.value ∙ ap (λ x. its_members (at x n)) pushed.1 ∙ ap its_members (still_there cs n is empty ∙ sym is)) in
+    let same : c.members.result.now ≡ m = same_Some _ _ (c.members.ensures ∙ ap its_members now_is) in
+    let can = ap (λ x. has_part c.args.part (kind_in x)) (sym same) ∙ ap (has_part c.args.part) (sym c.kind-kind.ensures) ∙ sym c.is_of.ensures ∙ c.if-not-is_of.false in
+    let at_k = found fields.items c.self.invariant now_is c.index_mut.ensures.value in
+    let m' = c.hand_out-handed.new.members in
+    let list = ap (λ x. with_members (with_members x n m') c.in-Ok.number c.hand_out-handed.result) pushed.1 ∙ handed_list cs n now_is empty m' c.hand_out-handed.result c.in-Ok.number pushed.0 in
+    let shown = family_of c.self.inside.adapter c.self.inside.objects (map table_of (set fields.items f (record c.index_mut.result.now { links = c.hand_out-handed.new.links }))) in
+    subst (λ x. StepOut c.args.self.now n c.args.part (opened c.in-Ok.number) (shown x)) (sym list)
+    (handed_step fields.items c.self.invariant n c.self.view_is c.args.part at_k c.hand_out-handed.new.links m' c.hand_out-handed.result c.hand_out-handed.ensures can c.in-Ok.number pushed.0)

@@ -7,10 +7,10 @@ use Rattle.ic_world.proofs.world.World.open.Goals as goal
 pub invariant_of-self : goal.invariant_of-self
 invariant_of-self g c =
     let e = opened_by g.A.Key.Ord.cmp g.A.KeyAdapter.key_of c.self.invariant.0 c.self.view_is c.args.field c.args.kind (sym c.open_refused.ensures ∙ c.in_default.is)
-    c.new-members.result c.new-members.ensures c.append.result c.append.new.list.items c.append.ensures in
+    c.new.result c.new.ensures c.push.result c.push.new.self c.push.ensures in
     (e.0, none_opened (subst (NoneLeftLinked _) c.self.view_is c.self.invariant.1) g.A.Key.Ord.cmp g.A.KeyAdapter.key_of c.args.field c.args.kind _ e.1)
 
 pub returns : goal.returns
 returns g c =
     (opened_by g.A.Key.Ord.cmp g.A.KeyAdapter.key_of c.self.invariant.0 c.self.view_is c.args.field c.args.kind (sym c.open_refused.ensures ∙ c.in_default.is)
-    c.new-members.result c.new-members.ensures c.append.result c.append.new.list.items c.append.ensures).1
+    c.new.result c.new.ensures c.push.result c.push.new.self c.push.ensures).1

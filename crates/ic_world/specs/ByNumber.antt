@@ -1,0 +1,86 @@
+-- The collections of a world by number and by field: each live one lies in a list of its field, and a slot under its number says where.
+use Rattle.std.specs.Prelude.{◌≡◌, ◌≢◌, ℕ, ◌<◌, List, [], ◌∷◌, ◌++◌, length, map, Option, Some, None, slice_index_or, slice_get, slice_set}
+use Rattle.std.specs.declared.vec.Vec.{Vec}
+use Rattle.ic_unsafe_ref.specs.declared.place.Place.{Place}
+use Rattle.ic_link_ops.specs.Tables.{Table}
+use Rattle.ic_link_ops.specs.Sequences.{IsMember}
+use Rattle.ic_any_table.specs.declared.entry.Entry.{Entry}
+use Rattle.ic_any_collection.specs.declared.members.Members.{Members}
+use Rattle.ic_any_collection.specs.Members.{members_in, Held}
+use Rattle.ic_world.specs.declared.collection.Collection.{Collection}
+use Rattle.ic_world.specs.declared.collections_by_number.Slot.{Slot}
+use Rattle.ic_world.specs.declared.collections_by_number.Numbered.{Numbered}
+
+-- the collections in a list of the program
+abbrev pub items_of : {V M : Type 0} → Vec (Numbered V) M → List (Numbered V)
+items_of v = v.items
+
+-- the live collections of a field
+abbrev pub live_in : {V : Type 0} → List (List (Numbered V)) → ℕ → List (Numbered V)
+live_in ls f = slice_index_or ls f []
+
+-- an index past that of all live collections
+abbrev pub disposed : ℕ
+disposed = 4294967295
+
+-- what lies at an index of a field
+abbrev pub lying : {V : Type 0} → List (List (Numbered V)) → ℕ → ℕ → Option (Numbered V)
+lying ls f i = slice_get (live_in ls f) i
+
+-- as a collection of that field
+abbrev pub in_field : {V : Type 0} → ℕ → Option (Numbered V) → Option (Collection V)
+in_field f None = None
+in_field f (Some n) = Some (record { field = f; members = n.members })
+
+-- the collection whose slot this is, none where it was disposed of
+abbrev pub in_slot : {V : Type 0} → List (List (Numbered V)) → Slot → Option (Collection V)
+in_slot ls s = in_field s.field (lying ls s.field s.index)
+
+-- the collections by number, as their slots show them
+abbrev pub by_number : {V : Type 0} → List (List (Numbered V)) → List Slot → List (Option (Collection V))
+by_number ls ns = map (in_slot ls) ns
+
+-- THE INVARIANT of the collections by number: slots and lists say the same
+pub record AreNumbered {V : Type 0} (ls : List (List (Numbered V))) (ns : List Slot) : Type 0 where
+  -- each live collection has the slot of its number
+  pub found : (f i : ℕ) (n : Numbered V) → lying ls f i ≡ Some n → slice_get ns n.number ≡ Some (record { field = f; index = i })
+  -- and lies below the index of disposed ones
+  pub before : (f i : ℕ) (n : Numbered V) → lying ls f i ≡ Some n → i < disposed
+  -- in each slot but those of disposed ones lies a collection, with the number of the slot
+  pub kept : (c : ℕ) (s : Slot) → slice_get ns c ≡ Some s → s.index ≢ disposed → (m : Members V) × (lying ls s.field s.index ≡ Some (record { number = c; members = m }))
+
+-- the last one is at the index of the one that was taken out
+pub record IsTakenOut {V : Type 0} (old : List (Numbered V)) (i : ℕ) (number : ℕ) (new : List (Numbered V)) : Type 0 where
+  pub rest : List (Numbered V)
+  pub last : Numbered V
+  pub was : old ≡ rest ++ last ∷ []
+  pub is : new ≡ slice_set rest i last
+  pub moved : number ≡ last.number
+
+-- each field has the live collections that it had
+abbrev pub HaveLists : {V : Type 0} → (old new : List (List (Numbered V))) → Type 0
+HaveLists old new = (g : ℕ) → live_in new g ≡ live_in old g
+
+-- field f has one more, in that slot
+pub record IsEntered {V : Type 0} (old : List (List (Numbered V))) (f : ℕ) (n : Numbered V) (s : Slot) (new : List (List (Numbered V))) : Type 0 where
+  pub field : s.field ≡ f
+  pub index : s.index ≡ length (live_in old f)
+  pub before : s.index < disposed
+  pub more : live_in new f ≡ live_in old f ++ n ∷ []
+  pub others : (g : ℕ) → g ≢ f → live_in new g ≡ live_in old g
+
+-- so it has, if a slot is answered; else the lists are what they were
+abbrev pub Enters : {V : Type 0} → List (List (Numbered V)) → ℕ → Numbered V → Option Slot → List (List (Numbered V)) → Type 0
+Enters old f n None new = HaveLists old new
+Enters old f n (Some s) new = IsEntered old f n s new
+
+-- the table keeps each of these collections
+abbrev pub EachHeld : {V : Type 0} → Table Entry → List (Numbered V) → Type 0
+EachHeld {V} t list = (i : ℕ) (n : Numbered V) → slice_get list i ≡ Some n → Held t n.members
+
+-- and shows the place as a member of one of them
+pub record SomeHas {V : Type 0} (t : Table Entry) (p : Place) (list : List (Numbered V)) : Type 0 where
+  pub index : ℕ
+  pub one : Numbered V
+  pub is : slice_get list index ≡ Some one
+  pub member : IsMember p (members_in t one.members)

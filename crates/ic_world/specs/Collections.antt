@@ -1,0 +1,42 @@
+-- The collections of a world by number, as their calls see and leave them.
+use Rattle.std.specs.Prelude.{◌≡◌, ℕ, List, Option, Some, None, slice_set}
+use Rattle.ic_unsafe_ref.specs.declared.place.Place.{Place}
+use Rattle.ic_link_ops.specs.Tables.{Table}
+use Rattle.ic_link_ops.specs.Sequences.{IsMember}
+use Rattle.ic_any_table.specs.declared.entry.Entry.{Entry}
+use Rattle.ic_any_collection.specs.declared.members.Members.{Members}
+use Rattle.ic_any_collection.specs.Members.{members_in, Held}
+use Rattle.ic_world.specs.declared.collection.Collection.{Collection}
+use Rattle.ic_world.specs.Tables.{at}
+
+module _ {V : Type 0} where
+  -- the field of a collection, where there is one
+  abbrev pub its_field : Option (Collection V) → Option ℕ
+  its_field None = None
+  its_field (Some k) = Some k.field
+
+  -- and its members
+  abbrev pub its_members : Option (Collection V) → Option (Members V)
+  its_members None = None
+  its_members (Some k) = Some k.members
+
+  -- it has these members now
+  abbrev pub having : Members V → Option (Collection V) → Option (Collection V)
+  having m None = None
+  having m (Some k) = Some (record { field = k.field; members = m })
+
+  -- collection c has these members now, and all others are as they were
+  abbrev pub with_members : List (Option (Collection V)) → ℕ → Members V → List (Option (Collection V))
+  with_members cs c m = slice_set cs c (having m (at cs c))
+
+  -- the table of field f keeps each collection of that field
+  abbrev pub AreHeld : List (Option (Collection V)) → ℕ → Table Entry → Type 0
+  AreHeld cs f t = (c : ℕ) (k : Collection V) → at cs c ≡ Some k → k.field ≡ f → Held t k.members
+
+  -- a collection of field f, whose table is t, has the member p
+  pub record HasMember (cs : List (Option (Collection V))) (f : ℕ) (t : Table Entry) (p : Place) : Type 0 where
+    pub number : ℕ
+    pub one : Collection V
+    pub is : at cs number ≡ Some one
+    pub field : one.field ≡ f
+    pub member : IsMember p (members_in t one.members)

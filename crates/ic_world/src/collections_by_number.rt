@@ -1,0 +1,236 @@
+//! The collections of a world by number. Each live one lies in a list of its field, and a number that was disposed of keeps 8 bytes.
+//!
+//! ```text
+//! let number = collections.push(field, Members::new(kind))?;
+//! collections.members_mut(number).go_null();
+//! collections.dispose(number); // it names nothing from then on
+//! ```
+
+ghost use Rattle.std.specs.Prelude.{◌≡◌, ◌<◌, ◌↔◌, [], length, map, slice_set, Some, None, IsSome, IsTrue, OnOk, vec_len};
+ghost use Rattle.ic_link_ops.specs.Tables.{IsCovered};
+ghost use Rattle.ic_any_table.specs.Fields.{look};
+ghost use Rattle.ic_world.specs.Tables.{at};
+ghost use Rattle.ic_world.specs.Collections.{its_field, its_members, AreHeld, HasMember};
+ghost use Rattle.ic_world.specs.ByNumber.{items_of, IsTakenOut, Enters, HaveLists, EachHeld, SomeHas};
+ghost use Rattle.ic_world.specs.Pieces.{Appends};
+
+use crate::call::Refusal;
+use ic_any_collection::Members;
+use ic_any_table::Field;
+use ic_unsafe_ref::Place;
+use std::alloc::{AllocError, Allocator, Global};
+use std::marker::Model;
+
+// Where the collection of a number lies: in which field, and which of the live ones of that field it is.
+#[derive(Clone, Copy)]
+struct Slot {
+    field: u32,
+    index: u32,
+}
+
+// The index of one that was disposed of. All live ones lie below it.
+const DISPOSED: u32 = u32::MAX;
+
+// A live collection of a field, with its number.
+#[derive(Drop)]
+struct Numbered<T> {
+    number: usize,
+    members: Members<T>,
+}
+
+/// Collections by number, each of a field. A clause sees them as a list, with none where one was disposed of.
+#[derive(Drop)]
+pub struct CollectionsByNumber<T, M: Allocator + Copy = Global> {
+    alloc: M,
+    numbers: Vec<Slot, M>,
+    // The live ones of each field, as far as fields have had one.
+    live: Vec<Vec<Numbered<T>, M>, M>,
+}
+
+impl<T, M: Allocator + Copy> Model for CollectionsByNumber<T, M> {
+    ghost use Rattle.std.specs.Prelude.{List, Option, map};
+    ghost use Rattle.ic_world.specs.declared.collection.Collection.{Collection};
+
+    ghost Value = { List (Option (Collection T)) };
+
+    ghost use Rattle.ic_world.specs.ByNumber.{by_number, items_of, AreNumbered};
+
+    ghost view = { λ c. by_number (map items_of c.live.items) c.numbers.items };
+
+    ghost invariant = { λ c. AreNumbered (map items_of c.live.items) c.numbers.items };
+}
+
+// Takes a live collection out of its field, where the last one moves to its index. It answers the number of that one.
+fn take_out<T, M: Allocator>(list: &mut Vec<Numbered<T>, M>, index: usize) -> usize
+    requires { index < vec_len list.old }
+    ensures { IsTakenOut list.old.items index result list.new.items }
+{
+    let Some(last) = list.pop() else {
+        unreachable!();
+    };
+    let number = last.number;
+    if index < list.len() {
+        list[index] = last;
+    }
+    number
+}
+
+// Makes lists, as far as memory is found, until the field has one.
+fn cover_field<T, M: Allocator + Copy>(
+    live: &mut Vec<Vec<Numbered<T>, M>, M>,
+    alloc: M,
+    field: usize,
+) -> Result<(), AllocError>
+    ensures same { HaveLists (map items_of live.old.items) (map items_of live.new.items) }
+    ensures there { OnOk result (field < length live.new.items) }
+{
+    while live.len() <= field {
+        if live.push(Vec::new(alloc)).is_err() {
+            return Err(AllocError);
+        }
+    }
+    Ok(())
+}
+
+// Puts a collection into a field, and answers where it lies.
+fn enter<T, M: Allocator + Copy>(
+    live: &mut Vec<Vec<Numbered<T>, M>, M>,
+    alloc: M,
+    field: usize,
+    one: Numbered<T>,
+) -> Option<Slot>
+    ensures { Enters (map items_of live.old.items) field one result (map items_of live.new.items) }
+{
+    if field > u32::MAX as usize {
+        return None;
+    }
+    if cover_field(live, alloc, field).is_err() {
+        return None;
+    }
+    let list = &mut live[field];
+    let index = list.len();
+    if index >= DISPOSED as usize {
+        return None;
+    }
+    if list.push(one).is_err() {
+        return None;
+    }
+    Some(Slot {
+        field: field as u32,
+        index: index as u32,
+    })
+}
+
+// Whether one of the collections has the object as a member: they are asked one after the other.
+fn contains_in<T, M: Allocator>(list: &[Numbered<T>], links: &Field<M>, object: Place) -> bool
+    requires held { EachHeld (look links.now) list.now }
+    requires covered { IsCovered (look links.now) object }
+    ensures { IsTrue result ↔ SomeHas (look links.now) object list.now }
+{
+    for one in list {
+        if one.members.contains(links, object) {
+            return true;
+        }
+    }
+    false
+}
+
+impl<T, M: Allocator + Copy> CollectionsByNumber<T, M> {
+    ghost use Rattle.std.specs.Borrow.{sem};
+    ghost use Rattle.ic_world.specs.Lends.{LendsMembers};
+
+    /// No collection, and no number. It takes no memory.
+    pub(crate) fn new(alloc: M) -> Self
+        ensures { result ≡ [] }
+    {
+        CollectionsByNumber {
+            alloc,
+            numbers: Vec::new(alloc),
+            live: Vec::new(alloc),
+        }
+    }
+
+    /// The field of a collection, `None` where there is none of that number. O(1).
+    #[inline]
+    pub(crate) fn field_of(&self, number: usize) -> Option<usize>
+        ensures { result ≡ its_field (at self.now number) }
+    {
+        if number >= self.numbers.len() {
+            return None;
+        }
+        let slot = self.numbers[number];
+        if slot.index == DISPOSED {
+            return None;
+        }
+        Some(slot.field as usize)
+    }
+
+    /// The members of a collection, to be read. O(1).
+    #[inline]
+    pub(crate) fn members(&self, number: usize) -> &Members<T>
+        requires { IsSome (at self.now number) }
+        ensures { Some result.now ≡ its_members (at self.now number) }
+    {
+        let slot = self.numbers[number];
+        &self.live[slot.field as usize][slot.index as usize].members
+    }
+
+    /// The members of a collection, to be changed. O(1).
+    #[inline]
+    pub(crate) fn members_mut(&mut self, number: usize) -> &mut Members<T>
+        requires { IsSome (at self.old number) }
+        ensures* writes_back { sem 𝓛 (LendsMembers T.row M.row M.Allocator self.entry number result) }
+        ensures value { Some result.now ≡ its_members (at self.old number) }
+    {
+        let slot = self.numbers[number];
+        let list = &mut self.live[slot.field as usize];
+        let found = &mut list[slot.index as usize];
+        &mut found.members
+    }
+
+    /// Puts a collection into a field, under the next number, which it answers. O(1), but for the first one of a field.
+    ///
+    /// Refused: `OutOfMemory`, also where the number of the field, or how many live ones it has, doesn't fit in 32 bits.
+    pub(crate) fn push(&mut self, field: usize, members: Members<T>) -> Result<usize, Refusal>
+        ensures { Appends self.old (Some (record { field = field; members = members })) result self.new }
+    {
+        if self.numbers.try_reserve(1).is_err() {
+            return Err(Refusal::OutOfMemory);
+        }
+        let number = self.numbers.len();
+        let one = Numbered { number, members };
+        let Some(slot) = enter(&mut self.live, self.alloc, field, one) else {
+            return Err(Refusal::OutOfMemory);
+        };
+        let _ = self.numbers.push(slot);
+        Ok(number)
+    }
+
+    /// Gives a collection up: its number names nothing from then on. O(1).
+    pub(crate) fn dispose(&mut self, number: usize)
+        ensures { self.new ≡ slice_set self.old number None }
+    {
+        if number >= self.numbers.len() {
+            return;
+        }
+        let slot = self.numbers[number];
+        if slot.index == DISPOSED {
+            return;
+        }
+        let moved = take_out(&mut self.live[slot.field as usize], slot.index as usize);
+        self.numbers[moved] = slot;
+        self.numbers[number].index = DISPOSED;
+    }
+
+    /// Whether a live collection of the field has the object as a member. Only these are asked, until one has it.
+    pub(crate) fn any_contains(&self, field: usize, links: &Field<M>, object: Place) -> bool
+        requires held { AreHeld self.now field (look links.now) }
+        requires covered { IsCovered (look links.now) object }
+        ensures { IsTrue result ↔ HasMember self.now field (look links.now) object }
+    {
+        if field >= self.live.len() {
+            return false;
+        }
+        contains_in(&self.live[field], links, object)
+    }
+}
