@@ -1,4 +1,5 @@
 pub mod OnlyClaims
+pub mod Promised
 pub mod Rows
 pub mod Searching
 pub mod TakenPlaces

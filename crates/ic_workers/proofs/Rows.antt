@@ -9,7 +9,7 @@ use Rattle.ic_unsafe_ref.specs.Places.{index_of}
 use Rattle.ic_atomic.specs.Records.{held_from, holds}
 use Rattle.ic_atomic.specs.Gathering.{claims_of_each, chosen}
 use Rattle.ic_workers.specs.SharedOut.{has, Rises}
-use Rattle.ic_workers.specs.Parties.{IsRow}
+use Rattle.ic_workers.specs.Claimed.{IsRow}
 use Rattle.ic_workers.proofs.OnlyClaims.{OnlyClaims, asks}
 
 -- a row with one more

@@ -1,6 +1,7 @@
 -- Holders that have claimed the first places, each once, have shared them out.
 use Rattle.std.proofs.Common.{◌≡◌, ◌<◌, ℕ, zero, suc, true, List, [], ◌∷◌, ◌++◌, map, length, refl, sym, ap, ◌∙◌, subst, arith, All, Vec}
 use Rattle.std.specs.List.{AllZip}
+use Rattle.std.proofs.lemmas.List.{length-map}
 use Rattle.ic_unsafe_ref.specs.declared.place.Place.{Place}
 use Rattle.ic_unsafe_ref.specs.Places.{index_of}
 use Rattle.ic_atomic.specs.declared.step.Event.{Event}
@@ -10,7 +11,8 @@ use Rattle.ic_atomic.specs.Records.{holds}
 use Rattle.ic_atomic.specs.OneList.{record_at}
 use Rattle.ic_atomic.specs.Holders.{places_of, holders_of, record_of, IsOf, AreWholeList, NoneTwice}
 use Rattle.ic_workers.specs.SharedOut.{has, Rises, list_at, places_in, SharedOut}
-use Rattle.ic_workers.specs.Parties.{ClaimedEach, HasGathered, HasTaken}
+use Rattle.ic_workers.specs.Claimed.{ClaimedEach, ClaimedAsOneList}
+use Rattle.ic_workers.specs.Parties.{HasGathered, HasTaken}
 use Rattle.ic_workers.specs.declared.party.Gathered.{Gathered}
 use Rattle.ic_workers.proofs.OnlyClaims.{OnlyClaims, asks, claimed_is_held}
 use Rattle.ic_workers.proofs.Rows.{row_place, holds_chosen, only_each, asks_each, rises_chosen, has_place}
@@ -78,6 +80,13 @@ module _ {A : Type 0} (claims : Claims A) where
   as_many (g ∷ hs) [] have = absurd have
   as_many (g ∷ hs) (t ∷ ls) have = ap suc (as_many hs ls have.1)
 
+  -- what each has claimed, by its record
+  claimed_each : (hs : List Holder) (ls : List (List Place)) → AllZip (HasTaken claims) hs ls → AllZip (ClaimedEach (places_of claims)) (map record_of hs) ls
+  claimed_each [] [] have = tt
+  claimed_each [] (t ∷ ls) have = absurd have
+  claimed_each (g ∷ hs) [] have = absurd have
+  claimed_each (g ∷ hs) (t ∷ ls) have = (have.0.claimed, claimed_each hs ls have.1)
+
   -- the first record claims each place
   asks_first : (hs : List Holder) (ls : List (List Place)) → AllZip (HasTaken claims) hs ls → 0 < length ls → (n : ℕ) → n < places_of claims
       → (p : Place) × (index_of p ≡ n) × (asks (index_of p) (record_at (map record_of hs) 0) ≡ true)
@@ -95,7 +104,18 @@ module _ {A : Type 0} (claims : Claims A) where
     held_by : (i n : ℕ) (p : Place) → index_of p ≡ n → has (list_at ls i) n ≡ true → holds p (record_at (map record_of hs) i) ≡ true
     held_by i n p is e = (fits_at hs ls have i).held p ∙ (ap (has (list_at ls i)) is ∙ e)
 
-    -- THE PLACES ARE SHARED OUT, if the records are all
+    -- THE CLAIMS ARE ONE LIST, if the records are all
+    pub as_one_list : length ls ≡ holders_of claims → ClaimedAsOneList (holders_of claims) (places_of claims) ls
+    as_one_list each = record {
+      records = map record_of hs;
+      each = length-map hs record_of ∙ (as_many hs ls have ∙ each);
+      claimed = claimed_each hs ls have;
+      words = whole.words;
+      covers = whole.places;
+      one = whole.one;
+    }
+
+    -- and the places are shared out
     pub shared_out : length ls ≡ holders_of claims → SharedOut (holders_of claims) (places_of claims) ls
     shared_out each = record {
       each = each;

@@ -1,3 +1,4 @@
 pub mod SharedOut
+pub mod Claimed
 pub mod Parties
 pub mod Doubles

@@ -1,36 +1,19 @@
 -- What a worker's party has before the first places are claimed, and what it has then.
-use Rattle.std.specs.Prelude.{◌≡◌, ℕ, ◌+◌, Bool, List, [], ◌∷◌, length}
+use Rattle.std.specs.Prelude.{◌≡◌, List, [], length}
 use Rattle.ic_unsafe_ref.specs.declared.place.Place.{Place}
-use Rattle.ic_unsafe_ref.specs.Places.{index_of}
 use Rattle.ic_link_ops.specs.declared.link_ops.LinkOps.{Ghosts}
 use Rattle.ic_link_ops.specs.DoublyEntries.{DoublyLinkOps, PlainShows, plain_table}
 use Rattle.ic_atomic.specs.declared.claims.Claims.{Claims}
 use Rattle.ic_atomic.specs.declared.claims.Holder.{Holder}
-use Rattle.ic_atomic.specs.declared.step.Event.{Event}
 use Rattle.ic_atomic.specs.Holders.{places_of, record_of, IsOf}
 use Rattle.ic_atomic.specs.AtomicLinks.{claims_of, record_in, links_of}
-use Rattle.ic_atomic.specs.Gathering.{claims_of_each, chosen}
+use Rattle.ic_workers.specs.Claimed.{IsRow, ClaimedEach}
 use Rattle.ic_workers.specs.declared.party.Party.{Party}
 use Rattle.ic_workers.specs.declared.party.Gathered.{Gathered}
 
--- the places have these indices: the first `from`, and each other one more than the one in front of it
-abbrev pub IsRow : ℕ → List Place → Type 0
-IsRow from [] = Unit {0}
-IsRow from (p ∷ s) = (index_of p ≡ from) × IsRow (from + 1) s
-
--- THE FIRST PLACES WERE CLAIMED, each once and in order: by this record, and those that it got are these
-pub record ClaimedEach (places : ℕ) (record_is : List Event) (list : List Place) : Type 0 where
-  pub offered : List Place
-  pub row : IsRow 0 offered
-  pub long : length offered ≡ places
-  pub got : List Bool
-  pub each : length got ≡ length offered
-  pub claimed : record_is ≡ claims_of_each offered got
-  pub are : list ≡ chosen offered got
-
-module _ {A E G : Type 0} {g : Ghosts (DoublyLinkOps A) E} where
+module _ {A E : Type 0} {g : Ghosts (DoublyLinkOps A) E} where
   -- the party has claimed nothing: it is to claim the first places, which its table covers, and its list is empty
-  pub record IsReady (claims : Claims A) (party : Party A G E g) : Type 0 where
+  pub record IsReady (claims : Claims A) (party : Party A E g) : Type 0 where
     pub claims_are : claims_of party.links ≡ claims
     pub covers : (plain_table (links_of party.links)).extent.places ≡ places_of claims
     pub fresh : record_in party.links ≡ []

@@ -31,3 +31,7 @@ pub record SharedOut (workers places : ℕ) (lists : List (List Place)) : Type 0
   pub apart : (i k n : ℕ) → has (list_at lists i) n ≡ true → has (list_at lists k) n ≡ true → i ≡ k
   -- and, if there is a worker, each stands in one.
   pub all : 0 < workers → (n : ℕ) → n < places → (i : ℕ) × (has (list_at lists i) n ≡ true)
+
+-- A GATE WAS TOLD of each of so many workers, which are counted from 1, that it has had so many answers
+abbrev pub IsToldOfEach : (ℕ → ℕ → Type 0) → ℕ → ℕ → Type 0
+IsToldOfEach Told workers answered = (worker : ℕ) → 0 < worker → worker ≤ workers → Told worker answered

@@ -5,7 +5,8 @@ ghost use Rattle.ic_unsafe_ref.specs.declared.place.Place.{Place};
 ghost use Rattle.ic_link_ops.specs.LinkedList.{Shows, ShowsSome};
 ghost use Rattle.ic_atomic.specs.Holders.{places_of, record_of, IsOf};
 ghost use Rattle.ic_link_ops.specs.DoublyEntries.{PlainShows, PlainShowsSome};
-ghost use Rattle.ic_workers.specs.Parties.{IsRow, IsReady, HasGathered};
+ghost use Rattle.ic_workers.specs.Claimed.{IsRow};
+ghost use Rattle.ic_workers.specs.Parties.{IsReady, HasGathered};
 
 use ic_atomic::linked_list::AtomicLinkOps;
 use ic_atomic::{Claims, Gate, Holder, PlainLinkOps, gather};
@@ -16,36 +17,32 @@ use std::alloc::{AllocError, Allocator};
 use std::snapshot::Snapshot;
 use std::thread::Promise;
 
-// What all workers share: the claims, the places that they are offered, and the gate.
+// What all workers share: the claims, and the places that they are offered.
 #[derive(Drop)]
-pub(crate) struct Offer<'c, A: Allocator, G> {
+pub(crate) struct Offer<'c, A: Allocator> {
     pub(crate) claims: &'c Claims<A>,
     pub(crate) offered: &'c [UnsafeRef<()>],
-    pub(crate) gate: &'c G,
 }
 
 // A worker's own links and its own list, with what it is offered. Its objects are of no bytes: only their places are
 // dealt with.
 #[derive(Drop)]
-pub(crate) struct Party<'c, A: Allocator, G>
+pub(crate) struct Party<'c, A: Allocator>
 where
     LinkOps<A>: PlainLinkOps,
 {
-    number: usize,
     offered: &'c [UnsafeRef<()>],
-    gate: &'c G,
     links: AtomicLinkOps<'c, A>,
     list: LinkedList<()>,
 }
 
-impl<'c, A: Allocator + Copy, G: Gate> Party<'c, A, G> {
-    // The party of that number, which has none of the offered places.
+impl<'c, A: Allocator + Copy> Party<'c, A> {
+    // A party that has none of the offered places.
     pub(crate) fn new(
         alloc: A,
-        offer: &Offer<'c, A, G>,
+        offer: &Offer<'c, A>,
         holder: Holder,
-        number: usize,
-    ) -> Result<Party<'c, A, G>, AllocError>
+    ) -> Result<Party<'c, A>, AllocError>
         requires made { IsOf offer.now.claims.now holder }
         requires fresh { record_of holder ≡ [] }
         requires row { IsRow 0 offer.now.offered.now }
@@ -55,9 +52,7 @@ impl<'c, A: Allocator + Copy, G: Gate> Party<'c, A, G> {
         let mut table = LinkOps::new(alloc);
         match table.cover(offer.claims.places()) {
             Ok(()) => Ok(Party {
-                number,
                 offered: offer.offered,
-                gate: offer.gate,
                 links: AtomicLinkOps::new(offer.claims, holder, table),
                 list: LinkedList::new(),
             }),
@@ -66,18 +61,17 @@ impl<'c, A: Allocator + Copy, G: Gate> Party<'c, A, G> {
     }
 }
 
-impl<A: Allocator, G: Gate> Party<'_, A, G> {
+impl<A: Allocator> Party<'_, A> {
     ghost use Rattle.ic_atomic.specs.AtomicLinks.{claims_of};
 
-    // Claims each offered place, and keeps those that it gets in its list.
-    pub(crate) fn work(self) -> Gathered<A>
+    // Claims each offered place, and keeps those that it gets in its list. The gate is told of it by this number.
+    pub(crate) fn work<G: Gate>(self, number: usize, gate: &G) -> Gathered<A>
         requires { IsReady (claims_of self.links) self }
-        ensures { HasGathered (claims_of self.entry.links) result }
+        ensures gathered { HasGathered (claims_of self.entry.links) result }
+        ensures told { G.Told gate.now number (places_of (claims_of self.entry.links)) }
     {
         let Party {
-            number,
             offered,
-            gate,
             mut links,
             mut list,
         } = self;
@@ -137,10 +131,16 @@ fn members<L: LinkedListOps, A: Allocator>(
     Ok(places)
 }
 
-// What a worker's thread promises of what it brings back: that it has claimed each place of these claims.
+// What a worker's thread promises of what it brings back: that it has claimed each place of these claims, and that this
+// gate was told so of the worker of this number.
 #[derive(Drop)]
-pub(crate) struct ClaimedAll<A: Allocator>(pub(crate) Snapshot<Claims<A>>);
+pub(crate) struct ClaimedAll<A: Allocator, G> {
+    pub(crate) claims: Snapshot<Claims<A>>,
+    pub(crate) gate: Snapshot<G>,
+    pub(crate) number: usize,
+}
 
-impl<A: Allocator> Promise<Gathered<A>> for ClaimedAll<A> {
-    ghost kept_by = { λ promise gathered. HasGathered promise.0.value gathered };
+impl<A: Allocator, G: Gate> Promise<Gathered<A>> for ClaimedAll<A, G> {
+    ghost kept_by = { λ promise gathered. HasGathered promise.claims.value gathered
+        × G.Told promise.gate.value promise.number (places_of promise.claims.value) };
 }

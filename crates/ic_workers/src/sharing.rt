@@ -4,8 +4,9 @@ ghost use Rattle.std.specs.Prelude.{◌≡◌, ◌<◌, ◌≤◌, ◌↔◌, []
 ghost use Rattle.std.specs.List.{AllZip};
 ghost use Rattle.ic_atomic.specs.Holders.{places_of, holders_of, record_of, IsOf};
 ghost use Rattle.ic_atomic.specs.AtomicLinks.{claims_of};
-ghost use Rattle.ic_workers.specs.SharedOut.{SharedOut, places_in};
-ghost use Rattle.ic_workers.specs.Parties.{IsRow, IsReady, HasGathered, HasTaken};
+ghost use Rattle.ic_workers.specs.SharedOut.{SharedOut, IsToldOfEach, places_in};
+ghost use Rattle.ic_workers.specs.Claimed.{IsRow, ClaimedAsOneList};
+ghost use Rattle.ic_workers.specs.Parties.{IsReady, HasGathered, HasTaken};
 
 use crate::party::{ClaimedAll, Gathered, Offer, Party};
 use ic_atomic::{Claims, ClaimsError, Gate, Holder};
@@ -31,12 +32,12 @@ fn first_places<A: Allocator>(alloc: A, count: usize) -> Result<Vec<UnsafeRef<()
     Ok(places)
 }
 
-// A party for each holder, numbered from 1.
-fn parties<'c, A: Allocator + Copy, G: Gate>(
+// A party for each holder.
+fn parties<'c, A: Allocator + Copy>(
     alloc: A,
-    offer: &Offer<'c, A, G>,
+    offer: &Offer<'c, A>,
     holders: Vec<Holder, A>,
-) -> Result<Vec<Party<'c, A, G>, A>, AllocError>
+) -> Result<Vec<Party<'c, A>, A>, AllocError>
     requires fresh { All (λ h. IsOf offer.now.claims.now h × (record_of h ≡ [])) holders.items }
     requires row { IsRow 0 offer.now.offered.now }
     requires long { length offer.now.offered.now ≡ places_of offer.now.claims.now }
@@ -45,21 +46,22 @@ fn parties<'c, A: Allocator + Copy, G: Gate>(
 {
     let mut parties = Vec::new(alloc);
     for holder in holders {
-        let number = parties.len() + 1;
-        parties.push(Party::new(alloc, offer, holder, number)?)?;
+        parties.push(Party::new(alloc, offer, holder)?)?;
     }
     Ok(parties)
 }
 
-// Lets each party work in a thread of its own, and answers them when all are done.
+// Lets each party work in a thread of its own, numbered from 1, and answers them when all are done.
 fn in_threads<R: Threads + Wait + Sync, A: Allocator + Copy + Send + Sync, G: Gate + Sync>(
     rt: &R,
     alloc: A,
     claims: &Claims<A>,
-    parties: Vec<Party<'_, A, G>, A>,
+    parties: Vec<Party<'_, A>, A>,
+    gate: &G,
 ) -> Result<Vec<Gathered<A>, A>, AllocError>
     requires { All (IsReady claims.now) parties.items }
     ensures gathered { IfOk result (λ done. All (HasGathered claims.now) done.items) }
+    ensures told { IfOk result (λ done. IsToldOfEach (G.Told gate.now) (vec_len done) (places_of claims.now)) }
     ensures len { IfOk result (λ done. vec_len done ≡ vec_len parties.entry) }
 {
     thread::scope(
@@ -67,17 +69,25 @@ fn in_threads<R: Threads + Wait + Sync, A: Allocator + Copy + Send + Sync, G: Ga
         rt,
         |scope| -> Result<Vec<Gathered<A>, A>, AllocError>
             requires { All (IsReady claims.now) parties.items }
-            ensures { IfOk result (λ done. All (HasGathered claims.entry.now) done.items × (vec_len done ≡ vec_len parties.entry)) }
+            ensures { IfOk result (λ done. All (HasGathered claims.entry.now) done.items
+                × IsToldOfEach (G.Told gate.entry.now) (vec_len done) (places_of claims.entry.now)
+                × (vec_len done ≡ vec_len parties.entry)) }
         {
             let mut threads = Vec::new(alloc);
             for party in parties {
-                let promise = ClaimedAll(Snapshot::of(claims));
+                let number = threads.len() + 1;
+                let promise = ClaimedAll {
+                    claims: Snapshot::of(claims),
+                    gate: Snapshot::of(gate),
+                    number,
+                };
                 let thread = scope.spawn_with(
                     promise,
                     move || -> Gathered<A>
                         requires { IsReady (claims_of party.links) party }
-                        ensures { HasGathered (claims_of party.entry.links) result }
-                    { party.work() },
+                        ensures { HasGathered (claims_of party.entry.links) result
+                            × G.Told gate.entry.now number (places_of (claims_of party.entry.links)) }
+                    { party.work(number, gate) },
                 )?;
                 threads.push(thread)?;
             }
@@ -118,16 +128,17 @@ fn fan_out_over<R: Threads + Wait + Sync, A: Allocator + Copy + Send + Sync, G: 
     requires fresh { All (λ h. IsOf claims.now h × (record_of h ≡ [])) holders.items }
     requires all { vec_len holders ≡ holders_of claims.now }
     requires small { places_of claims.now ≤ 4294967296 }
-    ensures { IfOk result (λ lists. SharedOut (holders_of claims.now) (places_of claims.now) (places_in lists.items)) }
+    ensures shared { IfOk result (λ lists. SharedOut (holders_of claims.now) (places_of claims.now) (places_in lists.items)) }
+    ensures one_list { IfOk result (λ lists. ClaimedAsOneList (holders_of claims.now) (places_of claims.now) (places_in lists.items)) }
+    ensures told { IfOk result (λ lists. IsToldOfEach (G.Told gate.now) (holders_of claims.now) (places_of claims.now)) }
 {
     let offered = first_places(alloc, claims.places())?;
     let offer = Offer {
         claims,
         offered: &offered,
-        gate,
     };
     let parties = parties(alloc, &offer, holders)?;
-    let done = in_threads(rt, alloc, claims, parties)?;
+    let done = in_threads(rt, alloc, claims, parties, gate)?;
     let (mut holders, lists) = take_apart(alloc, claims, done)?;
     claims.audit(&mut holders);
     Ok(lists)
@@ -136,8 +147,8 @@ fn fan_out_over<R: Threads + Wait + Sync, A: Allocator + Copy + Send + Sync, G: 
 /// Offers the first `places` places to so many workers in threads of their own, and returns their lists in order.
 ///
 /// Each worker has links and a list of its own. It claims each place, in rising order, and puts those that it gets at the back of its list.
-/// The workers are counted from 1; the gate is told how far each is, as by [`gather`](ic_atomic::gather). Which worker gets which place is
-/// left open: each gets a rising list, and each place stands in just one of them.
+/// The workers are counted from 1; the gate is told by its number how far each is, as by [`gather`](ic_atomic::gather). Which worker gets
+/// which place is left open: each gets a rising list, and each place stands in just one of them. All their claims are one list of steps.
 ///
 /// It is refused above 4,294,967,296 places, and where no memory is found or a thread cannot be started, which is
 /// `OutOfMemory` too; workers that have begun then come to their end first. It waits for all its threads. All memory is
@@ -151,6 +162,8 @@ pub fn fan_out<R: Threads + Wait + Sync, A: Allocator + Copy + Send + Sync, G: G
 ) -> Result<Vec<Vec<Place, A>, A>, ClaimsError>
     ensures too_many { (result ≡ Err ClaimsError.TooManyPlaces) ↔ (4294967296 < places) }
     ensures shared { IfOk result (λ lists. SharedOut workers places (places_in lists.items)) }
+    ensures one_list { IfOk result (λ lists. ClaimedAsOneList workers places (places_in lists.items)) }
+    ensures told { IfOk result (λ lists. IsToldOfEach (G.Told gate.now) workers places) }
 {
     let (claims, holders) = Claims::new(alloc, places, workers)?;
     match fan_out_over(rt, alloc, &claims, holders, gate) {

@@ -1,6 +1,6 @@
 use Rattle.std.proofs.Common.{◌≡◌, ◌+◌, sym, ap, ◌∙◌, subst, arith, length, vec_len}
 use Rattle.ic_unsafe_ref.specs.Places.{index_of}
-use Rattle.ic_workers.specs.Parties.{IsRow}
+use Rattle.ic_workers.specs.Claimed.{IsRow}
 use Rattle.ic_workers.proofs.Rows.{row_more}
 use Rattle.ic_workers.proofs.sharing.first_places.Goals as goal
 use Rattle.ic_workers.proofs.sharing.first_places.Goals.{in-Some+in_ok-push, in_default}

@@ -1,5 +1,5 @@
 use Rattle.std.proofs.Common.{◌≡◌, vec_len}
-use Rattle.ic_workers.specs.Parties.{IsRow}
+use Rattle.ic_workers.specs.Claimed.{IsRow}
 use Rattle.ic_workers.proofs.sharing.first_places.Given as goal
 
 abbrev pub invariant-loop-index : goal.invariant-loop-index

@@ -12,8 +12,8 @@ gather-requires-clause-covered g c k d low =
     let i = row_inside 0 c.args.self.offered.now r.row k d low in
     omega (arith, i, low, r.long, r.covers)
 
-pub returns : goal.returns
-returns g c =
+pub returns-clause-gathered : goal.returns-clause-gathered
+returns-clause-gathered g c =
     let r = c.requires in
     let all = c.gather.ensures.gathered in
     let parts = c.into_parts-holder.ensures in
@@ -32,3 +32,6 @@ returns g c =
         are = refl;
       };
     }
+
+pub returns-clause-told : goal.returns-clause-told
+returns-clause-told g c = subst (g.G.Gate.Told c.args.gate.now c.args.number) c.requires.long c.gather.ensures.told

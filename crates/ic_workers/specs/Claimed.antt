@@ -1,0 +1,36 @@
+-- What workers have claimed: each of the first places once, by records that are one list of steps.
+use Rattle.std.specs.Prelude.{◌≡◌, ◌<◌, ℕ, ◌+◌, Bool, List, [], ◌∷◌, length}
+use Rattle.std.specs.List.{AllZip}
+use Rattle.ic_unsafe_ref.specs.declared.place.Place.{Place}
+use Rattle.ic_unsafe_ref.specs.Places.{index_of}
+use Rattle.ic_atomic.specs.declared.step.Event.{Event}
+use Rattle.ic_atomic.specs.Gathering.{claims_of_each, chosen}
+use Rattle.ic_atomic.specs.OneList.{IsOneList}
+
+-- the places have these indices: the first `from`, and each other one more than the one in front of it
+abbrev pub IsRow : ℕ → List Place → Type 0
+IsRow from [] = Unit {0}
+IsRow from (p ∷ s) = (index_of p ≡ from) × IsRow (from + 1) s
+
+-- THE FIRST PLACES WERE CLAIMED, each once and in order: by this record, and those that it got are these
+pub record ClaimedEach (places : ℕ) (record_is : List Event) (list : List Place) : Type 0 where
+  pub offered : List Place
+  pub row : IsRow 0 offered
+  pub long : length offered ≡ places
+  pub got : List Bool
+  pub each : length got ≡ length offered
+  pub claimed : record_is ≡ claims_of_each offered got
+  pub are : list ≡ chosen offered got
+
+-- THE CLAIMS OF SO MANY WORKERS ARE ONE LIST OF STEPS, by which each got its list
+pub record ClaimedAsOneList (workers places : ℕ) (lists : List (List Place)) : Type 0 where
+  -- There is one record for each worker,
+  pub records : List (List Event)
+  pub each : length records ≡ workers
+  -- of one claim of each of the first places in order, and its list has those that it got.
+  pub claimed : AllZip (ClaimedEach places) records lists
+  -- Each place has its word,
+  pub words : List ℕ
+  pub covers : places < length words
+  -- and the rule of claims holds of these words and records.
+  pub one : IsOneList words records
