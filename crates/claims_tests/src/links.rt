@@ -4,7 +4,8 @@ ghost use Rattle.std.specs.Prelude.{◌≡◌, [], All};
 ghost use Rattle.ic_atomic.specs.Holders.{record_of, IsOf};
 
 use crate::collections::ByValue;
-use crate::parties::{are_linked, are_seen, take_turns};
+use crate::hands::{Act, Hand, hands};
+use crate::parties::{are_linked, are_seen, is_cleared, take_turns};
 use ic_atomic::{
     AtomicLinkOps, Claims, Gate, Holder, gather, linked_list, rbtree, singly_linked_list,
     xor_linked_list,
@@ -16,6 +17,7 @@ use ic_singly_linked_list::SinglyLinkedList;
 use ic_unsafe_ref::{Place, UnsafeRef};
 use ic_xor_linked_list::XorLinkedList;
 use std::alloc::Global;
+use std::cell::{Cell, RefCell};
 use std::process::Abort;
 use std::thread;
 
@@ -35,23 +37,38 @@ fn next_links<'c, W: Words>(
     AtomicLinkOps::new(claims, holder, table)
 }
 
-// Holds nobody up.
-struct Open;
-
-impl Gate for Open {
-    ghost Told = { λ gate worker answered. Unit {0} };
-
-    fn passed(&self, _worker: usize, _answered: usize) {}
+// Looks at places by a hand of its own, each time that it is told: at the place before the one that has to be next, which
+// has to be held then, and at that one, which nobody may hold yet. Places are offered in order, from the first one on.
+#[derive(Drop)]
+struct Watch<'c> {
+    hand: RefCell<Hand<'c>>,
+    // How often both were so.
+    right: Cell<usize>,
 }
 
-// Gathers place 0 and takes it off the list, and gives it up by force once it is there again. Whether all that was done.
-fn gathers(links: &mut linked_list::AtomicLinkOps) -> bool {
+impl Gate for Watch<'_> {
+    ghost Told = { λ gate worker answered. Unit {0} };
+
+    fn passed(&self, _worker: usize, answered: usize) {
+        let Ok(mut hand) = self.hand.try_borrow_mut() else {
+            return;
+        };
+        let is_last_held = answered == 0 || hand.make(Act::Look, answered - 1);
+        if is_last_held & !hand.make(Act::Look, answered) {
+            self.right.set(self.right.get().wrapping_add(1));
+        }
+    }
+}
+
+// Gathers the first two places, takes the first of them off the list, and gives it up by force once it is there again. Whether
+// all that was done, and the gate was told in time.
+fn gathers(links: &mut linked_list::AtomicLinkOps, watch: &Watch) -> bool {
     let mut list: LinkedList<u64> = LinkedList::new();
-    let Some(first) = Place::new(0) else {
+    let (Some(first), Some(second)) = (Place::new(0), Place::new(1)) else {
         return false;
     };
-    let offered = [UnsafeRef::new(first)];
-    if links.covers() == 0 || gather(1, &offered, &mut list, links, &Open) != 1 {
+    let offered = [UnsafeRef::new(first), UnsafeRef::new(second)];
+    if links.covers() < 2 || gather(1, &offered, &mut list, links, watch) != 2 {
         return false;
     }
     let is_taken = match list.pop_front(links) {
@@ -65,7 +82,7 @@ fn gathers(links: &mut linked_list::AtomicLinkOps) -> bool {
         return false;
     }
     links.force_unlink(first);
-    is_taken && !links.is_linked(first)
+    is_taken && !links.is_linked(first) && watch.right.get() == 3
 }
 
 // Links of any kind.
@@ -90,12 +107,13 @@ fn turns_with(links: AnyLinks) -> bool {
 #[test]
 fn parties_share_places(rt: HostRuntime) {
     let alloc = rt.alloc();
-    let (claims, mut holders) = Claims::new(alloc, 100, 5).expect(&rt, "claims");
+    let (claims, mut holders) = Claims::new(alloc, 100, 6).expect(&rt, "claims");
     let mut last: linked_list::AtomicLinkOps = next_links(&rt, alloc, &claims, &mut holders);
     let mut doubly = next_links(&rt, alloc, &claims, &mut holders);
     let is_list_seen = are_seen(LinkedList::new(), &mut doubly, &mut last);
     let mut tree = next_links(&rt, alloc, &claims, &mut holders);
     let is_tree_seen = are_seen(RBTree::new(ByValue), &mut tree, &mut last);
+    let is_tree_cleared = is_cleared(&mut tree, &mut last);
     let four = [
         AnyLinks::Singly(next_links(&rt, alloc, &claims, &mut holders)),
         AnyLinks::Doubly(doubly),
@@ -105,9 +123,19 @@ fn parties_share_places(rt: HostRuntime) {
     let four = Vec::from_array(alloc, four).expect(&rt, "room");
     let had = thread::map_vec(&rt, four, &turns_with).expect(&rt, "room");
     let is_free = are_linked(&mut last, 0);
-    let is_gathered = gathers(&mut last);
+    let watch = Watch {
+        hand: RefCell::new(hands(alloc, &claims, holders).pop().expect(&rt, "a hand")),
+        right: Cell::new(0),
+    };
+    let is_gathered = gathers(&mut last, &watch);
     let covered = last.into_parts().1.covers();
     assert!(rt;
-        is_list_seen & is_tree_seen & had.contains(&true) & is_free & is_gathered & (covered == 100)
+        is_list_seen
+            & is_tree_seen
+            & is_tree_cleared
+            & had.contains(&true)
+            & is_free
+            & is_gathered
+            & (covered == 100)
     );
 }

@@ -3,11 +3,13 @@
 ghost use Rattle.std.specs.Prelude.{◌≡◌};
 ghost use Rattle.ic_link_ops.specs.Tables.{IsCovered};
 
-use crate::collections::Collection;
+use crate::collections::{ByValue, Collection};
 use ic_atomic::{AtomicLinkOps, PlainLinkOps};
 use ic_link_ops::LinkOps;
 use ic_link_ops::linked_list::LinkedListOps;
+use ic_link_ops::rbtree::RBTreeOps;
 use ic_linked_list::LinkedList;
+use ic_rbtree::RBTree;
 use ic_unsafe_ref::{Place, UnsafeRef};
 use std::alloc::Allocator;
 
@@ -83,6 +85,19 @@ pub(crate) fn are_seen<L: Links, C: Collection<L>, M: Links + LinkedListOps>(
     as_wanted &= are_linked(other, 0) & put(&mut list, other, 0);
     let _ = put(&mut list, other, usize::MAX);
     as_wanted
+}
+
+/// Puts the first seven objects in a tree, and clears it. Whether the other party sees each of them linked, and nothing else, until the tree is
+/// cleared, and nothing then.
+pub(crate) fn is_cleared<L: Links + RBTreeOps, M: Links>(links: &mut L, other: &mut M) -> bool {
+    let mut tree = RBTree::new(ByValue);
+    let mut as_wanted = true;
+    for index in 0..7 {
+        as_wanted &= put(&mut tree, links, index);
+    }
+    as_wanted &= are_linked(other, 7);
+    tree.clear(links);
+    as_wanted & are_linked(other, 0)
 }
 
 /// Tries to put each of a hundred objects in, and empties the collection then, a hundred times over. Whether it had one.

@@ -1,6 +1,7 @@
 //! Workers, who share the first places out, and are held up at a gate.
 
 use ic_atomic::{ClaimsError, Gate};
+use ic_unsafe_ref::Place;
 use ic_workers::{doubles, fan_out};
 use std::alloc::Global;
 use std::sync::Wait;
@@ -9,6 +10,7 @@ use std::thread;
 use std::thread::Threads;
 use std::time::{Clock, Duration};
 
+// The most turns that a worker waits for the other one.
 const TURNS: u64 = 10_000;
 
 // How many workers share how many places. What one worker gets alone, a session says.
@@ -29,24 +31,32 @@ const CAME: u64 = 1;
 
 const MET: u64 = 2;
 
-// Notes each worker's first answer, and holds the worker up until the other one's is noted, for so many turns at most.
+// Notes each worker's first answer, and holds the worker up until the other one's is noted, for so many turns at most. The first worker is held
+// up before its first claim too, so the first place is none of its own.
 #[derive(Drop)]
 struct Meeting<'c, C> {
     clock: &'c C,
+    turns: u64,
     first: AtomicU64,
     second: AtomicU64,
 }
 
 impl<C: Clock> Meeting<'_, C> {
-    // A turn is one reading of the other's note, and a millisecond.
-    fn meet(&self, own: &AtomicU64, other: &AtomicU64) {
-        own.store(CAME, Ordering::SeqCst);
-        for _turn in 0..TURNS {
+    // Waits until the other one's first answer is noted, and says whether it is. A turn is one reading of its note, and a millisecond.
+    fn waits_for(&self, other: &AtomicU64) -> bool {
+        for _turn in 0..self.turns {
             if other.load(Ordering::SeqCst) != 0 {
-                own.store(MET, Ordering::SeqCst);
-                return;
+                return true;
             }
             thread::sleep(self.clock, Duration::from_millis(1));
+        }
+        false
+    }
+
+    fn meet(&self, own: &AtomicU64, other: &AtomicU64) {
+        own.store(CAME, Ordering::SeqCst);
+        if self.waits_for(other) {
+            own.store(MET, Ordering::SeqCst);
         }
     }
 
@@ -65,6 +75,9 @@ impl<C: Clock> Gate for Meeting<'_, C> {
 
     fn passed(&self, worker: usize, answered: usize) {
         match (worker, answered) {
+            (1, 0) => {
+                let _ = self.waits_for(&self.second);
+            }
             (1, 1) => self.meet(&self.first, &self.second),
             (2, 1) => self.meet(&self.second, &self.first),
             _ => {}
@@ -72,16 +85,30 @@ impl<C: Clock> Gate for Meeting<'_, C> {
     }
 }
 
+// Whether the list of the first worker begins with another place than the first one.
+fn is_behind(lists: &[Vec<Place>]) -> bool {
+    let [list, ..] = lists else {
+        return true;
+    };
+    match list.first() {
+        Some(place) => place.index() > 0,
+        None => true,
+    }
+}
+
 // Whether two of so many workers meet where there is a place to claim, and each of the places stands in just one of their lists, or these are
-// too many places. Where workers came one after the other, or a gate was not told of them, they would not meet.
+// too many places. Where workers came one after the other, or a gate was not told of them, they would not meet. The first list is that of the
+// worker that the gate holds up as the first.
 fn is_shared<R: Threads + Wait + Clock + Sync>(
     rt: &R,
     alloc: Global,
     workers: usize,
     places: usize,
 ) -> bool {
+    let is_meeting = (workers > 1) & (places > 0);
     let gate = Meeting {
         clock: rt,
+        turns: if is_meeting { TURNS } else { 0 },
         first: AtomicU64::new(0),
         second: AtomicU64::new(0),
     };
@@ -94,7 +121,7 @@ fn is_shared<R: Threads + Wait + Clock + Sync>(
         listed = listed.saturating_add(list.len());
     }
     let is_each_once = (listed == places) & (doubles(places, &lists) == 0);
-    let is_met = gate.is_met() | (workers < 2) | (places == 0);
+    let is_met = !is_meeting | (gate.is_met() & is_behind(&lists));
     is_each_once & (lists.len() == workers) & is_met
 }
 
