@@ -1,20 +1,26 @@
-//! What the words of a line say: a number, the place of an object, a kind.
+//! What the words of a line say: a number, the place of an object, a kind, a bound of keys, a neighbor.
 //!
 //! ```text
-//! number(b"0042") // Some(42)
-//! number(b"+42")  // None: there is a sign
-//! kind(b"xor")    // Some(Kind::Xor)
+//! number(b"0042")      // Some(42)
+//! number(b"+42")       // None: there is a sign
+//! kind(b"xor")         // Some(Kind::Xor)
+//! bound(b"included:7") // Some(Bound::Included(7))
+//! neighbor(b"none")    // Some(None): none stands there
 //! ```
 #![tactic(auto)]
 
-ghost use Rattle.std.specs.Prelude.{◌≡◌, ◌≢◌, ◌<◌, ◌≤◌, ◌↔◌, ◌^◌, IsSome, IfSome, IfNone, length};
+ghost use Rattle.std.specs.Prelude.{◌≡◌, ◌≢◌, ◌<◌, ◌≤◌, ◌↔◌, ◌^◌, ℕ, Option, IsSome, IfSome, IfNone, length};
 ghost use Rattle.std.specs.Str.Parse.{digits_value};
+ghost use Rattle.ic_unsafe_ref.specs.declared.place.Place.{Place};
 ghost use Rattle.ic_unsafe_ref.specs.Places.{index_of};
+ghost use Rattle.ic_rbtree.specs.declared.keys.key_adapter.Bound.{Bound};
 ghost use Rattle.ic_any_table.specs.declared.kind.Kind.{Kind};
 ghost use Rattle.ic_commands.specs.Number.{IsNumber, MoreDigits, leading_digits};
 ghost use Rattle.ic_commands.specs.KindNames.{name_of};
+ghost use Rattle.ic_commands.specs.Words.{IsBound, IsNeighbor};
 
 use ic_any_table::Kind;
+use ic_rbtree::Bound;
 use ic_unsafe_ref::Place;
 
 // The most digits of a number, leading zeros included.
@@ -31,6 +37,35 @@ pub fn kind(word: &[u8]) -> Option<Kind>
         b"xor" => Some(Kind::Xor),
         b"tree" => Some(Kind::Tree),
         _ => None,
+    }
+}
+
+/// The bound of keys that a word says: `included:K`, `excluded:K` or `unbounded`, K a number. `None` of any other word. O(bytes).
+pub fn bound(word: &[u8]) -> Option<Bound<u64>>
+    ensures said { IfSome result (IsBound word.now) }
+    ensures none { IfNone result ((bound : Bound ℕ) → IsBound word.now bound → ⊥) }
+{
+    if let Some(key) = word.strip_prefix(b"included:") {
+        return Some(Bound::Included(number(key)?));
+    }
+    if let Some(key) = word.strip_prefix(b"excluded:") {
+        return Some(Bound::Excluded(number(key)?));
+    }
+    match word {
+        b"unbounded" => Some(Bound::Unbounded),
+        _ => None,
+    }
+}
+
+/// The neighbor that a word says: an object, by its number, or none beyond an end, which is `none`. The outer `None` is the answer of any
+/// other word. O(bytes).
+pub fn neighbor(word: &[u8]) -> Option<Option<Place>>
+    ensures said { IfSome result (IsNeighbor word.now) }
+    ensures none { IfNone result ((neighbor : Option Place) → IsNeighbor word.now neighbor → ⊥) }
+{
+    match word {
+        b"none" => Some(None),
+        _ => Some(Some(place(word)?)),
     }
 }
 

@@ -1,30 +1,47 @@
 //! A world at the command line: reads calls from standard input, one a line, and prints the answer to each.
 #![tactic(auto)]
 
-use ic_program::{FAULT, run_program};
-use std::alloc::Global;
-use std::env;
-use std::io::{self, BufReader, BufWriter, ErrorKind};
+use ic_program::{FAULT, Fault, run_program};
+use std::alloc::{AllocError, Global};
+use std::env::FillError;
+use std::io::{self, BufReader, BufWriter};
 use std::process::ExitCode;
 use std::rt::Env;
+use std::str;
 use std::sync::Wait;
 use std::thread::Threads;
 
 // How many bytes are read at once.
 const CAPACITY: usize = 65536;
 
-/// The arguments after the program's name. Where one is not UTF-8, a single empty word stands for them all.
-fn arguments(rt: &(impl Env + AllocGlobal)) -> io::Result<Vec<String>> {
-    match env::args(rt) {
-        Ok(words) => Ok(words.skip(1).collect(rt.alloc())?),
-        Err(error) if error.kind() == ErrorKind::InvalidData => {
-            Ok(vec![in rt.alloc(); String::new(rt.alloc())]?)
-        }
-        Err(error) => Err(error),
+// How many bytes an argument has at most that the program knows.
+const LONGEST: usize = 32;
+
+/// The arguments after the program's name, whatever that is. Where one is not UTF-8, or longer than any that the program knows, a single
+/// empty word stands for them all.
+fn arguments(rt: &(impl Env + AllocGlobal)) -> Result<Vec<String>, AllocError> {
+    let mut words = Vec::new(rt.alloc());
+    for number in 1..usize::MAX {
+        let mut word = [0; LONGEST];
+        let length = match rt.arg(number, &mut word) {
+            Ok(length) => length,
+            Err(FillError::NotPresent) => break,
+            Err(FillError::TooLong) => return unknown(rt),
+        };
+        let Ok(text) = str::from_utf8(&word[..length]) else {
+            return unknown(rt);
+        };
+        words.push(String::from_str(rt.alloc(), text)?)?;
     }
+    Ok(words)
 }
 
-/// Runs the program over the standard streams, and returns its status.
+// What stands for arguments of which one is unknown.
+fn unknown(rt: &impl AllocGlobal) -> Result<Vec<String>, AllocError> {
+    Ok(vec![in rt.alloc(); String::new(rt.alloc())]?)
+}
+
+/// Runs the program over the standard streams, and returns its status. The error is want of memory before the program begins.
 fn run(
     rt: &(impl Env + Input + Print + Eprint + AllocGlobal + Threads + Wait + Sync),
     alloc: Global,
@@ -36,5 +53,11 @@ fn run(
 }
 
 fn main(rt: HostRuntime) -> ExitCode {
-    ExitCode::from(run(&rt, rt.alloc()).unwrap_or(FAULT))
+    match run(&rt, rt.alloc()) {
+        Ok(status) => ExitCode::from(status),
+        Err(_) => {
+            let _ = eprintln!(rt; "{}", Fault::Memory);
+            ExitCode::from(FAULT)
+        }
+    }
 }

@@ -1,2 +1,5 @@
 pub mod Line
 pub mod Arguments
+pub mod Printed
+pub mod Played
+pub mod Shared

@@ -1,5 +1,7 @@
 -- Lines and their ends.
-use Rattle.std.specs.Prelude.{◌≡◌, ℕ, ◌⊎◌, List, [], ◌∷◌, cond, nat_eq}
+use Rattle.std.specs.Prelude.{◌≡◌, ℕ, ◌<◌, ◌≤◌, ◌⊎◌, List, [], ◌∷◌, cond, nat_eq}
+use Rattle.ic_program.specs.declared.line.Line.{Line}
+use Rattle.ic_program.specs.declared.line.Line.TheVariants.{NoCommand}
 
 -- the bytes behind the spaces that come first
 abbrev pub behind_spaces : List ℕ → List ℕ
@@ -12,3 +14,8 @@ IsLineEnd bytes behind =
     (bytes ≡ 13 ∷ 10 ∷ behind)
     ⊎ (bytes ≡ 10 ∷ behind)
     ⊎ ((bytes ≡ []) × (behind ≡ []))
+
+-- the line was passed, unless it is no command: no more bytes are left than before, and fewer if there were any
+abbrev pub Passes : Line → ℕ → ℕ → Type 0
+Passes NoCommand before after = Unit {0}
+Passes _ before after = (after ≤ before) × (0 < before → after < before)

@@ -4,6 +4,12 @@
 //! push_answer(&mut lines, &Answer::Object(place))? // puts `object 3` and a line feed behind the others
 //! ```
 
+ghost use Rattle.std.specs.Prelude.{◌≡◌, ◌++◌, ◌<◌, ◌+◌, ◌%◌, ◌≤◌, [], ◌∷◌, take, OnOk, OnErr, codes, decimal};
+ghost use Rattle.std.specs.Io.{StartsWith};
+ghost use Rattle.ic_world.specs.Answers.{reply_in};
+ghost use Rattle.ic_world.specs.Calls as reply;
+ghost use Rattle.ic_program.specs.Printed.{line_of, items_of, number_at};
+
 use ic_unsafe_ref::Place;
 use ic_world::{Answer, Refusal};
 use itoa::Buffer;
@@ -16,7 +22,10 @@ use std::alloc::{AllocError, Allocator};
 pub fn push_answer<M: Allocator, N: Allocator>(
     lines: &mut Vec<u8, M>,
     answer: &Answer<N>,
-) -> Result<(), AllocError> {
+) -> Result<(), AllocError>
+    ensures put { OnOk result (lines.new.items ≡ lines.old.items ++ line_of (reply_in answer.now)) }
+    ensures refused { OnErr result (lines.new.items ≡ lines.old.items) }
+{
     let before = lines.len();
     let pushed = push_line(lines, answer);
     if pushed.is_err() {
@@ -30,76 +39,111 @@ pub fn push_answer<M: Allocator, N: Allocator>(
 fn push_line<M: Allocator, N: Allocator>(
     lines: &mut Vec<u8, M>,
     answer: &Answer<N>,
-) -> Result<(), AllocError> {
+) -> Result<(), AllocError>
+    ensures put { OnOk result (lines.new.items ≡ lines.old.items ++ line_of (reply_in answer.now)) }
+    ensures begun { StartsWith lines.new.items lines.old.items }
+{
     match answer {
-        Answer::Done => return lines.extend_from_slice(b"ok\n"),
-        Answer::Nothing => return lines.extend_from_slice(b"none\n"),
-        Answer::Linked(true) => return lines.extend_from_slice(b"linked\n"),
-        Answer::Linked(false) => return lines.extend_from_slice(b"unlinked\n"),
-        Answer::Refused(refusal) => return lines.extend_from_slice(refused(*refusal)),
-        Answer::Object(object) if object.index() < 1000 => {
-            return push_short(lines, object.index() as u64);
+        Answer::Done => lines.extend_from_slice(b"ok\n"),
+        Answer::Nothing => lines.extend_from_slice(b"none\n"),
+        Answer::Linked(true) => lines.extend_from_slice(b"linked\n"),
+        Answer::Linked(false) => lines.extend_from_slice(b"unlinked\n"),
+        Answer::Refused(refusal) => lines.extend_from_slice(refused(*refusal)),
+        Answer::Object(object) => push_place(lines, *object),
+        Answer::Field(number) => push_numbered(lines, b"field ", *number as u64, b"\n"),
+        Answer::Collection(number) => push_numbered(lines, b"collection ", *number as u64, b"\n"),
+        Answer::Found(None, looks) => push_numbered(lines, b"none looks ", *looks, b"\n"),
+        Answer::Looked(looks) => push_numbered(lines, b"ok looks ", *looks, b"\n"),
+        Answer::Found(Some(object), looks) => push_object(lines, b"object ", *object, *looks),
+        Answer::Entry(true, object, looks) => {
+            push_object(lines, b"occupied object ", *object, *looks)
         }
-        Answer::Object(object) => push_numbered(lines, b"object ", object.index() as u64)?,
-        Answer::Field(number) => push_numbered(lines, b"field ", *number as u64)?,
-        Answer::Collection(number) => push_numbered(lines, b"collection ", *number as u64)?,
-        Answer::Found(None, looks) => push_numbered(lines, b"none looks ", *looks)?,
-        Answer::Looked(looks) => push_numbered(lines, b"ok looks ", *looks)?,
-        Answer::Found(Some(object), looks) => push_object(lines, b"object ", *object, *looks)?,
-        Answer::Entry(true, object, looks) => push_object(
-            lines,
-            b"occupied object ",
-            *object,
-            *looks,
-        )?,
-        Answer::Entry(false, object, looks) => push_object(
-            lines,
-            b"inserted object ",
-            *object,
-            *looks,
-        )?,
-        Answer::Items(places) => push_items(lines, places)?,
-        Answer::Range(places, first, second) => {
-            push_items(lines, places)?;
-            push_numbered(lines, b" looks ", *first)?;
-            push_numbered(lines, b" ", *second)?;
+        Answer::Entry(false, object, looks) => {
+            push_object(lines, b"inserted object ", *object, *looks)
         }
+        Answer::Items(places) => push_items(lines, places, b"\n"),
+        Answer::Range(places, first, second) => push_range(lines, places, *first, *second),
     }
-    lines.extend_from_slice(b"\n")
 }
 
-// Some words and a number.
+// The line of an object.
+#[inline(always)]
+fn push_place<M: Allocator>(lines: &mut Vec<u8, M>, object: Place) -> Result<(), AllocError>
+    ensures put { OnOk result (lines.new.items ≡ lines.old.items ++ line_of (reply.object object)) }
+    ensures begun { StartsWith lines.new.items lines.old.items }
+{
+    if object.index() < 1000 {
+        return push_short(lines, object.index() as u64);
+    }
+    push_numbered(lines, b"object ", object.index() as u64, b"\n")
+}
+
+// Some words, a number, and what is behind it.
 fn push_numbered<M: Allocator>(
     lines: &mut Vec<u8, M>,
     words: &[u8],
     number: u64,
-) -> Result<(), AllocError> {
+    behind: &[u8],
+) -> Result<(), AllocError>
+    ensures put { OnOk result (lines.new.items ≡ lines.old.items ++ (words.now ++ decimal number ++ behind.now)) }
+    ensures begun { StartsWith lines.new.items lines.old.items }
+{
     lines.extend_from_slice(words)?;
-    push_number(lines, number)
+    lines.extend_from_slice(Buffer::new().format(number).as_bytes())?;
+    lines.extend_from_slice(behind)
 }
 
-// Some words, an object, and the looks.
+// The line of some words, an object, and the looks.
 fn push_object<M: Allocator>(
     lines: &mut Vec<u8, M>,
     words: &[u8],
     object: Place,
     looks: u64,
-) -> Result<(), AllocError> {
-    push_numbered(lines, words, object.index() as u64)?;
-    push_numbered(lines, b" looks ", looks)
+) -> Result<(), AllocError>
+    ensures put { OnOk result (lines.new.items
+        ≡ lines.old.items ++ (words.now ++ number_at object ++ codes " looks " ++ decimal looks ++ codes "\n")) }
+    ensures begun { StartsWith lines.new.items lines.old.items }
+{
+    push_numbered(lines, words, object.index() as u64, b" looks ")?;
+    push_numbered(lines, b"", looks, b"\n")
 }
 
-// The places of some objects.
-fn push_items<M: Allocator>(lines: &mut Vec<u8, M>, places: &[Place]) -> Result<(), AllocError> {
+// The places of some objects, and what is behind them.
+fn push_items<M: Allocator>(
+    lines: &mut Vec<u8, M>,
+    places: &[Place],
+    behind: &[u8],
+) -> Result<(), AllocError>
+    ensures put { OnOk result (lines.new.items ≡ lines.old.items ++ (items_of places.now ++ behind.now)) }
+    ensures begun { StartsWith lines.new.items lines.old.items }
+{
     lines.extend_from_slice(b"items")?;
     for place in places {
-        push_numbered(lines, b" ", place.index() as u64)?;
+        push_numbered(lines, b" ", place.index() as u64, b"")?;
     }
-    Ok(())
+    lines.extend_from_slice(behind)
+}
+
+// The line of a range, with the looks of its two searches.
+fn push_range<M: Allocator>(
+    lines: &mut Vec<u8, M>,
+    places: &[Place],
+    first: u64,
+    second: u64,
+) -> Result<(), AllocError>
+    ensures put { OnOk result (lines.new.items
+        ≡ lines.old.items ++ (items_of places.now ++ codes " looks " ++ decimal first ++ codes " " ++ decimal second ++ codes "\n")) }
+    ensures begun { StartsWith lines.new.items lines.old.items }
+{
+    push_items(lines, places, b" looks ")?;
+    push_numbered(lines, b"", first, b" ")?;
+    push_numbered(lines, b"", second, b"\n")
 }
 
 // The line of a refusal.
-fn refused(refusal: Refusal) -> &'static [u8] {
+fn refused(refusal: Refusal) -> &'static [u8]
+    ensures { result.now ≡ line_of (reply.refused refusal) }
+{
     match refusal {
         Refusal::NoSuchField => b"refused 1 NoSuchField\n",
         Refusal::NoSuchCollection => b"refused 2 NoSuchCollection\n",
@@ -120,30 +164,48 @@ fn refused(refusal: Refusal) -> &'static [u8] {
 
 // The line of an object whose number has three digits at most, as most have. It is copied whole, and what is not of it is cut off.
 #[inline(always)]
-fn push_short<M: Allocator>(lines: &mut Vec<u8, M>, number: u64) -> Result<(), AllocError> {
-    let [hundreds, tens, ones] = [digit(number / 100), digit(number / 10), digit(number)];
-    let (digits, length) = match number {
-        0..10 => ([ones, b'\n', 0, 0], 9),
-        10..100 => ([tens, ones, b'\n', 0], 10),
-        _ => ([hundreds, tens, ones, b'\n'], 11),
-    };
-    let [first, second, third, fourth] = digits;
-    let line = [
-        b'o', b'b', b'j', b'e', b'c', b't', b' ', first, second, third, fourth,
-    ];
+fn push_short<M: Allocator>(lines: &mut Vec<u8, M>, number: u64) -> Result<(), AllocError>
+    requires { number < 1000 }
+    ensures put { OnOk result (lines.new.items ≡ lines.old.items ++ (codes "object " ++ decimal number ++ codes "\n")) }
+    ensures begun { StartsWith lines.new.items lines.old.items }
+{
+    let (line, length) = short_line(number);
     let before = lines.len();
     lines.extend_from_slice(&line)?;
     lines.truncate(before + length);
     Ok(())
 }
 
-// The last digit of a number.
+// That line, with bytes behind it, and how long it is.
 #[inline(always)]
-fn digit(number: u64) -> u8 {
-    b'0' + (number % 10) as u8
+#[tactic(auto, using(crate::proofs::Decimals::one_digit, crate::proofs::Decimals::two_digits, crate::proofs::Decimals::three_digits))]
+fn short_line(number: u64) -> ([u8; 11], usize)
+    requires { number < 1000 }
+    ensures line { take result.1 result.0 ≡ codes "object " ++ decimal number ++ codes "\n" }
+    ensures within { result.1 ≤ 11 }
+{
+    let [hundreds, tens, ones] = [digit(number / 100), digit(number / 10), digit(number)];
+    match number {
+        0..10 => (object_line(ones, b'\n', 0, 0), 9),
+        10..100 => (object_line(tens, ones, b'\n', 0), 10),
+        _ => (object_line(hundreds, tens, ones, b'\n'), 11),
+    }
 }
 
-// The digits of a number.
-fn push_number<M: Allocator>(lines: &mut Vec<u8, M>, number: u64) -> Result<(), AllocError> {
-    lines.extend_from_slice(Buffer::new().format(number).as_bytes())
+// `object ` and four bytes.
+#[inline(always)]
+fn object_line(first: u8, second: u8, third: u8, fourth: u8) -> [u8; 11]
+    ensures { result ≡ codes "object " ++ (first ∷ second ∷ third ∷ fourth ∷ []) }
+{
+    [
+        b'o', b'b', b'j', b'e', b'c', b't', b' ', first, second, third, fourth,
+    ]
+}
+
+// The last digit of a number.
+#[inline(always)]
+fn digit(number: u64) -> u8
+    ensures { result ≡ 48 + number % 10 }
+{
+    b'0' + (number % 10) as u8
 }

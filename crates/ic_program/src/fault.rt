@@ -4,6 +4,9 @@
 //! Fault::NotText(7) // printed as `input is not UTF-8, line 7`
 //! ```
 
+ghost use Rattle.std.specs.Prelude.{IsTrue};
+ghost use Rattle.ic_program.specs.Played.{is_loss};
+
 use std::fmt;
 use std::io::{self, ErrorKind};
 
@@ -22,7 +25,9 @@ pub enum Fault {
 
 impl Fault {
     /// What a fault of writing is: one of memory, if that is what the writer lacks.
-    pub(crate) fn of_writer(error: &io::Error) -> Fault {
+    pub(crate) fn of_writer(error: &io::Error) -> Fault
+        ensures { IsTrue (is_loss result) }
+    {
         match error.kind() {
             ErrorKind::OutOfMemory => Fault::Memory,
             _ => Fault::Writing,

@@ -5,6 +5,9 @@
 //! Line::of(b"jump")          // Line::NoCommand
 //! ```
 
+ghost use Rattle.std.specs.Prelude.{◌≤◌, length};
+ghost use Rattle.ic_program.specs.Line.{Passes};
+
 use crate::names::is;
 use crate::words::Words;
 use ic_unsafe_ref::Place;
@@ -39,7 +42,9 @@ impl Line {
     ///
     /// Most calls are a name and one or two numbers. How many there are and how long the name is leave few names to compare it with.
     #[inline(always)]
-    pub(crate) fn first_of<'l>(lines: Words<'l>) -> (Line, Words<'l>) {
+    pub(crate) fn first_of<'l>(lines: Words<'l>) -> (Line, Words<'l>)
+        ensures { Passes result.0 (length lines.entry.rest.now) (length result.1.rest.now) }
+    {
         let mut words = lines;
         let name = words.name();
         let Some(first) = words.number() else {
@@ -61,7 +66,9 @@ impl Line {
 }
 
 // A line whose first word has no number behind it. No call is a name alone.
-fn without_number<'l>(name: &[u8], mut words: Words<'l>) -> (Line, Words<'l>) {
+fn without_number<'l>(name: &[u8], mut words: Words<'l>) -> (Line, Words<'l>)
+    ensures { Passes result.0 (length words.entry.rest.now) (length result.1.rest.now) }
+{
     let kind = match name {
         b"field" => words.kind(),
         _ => None,
@@ -133,7 +140,9 @@ fn with_more<'l>(
     first: u64,
     second: Option<u64>,
     mut words: Words<'l>,
-) -> (Line, Words<'l>) {
+) -> (Line, Words<'l>)
+    ensures { Passes result.0 (length words.entry.rest.now) (length result.1.rest.now) }
+{
     let of = first as usize;
     let command = match second {
         None => with_word(name, of, &mut words),
@@ -147,7 +156,9 @@ fn with_more<'l>(
 }
 
 // The call of that name, of a field or a collection, with another word than a number behind it.
-fn with_word(name: &[u8], of: usize, words: &mut Words<'_>) -> Option<Command<u64, u64>> {
+fn with_word(name: &[u8], of: usize, words: &mut Words<'_>) -> Option<Command<u64, u64>>
+    ensures { length words.new.rest.now ≤ length words.old.rest.now }
+{
     match name {
         b"open" => Some(Command::Open(of, words.kind()?)),
         b"lower_bound" => Some(Command::LowerBound(of, words.bound()?)),
@@ -163,7 +174,9 @@ fn with_object(
     of: usize,
     second: u64,
     words: &mut Words<'_>,
-) -> Option<Command<u64, u64>> {
+) -> Option<Command<u64, u64>>
+    ensures { length words.new.rest.now ≤ length words.old.rest.now }
+{
     match name {
         b"entry" => Some(Command::Entry(of, second, Place::new(words.number()? as usize)?)),
         b"seek_with_prev" => Some(Command::SeekWithPrev(

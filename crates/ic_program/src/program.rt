@@ -1,8 +1,11 @@
 //! The program, over any reader and any writer.
 
-ghost use Rattle.std.specs.Prelude.{◌≡◌, ◌≢◌, ◌⊎◌, ◌<◌, IfOk, Ok, OnOk, codes, length};
-ghost use Rattle.std.specs.Io.KnownBytes.{Appends};
+ghost use Rattle.std.specs.Prelude.{◌≡◌, ◌≢◌, ◌⊎◌, ◌<◌, ℕ, List, [], false, IsTrue, OnSome, Ok, Err, IfOk, IfErr, OnOk, codes, length};
+ghost use Rattle.std.specs.Io.KnownBytes.{Appends, Keeps, Consumes, IsAtEnd, append_known};
 ghost use Rattle.ic_program.specs.Arguments.{AskFor};
+ghost use Rattle.ic_program.specs.Printed.{no_command_at};
+ghost use Rattle.ic_program.specs.Played.{Ends, EndsStopped, IsRun, Answered, UnlessLost, is_loss};
+ghost use Rattle.ic_program.specs.Shared.{HaveShared};
 
 use crate::fault::Fault;
 use crate::session::{Session, Stop};
@@ -39,9 +42,13 @@ pub fn run_program<
     W: Write,
 >(rt: &S, alloc: M, words: &[String], reader: &mut R, writer: &mut W) -> u8
     ensures status { (result ≡ 0) ⊎ (result ≡ 2) ⊎ (result ≡ FAULT) }
+    ensures finished { words.now ≡ [] → result ≡ 0 → IsRun (W.contents writer.old) (W.contents writer.new) [] × OnSome (R.remaining reader.old) (IsAtEnd (R.remaining reader.new)) }
+    ensures not_understood { words.now ≡ [] → result ≡ 2 → (line : ℕ) × IsRun (W.contents writer.old) (W.contents writer.new) (no_command_at line) }
     ensures arguments { 0 < length words.now → ((asked : Workers) → AskFor words.now asked → ⊥) → result ≢ FAULT → (result ≡ 2)
         × Appends (W.contents writer.old) (W.contents writer.new) (codes "bad arguments\n") }
-    ensures workers { (asked : Workers) → AskFor words.now asked → result ≢ 2 }
+    ensures workers { (asked : Workers) → AskFor words.now asked → (result ≢ 2)
+        × (result ≡ 0 → HaveShared asked (W.contents writer.old) (W.contents writer.new)) }
+    ensures reader { 0 < length words.now → reader.new ≡ reader.old }
 {
     if words.is_empty() {
         return status_of(rt, run_lines(alloc, reader, writer));
@@ -73,15 +80,19 @@ pub fn run_lines<M: Allocator + Copy, R: BufRead, W: Write>(
     alloc: M,
     reader: &mut R,
     writer: &mut W,
-) -> Result<Ending, Fault> {
-    let ending = answer_lines(alloc, reader, writer);
+) -> Result<Ending, Fault>
+    ensures run { Ends result (W.contents writer.old) (W.contents writer.new) }
+    ensures read { result ≡ Ok Ending.Finished → OnSome (R.remaining reader.old) (IsAtEnd (R.remaining reader.new)) }
+{
+    let ending = answer_input(alloc, reader, writer);
     let flushed = writer.flush();
     ended(ending, flushed)
 }
 
 // How a run ended whose writer was flushed then.
 fn ended(ending: Result<Ending, Fault>, flushed: io::Result<()>) -> Result<Ending, Fault>
-    ensures { IfOk result (λ end. ending ≡ Ok end) }
+    ensures ending { IfOk result (λ end. ending ≡ Ok end) }
+    ensures fault { (fault : Fault) → result ≡ Err fault → (ending ≡ Err fault) ⊎ IsTrue (is_loss fault) }
 {
     match (ending, flushed) {
         (Ok(_), Err(error)) => Err(Fault::of_writer(&error)),
@@ -115,20 +126,23 @@ fn refuse_arguments<W: Write>(writer: &mut W) -> Result<Ending, Fault>
 
 // Answers each line in turn, until the input ends or a line is no command. After a fault the lines before it are answered. What is
 // answered is written before the reader waits for more.
-fn answer_lines<M: Allocator + Copy, R: BufRead, W: Write>(
+fn answer_input<M: Allocator + Copy, R: BufRead, W: Write>(
     alloc: M,
     reader: &mut R,
     writer: &mut W,
-) -> Result<Ending, Fault> {
+) -> Result<Ending, Fault>
+    ensures run { Ends result (W.contents writer.old) (W.contents writer.new) }
+    ensures read { result ≡ Ok Ending.Finished → OnSome (R.remaining reader.old) (IsAtEnd (R.remaining reader.new)) }
+{
     let Ok(mut session) = Session::new(alloc) else {
         return Err(Fault::Memory);
     };
     let mut cut = Vec::new(alloc);
     for _round in 0..u64::MAX {
-        let read = answer_next(&mut session, &mut cut, reader);
-        write_answers(&mut session, writer)?;
+        let read = answer_next(&mut session, &mut cut, reader, writer);
+        session.write(writer)?;
         match read {
-            Ok(true) => {}
+            Ok(true) => flush(writer)?,
             Ok(false) => return Ok(Ending::Finished),
             Err(stop) => return stopped(stop, session.lines, writer),
         }
@@ -137,14 +151,12 @@ fn answer_lines<M: Allocator + Copy, R: BufRead, W: Write>(
     Err(Fault::Reading(session.lines))
 }
 
-// Writes the answers, and keeps none.
-fn write_answers<M: Allocator + Copy, W: Write>(
-    session: &mut Session<M>,
-    writer: &mut W,
-) -> Result<(), Fault> {
-    let written = writer.write_all(&session.answers);
-    session.answers.clear();
-    match written.and_then(|()| writer.flush()) {
+// Lets nothing that is written wait.
+fn flush<W: Write>(writer: &mut W) -> Result<(), Fault>
+    ensures kept { Keeps (W.contents writer.old) (W.contents writer.new) }
+    ensures lost { IfErr result (λ fault. IsTrue (is_loss fault)) }
+{
+    match writer.flush() {
         Ok(()) => Ok(()),
         Err(error) => Err(Fault::of_writer(&error)),
     }
@@ -152,18 +164,24 @@ fn write_answers<M: Allocator + Copy, W: Write>(
 
 // Answers the lines that end in what the reader has next, and tells whether there was anything. At the end of the input what is cut off
 // is a line.
-fn answer_next<M: Allocator + Copy, R: BufRead>(
+fn answer_next<M: Allocator + Copy, R: BufRead, W: Write>(
     session: &mut Session<M>,
     cut: &mut Vec<u8, M>,
     reader: &mut R,
-) -> Result<bool, Stop> {
+    writer: &mut W,
+) -> Result<bool, Stop>
+    ensures answered { UnlessLost result (Answered session.old.world session.new.world
+        (append_known (W.contents writer.old) session.old.answers.items) (append_known (W.contents writer.new) session.new.answers.items)) }
+    ensures read { (taken : List ℕ) × Consumes (R.remaining reader.old) (R.remaining reader.new) taken }
+    ensures end { result ≡ Ok false → OnSome (R.remaining reader.old) (IsAtEnd (R.remaining reader.new)) }
+{
     match reader.fill_buf() {
         Ok([]) => {
-            session.answer_lines(cut)?;
+            session.answer_lines(cut, writer)?;
             Ok(false)
         }
         Ok(lent) => {
-            session.answer_all(cut, lent)?;
+            session.answer_all(cut, lent, writer)?;
             let taken = lent.len();
             reader.consume(taken);
             Ok(true)
@@ -175,7 +193,9 @@ fn answer_next<M: Allocator + Copy, R: BufRead>(
 }
 
 // How a run ends that was stopped at the line of that number.
-fn stopped<W: Write>(stop: Stop, line: u64, writer: &mut W) -> Result<Ending, Fault> {
+fn stopped<W: Write>(stop: Stop, line: u64, writer: &mut W) -> Result<Ending, Fault>
+    ensures { EndsStopped stop line result (W.contents writer.old) (W.contents writer.new) }
+{
     match stop {
         Stop::NoCommand => match writeln!(writer, "line {line}: no command") {
             Ok(()) => Ok(Ending::NotUnderstood),

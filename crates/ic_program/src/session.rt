@@ -2,11 +2,15 @@
 //!
 //! ```text
 //! let mut session = Session::new(alloc)?;
-//! session.answer(b"field doubly\n")?;
-//! session.answers // `field 0` and a line feed
+//! session.answer_lines(b"field doubly\n", &mut writer)?;
+//! session.write(&mut writer)?; // `field 0` and a line feed
 //! ```
 
-ghost use Rattle.std.specs.Prelude.{◌≤◌, IfOk, length};
+ghost use Rattle.std.specs.Prelude.{◌≡◌, ◌++◌, ◌<◌, ◌≤◌, ◌⊎◌, [], IsTrue, Some, IfOk, IfErr, OnOk, length};
+ghost use Rattle.std.specs.Io.KnownBytes.{Keeps, append_known};
+ghost use Rattle.ic_program.specs.Printed.{line_of};
+ghost use Rattle.ic_program.specs.Played.{IsNew, is_loss, Answered, UnlessLost};
+ghost use Rattle.ic_world.specs.Answers.{reply_in};
 
 use crate::answers::push_answer;
 use crate::fault::Fault;
@@ -16,9 +20,10 @@ use crate::words::Words;
 use ic_world::{Answer, Command, World};
 use memchr::{memchr, memrchr};
 use std::alloc::{AllocError, Allocator};
+use std::io::Write;
 use std::str;
 
-// How many bytes of answers there is room for at first.
+// How many bytes of answers may wait. There is room for so many at first.
 const ROOM: usize = 65536;
 
 /// Why no more lines are answered.
@@ -33,7 +38,7 @@ pub(crate) enum Stop {
 /// A world, and the lines of its answers that are not written yet.
 #[derive(Drop)]
 pub(crate) struct Session<M: Allocator + Copy> {
-    world: World<OwnKey, M>,
+    pub(crate) world: World<OwnKey, M>,
     /// The answers, each with its line feed.
     pub(crate) answers: Vec<u8, M>,
     /// How many lines were read.
@@ -42,7 +47,9 @@ pub(crate) struct Session<M: Allocator + Copy> {
 
 impl<M: Allocator + Copy> Session<M> {
     /// A new world, with nothing answered.
-    pub(crate) fn new(alloc: M) -> Result<Session<M>, AllocError> {
+    pub(crate) fn new(alloc: M) -> Result<Session<M>, AllocError>
+        ensures { IfOk result (λ session. IsNew session.world × (session.answers.items ≡ [])) }
+    {
         // The world comes last, so that no way out has one to drop.
         let answers = Vec::with_capacity(alloc, ROOM)?;
         Ok(Session {
@@ -52,22 +59,73 @@ impl<M: Allocator + Copy> Session<M> {
         })
     }
 
+    /// Writes the answers, and keeps none.
+    pub(crate) fn write<W: Write>(&mut self, writer: &mut W) -> Result<(), Fault>
+        ensures written { OnOk result (Keeps (append_known (W.contents writer.old) self.old.answers.items) (W.contents writer.new)) }
+        ensures lost { IfErr result (λ fault. IsTrue (is_loss fault)) }
+        ensures none { self.new.answers.items ≡ [] }
+        ensures world { self.new.world ≡ self.old.world }
+    {
+        let written = writer.write_all(&self.answers);
+        self.answers.clear();
+        match written {
+            Ok(()) => Ok(()),
+            Err(error) => Err(Fault::of_writer(&error)),
+        }
+    }
+
     /// Answers these lines, of which empty ones have no answer. Where it stops, the answers are those of the lines before.
-    pub(crate) fn answer_lines(&mut self, lines: &[u8]) -> Result<(), Stop> {
+    ///
+    /// As soon as more than 64 KB of answers wait they are written.
+    pub(crate) fn answer_lines<W: Write>(
+        &mut self,
+        lines: &[u8],
+        writer: &mut W,
+    ) -> Result<(), Stop>
+        ensures { UnlessLost result (Answered self.old.world self.new.world
+            (append_known (W.contents writer.old) self.old.answers.items) (append_known (W.contents writer.new) self.new.answers.items)) }
+    {
         let mut words = Words::of(lines);
-        // Each line takes a byte at least.
-        for _line in 0..lines.len() {
-            if words.rest().is_empty() {
-                break;
-            }
+        while !words.rest().is_empty() {
             words = self.answer_first(words)?;
+            self.make_room(writer)?;
         }
         Ok(())
     }
 
+    // Writes the answers, if too many wait.
+    #[inline(always)]
+    fn make_room<W: Write>(&mut self, writer: &mut W) -> Result<(), Stop>
+        ensures written { UnlessLost result (Keeps (append_known (W.contents writer.old) self.old.answers.items)
+            (append_known (W.contents writer.new) self.new.answers.items)) }
+        ensures world { self.new.world ≡ self.old.world }
+    {
+        if self.answers.len() <= ROOM {
+            return Ok(());
+        }
+        self.write_some(writer)
+    }
+
+    // Writes the answers, of which too many wait.
+    #[cold]
+    #[inline(never)]
+    fn write_some<W: Write>(&mut self, writer: &mut W) -> Result<(), Stop>
+        ensures written { UnlessLost result (Keeps (append_known (W.contents writer.old) self.old.answers.items)
+            (append_known (W.contents writer.new) self.new.answers.items)) }
+        ensures world { self.new.world ≡ self.old.world }
+    {
+        match self.write(writer) {
+            Ok(()) => Ok(()),
+            Err(fault) => Err(Stop::Fault(fault)),
+        }
+    }
+
     // Answers the first of these lines, and gives the others.
     #[inline(always)]
-    fn answer_first<'l>(&mut self, lines: Words<'l>) -> Result<Words<'l>, Stop> {
+    fn answer_first<'l>(&mut self, lines: Words<'l>) -> Result<Words<'l>, Stop>
+        ensures answered { UnlessLost result (Answered self.old.world self.new.world (Some self.old.answers.items) (Some self.new.answers.items)) }
+        ensures fewer { 0 < length lines.entry.rest.now → IfOk result (λ others. length others.rest.now < length lines.entry.rest.now) }
+    {
         let Some(number) = self.lines.checked_add(1) else {
             // There are more lines than a number counts.
             return Err(Stop::Fault(Fault::Reading(self.lines)));
@@ -75,49 +133,74 @@ impl<M: Allocator + Copy> Session<M> {
         self.lines = number;
         let (said, others) = Line::first_of(lines);
         match said {
-            Line::Empty => {}
-            Line::Call(command) => self.call(command)?,
-            Line::NoCommand => return Err(stop_at(lines.rest(), number)),
+            Line::Empty => Ok(others),
+            Line::Call(command) => {
+                self.call(command)?;
+                Ok(others)
+            }
+            Line::NoCommand => Err(stop_at(lines.rest(), number)),
         }
-        Ok(others)
     }
 
     // Makes the call, and puts its answer behind the others.
     #[inline(always)]
-    fn call(&mut self, command: Command<u64, u64>) -> Result<(), Stop> {
-        push(&mut self.answers, &self.world.answer(command))
+    fn call(&mut self, command: Command<u64, u64>) -> Result<(), Stop>
+        ensures { UnlessLost result (Answered self.old.world self.new.world (Some self.old.answers.items) (Some self.new.answers.items)) }
+    {
+        push(
+            &mut self.answers,
+            &ic_world_laws::answer(&mut self.world, command),
+        )
     }
 
     // Answers the line that is cut off, if it ends in these bytes, and tells which of them are behind it.
-    fn answer_cut<'b>(&mut self, cut: &mut Vec<u8, M>, bytes: &'b [u8]) -> Result<&'b [u8], Stop>
-        ensures { IfOk result (λ rest. length rest.now ≤ length bytes.now) }
+    fn answer_cut<'b, W: Write>(
+        &mut self,
+        cut: &mut Vec<u8, M>,
+        bytes: &'b [u8],
+        writer: &mut W,
+    ) -> Result<&'b [u8], Stop>
+        ensures rest { IfOk result (λ rest. length rest.now ≤ length bytes.now) }
+        ensures answered { UnlessLost result (Answered self.old.world self.new.world
+            (append_known (W.contents writer.old) self.old.answers.items) (append_known (W.contents writer.new) self.new.answers.items)) }
     {
         let end = match memchr(b'\n', bytes) {
             Some(end) if !cut.is_empty() => end + 1,
             _ => return Ok(bytes),
         };
         keep(cut, &bytes[..end])?;
-        let answered = self.answer_lines(cut);
+        let answered = self.answer_lines(cut, writer);
         cut.clear();
         answered?;
         Ok(&bytes[end..])
     }
 
-    /// Answers the lines that end in these bytes, and keeps in `cut` what is read of the line that does not.
-    pub(crate) fn answer_all(&mut self, cut: &mut Vec<u8, M>, bytes: &[u8]) -> Result<(), Stop> {
-        let rest = self.answer_cut(cut, bytes)?;
+    /// Answers the lines that end in these bytes, as [`answer_lines`](Session::answer_lines), and keeps in `cut` what is read of the line
+    /// that does not.
+    pub(crate) fn answer_all<W: Write>(
+        &mut self,
+        cut: &mut Vec<u8, M>,
+        bytes: &[u8],
+        writer: &mut W,
+    ) -> Result<(), Stop>
+        ensures { UnlessLost result (Answered self.old.world self.new.world
+            (append_known (W.contents writer.old) self.old.answers.items) (append_known (W.contents writer.new) self.new.answers.items)) }
+    {
+        let rest = self.answer_cut(cut, bytes, writer)?;
         let whole = match memrchr(b'\n', rest) {
             Some(end) => end + 1,
             None => 0,
         };
-        self.answer_lines(&rest[..whole])?;
+        self.answer_lines(&rest[..whole], writer)?;
         keep(cut, &rest[whole..])
     }
 }
 
 // Puts bytes behind those that are cut off.
 #[inline]
-fn keep<M: Allocator>(cut: &mut Vec<u8, M>, bytes: &[u8]) -> Result<(), Stop> {
+fn keep<M: Allocator>(cut: &mut Vec<u8, M>, bytes: &[u8]) -> Result<(), Stop>
+    ensures { IfErr result (λ stop. stop ≡ Stop.Fault Fault.Memory) }
+{
     match cut.extend_from_slice(bytes) {
         Ok(()) => Ok(()),
         Err(_) => Err(Stop::Fault(Fault::Memory)),
@@ -126,7 +209,9 @@ fn keep<M: Allocator>(cut: &mut Vec<u8, M>, bytes: &[u8]) -> Result<(), Stop> {
 
 // Puts the answer behind the others.
 #[inline]
-fn push<M: Allocator>(answers: &mut Vec<u8, M>, answer: &Answer<M>) -> Result<(), Stop> {
+fn push<M: Allocator>(answers: &mut Vec<u8, M>, answer: &Answer<M>) -> Result<(), Stop>
+    ensures { UnlessLost result (answers.new.items ≡ answers.old.items ++ line_of (reply_in answer.now)) }
+{
     match push_answer(answers, answer) {
         Ok(()) => Ok(()),
         Err(_) => Err(Stop::Fault(Fault::Memory)),
@@ -135,7 +220,9 @@ fn push<M: Allocator>(answers: &mut Vec<u8, M>, answer: &Answer<M>) -> Result<()
 
 // Why no more lines are answered behind the first of these, the line of that number, which is no command. A command is ASCII alone, so
 // that only here the line may be other than UTF-8.
-fn stop_at(lines: &[u8], number: u64) -> Stop {
+fn stop_at(lines: &[u8], number: u64) -> Stop
+    ensures { (result ≡ Stop.NoCommand) ⊎ (result ≡ Stop.Fault (Fault.NotText number)) }
+{
     let line = match memchr(b'\n', lines) {
         Some(end) => &lines[..end],
         None => lines,

@@ -8,12 +8,12 @@
 //! words.end_line() // true: `pop_front` is the next name
 //! ```
 
-ghost use Rattle.std.specs.Prelude.{◌≡◌, ◌≤◌, ℕ, List, length};
+ghost use Rattle.std.specs.Prelude.{◌≡◌, ◌<◌, ◌≤◌, ℕ, List, length};
 ghost use Rattle.std.specs.Bool.{OnTrue, OnFalse};
 ghost use Rattle.ic_program.specs.Line.{behind_spaces, IsLineEnd};
 
 use ic_any_table::Kind;
-use ic_commands::{kind, leading_number, number, place};
+use ic_commands::{bound, kind, leading_number, neighbor};
 use ic_rbtree::Bound;
 use ic_unsafe_ref::Place;
 
@@ -26,19 +26,25 @@ pub(crate) struct Words<'l> {
 impl<'l> Words<'l> {
     /// All words of these lines.
     #[inline]
-    pub(crate) fn of(lines: &'l [u8]) -> Words<'l> {
+    pub(crate) fn of(lines: &'l [u8]) -> Words<'l>
+        ensures { result.rest.now ≡ lines.now }
+    {
         Words { rest: lines }
     }
 
     /// The bytes that were not read yet.
     #[inline]
-    pub(crate) fn rest(&self) -> &'l [u8] {
+    pub(crate) fn rest(&self) -> &'l [u8]
+        ensures { result.now ≡ self.now.rest.now }
+    {
         self.rest
     }
 
     /// The first word of a line, empty where there is none. O(bytes).
     #[inline(always)]
-    pub(crate) fn name(&mut self) -> &'l [u8] {
+    pub(crate) fn name(&mut self) -> &'l [u8]
+        ensures { length self.new.rest.now ≤ length self.old.rest.now }
+    {
         self.pass_spaces();
         let length = word_length(self.rest);
         let word = &self.rest[..length];
@@ -48,7 +54,9 @@ impl<'l> Words<'l> {
 
     /// The next word of a line behind its first one, empty where there is none.
     #[inline]
-    fn word(&mut self) -> &'l [u8] {
+    fn word(&mut self) -> &'l [u8]
+        ensures { length self.new.rest.now ≤ length self.old.rest.now }
+    {
         match self.rest {
             [b' ', ..] => self.name(),
             _ => &[],
@@ -57,7 +65,9 @@ impl<'l> Words<'l> {
 
     /// The number that the next word begins with, of which this is read alone. `None` where it begins with none: nothing is read then.
     #[inline(always)]
-    pub(crate) fn number(&mut self) -> Option<u64> {
+    pub(crate) fn number(&mut self) -> Option<u64>
+        ensures { length self.new.rest.now ≤ length self.old.rest.now }
+    {
         let [b' ', text @ ..] = self.rest else {
             return None;
         };
@@ -74,6 +84,8 @@ impl<'l> Words<'l> {
         ensures ends { OnTrue result (IsLineEnd (behind_spaces self.old.rest.now) self.new.rest.now) }
         ensures more { OnFalse result ((behind : List ℕ) → IsLineEnd (behind_spaces self.old.rest.now) behind → ⊥) }
         ensures stays { OnFalse result (self.new ≡ self.old) }
+        ensures fewer { OnTrue result ((length self.new.rest.now ≤ length self.old.rest.now)
+            × (0 < length self.old.rest.now → length self.new.rest.now < length self.old.rest.now)) }
     {
         let mut words = *self;
         words.pass_spaces();
@@ -91,24 +103,31 @@ impl<'l> Words<'l> {
     }
 
     /// The next word, where it is a kind.
-    pub(crate) fn kind(&mut self) -> Option<Kind> {
+    pub(crate) fn kind(&mut self) -> Option<Kind>
+        ensures { length self.new.rest.now ≤ length self.old.rest.now }
+    {
         kind(self.word())
     }
 
     /// The next word, where it is a bound of keys.
-    pub(crate) fn bound(&mut self) -> Option<Bound<u64>> {
+    pub(crate) fn bound(&mut self) -> Option<Bound<u64>>
+        ensures { length self.new.rest.now ≤ length self.old.rest.now }
+    {
         bound(self.word())
     }
 
     /// The next word, where it is an object's number, or `none` beyond an end.
-    pub(crate) fn neighbor(&mut self) -> Option<Option<Place>> {
+    pub(crate) fn neighbor(&mut self) -> Option<Option<Place>>
+        ensures { length self.new.rest.now ≤ length self.old.rest.now }
+    {
         neighbor(self.word())
     }
 
     // Passes the spaces that come first. Mostly there are none.
     #[inline(always)]
     fn pass_spaces(&mut self)
-        ensures { self.new.rest.now ≡ behind_spaces self.old.rest.now }
+        ensures passed { self.new.rest.now ≡ behind_spaces self.old.rest.now }
+        ensures fewer { length self.new.rest.now ≤ length self.old.rest.now }
     {
         if let [b' ', ..] = self.rest {
             self.rest = without_spaces(self.rest);
@@ -120,7 +139,8 @@ impl<'l> Words<'l> {
 #[cold]
 #[inline(never)]
 fn without_spaces(text: &[u8]) -> &[u8]
-    ensures { result.now ≡ behind_spaces text.now }
+    ensures passed { result.now ≡ behind_spaces text.now }
+    ensures fewer { length result.now ≤ length text.now }
 {
     let mut rest = text;
     while let [b' ', others @ ..] = rest {
@@ -153,26 +173,4 @@ fn word_length(text: &[u8]) -> usize
 #[inline(always)]
 fn ends_in(bytes: u64) -> u64 {
     bytes.wrapping_sub(0x2121_2121_2121_2121) & !bytes & 0x8080_8080_8080_8080
-}
-
-// A bound of keys.
-fn bound(word: &[u8]) -> Option<Bound<u64>> {
-    if let Some(key) = word.strip_prefix(b"included:") {
-        return Some(Bound::Included(number(key)?));
-    }
-    if let Some(key) = word.strip_prefix(b"excluded:") {
-        return Some(Bound::Excluded(number(key)?));
-    }
-    match word {
-        b"unbounded" => Some(Bound::Unbounded),
-        _ => None,
-    }
-}
-
-// A neighbor, none beyond an end. The outer `None`: the word is no neighbor.
-fn neighbor(word: &[u8]) -> Option<Option<Place>> {
-    match word {
-        b"none" => Some(None),
-        _ => Some(Some(place(word)?)),
-    }
 }

@@ -4,9 +4,12 @@
 //! workers_of(&words) // Some of 4 workers and 1000 places, for the words `workers 4 1000`
 //! ```
 
-ghost use Rattle.std.specs.Prelude.{IfSome, IfNone, All};
+ghost use Rattle.std.specs.Prelude.{◌++◌, IfSome, IfNone, OnOk, All, codes};
+ghost use Rattle.std.specs.Io.KnownBytes.{Appends};
 ghost use Rattle.ic_workers.specs.SharedOut.{Rises, places_in};
 ghost use Rattle.ic_program.specs.Arguments.{AskFor};
+ghost use Rattle.ic_program.specs.Printed.{items_of, worker_line, workers_text};
+ghost use Rattle.ic_program.specs.Shared.{HaveShared};
 
 use crate::fault::Fault;
 use ic_atomic::Gate;
@@ -72,7 +75,9 @@ pub(crate) fn run_workers<S: Threads + Wait + Sync, M: Allocator + Copy + Send +
     alloc: M,
     asked: Workers,
     writer: &mut W,
-) -> Result<(), Fault> {
+) -> Result<(), Fault>
+    ensures { OnOk result (HaveShared asked (W.contents writer.old) (W.contents writer.new)) }
+{
     let Ok(lists) = fan_out(rt, alloc, asked.workers, asked.places, &Open) else {
         return Err(Fault::Memory);
     };
@@ -89,13 +94,29 @@ fn write_lists<M: Allocator, W: Write>(
     writer: &mut W,
 ) -> io::Result<()>
     requires { All (Rises 0 places) (places_in lists.now) }
+    ensures { OnOk result (Appends (W.contents writer.old) (W.contents writer.new) (workers_text places (places_in lists.now))) }
 {
     for (before, list) in lists.iter().enumerate() {
-        write!(writer, "worker {} items", before + 1)?;
-        for place in list {
-            write!(writer, " {}", place.index())?;
-        }
-        writeln!(writer)?;
+        write_worker(before + 1, list, writer)?;
     }
     writeln!(writer, "doubles {}", doubles(places, lists))
+}
+
+// Writes the line of the worker of that number.
+fn write_worker<W: Write>(number: usize, list: &[Place], writer: &mut W) -> io::Result<()>
+    ensures { OnOk result (Appends (W.contents writer.old) (W.contents writer.new) (worker_line number list.now)) }
+{
+    write!(writer, "worker {number} ")?;
+    write_items(list, writer)
+}
+
+// Writes the line of a list, from its items on.
+fn write_items<W: Write>(list: &[Place], writer: &mut W) -> io::Result<()>
+    ensures { OnOk result (Appends (W.contents writer.old) (W.contents writer.new) (items_of list.now ++ codes "\n")) }
+{
+    write!(writer, "items")?;
+    for place in list {
+        write!(writer, " {}", place.index())?;
+    }
+    writeln!(writer)
 }

@@ -1,0 +1,5 @@
+pub mod Decimals
+pub mod Taking
+pub mod Answering
+pub mod WorkerLines
+pub mod RunEnds
