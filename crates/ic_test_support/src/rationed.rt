@@ -9,10 +9,11 @@ ghost use Rattle.std.specs.Prelude.{◌≡◌, ◌+◌, ◌<◌, ◌↔◌, min,
 use std::alloc::{AllocError, Allocator, Global};
 use std::cell::Cell;
 
-// How many requests there have been, and the number of the one to refuse.
+// How many requests there have been, for how many bytes in all, and the number of the one to refuse.
 #[derive(Clone, Copy)]
 struct Count {
     asked: u64,
+    bytes: u64,
     refused: u64,
 }
 
@@ -24,31 +25,35 @@ impl Count {
         self.asked == self.refused && self.refused < u64::MAX
     }
 
-    fn one_more(self) -> Count
+    fn one_more(self, size: usize) -> Count
         ensures asked { result.asked ≡ min (self.asked + 1) u64.MAX }
+        ensures bytes { result.bytes ≡ min (self.bytes + size) u64.MAX }
         ensures refused { result.refused ≡ self.refused }
     {
         Count {
             asked: self.asked.saturating_add(1),
+            bytes: self.bytes.saturating_add(size as u64),
             refused: self.refused,
         }
     }
 
     fn refusing(self, n: u64) -> Count
         ensures asked { result.asked ≡ self.asked }
+        ensures bytes { result.bytes ≡ self.bytes }
         ensures refused { result.refused ≡ min (self.asked + n) u64.MAX }
     {
         Count {
             asked: self.asked,
+            bytes: self.bytes,
             refused: self.asked.saturating_add(n),
         }
     }
 }
 
-// Counts one more request, and says whether it is the one to refuse.
-fn refuses_next(count: &Cell<Count>) -> bool {
+// Counts one more request, for so many bytes, and says whether it is the one to refuse.
+fn refuses_next(count: &Cell<Count>, size: usize) -> bool {
     let before = count.get();
-    count.set(before.one_more());
+    count.set(before.one_more(size));
     before.is_refused()
 }
 
@@ -69,7 +74,11 @@ impl<A: Allocator> Rationed<A> {
     pub fn new(alloc: A, refused: u64) -> Rationed<A> {
         Rationed {
             alloc,
-            count: Cell::new(Count { asked: 0, refused }),
+            count: Cell::new(Count {
+                asked: 0,
+                bytes: 0,
+                refused,
+            }),
         }
     }
 
@@ -79,8 +88,14 @@ impl<A: Allocator> Rationed<A> {
         self.count.get().asked
     }
 
+    /// How many bytes those requests were for in all, a refused one included, whatever was given back.
+    /// The sum stays at `u64::MAX` once it is there.
+    pub fn bytes(&self) -> u64 {
+        self.count.get().bytes
+    }
+
     /// Names another request to refuse, and only that one: the number `n`, counted from 0 again
-    /// from this call. With `u64::MAX` it refuses none. `requests` counts on.
+    /// from this call. With `u64::MAX` it refuses none. `requests` and `bytes` count on.
     pub fn refuse(&self, n: u64) {
         self.count.set(self.count.get().refusing(n));
     }
@@ -90,7 +105,7 @@ unsafe impl<A: Allocator> Allocator for Rationed<A> {
     ghost dealloc_token = { λ rationed ty block. A.dealloc_token rationed.alloc ty block };
 
     fn allocate(&self, size: usize, align: usize) -> Result<*mut u8, AllocError> {
-        if refuses_next(&self.count) {
+        if refuses_next(&self.count, size) {
             return Err(AllocError);
         }
         self.alloc.allocate(size, align)

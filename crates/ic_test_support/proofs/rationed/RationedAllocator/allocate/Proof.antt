@@ -102,9 +102,9 @@ module _ (Z : Al) {M : Type 1} {𝓤 : Ura M} (𝓛 : Logic 𝓤) (at_mem : Memo
         -- [the count; its token; the handle; the other tokens]
         enter ! 𝓣.C 𝓣.Λ (body Z) vs _ $ alloc_all ! (λ l. pass_all ! refl ((tt, tt), ((tt, record { fits = n_fits }), ((tt, record { fits = a_fits }), tt))) $
         sets ! (addr ! (through ! refl (fld ! refl (stop !)))) refl (tt, tt) $
-        use2 𝓛 (raw ((Ask 𝓛 at_mem run).pre (at_ask 𝓛 at_mem run κ q beside self.now.count))) (Ask-goes 𝓛 at_mem run κ q beside self.now.count) $
-        calls_at ! (fm_of 𝓤 H 𝓛.laws 𝓣) (Ask 𝓛 at_mem run) asked (at_ask 𝓛 at_mem run κ q beside self.now.count) (and_then ! (get ! refl) (no_more !)) (λ v.
-        use1 𝓛 (later (some (λ refuses. given (v ≡ vbool refuses) (‵ (flft κ q))))) (Ask-gives 𝓛 at_mem run κ q beside self.now.count v) $ await ! tt $ pick ! (λ refuses. learn ! (λ is.
+        use2 𝓛 (raw ((Ask 𝓛 at_mem run).pre (at_ask 𝓛 at_mem run κ q beside self.now.count n))) (Ask-goes 𝓛 at_mem run κ q beside self.now.count n n_fits) $
+        calls_at ! (fm_of 𝓤 H 𝓛.laws 𝓣) (Ask 𝓛 at_mem run) asked (at_ask 𝓛 at_mem run κ q beside self.now.count n) (and_then ! (get ! refl) (and_then ! (get ! refl) (no_more !))) (λ v.
+        use1 𝓛 (later (some (λ refuses. given (v ≡ vbool refuses) (‵ (flft κ q))))) (Ask-gives 𝓛 at_mem run κ q beside self.now.count n v) $ await ! tt $ pick ! (λ refuses. learn ! (λ is.
         lands_as ! is refl (tt, tt) $
         -- [the token; the handle; the other tokens]
         first ! $ branches ! (get ! refl)
