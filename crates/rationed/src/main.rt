@@ -2,7 +2,7 @@
 //! `rationed none` none. It tells on standard error how many requests there were.
 //!
 //! With `list` behind that, all calls are run as one list of commands, and lines that are no calls are passed over. With `count` each call is
-//! made by its method, and what is written of it is how many requests it made.
+//! made by its method, and what is written of it is how many requests it made, and for how many bytes in all.
 #![tactic(auto)]
 
 mod methods;
@@ -62,7 +62,7 @@ fn run_list(
     write_answers(alloc, &answers, writer)
 }
 
-// Makes the calls that the reader gives, on a world over that memory, and writes how many requests for memory each made.
+// Makes the calls that the reader gives, on a world over that memory, and writes how many requests for memory each made, and for how many bytes.
 fn count_each(
     alloc: Global,
     memory: &Rationed,
@@ -71,9 +71,11 @@ fn count_each(
 ) -> io::Result<()> {
     let mut world = World::new(memory, OwnKey);
     for command in commands_of(alloc, reader)? {
-        let before = memory.requests();
+        let (requests, bytes) = (memory.requests(), memory.bytes());
         call(&mut world, command);
-        writeln!(writer, "{}", memory.requests().saturating_sub(before))?;
+        let requests = memory.requests().saturating_sub(requests);
+        let bytes = memory.bytes().saturating_sub(bytes);
+        writeln!(writer, "{requests} {bytes}")?;
     }
     writer.flush()
 }
