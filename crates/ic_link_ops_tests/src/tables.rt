@@ -1,13 +1,18 @@
 //! Tables: how far they reach, and whether a place is linked as the table and a view of it have it.
 
-use crate::fixture::{check, one_linked};
+use crate::fixture::{at, check, one_linked};
 use ic_link_ops::singly_linked_list::{Link, LinkOps};
-use ic_link_ops::{LentTable, LinkOps as _, linked_list};
+use ic_link_ops::{
+    LentTable, LinkOps as _, PlainTable, Words, linked_list, rbtree, xor_linked_list,
+};
 use ic_test_support::rationed::Rationed;
 use ic_unsafe_ref::Place;
 
+// One place more than a table reaches.
+const BEYOND: usize = 4_294_967_297;
+
 // Why a table does not cover so many places, as a number, 0 where it does; and how many it covers then.
-fn cover(links: &mut linked_list::LinkOps<&Rationed>, count: usize) -> [usize; 2] {
+fn cover<W: Words>(links: &mut PlainTable<W, &Rationed>, count: usize) -> [usize; 2] {
     let refused = match links.cover(count) {
         Ok(()) => 0,
         Err(refused) => refused as usize,
@@ -15,20 +20,50 @@ fn cover(links: &mut linked_list::LinkOps<&Rationed>, count: usize) -> [usize; 2
     [refused, links.covers()]
 }
 
-#[test]
-fn a_table_grows_where_there_is_memory(rt: HostRuntime) {
-    let rationed = Rationed::new(rt.alloc(), 0);
-    let mut links = linked_list::LinkOps::new(&rationed);
-    let found = [
-        cover(&mut links, 4_294_967_297),
+// Whether the place is covered and was not linked. It is then.
+fn link<W: Words>(links: &mut PlainTable<W, &Rationed>, place: Place) -> bool {
+    place.index() < links.covers() && links.acquire_link(place)
+}
+
+// Whether a new table grows where there is memory, and is as it was where it is refused, also once it covers a linked place.
+fn grows<W: Words>(mut links: PlainTable<W, &Rationed>, memory: &Rationed, place: Place) -> bool {
+    memory.refuse(0);
+    let new = [
+        cover(&mut links, BEYOND),
         cover(&mut links, 3),
         cover(&mut links, 3),
-        cover(&mut links, 2),
-        cover(&mut links, 4_294_967_297),
     ];
+    let is_linked = link(&mut links, place);
+    memory.refuse(0);
+    let grown = [
+        cover(&mut links, 9),
+        cover(&mut links, BEYOND),
+        cover(&mut links, 2),
+    ];
+    let is_linked_again = link(&mut links, place);
     // too many places are refused by 1, and for want of memory by 2
-    check(&rt, found == [[1, 0], [2, 0], [0, 3], [0, 3], [1, 3]]);
-    check(&rt, rationed.requests() == 2);
+    new == [[1, 0], [2, 0], [0, 3]]
+        && grown == [[2, 3], [1, 3], [0, 3]]
+        && [is_linked, is_linked_again] == [true, false]
+        && cover(&mut links, 9) == [0, 9]
+}
+
+#[test]
+fn tables_grow_where_there_is_memory(rt: HostRuntime) {
+    let memory = Rationed::new(rt.alloc(), 0);
+    let place = at(&rt, 0);
+    check(&rt, grows(LinkOps::new(&memory), &memory, place));
+    check(
+        &rt,
+        grows(linked_list::LinkOps::new(&memory), &memory, place),
+    );
+    check(
+        &rt,
+        grows(xor_linked_list::LinkOps::new(&memory), &memory, place),
+    );
+    check(&rt, grows(rbtree::LinkOps::new(&memory), &memory, place));
+    // two are refused to each of them, and two are not
+    check(&rt, memory.requests() == 16);
 }
 
 // Whether a link is linked, a copy of it, a new one and the default.
