@@ -7,6 +7,9 @@ use std::alloc::{Allocator, Global};
 
 type Row = (Call, Answer);
 
+// How many bytes the rows may ask for: 256 for each of the nine tasks that they add.
+const BYTES: u64 = 2304;
+
 // A tick moves what is due, and what has the same deadline in the order of entry. There are eight queues.
 const TICKS: &[Row] = &[
     (Call::Add(5, 0, 10), Answer::Done),
@@ -78,12 +81,12 @@ fn play_both(memory: &Rationed, rows: &[Row], others: &[Row]) -> Option<usize> {
 }
 
 // Whether each of the requests for memory refuses one call alone, where it is refused. There are three at least: each table grew, and the
-// objects.
+// objects. They are for no more bytes than the tasks need.
 fn is_refused_in_turn(alloc: Global, rows: &[Row], others: &[Row]) -> bool {
     let memory = Rationed::new(alloc, u64::MAX);
     let mut as_wanted = play_both(&memory, rows, others) == Some(0);
     let requests = memory.requests();
-    as_wanted &= requests >= 3;
+    as_wanted &= requests >= 3 && memory.bytes() <= BYTES;
     for number in 0..requests {
         memory.refuse(number);
         as_wanted &= play_both(&memory, rows, others) == Some(1);
