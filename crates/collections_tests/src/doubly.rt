@@ -8,7 +8,7 @@ ghost use Rattle.ic_link_ops.specs.Positions.{Stands};
 ghost use Rattle.ic_linked_list.specs.Cursor as reads;
 ghost use Rattle.ic_linked_list.specs.Iter.{CanWalk};
 
-use crate::fixtures::{eight, reference};
+use crate::fixtures::{eight, free_each, reference};
 use crate::notes::{same, write_looks, write_object, write_places, write_values};
 use ic_laws::linked_list as laws;
 use ic_link_ops::linked_list::{Link, LinkOps};
@@ -27,6 +27,20 @@ pub(crate) struct Lists {
     pub(crate) list: LinkedList<u64>,
 }
 
+// Puts the objects at the first places into a new list, as many as that and in their order.
+fn filled(links: &mut LinkOps, members: usize) -> LinkedList<u64>
+    requires covered { (plain_table links.old).extent.places ≡ 8 }
+    requires few { members ≤ 8 }
+    ensures covers { (plain_table links.new).extent.places ≡ 8 }
+    ensures shown { PlainShowsSome links.new result }
+{
+    let mut list = LinkedList::default();
+    for index in 0..members {
+        let _ = list.push_back(links, reference(index));
+    }
+    list
+}
+
 /// A list of the objects at the first places, as many as that, in their order.
 pub(crate) fn list_of(rt: &impl Abort, alloc: Global, members: usize) -> Lists
     requires { members ≤ 8 }
@@ -34,10 +48,7 @@ pub(crate) fn list_of(rt: &impl Abort, alloc: Global, members: usize) -> Lists
     ensures shown { ShowsPlaced (PlainShows result.links result.list) result.objects }
 {
     let (objects, mut links) = eight(rt, alloc);
-    let mut list = LinkedList::default();
-    for index in 0..members {
-        let _ = list.push_back(&mut links, reference(index));
-    }
+    let list = filled(&mut links, members);
     Lists {
         objects,
         links,
@@ -179,6 +190,8 @@ fn doubly_linked_list(rt: HostRuntime) {
     write_read(&mut notes, lists.list.front(&lists.links), &lists.objects);
     write_read(&mut notes, lists.list.back(&lists.links), &lists.objects);
     write_taken(&mut notes, lists.list.take(), &mut lists.links, false);
+    free_each(&rt, &mut notes, &mut lists.links);
+    let _ = filled(&mut lists.links, 4);
     write_linked(&mut notes, &lists.links);
     let mut lists = list_of(&rt, alloc, 3);
     let ends = [
@@ -214,7 +227,7 @@ fn doubly_linked_list(rt: HostRuntime) {
         "40 10 40 30 20 none none  linked unlinked
         no 10 none 1  no 20 0 2  no 30 1 3  no 40 2 none  3
         no 40 2 none  yes none 3 0  no 10 none 1  no 20 0 2  1
-        0  1 2 3
+        0  1 2 3  2 3  3  0 1 2 3
         none 10 30
         1 4
         no 40 0 2  no 30 3 none  yes none 2 5  no 60 none 0  5

@@ -8,7 +8,8 @@ ghost use Rattle.ic_link_ops.specs.PlainTables.{table};
 
 use ic_link_ops::{PlainTable, Words};
 use ic_test_support::answers::placed;
-use ic_test_support::tables::are_placed;
+use ic_test_support::notes::Text;
+use ic_test_support::tables::{are_placed, write_linked};
 use ic_unsafe_ref::{Objects, Place, UnsafeRef};
 use std::alloc::Global;
 use std::process::Abort;
@@ -27,6 +28,20 @@ pub(crate) fn eight<W: Words>(rt: &impl Abort, alloc: Global) -> (Objects<u64>, 
     assert!(rt; links.covers() == 8);
     assert!(rt; are_placed(&links, &objects));
     (objects, links)
+}
+
+/// Unlinks each linked place by force, one after the other, and notes before each what is linked.
+pub(crate) fn free_each<W: Words>(rt: &impl Abort, notes: &mut Text, links: &mut PlainTable<W>)
+    ensures covers { (table W.unlinked links.new).extent.places ≡ 8 }
+{
+    for index in 0..8 {
+        let place = reference(index).place();
+        if index < links.covers() && links.is_linked(place) {
+            write_linked(notes, links);
+            links.force_unlink(place);
+        }
+    }
+    assert!(rt; links.covers() == 8);
 }
 
 /// The reference to the object at the place of that index.

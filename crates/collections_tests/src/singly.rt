@@ -5,7 +5,7 @@ ghost use Rattle.ic_link_ops.specs.PlacedObjects.{ShowsPlaced};
 ghost use Rattle.ic_singly_linked_list.specs.Iter.{CanWalk};
 ghost use Rattle.collections_tests.specs.SinglyLists.{successor, plain_table, PlainShows, PlainShowsSome};
 
-use crate::fixtures::{eight, reference};
+use crate::fixtures::{eight, free_each, reference};
 use crate::notes::{same, write_object, write_places, write_values};
 use ic_laws::singly_linked_list as laws;
 use ic_link_ops::singly_linked_list::LinkOps;
@@ -25,6 +25,20 @@ pub(crate) struct Lists {
     pub(crate) list: SinglyLinkedList<u64>,
 }
 
+// Puts the objects at the first places into a new list, as many as that and in their order.
+fn filled(links: &mut LinkOps, members: usize) -> SinglyLinkedList<u64>
+    requires covered { (plain_table links.old).extent.places ≡ 8 }
+    requires few { members ≤ 8 }
+    ensures covers { (plain_table links.new).extent.places ≡ 8 }
+    ensures shown { PlainShowsSome links.new result }
+{
+    let mut list = SinglyLinkedList::default();
+    for given in 0..members {
+        let _ = list.push_front(links, reference(members - 1 - given));
+    }
+    list
+}
+
 /// A list of the objects at the first places, as many as that, in their order.
 pub(crate) fn list_of(rt: &impl Abort, alloc: Global, members: usize) -> Lists
     requires { members ≤ 8 }
@@ -32,10 +46,7 @@ pub(crate) fn list_of(rt: &impl Abort, alloc: Global, members: usize) -> Lists
     ensures shown { ShowsPlaced (PlainShows result.links result.list) result.objects }
 {
     let (objects, mut links) = eight(rt, alloc);
-    let mut list = SinglyLinkedList::default();
-    for given in 0..members {
-        let _ = list.push_front(&mut links, reference(members - 1 - given));
-    }
+    let list = filled(&mut links, members);
     Lists {
         objects,
         links,
@@ -71,14 +82,16 @@ fn write_edits(rt: &impl Abort, notes: &mut Text, lists: &mut Lists)
     write_values(notes, &[cursor.into_ref(objects)]);
 }
 
-// Takes the first member off, notes what is linked then, and unlinks the rest.
-fn write_taken(notes: &mut Text, list: SinglyLinkedList<u64>, links: &mut LinkOps)
+// Takes the first member off, and notes what is linked then. It unlinks the rest, or drops the walk.
+fn write_taken(notes: &mut Text, list: SinglyLinkedList<u64>, links: &mut LinkOps, finishes: bool)
     requires shown { PlainShowsSome links.old list }
 {
     let mut rest = list.into_iter(links);
     write_object(notes, rest.next());
     write_linked(notes, rest.links());
-    rest.finish();
+    if finishes {
+        rest.finish();
+    }
 }
 
 // Notes what a walk gives, and first what a copy of it gives.
@@ -129,7 +142,12 @@ fn singly_linked_list(rt: HostRuntime) {
     write_places(&mut notes, &[first]);
     let cursor = lists.list.take().front_owning(&lists.links);
     write_places(&mut notes, &[cursor.get_ptr()]);
-    write_taken(&mut notes, cursor.into_inner(), &mut lists.links);
+    write_taken(&mut notes, cursor.into_inner(), &mut lists.links, true);
+    write_linked(&mut notes, &lists.links);
+    let mut lists = list_of(&rt, alloc, 4);
+    write_taken(&mut notes, lists.list.take(), &mut lists.links, false);
+    free_each(&rt, &mut notes, &mut lists.links);
+    let _ = filled(&mut lists.links, 4);
     write_linked(&mut notes, &lists.links);
     let mut lists = list_of(&rt, alloc, 3);
     let front = lists
@@ -146,6 +164,7 @@ fn singly_linked_list(rt: HostRuntime) {
         &notes,
         "10 10 20 none  0  0
         0  1
+        0  1 2 3  1 2 3  2 3  3  0 1 2 3
         10
         3 4 none null  30
         5 yes  0 1 2 5  5",

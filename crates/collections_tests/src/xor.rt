@@ -9,7 +9,7 @@ ghost use Rattle.ic_xor_linked_list.specs.Iter.{CanWalk};
 ghost use Rattle.ic_xor_linked_list.specs.PlainLists.{PlainShows, PlainShowsSome};
 ghost use Rattle.ic_xor_linked_list.specs.Position.{HasMemberBehind, HasMemberBefore};
 
-use crate::fixtures::{eight, reference};
+use crate::fixtures::{eight, free_each, reference};
 use crate::notes::{same, write_object, write_places, write_values};
 use ic_laws::xor_linked_list as laws;
 use ic_link_ops::rbtree::ThreeWords;
@@ -30,6 +30,20 @@ pub(crate) struct Lists<W: NextWord> {
     pub(crate) list: XorLinkedList<u64>,
 }
 
+// Puts the objects at the first places into a new list, as many as that and in their order.
+fn filled<W: NextWord>(links: &mut PlainTable<W>, members: usize) -> XorLinkedList<u64>
+    requires covered { (table W.unlinked links.old).extent.places ≡ 8 }
+    requires few { members ≤ 8 }
+    ensures covers { (table W.unlinked links.new).extent.places ≡ 8 }
+    ensures shown { PlainShowsSome W.unlinked W.is_linked W.next_word links.new result }
+{
+    let mut list = XorLinkedList::default();
+    for index in 0..members {
+        let _ = list.push_back(links, reference(index));
+    }
+    list
+}
+
 /// A list of the objects at the first places, as many as that, in their order.
 pub(crate) fn list_of<W: NextWord>(rt: &impl Abort, alloc: Global, members: usize) -> Lists<W>
     requires { members ≤ 8 }
@@ -37,10 +51,7 @@ pub(crate) fn list_of<W: NextWord>(rt: &impl Abort, alloc: Global, members: usiz
     ensures shown { ShowsPlaced (PlainShows W.unlinked W.is_linked W.next_word result.links result.list) result.objects }
 {
     let (objects, mut links) = eight(rt, alloc);
-    let mut list = XorLinkedList::default();
-    for index in 0..members {
-        let _ = list.push_back(&mut links, reference(index));
-    }
+    let list = filled(&mut links, members);
     Lists {
         objects,
         links,
@@ -146,15 +157,17 @@ fn write_walk(notes: &mut Text, mut walk: Iter<'_, u64, LinkOps>)
     write_values(notes, &given);
 }
 
-// Takes the first member off and the last one, notes what is linked then, and unlinks the rest.
-fn write_taken(notes: &mut Text, list: XorLinkedList<u64>, links: &mut LinkOps)
+// Takes the first member off. Then it drops the walk, or takes the last one off too, notes what is linked, and finishes.
+fn write_taken(notes: &mut Text, list: XorLinkedList<u64>, links: &mut LinkOps, finishes: bool)
     requires shown { PlainShowsSome no_word has_word next_word_of links.old list }
 {
     let mut rest = list.into_iter(links);
     write_object(notes, rest.next());
-    write_object(notes, rest.next_back());
-    write_linked(notes, rest.links());
-    rest.finish();
+    if finishes {
+        write_object(notes, rest.next_back());
+        write_linked(notes, rest.links());
+        rest.finish();
+    }
 }
 
 // Makes the other calls on a whole list with the members 0, 1 and 2, and those of the laws, with an empty list of another field.
@@ -204,7 +217,12 @@ fn xor_linked_list(rt: HostRuntime) {
     let mut notes = Text::new(alloc);
     let mut lists = list_of(&rt, alloc, 4);
     write_walk(&mut notes, lists.list.iter(&lists.links, &lists.objects));
-    write_taken(&mut notes, lists.list.take(), &mut lists.links);
+    write_taken(&mut notes, lists.list.take(), &mut lists.links, true);
+    write_linked(&mut notes, &lists.links);
+    let mut lists = list_of(&rt, alloc, 4);
+    write_taken(&mut notes, lists.list.take(), &mut lists.links, false);
+    free_each(&rt, &mut notes, &mut lists.links);
+    let _ = filled(&mut lists.links, 4);
     write_linked(&mut notes, &lists.links);
     let mut lists = list_of(&rt, alloc, 3);
     let front = lists
@@ -234,6 +252,7 @@ fn xor_linked_list(rt: HostRuntime) {
         &notes,
         "40 10 40 30 20 none none
         0 3  1 2
+        0  1 2 3  2 3  3  0 1 2 3
         10 30  0 2 2
         0 2  5 yes  5  5 6  yes",
     );

@@ -5,7 +5,7 @@ ghost use Rattle.ic_unsafe_ref.specs.declared.place.Place.{Place};
 ghost use Rattle.ic_unsafe_ref.specs.Objects.{is_placed};
 ghost use Rattle.ic_unsafe_ref.specs.Places.{index_of};
 ghost use Rattle.ic_link_ops.specs.PlacedObjects.{ShowsPlaced};
-ghost use Rattle.ic_rbtree.specs.PlainTrees.{plain_table, PlainShows};
+ghost use Rattle.ic_rbtree.specs.PlainTrees.{plain_table, PlainShows, PlainShowsSome};
 ghost use Rattle.ic_rbtree.specs.Tree.{root_of};
 
 use crate::fixtures::{eight, reference};
@@ -40,6 +40,25 @@ pub(crate) struct Trees {
     pub(crate) tree: RBTree<OwnKey>,
 }
 
+/// Puts the objects at the first places into a new tree, as many as that, each behind all members, or in front of them.
+pub(crate) fn filled(links: &mut LinkOps, members: usize, in_front: bool) -> RBTree<OwnKey>
+    requires { members ≤ 8 }
+    ensures shown { PlainShowsSome links.new (root_of result) }
+{
+    let mut tree = RBTree::default();
+    for index in 0..members {
+        if index < links.covers() {
+            let mut cursor = tree.cursor_mut(links);
+            let _ = if in_front {
+                cursor.insert_after(reference(index))
+            } else {
+                cursor.insert_before(reference(index))
+            };
+        }
+    }
+    tree
+}
+
 /// A tree of the objects at the first places, as many as that, each put behind all members, or in front of them.
 pub(crate) fn tree_of(rt: &impl Abort, alloc: Global, members: usize, in_front: bool) -> Trees
     requires { members ≤ 8 }
@@ -48,17 +67,7 @@ pub(crate) fn tree_of(rt: &impl Abort, alloc: Global, members: usize, in_front: 
     ensures shown { ShowsPlaced (PlainShows result.links (root_of result.tree)) result.objects }
 {
     let (objects, mut links) = eight(rt, alloc);
-    let mut tree = RBTree::default();
-    for index in 0..members {
-        if index < links.covers() {
-            let mut cursor = tree.cursor_mut(&mut links);
-            let _ = if in_front {
-                cursor.insert_after(reference(index))
-            } else {
-                cursor.insert_before(reference(index))
-            };
-        }
-    }
+    let tree = filled(&mut links, members, in_front);
     assert!(rt; links.covers() == 8);
     assert!(rt; are_placed(&links, &objects));
     Trees {

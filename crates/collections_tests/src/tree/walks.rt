@@ -4,8 +4,9 @@ ghost use Rattle.ic_rbtree.specs.Iter.{CanWalk};
 ghost use Rattle.ic_rbtree.specs.PlainTrees.{PlainShowsSome};
 ghost use Rattle.ic_rbtree.specs.Tree.{root_of};
 
+use crate::fixtures::free_each;
 use crate::notes::{same, write_values};
-use crate::tree::trees::{OwnKey, tree_of};
+use crate::tree::trees::{OwnKey, filled, tree_of};
 use ic_link_ops::rbtree::{LinkOps, RBTreeOps};
 use ic_rbtree::{Bound, Iter, RBTree};
 use ic_test_support::answers::object;
@@ -71,6 +72,8 @@ fn walks(rt: HostRuntime) {
         let tree = trees.tree.take();
         write_taken(&mut notes, tree, &mut trees.links, from_back, finishes);
         notes.word("then ");
+        free_each(&rt, &mut notes, &mut trees.links);
+        let _ = filled(&mut trees.links, members, false);
         write_linked(&mut notes, &trees.links);
     }
     same(
@@ -79,9 +82,9 @@ fn walks(rt: HostRuntime) {
         &notes,
         "40 10 40 20 30 none none
         30 20 30 none none none none
-        0 linked 1 then
-        0 6 linked 1 2 3 4 5 then
+        0 linked 1 then  0 1
+        0 6 linked 1 2 3 4 5 then  0 1 2 3 4 5 6
         none none linked then
-        0 linked 1 2 3 then 1 2 3",
+        0 linked 1 2 3 then  1 2 3  2 3  3  0 1 2 3",
     );
 }

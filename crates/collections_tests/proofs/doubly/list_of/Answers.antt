@@ -7,11 +7,10 @@ use Rattle.collections_tests.proofs.doubly.list_of.Goals as goal
 
 pub returns-clause-shown : goal.returns-clause-shown
 returns-clause-shown g c =
-    let l = c.loop-index in
-    let i = l.invariant in
+    let i = c.filled-list.ensures in
     record {
       members = i.shown.0;
       shown = i.shown.1;
-      placed = chain_placed (IsBetween neighbors_of) (plain_table l.links).entry c.eight-objects.result.0
-          (λ q a b k. c.eight-objects.ensures.placed q (rw (← i.covers) (linked_in_range (entries l.links) (index_of q) k.linked))) _ i.shown.0 i.shown.1.chain;
+      placed = chain_placed (IsBetween neighbors_of) (plain_table c.filled-list.new.links).entry c.eight-objects.result.0
+          (λ q a b k. c.eight-objects.ensures.placed q (rw (← i.covers) (linked_in_range (entries c.filled-list.new.links) (index_of q) k.linked))) _ i.shown.0 i.shown.1.chain;
     }

@@ -11,12 +11,11 @@ use Rattle.collections_tests.proofs.singly.list_of.Goals as goal
 
 pub returns-clause-shown : goal.returns-clause-shown
 returns-clause-shown g c =
-    let l = c.loop-given in
-    let i = l.invariant in
-    let covered = linked_in_range (linked_by has_word) (link_of no_word) refl (entries l.links) in
+    let i = c.filled-list.ensures in
+    let covered = linked_in_range (linked_by has_word) (link_of no_word) refl (entries c.filled-list.new.links) in
     record {
       members = i.shown.0;
       shown = i.shown.1;
-      placed = chain_placed (IsFollowed successor) (plain_table l.links).entry c.eight-objects.result.0
+      placed = chain_placed (IsFollowed successor) (plain_table c.filled-list.new.links).entry c.eight-objects.result.0
           (λ q a b k. c.eight-objects.ensures.placed q (rw (← i.covers) (covered (index_of q) k.linked))) _ i.shown.0 i.shown.1.chain;
     }

@@ -9,12 +9,11 @@ use Rattle.collections_tests.proofs.xor.list_of.Goals as goal
 
 pub returns-clause-shown : goal.returns-clause-shown
 returns-clause-shown g c =
-    let l = c.loop-index in
-    let i = l.invariant in
-    let covered = linked_in_range (linked_by g.W.Words.is_linked) (link_of g.W.Words.unlinked) g.met.W.Words.starts_unlinked (entries l.links) in
+    let i = c.filled-list.ensures in
+    let covered = linked_in_range (linked_by g.W.Words.is_linked) (link_of g.W.Words.unlinked) g.met.W.Words.starts_unlinked (entries c.filled-list.new.links) in
     record {
       members = i.shown.0;
       shown = i.shown.1;
-      placed = chain_placed (IsJoined (linked_by g.W.Words.is_linked) (XorJoins g.W.NextWord.next_word)) (table g.W.Words.unlinked l.links).entry c.eight-objects.result.0
+      placed = chain_placed (IsJoined (linked_by g.W.Words.is_linked) (XorJoins g.W.NextWord.next_word)) (table g.W.Words.unlinked c.filled-list.new.links).entry c.eight-objects.result.0
           (λ q a b k. c.eight-objects.ensures.placed q (rw (← i.covers) (covered (index_of q) k.linked))) _ i.shown.0 i.shown.1.chain;
     }

@@ -1,7 +1,7 @@
 use Rattle.std.proofs.Common.{◌≡◌}
 use Rattle.ic_link_ops.specs.PlainTables.{table}
 use Rattle.ic_xor_linked_list.specs.PlainLists.{PlainShowsSome}
-use Rattle.collections_tests.proofs.xor.list_of.Given as goal
+use Rattle.collections_tests.proofs.xor.filled.Given as goal
 
 abbrev pub invariant-loop-index : goal.invariant-loop-index
 invariant-loop-index g l = record {
