@@ -35,6 +35,15 @@ module _ {region : Region} (is : IsRegion region) where
     apart x (inr (inl e)) n m = absurd (n e)
     apart x (inr (inr e)) n m = absurd (m e)
 
+  -- and one that touches it is not apart from it
+  pub touches_front : (x : Region) → end_of x ≡ region.start → AreApart region x → ⊥
+  touches_front x at (inl e) = omega (arith, e, at)
+  touches_front x at (inr e) = omega (arith, e, at)
+
+  pub touches_back : (x : Region) → x.start ≡ end_of region → AreApart region x → ⊥
+  touches_back x at (inl e) = omega (arith, e, at)
+  touches_back x at (inr e) = omega (arith, e, at)
+
   module _ (s : List Region) (beside : AllByRecursion (IsBeside region) s) (apart : StandApart s) where
     -- JOINED with the one in front,
     module _ {front : Region} (own : IsRegion front) (at : end_of front ≡ region.start) where

@@ -1,5 +1,5 @@
 -- Which regions touch one that is to be freed, or have an address of it.
-use Rattle.std.proofs.Common.{◌≡◌, ◌≢◌, ℕ, ◌<◌, ◌≤◌, ◌⊎◌, ◌↔◌, inl, inr, Option, Some, None, Ok, Err, List, [], ◌∷◌, ◌++◌, sym, ap, ◌∙◌, subst, arith}
+use Rattle.std.proofs.Common.{◌≡◌, ◌≢◌, ℕ, ◌<◌, ◌≤◌, ◌⊎◌, ◌↔◌, inl, inr, Bool, Option, Some, None, Ok, Err, List, [], ◌∷◌, ◌++◌, sym, ap, ◌∙◌, subst, arith}
 use Rattle.std.proofs.lemmas.Bool.{cases_lt}
 use Rattle.std.specs.List.{AllByRecursion}
 use Rattle.ic_unsafe_ref.specs.Objects.{Objects}
@@ -8,7 +8,7 @@ use Rattle.region_allocator.specs.declared.neighbors.Found.{Found}
 use Rattle.region_allocator.specs.declared.region.Region.{Region}
 use Rattle.region_allocator.specs.Neighbors.{IsFound, IsLast, IsFirst, AreNeighbors, IsEnding, IsStarting, Touches, EndsBy, StartsFrom}
 use Rattle.region_allocator.specs.Refusals.{IsRefused}
-use Rattle.region_allocator.specs.Regions.{end_of, IsFree, IsRegion, AreApart, StandApart}
+use Rattle.region_allocator.specs.Regions.{space_of, end_of, IsFree, IsRegion, AreApart, StandApart}
 use Rattle.region_allocator.proofs.Apart.{apart_front, apart_back, below_cut, region_cut, free_here, none_free}
 use Rattle.ic_link_ops.proofs.Each.{all_both, all_map, all_back}
 
@@ -95,9 +95,9 @@ module _ (objects : Objects Region) where
         ]
 
     -- THE ONE IN FRONT has an address of it, or the one behind
-    pub overlaps_front : (error : FreeError) → EndsBy below region.start (Err error) → IsRefused region regions error
-    overlaps_front error ends = by below beside.below_is ends where
-      by : (below : Option Found) → IsLast objects beside.front below → EndsBy below region.start (Err error) → IsRefused region regions error
+    pub overlaps_front : (full : Bool) (error : FreeError) → EndsBy below region.start (Err error) → IsRefused region (space_of regions full) error
+    overlaps_front full error ends = by below beside.below_is ends where
+      by : (below : Option Found) → IsLast objects beside.front below → EndsBy below region.start (Err error) → IsRefused region (space_of regions full) error
       by None last ends = absurd ends
       by (Some found) last ends =
           let low = (all_back (λ x. x.start ≤ region.start) last.1.0 (found.region ∷ []) (subst (AllByRecursion (λ x. x.start ≤ region.start)) last.1.1 beside.starts_below)).0 in
@@ -111,9 +111,9 @@ module _ (objects : Objects Region) where
             ),
           )
 
-    pub overlaps_back : (error : FreeError) → StartsFrom above (end_of region) (Err error) → IsRefused region regions error
-    overlaps_back error starts = by above beside.above_is starts where
-      by : (above : Option Found) → IsFirst objects beside.back above → StartsFrom above (end_of region) (Err error) → IsRefused region regions error
+    pub overlaps_back : (full : Bool) (error : FreeError) → StartsFrom above (end_of region) (Err error) → IsRefused region (space_of regions full) error
+    overlaps_back full error starts = by above beside.above_is starts where
+      by : (above : Option Found) → IsFirst objects beside.back above → StartsFrom above (end_of region) (Err error) → IsRefused region (space_of regions full) error
       by None first starts = absurd starts
       by (Some found) first starts =
           let high = (subst (AllByRecursion (λ x. region.start < x.start)) first.1.1 beside.starts_above).0 in

@@ -1,5 +1,5 @@
 -- What an allocator keeps of its objects, its two tables and its two trees.
-use Rattle.std.specs.Prelude.{ℕ, Option, List}
+use Rattle.std.specs.Prelude.{ℕ, ◌^◌, leb, Option, List}
 use Rattle.ic_unsafe_ref.specs.declared.place.Place.{Place}
 use Rattle.ic_unsafe_ref.specs.Objects.{Objects}
 use Rattle.ic_link_ops.specs.PlacedObjects.{values_at}
@@ -8,7 +8,7 @@ use Rattle.ic_rbtree.specs.Tree.{root_of}
 use Rattle.ic_rbtree.specs.EachObject.{HasEach}
 use Rattle.region_allocator.specs.declared.region.Region.{Region}
 use Rattle.region_allocator.specs.declared.free_regions.FreeRegions.{FreeRegions}
-use Rattle.region_allocator.specs.Regions.{StandApart}
+use Rattle.region_allocator.specs.Regions.{Space, space_of, StandApart}
 
 -- where a region starts, and how long it is
 abbrev pub start_of : Region → ℕ
@@ -36,3 +36,6 @@ module _ {A : Type 0} (regions : FreeRegions A) where
 
   abbrev pub regions_of : List Region
   regions_of = shown_regions regions.pool.objects regions.pool.links.0 (root_of regions.by_start)
+
+  abbrev pub shown_space : Space
+  shown_space = space_of regions_of (leb (2 ^ 32) regions.pool.objects.next)

@@ -1,15 +1,20 @@
 -- Why a region is not freed.
-use Rattle.std.specs.Prelude.{◌≡◌, ℕ, ◌^◌, ◌≤◌, List}
+use Rattle.std.specs.Prelude.{◌≡◌, ℕ, ◌^◌, ◌<◌, ◌≤◌, true, false}
 use Rattle.std.specs.List.{AllByRecursion}
 use Rattle.region_allocator.specs.declared.region.Region.{Region}
 use Rattle.region_allocator.specs.declared.free_error.FreeError.{FreeError}
 use Rattle.region_allocator.specs.declared.free_error.FreeError.TheVariants.{Empty, TooLong, Overlaps, TooManyRegions, OutOfMemory}
-use Rattle.region_allocator.specs.Regions.{end_of, Has, IsFree, IsRegion, AreApart}
+use Rattle.region_allocator.specs.Regions.{Space, end_of, Has, IsFree, IsRegion, AreApart}
 
--- IT HAS NO ADDRESS, or too many, or one of them is free; only where no free region touches it, there may be no room for it
-abbrev pub IsRefused : Region → List Region → FreeError → Type 0
-IsRefused region regions Empty = region.length ≡ 0
-IsRefused region regions TooLong = 2 ^ 64 ≤ end_of region
-IsRefused region regions Overlaps = IsRegion region × ((address : ℕ) × Has region address × IsFree regions address)
-IsRefused region regions TooManyRegions = IsRegion region × AllByRecursion (AreApart region) regions
-IsRefused region regions OutOfMemory = IsRegion region × AllByRecursion (AreApart region) regions
+-- THE REGION IS A NEW ONE, which needs a place of its own: no free region touches it, and none has an address of it
+abbrev pub IsNew : Region → Space → Type 0
+IsNew region space = IsRegion region × AllByRecursion (AreApart region) space.regions
+
+-- EACH REFUSAL HAS ITS OWN REASON, and no two reasons hold at once: it has no address; it has too many; one of them is free; it is a
+-- new one, and no place is left for it; or there is a place, and no memory
+abbrev pub IsRefused : Region → Space → FreeError → Type 0
+IsRefused region space Empty = region.length ≡ 0
+IsRefused region space TooLong = (0 < region.length) × (2 ^ 64 ≤ end_of region)
+IsRefused region space Overlaps = IsRegion region × ((address : ℕ) × Has region address × IsFree space.regions address)
+IsRefused region space TooManyRegions = IsNew region space × (space.is_full ≡ true)
+IsRefused region space OutOfMemory = IsNew region space × (space.is_full ≡ false)

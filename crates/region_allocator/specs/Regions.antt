@@ -1,5 +1,5 @@
 -- Regions of addresses, and which addresses are free.
-use Rattle.std.specs.Prelude.{◌≡◌, ℕ, ◌+◌, ◌^◌, ◌<◌, ◌≤◌, ◌↔◌, ◌⊎◌, List, [], ◌∷◌, ◌++◌}
+use Rattle.std.specs.Prelude.{◌≡◌, ℕ, ◌+◌, ◌^◌, ◌<◌, ◌≤◌, ◌↔◌, ◌⊎◌, Bool, List, [], ◌∷◌, ◌++◌}
 use Rattle.std.specs.List.{AllByRecursion}
 use Rattle.region_allocator.specs.declared.region.Region.{Region}
 
@@ -33,6 +33,14 @@ AreApart region other = (end_of region < other.start) ⊎ (end_of other < region
 abbrev pub StandApart : List Region → Type 0
 StandApart [] = Unit {0}
 StandApart (region ∷ regions) = IsRegion region × AllByRecursion (λ later. end_of region < later.start) regions × StandApart regions
+
+-- WHAT A CLAUSE SEES of an allocator: its free regions, in the order of their addresses, and whether no place is left for another one
+pub record Space : Type 0 where
+  pub regions : List Region
+  pub is_full : Bool
+
+abbrev pub space_of : List Region → Bool → Space
+space_of regions is_full = record { regions = regions; is_full = is_full }
 
 -- THE REGION IS FREED: no address of it was free, and exactly these are free in addition
 pub record FreesRegion (region : Region) (old new : List Region) : Type 0 where

@@ -1,14 +1,14 @@
 //! The free regions, each in both trees.
 
-ghost use Rattle.std.specs.Prelude.{◌≡◌, ◌≢◌, ◌≤◌, ◌+◌, ℕ, true, Option, Some, IfSome, IfNone, OnOk, IfOk, IfErr};
+ghost use Rattle.std.specs.Prelude.{◌≡◌, ◌≢◌, ◌≤◌, ◌+◌, ℕ, true, Option, Some, IfSome, IfNone, OnOk, IfOk, IsErr, IfErr};
 ghost use Rattle.std.specs.List.{AllByRecursion};
 ghost use Rattle.ic_unsafe_ref.specs.declared.place.Place.{Place};
 ghost use Rattle.ic_unsafe_ref.specs.Objects.{object_at, is_placed};
 ghost use Rattle.region_allocator.specs.declared.neighbors.Found.{Found};
 ghost use Rattle.region_allocator.specs.declared.region.Region.{Region};
 ghost use Rattle.region_allocator.specs.Regions.{region_of, IsRegion, AreApart, FreesRegion, AllocatesRegion};
-ghost use Rattle.region_allocator.specs.Refusals.{IsRefused};
-ghost use Rattle.region_allocator.specs.Kept.{regions_of, IsKept};
+ghost use Rattle.region_allocator.specs.Refusals.{IsNew, IsRefused};
+ghost use Rattle.region_allocator.specs.Kept.{regions_of, shown_space, IsKept};
 ghost use Rattle.region_allocator.specs.Changes.{Adds, Changes, FitsFor};
 ghost use Rattle.region_allocator.specs.Neighbors.{IsFound, IsShortest, AreNeighbors, Touches};
 
@@ -68,7 +68,7 @@ impl<A: Allocator> FreeRegions<A> {
         requires kept { IsKept self.now }
         requires region { IsRegion region }
         ensures touched { IfOk result (λ found. Touches self.now.pool.objects (regions_of self.now) region found.0 found.1) }
-        ensures refused { IfErr result (IsRefused region (regions_of self.now)) }
+        ensures refused { IfErr result (IsRefused region (shown_space self.now)) }
     {
         let (below, above) = self.neighbors(region.start);
         let front = match ending_at(below, region.start) {
@@ -101,8 +101,9 @@ impl<A: Allocator> FreeRegions<A> {
         requires apart { AllByRecursion (AreApart region) (regions_of self.old) }
         ensures kept { IsKept self.new }
         ensures put { OnOk result (Adds region (regions_of self.old) (regions_of self.new)) }
-        ensures refused { IfErr result (λ error. (regions_of self.new ≡ regions_of self.old)
-            × IsRefused region (regions_of self.old) error) }
+        ensures full { (shown_space self.old).is_full ≡ true → IsErr result }
+        ensures refused { IfErr result (λ error. (shown_space self.new ≡ shown_space self.old)
+            × IsRefused region (shown_space self.old) error) }
     {
         let object = match self.pool.place(region) {
             Ok(object) => object,
@@ -153,8 +154,9 @@ impl<A: Allocator> FreeRegions<A> {
         requires region { IsRegion region }
         ensures kept { IsKept self.new }
         ensures freed { OnOk result (FreesRegion region (regions_of self.old) (regions_of self.new)) }
-        ensures refused { IfErr result (λ error. (regions_of self.new ≡ regions_of self.old)
-            × IsRefused region (regions_of self.old) error) }
+        ensures full { (shown_space self.old).is_full ≡ true → IsNew region (shown_space self.old) → IsErr result }
+        ensures refused { IfErr result (λ error. (shown_space self.new ≡ shown_space self.old)
+            × IsRefused region (shown_space self.old) error) }
     {
         let (front, back) = match self.touching(region) {
             Ok(found) => found,

@@ -7,7 +7,7 @@
 //! space.is_free(70) // false
 //! ```
 
-ghost use Rattle.std.specs.Prelude.{◌≡◌, ◌↔◌, [], OnOk, OnSome, IfErr, IfSome, IfNone, IsTrue};
+ghost use Rattle.std.specs.Prelude.{◌≡◌, ◌↔◌, [], true, false, OnOk, OnSome, IsErr, IfErr, IfSome, IfNone, IsTrue};
 
 use crate::FreeError;
 use crate::free_regions::FreeRegions;
@@ -20,34 +20,34 @@ use std::marker::Model;
 
 /// An allocator of addresses.
 ///
-/// A clause sees the free regions in the order of their addresses. None is empty, and none shares an address with another one or
-/// touches it.
+/// A clause sees the free regions in the order of their addresses, and whether no place is left for another one. None is empty, and
+/// none shares an address with another one or touches it.
 #[derive(Drop)]
 pub struct RegionAllocator<A: Allocator = Global> {
     regions: FreeRegions<A>,
 }
 
 impl<A: Allocator> Model for RegionAllocator<A> {
-    ghost use Rattle.std.specs.Prelude.{List};
-    ghost use Rattle.region_allocator.specs.declared.region.Region.{Region};
-    ghost use Rattle.region_allocator.specs.Kept.{regions_of, IsKept};
+    ghost use Rattle.region_allocator.specs.Regions.{Space};
+    ghost use Rattle.region_allocator.specs.Kept.{shown_space, IsKept};
 
-    ghost Value = { List Region };
+    ghost Value = { Space };
 
-    ghost view = { λ s. regions_of s.regions };
+    ghost view = { λ s. shown_space s.regions };
 
     ghost invariant = { λ s. IsKept s.regions };
 }
 
 impl<A: Allocator> RegionAllocator<A> {
     ghost use Rattle.region_allocator.specs.Regions.{region_of, IsFree, StandApart, FreesRegion, AllocatesRegion, IsBestFit, AreShorter};
-    ghost use Rattle.region_allocator.specs.Refusals.{IsRefused};
+    ghost use Rattle.region_allocator.specs.Refusals.{IsNew, IsRefused};
 
     /// An allocator with no free address. It takes no memory.
     pub fn new(alloc: A) -> RegionAllocator<A>
     where
         A: Copy,
-        ensures { result ≡ [] }
+        ensures empty { result.regions ≡ [] }
+        ensures room { result.is_full ≡ false }
     {
         RegionAllocator {
             regions: FreeRegions {
@@ -60,13 +60,15 @@ impl<A: Allocator> RegionAllocator<A> {
 
     /// Frees `length` addresses from `start` on. They are one region then with the free ones that touch them. O(log n).
     ///
-    /// Where it is refused, nothing has changed: with `Empty` or `TooLong` where there is no such region, with `Overlaps` exactly if
-    /// one of the addresses is free. It takes memory only where no free region touches them, in at most three requests, and else is
-    /// never refused with `OutOfMemory` or `TooManyRegions`.
+    /// Where it is refused, nothing has changed: with `Empty` exactly if there is no address, else with `TooLong` exactly if they end
+    /// behind `u64::MAX`, and else with `Overlaps` exactly if one of them is free. Only a region that no free one touches needs a place
+    /// and memory, in at most three requests: it is refused with `TooManyRegions` exactly if no place is left, of 4,294,967,296, and
+    /// else with `OutOfMemory`.
     pub fn free(&mut self, start: u64, length: u64) -> Result<(), FreeError>
-        ensures freed { OnOk result (FreesRegion (region_of start length) self.old self.new) }
+        ensures freed { OnOk result (FreesRegion (region_of start length) self.old.regions self.new.regions) }
         ensures refused { IfErr result (λ error. (self.new ≡ self.old) × IsRefused (region_of start length) self.old error) }
-        ensures apart { OnOk result (StandApart self.new) }
+        ensures full { self.old.is_full ≡ true → IsNew (region_of start length) self.old → IsErr result }
+        ensures apart { OnOk result (StandApart self.new.regions) }
     {
         if length == 0 {
             return Err(FreeError::Empty);
@@ -83,10 +85,10 @@ impl<A: Allocator> RegionAllocator<A> {
     /// `None` says that all are shorter, and nothing has changed then. Of no length, it takes nothing: the answer is where the
     /// shortest region ends.
     pub fn allocate(&mut self, length: u64) -> Option<u64>
-        ensures allocated { IfSome result (λ start. AllocatesRegion (region_of start length) self.old self.new) }
-        ensures best_fit { IfSome result (λ start. IsBestFit (region_of start length) self.old) }
-        ensures none { IfNone result ((self.new ≡ self.old) × AreShorter self.old length) }
-        ensures apart { OnSome result (StandApart self.new) }
+        ensures allocated { IfSome result (λ start. AllocatesRegion (region_of start length) self.old.regions self.new.regions) }
+        ensures best_fit { IfSome result (λ start. IsBestFit (region_of start length) self.old.regions) }
+        ensures none { IfNone result ((self.new ≡ self.old) × AreShorter self.old.regions length) }
+        ensures apart { OnSome result (StandApart self.new.regions) }
     {
         let found = self.regions.shortest(length)?;
         let start = found.region.start;
@@ -97,7 +99,7 @@ impl<A: Allocator> RegionAllocator<A> {
 
     /// Whether the address is free. O(log n).
     pub fn is_free(&self, address: u64) -> bool
-        ensures { IsTrue result ↔ IsFree self.now address }
+        ensures { IsTrue result ↔ IsFree self.now.regions address }
     {
         match self.regions.below(address) {
             Some(found) => address < found.region.end(),
@@ -107,7 +109,7 @@ impl<A: Allocator> RegionAllocator<A> {
 
     /// Whether no address is free. O(1).
     pub fn is_empty(&self) -> bool
-        ensures { IsTrue result ↔ (self.now ≡ []) }
+        ensures { IsTrue result ↔ (self.now.regions ≡ []) }
     {
         self.regions.by_start.is_empty()
     }

@@ -3,10 +3,10 @@ use Rattle.ic_unsafe_ref.specs.Objects.{Objects, object_at}
 use Rattle.region_allocator.specs.declared.neighbors.Found.{Found}
 use Rattle.region_allocator.specs.declared.region.Region.{Region}
 use Rattle.region_allocator.specs.Neighbors.{IsFound}
-use Rattle.region_allocator.specs.Regions.{end_of, IsRegion}
+use Rattle.region_allocator.specs.Regions.{end_of, IsRegion, AreApart}
 use Rattle.region_allocator.proofs.Apart.{adds_frees}
-use Rattle.region_allocator.proofs.Joining.{none_touches, front_fits, front_frees, back_fits, back_frees, both_fit, both_frees}
-use Rattle.region_allocator.proofs.Keeping.{shown_apart, others_apart}
+use Rattle.region_allocator.proofs.Joining.{none_touches, touches_front, touches_back, front_fits, front_frees, back_fits, back_frees, both_fit, both_frees}
+use Rattle.region_allocator.proofs.Keeping.{shown_apart, others_apart, at_region}
 use Rattle.region_allocator.proofs.free_regions.FreeRegions.add.Goals as goal
 
 on_ok : {A E P Q : Type 0} (r : Result A E) → (P → Q) → OnOk r P → OnOk r Q
@@ -74,3 +74,19 @@ returns-in-Some-back-2-clause-freed g c =
     let there = c.take_out.ensures.others c.in-Some.front.object (elsewhere c.requires.region f b) ∙ f.0.there in
     both_frees c.requires.region _ t.each (shown_apart k) f.0.is_region b.0.is_region f.1 b.1 (c.take_out.ensures.taken c.in-Some-back-2.back.region b.0.there)
     (c.resize-in-Some-back-2.ensures.resized c.in-Some.front.region there)
+
+-- a new region touches none
+pub returns-in-Some-back-clause-full : goal.returns-in-Some-back-clause-full
+returns-in-Some-back-clause-full g c full new =
+    let t = rw (c.in-None.is, c.in-Some-back.is) at c.in-Ok.ensures.touched in
+    absurd (touches_back c.requires.region c.in-Some-back.back.region t.back_is.1 (at_region c.requires.kept c.in-Some-back.back.object t.back_is.0.there (AreApart c.args.region) new.1))
+
+pub returns-in-None-back-2-clause-full : goal.returns-in-None-back-2-clause-full
+returns-in-None-back-2-clause-full g c full new =
+    let t = rw (c.in-Some.is, c.in-None-back-2.is) at c.in-Ok.ensures.touched in
+    absurd (touches_front c.requires.region c.in-Some.front.region t.front_is.1 (at_region c.requires.kept c.in-Some.front.object t.front_is.0.there (AreApart c.args.region) new.1))
+
+pub returns-in-Some-back-2-clause-full : goal.returns-in-Some-back-2-clause-full
+returns-in-Some-back-2-clause-full g c full new =
+    let t = rw (c.in-Some.is, c.in-Some-back-2.is) at c.in-Ok.ensures.touched in
+    absurd (touches_front c.requires.region c.in-Some.front.region t.front_is.1 (at_region c.requires.kept c.in-Some.front.object t.front_is.0.there (AreApart c.args.region) new.1))

@@ -1,8 +1,11 @@
-use Rattle.std.proofs.Common.{sym, ap, ◌∙◌, subst, is_some}
+use Rattle.std.proofs.Common.{◌^◌, leb, List, sym, ap, ◌∙◌, subst, is_some}
+use Rattle.std.proofs.lemmas.Bool.{leb-true}
 use Rattle.std.specs.List.{AllByRecursion}
 use Rattle.ic_unsafe_ref.proofs.Placing.{placed_there}
 use Rattle.ic_link_ops.proofs.Calling.{accepted}
-use Rattle.region_allocator.specs.Regions.{AreApart}
+use Rattle.ic_pool.proofs.Pooling.{lacks_exactly}
+use Rattle.region_allocator.specs.declared.region.Region.{Region}
+use Rattle.region_allocator.specs.Regions.{Space, space_of, AreApart}
 use Rattle.region_allocator.proofs.Keeping.{kept_covered, same_covered, adds_to, put_in}
 use Rattle.ic_rbtree.proofs.EachObject.{vacant_free, each_ready}
 use Rattle.region_allocator.proofs.free_regions.FreeRegions.put_in.Goals as goal
@@ -11,13 +14,23 @@ pub returns-in-Err-NoPlaceLeft-clause-kept : goal.returns-in-Err-NoPlaceLeft-cla
 returns-in-Err-NoPlaceLeft-clause-kept g c = rw c.in-Err-NoPlaceLeft.ensures.refused.1 (kept_covered c.requires.kept c.place.new.self.links.0 c.place.new.self.links.1 c.place.ensures.keeps.0.entries c.place.ensures.keeps.1.entries)
 
 pub returns-in-Err-NoPlaceLeft-clause-refused : goal.returns-in-Err-NoPlaceLeft-clause-refused
-returns-in-Err-NoPlaceLeft-clause-refused g c = rw c.in-Err-NoPlaceLeft.ensures.refused.1 (same_covered c.requires.kept c.place.new.self.links.0 c.place.new.self.links.1 c.place.ensures.keeps.0.entries c.place.ensures.keeps.1.entries, (c.requires.region, c.requires.apart))
+returns-in-Err-NoPlaceLeft-clause-refused g c =
+    let e = c.in-Err-NoPlaceLeft.ensures in
+    let back = rw c.in-Err-NoPlaceLeft.field-0-is at e.refused in
+    let full = rw c.in-Err-NoPlaceLeft.field-0-is at e.full in
+    let seen : List Region → Space = λ regions. space_of regions (leb (2 ^ 32) c.args.self.now.pool.objects.next) in
+    rw back.1 (ap seen (same_covered c.requires.kept c.place.new.self.links.0 c.place.new.self.links.1 c.place.ensures.keeps.0.entries c.place.ensures.keeps.1.entries), ((c.requires.region, c.requires.apart), sym (lacks_exactly _ _ full back.0)))
 
 pub returns-in-Err-OutOfMemory-clause-kept : goal.returns-in-Err-OutOfMemory-clause-kept
 returns-in-Err-OutOfMemory-clause-kept g c = rw c.in-Err-OutOfMemory.ensures.refused.1 (kept_covered c.requires.kept c.place.new.self.links.0 c.place.new.self.links.1 c.place.ensures.keeps.0.entries c.place.ensures.keeps.1.entries)
 
 pub returns-in-Err-OutOfMemory-clause-refused : goal.returns-in-Err-OutOfMemory-clause-refused
-returns-in-Err-OutOfMemory-clause-refused g c = rw c.in-Err-OutOfMemory.ensures.refused.1 (same_covered c.requires.kept c.place.new.self.links.0 c.place.new.self.links.1 c.place.ensures.keeps.0.entries c.place.ensures.keeps.1.entries, (c.requires.region, c.requires.apart))
+returns-in-Err-OutOfMemory-clause-refused g c =
+    let e = c.in-Err-OutOfMemory.ensures in
+    let back = rw c.in-Err-OutOfMemory.field-0-is at e.refused in
+    let full = rw c.in-Err-OutOfMemory.field-0-is at e.full in
+    let seen : List Region → Space = λ regions. space_of regions (leb (2 ^ 32) c.args.self.now.pool.objects.next) in
+    rw back.1 (ap seen (same_covered c.requires.kept c.place.new.self.links.0 c.place.new.self.links.1 c.place.ensures.keeps.0.entries c.place.ensures.keeps.1.entries), ((c.requires.region, c.requires.apart), sym (lacks_exactly _ _ full back.0)))
 
 pub insert-requires-clause-placed : goal.insert-requires-clause-placed
 insert-requires-clause-placed g c = each_ready (kept_covered c.requires.kept c.place.new.self.links.0 c.place.new.self.links.1 c.place.ensures.keeps.0.entries c.place.ensures.keeps.1.entries).by_start c.in-Ok.ensures.placed
@@ -30,6 +43,9 @@ insert-requires-2-clause-placed g c = each_ready (kept_covered c.requires.kept c
 
 pub insert-requires-2-clause-object : goal.insert-requires-2-clause-object
 insert-requires-2-clause-object g c = rw (c.new-again.ensures, c.place-2.ensures) (ap is_some (placed_there c.in-Ok.ensures.placed))
+
+pub returns-clause-full : goal.returns-clause-full
+returns-clause-full g c full = let never = c.in-Ok.ensures.full.1 (leb-true (2 ^ 32) _ full) in absurd (cc)
 
 pub returns-clause-kept : goal.returns-clause-kept
 returns-clause-kept g c =
