@@ -10,8 +10,8 @@ use Rattle.region_allocator.specs.Regions.{Space, end_of, Has, IsFree, IsRegion,
 abbrev pub IsNew : Region → Space → Type 0
 IsNew region space = IsRegion region × AllByRecursion (AreApart region) space.regions
 
--- EACH REFUSAL HAS ITS OWN REASON, and no two reasons hold at once: it has no address; it has too many; one of them is free; it is a
--- new one, and no place is left for it; or there is a place, and no memory
+-- EACH REFUSAL HAS ITS OWN REASON, and no two reasons hold at once: the region has no address; it ends behind `u64::MAX`; an address
+-- of it is free; it is a new one, and no place is left; it is a new one, and a place is left
 abbrev pub IsRefused : Region → Space → FreeError → Type 0
 IsRefused region space Empty = region.length ≡ 0
 IsRefused region space TooLong = (0 < region.length) × (2 ^ 64 ≤ end_of region)
