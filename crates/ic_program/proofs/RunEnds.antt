@@ -119,3 +119,10 @@ round first old new told k0 k1 k2 before after a none b kept =
     answered_kept first new told (append_known k1 after) k2
     (more_answered first old new told (append_known k0 before) (append_known k1 after) (answered_kept first old told k0 (append_known k0 before) a (none_waits k0 before none)) b)
     kept
+
+-- a run that was stopped did not come to the end of its input
+pub stopped_not_finished : (stop : Stop) (line : ℕ) (r : Result Ending Fault) (told now : Option (List ℕ)) → EndsStopped stop line r told now → r ≡ Ok Finished → ⊥
+stopped_not_finished NoCommand line (Ok Finished) told now ends is = absurd (cc (ends.0))
+stopped_not_finished NoCommand line (Ok NotUnderstood) told now ends is = absurd (cc (is))
+stopped_not_finished NoCommand line (Err fault) told now ends is = absurd (cc (is))
+stopped_not_finished (AFault fault) line r told now ends is = absurd (cc (ends.0, is))

@@ -1,8 +1,9 @@
-use Rattle.std.proofs.Common.{[], ◌++◌, sym, subst}
+use Rattle.std.proofs.Common.{rules, [], ◌++◌, OnSome, sym, subst}
 use Rattle.std.proofs.KnownBytes.{Consumes-nil, Consumes-trans, Keeps-refl}
+use Rattle.std.specs.Io.KnownBytes.{IsAtEnd}
 use Rattle.ic_program.specs.Played.{Answered}
 use Rattle.ic_program.proofs.Answering.{none_answered, answered_kept, unless_loss_map}
-use Rattle.ic_program.proofs.RunEnds.{round, run_so_far, stopped_run}
+use Rattle.ic_program.proofs.RunEnds.{round, run_so_far, stopped_run, stopped_not_finished, still_known}
 use Rattle.ic_program.proofs.program.answer_input.Goals as goal
 
 pub loop-round-init : goal.loop-round-init
@@ -21,6 +22,14 @@ returns-in-Err-clause-run g c =
     (λ answered. round _ _ _ _ _ (g.W.Write.contents c.answer_next-read.new.writer) _ c.loop-round.session.answers.items c.answer_next-read.new.session.answers.items going.1 going.2 answered c.in_ok-write.ensures.written)
     c.in-Err.ensures.answered)
     c.stopped.ensures
+
+pub returns-in-Ok-false-clause-read : goal.returns-in-Ok-false-clause-read
+returns-in-Ok-false-clause-read g c =
+    let end : OnSome (g.R.Read.remaining c.loop-round.reader) (IsAtEnd (g.R.Read.remaining c.answer_next-read.new.reader)) = c.in-Ok-false.ensures.end (cc (c.in-Ok-false.field-0-test)) in
+    λ _. still_known _ _ _ _ c.loop-round.invariant.3.1 end
+
+pub returns-in-Err-clause-read : goal.returns-in-Err-clause-read
+returns-in-Err-clause-read g c = λ is. absurd (stopped_not_finished c.in-Err.stop _ c.stopped.result _ _ c.stopped.ensures is)
 
 pub loop-round-preserved : goal.loop-round-preserved
 loop-round-preserved g c =
