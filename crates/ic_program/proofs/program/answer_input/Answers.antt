@@ -1,4 +1,4 @@
-use Rattle.std.proofs.Common.{rules, [], ◌++◌, OnSome, sym, subst}
+use Rattle.std.proofs.Common.{[], ◌++◌, OnSome, sym, subst}
 use Rattle.std.proofs.KnownBytes.{Consumes-nil, Consumes-trans, Keeps-refl}
 use Rattle.std.specs.Io.KnownBytes.{IsAtEnd}
 use Rattle.ic_program.specs.Played.{Answered}
