@@ -57,12 +57,12 @@ abbrev pub UnlessLost : {T : Type 0} → Result T Stop → Type 0 → Type 0
 UnlessLost (Ok x) P = P
 UnlessLost (Err stop) P = UnlessLoss stop P
 
--- how a stop ends a run: the line that is no command is told of, unless the writer fails; a fault is told of nowhere
+-- HOW A STOP ENDS A RUN: the notice of a line that is no command is written, unless the writer fails; of a fault nothing is written
 abbrev pub EndsStopped : Stop → ℕ → Result Ending Fault → Option (List ℕ) → Option (List ℕ) → Type 0
 EndsStopped NoCommand line result told now = MatchResult result (λ ending. (ending ≡ NotUnderstood) × Appends told now (no_command_at line)) (λ fault. IsTrue (is_loss fault))
 EndsStopped (AFault fault) line result told now = (result ≡ Err fault) × Keeps told now
 
--- HOW A RUN ENDS: with all answers, and behind them the line that is no command, if there is one
+-- HOW A RUN ENDS: without a loss all answers were written, and behind them the notice of a line that is no command, if there was one
 abbrev pub Ends : Result Ending Fault → Option (List ℕ) → Option (List ℕ) → Type 0
 Ends (Ok Finished) told now = IsRun told now []
 Ends (Ok NotUnderstood) told now = (line : ℕ) × IsRun told now (no_command_at line)

@@ -50,11 +50,11 @@ line_of (entry true place looks) = codes "occupied object " ++ number_at place +
 line_of (entry false place looks) = codes "inserted object " ++ number_at place ++ codes " looks " ++ decimal looks ++ codes "\n"
 line_of (refused refusal) = codes "refused " ++ decimal (number_of refusal) ++ codes " " ++ name_of refusal ++ codes "\n"
 
--- those of several, in order
+-- the lines of several replies, in order
 abbrev pub lines_of : List Reply → List ℕ
 lines_of replies = flat_map line_of replies
 
--- what a line is told that is no command
+-- the notice of a line that is no command
 abbrev pub no_command_at : ℕ → List ℕ
 no_command_at line = codes "line " ++ decimal line ++ codes ": no command\n"
 
@@ -62,11 +62,11 @@ no_command_at line = codes "line " ++ decimal line ++ codes ": no command\n"
 abbrev pub worker_line : ℕ → List Place → List ℕ
 worker_line number places = codes "worker " ++ decimal number ++ codes " " ++ items_of places ++ codes "\n"
 
--- those of several, of which the first has this number
+-- the lines of several workers, whose numbers rise from this one
 abbrev pub worker_lines : ℕ → List (List Place) → List ℕ
 worker_lines number [] = []
 worker_lines number (places ∷ lists) = worker_line number places ++ worker_lines (number + 1) lists
 
--- and then how many of the first places stand in two of their lists
+-- their lines, and then how many of the first places stand in more than one list
 abbrev pub workers_text : ℕ → List (List Place) → List ℕ
 workers_text places lists = worker_lines 1 lists ++ (codes "doubles " ++ decimal (doubles_below places lists) ++ codes "\n")

@@ -24,13 +24,13 @@ pub record ClaimedEach (places : ℕ) (record_is : List Event) (list : List Plac
 
 -- THE CLAIMS OF SO MANY WORKERS ARE ONE LIST OF STEPS, by which each got its list
 pub record ClaimedAsOneList (workers places : ℕ) (lists : List (List Place)) : Type 0 where
-  -- There is one record for each worker,
+  -- there is one record for each worker
   pub records : List (List Event)
   pub each : length records ≡ workers
-  -- of one claim of each of the first places in order, and its list has those that it got.
+  -- a record has one claim of each of the first places, in order, and the worker's list has those that it got
   pub claimed : AllZip (ClaimedEach places) records lists
-  -- Each place has its word,
+  -- there is a word for each place, and one more
   pub words : List ℕ
   pub covers : places < length words
-  -- and the rule of claims holds of these words and records.
+  -- and the rule of claims holds of these words and records
   pub one : IsOneList words records

@@ -90,12 +90,12 @@ module _ {A V K : Type 0} (cmp : K → K → Ordering) (key_of : A → V → K) 
   abbrev pub StaysSorted : Family A V → Command V K → Family A V → Type 0
   StaysSorted old command new = (c : ℕ) → WhileSorted cmp key_of old c (λ s. IsOrderly old c s command → IsSortedAfter cmp key_of c new)
 
-  -- and what stood for those that had entered stands for those that have entered then
+  -- AND KEEPS THE ORDER OF INSERTION: if the collection stood for some objects, it stands after the call for those that `entered_after` gives
   abbrev pub KeepsOrder : Family A V → Command V K → Reply → Family A V → Type 0
   KeepsOrder old command reply new = (c : ℕ) (entered : List Place) → StandsFor cmp key_of old c entered → IsOrderly old c entered command
       → StandsFor cmp key_of new c (entered_after c command reply entered)
 
-  -- A NEW COLLECTION stands for nobody, and one that `take` made for those for whom the other one stood
+  -- A NEW COLLECTION stands for no object, and one that `take` made stands for those for which the other one stood
   abbrev pub StartsInOrder : Family A V → Command V K → Reply → Family A V → Type 0
   StartsInOrder old (call.Open f kind) (opened d) new = StandsFor cmp key_of new d []
   StartsInOrder old (call.Take c) (opened d) new = (entered : List Place) → StandsFor cmp key_of old c entered → StandsFor cmp key_of new d entered

@@ -35,7 +35,7 @@ module _ {V K : Type 0} where
   descends (call.Entry c key p) = Some c
   descends _ = None
 
--- THE CALL IS WELL NAMED, as its reply tells: it is no refusal of a collection, an object or a kind, and of an entry it is vacant
+-- A REPLY IS WELL NAMED if it is no refusal, or the refusal `AlreadyLinked`. The reply of an `entry` that found its key is not
 abbrev pub IsWellNamed : Reply → Type 0
 IsWellNamed (refused AlreadyLinked) = Unit
 IsWellNamed (refused _) = ⊥
@@ -61,7 +61,7 @@ module _ {A V : Type 0} where
   IsRefusedExactlyIfLinked w (Some (c, p)) reply = (s : Sequence) → collection w c ≡ Some s → IsWellNamed reply
       → (reply ≡ refused AlreadyLinked) ↔ (set.contains (linked_of w s.field) (index_of p) ≡ true)
 
-  -- LOOKS ARE FEW: the reply tells v of them in a tree that had n members before the call, where 2^v is at most (n + 1)^2, and one at
-  -- least if there was a member
+  -- LOOKS ARE FEW: a descent of a tree that had n members before the call tells v looks, where 2^v is at most (n + 1)^2. A descent for a key
+  -- tells one at least if the tree had a member, and one by `Unbounded` none
   abbrev pub HasFewLooks : {K : Type 0} → Family A V → Command V K → Reply → Type 0
   HasFewLooks w command reply = IfSome (descends command) (λ c. (s : Sequence) → collection w c ≡ Some s → AreFew s.members command reply)

@@ -17,7 +17,7 @@ module _ {A V K : Type 0} (cmp : K → K → Ordering) (key_of : A → V → K) 
   pub record IsLawful (old : Family A V) (command : Command V K) (reply : Reply) (new : Family A V) : Type 0 where
     -- the answer, and each field's sequences, cursors and linked set, are those of cuts and joins
     pub step : Step cmp key_of old command reply new
-    -- on sequences without common members, all of them linked and placed
+    -- on sequences of which no two of one field share a member; and all members are linked and placed
     pub sound : IsSound new
     -- a refused call changes nothing, and a well-named insert is refused exactly if its object is linked in that field
     pub refused_changes_nothing : (refusal : Refusal) → reply ≡ refused refusal → new ≡ old

@@ -1,4 +1,4 @@
--- What keyed calls answer while their tree is sorted: filters of its members.
+-- What keyed calls answer while their tree is sorted: the first or the last of a filter of its members, or all of it.
 use Rattle.std.specs.Prelude.{◌≡◌, ℕ, true, false, not, ◌&&◌, Bool, List, ◌∷◌, ◌++◌, map, Some, None}
 use Rattle.std.specs.List.{filter}
 use Rattle.std.specs.declared.cmp.Ordering.{Ordering}
@@ -49,7 +49,7 @@ module _ {A V K : Type 0} (cmp : K → K → Ordering) (key_of : A → V → K) 
   FindsFirst (call.Entry c key object) (entry false p looks) = WhileSorted c (λ s. None ≡ first (filter (has_key key) s))
   FindsFirst _ _ = Unit
 
-  -- A SEARCH FOR A BOUND finds the first member within it, or the last
+  -- A LOWER BOUND finds the first member within it, and an upper bound the last
   abbrev pub FindsEnd : Command V K → Reply → Type 0
   FindsEnd (call.LowerBound c bound) (found p looks) = WhileSorted c (λ s. p ≡ first (filter (is_from bound) s))
   FindsEnd (call.UpperBound c bound) (found p looks) = WhileSorted c (λ s. p ≡ last (filter (is_until bound) s))
@@ -60,12 +60,12 @@ module _ {A V K : Type 0} (cmp : K → K → Ordering) (key_of : A → V → K) 
   IsWithinBoth (call.Range c min max) (range places first_looks second_looks) = WhileSorted c (λ s. places ≡ filter (λ q. is_from min q && is_until max q) s)
   IsWithinBoth _ _ = Unit
 
-  -- p is in collection c now, behind the members of s that are not greater and in front of those that are
+  -- COLLECTION c HAS NOW the members of s that are not greater, then p, then the greater ones
   abbrev pub PutsBehind : (Place → Bool) → ℕ → Place → Family A V → List Place → Type 0
   PutsBehind greater c p new s = (t : Sequence) × (collection new c ≡ Some t) × (t.members ≡ filter (λ q. not (greater q)) s ++ p ∷ filter greater s)
 
-  -- AN INSERT goes behind all members whose keys are not greater than the object's own; into a vacant entry an object goes behind all whose
-  -- keys are not greater than the key that was searched
+  -- AN INSERT puts its object behind all members whose keys are not greater than the object's own. An entry that was vacant puts it behind all
+  -- whose keys are not greater than the key of the entry
   abbrev pub GoesBehind : Command V K → Reply → Family A V → Type 0
   GoesBehind (call.Insert c p) (looked looks) new = WhileSorted c (PutsBehind (is_greater p) c p new)
   GoesBehind (call.CursorInsert c p) (looked looks) new = WhileSorted c (PutsBehind (is_greater p) c p new)
