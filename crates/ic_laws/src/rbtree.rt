@@ -19,7 +19,7 @@ use ic_unsafe_ref::Place;
 ///
 /// It is at null again. Of an empty tree both are `None`. O(log n).
 ///
-/// It asks that the cursor is at null, in a tree for which the table shows a sequence.
+/// It requires that the cursor is at null, in a tree for which the table shows a sequence.
 pub fn null_there_and_back<A: KeyAdapter, L: RBTreeOps>(
     cursor: &mut Cursor<'_, A, L>,
 ) -> (Option<Place>, Option<Place>)
