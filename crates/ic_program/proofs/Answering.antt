@@ -9,22 +9,14 @@ use Rattle.std.specs.Io.KnownBytes.{Appends, Keeps, append_known}
 use Rattle.ic_world.specs.declared.call.Command.{Command}
 use Rattle.ic_world.specs.Calls.{Reply}
 use Rattle.ic_world.specs.Family.{Family}
-use Rattle.ic_world_laws.specs.Runs.{IsLawful, AreLawful}
+use Rattle.ic_world_laws.specs.Runs.{IsLawful}
+use Rattle.ic_world_laws.proofs.RunLaws.{join_lawful}
 use Rattle.ic_program.specs.declared.own_key.OwnKey.{OwnKey}
 use Rattle.ic_program.specs.declared.session.Stop.{Stop}
 use Rattle.ic_program.specs.declared.session.Stop.TheVariants.{NoCommand, Fault as AFault}
 use Rattle.ic_program.specs.Printed.{line_of, lines_of}
 use Rattle.ic_program.specs.declared.fault.Fault.{Fault}
 use Rattle.ic_program.specs.Played.{own_key, is_loss, Answered, UnlessLoss, UnlessLost}
-
--- TWO LISTS OF CALLS JOIN
-module _ {A V K : Type 0} (cmp : K → K → Ordering) (key_of : A → V → K) where
-  pub join_lawful : (old : Family A V) (cs : List (Command V K)) (rs : List Reply) (mid : Family A V) (ds : List (Command V K)) (ss : List Reply) (new : Family A V)
-      → AreLawful cmp key_of old cs rs mid → AreLawful cmp key_of mid ds ss new → AreLawful cmp key_of old (cs ++ ds) (rs ++ ss) new
-  join_lawful old [] [] mid ds ss new a b = subst (λ w. AreLawful cmp key_of w ds ss new) a b
-  join_lawful old (c ∷ cs) (r ∷ rs) mid ds ss new a b = (a.0, a.1, join_lawful a.0 cs rs mid ds ss new a.2 b)
-  join_lawful old [] (r ∷ rs) mid ds ss new a b = absurd a
-  join_lawful old (c ∷ cs) [] mid ds ss new a b = absurd a
 
 -- none were made; one was; and then others
 pub none_answered : (w : Family OwnKey ℕ) (told : Option (List ℕ)) → Answered w w told told

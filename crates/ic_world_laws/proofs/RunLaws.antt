@@ -1,5 +1,5 @@
 -- From the steps of a run to what holds of each call, and of all.
-use Rattle.std.proofs.Common.{List, [], ◌∷◌, Result, Ok, Err, OnOk, OnErr, refl, sym, subst, ◌∙◌}
+use Rattle.std.proofs.Common.{List, [], ◌∷◌, ◌++◌, Result, Ok, Err, OnOk, OnErr, refl, sym, subst, ◌∙◌}
 use Rattle.std.specs.Cmp.{IsTotalOrder}
 use Rattle.std.specs.declared.cmp.Ordering.{Ordering}
 use Rattle.ic_link_ops.proofs.SequenceLemmas.{some_same}
@@ -15,6 +15,15 @@ use Rattle.ic_world_laws.proofs.StepLaws.{refused_stays, insert_refused, looks_f
 use Rattle.ic_world_laws.proofs.SortedLaws.{finds_first, finds_end, is_within_both, goes_behind}
 use Rattle.ic_world_laws.proofs.KeepsSound.{keeps_sound}
 use Rattle.ic_world_laws.proofs.KeepsOrder.{sound_placed, keeps_order, starts_in_order}
+
+-- TWO LISTS OF CALLS JOIN
+module _ {A V K : Type 0} (cmp : K → K → Ordering) (key_of : A → V → K) where
+  pub join_lawful : (old : Family A V) (cs : List (Command V K)) (rs : List Reply) (mid : Family A V) (ds : List (Command V K)) (ss : List Reply) (new : Family A V)
+      → AreLawful cmp key_of old cs rs mid → AreLawful cmp key_of mid ds ss new → AreLawful cmp key_of old (cs ++ ds) (rs ++ ss) new
+  join_lawful old [] [] mid ds ss new a b = subst (λ w. AreLawful cmp key_of w ds ss new) a b
+  join_lawful old (c ∷ cs) (r ∷ rs) mid ds ss new a b = (a.0, a.1, join_lawful a.0 cs rs mid ds ss new a.2 b)
+  join_lawful old [] (r ∷ rs) mid ds ss new a b = absurd a
+  join_lawful old (c ∷ cs) [] mid ds ss new a b = absurd a
 
 module _ {A V K : Type 0} {cmp : K → K → Ordering} (total : IsTotalOrder cmp) (key_of : A → V → K) where
   -- a sorted collection stands for its own members

@@ -1,4 +1,4 @@
-//! What holds of each call of a world, whatever the call is, and of any list of them: each law is a named clause.
+//! What holds of each call of a world, whatever the call is, and of any list of them: each law is a part of `IsLawful`.
 //!
 //! ```text
 //! ic_world_laws::answer(&mut world, command) // refused, it can be made again in the same world
@@ -7,15 +7,10 @@
 #![tactic(auto)]
 
 ghost use Rattle.std.specs.Prelude.{◌≡◌, ◌++◌, List, map as map_list, OnOk, OnErr};
-ghost use Rattle.ic_world.specs.declared.call.Refusal.{Refusal};
 ghost use Rattle.ic_world.specs.Answers.{reply_in};
-ghost use Rattle.ic_world.specs.Calls.{refused};
 ghost use Rattle.ic_world.specs.Sound.{IsSound};
-ghost use Rattle.ic_world.specs.Step.{Step};
-ghost use Rattle.ic_world_laws.specs.Laws.{inserts, IsRefusedExactlyIfLinked, HasFewLooks};
-ghost use Rattle.ic_world_laws.specs.Sorted.{FindsFirst, FindsEnd, IsWithinBoth, GoesBehind};
-ghost use Rattle.ic_world_laws.specs.Entered.{StaysSorted, KeepsOrder, StartsInOrder, RunKeepsOrder};
-ghost use Rattle.ic_world_laws.specs.Runs.{AreLawful};
+ghost use Rattle.ic_world_laws.specs.Entered.{RunKeepsOrder};
+ghost use Rattle.ic_world_laws.specs.Runs.{IsLawful, AreLawful};
 
 use ic_rbtree::KeyAdapter;
 use ic_world::{Answer, Command, World};
@@ -43,18 +38,7 @@ pub fn answer<A: KeyAdapter, M: Allocator + Copy>(
 where
     A::Value: Copy,
     A::Key: Copy,
-    ensures step { Step A.Key.cmp A.key_of world.old command (reply_in result) world.new }
-    ensures sound { IsSound world.new }
-    ensures refused_changes_nothing { (refusal : Refusal) → reply_in result ≡ refused refusal → world.new ≡ world.old }
-    ensures insert_is_refused_if_linked { IsRefusedExactlyIfLinked world.old (inserts command) (reply_in result) }
-    ensures looks_are_few { HasFewLooks world.old command (reply_in result) }
-    ensures key_is_found_first { FindsFirst A.Key.cmp A.key_of world.old command (reply_in result) }
-    ensures bound_is_found_at_its_end { FindsEnd A.Key.cmp A.key_of world.old command (reply_in result) }
-    ensures range_is_within_both { IsWithinBoth A.Key.cmp A.key_of world.old command (reply_in result) }
-    ensures insert_goes_behind { GoesBehind A.Key.cmp A.key_of world.old command (reply_in result) world.new }
-    ensures stays_sorted { StaysSorted A.Key.cmp A.key_of world.old command world.new }
-    ensures keeps_order { KeepsOrder A.Key.cmp A.key_of world.old command (reply_in result) world.new }
-    ensures starts_in_order { StartsInOrder A.Key.cmp A.key_of world.old command (reply_in result) world.new }
+    ensures { IsLawful A.Key.cmp A.key_of world.old command (reply_in result) world.new }
 {
     world.family_is_sound();
     world.answer(command)
