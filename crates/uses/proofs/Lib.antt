@@ -1,11 +1,6 @@
-pub mod Adding
-pub mod CutShown
 pub mod Dealing
-pub mod Draining
-pub mod Locating
 pub mod Outcomes
 pub mod Pool
-pub mod PutBack
 pub mod RaceLemmas
 pub mod Retaining
 pub mod Rounds

@@ -1,14 +1,10 @@
-pub mod Blocks
 pub mod BorrowedTables
 pub mod EitherTables
 pub mod Hands
-pub mod Jobs
 pub mod Notes
 pub mod Pool
 pub mod Race
 pub mod RecordedTables
-pub mod Regions
 pub mod Retain
 pub mod Ring
-pub mod Sessions
 pub mod SharedJobs

@@ -1,7 +1,6 @@
 //! Uses of the collections and of claims, as a caller writes them: each with a contract, and run by a test.
 #![tactic(auto)]
 
-pub mod best_fit;
 pub mod borrowed_table;
 pub mod claim_log;
 pub mod deal;
@@ -9,15 +8,10 @@ pub mod either_table;
 pub mod first_objects;
 pub mod first_steps;
 pub mod free_list;
-pub mod jobs;
-pub mod lru;
 pub mod pairs;
-pub mod queue;
 pub mod race;
 pub mod recorded_table;
-pub mod region_map;
 pub mod retain;
 pub mod ring;
-pub mod sessions;
 pub mod shared_jobs;
 pub mod shared_pool;

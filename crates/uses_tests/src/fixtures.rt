@@ -20,8 +20,8 @@ pub(crate) const UNLINKED: &str = "objects that are linked nowhere";
 /// What a test has enough of.
 pub(crate) const MEMORY: &str = "memory";
 
-/// Where no object is found: there is no place with that index.
-pub(crate) const NONE: usize = Place::COUNT;
+// Where no object is found: there is no place with that index.
+const NONE: usize = Place::COUNT;
 
 /// Asserts that it is so.
 pub(crate) fn check(rt: &impl Abort, is_so: bool) {

@@ -4,8 +4,6 @@
 #[cfg(test)]
 mod fixtures;
 #[cfg(test)]
-mod keyed;
-#[cfg(test)]
 mod lists;
 #[cfg(test)]
 mod pools;

@@ -1,10 +1,10 @@
-//! A cache, queues, jobs, a free list and the first steps, over tables of a few places.
+//! The first steps, a free list, pairs, walks, and tables of a caller's own, over tables of a few places.
 
 ghost use Rattle.ic_link_ops.specs.DoublyEntries.{PlainShows};
 ghost use Rattle.ic_link_ops.specs.PlacedObjects.{ShowsPlaced};
 
 use crate::fixtures::{
-    MEMORY, UNLINKED, check, covering, index, index_of_object, object, placed, reference, two,
+    MEMORY, UNLINKED, check, covering, index, index_of_object, object, placed, two,
 };
 use ic_link_ops::linked_list::LinkOps;
 use ic_linked_list::LinkedList;
@@ -18,7 +18,7 @@ use uses::first_steps::first_steps;
 use uses::free_list::{give_and_take, give_back, take};
 use uses::recorded_table::{Note, RecordedTable, Recorder};
 use uses::retain::retain;
-use uses::{borrowed_table, deal, jobs, lru, pairs, queue};
+use uses::{borrowed_table, deal, pairs};
 
 #[test]
 fn the_first_objects_need_memory(rt: HostRuntime) {
@@ -39,45 +39,6 @@ fn the_first_steps_end_on_the_first_object(rt: HostRuntime) {
     let (links, first, second) = two(&rt, rt.alloc());
     let position = first_steps(links, first, second).expect(&rt, UNLINKED);
     check(&rt, index(position) == 2);
-}
-
-#[test]
-fn objects_are_touched_and_have_their_turns(rt: HostRuntime) {
-    let (mut links, first, second) = two(&rt, rt.alloc());
-    let again = reference(&rt, 2);
-    let (mut order, mut other) = (LinkedList::new(), LinkedList::new());
-    lru::insert(&mut order, &mut links, first).expect(&rt, UNLINKED);
-    lru::insert(&mut order, &mut links, second).expect(&rt, UNLINKED);
-    lru::touch(&mut order, &mut links, again);
-    let turned = queue::turn(&mut order, &mut links);
-    let forgotten = lru::forget_oldest(&mut order, &mut links);
-    let moved = queue::hand_over(&mut order, &mut other, &mut links);
-    check(
-        &rt,
-        index(turned) == 2 && index_of_object(forgotten) == 2 && index(moved) == 0,
-    );
-}
-
-#[test]
-fn jobs_leave_both_lists(rt: HostRuntime) {
-    let (mut links, first, second) = two(&rt, rt.alloc());
-    let (third, mut ready_links) = (reference(&rt, 1), covering(&rt, rt.alloc()));
-    let (again, gone) = (reference(&rt, 2), reference(&rt, 1)); // the first and the third once more
-    let (mut owned, mut ready) = (LinkedList::new(), LinkedList::new());
-    jobs::submit(&mut owned, &mut links, &mut ready, &mut ready_links, first).expect(&rt, UNLINKED);
-    jobs::submit(&mut owned, &mut links, &mut ready, &mut ready_links, second).expect(
-        &rt, UNLINKED,
-    );
-    jobs::submit(&mut owned, &mut links, &mut ready, &mut ready_links, third).expect(&rt, UNLINKED);
-    jobs::move_to_back(&mut ready, &mut ready_links, again);
-    let next = jobs::take_next(&mut owned, &mut links, &mut ready, &mut ready_links);
-    jobs::cancel(&mut owned, &mut links, &mut ready, &mut ready_links, &gone);
-    let waiting = ready.front(&ready_links).get_ptr();
-    jobs::drain(&mut owned, &mut links, &mut ready, &mut ready_links);
-    check(
-        &rt,
-        index_of_object(next) == 0 && index(waiting) == 2 && ready.is_empty(),
-    );
 }
 
 #[test]

@@ -2,27 +2,9 @@
 
 use crate::fixtures::check;
 use ic_link_ops::{linked_list, singly_linked_list};
-use ic_linked_list::LinkedList;
 use ic_pool::{PlaceError, Pool};
 use ic_test_support::rationed::Rationed;
-use ic_unsafe_ref::UnsafeRef;
 use pool_uses::{Slots, Timers};
-use uses::queue::leave;
-
-#[test]
-fn an_object_leaves_its_queue_and_its_pool(rt: HostRuntime) {
-    let mut pool = Pool::new(rt.alloc(), linked_list::LinkOps::new(rt.alloc()));
-    let mut queue = LinkedList::new();
-    let is_so = match pool.place(10) {
-        Ok(object) => {
-            let again = UnsafeRef::new(object.place());
-            let is_linked = queue.push_back(&mut pool.links, object).is_ok();
-            is_linked && leave(&mut queue, &mut pool, again) == 10 && queue.is_empty()
-        }
-        Err(_) => false,
-    };
-    check(&rt, is_so);
-}
 
 #[test]
 fn an_object_has_room_in_both_tables(rt: HostRuntime) {

@@ -1,18 +1,11 @@
-//! Timers that are scheduled in a mixed order, and regions with the addresses in them, between them, below them and above.
+//! Timers that are scheduled in a mixed order, and a ring of nodes by their points.
 
-ghost use Rattle.ic_rbtree.specs.PlainTrees.{PlainShows};
-ghost use Rattle.ic_rbtree.specs.Tree.{root_of};
-ghost use Rattle.ic_rbtree.specs.SortedObjects.{ShowsSorted};
-ghost use Rattle.uses.specs.Regions.{start};
-
-use crate::fixtures::{NONE, UNLINKED, check, covering, index_of_object, object, placed};
+use crate::fixtures::{UNLINKED, check, covering, index, index_of_object, object, placed};
 use ic_link_ops::rbtree::LinkOps;
 use ic_rbtree::RBTree;
 use ic_test_support::rationed::Rationed;
-use ic_unsafe_ref::Objects;
-use std::process::Abort;
 use timer_queue::{ByDeadline, HasDeadline, cancel, schedule, take_all_due, take_due};
-use uses::region_map::{ByStart, Region, add, region_at, remove_region};
+use uses::ring::{ByPoint, Node, leave, node_before, owner_of};
 
 // What waits for its deadline.
 #[derive(Copy, Clone, Debug)]
@@ -34,26 +27,6 @@ const TIMERS: [Timer; 5] = [
     Timer { deadline: 20 },
     Timer { deadline: 10 },
     Timer { deadline: 20 },
-];
-
-// 10 to 19, 20 to 24, and 40 and 41; the last one has no length.
-const REGIONS: [Region; 4] = [
-    Region {
-        start: 20,
-        length: 5,
-    },
-    Region {
-        start: 40,
-        length: 2,
-    },
-    Region {
-        start: 10,
-        length: 10,
-    },
-    Region {
-        start: 30,
-        length: 0,
-    },
 ];
 
 #[test]
@@ -85,52 +58,56 @@ fn the_earliest_timer_is_taken_first(rt: HostRuntime) {
     );
 }
 
-// Addresses, and the regions in which they lie.
-const FOUND: [(u64, usize); 12] = [
-    (0, NONE),
-    (9, NONE),
-    (10, 2),
-    (19, 2),
-    (20, 0),
-    (24, 0),
-    (25, NONE),
-    (30, NONE),
-    (40, 1),
-    (41, 1),
-    (42, NONE),
-    (u64::MAX, NONE),
+// Nodes at 70, 10 and 40.
+const NODES: [Node; 3] = [
+    Node {
+        point: 70,
+        server: 0,
+    },
+    Node {
+        point: 10,
+        server: 1,
+    },
+    Node {
+        point: 40,
+        server: 0,
+    },
 ];
 
-// The same once the region at the first place is removed.
-const LEFT: [(u64, usize); 4] = [(19, 2), (20, NONE), (24, NONE), (41, 1)];
-
-// Asserts that each address lies in the region at the place behind it.
-fn are_found(
-    rt: &impl Abort,
-    regions: &RBTree<ByStart>,
-    links: &LinkOps,
-    objects: &Objects<Region>,
-    rows: &[(u64, usize)],
-)
-    requires map { ShowsSorted start (PlainShows links.now (root_of regions.now)) objects.now }
-{
-    for (address, wanted) in rows {
-        let found = region_at(regions, links, objects, *address);
-        check(rt, index_of_object(found) == *wanted);
-    }
-}
+// Hashes, the places of the nodes that their keys belong to, and those of the nodes in front of them.
+const OWNERS: [(u64, usize, usize); 8] = [
+    (0, 1, 0),
+    (10, 1, 0),
+    (11, 2, 1),
+    (40, 2, 1),
+    (41, 0, 2),
+    (70, 0, 2),
+    (71, 1, 0),
+    (u64::MAX, 1, 0),
+];
 
 #[test]
-fn an_address_lies_in_one_region(rt: HostRuntime) {
-    let objects = placed(&rt, rt.alloc(), &REGIONS);
+fn a_key_belongs_to_the_next_node(rt: HostRuntime) {
+    let objects = placed(&rt, rt.alloc(), &NODES);
     let mut links: LinkOps = covering(&rt, rt.alloc());
-    let mut regions = RBTree::new(ByStart);
-    for index in 0..4 {
-        let region = object(&rt, &links, &objects, index);
-        add(&mut regions, &mut links, &objects, region).expect(&rt, UNLINKED);
+    let mut ring = RBTree::new(ByPoint);
+    for index in 0..3 {
+        let node = object(&rt, &links, &objects, index);
+        ring.insert(&mut links, &objects, node)
+            .expect(&rt, UNLINKED);
     }
-    are_found(&rt, &regions, &links, &objects, &FOUND);
-    let removed = remove_region(&mut regions, &mut links, &objects, 22);
-    check(&rt, index_of_object(removed) == 0);
-    are_found(&rt, &regions, &links, &objects, &LEFT);
+    for (hash, owner, before) in OWNERS {
+        let hand = owner_of(ring, &links, &objects, hash);
+        let found = index(hand.get_ptr());
+        let hand = node_before(hand.into_inner(), &links, &objects, hash);
+        check(&rt, found == owner && index(hand.get_ptr()) == before);
+        ring = hand.into_inner();
+    }
+    let (left, hand) = leave(ring, &mut links, &objects, 40);
+    check(
+        &rt,
+        index_of_object(left) == 2 && index(hand.get_ptr()) == 0,
+    );
+    let (left, hand) = leave(hand.into_inner(), &mut links, &objects, 40);
+    check(&rt, left.is_none() && hand.get_ptr().is_none());
 }

@@ -5,7 +5,7 @@ use Rattle.ic_rbtree.proofs.SortedKeys.{new_is_sorted, sorted_inserted}
 use Rattle.uses.specs.Ring.{point}
 use Rattle.uses.specs.declared.ring.Node.{Node}
 use Rattle.uses.specs.declared.ring.ByPoint.{ByPoint}
-use Rattle.uses_tests.proofs.keyed.a_key_belongs_to_the_next_node.Goals as goal
+use Rattle.uses_tests.proofs.trees.a_key_belongs_to_the_next_node.Goals as goal
 
 pub loop-index-init : goal.loop-index-init
 loop-index-init g c = record { ring = new_is_sorted point _ c.new-ring.ensures.empty }
