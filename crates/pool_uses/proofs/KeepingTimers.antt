@@ -29,8 +29,8 @@ use Rattle.ic_rbtree.proofs.SortedKeys.{shown_sorted}
 use Rattle.ic_rbtree.proofs.SortedValues.{greater_behind, own_order_is}
 use Rattle.ic_pool.specs.Pooled.{Grows}
 use Rattle.pool_uses.specs.declared.timers.Timer.{Timer}
-use Rattle.timer_queue.specs.Timers.{due, is_due}
-use Rattle.timer_queue.proofs.KeptValues.{in_order}
+use Rattle.scheduler.specs.Timers.{due, is_due}
+use Rattle.scheduler.proofs.KeptValues.{in_order}
 use Rattle.pool_uses.specs.KeptTimers.{waiting_of, waiting_at, waiting_in, timetable_of, IsKept}
 use Rattle.pool_uses.specs.Timers.{Waiting, Timetable, timer_of, deadlines, NamesNone, Adds, Cancels, TakesFirst}
 

@@ -16,9 +16,9 @@ use ic_link_ops::rbtree::LinkOps;
 use ic_pool::{PlaceError, Pool};
 use ic_rbtree::RBTree;
 use ic_unsafe_ref::UnsafeRef;
+use scheduler::timer_queue::{ByDeadline, HasDeadline, schedule, take_due};
 use std::alloc::{AllocFailed, Allocator, Global};
 use std::marker::Model;
-use timer_queue::{ByDeadline, HasDeadline, schedule, take_due};
 
 /// What waits, as it is placed.
 #[derive(Drop)]
@@ -62,7 +62,7 @@ impl<V, A: Allocator> Model for Timers<V, A> {
 
 impl<V, A: Allocator> Timers<V, A> {
     ghost use Rattle.pool_uses.specs.Timers.{Waiting, timer_of, Adds, Cancels, TakesFirst, TakesAll, NamesNone};
-    ghost use Rattle.timer_queue.specs.Timers.{handed_back};
+    ghost use Rattle.scheduler.specs.Timers.{handed_back};
 
     /// Nothing waits. It takes no memory.
     pub fn new(alloc: A) -> Timers<V, A>

@@ -35,8 +35,8 @@ use Rattle.ic_rbtree.proofs.Passing.{passed}
 use Rattle.ic_rbtree.proofs.PlainTrees.{plain_covered, plain_members, plain_trees}
 use Rattle.ic_rbtree.proofs.SortedValues.{has_none, has_covered, has_beside, has_inserted, has_first, has_first_taken}
 use Rattle.scheduler.specs.declared.task.Task.{Task}
-use Rattle.timer_queue.specs.Timers as timers
-use Rattle.timer_queue.proofs.KeptValues.{in_order, values_wait}
+use Rattle.scheduler.specs.Timers as timers
+use Rattle.scheduler.proofs.KeptValues.{in_order, values_wait}
 use Rattle.scheduler.specs.Kept.{deadline_of, list_at, schedule_of, HasRoom, IsKept}
 use Rattle.scheduler.specs.Refusals.{refusal_number}
 use Rattle.scheduler.specs.Schedule.{queue_at, places_at, IsByDeadline, is_due, is_for, task_of, IsEmpty, IsUnchanged, Adds, TakesFront, MovesFirst}

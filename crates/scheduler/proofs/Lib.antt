@@ -1,4 +1,8 @@
+pub mod AllDue
 pub mod ByDeadline
+pub mod KeptValues
 pub mod Moving
 pub mod Keeping
 pub mod Once
+pub mod Outcomes
+pub mod TakingDue

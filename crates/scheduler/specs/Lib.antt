@@ -1,3 +1,4 @@
+pub mod Timers
 pub mod Schedule
 pub mod Refusals
 pub mod Kept

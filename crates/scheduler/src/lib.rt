@@ -8,7 +8,8 @@
 //! ```
 //!
 //! Each task is one object with a link in each of two fields: in the tree of deadlines while it waits, and in the list of its queue
-//! once it was due. So a task moves from one to the other, and no memory is taken for it.
+//! once it was due. So a task moves from one to the other, and no memory is taken for it. [`timer_queue`] is that tree, for objects of your
+//! own.
 #![tactic(auto)]
 
 mod add_error;
@@ -16,6 +17,7 @@ mod queue;
 mod queues;
 mod scheduler;
 mod task;
+pub mod timer_queue;
 
 pub use add_error::AddError;
 pub use queue::Queue;

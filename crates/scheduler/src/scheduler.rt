@@ -6,13 +6,13 @@ ghost use Rattle.std.specs.List.{AllByRecursion};
 
 use crate::queues::{Queues, dequeue, enqueue, no_queues};
 use crate::task::Task;
+use crate::timer_queue::{ByDeadline, schedule, take_due};
 use crate::{AddError, Queue};
 use ic_link_ops::{linked_list, rbtree};
 use ic_rbtree::RBTree;
 use ic_unsafe_ref::{Objects, UnsafeRef};
 use std::alloc::{Allocator, Global};
 use std::marker::Model;
-use timer_queue::{ByDeadline, schedule, take_due};
 
 /// Tasks that wait for their deadlines, and eight queues of those that were due.
 ///

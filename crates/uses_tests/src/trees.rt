@@ -4,7 +4,7 @@ use crate::fixtures::{UNLINKED, check, covering, index, index_of_object, object,
 use ic_link_ops::rbtree::LinkOps;
 use ic_rbtree::RBTree;
 use ic_test_support::rationed::Rationed;
-use timer_queue::{ByDeadline, HasDeadline, cancel, schedule, take_all_due, take_due};
+use scheduler::timer_queue::{ByDeadline, HasDeadline, cancel, schedule, take_all_due, take_due};
 use uses::ring::{ByPoint, Node, leave, node_before, owner_of};
 
 // What waits for its deadline.

@@ -1,5 +1,5 @@
 use Rattle.std.proofs.Common.{ap, append-nil, arith, length, refl}
-use Rattle.timer_queue.proofs.Outcomes.{on_err, room_refused}
+use Rattle.scheduler.proofs.Outcomes.{on_err, room_refused}
 use Rattle.pool_uses.proofs.TakingAll.{takes_none, takes_one}
 use Rattle.pool_uses.proofs.timers.Timers.take_all_due.Goals as goal
 

@@ -3,7 +3,7 @@ use Rattle.std.specs.Option.{option_copied}
 use Rattle.ic_unsafe_ref.specs.Objects.{object_at}
 use Rattle.ic_link_ops.proofs.PlacedValues.{placed_first}
 use Rattle.ic_link_ops.proofs.TwoFields.{unlinked_second}
-use Rattle.timer_queue.specs.Timers.{due}
+use Rattle.scheduler.specs.Timers.{due}
 use Rattle.scheduler.specs.Kept.{deadline_of}
 use Rattle.scheduler.proofs.Keeping.{few_wait, same_kept, nothing_due, first_due, kept_moved, moves, sorted}
 use Rattle.scheduler.proofs.scheduler.Scheduler.move_first.Goals as goal

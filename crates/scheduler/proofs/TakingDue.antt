@@ -10,7 +10,7 @@ use Rattle.ic_link_ops.specs.Sequences.{first}
 use Rattle.ic_link_ops.proofs.SequenceLemmas.{none_not, some_same}
 use Rattle.ic_rbtree.specs.Borders.{IsSorted}
 use Rattle.ic_rbtree.specs.SortedObjects.{key_at, key_or, keys_at}
-use Rattle.timer_queue.specs.Timers.{due}
+use Rattle.scheduler.specs.Timers.{due}
 use Rattle.ic_rbtree.proofs.SortedKeys.{first_is_least}
 
 module _ {T : Type 0} (deadline : T → ℕ) (objects : Objects T) where

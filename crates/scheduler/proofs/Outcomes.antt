@@ -2,7 +2,7 @@
 use Rattle.std.proofs.Common.{◌≡◌, ◌∙◌, ap, Result, Ok, Err, OnErr, [], ◌∷◌}
 use Rattle.std.specs.Result.{IsErrAnd}
 use Rattle.std.specs.declared.alloc.AllocFailed.{AllocFailed}
-use Rattle.timer_queue.specs.Timers.{handed_back}
+use Rattle.scheduler.specs.Timers.{handed_back}
 
 -- what holds at any rate
 pub on_err : {A E : Type 0} {P : Type 0} (r : Result A E) → P → OnErr r P

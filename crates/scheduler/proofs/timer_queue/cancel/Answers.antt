@@ -1,6 +1,6 @@
 use Rattle.ic_link_ops.proofs.ShownTrees.{one_sequence}
 use Rattle.ic_rbtree.proofs.SortedKeys.{sorted_less}
-use Rattle.timer_queue.proofs.queue.cancel.Goals as goal
+use Rattle.scheduler.proofs.timer_queue.cancel.Goals as goal
 
 pub returns-clause-queue : goal.returns-clause-queue
 returns-clause-queue g c objects q =

@@ -1,10 +1,10 @@
 use Rattle.std.proofs.Common.{◌∙◌, refl, sym, ap, arith, List, ◌++◌, append-nil, subst}
 use Rattle.ic_unsafe_ref.specs.declared.place.Place.{Place}
 use Rattle.ic_link_ops.proofs.ShownTrees.{one_sequence}
-use Rattle.timer_queue.specs.Timers.{handed_back, StandsFirst}
-use Rattle.timer_queue.proofs.Outcomes.{on_err, room_refused}
-use Rattle.timer_queue.proofs.AllDue.{takes_none, takes_one, fewer}
-use Rattle.timer_queue.proofs.queue.take_all_due.Goals as goal
+use Rattle.scheduler.specs.Timers.{handed_back, StandsFirst}
+use Rattle.scheduler.proofs.Outcomes.{on_err, room_refused}
+use Rattle.scheduler.proofs.AllDue.{takes_none, takes_one, fewer}
+use Rattle.scheduler.proofs.timer_queue.take_all_due.Goals as goal
 
 pub loop-timer-init : goal.loop-timer-init
 loop-timer-init g c =

@@ -1,9 +1,11 @@
-//! The calls of a queue by deadlines.
+//! A queue by deadlines, of whatever waits: what has the earliest one is taken first, and of equal ones what was scheduled first.
 //!
 //! ```text
-//! if let Some(timer) = timer_queue::take_due(&mut timers, &mut links, &objects, now) {
-//!     // it is unlinked, and none that waits still was due before it
-//! }
+//! let mut timers = RBTree::new(ByDeadline::new());
+//! timer_queue::schedule(&mut timers, &mut links, &objects, timer)?;
+//! let due = timer_queue::take_due(&mut timers, &mut links, &objects, now); // that timer, if its deadline is at most `now`
+//! timer_queue::take_all_due(&mut timers, &mut links, &objects, now, &mut expired)?; // and all others that are due
+//! timer_queue::cancel(&mut timers, &mut links, other);
 //! ```
 
 ghost use Rattle.std.specs.Prelude.{◌≡◌, ◌++◌, ◌∷◌, [], ◌≤◌, ◌<◌, true, List, OnOk, OnErr, OnSome, IfErr, IfSome, IfNone, vec_len, vec_capacity};
@@ -21,9 +23,11 @@ ghost use Rattle.ic_rbtree.specs.Tree.{root_of};
 ghost use Rattle.ic_rbtree.specs.Borders.{if_passes};
 ghost use Rattle.ic_rbtree.specs.Ordered.{InsertsInOrder};
 ghost use Rattle.ic_rbtree.specs.SortedObjects.{against, key_at, ShowsSorted, StaysSorted};
-ghost use Rattle.timer_queue.specs.Timers.{due, is_due, handed_back, StandsFirst};
+ghost use Rattle.scheduler.specs.Timers.{due, is_due, handed_back, StandsFirst};
 
-use crate::deadline::{ByDeadline, HasDeadline};
+mod deadline;
+
+pub use deadline::{ByDeadline, HasDeadline};
 use ic_link_ops::rbtree::RBTreeOps;
 use ic_link_ops::{AlreadyLinked, LinkOps};
 use ic_rbtree::RBTree;

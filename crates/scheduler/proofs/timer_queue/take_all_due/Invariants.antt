@@ -4,8 +4,8 @@ use Rattle.ic_link_ops.specs.RedBlackTree.{Shows}
 use Rattle.ic_rbtree.specs.Members.{members}
 use Rattle.ic_rbtree.specs.Tree.{root_of}
 use Rattle.ic_rbtree.specs.SortedObjects.{ShowsSorted}
-use Rattle.timer_queue.proofs.AllDue.{Takes}
-use Rattle.timer_queue.proofs.queue.take_all_due.Given as goal
+use Rattle.scheduler.proofs.AllDue.{Takes}
+use Rattle.scheduler.proofs.timer_queue.take_all_due.Given as goal
 
 abbrev pub invariant-loop-timer : goal.invariant-loop-timer
 invariant-loop-timer g l = record {

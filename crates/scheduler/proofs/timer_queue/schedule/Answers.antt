@@ -1,5 +1,5 @@
 use Rattle.ic_rbtree.proofs.SortedKeys.{sorted_inserted}
-use Rattle.timer_queue.proofs.queue.schedule.Goals as goal
+use Rattle.scheduler.proofs.timer_queue.schedule.Goals as goal
 
 pub returns-clause-queue : goal.returns-clause-queue
 returns-clause-queue g c =

@@ -6,11 +6,11 @@ use Rattle.ic_link_ops.proofs.Positions.{stands_first}
 use Rattle.ic_link_ops.proofs.ShownTrees.{one_sequence}
 use Rattle.ic_rbtree.specs.CursorMut.{site_of}
 use Rattle.ic_rbtree.specs.SortedObjects.{ShowsSorted}
-use Rattle.timer_queue.specs.Timers.{due}
+use Rattle.scheduler.specs.Timers.{due}
 use Rattle.ic_rbtree.proofs.SortedKeys.{sorted_taken}
 use Rattle.ic_rbtree.proofs.Passing.{passes_there}
-use Rattle.timer_queue.proofs.TakingDue.{taken_earliest, all_wait, none_waits}
-use Rattle.timer_queue.proofs.queue.take_due.Goals as goal
+use Rattle.scheduler.proofs.TakingDue.{taken_earliest, all_wait, none_waits}
+use Rattle.scheduler.proofs.timer_queue.take_due.Goals as goal
 
 pub remove-requires : goal.remove-requires
 remove-requires g c =

@@ -16,7 +16,7 @@ use Rattle.ic_rbtree.specs.Members.{members}
 use Rattle.ic_rbtree.proofs.Members.{members_shown}
 use Rattle.ic_rbtree.proofs.Passing.{passed}
 use Rattle.ic_rbtree.specs.SortedObjects.{key_at, key_or}
-use Rattle.timer_queue.specs.Timers.{due, is_due, StandsFirst}
+use Rattle.scheduler.specs.Timers.{due, is_due, StandsFirst}
 
 due_is : {T : Type 0} (deadline : T → ℕ) (now : ℕ) (o : Option T) → due deadline now o ≡ true → key_or deadline o ≤ now
 due_is deadline now None e = absurd (true≢false (sym e))

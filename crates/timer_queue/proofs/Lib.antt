@@ -1,4 +1,0 @@
-pub mod AllDue
-pub mod KeptValues
-pub mod Outcomes
-pub mod TakingDue
