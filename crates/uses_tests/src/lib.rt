@@ -1,12 +1,18 @@
-//! Each use of the collections, run once.
+//! The uses: the scheduler, the cache and the allocator by worked rows of calls, and each smaller use once.
 #![tactic(auto)]
 
+#[cfg(test)]
+mod cache;
 #[cfg(test)]
 mod fixtures;
 #[cfg(test)]
 mod lists;
 #[cfg(test)]
 mod pools;
+#[cfg(test)]
+mod regions;
+#[cfg(test)]
+mod schedule;
 #[cfg(test)]
 mod threads;
 #[cfg(test)]

@@ -1,6 +1,6 @@
 //! The worked rows: calls, and what they answer.
 
-use crate::calls::{Answer, Call, make};
+use crate::schedule::calls::{Answer, Call, make};
 use ic_test_support::rationed::Rationed;
 use scheduler::Scheduler;
 use std::alloc::{Allocator, Global};

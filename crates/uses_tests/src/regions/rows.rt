@@ -1,6 +1,6 @@
 //! The worked rows: calls, and what they answer.
 
-use crate::calls::{Answer, Call, make};
+use crate::regions::calls::{Answer, Call, make};
 use ic_test_support::rationed::Rationed;
 use region_allocator::{FreeError, RegionAllocator};
 use std::alloc::{Allocator, Global};

@@ -1,7 +1,7 @@
 //! A plain scheduler, slow and by scans, and calls that look random beside it.
 
-use crate::calls::{Answer, Call, make};
-use crate::random::Random;
+use crate::schedule::calls::{Answer, Call, make};
+use crate::schedule::random::Random;
 use scheduler::Scheduler;
 
 // A task, as it was added.

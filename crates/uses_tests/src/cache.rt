@@ -1,0 +1,4 @@
+//! The cache: its worked rows, with ample memory and with each request refused in turn.
+
+mod calls;
+mod rows;
