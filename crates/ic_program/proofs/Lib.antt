@@ -1,3 +1,4 @@
+mod Digits
 pub mod Decimals
 pub mod Taking
 pub mod Answering

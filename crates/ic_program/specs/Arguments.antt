@@ -3,7 +3,7 @@ use Rattle.std.specs.Prelude.{◌≡◌, ◌≤◌, List, [], ◌∷◌, String,
 use Rattle.std.specs.String.{string_bytes}
 use Rattle.std.specs.Str.Parse.{digits_value}
 use Rattle.ic_program.specs.declared.workers.Workers.{Workers}
-use Rattle.ic_commands.specs.Number.{IsNumber}
+use Rattle.ic_program.specs.Number.{IsNumber}
 
 -- the words are `workers W N`, of 1 to 64 workers and at most 1,000,000 places
 abbrev pub AskFor : {Z : Type 0} → List (String Z) → Workers → Type 0

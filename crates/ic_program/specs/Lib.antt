@@ -1,3 +1,5 @@
+pub mod Number
+pub mod Words
 pub mod Line
 pub mod Arguments
 pub mod Printed

@@ -15,6 +15,7 @@ mod names;
 mod own_key;
 mod program;
 mod session;
+mod word;
 mod words;
 mod workers;
 

@@ -1,4 +1,4 @@
-//! The words of lines, and what single words say.
+//! The words of lines, one behind the other.
 //!
 //! ```text
 //! let mut words = Words::of(b"push_back 0 3\npop_front 0\n");
@@ -12,8 +12,8 @@ ghost use Rattle.std.specs.Prelude.{◌≡◌, ◌<◌, ◌≤◌, ℕ, List, le
 ghost use Rattle.std.specs.Bool.{OnTrue, OnFalse};
 ghost use Rattle.ic_program.specs.Line.{behind_spaces, IsLineEnd};
 
+use crate::word::{bound, kind, leading_number, neighbor};
 use ic_any_table::Kind;
-use ic_commands::{bound, kind, leading_number, neighbor};
 use ic_rbtree::Bound;
 use ic_unsafe_ref::Place;
 

@@ -12,8 +12,8 @@ ghost use Rattle.ic_program.specs.Printed.{items_of, worker_line, workers_text};
 ghost use Rattle.ic_program.specs.Shared.{HaveShared};
 
 use crate::fault::Fault;
+use crate::word::number;
 use ic_atomic::Gate;
-use ic_commands::number;
 use ic_unsafe_ref::Place;
 use ic_workers::{doubles, fan_out};
 use std::alloc::Allocator;

@@ -7,7 +7,7 @@ use Rattle.std.proofs.lemmas.List.Sums.{take_while-cons, prefix_len-drop_yes}
 use Rattle.std.proofs.lemmas.List.{take-take}
 use Rattle.std.proofs.lemmas.Int.Digits.{digits_value_more}
 use Rattle.std.proofs.lemmas.Str.Parse.{digits_value-take-le}
-use Rattle.ic_commands.specs.Number.{IsNumber, leading_digits}
+use Rattle.ic_program.specs.Number.{IsNumber, leading_digits}
 
 is_small : (c : ℕ) → is_ascii_digit c ≡ true → digit_value c < 10
 is_small c digit = grind (arith, digit)

@@ -1,4 +1,4 @@
-//! What the words of a line say: a number, the place of an object, a kind, a bound of keys, a neighbor.
+//! What a single word of a line says: a number, the place of an object, a kind, a bound of keys, a neighbor.
 //!
 //! ```text
 //! number(b"0042")      // Some(42)
@@ -7,7 +7,6 @@
 //! bound(b"included:7") // Some(Bound::Included(7))
 //! neighbor(b"none")    // Some(None): none stands there
 //! ```
-#![tactic(auto)]
 
 ghost use Rattle.std.specs.Prelude.{◌≡◌, ◌≢◌, ◌<◌, ◌≤◌, ◌↔◌, ◌^◌, ℕ, Option, IsSome, IfSome, IfNone, length};
 ghost use Rattle.std.specs.Str.Parse.{digits_value};
@@ -15,9 +14,8 @@ ghost use Rattle.ic_unsafe_ref.specs.declared.place.Place.{Place};
 ghost use Rattle.ic_unsafe_ref.specs.Places.{index_of};
 ghost use Rattle.ic_rbtree.specs.declared.keys.key_adapter.Bound.{Bound};
 ghost use Rattle.ic_any_table.specs.declared.kind.Kind.{Kind};
-ghost use Rattle.ic_commands.specs.Number.{IsNumber, MoreDigits, leading_digits};
-ghost use Rattle.ic_commands.specs.KindNames.{name_of};
-ghost use Rattle.ic_commands.specs.Words.{IsBound, IsNeighbor};
+ghost use Rattle.ic_program.specs.Number.{IsNumber, MoreDigits, leading_digits};
+ghost use Rattle.ic_program.specs.Words.{name_of, IsBound, IsNeighbor};
 
 use ic_any_table::Kind;
 use ic_rbtree::Bound;
@@ -27,7 +25,7 @@ use ic_unsafe_ref::Place;
 const MOST_DIGITS: usize = 20;
 
 /// The kind of that name: `singly`, `doubly`, `xor` or `tree`. `None` of any other word.
-pub fn kind(word: &[u8]) -> Option<Kind>
+pub(crate) fn kind(word: &[u8]) -> Option<Kind>
     ensures named { IfSome result (λ kind. word.now ≡ name_of kind) }
     ensures none { IfNone result ((kind : Kind) → word.now ≢ name_of kind) }
 {
@@ -41,7 +39,7 @@ pub fn kind(word: &[u8]) -> Option<Kind>
 }
 
 /// The bound of keys that a word says: `included:K`, `excluded:K` or `unbounded`, K a number. `None` of any other word. O(bytes).
-pub fn bound(word: &[u8]) -> Option<Bound<u64>>
+pub(crate) fn bound(word: &[u8]) -> Option<Bound<u64>>
     ensures said { IfSome result (IsBound word.now) }
     ensures none { IfNone result ((bound : Bound ℕ) → IsBound word.now bound → ⊥) }
 {
@@ -59,7 +57,7 @@ pub fn bound(word: &[u8]) -> Option<Bound<u64>>
 
 /// The neighbor that a word says: an object, by its number, or none beyond an end, which is `none`. The outer `None` is the answer of any
 /// other word. O(bytes).
-pub fn neighbor(word: &[u8]) -> Option<Option<Place>>
+pub(crate) fn neighbor(word: &[u8]) -> Option<Option<Place>>
     ensures said { IfSome result (IsNeighbor word.now) }
     ensures none { IfNone result ((neighbor : Option Place) → IsNeighbor word.now neighbor → ⊥) }
 {
@@ -69,16 +67,16 @@ pub fn neighbor(word: &[u8]) -> Option<Option<Place>>
     }
 }
 
-/// The place of an object, which need not be there: its number is below 4,294,967,296. `None` of any other word.
-pub fn place(word: &[u8]) -> Option<Place>
+// The place of an object, which need not be there: its number is below 4,294,967,296. `None` of any other word.
+fn place(word: &[u8]) -> Option<Place>
     ensures valid { IsSome result ↔ (IsNumber word.now × (digits_value 10 word.now < 2 ^ 32)) }
     ensures value { IfSome result (λ place. index_of place ≡ digits_value 10 word.now) }
 {
     Place::new(index(word)?)
 }
 
-/// The number of a field, a collection or an object, which need not be there. `None` of a word that is no number.
-pub fn index(word: &[u8]) -> Option<usize>
+// The number of a field, a collection or an object, which need not be there. `None` of a word that is no number.
+fn index(word: &[u8]) -> Option<usize>
     ensures valid { IsSome result ↔ IsNumber word.now }
     ensures value { IfSome result (λ index. index ≡ digits_value 10 word.now) }
 {
@@ -86,7 +84,7 @@ pub fn index(word: &[u8]) -> Option<usize>
 }
 
 /// The value of 1 to 20 decimal digits, where it is below 2^64. `None` of any other word, one with a sign too. O(digits).
-pub fn number(word: &[u8]) -> Option<u64>
+pub(crate) fn number(word: &[u8]) -> Option<u64>
     ensures valid { IsSome result ↔ IsNumber word.now }
     ensures value { IfSome result (λ number. number ≡ digits_value 10 word.now) }
 {
@@ -99,7 +97,7 @@ pub fn number(word: &[u8]) -> Option<u64>
 /// The number that the leading digits of a text write, and how many these are. `None` where they are no number: there are none, more than 20,
 /// or their value is 2^64 or more. O(digits).
 #[inline]
-pub fn leading_number(text: &[u8]) -> Option<(u64, usize)>
+pub(crate) fn leading_number(text: &[u8]) -> Option<(u64, usize)>
     ensures valid { IsSome result ↔ IsNumber (leading_digits text.now) }
     ensures value { IfSome result (λ read. read.0 ≡ digits_value 10 (leading_digits text.now)) }
     ensures digits { IfSome result (λ read. read.1 ≡ length (leading_digits text.now)) }

@@ -1,11 +1,20 @@
--- The words that say an end of keys, and who stands beside a member.
+-- The words that say a kind, an end of keys, and who stands beside a member.
 use Rattle.std.specs.Prelude.{◌≡◌, ℕ, ◌++◌, ◌<◌, ◌^◌, List, Option, Some, None, codes}
 use Rattle.std.specs.Str.Parse.{digits_value}
 use Rattle.ic_unsafe_ref.specs.declared.place.Place.{Place}
 use Rattle.ic_unsafe_ref.specs.Places.{index_of}
 use Rattle.ic_rbtree.specs.declared.keys.key_adapter.Bound.{Bound}
 use Rattle.ic_rbtree.specs.declared.keys.key_adapter.Bound.TheVariants.{Included, Excluded, Unbounded}
-use Rattle.ic_commands.specs.Number.{IsNumber}
+use Rattle.ic_any_table.specs.declared.kind.Kind.{Kind}
+use Rattle.ic_any_table.specs.declared.kind.Kind.TheVariants.{Singly, Doubly, Xor, Tree}
+use Rattle.ic_program.specs.Number.{IsNumber}
+
+-- THE WORD OF A KIND
+abbrev pub name_of : Kind → List ℕ
+name_of Singly = codes "singly"
+name_of Doubly = codes "doubly"
+name_of Xor = codes "xor"
+name_of Tree = codes "tree"
 
 -- the word writes that number
 abbrev pub IsNumberOf : List ℕ → ℕ → Type 0

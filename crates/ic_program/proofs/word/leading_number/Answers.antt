@@ -1,7 +1,7 @@
 use Rattle.std.proofs.Common.{rules, arith, sym, ◌∙◌}
 use Rattle.std.proofs.lemmas.Grind.{common_steps}
-use Rattle.ic_commands.proofs.Digits.{all_leading, read_more, no_number}
-use Rattle.ic_commands.proofs.leading_number.Goals as goal
+use Rattle.ic_program.proofs.Digits.{all_leading, read_more, no_number}
+use Rattle.ic_program.proofs.word.leading_number.Goals as goal
 
 pub returns-in_err-number-clause-valid : goal.returns-in_err-number-clause-valid
 returns-in_err-number-clause-valid c =

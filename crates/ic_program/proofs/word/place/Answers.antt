@@ -1,7 +1,7 @@
 use Rattle.std.proofs.Common.{◌≡◌, ℕ, ◌<◌, ◌≤◌, Option, Some, None, IsSome, MatchOption, arith, refl, rules}
 use Rattle.ic_unsafe_ref.specs.declared.place.Place.{Place}
 use Rattle.ic_unsafe_ref.specs.Places.{index_of}
-use Rattle.ic_commands.proofs.place.Goals as goal
+use Rattle.ic_program.proofs.word.place.Goals as goal
 
 -- a place is found just where the index is below 2 ^ 32
 found : (r : Option Place) (n : ℕ) → MatchOption r (4294967296 ≤ n) (λ p. (index_of p ≡ n) × n < 4294967296) → (IsSome r → n < 4294967296) × (n < 4294967296 → IsSome r)
