@@ -12,8 +12,8 @@ use Rattle.ic_link_ops.specs.Tables.{Table, KeepsBeside, IsLinked}
 use Rattle.ic_link_ops.specs.LinkSteps.{LinkStep, Replays, acquires}
 use Rattle.ic_link_ops.specs.Positions.{site}
 use Rattle.ic_link_ops.specs.EditsAt.{InsertsBeside, RemovesThere, RemovesNext, ReplacesThere, ReplacesNext}
-use Rattle.ic_any_table.specs.declared.entry.Entry.{Entry}
-use Rattle.ic_any_table.specs.Entries.{is_linked}
+use Rattle.ic_any_collection.specs.declared.entry.Entry.{Entry}
+use Rattle.ic_any_collection.specs.Entries.{is_linked}
 use Rattle.ic_any_collection.specs.declared.members.Members.{Members}
 use Rattle.ic_any_collection.specs.Members.{cursor_in, members_in, Held}
 use Rattle.ic_any_collection.specs.Edits.{AtGap, Leaves, Moves, Puts, Takes, Swaps}

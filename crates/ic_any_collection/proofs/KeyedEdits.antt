@@ -16,8 +16,8 @@ use Rattle.ic_rbtree.specs.Borders.{IsBorder, Finds, less_at, equal_at, if_passe
 use Rattle.ic_rbtree.specs.Ordered.{InsertsInOrder}
 use Rattle.ic_rbtree.specs.Tree.{root_of}
 use Rattle.ic_rbtree.specs.declared.tree.RBTree.{RBTree}
-use Rattle.ic_any_table.specs.declared.entry.Entry.{Entry}
-use Rattle.ic_any_table.specs.Entries.{is_linked, node}
+use Rattle.ic_any_collection.specs.declared.entry.Entry.{Entry}
+use Rattle.ic_any_collection.specs.Entries.{is_linked, node}
 use Rattle.ic_any_collection.specs.declared.unkeyed.Unkeyed.{Unkeyed}
 use Rattle.ic_any_collection.specs.declared.members.Members.{Members}
 use Rattle.ic_any_collection.specs.declared.members.Members.TheVariants.{Tree}

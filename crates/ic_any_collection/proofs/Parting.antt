@@ -14,8 +14,8 @@ use Rattle.ic_linked_list.specs.CursorOwning as doubly_cursor
 use Rattle.ic_singly_linked_list.specs.CursorOwning as singly_cursor
 use Rattle.ic_xor_linked_list.specs.CursorOwning as xor_cursor
 use Rattle.ic_xor_linked_list.specs.Position.{null_of}
-use Rattle.ic_any_table.specs.declared.entry.Entry.{Entry}
-use Rattle.ic_any_table.specs.Entries.{is_linked, neighbors, successor, Joins}
+use Rattle.ic_any_collection.specs.declared.entry.Entry.{Entry}
+use Rattle.ic_any_collection.specs.Entries.{is_linked, neighbors, successor, Joins}
 use Rattle.ic_any_collection.specs.declared.members.Members.{Members}
 use Rattle.ic_any_collection.specs.declared.members.Members.TheVariants.{Singly, Doubly, Xor}
 use Rattle.ic_any_collection.specs.Members.{IsAt, IsAtBefore, ShowsIn, StandsIn, cursor_in, Keeps, Alike}

@@ -8,8 +8,8 @@ use Rattle.ic_link_ops.proofs.CollectionLaws.{one_sequence_is_shown}
 use Rattle.ic_link_ops.proofs.SequenceLemmas.{gap_before}
 use Rattle.ic_xor_linked_list.specs.CursorOwning as xor_cursor
 use Rattle.ic_xor_linked_list.proofs.Standing.{stands_before}
-use Rattle.ic_any_table.specs.declared.entry.Entry.{Entry}
-use Rattle.ic_any_table.specs.Entries.{is_linked, Joins}
+use Rattle.ic_any_collection.specs.declared.entry.Entry.{Entry}
+use Rattle.ic_any_collection.specs.Entries.{is_linked, Joins}
 use Rattle.ic_any_collection.specs.declared.members.Members.{Members}
 use Rattle.ic_any_collection.specs.declared.members.Members.TheVariants.{Singly, Doubly, Xor, Tree}
 use Rattle.ic_any_collection.specs.Members.{IsAt, IsAtBefore, StandsIn, cursor_in, members_in, Held}

@@ -13,10 +13,10 @@ use Rattle.ic_rbtree.specs.Tree.{root_of}
 use Rattle.ic_xor_linked_list.specs.Position.{null_of}
 use Rattle.ic_xor_linked_list.specs.Turned.{turned}
 use Rattle.ic_xor_linked_list.proofs.Reversing.{reversed_is_shown}
-use Rattle.ic_any_table.specs.declared.entry.Entry.{Entry}
-use Rattle.ic_any_table.specs.declared.kind.Kind.TheVariants as kind
-use Rattle.ic_any_table.specs.Kinds.{carries}
-use Rattle.ic_any_table.specs.Entries.{kind_of, is_linked, Joins}
+use Rattle.ic_any_collection.specs.declared.entry.Entry.{Entry}
+use Rattle.ic_any_collection.specs.declared.kind.Kind.TheVariants as kind
+use Rattle.ic_any_collection.specs.Kinds.{carries}
+use Rattle.ic_any_collection.specs.Entries.{kind_of, is_linked, Joins}
 use Rattle.ic_any_collection.specs.declared.unkeyed.Unkeyed.{Unkeyed}
 use Rattle.ic_any_collection.specs.declared.members.Members.TheVariants.{Singly, Doubly, Xor, Tree}
 use Rattle.ic_any_collection.specs.Members.{Keeps}

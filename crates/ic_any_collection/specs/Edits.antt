@@ -4,10 +4,10 @@ use Rattle.ic_unsafe_ref.specs.declared.place.Place.{Place}
 use Rattle.ic_link_ops.specs.Sequences.{Cut, join, insert, remove, replace, splice, first}
 use Rattle.ic_link_ops.specs.Tables.{Table, KeepsBeside, KeepsLinked, LinksAlso, Unlinks}
 use Rattle.ic_link_ops.specs.LinkSteps.{Replays, acquires, releases, releases_each}
-use Rattle.ic_any_table.specs.declared.entry.Entry.{Entry}
-use Rattle.ic_any_table.specs.declared.field.Field.{Field}
-use Rattle.ic_any_table.specs.Entries.{is_linked}
-use Rattle.ic_any_table.specs.Fields.{look}
+use Rattle.ic_any_collection.specs.declared.entry.Entry.{Entry}
+use Rattle.ic_any_collection.specs.declared.field.Field.{Field}
+use Rattle.ic_any_collection.specs.Entries.{is_linked}
+use Rattle.ic_any_collection.specs.Fields.{look}
 use Rattle.ic_any_collection.specs.declared.members.Members.{Members}
 use Rattle.ic_any_collection.specs.Members.{cursor_in, members_in, Keeps, Alike}
 

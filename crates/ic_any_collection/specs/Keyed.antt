@@ -10,7 +10,7 @@ use Rattle.ic_rbtree.specs.declared.keys.probe.KeyProbe.{KeyProbe}
 pub use Rattle.ic_rbtree.specs.Comparing.{FewLooks}
 use Rattle.ic_rbtree.specs.KeyProbe.{looks_of}
 use Rattle.ic_rbtree.specs.Borders.{IsBorder, less_at, at_most_at}
-use Rattle.ic_any_table.specs.declared.entry.Entry.{Entry}
+use Rattle.ic_any_collection.specs.declared.entry.Entry.{Entry}
 use Rattle.ic_any_collection.specs.declared.members.Members.{Members}
 use Rattle.ic_any_collection.specs.Members.{members_in}
 use Rattle.ic_any_collection.specs.Edits.{AtGap, Puts}

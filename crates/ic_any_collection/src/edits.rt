@@ -13,12 +13,11 @@ ghost use Rattle.ic_unsafe_ref.specs.declared.place.Place.{Place};
 ghost use Rattle.ic_link_ops.specs.Sequences.{first, last, at_front, at_back, IsAfter, IsBefore};
 ghost use Rattle.ic_link_ops.specs.Errors.{ByCause};
 ghost use Rattle.ic_link_ops.specs.Tables.{Table, IsCovered, IsLinked};
-ghost use Rattle.ic_any_table.specs.declared.entry.Entry.{Entry};
-ghost use Rattle.ic_any_table.specs.Entries.{is_linked};
-ghost use Rattle.ic_any_table.specs.Fields.{look};
+ghost use Rattle.ic_any_collection.specs.declared.entry.Entry.{Entry};
+ghost use Rattle.ic_any_collection.specs.Entries.{is_linked};
+ghost use Rattle.ic_any_collection.specs.Fields.{look};
 
-use crate::Members;
-use ic_any_table::{Field, TwoWay};
+use crate::{Field, Members, TwoWay};
 use ic_link_ops::ReplaceError;
 use ic_unsafe_ref::{Place, UnsafeRef};
 use std::alloc::Allocator;

@@ -8,12 +8,12 @@
 ghost use Rattle.std.specs.Prelude.{◌≡◌, List, None, [], true};
 ghost use Rattle.ic_unsafe_ref.specs.declared.place.Place.{Place};
 ghost use Rattle.ic_link_ops.specs.Tables.{Table};
-ghost use Rattle.ic_any_table.specs.declared.entry.Entry.{Entry};
-ghost use Rattle.ic_any_table.specs.Kinds.{carries};
-ghost use Rattle.ic_any_table.specs.Entries.{kind_of};
+ghost use Rattle.ic_any_collection.specs.declared.entry.Entry.{Entry};
+ghost use Rattle.ic_any_collection.specs.Kinds.{carries};
+ghost use Rattle.ic_any_collection.specs.Entries.{kind_of};
 
+use crate::kind::Kind;
 use crate::unkeyed::Unkeyed;
-use ic_any_table::Kind;
 use ic_linked_list::LinkedList;
 use ic_rbtree::RBTree;
 use ic_singly_linked_list::SinglyLinkedList;

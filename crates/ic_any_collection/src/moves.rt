@@ -9,11 +9,10 @@ ghost use Rattle.std.specs.Prelude.{◌≡◌, List, Some, None, true, ◌++◌,
 ghost use Rattle.ic_unsafe_ref.specs.declared.place.Place.{Place};
 ghost use Rattle.ic_link_ops.specs.Sequences.{first, last, IsAfter, IsBefore};
 ghost use Rattle.ic_link_ops.specs.Tables.{Table};
-ghost use Rattle.ic_any_table.specs.declared.entry.Entry.{Entry};
-ghost use Rattle.ic_any_table.specs.Fields.{look};
+ghost use Rattle.ic_any_collection.specs.declared.entry.Entry.{Entry};
+ghost use Rattle.ic_any_collection.specs.Fields.{look};
 
-use crate::Members;
-use ic_any_table::{Field, TwoWay};
+use crate::{Field, Members, TwoWay};
 use ic_link_ops::End;
 use ic_unsafe_ref::{Place, UnsafeRef};
 use std::alloc::Allocator;

@@ -9,11 +9,10 @@ ghost use Rattle.std.specs.Prelude.{◌≡◌, ◌↔◌, List, Option, Some, No
 ghost use Rattle.ic_unsafe_ref.specs.declared.place.Place.{Place};
 ghost use Rattle.ic_link_ops.specs.Sequences.{Cut, join, first, last, IsAfter, IsBefore, IsMember, IsAbsent};
 ghost use Rattle.ic_link_ops.specs.Tables.{IsCovered};
-ghost use Rattle.ic_any_table.specs.Fields.{look};
+ghost use Rattle.ic_any_collection.specs.Fields.{look};
 
-use crate::Members;
 use crate::moves::object_of;
-use ic_any_table::{Field, TwoWay};
+use crate::{Field, Members, TwoWay};
 use ic_unsafe_ref::{Place, UnsafeRef};
 use std::alloc::{AllocError, Allocator};
 

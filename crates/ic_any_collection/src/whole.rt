@@ -12,12 +12,11 @@ ghost use Rattle.ic_unsafe_ref.specs.declared.place.Place.{Place};
 ghost use Rattle.ic_link_ops.specs.Sequences.{join, IsAfter, IsBefore, IsDisjoint};
 ghost use Rattle.ic_link_ops.specs.Tables.{Table, KeepsBeside};
 ghost use Rattle.ic_link_ops.specs.LinkSteps.{Replays, releases_each};
-ghost use Rattle.ic_any_table.specs.Entries.{is_linked};
-ghost use Rattle.ic_any_table.specs.declared.entry.Entry.{Entry};
-ghost use Rattle.ic_any_table.specs.Fields.{look};
+ghost use Rattle.ic_any_collection.specs.Entries.{is_linked};
+ghost use Rattle.ic_any_collection.specs.declared.entry.Entry.{Entry};
+ghost use Rattle.ic_any_collection.specs.Fields.{look};
 
-use crate::Members;
-use ic_any_table::{Field, TwoWay};
+use crate::{Field, Members, TwoWay};
 use std::alloc::Allocator;
 use std::mem;
 

@@ -5,8 +5,8 @@ use Rattle.ic_unsafe_ref.specs.declared.place.Place.{Place}
 use Rattle.ic_unsafe_ref.specs.Places.{index_of}
 use Rattle.ic_rbtree.specs.declared.keys.key_adapter.Bound.{Bound}
 use Rattle.ic_rbtree.specs.declared.keys.key_adapter.Bound.TheVariants.{Included, Excluded, Unbounded}
-use Rattle.ic_any_table.specs.declared.kind.Kind.{Kind}
-use Rattle.ic_any_table.specs.declared.kind.Kind.TheVariants.{Singly, Doubly, Xor, Tree}
+use Rattle.ic_any_collection.specs.declared.kind.Kind.{Kind}
+use Rattle.ic_any_collection.specs.declared.kind.Kind.TheVariants.{Singly, Doubly, Xor, Tree}
 use Rattle.ic_program.specs.Number.{IsNumber}
 
 -- THE WORD OF A KIND

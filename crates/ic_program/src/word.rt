@@ -13,11 +13,11 @@ ghost use Rattle.std.specs.Str.Parse.{digits_value};
 ghost use Rattle.ic_unsafe_ref.specs.declared.place.Place.{Place};
 ghost use Rattle.ic_unsafe_ref.specs.Places.{index_of};
 ghost use Rattle.ic_rbtree.specs.declared.keys.key_adapter.Bound.{Bound};
-ghost use Rattle.ic_any_table.specs.declared.kind.Kind.{Kind};
+ghost use Rattle.ic_any_collection.specs.declared.kind.Kind.{Kind};
 ghost use Rattle.ic_program.specs.Number.{IsNumber, MoreDigits, leading_digits};
 ghost use Rattle.ic_program.specs.Words.{name_of, IsBound, IsNeighbor};
 
-use ic_any_table::Kind;
+use ic_any_collection::Kind;
 use ic_rbtree::Bound;
 use ic_unsafe_ref::Place;
 

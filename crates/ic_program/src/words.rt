@@ -13,7 +13,7 @@ ghost use Rattle.std.specs.Bool.{OnTrue, OnFalse};
 ghost use Rattle.ic_program.specs.Line.{behind_spaces, IsLineEnd};
 
 use crate::word::{bound, kind, leading_number, neighbor};
-use ic_any_table::Kind;
+use ic_any_collection::Kind;
 use ic_rbtree::Bound;
 use ic_unsafe_ref::Place;
 

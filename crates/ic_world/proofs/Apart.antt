@@ -6,7 +6,7 @@ use Rattle.ic_link_ops.specs.Sequences.{IsDistinct, IsDisjoint}
 use Rattle.ic_link_ops.specs.PlacedObjects.{ArePlaced}
 use Rattle.ic_link_ops.specs.Tables.{Table}
 use Rattle.ic_link_ops.proofs.SequenceLemmas.{some_same}
-use Rattle.ic_any_table.specs.declared.entry.Entry.{Entry}
+use Rattle.ic_any_collection.specs.declared.entry.Entry.{Entry}
 use Rattle.ic_any_collection.proofs.AllKinds.{distinct}
 use Rattle.ic_world.specs.declared.collection.Collection.{Collection}
 use Rattle.ic_world.specs.Tables.{table, sequence, seen_as, shown_as, at, family_of, IsWhole}

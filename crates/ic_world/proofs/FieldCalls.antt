@@ -14,10 +14,10 @@ use Rattle.ic_unsafe_ref.specs.Objects.{is_placed as place_is_placed}
 use Rattle.ic_unsafe_ref.proofs.PlaceLemmas.{same_index}
 use Rattle.ic_link_ops.specs.Sequences.{IsAbsent, IsMember}
 use Rattle.ic_link_ops.specs.Tables.{IsCovered, IsUnlinked, ChangesOnly}
-use Rattle.ic_any_table.specs.declared.field.Field.{Field}
-use Rattle.ic_any_table.specs.Fields.{look}
+use Rattle.ic_any_collection.specs.declared.field.Field.{Field}
+use Rattle.ic_any_collection.specs.Fields.{look}
 use Rattle.ic_world.specs.declared.field.WorldField.{WorldField}
-use Rattle.ic_any_table.specs.Entries.{is_linked}
+use Rattle.ic_any_collection.specs.Entries.{is_linked}
 use Rattle.ic_any_collection.specs.Members.{Held, members_in}
 use Rattle.ic_any_collection.proofs.AllKinds.{lawful as lawful_field, unlinked_absent}
 use Rattle.ic_world.specs.declared.collection.Collection.{Collection}

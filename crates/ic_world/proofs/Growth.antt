@@ -12,12 +12,12 @@ use Rattle.ic_unsafe_ref.proofs.PlaceLemmas.{same_index}
 use Rattle.ic_link_ops.specs.Sequences.{IsAbsent}
 use Rattle.ic_link_ops.specs.Tables.{Table, Extent, IsCovered, IsUnlinked, ChangesOnly, KeepsBeside}
 use Rattle.ic_link_ops.proofs.SequenceLemmas.{disjoint_cons}
-use Rattle.ic_any_table.specs.declared.entry.Entry.{Entry}
-use Rattle.ic_any_table.specs.declared.field.Field.{Field}
-use Rattle.ic_any_table.specs.declared.kind.Kind.{Kind}
-use Rattle.ic_any_table.specs.Fields.{look}
-use Rattle.ic_any_table.specs.Kinds.{kind_with}
-use Rattle.ic_any_table.specs.Entries.{is_linked, kind_of}
+use Rattle.ic_any_collection.specs.declared.entry.Entry.{Entry}
+use Rattle.ic_any_collection.specs.declared.field.Field.{Field}
+use Rattle.ic_any_collection.specs.declared.kind.Kind.{Kind}
+use Rattle.ic_any_collection.specs.Fields.{look}
+use Rattle.ic_any_collection.specs.Kinds.{kind_with}
+use Rattle.ic_any_collection.specs.Entries.{is_linked, kind_of}
 use Rattle.ic_any_collection.specs.Members.{Keeps}
 use Rattle.ic_any_collection.proofs.AllKinds.{lawful as lawful_field}
 use Rattle.ic_any_collection.proofs.AllKinds.{IsLawful, one_sequence, shown_frame, keeps_frame}

@@ -9,9 +9,9 @@ use Rattle.ic_link_ops.specs.declared.errors.ReplaceError.TheVariants.{Null, Alr
 use Rattle.ic_link_ops.specs.Errors.{ByCause}
 use Rattle.ic_link_ops.specs.Sequences.{at_front, at_back, first, IsAfter, IsBefore}
 use Rattle.ic_link_ops.specs.Tables.{IsCovered, IsLinked, IsUnlinked}
-use Rattle.ic_any_table.specs.declared.field.Field.{Field}
-use Rattle.ic_any_table.specs.Fields.{look}
-use Rattle.ic_any_table.specs.Entries.{is_linked}
+use Rattle.ic_any_collection.specs.declared.field.Field.{Field}
+use Rattle.ic_any_collection.specs.Fields.{look}
+use Rattle.ic_any_collection.specs.Entries.{is_linked}
 use Rattle.ic_any_collection.specs.declared.members.Members.{Members}
 use Rattle.ic_any_collection.specs.Members.{cursor_in, members_in, Held}
 use Rattle.ic_any_collection.specs.Edits.{AtGap, Puts, Swaps, IsUnchanged}

@@ -6,9 +6,9 @@ use Rattle.ic_unsafe_ref.specs.Objects.{Objects}
 use Rattle.ic_link_ops.specs.Sequences.{Cut, join}
 use Rattle.ic_link_ops.specs.Tables.{IsLinked}
 use Rattle.ic_rbtree.specs.Borders.{Finds, IsBorder, less_at}
-use Rattle.ic_any_table.specs.declared.field.Field.{Field}
-use Rattle.ic_any_table.specs.Fields.{look}
-use Rattle.ic_any_table.specs.Entries.{is_linked}
+use Rattle.ic_any_collection.specs.declared.field.Field.{Field}
+use Rattle.ic_any_collection.specs.Fields.{look}
+use Rattle.ic_any_collection.specs.Entries.{is_linked}
 use Rattle.ic_any_collection.specs.declared.members.Members.{Members}
 use Rattle.ic_any_collection.specs.Members.{members_in, Held}
 use Rattle.ic_any_collection.specs.Edits.{AtGap, Moves, IsUnchanged}

@@ -12,8 +12,8 @@ use Rattle.ic_unsafe_ref.proofs.PlaceLemmas.{index_small, place_with, same_index
 use Rattle.ic_unsafe_ref.specs.Places.{place_at}
 use Rattle.ic_link_ops.specs.Sequences.{IsAbsent}
 use Rattle.ic_link_ops.specs.Tables.{Table, with_extent, IsCovered, LinksAlso, Unlinks}
-use Rattle.ic_any_table.specs.declared.entry.Entry.{Entry}
-use Rattle.ic_any_table.specs.Entries.{is_linked}
+use Rattle.ic_any_collection.specs.declared.entry.Entry.{Entry}
+use Rattle.ic_any_collection.specs.Entries.{is_linked}
 use Rattle.ic_any_collection.proofs.AllKinds.{IsLawful}
 use Rattle.ic_world.specs.Calls.{unlinked}
 use Rattle.ic_world.specs.LinkedSets.{linked_there, linked_index, linked_below, linked_in}

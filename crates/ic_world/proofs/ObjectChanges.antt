@@ -17,8 +17,8 @@ use Rattle.ic_unsafe_ref.specs.Objects.{Objects}
 use Rattle.ic_unsafe_ref.specs.Objects.{is_placed as place_is_placed}
 use Rattle.ic_unsafe_ref.proofs.PlaceLemmas.{same_index}
 use Rattle.ic_link_ops.specs.Tables.{Table}
-use Rattle.ic_any_table.specs.declared.entry.Entry.{Entry}
-use Rattle.ic_any_table.specs.Entries.{is_linked}
+use Rattle.ic_any_collection.specs.declared.entry.Entry.{Entry}
+use Rattle.ic_any_collection.specs.Entries.{is_linked}
 use Rattle.ic_world.specs.declared.field.WorldField.{WorldField}
 use Rattle.ic_any_collection.proofs.AllKinds.{lawful as lawful_field}
 use Rattle.ic_world.specs.declared.collection.Collection.{Collection}

@@ -10,11 +10,11 @@ use Rattle.ic_unsafe_ref.specs.declared.place.Place.{Place}
 use Rattle.ic_unsafe_ref.specs.Objects.{Objects}
 use Rattle.ic_link_ops.specs.Sequences.{IsDisjoint}
 use Rattle.ic_link_ops.specs.Tables.{Table}
-use Rattle.ic_any_table.specs.declared.entry.Entry.{Entry}
+use Rattle.ic_any_collection.specs.declared.entry.Entry.{Entry}
 use Rattle.ic_world.specs.declared.field.WorldField.{WorldField}
-use Rattle.ic_any_table.specs.declared.kind.Kind.{Kind}
-use Rattle.ic_any_table.specs.Kinds.{carries}
-use Rattle.ic_any_table.specs.Entries.{kind_of}
+use Rattle.ic_any_collection.specs.declared.kind.Kind.{Kind}
+use Rattle.ic_any_collection.specs.Kinds.{carries}
+use Rattle.ic_any_collection.specs.Entries.{kind_of}
 use Rattle.ic_world.specs.declared.collection.Collection.{Collection}
 use Rattle.ic_any_collection.specs.declared.members.Members.{Members}
 use Rattle.ic_world.specs.declared.call.Refusal.{Refusal}

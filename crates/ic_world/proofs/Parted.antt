@@ -4,8 +4,8 @@ use Rattle.ic_unsafe_ref.specs.declared.place.Place.{Place}
 use Rattle.ic_link_ops.specs.Sequences.{Cut, join, IsAfter, IsBefore, IsAbsent, IsDisjoint, IsDistinct}
 use Rattle.ic_link_ops.specs.Tables.{Table, KeepsBeside, KeepsLinked}
 use Rattle.ic_link_ops.proofs.SequenceLemmas.{absent_both, absent_left, absent_right, distinct_disjoint, disjoint_sym}
-use Rattle.ic_any_table.specs.declared.entry.Entry.{Entry}
-use Rattle.ic_any_table.specs.Entries.{is_linked}
+use Rattle.ic_any_collection.specs.declared.entry.Entry.{Entry}
+use Rattle.ic_any_collection.specs.Entries.{is_linked}
 use Rattle.ic_any_collection.specs.declared.members.Members.{Members}
 use Rattle.ic_any_collection.specs.Members.{cursor_in, members_in, Keeps, Held, Alike}
 use Rattle.ic_any_collection.specs.Edits.{Parts}

@@ -1,10 +1,10 @@
 -- A seek is a call that writes no table.
 use Rattle.std.proofs.Common.{◌≡◌, true, Some, Result, Ok, Err, refl}
 use Rattle.ic_unsafe_ref.specs.declared.place.Place.{Place}
-use Rattle.ic_any_table.specs.declared.kind.Kind.{Kind}
-use Rattle.ic_any_table.specs.declared.kind.Kind.TheVariants as kind
-use Rattle.ic_any_table.specs.declared.field.Field.{Field}
-use Rattle.ic_any_table.specs.Fields.{look}
+use Rattle.ic_any_collection.specs.declared.kind.Kind.{Kind}
+use Rattle.ic_any_collection.specs.declared.kind.Kind.TheVariants as kind
+use Rattle.ic_any_collection.specs.declared.field.Field.{Field}
+use Rattle.ic_any_collection.specs.Fields.{look}
 use Rattle.ic_any_collection.specs.declared.members.Members.{Members}
 use Rattle.ic_any_collection.specs.Members.{has_pointer, is_xor, Held}
 use Rattle.ic_any_collection.proofs.AllKinds.{lawful}

@@ -11,10 +11,10 @@ use Rattle.ic_unsafe_ref.specs.Objects.{Objects}
 use Rattle.ic_link_ops.specs.Sequences.{Cut, join, last, but_last, IsAbsent, IsMember}
 use Rattle.ic_link_ops.proofs.SequenceLemmas.{absent_left, absent_right, split_last}
 use Rattle.ic_link_ops.specs.Tables.{Table}
-use Rattle.ic_any_table.specs.declared.entry.Entry.{Entry}
-use Rattle.ic_any_table.specs.declared.kind.Kind.TheVariants.{Singly as SinglyKind}
-use Rattle.ic_any_table.specs.Entries.{is_linked}
-use Rattle.ic_any_table.specs.Kinds.{carries}
+use Rattle.ic_any_collection.specs.declared.entry.Entry.{Entry}
+use Rattle.ic_any_collection.specs.declared.kind.Kind.TheVariants.{Singly as SinglyKind}
+use Rattle.ic_any_collection.specs.Entries.{is_linked}
+use Rattle.ic_any_collection.specs.Kinds.{carries}
 use Rattle.ic_any_collection.specs.declared.members.Members.{Members}
 use Rattle.ic_any_collection.specs.declared.members.Members.TheVariants.{Singly, Doubly, Xor, Tree}
 use Rattle.ic_any_collection.specs.Members.{kind_in, cursor_in, StandsIn}

@@ -6,7 +6,7 @@ use Rattle.ic_unsafe_ref.specs.Objects.{Objects}
 use Rattle.ic_link_ops.specs.Sequences.{Cut, join, splice, IsDisjoint}
 use Rattle.ic_link_ops.specs.Tables.{Table}
 use Rattle.ic_link_ops.proofs.SequenceLemmas.{disjoint_sym, disjoint_both}
-use Rattle.ic_any_table.specs.declared.entry.Entry.{Entry}
+use Rattle.ic_any_collection.specs.declared.entry.Entry.{Entry}
 use Rattle.ic_any_collection.specs.declared.members.Members.{Members}
 use Rattle.ic_any_collection.specs.Members.{Alike, cursor_in}
 use Rattle.ic_any_collection.specs.Edits.{PutsAll}

@@ -8,9 +8,9 @@ use Rattle.ic_unsafe_ref.specs.declared.place.Place.{Place}
 use Rattle.ic_unsafe_ref.specs.Places.{index_of}
 use Rattle.ic_unsafe_ref.specs.Objects.{Objects}
 use Rattle.ic_link_ops.specs.Sequences.{first}
-use Rattle.ic_any_table.specs.declared.kind.Kind.{Kind}
-use Rattle.ic_any_table.specs.declared.kind.Kind.TheVariants.{Singly}
-use Rattle.ic_any_table.specs.Kinds.{number_of}
+use Rattle.ic_any_collection.specs.declared.kind.Kind.{Kind}
+use Rattle.ic_any_collection.specs.declared.kind.Kind.TheVariants.{Singly}
+use Rattle.ic_any_collection.specs.Kinds.{number_of}
 
 -- a field: the kind of its table, and its linked places by index
 pub record LinkField : Type 0 where

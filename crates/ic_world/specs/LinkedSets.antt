@@ -6,8 +6,8 @@ use Rattle.std.specs.FinSet as set
 use Rattle.ic_unsafe_ref.specs.declared.place.Place.{Place}
 use Rattle.ic_unsafe_ref.specs.Places.{place_at}
 use Rattle.ic_link_ops.specs.Tables.{Table}
-use Rattle.ic_any_table.specs.declared.entry.Entry.{Entry}
-use Rattle.ic_any_table.specs.Entries.{is_linked}
+use Rattle.ic_any_collection.specs.declared.entry.Entry.{Entry}
+use Rattle.ic_any_collection.specs.Entries.{is_linked}
 
 -- whether the place with an index is linked
 abbrev pub linked_there : Table Entry → Option Place → Bool

@@ -3,9 +3,9 @@ use Rattle.std.specs.Prelude.{◌≡◌, ℕ, ◌≤◌, ◌++◌, Bool, true, f
 use Rattle.ic_unsafe_ref.specs.declared.place.Place.{Place}
 use Rattle.ic_unsafe_ref.specs.Objects.{Objects, object_at, with_object, Places}
 use Rattle.ic_link_ops.specs.Tables.{Table}
-use Rattle.ic_any_table.specs.declared.entry.Entry.{Entry}
-use Rattle.ic_any_table.specs.declared.kind.Kind.{Kind}
-use Rattle.ic_any_table.specs.Entries.{is_linked, kind_of}
+use Rattle.ic_any_collection.specs.declared.entry.Entry.{Entry}
+use Rattle.ic_any_collection.specs.declared.kind.Kind.{Kind}
+use Rattle.ic_any_collection.specs.Entries.{is_linked, kind_of}
 use Rattle.ic_world.specs.declared.call.Refusal.{Refusal}
 use Rattle.ic_world.specs.declared.call.Refusal.TheVariants.{NoSuchObject, OutOfMemory}
 

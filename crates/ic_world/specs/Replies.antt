@@ -3,7 +3,7 @@ use Rattle.std.specs.Prelude.{Bool, ℕ, Option, Some, None, Result, Ok, Err}
 use Rattle.ic_unsafe_ref.specs.declared.place.Place.{Place}
 use Rattle.ic_link_ops.specs.declared.errors.ReplaceError.{ReplaceError}
 use Rattle.ic_link_ops.specs.declared.errors.ReplaceError.TheVariants.{Null, AlreadyLinked as Linked}
-use Rattle.ic_any_table.specs.declared.kind.Kind.{Kind}
+use Rattle.ic_any_collection.specs.declared.kind.Kind.{Kind}
 use Rattle.ic_world.specs.declared.call.Refusal.{Refusal}
 use Rattle.ic_world.specs.declared.call.Refusal.TheVariants.{NothingThere, AlreadyLinked}
 use Rattle.ic_world.specs.Calls.{Reply, entry, refused}

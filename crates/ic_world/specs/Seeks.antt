@@ -2,7 +2,7 @@
 use Rattle.std.specs.Prelude.{◌≡◌, Some, Result, OnOk, OnErr}
 use Rattle.ic_unsafe_ref.specs.declared.place.Place.{Place}
 use Rattle.ic_link_ops.specs.Tables.{Table}
-use Rattle.ic_any_table.specs.declared.entry.Entry.{Entry}
+use Rattle.ic_any_collection.specs.declared.entry.Entry.{Entry}
 use Rattle.ic_any_collection.specs.declared.members.Members.{Members}
 use Rattle.ic_any_collection.specs.Edits.{Moves}
 use Rattle.ic_world.specs.declared.call.Refusal.{Refusal}

@@ -3,8 +3,8 @@ use Rattle.std.specs.Prelude.{◌≡◌, ◌≢◌, ℕ, Bool, true, false, List
 use Rattle.ic_unsafe_ref.specs.declared.place.Place.{Place}
 use Rattle.ic_link_ops.specs.Sequences.{Cut, IsAfter, IsBefore, IsDisjoint}
 use Rattle.ic_link_ops.specs.Tables.{Table}
-use Rattle.ic_any_table.specs.declared.entry.Entry.{Entry}
-use Rattle.ic_any_table.specs.declared.kind.Kind.{Kind}
+use Rattle.ic_any_collection.specs.declared.entry.Entry.{Entry}
+use Rattle.ic_any_collection.specs.declared.kind.Kind.{Kind}
 use Rattle.ic_any_collection.specs.declared.members.Members.{Members}
 use Rattle.ic_any_collection.specs.Members.{is_list, is_two_way_list, kind_in, cursor_in, members_in, Keeps, Held, Alike}
 use Rattle.ic_any_collection.specs.Edits.{AtGap, PutsAll}

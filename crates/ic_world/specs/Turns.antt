@@ -3,10 +3,10 @@ use Rattle.std.specs.Prelude.{◌≡◌, ◌⊎◌, true, Option, Some, None, Li
 use Rattle.ic_unsafe_ref.specs.declared.place.Place.{Place}
 use Rattle.ic_link_ops.specs.Sequences.{IsAbsent, IsDisjoint}
 use Rattle.ic_link_ops.specs.Tables.{Table, KeepsBeside, KeepsLinked, IsUnlinked}
-use Rattle.ic_any_table.specs.declared.entry.Entry.{Entry}
-use Rattle.ic_any_table.specs.declared.field.Field.{Field}
-use Rattle.ic_any_table.specs.Fields.{look}
-use Rattle.ic_any_table.specs.Entries.{is_linked}
+use Rattle.ic_any_collection.specs.declared.entry.Entry.{Entry}
+use Rattle.ic_any_collection.specs.declared.field.Field.{Field}
+use Rattle.ic_any_collection.specs.Fields.{look}
+use Rattle.ic_any_collection.specs.Entries.{is_linked}
 use Rattle.ic_any_collection.specs.declared.members.Members.{Members}
 use Rattle.ic_any_collection.specs.Members.{kind_in, cursor_in, members_in, Held, Alike}
 use Rattle.ic_any_collection.specs.Edits.{IsUnchanged}

@@ -7,7 +7,7 @@
 ghost use Rattle.std.specs.Prelude.{◌≡◌, ⊤};
 ghost use Rattle.ic_world.specs.Refusals.{number_of};
 
-use ic_any_table::Kind;
+use ic_any_collection::Kind;
 use ic_rbtree::Bound;
 use ic_unsafe_ref::Place;
 use std::alloc::{AllocError, Allocator, Global};

@@ -8,7 +8,7 @@
 
 ghost use Rattle.std.specs.Prelude.{◌≡◌, true, None, map};
 ghost use Rattle.ic_link_ops.specs.Sequences.{IsDisjoint};
-ghost use Rattle.ic_any_table.specs.Fields.{look};
+ghost use Rattle.ic_any_collection.specs.Fields.{look};
 ghost use Rattle.ic_any_collection.specs.Members.{kind_in, members_in, Held};
 ghost use Rattle.ic_world.specs.Splices.{can_splice, PutsBeside, CanBeJoined, AreJoined};
 ghost use Rattle.ic_world.specs.Tables.{table_of, left_in};
@@ -20,8 +20,7 @@ use crate::calls::whole::Whole;
 use crate::collections_by_number::CollectionsByNumber;
 use crate::field::WorldField;
 use crate::part::Part;
-use ic_any_collection::Members;
-use ic_any_table::{Field, Kind};
+use ic_any_collection::{Field, Kind, Members};
 use ic_rbtree::KeyAdapter;
 use ic_unsafe_ref::Place;
 use std::alloc::Allocator;

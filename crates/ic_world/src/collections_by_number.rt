@@ -8,15 +8,14 @@
 
 ghost use Rattle.std.specs.Prelude.{◌≡◌, ◌<◌, ◌↔◌, [], length, map, slice_set, Some, None, IsSome, IsTrue, OnOk, vec_len};
 ghost use Rattle.ic_link_ops.specs.Tables.{IsCovered};
-ghost use Rattle.ic_any_table.specs.Fields.{look};
+ghost use Rattle.ic_any_collection.specs.Fields.{look};
 ghost use Rattle.ic_world.specs.Tables.{at};
 ghost use Rattle.ic_world.specs.Collections.{its_field, its_members, AreHeld, HasMember};
 ghost use Rattle.ic_world.specs.ByNumber.{items_of, IsTakenOut, Enters, HaveLists, EachHeld, SomeHas};
 ghost use Rattle.ic_world.specs.Pieces.{Appends};
 
 use crate::call::Refusal;
-use ic_any_collection::Members;
-use ic_any_table::Field;
+use ic_any_collection::{Field, Members};
 use ic_unsafe_ref::Place;
 use std::alloc::{AllocError, Allocator, Global};
 use std::marker::Model;

@@ -4,7 +4,7 @@
 //! let field = WorldField { links, left_linked: false };
 //! ```
 
-use ic_any_table::Field;
+use ic_any_collection::Field;
 use std::alloc::Allocator;
 
 /// The table of its links, and whether members were ever left linked in it, by `fast_clear`. Where none was, a linked object is a member.

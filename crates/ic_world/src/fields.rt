@@ -6,14 +6,14 @@
 //! ```
 
 ghost use Rattle.std.specs.Prelude.{◌≡◌, true, IfSome};
-ghost use Rattle.ic_any_table.specs.Fields.{look};
+ghost use Rattle.ic_any_collection.specs.Fields.{look};
 ghost use Rattle.ic_world.specs.Pieces.{IsFresh};
 
 use crate::World;
 use crate::call::{Command, Refusal};
 use crate::field::WorldField;
 use crate::world::append;
-use ic_any_table::{Field, Kind};
+use ic_any_collection::{Field, Kind};
 use ic_rbtree::KeyAdapter;
 use ic_unsafe_ref::Place;
 use std::alloc::Allocator;

@@ -23,6 +23,6 @@ mod run;
 mod world;
 
 pub use call::{Answer, Command, Refusal};
-pub use ic_any_table::Kind;
+pub use ic_any_collection::Kind;
 pub use ic_rbtree::Bound;
 pub use world::World;

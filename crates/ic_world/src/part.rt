@@ -1,14 +1,13 @@
 //! Which members are handed out to a collection more.
 
 ghost use Rattle.std.specs.Prelude.{◌≡◌, true};
-ghost use Rattle.ic_any_table.specs.Fields.{look};
+ghost use Rattle.ic_any_collection.specs.Fields.{look};
 ghost use Rattle.ic_any_collection.specs.Members.{kind_in, Held};
 ghost use Rattle.ic_world.specs.Turns.{HandsOut};
 ghost use Rattle.ic_world.specs.Several.{has_part, PartsOf};
 
 use crate::calls::kinds::{is_list, is_two_way_list};
-use ic_any_collection::Members;
-use ic_any_table::{Field, Kind};
+use ic_any_collection::{Field, Kind, Members};
 use std::alloc::Allocator;
 
 /// Which members are handed out.

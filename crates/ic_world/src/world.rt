@@ -1,7 +1,7 @@
 //! The world, and how a call goes to one of its collections.
 
 ghost use Rattle.std.specs.Prelude.{◌≡◌, [], Some, None, IfSome, IfNone};
-ghost use Rattle.ic_any_table.specs.Fields.{look};
+ghost use Rattle.ic_any_collection.specs.Fields.{look};
 ghost use Rattle.std.specs.FinMap as map;
 ghost use Rattle.ic_world.specs.Calls.{opened};
 ghost use Rattle.ic_world.specs.Replies.{reply_of};
@@ -12,8 +12,7 @@ use crate::calls::one_call::OneCall;
 use crate::collections_by_number::CollectionsByNumber;
 use crate::field::WorldField;
 use crate::part::Part;
-use ic_any_collection::Members;
-use ic_any_table::Field;
+use ic_any_collection::{Field, Members};
 use ic_rbtree::KeyAdapter;
 use ic_unsafe_ref::Objects;
 use std::alloc::{Allocator, Global};

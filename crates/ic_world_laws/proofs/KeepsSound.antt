@@ -9,9 +9,9 @@ use Rattle.ic_unsafe_ref.specs.declared.place.Place.{Place}
 use Rattle.ic_unsafe_ref.specs.Places.{index_of}
 use Rattle.ic_link_ops.specs.Sequences.{Cut, join, splice, IsAbsent, IsMember, IsDistinct, IsDisjoint, IsAfter, IsBefore}
 use Rattle.ic_link_ops.proofs.SequenceLemmas.{absent_left, absent_right, absent_both, distinct_left, distinct_right, distinct_disjoint, disjoint_sym, distinct_splice, some_same, none_not}
-use Rattle.ic_any_table.specs.declared.kind.Kind.{Kind}
-use Rattle.ic_any_table.specs.Kinds.{carries}
-use Rattle.ic_any_table.specs.declared.kind.Kind.TheVariants.{Singly}
+use Rattle.ic_any_collection.specs.declared.kind.Kind.{Kind}
+use Rattle.ic_any_collection.specs.Kinds.{carries}
+use Rattle.ic_any_collection.specs.declared.kind.Kind.TheVariants.{Singly}
 use Rattle.ic_any_collection.specs.Members.{is_list, is_two_way_list}
 use Rattle.ic_world.specs.declared.call.Refusal.{Refusal}
 use Rattle.ic_world.specs.declared.call.Refusal.TheVariants.{NoSuchField, NoSuchObject, WrongKind, IsMember as IsMemberRefusal, StillLinked, TooManyObjects, OutOfMemory}

@@ -13,9 +13,9 @@ use Rattle.ic_unsafe_ref.specs.declared.place.Place.{Place}
 use Rattle.ic_unsafe_ref.specs.Places.{index_of}
 use Rattle.ic_link_ops.specs.Sequences.{IsAbsent, IsMember, IsDistinct, IsDisjoint}
 use Rattle.ic_link_ops.proofs.SequenceLemmas.{some_same, none_not, disjoint_sym}
-use Rattle.ic_any_table.specs.declared.kind.Kind.{Kind}
-use Rattle.ic_any_table.specs.declared.kind.Kind.TheVariants.{Singly}
-use Rattle.ic_any_table.specs.Kinds.{carries}
+use Rattle.ic_any_collection.specs.declared.kind.Kind.{Kind}
+use Rattle.ic_any_collection.specs.declared.kind.Kind.TheVariants.{Singly}
+use Rattle.ic_any_collection.specs.Kinds.{carries}
 use Rattle.ic_world.specs.Family.{Family, LinkField, Sequence, collection, field_of, linked_of, has_field, is_placed, is_linked_somewhere, with_linked, with_collection, with_opened}
 use Rattle.ic_world.specs.Sound.{IsSoundIn, IsSound}
 use Rattle.ic_world.proofs.Linked.{side}

@@ -6,7 +6,7 @@
 //! ```
 
 ghost use Rattle.std.specs.Prelude.{◌≡◌, [], true, Ok, Err, if◌then◌else◌};
-ghost use Rattle.ic_any_table.specs.Fields.{look};
+ghost use Rattle.ic_any_collection.specs.Fields.{look};
 ghost use Rattle.ic_any_collection.specs.Members.{kind_in, Held};
 ghost use Rattle.ic_any_collection.specs.Members as kinds;
 ghost use Rattle.ic_world.specs.Turns.{Turns};
@@ -17,8 +17,7 @@ ghost use Rattle.ic_world.specs.declared.calls.one_call.Call.TheVariants as one;
 use crate::call::Refusal;
 use crate::calls::kinds::{has_before, is_list, is_singly, is_two_way_list};
 use crate::calls::one_call::{OneCall, Where};
-use ic_any_collection::Members;
-use ic_any_table::{Field, Kind};
+use ic_any_collection::{Field, Kind, Members};
 use ic_link_ops::ReplaceError;
 use ic_rbtree::KeyAdapter;
 use ic_unsafe_ref::{Objects, Place, UnsafeRef};

@@ -8,7 +8,7 @@ ghost use Rattle.std.specs.Prelude.{◌≡◌};
 ghost use Rattle.ic_any_collection.specs.Members as kinds;
 ghost use Rattle.ic_world.specs.Family as family;
 
-use ic_any_table::Kind;
+use ic_any_collection::Kind;
 use ic_unsafe_ref::Place;
 
 // Whether the position before the cursor can be used.

@@ -1,5 +1,5 @@
 use Rattle.std.proofs.Common.{rules, refl, sym, ap, ◌∙◌}
-use Rattle.ic_any_table.specs.TreeTables.{look}
+use Rattle.ic_any_collection.specs.TreeTables.{look}
 use Rattle.ic_any_collection.proofs.KeyedEdits.{vacant_one, inserts_left, links_left}
 use Rattle.ic_any_collection.proofs.keyed.put_at_key.Goals as goal
 

@@ -1,6 +1,6 @@
 use Rattle.std.proofs.Common.{refl}
 use Rattle.ic_link_ops.specs.ThreeWords.{node_of}
-use Rattle.ic_any_table.specs.Entries.{node}
+use Rattle.ic_any_collection.specs.Entries.{node}
 use Rattle.ic_any_collection.proofs.Reading.{seen}
 use Rattle.ic_any_collection.proofs.members.Members.contains.Goals as goal
 

@@ -2,10 +2,10 @@ use Rattle.std.proofs.Common.{ap, refl, Some, ◌∙◌}
 use Rattle.ic_rbtree.specs.CursorOwning.{tree_of}
 use Rattle.ic_rbtree.specs.Members.{members}
 use Rattle.ic_rbtree.specs.Tree.{root_of}
-use Rattle.ic_any_table.specs.Entries.{node}
-use Rattle.ic_any_table.specs.TreeTables.{look}
-use Rattle.ic_any_table.specs.declared.field.Field.TheVariants.{TwoWay}
-use Rattle.ic_any_table.specs.declared.two_way.TwoWay.TheVariants.{Tree}
+use Rattle.ic_any_collection.specs.Entries.{node}
+use Rattle.ic_any_collection.specs.TreeTables.{look}
+use Rattle.ic_any_collection.specs.declared.field.Field.TheVariants.{TwoWay}
+use Rattle.ic_any_collection.specs.declared.two_way.TwoWay.TheVariants.{Tree}
 use Rattle.ic_any_collection.proofs.KeyedEdits.{moves_to_key, puts_at_key}
 use Rattle.ic_any_collection.proofs.members.Members.entry.Goals as goal
 

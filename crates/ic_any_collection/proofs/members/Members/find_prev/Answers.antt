@@ -1,6 +1,6 @@
 use Rattle.std.proofs.Common.{[], ◌∷◌, ◌++◌, sym}
 use Rattle.ic_link_ops.proofs.SequenceLemmas.{absent_both}
-use Rattle.ic_any_table.specs.Fields.{look}
+use Rattle.ic_any_collection.specs.Fields.{look}
 use Rattle.ic_any_collection.proofs.AllKinds.{distinct}
 use Rattle.ic_any_collection.proofs.Reading.{gap_at, same_place, other_place, walks_first, walks_next, walks_fewer}
 use Rattle.ic_any_collection.proofs.members.Members.find_prev.Goals as goal

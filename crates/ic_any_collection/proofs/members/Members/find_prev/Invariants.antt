@@ -1,7 +1,7 @@
 use Rattle.std.proofs.Common.{List, length}
 use Rattle.ic_unsafe_ref.specs.declared.place.Place.{Place}
 use Rattle.ic_link_ops.specs.Sequences.{IsAbsent}
-use Rattle.ic_any_table.specs.Fields.{look}
+use Rattle.ic_any_collection.specs.Fields.{look}
 use Rattle.ic_any_collection.specs.Members.{members_in}
 use Rattle.ic_any_collection.proofs.Reading.{Walks, from}
 use Rattle.ic_any_collection.proofs.members.Members.find_prev.Given as goal

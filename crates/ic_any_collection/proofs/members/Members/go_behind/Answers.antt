@@ -1,5 +1,5 @@
-use Rattle.ic_any_table.specs.Fields.{look}
-use Rattle.ic_any_table.specs.TwoWays as two
+use Rattle.ic_any_collection.specs.Fields.{look}
+use Rattle.ic_any_collection.specs.TwoWays as two
 use Rattle.ic_any_collection.proofs.Standing.{gap_after_cursor, knows, known}
 use Rattle.ic_any_collection.proofs.Parting.{puts_all, singly_list, doubly_list, xor_list, at_put_behind}
 use Rattle.ic_any_collection.proofs.members.Members.go_behind.Goals as goal

@@ -1,5 +1,5 @@
-use Rattle.ic_any_table.specs.declared.field.Field.TheVariants.{TwoWay}
-use Rattle.ic_any_table.specs.declared.two_way.TwoWay.TheVariants.{Tree}
+use Rattle.ic_any_collection.specs.declared.field.Field.TheVariants.{TwoWay}
+use Rattle.ic_any_collection.specs.declared.two_way.TwoWay.TheVariants.{Tree}
 use Rattle.ic_any_collection.proofs.Standing.{knows, gap_after_cursor}
 use Rattle.ic_any_collection.proofs.Moving.{singly_turned, doubly_turned, xor_turned, tree_turned}
 use Rattle.ic_any_collection.proofs.Editing.{puts, puts_not, in_field}

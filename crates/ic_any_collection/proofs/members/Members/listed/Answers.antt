@@ -1,4 +1,4 @@
-use Rattle.ic_any_table.specs.Fields.{look}
+use Rattle.ic_any_collection.specs.Fields.{look}
 use Rattle.ic_any_collection.proofs.AllKinds.{distinct}
 use Rattle.ic_any_collection.proofs.Reading.{gap_at, walks_next, walks_fewer}
 use Rattle.ic_any_collection.proofs.members.Members.listed.Goals as goal

@@ -1,5 +1,5 @@
 use Rattle.std.proofs.Common.{length}
-use Rattle.ic_any_table.specs.Fields.{look}
+use Rattle.ic_any_collection.specs.Fields.{look}
 use Rattle.ic_any_collection.specs.Members.{members_in}
 use Rattle.ic_any_collection.proofs.Reading.{Walks, from}
 use Rattle.ic_any_collection.proofs.members.Members.listed.Given as goal

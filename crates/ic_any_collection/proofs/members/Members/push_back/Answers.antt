@@ -1,7 +1,7 @@
 use Rattle.std.proofs.Common.{append-nil}
 use Rattle.ic_link_ops.specs.Sequences.{at_front, at_back}
-use Rattle.ic_any_table.specs.Fields.{look}
-use Rattle.ic_any_table.specs.TwoWays as two
+use Rattle.ic_any_collection.specs.Fields.{look}
+use Rattle.ic_any_collection.specs.TwoWays as two
 use Rattle.ic_any_collection.proofs.Moving.{doubly_turned, xor_turned}
 use Rattle.ic_any_collection.proofs.Standing.{knows}
 use Rattle.ic_any_collection.proofs.Parting.{xor_null}

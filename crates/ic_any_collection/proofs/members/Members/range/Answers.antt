@@ -3,8 +3,8 @@ use Rattle.ic_link_ops.specs.RedBlackTree.{Shows}
 use Rattle.ic_rbtree.specs.CursorOwning.{tree_of}
 use Rattle.ic_rbtree.specs.Members.{members}
 use Rattle.ic_rbtree.specs.Tree.{root_of}
-use Rattle.ic_any_table.specs.Entries.{node}
-use Rattle.ic_any_table.specs.TreeTables.{look}
+use Rattle.ic_any_collection.specs.Entries.{node}
+use Rattle.ic_any_collection.specs.TreeTables.{look}
 use Rattle.ic_any_collection.proofs.KeyedWalks.{range_shown}
 use Rattle.ic_any_collection.proofs.members.Members.range.Goals as goal
 

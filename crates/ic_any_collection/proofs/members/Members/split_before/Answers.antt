@@ -1,6 +1,6 @@
 use Rattle.std.proofs.Common.{ap}
-use Rattle.ic_any_table.specs.Fields.{look}
-use Rattle.ic_any_table.specs.TwoWays as two
+use Rattle.ic_any_collection.specs.Fields.{look}
+use Rattle.ic_any_collection.specs.TwoWays as two
 use Rattle.ic_any_collection.proofs.Standing.{before_at, gap_before_cursor, knows, known}
 use Rattle.ic_any_collection.proofs.Parting.{parts, doubly_list, xor_list, at_null, at_start, xor_null}
 use Rattle.ic_any_collection.proofs.members.Members.split_before.Goals as goal

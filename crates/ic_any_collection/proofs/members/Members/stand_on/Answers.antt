@@ -1,7 +1,7 @@
 use Rattle.std.proofs.Common.{◌∙◌, ap}
 use Rattle.ic_link_ops.proofs.Positions.{stands_by_gap}
 use Rattle.ic_rbtree.specs.Tree.{root_of}
-use Rattle.ic_any_table.specs.Fields.{look}
+use Rattle.ic_any_collection.specs.Fields.{look}
 use Rattle.ic_any_collection.proofs.Moving.{singly_turned, doubly_turned, xor_turned, tree_turned, moves}
 use Rattle.ic_any_collection.proofs.members.Members.stand_on.Goals as goal
 

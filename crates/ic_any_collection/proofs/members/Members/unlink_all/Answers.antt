@@ -1,8 +1,8 @@
 use Rattle.std.proofs.Common.{[], subst}
-use Rattle.ic_any_table.specs.Fields.{look}
+use Rattle.ic_any_collection.specs.Fields.{look}
 use Rattle.ic_link_ops.specs.LinkSteps.{Replays, releases_each}
 use Rattle.ic_link_ops.specs.Tables.{KeepsBeside}
-use Rattle.ic_any_table.specs.Entries.{is_linked}
+use Rattle.ic_any_collection.specs.Entries.{is_linked}
 use Rattle.ic_any_collection.proofs.AllKinds.{lawful, keeps_frame, held_of, one_sequence}
 use Rattle.ic_any_collection.proofs.members.Members.unlink_all.Goals as goal
 

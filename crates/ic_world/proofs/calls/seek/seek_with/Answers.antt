@@ -1,5 +1,5 @@
 use Rattle.std.proofs.Common.{◌∙◌, refl, sym, ap}
-use Rattle.ic_any_table.specs.Fields.{look}
+use Rattle.ic_any_collection.specs.Fields.{look}
 use Rattle.ic_any_collection.specs.Members.{members_in}
 use Rattle.ic_any_collection.proofs.AllKinds.{unlinked_absent}
 use Rattle.ic_world.specs.Family.{same_position}

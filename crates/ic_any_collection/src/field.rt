@@ -32,8 +32,8 @@ pub enum Field<M: Allocator = Global> {
 }
 
 impl<M: Allocator> Field<M> {
-    ghost use Rattle.ic_any_table.specs.Entries.{is_linked, kind_of};
-    ghost use Rattle.ic_any_table.specs.Fields.{look};
+    ghost use Rattle.ic_any_collection.specs.Entries.{is_linked, kind_of};
+    ghost use Rattle.ic_any_collection.specs.Fields.{look};
 
     /// A table of that kind which covers no place. It takes no memory.
     pub fn new(alloc: M, kind: Kind) -> Field<M>
@@ -130,8 +130,8 @@ impl<M: Allocator> LinkOps for Field<M> {
     ghost use Rattle.std.proofs.Common.{ap, refl};
     ghost use Rattle.ic_link_ops.specs.LinkSteps.{Replays};
     ghost use Rattle.ic_link_ops.specs.StepLaws.{replays_on};
-    ghost use Rattle.ic_any_table.specs.Entries.{is_linked};
-    ghost use Rattle.ic_any_table.specs.Fields.{look, covered_where_linked};
+    ghost use Rattle.ic_any_collection.specs.Entries.{is_linked};
+    ghost use Rattle.ic_any_collection.specs.Fields.{look, covered_where_linked};
 
     type Entry = Entry;
 
@@ -174,7 +174,7 @@ impl<M: Allocator> LinkOps for Field<M> {
 
 impl<M: Allocator> SinglyLinkedListOps for Field<M> {
     ghost use Rattle.std.specs.Prelude.{refl};
-    ghost use Rattle.ic_any_table.specs.Entries.{successor};
+    ghost use Rattle.ic_any_collection.specs.Entries.{successor};
 
     ghost successor = { successor };
 
@@ -218,7 +218,7 @@ impl<M: Allocator> SinglyLinkedListOps for Field<M> {
 }
 
 impl<M: Allocator> XorLinkedListOps for Field<M> {
-    ghost use Rattle.ic_any_table.specs.Entries.{Joins, other};
+    ghost use Rattle.ic_any_collection.specs.Entries.{Joins, other};
     ghost use Rattle.ic_link_ops.specs.XorLaws.{joins_symmetric, joins_one_other, joins_finds_other};
 
     ghost Joins = { Joins };

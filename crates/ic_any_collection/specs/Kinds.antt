@@ -1,8 +1,8 @@
 -- The kinds of tables and of collections, and which table carries which collection.
 use Rattle.std.specs.Prelude.{ℕ, Bool, true, false, List, [], ◌∷◌}
 use Rattle.std.proofs.Common.{zero, suc}
-use Rattle.ic_any_table.specs.declared.kind.Kind.{Kind}
-use Rattle.ic_any_table.specs.declared.kind.Kind.TheVariants.{Singly, Doubly, Xor, Tree}
+use Rattle.ic_any_collection.specs.declared.kind.Kind.{Kind}
+use Rattle.ic_any_collection.specs.declared.kind.Kind.TheVariants.{Singly, Doubly, Xor, Tree}
 
 -- the kinds as numbers, by which the extent of a table tells its kind
 abbrev pub number_of : Kind → ℕ

@@ -15,9 +15,9 @@ use Rattle.ic_link_ops.specs.declared.rbtree.ThreeWords.{ThreeWords}
 use Rattle.ic_link_ops.specs.OneWord as one
 use Rattle.ic_link_ops.specs.TwoWords as two
 use Rattle.ic_link_ops.specs.ThreeWords as three
-use Rattle.ic_any_table.specs.declared.entry.Entry.{Entry}
-use Rattle.ic_any_table.specs.declared.kind.Kind.{Kind}
-use Rattle.ic_any_table.specs.Kinds.{number_of, kind_with}
+use Rattle.ic_any_collection.specs.declared.entry.Entry.{Entry}
+use Rattle.ic_any_collection.specs.declared.kind.Kind.{Kind}
+use Rattle.ic_any_collection.specs.Kinds.{number_of, kind_with}
 
 -- what the links of each kind of table say
 abbrev pub of_one : {K : Type 0} → Link (OneWord K) ⊤ → Entry

@@ -20,7 +20,7 @@ pub enum Kind {
 }
 
 impl Kind {
-    ghost use Rattle.ic_any_table.specs.Kinds.{carries};
+    ghost use Rattle.ic_any_collection.specs.Kinds.{carries};
 
     /// Whether a table of this kind carries collections of that one.
     ///

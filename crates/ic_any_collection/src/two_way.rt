@@ -30,8 +30,8 @@ impl<M: Allocator> LinkOps for TwoWay<M> {
     ghost use Rattle.std.proofs.Common.{ap, refl};
     ghost use Rattle.ic_link_ops.specs.LinkSteps.{Replays};
     ghost use Rattle.ic_link_ops.specs.StepLaws.{replays_on};
-    ghost use Rattle.ic_any_table.specs.Entries.{is_linked};
-    ghost use Rattle.ic_any_table.specs.TwoWays.{look, covered_where_linked};
+    ghost use Rattle.ic_any_collection.specs.Entries.{is_linked};
+    ghost use Rattle.ic_any_collection.specs.TwoWays.{look, covered_where_linked};
 
     type Entry = Entry;
 
@@ -72,7 +72,7 @@ impl<M: Allocator> LinkOps for TwoWay<M> {
 
 impl<M: Allocator> LinkedListOps for TwoWay<M> {
     ghost use Rattle.std.specs.Prelude.{refl};
-    ghost use Rattle.ic_any_table.specs.Entries.{neighbors};
+    ghost use Rattle.ic_any_collection.specs.Entries.{neighbors};
 
     ghost neighbors = { neighbors };
 

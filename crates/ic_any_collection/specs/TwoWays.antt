@@ -7,12 +7,12 @@ use Rattle.ic_link_ops.specs.Links.{link_of}
 use Rattle.ic_link_ops.specs.PlainTables.{entries, table, linked_by}
 use Rattle.ic_link_ops.specs.EntryLaws.{linked_in_range}
 use Rattle.ic_link_ops.specs.TwoWords as two
-use Rattle.ic_any_table.specs.declared.entry.Entry.{Entry}
-use Rattle.ic_any_table.specs.declared.two_way.TwoWay.{TwoWay}
-use Rattle.ic_any_table.specs.declared.two_way.TwoWay.TheVariants.{Doubly, Tree}
-use Rattle.ic_any_table.specs.declared.kind.Kind.TheVariants as kind
-use Rattle.ic_any_table.specs.TreeTables as tree
-use Rattle.ic_any_table.specs.Entries.{of_two, read, is_linked}
+use Rattle.ic_any_collection.specs.declared.entry.Entry.{Entry}
+use Rattle.ic_any_collection.specs.declared.two_way.TwoWay.{TwoWay}
+use Rattle.ic_any_collection.specs.declared.two_way.TwoWay.TheVariants.{Doubly, Tree}
+use Rattle.ic_any_collection.specs.declared.kind.Kind.TheVariants as kind
+use Rattle.ic_any_collection.specs.TreeTables as tree
+use Rattle.ic_any_collection.specs.Entries.{of_two, read, is_linked}
 
 module _ {M : Type 0} where
   abbrev pub look : TwoWay M → Table Entry

@@ -23,8 +23,8 @@ impl<M: Allocator> LinkOps for TreeTable<M> {
     ghost use Rattle.std.proofs.Common.{ap, refl};
     ghost use Rattle.ic_link_ops.specs.LinkSteps.{Replays};
     ghost use Rattle.ic_link_ops.specs.StepLaws.{replays_on};
-    ghost use Rattle.ic_any_table.specs.Entries.{is_linked};
-    ghost use Rattle.ic_any_table.specs.TreeTables.{look, covered_where_linked};
+    ghost use Rattle.ic_any_collection.specs.Entries.{is_linked};
+    ghost use Rattle.ic_any_collection.specs.TreeTables.{look, covered_where_linked};
 
     type Entry = Entry;
 
@@ -59,7 +59,7 @@ impl<M: Allocator> LinkOps for TreeTable<M> {
 
 impl<M: Allocator> RBTreeOps for TreeTable<M> {
     ghost use Rattle.std.specs.Prelude.{refl};
-    ghost use Rattle.ic_any_table.specs.Entries.{node};
+    ghost use Rattle.ic_any_collection.specs.Entries.{node};
 
     ghost node = { node };
 

@@ -7,10 +7,10 @@ use Rattle.ic_link_ops.specs.Links.{link_of}
 use Rattle.ic_link_ops.specs.PlainTables.{entries, table, linked_by}
 use Rattle.ic_link_ops.specs.EntryLaws.{linked_in_range}
 use Rattle.ic_link_ops.specs.ThreeWords as three
-use Rattle.ic_any_table.specs.declared.entry.Entry.{Entry}
-use Rattle.ic_any_table.specs.declared.tree_table.TreeTable.{TreeTable}
-use Rattle.ic_any_table.specs.declared.kind.Kind.TheVariants as kind
-use Rattle.ic_any_table.specs.Entries.{of_three, read, is_linked}
+use Rattle.ic_any_collection.specs.declared.entry.Entry.{Entry}
+use Rattle.ic_any_collection.specs.declared.tree_table.TreeTable.{TreeTable}
+use Rattle.ic_any_collection.specs.declared.kind.Kind.TheVariants as kind
+use Rattle.ic_any_collection.specs.Entries.{of_three, read, is_linked}
 
 module _ {M : Type 0} where
   abbrev pub look : TreeTable M → Table Entry

@@ -7,12 +7,12 @@ use Rattle.ic_link_ops.specs.Links.{link_of}
 use Rattle.ic_link_ops.specs.PlainTables.{entries, table, linked_by}
 use Rattle.ic_link_ops.specs.EntryLaws.{linked_in_range}
 use Rattle.ic_link_ops.specs.OneWord as one
-use Rattle.ic_any_table.specs.declared.entry.Entry.{Entry}
-use Rattle.ic_any_table.specs.declared.field.Field.{Field}
-use Rattle.ic_any_table.specs.declared.field.Field.TheVariants.{Singly, Xor, TwoWay}
-use Rattle.ic_any_table.specs.declared.kind.Kind.TheVariants as kind
-use Rattle.ic_any_table.specs.Entries.{of_one, read, is_linked}
-use Rattle.ic_any_table.specs.TwoWays as two
+use Rattle.ic_any_collection.specs.declared.entry.Entry.{Entry}
+use Rattle.ic_any_collection.specs.declared.field.Field.{Field}
+use Rattle.ic_any_collection.specs.declared.field.Field.TheVariants.{Singly, Xor, TwoWay}
+use Rattle.ic_any_collection.specs.declared.kind.Kind.TheVariants as kind
+use Rattle.ic_any_collection.specs.Entries.{of_one, read, is_linked}
+use Rattle.ic_any_collection.specs.TwoWays as two
 
 module _ {M : Type 0} where
   -- covers and entries
