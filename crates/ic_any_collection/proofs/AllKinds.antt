@@ -21,18 +21,18 @@ use Rattle.ic_xor_linked_list.specs.CursorOwning as xor_cursor
 use Rattle.ic_rbtree.specs.CursorOwning as tree_cursor
 use Rattle.ic_rbtree.specs.Tree.{root_of}
 use Rattle.ic_any_collection.specs.declared.entry.Entry.{Entry}
-use Rattle.ic_any_collection.specs.declared.field.Field.{Field}
-use Rattle.ic_any_collection.specs.Fields.{look, covered_where_linked}
+use Rattle.ic_any_collection.specs.declared.any_table.AnyTable.{AnyTable}
+use Rattle.ic_any_collection.specs.AnyTables.{look, covered_where_linked}
 use Rattle.ic_any_collection.specs.Entries.{is_linked, neighbors, successor, node, Joins, other}
-use Rattle.ic_any_collection.specs.declared.members.Members.{Members}
-use Rattle.ic_any_collection.specs.declared.members.Members.TheVariants.{Singly, Doubly, Xor, Tree}
-use Rattle.ic_any_collection.specs.Members.{ShowsIn, members_in, Keeps, Held}
+use Rattle.ic_any_collection.specs.declared.any_collection.AnyCollection.{AnyCollection}
+use Rattle.ic_any_collection.specs.declared.any_collection.AnyCollection.TheVariants.{Singly, Doubly, Xor, Tree}
+use Rattle.ic_any_collection.specs.AnyCollection.{ShowsIn, members_in, Keeps, Held}
 
 -- only covered places are linked: so it is in the table of every field
 abbrev pub IsLawful : Table Entry → Type 0
 IsLawful t = (q : Place) → is_linked (t.entry q) ≡ true → IsCovered t q
 
-pub lawful : {M : Type 0} (links : Field M) → IsLawful (look links)
+pub lawful : {M : Type 0} (links : AnyTable M) → IsLawful (look links)
 lawful links q h = covered_where_linked links q h
 
 -- what each kind brings
@@ -50,21 +50,21 @@ tree_kind = tree_laws.red_black_trees (λ e. refl)
 
 module _ {V : Type 0} where
   -- a table shows one sequence, which the walk gives
-  pub one_sequence : (t : Table Entry) → IsLawful t → (m : Members V) (s : List Place) → ShowsIn t m s → members_in t m ≡ s
+  pub one_sequence : (t : Table Entry) → IsLawful t → (m : AnyCollection V) (s : List Place) → ShowsIn t m s → members_in t m ≡ s
   one_sequence t law (Singly m) s shown = singly_laws.members_shown t law (singly_cursor.list_of m) s shown
   one_sequence t law (Doubly m) s shown = doubly_laws.members_shown t law (doubly_cursor.list_of m) s shown
   one_sequence t law (Xor m) s shown = xor_laws.members_shown other (λ e a b j. joins_finds_other e.word a b j) t law (xor_cursor.list_of m) s shown
   one_sequence t law (Tree m) s shown = tree_members.members_shown t law (root_of (tree_cursor.tree_of m)) s shown
 
   -- no place stands twice in it
-  pub distinct : (t : Table Entry) (m : Members V) (s : List Place) → ShowsIn t m s → IsDistinct s
+  pub distinct : (t : Table Entry) (m : AnyCollection V) (s : List Place) → ShowsIn t m s → IsDistinct s
   distinct t (Singly m) s shown = singly_kind.distinct t _ s shown
   distinct t (Doubly m) s shown = doubly_kind.distinct t _ s shown
   distinct t (Xor m) s shown = xor_kind.distinct t _ s shown
   distinct t (Tree m) s shown = tree_kind.distinct t _ s shown
 
   -- the frame
-  pub shown_frame : (old new : Table Entry) (m : Members V) (s touched : List Place) → ShowsIn old m s → IsDisjoint s touched
+  pub shown_frame : (old new : Table Entry) (m : AnyCollection V) (s touched : List Place) → ShowsIn old m s → IsDisjoint s touched
       → ((q : Place) → IsAbsent q touched → new.entry q ≡ old.entry q) → ShowsIn new m s
   shown_frame old new (Singly m) s touched shown apart same = singly_kind.frame old new _ s touched shown apart same
   shown_frame old new (Doubly m) s touched shown apart same = doubly_kind.frame old new _ s touched shown apart same
@@ -72,14 +72,14 @@ module _ {V : Type 0} where
   shown_frame old new (Tree m) s touched shown apart same = tree_kind.frame old new _ s touched shown apart same
 
   -- an unlinked place is no member
-  pub unlinked_absent : (t : Table Entry) (m : Members V) (s : List Place) {p : Place} → ShowsIn t m s → IsUnlinked is_linked t p → IsAbsent p s
+  pub unlinked_absent : (t : Table Entry) (m : AnyCollection V) (s : List Place) {p : Place} → ShowsIn t m s → IsUnlinked is_linked t p → IsAbsent p s
   unlinked_absent t (Singly m) s {p} shown free = singly_kind.free t _ s p shown free
   unlinked_absent t (Doubly m) s {p} shown free = doubly_kind.free t _ s p shown free
   unlinked_absent t (Xor m) s {p} shown free = xor_kind.free t _ s p shown free
   unlinked_absent t (Tree m) s {p} shown free = tree_kind.free t _ s p shown free
 
   -- A TABLE WITH THE SAME ENTRIES AT ITS MEMBERS keeps the collection
-  pub keeps_frame : {old new : Table Entry} (m : Members V) (s touched : List Place) → Keeps old m s → IsDisjoint s touched → KeepsBeside old new touched → Keeps new m s
+  pub keeps_frame : {old new : Table Entry} (m : AnyCollection V) (s touched : List Place) → Keeps old m s → IsDisjoint s touched → KeepsBeside old new touched → Keeps new m s
   keeps_frame {old} {new} m s touched kept apart frame = record {
     carried = rw frame.extent kept.carried;
     shown = shown_frame old new m s touched kept.shown apart frame.others;
@@ -87,5 +87,5 @@ module _ {V : Type 0} where
   }
 
   -- what is kept is what the walk finds
-  pub held_of : {t : Table Entry} → IsLawful t → (m : Members V) (s : List Place) → Keeps t m s → Held t m
+  pub held_of : {t : Table Entry} → IsLawful t → (m : AnyCollection V) (s : List Place) → Keeps t m s → Held t m
   held_of {t} law m s kept = subst (Keeps t m) (sym (one_sequence t law m s kept.shown)) kept

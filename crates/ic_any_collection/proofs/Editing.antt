@@ -14,8 +14,8 @@ use Rattle.ic_link_ops.specs.Positions.{site}
 use Rattle.ic_link_ops.specs.EditsAt.{InsertsBeside, RemovesThere, RemovesNext, ReplacesThere, ReplacesNext}
 use Rattle.ic_any_collection.specs.declared.entry.Entry.{Entry}
 use Rattle.ic_any_collection.specs.Entries.{is_linked}
-use Rattle.ic_any_collection.specs.declared.members.Members.{Members}
-use Rattle.ic_any_collection.specs.Members.{cursor_in, members_in, Held}
+use Rattle.ic_any_collection.specs.declared.any_collection.AnyCollection.{AnyCollection}
+use Rattle.ic_any_collection.specs.AnyCollection.{cursor_in, members_in, Held}
 use Rattle.ic_any_collection.specs.Edits.{AtGap, Leaves, Moves, Puts, Takes, Swaps}
 use Rattle.ic_any_collection.proofs.Moving.{Turned, cut_shown, turned_keeps, moves}
 
@@ -26,17 +26,17 @@ Does table old new steps = Replays is_linked (table old) (table new) steps
 abbrev pub Refused : {L : Type 0} → (L → Table Entry) → L → L → Place → Type 0
 Refused table old new p = IsLinked is_linked (table old) p × (new ≡ old)
 
--- a refusal over the table inside a field is one over the field
-pub in_field : {L M : Type 0} (P Q : Type 0) (field : L → M) (b : Bool) (old new : L) → OnFalse b (P × ((new ≡ old) × Q)) → OnFalse b (P × ((field new ≡ field old) × Q))
-in_field P Q field true old new h = tt
-in_field P Q field false old new h = (h.0, (ap field h.1.0, h.1.1))
+-- a refusal over the table inside one of any kind is one over the whole table
+pub in_table : {L M : Type 0} (P Q : Type 0) (table : L → M) (b : Bool) (old new : L) → OnFalse b (P × ((new ≡ old) × Q)) → OnFalse b (P × ((table new ≡ table old) × Q))
+in_table P Q table true old new h = tt
+in_table P Q table false old new h = (h.0, (ap table h.1.0, h.1.1))
 
-pub in_field_swap : {L M A E : Type 0} (Q : Type 0) (field : L → M) (r : Result A E) (old new : L) → OnErr r ((new ≡ old) × Q) → OnErr r ((field new ≡ field old) × Q)
-in_field_swap Q field (Ok a) old new h = tt
-in_field_swap Q field (Err e) old new h = (ap field h.0, h.1)
+pub in_table_swap : {L M A E : Type 0} (Q : Type 0) (table : L → M) (r : Result A E) (old new : L) → OnErr r ((new ≡ old) × Q) → OnErr r ((table new ≡ table old) × Q)
+in_table_swap Q table (Ok a) old new h = tt
+in_table_swap Q table (Err e) old new h = (ap table h.0, h.1)
 
 -- the collection is left with s as its members
-leaves : {V H : Type 0} {Shows : Table Entry → H → List Place → Type 0} {t t' : Table Entry} {head head' : H} {m m' : Members V} {s touched : List Place} {cursor : Option Place}
+leaves : {V H : Type 0} {Shows : Table Entry → H → List Place → Type 0} {t t' : Table Entry} {head head' : H} {m m' : AnyCollection V} {s touched : List Place} {cursor : Option Place}
     → Turned Shows t t' head head' m m' → Held t m → Shows t' head' s → cursor_in m' ≡ cursor → KeepsBeside t t' touched → Leaves t t' m m' s cursor touched
 leaves {s = s} turned held shown is frame = record {
   kept = turned_keeps turned held frame.extent s shown;
@@ -46,18 +46,18 @@ leaves {s = s} turned held shown is frame = record {
 }
 
 -- a call that changed neither the table nor the head leaves the collection as it was
-stays : {V H : Type 0} {Shows : Table Entry → H → List Place → Type 0} {t t' : Table Entry} {head head' : H} {m m' : Members V}
+stays : {V H : Type 0} {Shows : Table Entry → H → List Place → Type 0} {t t' : Table Entry} {head head' : H} {m m' : AnyCollection V}
     → Turned Shows t t' head head' m m' → Held t m → t' ≡ t → head' ≡ head → cursor_in m' ≡ cursor_in m → Moves t m m' (cursor_in m)
 stays {Shows = Shows} {t = t} {head = head} {head' = head'} {m = m} {m' = m'} turned held same list at = moves (subst (λ u. Turned Shows t u head head' m m') same turned) list held at
 
 -- a push at an end, after which the cursor is at null
-pub pushes : {V H T : Type 0} {Shows : Table Entry → H → List Place → Type 0} {t t' : Table Entry} {head head' : H} {m m' : Members V} {p : Place} (r : Result Unit (AlreadyLinked T)) {b : Bool}
+pub pushes : {V H T : Type 0} {Shows : Table Entry → H → List Place → Type 0} {t t' : Table Entry} {head head' : H} {m m' : AnyCollection V} {p : Place} (r : Result Unit (AlreadyLinked T)) {b : Bool}
     → b ≡ is_ok r → b ≡ true → (gap : Cut) → join gap ≡ members_in t m → Held t m → OnOk r (Shows t' head' (insert gap p)) → OnOk r (Replays is_linked t t' (acquires p ∷ []))
     → KeepsBeside t t' (p ∷ members_in t m) → cursor_in m' ≡ None → (Shows t' head' (insert gap p) → Turned Shows t t' head head' m m') → Puts t t' m m' gap p None
 pushes (Ok a) is so gap cut held shown acquired frame null turned = record { leaves = leaves (turned shown) held shown null frame; links = acquired }
 pushes (Err e) is so gap cut held shown acquired frame null turned = let no = sym is ∙ so in cc
 
-module _ {V L H : Type 0} {Shows : Table Entry → H → List Place → Type 0} {table : L → Table Entry} {old new : L} {head head' : H} {m m' : Members V} where
+module _ {V L H : Type 0} {Shows : Table Entry → H → List Place → Type 0} {table : L → Table Entry} {old new : L} {head head' : H} {m m' : AnyCollection V} where
   -- an insert beside the cursor,
   pub puts : {T : Type 0} {IsBeside : Cut → Option Place → Type 0} {p : Place} {result : Result Unit (AlreadyLinked T)}
       → InsertsBeside Shows table (Does table) (Refused table) IsBeside (site old head (cursor_in m)) p result (site new head' (cursor_in m'))

@@ -19,9 +19,9 @@ use Rattle.ic_rbtree.specs.declared.tree.RBTree.{RBTree}
 use Rattle.ic_any_collection.specs.declared.entry.Entry.{Entry}
 use Rattle.ic_any_collection.specs.Entries.{is_linked, node}
 use Rattle.ic_any_collection.specs.declared.unkeyed.Unkeyed.{Unkeyed}
-use Rattle.ic_any_collection.specs.declared.members.Members.{Members}
-use Rattle.ic_any_collection.specs.declared.members.Members.TheVariants.{Tree}
-use Rattle.ic_any_collection.specs.Members.{IsAt, members_in, Keeps, Held}
+use Rattle.ic_any_collection.specs.declared.any_collection.AnyCollection.{AnyCollection}
+use Rattle.ic_any_collection.specs.declared.any_collection.AnyCollection.TheVariants.{Tree}
+use Rattle.ic_any_collection.specs.AnyCollection.{IsAt, members_in, Keeps, Held}
 use Rattle.ic_any_collection.specs.Edits.{AtGap, Moves, Puts}
 use Rattle.ic_any_collection.specs.Keyed.{PutsInOrder, PutsAtKey, IsVacantFor}
 use Rattle.ic_any_collection.proofs.AllKinds.{IsLawful, one_sequence, held_of}
@@ -111,7 +111,7 @@ puts_at_key at {p = p} held put links head there =
     let gap = put.0 in
     (gap, put.1, (put.2.0, puts_in_tree held put.1 (rw head put.2.1) links (on_it gap.front p gap.back refl) there))
 
-module _ {V : Type 0} {t t' : Table Entry} (law : IsLawful t') {m m' : Members V} {gap : Cut} {p : Place} {cursor : Option Place}
+module _ {V : Type 0} {t t' : Table Entry} (law : IsLawful t') {m m' : AnyCollection V} {gap : Cut} {p : Place} {cursor : Option Place}
     (puts : Puts t t' m m' gap p cursor) where
   -- the members then
   pub members_after : members_in t' m' ≡ insert gap p
@@ -125,7 +125,7 @@ module _ {V : Type 0} {t t' : Table Entry} (law : IsLawful t') {m m' : Members V
   object_there = (record { front = gap.front; back = p ∷ gap.back }, sym members_after, refl)
 
   -- AND THEN THE CURSOR IS MOVED
-  pub puts_and_moves : {m'' : Members V} {at : Option Place} → Moves t' m' m'' at → Puts t t' m m'' gap p at
+  pub puts_and_moves : {m'' : AnyCollection V} {at : Option Place} → Moves t' m' m'' at → Puts t t' m m'' gap p at
   puts_and_moves {m'' = to} moves = record {
     leaves = record {
       kept = subst (Keeps t' to) members_after moves.kept;

@@ -18,16 +18,16 @@ use Rattle.ic_rbtree.specs.Tree.{root_of}
 use Rattle.ic_any_collection.specs.declared.entry.Entry.{Entry}
 use Rattle.ic_any_collection.specs.Entries.{is_linked, neighbors, successor, node, Joins}
 use Rattle.ic_any_collection.specs.declared.unkeyed.Unkeyed.{Unkeyed}
-use Rattle.ic_any_collection.specs.declared.members.Members.{Members}
-use Rattle.ic_any_collection.specs.declared.members.Members.TheVariants.{Singly, Doubly, Xor, Tree}
-use Rattle.ic_any_collection.specs.Members.{IsAt, StandsIn, ShowsIn, cursor_in, members_in, Keeps, Held, Alike}
+use Rattle.ic_any_collection.specs.declared.any_collection.AnyCollection.{AnyCollection}
+use Rattle.ic_any_collection.specs.declared.any_collection.AnyCollection.TheVariants.{Singly, Doubly, Xor, Tree}
+use Rattle.ic_any_collection.specs.AnyCollection.{IsAt, StandsIn, ShowsIn, cursor_in, members_in, Keeps, Held, Alike}
 use Rattle.ic_any_collection.specs.Edits.{AtGap, Moves}
 use Rattle.ic_any_collection.proofs.AllKinds.{singly_kind, doubly_kind, tree_kind}
 use Rattle.ic_any_collection.proofs.Standing.{known}
 
 -- `Shows t head s`: the shows-relation of a kind. A CALL TURNS m, with this head, into m', with that one: what is shown for either is
 -- what its kind says, m' stands in what is shown for it, and the two are of the same kind
-pub record Turned {V H : Type 0} (Shows : Table Entry → H → List Place → Type 0) (t t' : Table Entry) (head head' : H) (m m' : Members V) : Type 0 where
+pub record Turned {V H : Type 0} (Shows : Table Entry → H → List Place → Type 0) (t t' : Table Entry) (head head' : H) (m m' : AnyCollection V) : Type 0 where
   pub reads : (s : List Place) → ShowsIn t m s → Shows t head s
   pub shows : (s : List Place) → Shows t' head' s → ShowsIn t' m' s
   pub stands : (s : List Place) → Shows t' head' s → StandsIn s m'
@@ -76,7 +76,7 @@ module _ {V L : Type 0} {table : L → Table Entry} {new : L} {t : Table Entry} 
     alike = refl;
   }
 
-module _ {V H : Type 0} {Shows : Table Entry → H → List Place → Type 0} {t t' : Table Entry} {head head' : H} {m m' : Members V}
+module _ {V H : Type 0} {Shows : Table Entry → H → List Place → Type 0} {t t' : Table Entry} {head head' : H} {m m' : AnyCollection V}
     (turned : Turned Shows t t' head head' m m') (held : Held t m) where
   -- what is shown, cut at a gap
   pub cut_shown : (gap : Cut) → join gap ≡ members_in t m → Shows t head (join gap)
@@ -95,7 +95,7 @@ pub with_head : {L H : Type 0} {Shows : Table Entry → H → List Place → Typ
     → head' ≡ head → position.Stands Shows table (site links head at) → position.Stands Shows table (site links head' at)
 with_head same stands = record { gap = stands.gap; shown = rw same stands.shown; after = stands.after }
 
-module _ {V H : Type 0} {Shows : Table Entry → H → List Place → Type 0} {head head' : H} {m m' : Members V} where
+module _ {V H : Type 0} {Shows : Table Entry → H → List Place → Type 0} {head head' : H} {m m' : AnyCollection V} where
   -- A MOVE anywhere,
   pub moves : {t : Table Entry} {cursor : Option Place} → Turned Shows t t head head' m m' → head' ≡ head → Held t m → cursor_in m' ≡ cursor → Moves t m m' cursor
   moves {t = t'} turned same held is = record {

@@ -16,9 +16,9 @@ use Rattle.ic_xor_linked_list.specs.CursorOwning as xor_cursor
 use Rattle.ic_xor_linked_list.specs.Position.{null_of}
 use Rattle.ic_any_collection.specs.declared.entry.Entry.{Entry}
 use Rattle.ic_any_collection.specs.Entries.{is_linked, neighbors, successor, Joins}
-use Rattle.ic_any_collection.specs.declared.members.Members.{Members}
-use Rattle.ic_any_collection.specs.declared.members.Members.TheVariants.{Singly, Doubly, Xor}
-use Rattle.ic_any_collection.specs.Members.{IsAt, IsAtBefore, ShowsIn, StandsIn, cursor_in, Keeps, Alike}
+use Rattle.ic_any_collection.specs.declared.any_collection.AnyCollection.{AnyCollection}
+use Rattle.ic_any_collection.specs.declared.any_collection.AnyCollection.TheVariants.{Singly, Doubly, Xor}
+use Rattle.ic_any_collection.specs.AnyCollection.{IsAt, IsAtBefore, ShowsIn, StandsIn, cursor_in, Keeps, Alike}
 use Rattle.ic_any_collection.specs.Edits.{PutsAll, Parts}
 
 -- WHERE A CURSOR STANDS: at null,
@@ -50,7 +50,7 @@ pub xor_null : {V : Type 0} {t : Table Entry} (m : xor_cursor.Owning V) (s : Lis
 xor_null m s shown null = rw null (at_front s, refl, refl, shown.head)
 
 -- a kind of list, of which a collection `made m` has this head: what the table shows for the head, it shows for the collection
-pub record IsListKind {V C H : Type 0} (made : C → Members V) (Shows : Table Entry → H → List Place → Type 0) (head : C → H) : Type 0 where
+pub record IsListKind {V C H : Type 0} (made : C → AnyCollection V) (Shows : Table Entry → H → List Place → Type 0) (head : C → H) : Type 0 where
   pub alike : (m m' : C) → Alike (made m) (made m')
   pub shows : (t : Table Entry) (m : C) (s : List Place) → Shows t (head m) s → ShowsIn t (made m) s
   pub shown : (t : Table Entry) (m : C) (s : List Place) → ShowsIn t (made m) s → Shows t (head m) s
@@ -65,7 +65,7 @@ module _ {V : Type 0} where
   pub xor_list : IsListKind {V = V} (λ m. Xor m) (xor.Shows is_linked Joins) (λ m. xor_cursor.list_of m)
   xor_list = record { alike = λ m m'. refl; shows = λ t m s h. h; shown = λ t m s h. h }
 
-module _ {V C H : Type 0} {made : C → Members V} {Shows : Table Entry → H → List Place → Type 0} {head : C → H} (kind : IsListKind made Shows head) where
+module _ {V C H : Type 0} {made : C → AnyCollection V} {Shows : Table Entry → H → List Place → Type 0} {head : C → H} (kind : IsListKind made Shows head) where
   -- what the list shows, cut at a gap
   shown_cut : {t : Table Entry} {m : C} {s : List Place} → Keeps t (made m) s → (gap : Cut) → join gap ≡ s → Shows t (head m) (join gap)
   shown_cut {t} {m} {s} held gap cut = rw cut (kind.shown t m s held.shown)

@@ -10,9 +10,9 @@ use Rattle.ic_xor_linked_list.specs.CursorOwning as xor_cursor
 use Rattle.ic_xor_linked_list.proofs.Standing.{stands_before}
 use Rattle.ic_any_collection.specs.declared.entry.Entry.{Entry}
 use Rattle.ic_any_collection.specs.Entries.{is_linked, Joins}
-use Rattle.ic_any_collection.specs.declared.members.Members.{Members}
-use Rattle.ic_any_collection.specs.declared.members.Members.TheVariants.{Singly, Doubly, Xor, Tree}
-use Rattle.ic_any_collection.specs.Members.{IsAt, IsAtBefore, StandsIn, cursor_in, members_in, Held}
+use Rattle.ic_any_collection.specs.declared.any_collection.AnyCollection.{AnyCollection}
+use Rattle.ic_any_collection.specs.declared.any_collection.AnyCollection.TheVariants.{Singly, Doubly, Xor, Tree}
+use Rattle.ic_any_collection.specs.AnyCollection.{IsAt, IsAtBefore, StandsIn, cursor_in, members_in, Held}
 use Rattle.ic_any_collection.proofs.AllKinds.{xor_kind}
 
 -- the gap before a position
@@ -21,17 +21,17 @@ before_at {s} {position} at = let prev = gap_before at.0 position at.2 in (prev.
 
 module _ {V : Type 0} where
   -- whatever the kind, the cursor is at a position of s
-  pub stands_at : (s : List Place) (m : Members V) → StandsIn s m → IsAt s (cursor_in m)
+  pub stands_at : (s : List Place) (m : AnyCollection V) → StandsIn s m → IsAt s (cursor_in m)
   stands_at s (Singly m) at = at
   stands_at s (Doubly m) at = at
   stands_at s (Xor m) at = (at.0, at.1, at.2)
   stands_at s (Tree m) at = at
 
   -- so there is a gap after it, and one before it
-  pub gap_after_cursor : {t : Table Entry} (m : Members V) → Held t m → IsAt (members_in t m) (cursor_in m)
+  pub gap_after_cursor : {t : Table Entry} (m : AnyCollection V) → Held t m → IsAt (members_in t m) (cursor_in m)
   gap_after_cursor {t} m held = stands_at (members_in t m) m held.stands
 
-  pub gap_before_cursor : {t : Table Entry} (m : Members V) → Held t m → (gap : Cut) × (join gap ≡ members_in t m) × IsBefore gap (cursor_in m)
+  pub gap_before_cursor : {t : Table Entry} (m : AnyCollection V) → Held t m → (gap : Cut) × (join gap ≡ members_in t m) × IsBefore gap (cursor_in m)
   gap_before_cursor m held = before_at (gap_after_cursor m held)
 
 -- AN XOR LIST'S CURSOR keeps the place behind it, as the calls of the list ask it,

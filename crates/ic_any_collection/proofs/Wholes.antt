@@ -18,8 +18,8 @@ use Rattle.ic_any_collection.specs.declared.kind.Kind.TheVariants as kind
 use Rattle.ic_any_collection.specs.Kinds.{carries}
 use Rattle.ic_any_collection.specs.Entries.{kind_of, is_linked, Joins}
 use Rattle.ic_any_collection.specs.declared.unkeyed.Unkeyed.{Unkeyed}
-use Rattle.ic_any_collection.specs.declared.members.Members.TheVariants.{Singly, Doubly, Xor, Tree}
-use Rattle.ic_any_collection.specs.Members.{Keeps}
+use Rattle.ic_any_collection.specs.declared.any_collection.AnyCollection.TheVariants.{Singly, Doubly, Xor, Tree}
+use Rattle.ic_any_collection.specs.AnyCollection.{Keeps}
 use Rattle.ic_any_collection.proofs.AllKinds.{singly_kind, doubly_kind, xor_kind, tree_kind}
 use Rattle.ic_any_collection.proofs.Parting.{at_null, xor_null}
 

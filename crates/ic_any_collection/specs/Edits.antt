@@ -5,11 +5,11 @@ use Rattle.ic_link_ops.specs.Sequences.{Cut, join, insert, remove, replace, spli
 use Rattle.ic_link_ops.specs.Tables.{Table, KeepsBeside, KeepsLinked, LinksAlso, Unlinks}
 use Rattle.ic_link_ops.specs.LinkSteps.{Replays, acquires, releases, releases_each}
 use Rattle.ic_any_collection.specs.declared.entry.Entry.{Entry}
-use Rattle.ic_any_collection.specs.declared.field.Field.{Field}
+use Rattle.ic_any_collection.specs.declared.any_table.AnyTable.{AnyTable}
 use Rattle.ic_any_collection.specs.Entries.{is_linked}
-use Rattle.ic_any_collection.specs.Fields.{look}
-use Rattle.ic_any_collection.specs.declared.members.Members.{Members}
-use Rattle.ic_any_collection.specs.Members.{cursor_in, members_in, Keeps, Alike}
+use Rattle.ic_any_collection.specs.AnyTables.{look}
+use Rattle.ic_any_collection.specs.declared.any_collection.AnyCollection.{AnyCollection}
+use Rattle.ic_any_collection.specs.AnyCollection.{cursor_in, members_in, Keeps, Alike}
 
 -- the members are cut at a gap, of which the rest holds
 abbrev pub AtGap : List Place → (Cut → Type 0) → Type 0
@@ -18,16 +18,16 @@ AtGap s Rest = (gap : Cut) × (join gap ≡ s) × Rest gap
 -- `t`, `t'`: the table before a call and after it. `m`, `m'`: the collection
 module _ {V : Type 0} where
   -- THE COLLECTION HAS MOVED ITS CURSOR, if anything: its kind and members stay
-  pub record Moves (t : Table Entry) (m m' : Members V) (cursor : Option Place) : Type 0 where
+  pub record Moves (t : Table Entry) (m m' : AnyCollection V) (cursor : Option Place) : Type 0 where
     pub kept : Keeps t m' (members_in t m)
     pub alike : Alike m m'
     pub cursor_is : cursor_in m' ≡ cursor
 
   -- NOTHING HAS CHANGED: the table is the same, and the collection has its members and its cursor
-  abbrev pub IsUnchanged : {M : Type 0} → (links links' : Field M) → (m m' : Members V) → Type 0
+  abbrev pub IsUnchanged : {M : Type 0} → (links links' : AnyTable M) → (m m' : AnyCollection V) → Type 0
   IsUnchanged links links' m m' = (links' ≡ links) × Moves (look links) m m' (cursor_in m)
 
-  module _ (t t' : Table Entry) (m m' : Members V) where
+  module _ (t t' : Table Entry) (m m' : AnyCollection V) where
     -- THE COLLECTION HAS s AS ITS MEMBERS NOW, its cursor is there, and nothing but entries of `touched` is changed
     pub record Leaves (s : List Place) (cursor : Option Place) (touched : List Place) : Type 0 where
       pub kept : Keeps t' m' s
@@ -63,7 +63,7 @@ module _ {V : Type 0} where
       pub links : KeepsLinked is_linked t t'
 
     -- one part stays and the other, in a collection of its own, is handed out; both stay linked
-    pub record Parts (kept handed : List Place) (part : Members V) : Type 0 where
+    pub record Parts (kept handed : List Place) (part : AnyCollection V) : Type 0 where
       pub leaves : Leaves kept (cursor_in m) (kept ++ handed)
       pub hands_out : Keeps t' part handed
       pub part_alike : Alike m part

@@ -11,8 +11,8 @@ pub use Rattle.ic_rbtree.specs.Comparing.{FewLooks}
 use Rattle.ic_rbtree.specs.KeyProbe.{looks_of}
 use Rattle.ic_rbtree.specs.Borders.{IsBorder, less_at, at_most_at}
 use Rattle.ic_any_collection.specs.declared.entry.Entry.{Entry}
-use Rattle.ic_any_collection.specs.declared.members.Members.{Members}
-use Rattle.ic_any_collection.specs.Members.{members_in}
+use Rattle.ic_any_collection.specs.declared.any_collection.AnyCollection.{AnyCollection}
+use Rattle.ic_any_collection.specs.AnyCollection.{members_in}
 use Rattle.ic_any_collection.specs.Edits.{AtGap, Puts}
 
 -- SO FEW LOOKS as a search within this bound makes in a tree with the members s: none by `Unbounded`
@@ -36,7 +36,7 @@ module _ {A V K : Type 0} where
 abbrev pub IsVacantFor : (Place → Ordering) → Cut → Type 0
 IsVacantFor at gap = IsBorder (at_most_at at) gap × IsBorder (less_at at) gap
 
-module _ {V : Type 0} (at : Place → Ordering) (t t' : Table Entry) (m m' : Members V) (p : Place) (cursor : Option Place) where
+module _ {V : Type 0} (at : Place → Ordering) (t t' : Table Entry) (m m' : AnyCollection V) (p : Place) (cursor : Option Place) where
   -- p is put in order: behind members that are not greater than what is searched, and in front of greater ones
   abbrev pub PutsInOrder : Type 0
   PutsInOrder = AtGap (members_in t m) (λ gap. IsBorder (less_at at) gap × Puts t t' m m' gap p cursor)

@@ -1,8 +1,8 @@
 pub mod Kinds
 pub mod Entries
 pub mod TreeTables
-pub mod TwoWays
-pub mod Fields
-pub mod Members
+pub mod TablesWithPrev
+pub mod AnyTables
+pub mod AnyCollection
 pub mod Edits
 pub mod Keyed

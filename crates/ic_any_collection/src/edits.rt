@@ -15,9 +15,9 @@ ghost use Rattle.ic_link_ops.specs.Errors.{ByCause};
 ghost use Rattle.ic_link_ops.specs.Tables.{Table, IsCovered, IsLinked};
 ghost use Rattle.ic_any_collection.specs.declared.entry.Entry.{Entry};
 ghost use Rattle.ic_any_collection.specs.Entries.{is_linked};
-ghost use Rattle.ic_any_collection.specs.Fields.{look};
+ghost use Rattle.ic_any_collection.specs.AnyTables.{look};
 
-use crate::{Field, Members, TwoWay};
+use crate::{AnyCollection, AnyTable, TableWithPrev};
 use ic_link_ops::ReplaceError;
 use ic_unsafe_ref::{Place, UnsafeRef};
 use std::alloc::Allocator;
@@ -33,15 +33,15 @@ fn place_of<T>(object: Option<UnsafeRef<T>>) -> Option<Place>
     }
 }
 
-impl<T> Members<T> {
-    ghost use Rattle.ic_any_collection.specs.Members.{kind_in, cursor_in, members_in, has_before, is_list, is_two_way_list, is_singly, Held};
+impl<T> AnyCollection<T> {
+    ghost use Rattle.ic_any_collection.specs.AnyCollection.{kind_in, cursor_in, members_in, has_before, is_list, is_two_way_list, is_singly, Held};
     ghost use Rattle.ic_any_collection.specs.Edits.{AtGap, Puts, Takes, Swaps, IsUnchanged};
 
     /// Puts the object in front of all members and the cursor to null, and returns whether it did: an object that is linked is refused.
     ///
     /// It asks that the object's place is covered, and that this is a list. O(1).
     #[inline]
-    pub fn push_front<M: Allocator>(&mut self, links: &mut Field<M>, object: Place) -> bool
+    pub fn push_front<M: Allocator>(&mut self, links: &mut AnyTable<M>, object: Place) -> bool
         requires held { Held (look links.old) self.old }
         requires can { is_list (kind_in self.old) ≡ true }
         requires covered { IsCovered (look links.old) object }
@@ -52,31 +52,31 @@ impl<T> Members<T> {
     {
         let object = UnsafeRef::new(object);
         match self {
-            Members::Singly(cursor) => {
+            Self::Singly(cursor) => {
                 let pushed = cursor.list_mut().push_front(links, object).is_ok();
                 if pushed {
                     cursor.go_null();
                 }
                 pushed
             }
-            Members::Doubly(cursor) => match links {
-                Field::TwoWay(links) => {
+            Self::Doubly(cursor) => match links {
+                AnyTable::WithPrev(links) => {
                     let pushed = cursor.list_mut().push_front(links, object).is_ok();
                     if pushed {
                         cursor.go_null();
                     }
                     pushed
                 }
-                Field::Singly(_) | Field::Xor(_) => unreachable!(),
+                AnyTable::Singly(_) | AnyTable::Xor(_) => unreachable!(),
             },
-            Members::Xor(cursor) => {
+            Self::Xor(cursor) => {
                 let pushed = cursor.list_mut().push_front(links, object).is_ok();
                 if pushed {
                     cursor.go_null();
                 }
                 pushed
             }
-            Members::Tree(_) => unreachable!(), // proved: it has no such call
+            Self::Tree(_) => unreachable!(), // proved: it has no such call
         }
     }
 
@@ -84,7 +84,7 @@ impl<T> Members<T> {
     ///
     /// It asks that the object's place is covered, and that this is a doubly linked or an XOR list. O(1).
     #[inline]
-    pub fn push_back<M: Allocator>(&mut self, links: &mut Field<M>, object: Place) -> bool
+    pub fn push_back<M: Allocator>(&mut self, links: &mut AnyTable<M>, object: Place) -> bool
         requires held { Held (look links.old) self.old }
         requires can { is_two_way_list (kind_in self.old) ≡ true }
         requires covered { IsCovered (look links.old) object }
@@ -95,24 +95,24 @@ impl<T> Members<T> {
     {
         let object = UnsafeRef::new(object);
         match self {
-            Members::Doubly(cursor) => match links {
-                Field::TwoWay(links) => {
+            Self::Doubly(cursor) => match links {
+                AnyTable::WithPrev(links) => {
                     let pushed = cursor.list_mut().push_back(links, object).is_ok();
                     if pushed {
                         cursor.go_null();
                     }
                     pushed
                 }
-                Field::Singly(_) | Field::Xor(_) => unreachable!(),
+                AnyTable::Singly(_) | AnyTable::Xor(_) => unreachable!(),
             },
-            Members::Xor(cursor) => {
+            Self::Xor(cursor) => {
                 let pushed = cursor.list_mut().push_back(links, object).is_ok();
                 if pushed {
                     cursor.go_null();
                 }
                 pushed
             }
-            Members::Singly(_) | Members::Tree(_) => unreachable!(), // proved: they have no such call
+            Self::Singly(_) | Self::Tree(_) => unreachable!(), // proved: they have no such call
         }
     }
 
@@ -121,7 +121,7 @@ impl<T> Members<T> {
     ///
     /// It asks that the object's place is covered. O(1), in a tree O(log n).
     #[inline]
-    pub fn insert_after<M: Allocator>(&mut self, links: &mut Field<M>, object: Place) -> bool
+    pub fn insert_after<M: Allocator>(&mut self, links: &mut AnyTable<M>, object: Place) -> bool
         requires held { Held (look links.old) self.old }
         requires covered { IsCovered (look links.old) object }
         ensures put { OnTrue result (AtGap (members_in (look links.old) self.old) (λ gap. IsAfter gap (cursor_in self.old)
@@ -131,16 +131,19 @@ impl<T> Members<T> {
     {
         let object = UnsafeRef::new(object);
         match self {
-            Members::Singly(cursor) => cursor.insert_after(links, object).is_ok(),
-            Members::Doubly(cursor) => match links {
-                Field::TwoWay(links) => cursor.insert_after(links, object).is_ok(),
-                Field::Singly(_) | Field::Xor(_) => unreachable!(),
+            Self::Singly(cursor) => cursor.insert_after(links, object).is_ok(),
+            Self::Doubly(cursor) => match links {
+                AnyTable::WithPrev(links) => cursor.insert_after(links, object).is_ok(),
+                AnyTable::Singly(_) | AnyTable::Xor(_) => unreachable!(),
             },
-            Members::Xor(cursor) => cursor.insert_after(links, object).is_ok(),
-            Members::Tree(cursor) => match links {
-                Field::TwoWay(TwoWay::Tree(links)) => cursor.insert_after(links, object).is_ok(),
-                Field::TwoWay(TwoWay::Doubly(_)) | Field::Singly(_) | Field::Xor(_) =>
-                    unreachable!(),
+            Self::Xor(cursor) => cursor.insert_after(links, object).is_ok(),
+            Self::Tree(cursor) => match links {
+                AnyTable::WithPrev(TableWithPrev::Tree(links)) => cursor
+                    .insert_after(links, object)
+                    .is_ok(),
+                AnyTable::WithPrev(TableWithPrev::Doubly(_))
+                | AnyTable::Singly(_)
+                | AnyTable::Xor(_) => unreachable!(),
             },
         }
     }
@@ -150,7 +153,7 @@ impl<T> Members<T> {
     ///
     /// It asks that the object's place is covered, and that this is no singly linked list. O(1), in a tree O(log n).
     #[inline]
-    pub fn insert_before<M: Allocator>(&mut self, links: &mut Field<M>, object: Place) -> bool
+    pub fn insert_before<M: Allocator>(&mut self, links: &mut AnyTable<M>, object: Place) -> bool
         requires held { Held (look links.old) self.old }
         requires can { has_before (kind_in self.old) ≡ true }
         requires covered { IsCovered (look links.old) object }
@@ -161,16 +164,19 @@ impl<T> Members<T> {
     {
         let object = UnsafeRef::new(object);
         match self {
-            Members::Singly(_) => unreachable!(), // proved: it has no such gap
-            Members::Doubly(cursor) => match links {
-                Field::TwoWay(links) => cursor.insert_before(links, object).is_ok(),
-                Field::Singly(_) | Field::Xor(_) => unreachable!(),
+            Self::Singly(_) => unreachable!(), // proved: it has no such gap
+            Self::Doubly(cursor) => match links {
+                AnyTable::WithPrev(links) => cursor.insert_before(links, object).is_ok(),
+                AnyTable::Singly(_) | AnyTable::Xor(_) => unreachable!(),
             },
-            Members::Xor(cursor) => cursor.insert_before(links, object).is_ok(),
-            Members::Tree(cursor) => match links {
-                Field::TwoWay(TwoWay::Tree(links)) => cursor.insert_before(links, object).is_ok(),
-                Field::TwoWay(TwoWay::Doubly(_)) | Field::Singly(_) | Field::Xor(_) =>
-                    unreachable!(),
+            Self::Xor(cursor) => cursor.insert_before(links, object).is_ok(),
+            Self::Tree(cursor) => match links {
+                AnyTable::WithPrev(TableWithPrev::Tree(links)) => cursor
+                    .insert_before(links, object)
+                    .is_ok(),
+                AnyTable::WithPrev(TableWithPrev::Doubly(_))
+                | AnyTable::Singly(_)
+                | AnyTable::Xor(_) => unreachable!(),
             },
         }
     }
@@ -179,7 +185,7 @@ impl<T> Members<T> {
     ///
     /// It asks that this is no singly linked list. O(1), in a tree O(log n).
     #[inline]
-    pub fn remove<M: Allocator>(&mut self, links: &mut Field<M>) -> Option<Place>
+    pub fn remove<M: Allocator>(&mut self, links: &mut AnyTable<M>) -> Option<Place>
         requires held { Held (look links.old) self.old }
         requires can { has_before (kind_in self.old) ≡ true }
         ensures taken { IfSome result (λ p. AtGap (members_in (look links.old) self.old) (λ gap. IsBefore gap (cursor_in self.old)
@@ -188,16 +194,17 @@ impl<T> Members<T> {
         ensures null { IfNone result ((self.new ≡ self.old) × (links.new ≡ links.old)) }
     {
         match self {
-            Members::Singly(_) => unreachable!(), // proved: it has no such call
-            Members::Doubly(cursor) => match links {
-                Field::TwoWay(links) => place_of(cursor.remove(links)),
-                Field::Singly(_) | Field::Xor(_) => unreachable!(),
+            Self::Singly(_) => unreachable!(), // proved: it has no such call
+            Self::Doubly(cursor) => match links {
+                AnyTable::WithPrev(links) => place_of(cursor.remove(links)),
+                AnyTable::Singly(_) | AnyTable::Xor(_) => unreachable!(),
             },
-            Members::Xor(cursor) => place_of(cursor.remove(links)),
-            Members::Tree(cursor) => match links {
-                Field::TwoWay(TwoWay::Tree(links)) => place_of(cursor.remove(links)),
-                Field::TwoWay(TwoWay::Doubly(_)) | Field::Singly(_) | Field::Xor(_) =>
-                    unreachable!(),
+            Self::Xor(cursor) => place_of(cursor.remove(links)),
+            Self::Tree(cursor) => match links {
+                AnyTable::WithPrev(TableWithPrev::Tree(links)) => place_of(cursor.remove(links)),
+                AnyTable::WithPrev(TableWithPrev::Doubly(_))
+                | AnyTable::Singly(_)
+                | AnyTable::Xor(_) => unreachable!(),
             },
         }
     }
@@ -206,7 +213,7 @@ impl<T> Members<T> {
     ///
     /// It asks that this is a singly linked list. O(1).
     #[inline]
-    pub fn remove_next<M: Allocator>(&mut self, links: &mut Field<M>) -> Option<Place>
+    pub fn remove_next<M: Allocator>(&mut self, links: &mut AnyTable<M>) -> Option<Place>
         requires held { Held (look links.old) self.old }
         requires can { is_singly (kind_in self.old) ≡ true }
         ensures taken { IfSome result (λ p. AtGap (members_in (look links.old) self.old) (λ gap. IsAfter gap (cursor_in self.old)
@@ -215,8 +222,8 @@ impl<T> Members<T> {
             × (first gap.back ≡ None)) × (self.new ≡ self.old) × (links.new ≡ links.old)) }
     {
         match self {
-            Members::Singly(cursor) => place_of(cursor.remove_next(links)),
-            Members::Doubly(_) | Members::Xor(_) | Members::Tree(_) => unreachable!(),
+            Self::Singly(cursor) => place_of(cursor.remove_next(links)),
+            Self::Doubly(_) | Self::Xor(_) | Self::Tree(_) => unreachable!(),
         }
     }
 
@@ -227,7 +234,7 @@ impl<T> Members<T> {
     #[inline]
     pub fn replace_with<M: Allocator>(
         &mut self,
-        links: &mut Field<M>,
+        links: &mut AnyTable<M>,
         object: Place,
     ) -> Result<UnsafeRef<T>, ReplaceError<T>>
         requires held { Held (look links.old) self.old }
@@ -241,16 +248,19 @@ impl<T> Members<T> {
     {
         let object = UnsafeRef::new(object);
         match self {
-            Members::Singly(_) => unreachable!(), // proved: it has no such call
-            Members::Doubly(cursor) => match links {
-                Field::TwoWay(links) => cursor.replace_with(links, object),
-                Field::Singly(_) | Field::Xor(_) => unreachable!(),
+            Self::Singly(_) => unreachable!(), // proved: it has no such call
+            Self::Doubly(cursor) => match links {
+                AnyTable::WithPrev(links) => cursor.replace_with(links, object),
+                AnyTable::Singly(_) | AnyTable::Xor(_) => unreachable!(),
             },
-            Members::Xor(cursor) => cursor.replace_with(links, object),
-            Members::Tree(cursor) => match links {
-                Field::TwoWay(TwoWay::Tree(links)) => cursor.replace_with(links, object),
-                Field::TwoWay(TwoWay::Doubly(_)) | Field::Singly(_) | Field::Xor(_) =>
-                    unreachable!(),
+            Self::Xor(cursor) => cursor.replace_with(links, object),
+            Self::Tree(cursor) => match links {
+                AnyTable::WithPrev(TableWithPrev::Tree(links)) => cursor.replace_with(
+                    links, object,
+                ),
+                AnyTable::WithPrev(TableWithPrev::Doubly(_))
+                | AnyTable::Singly(_)
+                | AnyTable::Xor(_) => unreachable!(),
             },
         }
     }
@@ -262,7 +272,7 @@ impl<T> Members<T> {
     #[inline]
     pub fn replace_next_with<M: Allocator>(
         &mut self,
-        links: &mut Field<M>,
+        links: &mut AnyTable<M>,
         object: Place,
     ) -> Result<UnsafeRef<T>, ReplaceError<T>>
         requires held { Held (look links.old) self.old }
@@ -276,8 +286,8 @@ impl<T> Members<T> {
     {
         let object = UnsafeRef::new(object);
         match self {
-            Members::Singly(cursor) => cursor.replace_next_with(links, object),
-            Members::Doubly(_) | Members::Xor(_) | Members::Tree(_) => unreachable!(),
+            Self::Singly(cursor) => cursor.replace_next_with(links, object),
+            Self::Doubly(_) | Self::Xor(_) | Self::Tree(_) => unreachable!(),
         }
     }
 }

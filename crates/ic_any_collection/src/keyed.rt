@@ -22,13 +22,13 @@ ghost use Rattle.ic_rbtree.specs.KeyProbe.{key_order, looks_of, HasAdapter};
 ghost use Rattle.ic_rbtree.specs.Ranges.{runs_up, IsRange};
 ghost use Rattle.ic_rbtree.specs.Tree.{root_of, adapter_of};
 ghost use Rattle.ic_any_collection.specs.Entries.{is_linked, node};
-ghost use Rattle.ic_any_collection.specs.Fields.{look};
+ghost use Rattle.ic_any_collection.specs.AnyTables.{look};
 ghost use Rattle.ic_any_collection.specs.TreeTables as tree_table;
 ghost use Rattle.ic_any_collection.specs.Edits.{AtGap};
 ghost use Rattle.ic_any_collection.specs.Keyed.{FewLooks, FewLooksWithin, looks_within, HasNoLooks, IsVacantFor};
 
 use crate::unkeyed::Unkeyed;
-use crate::{Field, Members, TreeTable, TwoWay};
+use crate::{AnyCollection, AnyTable, TableWithPrev, TreeTable};
 use ic_link_ops::End;
 use ic_link_ops::rbtree::RBTreeOps;
 use ic_rbtree::{Bound, Entry, Iter, KeyAdapter, KeyProbe, RBTree, RefusedInsert};
@@ -110,8 +110,8 @@ fn list_walk<A: KeyAdapter, L: RBTreeOps, O: Values<A::Value>, N: Allocator>(
     Ok(places)
 }
 
-impl<T> Members<T> {
-    ghost use Rattle.ic_any_collection.specs.Members.{kind_in, cursor_in, members_in, is_tree, Held};
+impl<T> AnyCollection<T> {
+    ghost use Rattle.ic_any_collection.specs.AnyCollection.{kind_in, cursor_in, members_in, is_tree, Held};
     ghost use Rattle.ic_any_collection.specs.Edits.{Moves, Puts, IsUnchanged};
     ghost use Rattle.ic_any_collection.specs.Keyed.{PutsInOrder, PutsAtKey};
 
@@ -120,7 +120,7 @@ impl<T> Members<T> {
     /// It asks that this is a tree, and that an object stands at each member. O(log n).
     pub fn find<A: KeyAdapter<Value = T>, M: Allocator, B: Allocator>(
         &mut self,
-        links: &Field<M>,
+        links: &AnyTable<M>,
         objects: &Objects<T, B>,
         adapter: A,
         key: &A::Key,
@@ -135,7 +135,7 @@ impl<T> Members<T> {
     {
         let mut probe = KeyProbe::new(adapter, key);
         let position = match (&*self, links) {
-            (Members::Tree(cursor), Field::TwoWay(TwoWay::Tree(links))) => {
+            (Self::Tree(cursor), AnyTable::WithPrev(TableWithPrev::Tree(links))) => {
                 cursor.list().find_by(links, objects, &mut probe).get_ptr()
             }
             _ => unreachable!(),
@@ -146,7 +146,7 @@ impl<T> Members<T> {
 
     // Puts the cursor on a member of a tree, or to null.
     #[inline]
-    fn stand_at<M: Allocator>(&mut self, links: &Field<M>, position: Option<Place>)
+    fn stand_at<M: Allocator>(&mut self, links: &AnyTable<M>, position: Option<Place>)
         requires held { Held (look links.now) self.old }
         requires can { is_tree (kind_in self.old) ≡ true }
         requires member { IfSome position (λ p. AtGap (members_in (look links.now) self.old) (λ gap. IsBefore gap (Some p))) }
@@ -165,7 +165,7 @@ impl<T> Members<T> {
     /// border. O(log n).
     pub fn lower_bound<A: KeyAdapter<Value = T>, M: Allocator, B: Allocator>(
         &mut self,
-        links: &Field<M>,
+        links: &AnyTable<M>,
         objects: &Objects<T, B>,
         adapter: A,
         bound: &Bound<A::Key>,
@@ -180,7 +180,7 @@ impl<T> Members<T> {
     {
         let mut probe = probe_for(adapter, bound);
         let position = match (&*self, links) {
-            (Members::Tree(cursor), Field::TwoWay(TwoWay::Tree(links))) => {
+            (Self::Tree(cursor), AnyTable::WithPrev(TableWithPrev::Tree(links))) => {
                 cursor
                     .list()
                     .lower_bound_by(links, objects, &mut probe)
@@ -200,7 +200,7 @@ impl<T> Members<T> {
     #[tactic(auto, using(crate::proofs::KeyedSearches::upper_member))]
     pub fn upper_bound<A: KeyAdapter<Value = T>, M: Allocator, B: Allocator>(
         &mut self,
-        links: &Field<M>,
+        links: &AnyTable<M>,
         objects: &Objects<T, B>,
         adapter: A,
         bound: &Bound<A::Key>,
@@ -215,7 +215,7 @@ impl<T> Members<T> {
     {
         let mut probe = probe_for(adapter, bound);
         let position = match (&*self, links) {
-            (Members::Tree(cursor), Field::TwoWay(TwoWay::Tree(links))) => {
+            (Self::Tree(cursor), AnyTable::WithPrev(TableWithPrev::Tree(links))) => {
                 cursor
                     .list()
                     .upper_bound_by(links, objects, &mut probe)
@@ -233,7 +233,7 @@ impl<T> Members<T> {
     pub fn range<A: KeyAdapter<Value = T>, M: Allocator, B: Allocator, N: Allocator>(
         &self,
         alloc: N,
-        links: &Field<M>,
+        links: &AnyTable<M>,
         objects: &Objects<T, B>,
         adapter: A,
         min: &Bound<A::Key>,
@@ -249,17 +249,18 @@ impl<T> Members<T> {
             × FewLooksWithin max.now answer.2 (members_in (look links.now) self.now)) }
     {
         match self {
-            Members::Tree(cursor) => match links {
-                Field::TwoWay(TwoWay::Tree(links)) => {
+            Self::Tree(cursor) => match links {
+                AnyTable::WithPrev(TableWithPrev::Tree(links)) => {
                     let tree = RBTree::from_root(adapter, cursor.list().root());
                     let (walk, from, to) = walk_between(&tree, links, objects, min, max);
                     let places = list_walk(alloc, &tree, links, walk)?;
                     Ok((places, from, to))
                 }
-                Field::TwoWay(TwoWay::Doubly(_)) | Field::Singly(_) | Field::Xor(_) =>
-                    unreachable!(),
+                AnyTable::WithPrev(TableWithPrev::Doubly(_))
+                | AnyTable::Singly(_)
+                | AnyTable::Xor(_) => unreachable!(),
             },
-            Members::Singly(_) | Members::Doubly(_) | Members::Xor(_) => unreachable!(),
+            Self::Singly(_) | Self::Doubly(_) | Self::Xor(_) => unreachable!(),
         }
     }
 
@@ -270,7 +271,7 @@ impl<T> Members<T> {
     #[inline]
     pub fn insert<A: KeyAdapter<Value = T>, M: Allocator, B: Allocator>(
         &mut self,
-        links: &mut Field<M>,
+        links: &mut AnyTable<M>,
         objects: &Objects<T, B>,
         adapter: A,
         object: Place,
@@ -294,7 +295,7 @@ impl<T> Members<T> {
     /// Puts the object where its own key belongs, behind members with the same key. The cursor stays.
     pub fn cursor_insert<A: KeyAdapter<Value = T>, M: Allocator, B: Allocator>(
         &mut self,
-        links: &mut Field<M>,
+        links: &mut AnyTable<M>,
         objects: &Objects<T, B>,
         adapter: A,
         object: Place,
@@ -311,8 +312,8 @@ impl<T> Members<T> {
             × IsUnchanged links.old links.new self.old self.new) }
     {
         match self {
-            Members::Tree(cursor) => match links {
-                Field::TwoWay(TwoWay::Tree(links)) => {
+            Self::Tree(cursor) => match links {
+                AnyTable::WithPrev(TableWithPrev::Tree(links)) => {
                     let value = objects.get(object).unwrap(); // proved: it is placed
                     let mut probe = KeyProbe::new(adapter, adapter.get_key(value));
                     let object = UnsafeRef::new(object);
@@ -322,10 +323,11 @@ impl<T> Members<T> {
                     };
                     Some(probe.looks())
                 }
-                Field::TwoWay(TwoWay::Doubly(_)) | Field::Singly(_) | Field::Xor(_) =>
-                    unreachable!(),
+                AnyTable::WithPrev(TableWithPrev::Doubly(_))
+                | AnyTable::Singly(_)
+                | AnyTable::Xor(_) => unreachable!(),
             },
-            Members::Singly(_) | Members::Doubly(_) | Members::Xor(_) => unreachable!(),
+            Self::Singly(_) | Self::Doubly(_) | Self::Xor(_) => unreachable!(),
         }
     }
 
@@ -336,7 +338,7 @@ impl<T> Members<T> {
     /// It asks that this is a tree, that an object stands at each member, and that the object's place is covered. O(log n).
     pub fn entry<A: KeyAdapter<Value = T>, M: Allocator, B: Allocator>(
         &mut self,
-        links: &mut Field<M>,
+        links: &mut AnyTable<M>,
         objects: &Objects<T, B>,
         adapter: A,
         key: &A::Key,
@@ -358,18 +360,19 @@ impl<T> Members<T> {
             × IsUnchanged links.old links.new self.old self.new) }
     {
         match self {
-            Members::Tree(cursor) => match links {
-                Field::TwoWay(TwoWay::Tree(links)) => {
+            Self::Tree(cursor) => match links {
+                AnyTable::WithPrev(TableWithPrev::Tree(links)) => {
                     let mut probe = KeyProbe::new(adapter, key);
                     let tree = cursor.list_mut();
                     let (occupied, place) = put_at_key(tree, links, objects, &mut probe, object)?;
                     cursor.go_to(End::of(Some(place)));
                     Some((occupied, place, probe.looks()))
                 }
-                Field::TwoWay(TwoWay::Doubly(_)) | Field::Singly(_) | Field::Xor(_) =>
-                    unreachable!(),
+                AnyTable::WithPrev(TableWithPrev::Doubly(_))
+                | AnyTable::Singly(_)
+                | AnyTable::Xor(_) => unreachable!(),
             },
-            Members::Singly(_) | Members::Doubly(_) | Members::Xor(_) => unreachable!(),
+            Self::Singly(_) | Self::Doubly(_) | Self::Xor(_) => unreachable!(),
         }
     }
 }

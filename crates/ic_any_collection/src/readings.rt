@@ -9,34 +9,38 @@ ghost use Rattle.std.specs.Prelude.{◌≡◌, ◌↔◌, List, Option, Some, No
 ghost use Rattle.ic_unsafe_ref.specs.declared.place.Place.{Place};
 ghost use Rattle.ic_link_ops.specs.Sequences.{Cut, join, first, last, IsAfter, IsBefore, IsMember, IsAbsent};
 ghost use Rattle.ic_link_ops.specs.Tables.{IsCovered};
-ghost use Rattle.ic_any_collection.specs.Fields.{look};
+ghost use Rattle.ic_any_collection.specs.AnyTables.{look};
 
 use crate::moves::object_of;
-use crate::{Field, Members, TwoWay};
+use crate::{AnyCollection, AnyTable, TableWithPrev};
 use ic_unsafe_ref::{Place, UnsafeRef};
 use std::alloc::{AllocError, Allocator};
 
-impl<T> Members<T> {
-    ghost use Rattle.ic_any_collection.specs.Members.{members_in, Held};
+impl<T> AnyCollection<T> {
+    ghost use Rattle.ic_any_collection.specs.AnyCollection.{members_in, Held};
     ghost use Rattle.ic_any_collection.specs.Edits.{AtGap};
 
     // The first member.
     #[inline]
-    fn front<M: Allocator>(&self, links: &Field<M>) -> Option<Place>
+    fn front<M: Allocator>(&self, links: &AnyTable<M>) -> Option<Place>
         requires held { Held (look links.now) self.now }
         ensures { result ≡ first (members_in (look links.now) self.now) }
     {
         match self {
-            Members::Singly(cursor) => cursor.list().front(links).get_ptr(),
-            Members::Doubly(cursor) => match links {
-                Field::TwoWay(links) => cursor.list().front(links).get_ptr(),
-                Field::Singly(_) | Field::Xor(_) => unreachable!(),
+            Self::Singly(cursor) => cursor.list().front(links).get_ptr(),
+            Self::Doubly(cursor) => match links {
+                AnyTable::WithPrev(links) => cursor.list().front(links).get_ptr(),
+                AnyTable::Singly(_) | AnyTable::Xor(_) => unreachable!(),
             },
-            Members::Xor(cursor) => cursor.list().front(links).get_ptr(),
-            Members::Tree(cursor) => match links {
-                Field::TwoWay(TwoWay::Tree(links)) => cursor.list().front(links).get_ptr(),
-                Field::TwoWay(TwoWay::Doubly(_)) | Field::Singly(_) | Field::Xor(_) =>
-                    unreachable!(),
+            Self::Xor(cursor) => cursor.list().front(links).get_ptr(),
+            Self::Tree(cursor) => match links {
+                AnyTable::WithPrev(TableWithPrev::Tree(links)) => cursor
+                    .list()
+                    .front(links)
+                    .get_ptr(),
+                AnyTable::WithPrev(TableWithPrev::Doubly(_))
+                | AnyTable::Singly(_)
+                | AnyTable::Xor(_) => unreachable!(),
             },
         }
     }
@@ -45,7 +49,7 @@ impl<T> Members<T> {
     #[inline]
     pub fn behind<M: Allocator>(
         &self,
-        links: &Field<M>,
+        links: &AnyTable<M>,
         prev: Option<Place>,
         place: Place,
     ) -> Option<Place>
@@ -56,20 +60,20 @@ impl<T> Members<T> {
     {
         let object = UnsafeRef::new(place);
         match self {
-            Members::Singly(cursor) => cursor
+            Self::Singly(cursor) => cursor
                 .list()
                 .cursor_from_ptr(links, object)
                 .peek_next()
                 .get_ptr(),
-            Members::Doubly(cursor) => match links {
-                Field::TwoWay(links) => cursor
+            Self::Doubly(cursor) => match links {
+                AnyTable::WithPrev(links) => cursor
                     .list()
                     .cursor_from_ptr(links, object)
                     .peek_next()
                     .get_ptr(),
-                Field::Singly(_) | Field::Xor(_) => unreachable!(),
+                AnyTable::Singly(_) | AnyTable::Xor(_) => unreachable!(),
             },
-            Members::Xor(cursor) => {
+            Self::Xor(cursor) => {
                 let prev = object_of(prev);
                 cursor
                     .list()
@@ -77,14 +81,15 @@ impl<T> Members<T> {
                     .peek_next()
                     .get_ptr()
             }
-            Members::Tree(cursor) => match links {
-                Field::TwoWay(TwoWay::Tree(links)) => cursor
+            Self::Tree(cursor) => match links {
+                AnyTable::WithPrev(TableWithPrev::Tree(links)) => cursor
                     .list()
                     .cursor_from_ptr(links, object)
                     .peek_next()
                     .get_ptr(),
-                Field::TwoWay(TwoWay::Doubly(_)) | Field::Singly(_) | Field::Xor(_) =>
-                    unreachable!(),
+                AnyTable::WithPrev(TableWithPrev::Doubly(_))
+                | AnyTable::Singly(_)
+                | AnyTable::Xor(_) => unreachable!(),
             },
         }
     }
@@ -93,7 +98,7 @@ impl<T> Members<T> {
     pub fn listed<M: Allocator, N: Allocator>(
         &self,
         alloc: N,
-        links: &Field<M>,
+        links: &AnyTable<M>,
     ) -> Result<Vec<Place, N>, AllocError>
         requires held { Held (look links.now) self.now }
         ensures { IfOk result (λ places. places.items ≡ members_in (look links.now) self.now) }
@@ -111,7 +116,11 @@ impl<T> Members<T> {
 
     /// Whether the place is that of a member, and if so, which one stands in front of it: `Some(None)` for the first member. It
     /// walks from the front: O(members).
-    pub fn find_prev<M: Allocator>(&self, links: &Field<M>, place: Place) -> Option<Option<Place>>
+    pub fn find_prev<M: Allocator>(
+        &self,
+        links: &AnyTable<M>,
+        place: Place,
+    ) -> Option<Option<Place>>
         requires held { Held (look links.now) self.now }
         ensures member { IfSome result (λ prev. AtGap (members_in (look links.now) self.now)
             (λ gap. IsAfter gap prev × IsBefore gap (Some place))) }
@@ -131,22 +140,25 @@ impl<T> Members<T> {
 
     /// Whether the place is that of a member. It asks that the place is covered. It walks from the front, but climbs in a tree:
     /// O(members), in a tree O(log n).
-    pub fn contains<M: Allocator>(&self, links: &Field<M>, place: Place) -> bool
+    pub fn contains<M: Allocator>(&self, links: &AnyTable<M>, place: Place) -> bool
         requires held { Held (look links.now) self.now }
         requires covered { IsCovered (look links.now) place }
         ensures { IsTrue result ↔ IsMember place (members_in (look links.now) self.now) }
     {
         match self {
-            Members::Singly(cursor) => cursor.list().contains(links, place),
-            Members::Doubly(cursor) => match links {
-                Field::TwoWay(links) => cursor.list().contains(links, place),
-                Field::Singly(_) | Field::Xor(_) => unreachable!(),
+            Self::Singly(cursor) => cursor.list().contains(links, place),
+            Self::Doubly(cursor) => match links {
+                AnyTable::WithPrev(links) => cursor.list().contains(links, place),
+                AnyTable::Singly(_) | AnyTable::Xor(_) => unreachable!(),
             },
-            Members::Xor(cursor) => cursor.list().contains(links, place),
-            Members::Tree(cursor) => match links {
-                Field::TwoWay(TwoWay::Tree(links)) => cursor.list().contains(&links.0, place),
-                Field::TwoWay(TwoWay::Doubly(_)) | Field::Singly(_) | Field::Xor(_) =>
-                    unreachable!(),
+            Self::Xor(cursor) => cursor.list().contains(links, place),
+            Self::Tree(cursor) => match links {
+                AnyTable::WithPrev(TableWithPrev::Tree(links)) => cursor
+                    .list()
+                    .contains(&links.0, place),
+                AnyTable::WithPrev(TableWithPrev::Doubly(_))
+                | AnyTable::Singly(_)
+                | AnyTable::Xor(_) => unreachable!(),
             },
         }
     }

@@ -14,19 +14,19 @@ ghost use Rattle.ic_link_ops.specs.Tables.{Table, KeepsBeside};
 ghost use Rattle.ic_link_ops.specs.LinkSteps.{Replays, releases_each};
 ghost use Rattle.ic_any_collection.specs.Entries.{is_linked};
 ghost use Rattle.ic_any_collection.specs.declared.entry.Entry.{Entry};
-ghost use Rattle.ic_any_collection.specs.Fields.{look};
+ghost use Rattle.ic_any_collection.specs.AnyTables.{look};
 
-use crate::{Field, Members, TwoWay};
+use crate::{AnyCollection, AnyTable, TableWithPrev};
 use std::alloc::Allocator;
 use std::mem;
 
-impl<T> Members<T> {
-    ghost use Rattle.ic_any_collection.specs.Members.{kind_in, cursor_in, members_in, is_list, is_two_way_list, is_xor, Keeps, Held, Alike};
+impl<T> AnyCollection<T> {
+    ghost use Rattle.ic_any_collection.specs.AnyCollection.{kind_in, cursor_in, members_in, is_list, is_two_way_list, is_xor, Keeps, Held, Alike};
     ghost use Rattle.ic_any_collection.specs.Edits.{AtGap, Moves, Empties, PutsAll, Parts};
 
     /// Hands out the whole collection, with its cursor at null, and leaves it empty. O(1): it reads no table, and no link changes.
     #[inline]
-    pub fn take(&mut self) -> Members<T>
+    pub fn take(&mut self) -> AnyCollection<T>
         ensures whole { (t : Table Entry) (s : List Place) → Keeps t self.old s → Keeps t result s }
         ensures whole_alike { Alike self.old result }
         ensures whole_null { cursor_in result ≡ None }
@@ -34,28 +34,28 @@ impl<T> Members<T> {
         ensures empty_alike { Alike self.old self.new }
         ensures empty_null { cursor_in self.new ≡ None }
     {
-        let empty = Members::new(self.kind());
+        let empty = AnyCollection::new(self.kind());
         let mut taken = mem::replace(self, empty);
         taken.go_null();
         taken
     }
 
     /// Unlinks all members of a collection that is given up. One step for each member.
-    pub fn dispose<M: Allocator>(self, links: &mut Field<M>)
+    pub fn dispose<M: Allocator>(self, links: &mut AnyTable<M>)
         requires held { Held (look links.old) self }
         ensures released { Replays is_linked (look links.old) (look links.new) (releases_each (members_in (look links.old) self)) }
         ensures frame { KeepsBeside (look links.old) (look links.new) (members_in (look links.old) self) }
     {
         match self {
-            Members::Singly(cursor) => cursor.into_inner().dispose(links),
-            Members::Doubly(cursor) => {
-                if let Field::TwoWay(links) = links {
+            Self::Singly(cursor) => cursor.into_inner().dispose(links),
+            Self::Doubly(cursor) => {
+                if let AnyTable::WithPrev(links) = links {
                     cursor.into_inner().dispose(links);
                 }
             }
-            Members::Xor(cursor) => cursor.into_inner().dispose(links),
-            Members::Tree(cursor) => {
-                if let Field::TwoWay(TwoWay::Tree(links)) = links {
+            Self::Xor(cursor) => cursor.into_inner().dispose(links),
+            Self::Tree(cursor) => {
+                if let AnyTable::WithPrev(TableWithPrev::Tree(links)) = links {
                     cursor.into_inner().dispose(links);
                 }
             }
@@ -64,7 +64,7 @@ impl<T> Members<T> {
 
     /// Unlinks all members. The collection is empty then, with its cursor at null. One step for each member.
     #[inline]
-    pub fn unlink_all<M: Allocator>(&mut self, links: &mut Field<M>)
+    pub fn unlink_all<M: Allocator>(&mut self, links: &mut AnyTable<M>)
         requires held { Held (look links.old) self.old }
         ensures { Empties (look links.old) (look links.new) self.old self.new }
     {
@@ -76,7 +76,7 @@ impl<T> Members<T> {
     /// It asks that both are lists of one kind, kept by the same table, which share no member. O(1); of singly linked lists one
     /// reading for each given member.
     #[inline]
-    pub fn splice_after<M: Allocator>(&mut self, links: &mut Field<M>, given: Members<T>)
+    pub fn splice_after<M: Allocator>(&mut self, links: &mut AnyTable<M>, given: AnyCollection<T>)
         requires held { Held (look links.old) self.old }
         requires given { Held (look links.old) given }
         requires can { is_list (kind_in self.old) ≡ true }
@@ -92,7 +92,7 @@ impl<T> Members<T> {
     ///
     /// It asks that both are doubly linked lists or both XOR lists, kept by the same table, which share no member. O(1).
     #[inline]
-    pub fn splice_before<M: Allocator>(&mut self, links: &mut Field<M>, given: Members<T>)
+    pub fn splice_before<M: Allocator>(&mut self, links: &mut AnyTable<M>, given: AnyCollection<T>)
         requires held { Held (look links.old) self.old }
         requires given { Held (look links.old) given }
         requires can { is_two_way_list (kind_in self.old) ≡ true }
@@ -105,7 +105,7 @@ impl<T> Members<T> {
     }
 
     // Goes behind the cursor of another list of the same kind.
-    fn go_behind<M: Allocator>(self, list: &mut Members<T>, links: &mut Field<M>)
+    fn go_behind<M: Allocator>(self, list: &mut AnyCollection<T>, links: &mut AnyTable<M>)
         requires held { Held (look links.old) list.old }
         requires given { Held (look links.old) self }
         requires can { is_list (kind_in list.old) ≡ true }
@@ -115,29 +115,29 @@ impl<T> Members<T> {
             × PutsAll (look links.old) (look links.new) list.old list.new gap (members_in (look links.old) self)) }
     {
         match self {
-            Members::Singly(given) => {
-                if let Members::Singly(cursor) = list {
+            Self::Singly(given) => {
+                if let Self::Singly(cursor) = list {
                     cursor.splice_after(links, given.into_inner());
                 }
             }
-            Members::Doubly(given) => {
-                if let Members::Doubly(cursor) = list {
-                    if let Field::TwoWay(links) = links {
+            Self::Doubly(given) => {
+                if let Self::Doubly(cursor) = list {
+                    if let AnyTable::WithPrev(links) = links {
                         cursor.splice_after(links, given.into_inner());
                     }
                 }
             }
-            Members::Xor(given) => {
-                if let Members::Xor(cursor) = list {
+            Self::Xor(given) => {
+                if let Self::Xor(cursor) = list {
                     cursor.splice_after(links, given.into_inner());
                 }
             }
-            Members::Tree(_) => unreachable!(),
+            Self::Tree(_) => unreachable!(),
         }
     }
 
     // Goes in front of the cursor of another list of the same kind.
-    fn go_before<M: Allocator>(self, list: &mut Members<T>, links: &mut Field<M>)
+    fn go_before<M: Allocator>(self, list: &mut AnyCollection<T>, links: &mut AnyTable<M>)
         requires held { Held (look links.old) list.old }
         requires given { Held (look links.old) self }
         requires can { is_two_way_list (kind_in list.old) ≡ true }
@@ -147,20 +147,20 @@ impl<T> Members<T> {
             × PutsAll (look links.old) (look links.new) list.old list.new gap (members_in (look links.old) self)) }
     {
         match self {
-            Members::Singly(_) => unreachable!(),
-            Members::Doubly(given) => {
-                if let Members::Doubly(cursor) = list {
-                    if let Field::TwoWay(links) = links {
+            Self::Singly(_) => unreachable!(),
+            Self::Doubly(given) => {
+                if let Self::Doubly(cursor) = list {
+                    if let AnyTable::WithPrev(links) = links {
                         cursor.splice_before(links, given.into_inner());
                     }
                 }
             }
-            Members::Xor(given) => {
-                if let Members::Xor(cursor) = list {
+            Self::Xor(given) => {
+                if let Self::Xor(cursor) = list {
                     cursor.splice_before(links, given.into_inner());
                 }
             }
-            Members::Tree(_) => unreachable!(),
+            Self::Tree(_) => unreachable!(),
         }
     }
 
@@ -168,20 +168,22 @@ impl<T> Members<T> {
     ///
     /// It asks that this is a list. O(1).
     #[inline]
-    pub fn split_after<M: Allocator>(&mut self, links: &mut Field<M>) -> Members<T>
+    pub fn split_after<M: Allocator>(&mut self, links: &mut AnyTable<M>) -> AnyCollection<T>
         requires held { Held (look links.old) self.old }
         requires can { is_list (kind_in self.old) ≡ true }
         ensures { AtGap (members_in (look links.old) self.old) (λ gap. IsAfter gap (cursor_in self.old)
             × Parts (look links.old) (look links.new) self.old self.new gap.front gap.back result) }
     {
         match self {
-            Members::Singly(cursor) => Members::Singly(cursor.split_after(links).cursor_owning()),
-            Members::Doubly(cursor) => match links {
-                Field::TwoWay(links) => Members::Doubly(cursor.split_after(links).cursor_owning()),
-                Field::Singly(_) | Field::Xor(_) => unreachable!(),
+            Self::Singly(cursor) => Self::Singly(cursor.split_after(links).cursor_owning()),
+            Self::Doubly(cursor) => match links {
+                AnyTable::WithPrev(links) => Self::Doubly(
+                    cursor.split_after(links).cursor_owning(),
+                ),
+                AnyTable::Singly(_) | AnyTable::Xor(_) => unreachable!(),
             },
-            Members::Xor(cursor) => Members::Xor(cursor.split_after(links).cursor_owning()),
-            Members::Tree(_) => unreachable!(),
+            Self::Xor(cursor) => Self::Xor(cursor.split_after(links).cursor_owning()),
+            Self::Tree(_) => unreachable!(),
         }
     }
 
@@ -189,25 +191,27 @@ impl<T> Members<T> {
     ///
     /// It asks that this is a doubly linked or an XOR list. O(1).
     #[inline]
-    pub fn split_before<M: Allocator>(&mut self, links: &mut Field<M>) -> Members<T>
+    pub fn split_before<M: Allocator>(&mut self, links: &mut AnyTable<M>) -> AnyCollection<T>
         requires held { Held (look links.old) self.old }
         requires can { is_two_way_list (kind_in self.old) ≡ true }
         ensures { AtGap (members_in (look links.old) self.old) (λ gap. IsBefore gap (cursor_in self.old)
             × Parts (look links.old) (look links.new) self.old self.new gap.back gap.front result) }
     {
         match self {
-            Members::Doubly(cursor) => match links {
-                Field::TwoWay(links) => Members::Doubly(cursor.split_before(links).cursor_owning()),
-                Field::Singly(_) | Field::Xor(_) => unreachable!(),
+            Self::Doubly(cursor) => match links {
+                AnyTable::WithPrev(links) => Self::Doubly(
+                    cursor.split_before(links).cursor_owning(),
+                ),
+                AnyTable::Singly(_) | AnyTable::Xor(_) => unreachable!(),
             },
-            Members::Xor(cursor) => Members::Xor(cursor.split_before(links).cursor_owning()),
-            Members::Singly(_) | Members::Tree(_) => unreachable!(),
+            Self::Xor(cursor) => Self::Xor(cursor.split_before(links).cursor_owning()),
+            Self::Singly(_) | Self::Tree(_) => unreachable!(),
         }
     }
 
     /// Turns the collection round, and moves its cursor to null. It asks that this is an XOR list. O(1): no entry is written.
     #[inline]
-    pub fn reverse<M: Allocator>(&mut self, links: &Field<M>)
+    pub fn reverse<M: Allocator>(&mut self, links: &AnyTable<M>)
         requires held { Held (look links.now) self.old }
         requires can { is_xor (kind_in self.old) ≡ true }
         ensures kept { Keeps (look links.now) self.new (reverse (members_in (look links.now) self.old)) }
@@ -215,7 +219,7 @@ impl<T> Members<T> {
         ensures null { cursor_in self.new ≡ None }
     {
         let _ = links;
-        if let Members::Xor(cursor) = self {
+        if let Self::Xor(cursor) = self {
             cursor.list_mut().reverse();
             cursor.go_null();
         }

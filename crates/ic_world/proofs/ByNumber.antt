@@ -5,7 +5,7 @@ use Rattle.std.proofs.lemmas.Bool.{cases_eq}
 use Rattle.std.proofs.lemmas.List.{length-map, length-set, map-set, get_or-set_same, get_or-set_other, get_or-map, ext_get_or}
 use Rattle.std.proofs.lemmas.Option.{slice_get_within, get_or_from_slice_get, same_Some}
 use Rattle.std.specs.declared.vec.Vec.{Vec}
-use Rattle.ic_any_collection.specs.declared.members.Members.{Members}
+use Rattle.ic_any_collection.specs.declared.any_collection.AnyCollection.{AnyCollection}
 use Rattle.ic_world.specs.declared.collection.Collection.{Collection}
 use Rattle.ic_world.specs.declared.collections_by_number.Slot.{Slot}
 use Rattle.ic_world.specs.declared.collections_by_number.Numbered.{Numbered}
@@ -104,7 +104,7 @@ module _ {V : Type 0} where
   field_within (l ∷ ls) (suc f) i n e = let low = field_within ls f i n e in omega (arith, low)
 
   -- OTHER MEMBERS of one collection, in place
-  module _ {ls : Lists V} {ns : List Slot} (are : AreNumbered ls ns) (c : ℕ) (s : Slot) (is : slice_get ns c ≡ Some s) (n : Numbered V) (lies : lying ls s.field s.index ≡ Some n) (m : Members V) where
+  module _ {ls : Lists V} {ns : List Slot} (are : AreNumbered ls ns) (c : ℕ) (s : Slot) (is : slice_get ns c ≡ Some s) (n : Numbered V) (lies : lying ls s.field s.index ≡ Some n) (m : AnyCollection V) where
     abbrev f : ℕ
     f = s.field
 
@@ -213,7 +213,7 @@ module _ {V M : Type 0} (lists : List (Vec (Numbered V) M)) (ns : List Slot) (c 
     one_is x at_index = at_index ∙ get_or_from_slice_get list.items s.index r.one x (ap (λ xs. slice_get xs s.index) (sym list_is) ∙ r.lies)
 
     -- OTHER MEMBERS in what lies there
-    module _ (x : Numbered V) (at_index : x ≡ get_or list.items s.index x) (m : Members V) (v : Vec (Numbered V) M) (set_in : v.items ≡ set list.items s.index (record { number = x.number; members = m })) where
+    module _ (x : Numbered V) (at_index : x ≡ get_or list.items s.index x) (m : AnyCollection V) (v : Vec (Numbered V) M) (set_in : v.items ≡ set list.items s.index (record { number = x.number; members = m })) where
       abbrev other : Numbered V
       other = record { number = r.one.number; members = m }
 

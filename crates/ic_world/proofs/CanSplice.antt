@@ -11,8 +11,8 @@ use Rattle.ic_any_collection.specs.declared.entry.Entry.{Entry}
 use Rattle.ic_any_collection.specs.declared.kind.Kind.{Kind}
 use Rattle.ic_any_collection.specs.Kinds.{number_of, kind_with}
 use Rattle.ic_world.specs.declared.field.WorldField.{WorldField}
-use Rattle.ic_any_collection.specs.declared.members.Members.{Members}
-use Rattle.ic_any_collection.specs.Members.{Keeps, Held, kind_in, members_in}
+use Rattle.ic_any_collection.specs.declared.any_collection.AnyCollection.{AnyCollection}
+use Rattle.ic_any_collection.specs.AnyCollection.{Keeps, Held, kind_in, members_in}
 use Rattle.ic_any_collection.proofs.AllKinds.{lawful as lawful_field}
 use Rattle.ic_any_collection.proofs.AllKinds.{IsLawful, one_sequence}
 use Rattle.ic_any_collection.specs.Edits.{PutsAll}
@@ -144,14 +144,14 @@ module _ {V M : Type 0} {before : Bool} (tables : List (WorldField M)) {cs : Lis
       let same : field ≡ can.list.field = same_Some _ _ (has ∙ ap its_field can.list_is) in
       omega (arith, can.can.there, same, length-map tables table_of)
 
-  module _ (emptied : Members V) where
+  module _ (emptied : AnyCollection V) where
     abbrev between : List (Option (Collection V))
     between = with_members cs d emptied
 
     first_stays : at between c ≡ at cs c
     first_stays = get_or-set_other cs d c (having emptied (at cs d)) None can.differ
 
-    module _ (l : Members V) (given : Some l ≡ its_members (at cs d)) (k : Members V) (list : Some k ≡ its_members (at between c)) where
+    module _ (l : AnyCollection V) (given : Some l ≡ its_members (at cs d)) (k : AnyCollection V) (list : Some k ≡ its_members (at between c)) where
       abbrev one : Collection V
       one = record { field = field; members = k }
 
@@ -169,7 +169,7 @@ module _ {V M : Type 0} {before : Bool} (tables : List (WorldField M)) {cs : Lis
           subst (CanJoin before (map table_of tables) one) (same_Some _ _ (sym can.given_is ∙ other_is))
           (subst (λ x. CanJoin before (map table_of tables) x can.given) (same_Some _ _ (sym can.list_is ∙ one_is)) can.can)
 
-      module _ (now : WorldField M) (links : now ≡ get_or tables field now) (taken : Members V) (same : (t : Table Entry) (s : List Place) → Keeps t l s → Keeps t taken s) where
+      module _ (now : WorldField M) (links : now ≡ get_or tables field now) (taken : AnyCollection V) (same : (t : Table Entry) (s : List Place) → Keeps t l s → Keeps t taken s) where
         abbrev t : Table Entry
         t = table (map table_of tables) field
 
@@ -184,7 +184,7 @@ module _ {V M : Type 0} {before : Bool} (tables : List (WorldField M)) {cs : Lis
         taken_held = subst (λ u. Held u taken) read (subst (Keeps t taken) (sym all) (same t (members_in t l) pair_fits.given))
 
         -- and what is left
-        pub joined_by : Emptied l emptied → (nf : WorldField M) (m : Members V) → PutsBeside before (table_of now) (table_of nf) k m (members_in (table_of now) taken)
+        pub joined_by : Emptied l emptied → (nf : WorldField M) (m : AnyCollection V) → PutsBeside before (table_of now) (table_of nf) k m (members_in (table_of now) taken)
             → AreJoined before (map table_of tables) (map table_of (set tables field nf)) cs (with_members between c m) c d
         joined_by e nf m puts x y is_x is_y =
             subst (λ z. IsJoined before (map table_of tables) (map table_of (set tables field nf)) cs (with_members between c m) c d z y) (same_Some _ _ (sym one_is ∙ is_x))

@@ -12,8 +12,8 @@ use Rattle.ic_any_collection.specs.declared.entry.Entry.{Entry}
 use Rattle.ic_any_collection.specs.Entries.{is_linked, kind_of}
 use Rattle.ic_any_collection.specs.Kinds.{kind_with}
 use Rattle.ic_world.specs.declared.collection.Collection.{Collection}
-use Rattle.ic_any_collection.specs.declared.members.Members.{Members}
-use Rattle.ic_any_collection.specs.Members.{Keeps, Alike, members_in}
+use Rattle.ic_any_collection.specs.declared.any_collection.AnyCollection.{AnyCollection}
+use Rattle.ic_any_collection.specs.AnyCollection.{Keeps, Alike, members_in}
 use Rattle.ic_world.specs.Family.{Sequence, LinkField, with_linked, with_collection, field_of}
 use Rattle.ic_any_collection.proofs.AllKinds.{IsLawful}
 use Rattle.ic_world.specs.LinkedSets.{linked_in}
@@ -53,7 +53,7 @@ module _ {V : Type 0} where
       ]
 
   -- what an edit of collection c, of its field's table and of no other leaves: only entries of `touched` change, and only objects are linked
-  pub record Edit (objects : Objects V) (ts : List (Table Entry)) (cs : List (Option (Collection V))) (c : ℕ) (k : Collection V) (t : Table Entry) (m : Members V) (members touched : List Place) : Type 0 where
+  pub record Edit (objects : Objects V) (ts : List (Table Entry)) (cs : List (Option (Collection V))) (c : ℕ) (k : Collection V) (t : Table Entry) (m : AnyCollection V) (members touched : List Place) : Type 0 where
     pub was : at cs c ≡ Some k
     pub kept : Keeps t m members
     pub alike : Alike k.members m
@@ -63,11 +63,11 @@ module _ {V : Type 0} where
     pub beside : (d : ℕ) (l : Collection V) → d ≢ c → at cs d ≡ Some l → l.field ≡ k.field → IsDisjoint (sequence ts l) touched
 
   -- the collection after it
-  abbrev pub after : Collection V → Members V → Collection V
+  abbrev pub after : Collection V → AnyCollection V → Collection V
   after k m = record { field = k.field; members = m }
 
   module _ {objects : Objects V} {room : ℕ} {ts : List (Table Entry)} {cs : List (Option (Collection V))} (whole : IsWhole objects room ts cs)
-      {c : ℕ} {k : Collection V} {t : Table Entry} {m : Members V} {members touched : List Place} (e : Edit objects ts cs c k t m members touched) where
+      {c : ℕ} {k : Collection V} {t : Table Entry} {m : AnyCollection V} {members touched : List Place} (e : Edit objects ts cs c k t m members touched) where
     pub in_ts : k.field < length ts
     in_ts = whole.in_field c k e.was
 

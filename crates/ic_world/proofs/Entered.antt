@@ -5,7 +5,7 @@ use Rattle.std.proofs.lemmas.Bool.{cases_eq}
 use Rattle.std.proofs.lemmas.List.{length-map, map-append, map-set, get_or-map, get_or-set_same, get_or-set_other}
 use Rattle.std.specs.declared.vec.Vec.{Vec}
 use Rattle.std.proofs.lemmas.Option.{slice_get_within, slice_get_past, same_Some}
-use Rattle.ic_any_collection.specs.declared.members.Members.{Members}
+use Rattle.ic_any_collection.specs.declared.any_collection.AnyCollection.{AnyCollection}
 use Rattle.ic_world.specs.declared.collections_by_number.Slot.{Slot}
 use Rattle.ic_world.specs.declared.collections_by_number.Numbered.{Numbered}
 use Rattle.ic_world.specs.ByNumber.{items_of, live_in, disposed, lying, in_field, in_slot, by_number, AreNumbered, HaveLists, IsEntered}
@@ -85,7 +85,7 @@ module _ {V : Type 0} where
           | inr other ↦ are.before g j x (sym (before_last g j (λ _ at_index. other at_index)) ∙ e)
         ]
 
-        kept : (c : ℕ) (t : Slot) → slice_get (ns ++ s ∷ []) c ≡ Some t → t.index ≢ disposed → (m : Members V) × (lying new t.field t.index ≡ Some (record { number = c; members = m }))
+        kept : (c : ℕ) (t : Slot) → slice_get (ns ++ s ∷ []) c ≡ Some t → t.index ≢ disposed → (m : AnyCollection V) × (lying new t.field t.index ≡ Some (record { number = c; members = m }))
         kept c t e live = elim (cases_eq c (length ns)) [
           | inl at_end ↦
               let is : s ≡ t = same_Some _ _ (sym (get_last ns s) ∙ ap (slice_get (ns ++ s ∷ [])) (sym at_end) ∙ e) in

@@ -3,7 +3,7 @@ use Rattle.std.proofs.Common.{◌≡◌, ℕ, true, List, map, set, Option, Some
 use Rattle.std.proofs.lemmas.List.{map-set}
 use Rattle.std.specs.declared.cmp.Ordering.{Ordering}
 use Rattle.ic_unsafe_ref.specs.Objects.{Objects}
-use Rattle.ic_any_collection.specs.declared.members.Members.{Members}
+use Rattle.ic_any_collection.specs.declared.any_collection.AnyCollection.{AnyCollection}
 use Rattle.ic_world.specs.declared.call.Command.TheVariants.{FastClear}
 use Rattle.ic_world.specs.declared.collection.Collection.{Collection}
 use Rattle.ic_world.specs.declared.field.WorldField.{WorldField}
@@ -21,7 +21,7 @@ use Rattle.ic_world.proofs.Splices.{emptied_whole, emptied_family}
 use Rattle.ic_world.proofs.Steps.{step_accepted}
 
 module _ {A V M : Type 0} {adapter : A} {objects : Objects V} {room : ℕ} {tables : List (WorldField M)} {cs : List (Option (Collection V))} (kept : IsKept adapter objects room tables cs)
-    {c : ℕ} {k : Collection V} {now : WorldField M} (at_k : Found tables cs c k now) (m : Members V) (e : Emptied k.members m) where
+    {c : ℕ} {k : Collection V} {now : WorldField M} (at_k : Found tables cs c k now) (m : AnyCollection V) (e : Emptied k.members m) where
   abbrev nf : WorldField M
   nf = record now { left_linked = true }
 

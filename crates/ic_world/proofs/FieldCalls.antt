@@ -14,11 +14,11 @@ use Rattle.ic_unsafe_ref.specs.Objects.{is_placed as place_is_placed}
 use Rattle.ic_unsafe_ref.proofs.PlaceLemmas.{same_index}
 use Rattle.ic_link_ops.specs.Sequences.{IsAbsent, IsMember}
 use Rattle.ic_link_ops.specs.Tables.{IsCovered, IsUnlinked, ChangesOnly}
-use Rattle.ic_any_collection.specs.declared.field.Field.{Field}
-use Rattle.ic_any_collection.specs.Fields.{look}
+use Rattle.ic_any_collection.specs.declared.any_table.AnyTable.{AnyTable}
+use Rattle.ic_any_collection.specs.AnyTables.{look}
 use Rattle.ic_world.specs.declared.field.WorldField.{WorldField}
 use Rattle.ic_any_collection.specs.Entries.{is_linked}
-use Rattle.ic_any_collection.specs.Members.{Held, members_in}
+use Rattle.ic_any_collection.specs.AnyCollection.{Held, members_in}
 use Rattle.ic_any_collection.proofs.AllKinds.{lawful as lawful_field, unlinked_absent}
 use Rattle.ic_world.specs.declared.collection.Collection.{Collection}
 use Rattle.ic_world.specs.declared.call.Command.TheVariants.{IsLinked, ForceUnlink}
@@ -178,7 +178,7 @@ module _ {A V M : Type 0} {adapter : A} {objects : Objects V} {room : ℕ} (tabl
       by false e = absurd (kept.1.none f p kept_in (linked_read tables kept f t p within read ∙ held, absent_in w f p e))
 
   -- AN OBJECT UNLINKED BY FORCE, where it is a member of none
-  module _ (within : f < length tables) (t : WorldField M) (read : t ≡ get_or tables f t) (links : Field M) (free : IsUnlinked is_linked (look links) p) (frame : ChangesOnly (table_of t) (look links) p)
+  module _ (within : f < length tables) (t : WorldField M) (read : t ≡ get_or tables f t) (links : AnyTable M) (free : IsUnlinked is_linked (look links) p) (frame : ChangesOnly (table_of t) (look links) p)
       {old : Family A V} (view : family_of adapter objects (map table_of tables) cs ≡ old) (none : is_member_in old f p ≡ false) where
     in_map : f < length (map table_of tables)
     in_map = rw length-map within

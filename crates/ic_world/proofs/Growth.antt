@@ -13,12 +13,12 @@ use Rattle.ic_link_ops.specs.Sequences.{IsAbsent}
 use Rattle.ic_link_ops.specs.Tables.{Table, Extent, IsCovered, IsUnlinked, ChangesOnly, KeepsBeside}
 use Rattle.ic_link_ops.proofs.SequenceLemmas.{disjoint_cons}
 use Rattle.ic_any_collection.specs.declared.entry.Entry.{Entry}
-use Rattle.ic_any_collection.specs.declared.field.Field.{Field}
+use Rattle.ic_any_collection.specs.declared.any_table.AnyTable.{AnyTable}
 use Rattle.ic_any_collection.specs.declared.kind.Kind.{Kind}
-use Rattle.ic_any_collection.specs.Fields.{look}
+use Rattle.ic_any_collection.specs.AnyTables.{look}
 use Rattle.ic_any_collection.specs.Kinds.{kind_with}
 use Rattle.ic_any_collection.specs.Entries.{is_linked, kind_of}
-use Rattle.ic_any_collection.specs.Members.{Keeps}
+use Rattle.ic_any_collection.specs.AnyCollection.{Keeps}
 use Rattle.ic_any_collection.proofs.AllKinds.{lawful as lawful_field}
 use Rattle.ic_any_collection.proofs.AllKinds.{IsLawful, one_sequence, shown_frame, keeps_frame}
 use Rattle.ic_world.specs.declared.collection.Collection.{Collection}
@@ -80,7 +80,7 @@ Covering count r said old new is_enough = record {
 }
 
 -- it is table f, which was read
-module _ {M A E : Type 0} {said is_enough : Type 0} (ts : List (Table Entry)) (tables : List (WorldField M)) (f count : ℕ) (within : f < length tables) (x : WorldField M) (links : Field M) (r : Result A E)
+module _ {M A E : Type 0} {said is_enough : Type 0} (ts : List (Table Entry)) (tables : List (WorldField M)) (f count : ℕ) (within : f < length tables) (x : WorldField M) (links : AnyTable M) (r : Result A E)
     (e : Covering count r said (table_of (get_or tables f x)) (look links) is_enough) where
   abbrev u : WorldField M
   u = record (get_or tables f x) { links = links }
@@ -174,7 +174,7 @@ module _ {A V : Type 0} (adapter : A) (objects : Objects V) (ts us : List (Table
       kept_whole whole us grown_lawful grown_kept more reach (let n = grown.count in omega (arith, n)) covered (λ f q h. whole.placed f q (rw ((grown.each f).entries q) at h))
 
 -- in a table that covered no place when it was made nothing is linked, and growing keeps it so
-pub nothing_linked : {M : Type 0} (links : Field M) (t : Table Entry) → (look links).extent.places ≡ 0 → ((q : Place) → t.entry q ≡ (look links).entry q) → (q : Place) → is_linked (t.entry q) ≡ false
+pub nothing_linked : {M : Type 0} (links : AnyTable M) (t : Table Entry) → (look links).extent.places ≡ 0 → ((q : Place) → t.entry q ≡ (look links).entry q) → (q : Place) → is_linked (t.entry q) ≡ false
 nothing_linked links t covers same q = by (is_linked (t.entry q)) refl
   where
     by : (b : Bool) → is_linked (t.entry q) ≡ b → is_linked (t.entry q) ≡ false
@@ -233,7 +233,7 @@ module _ {V : Type 0} {objects : Objects V} {room : ℕ} {ts : List (Table Entry
 -- and what adding it comes to
 module _ {A V K M : Type 0} {adapter : A} {objects : Objects V} {room : ℕ} (tables : List (WorldField M)) {cs : List (Option (Collection V))} (kept : IsKept adapter objects room tables cs)
     {old : Family A V} (view : family_of adapter objects (map table_of tables) cs ≡ old) (cmp : K → K → Ordering) (key_of : A → V → K) where
-  pub field_added : (kind : Kind) (links : Field M) → IsFresh kind room (look links) → (r : Result ℕ Refusal) (news : List (WorldField M)) → Appends tables (record { links = links; left_linked = false }) r news
+  pub field_added : (kind : Kind) (links : AnyTable M) → IsFresh kind room (look links) → (r : Result ℕ Refusal) (news : List (WorldField M)) → Appends tables (record { links = links; left_linked = false }) r news
       → IsKept adapter objects room news cs × Step cmp key_of old (AddField kind) (reply_of (λ f. field f) r) (family_of adapter objects (map table_of news) cs)
   field_added kind links fresh (Ok f) news e =
       let new : WorldField M = record { links = links; left_linked = false } in

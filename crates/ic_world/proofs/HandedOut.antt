@@ -6,10 +6,10 @@ use Rattle.ic_link_ops.specs.Sequences.{IsDisjoint}
 use Rattle.ic_link_ops.specs.Tables.{Table}
 use Rattle.ic_link_ops.proofs.SequenceLemmas.{absent_swap}
 use Rattle.ic_any_collection.specs.declared.entry.Entry.{Entry}
-use Rattle.ic_any_collection.specs.declared.field.Field.{Field}
+use Rattle.ic_any_collection.specs.declared.any_table.AnyTable.{AnyTable}
 use Rattle.ic_world.specs.declared.field.WorldField.{WorldField}
-use Rattle.ic_any_collection.specs.declared.members.Members.{Members}
-use Rattle.ic_any_collection.specs.Members.{Held, members_in, kind_in}
+use Rattle.ic_any_collection.specs.declared.any_collection.AnyCollection.{AnyCollection}
+use Rattle.ic_any_collection.specs.AnyCollection.{Held, members_in, kind_in}
 use Rattle.ic_world.specs.declared.collection.Collection.{Collection}
 use Rattle.ic_world.specs.declared.part.Part.{Part}
 use Rattle.ic_world.specs.declared.call.Refusal.TheVariants.{WrongKind, OutOfMemory}
@@ -27,7 +27,7 @@ use Rattle.ic_world.proofs.OneCall.{same_state}
 use Rattle.ic_world.proofs.LeftLinked.{none_out}
 
 module _ {V : Type 0} {objects : Objects V} {room : ℕ} {ts : List (Table Entry)} {cs : List (Option (Collection V))} (whole : IsWhole objects room ts cs)
-    (c : ℕ) (k : Collection V) (is : at cs c ≡ Some k) (part : Part) {new : Table Entry} {m handed : Members V} (parts : HandsOut (PartsOf part) (table ts k.field) new k.members m handed) where
+    (c : ℕ) (k : Collection V) (is : at cs c ≡ Some k) (part : Part) {new : Table Entry} {m handed : AnyCollection V} (parts : HandsOut (PartsOf part) (table ts k.field) new k.members m handed) where
   part_edit : Edit objects ts cs c k new m (members_in new m) (sequence ts k)
   part_edit = record {
     was = is;
@@ -95,7 +95,7 @@ module _ {A V M : Type 0} {adapter : A} {objects : Objects V} {room : ℕ} (tabl
     part_unroomed has = rw (← view, tested_by true has) refl
 
   -- where it is not
-  module _ {now : WorldField M} (at_k : Found tables cs c k now) (links : Field M) (m handed : Members V) (parts : HandsOut (PartsOf part) (table_of now) (table_of (record now { links = links })) k.members m handed)
+  module _ {now : WorldField M} (at_k : Found tables cs c k now) (links : AnyTable M) (m handed : AnyCollection V) (parts : HandsOut (PartsOf part) (table_of now) (table_of (record now { links = links })) k.members m handed)
       (has : has_part part (kind_in k.members) ≡ true) where
     abbrev nf : WorldField M
     nf = record now { links = links }
@@ -120,7 +120,7 @@ module _ {V : Type 0} (cs : List (Option (Collection V))) (c : ℕ) {k : Collect
   pub still_there : at (cs ++ Some empty ∷ []) c ≡ Some k
   still_there = get_or_append_left cs (Some empty ∷ []) None c (some_within cs c is) ∙ is
 
-  module _ (m handed : Members V) (n : ℕ) (number : n ≡ length cs) where
+  module _ (m handed : AnyCollection V) (n : ℕ) (number : n ≡ length cs) where
     abbrev first : List (Option (Collection V))
     first = with_members (cs ++ Some empty ∷ []) c m
 

@@ -9,11 +9,11 @@ use Rattle.ic_link_ops.specs.declared.errors.ReplaceError.TheVariants.{Null, Alr
 use Rattle.ic_link_ops.specs.Errors.{ByCause}
 use Rattle.ic_link_ops.specs.Sequences.{at_front, at_back, first, IsAfter, IsBefore}
 use Rattle.ic_link_ops.specs.Tables.{IsCovered, IsLinked, IsUnlinked}
-use Rattle.ic_any_collection.specs.declared.field.Field.{Field}
-use Rattle.ic_any_collection.specs.Fields.{look}
+use Rattle.ic_any_collection.specs.declared.any_table.AnyTable.{AnyTable}
+use Rattle.ic_any_collection.specs.AnyTables.{look}
 use Rattle.ic_any_collection.specs.Entries.{is_linked}
-use Rattle.ic_any_collection.specs.declared.members.Members.{Members}
-use Rattle.ic_any_collection.specs.Members.{cursor_in, members_in, Held}
+use Rattle.ic_any_collection.specs.declared.any_collection.AnyCollection.{AnyCollection}
+use Rattle.ic_any_collection.specs.AnyCollection.{cursor_in, members_in, Held}
 use Rattle.ic_any_collection.specs.Edits.{AtGap, Puts, Swaps, IsUnchanged}
 use Rattle.ic_any_collection.proofs.AllKinds.{lawful, distinct}
 use Rattle.ic_world.specs.declared.calls.one_call.Call.TheVariants as one
@@ -31,14 +31,14 @@ use Rattle.ic_world.proofs.Tested.{goes_on, stops}
 use Rattle.ic_world.proofs.Turned.{turns_put, turns_swap}
 
 -- whether the set of linked places has p
-in_set : {M : Type 0} (links : Field M) (p : Place) {b : Bool} → is_linked ((look links).entry p) ≡ b → set.contains (linked_in (look links)) (index_of p) ≡ b
+in_set : {M : Type 0} (links : AnyTable M) (p : Place) {b : Bool} → is_linked ((look links).entry p) ≡ b → set.contains (linked_in (look links)) (index_of p) ≡ b
 in_set links p e = in_linked (look links) (lawful links) p ∙ e
 
 -- p is linked, and nothing has changed
-abbrev pub Refuses : {V M : Type 0} → Place → (old new : Field M) (m m' : Members V) → Type 0
+abbrev pub Refuses : {V M : Type 0} → Place → (old new : AnyTable M) (m m' : AnyCollection V) → Type 0
 Refuses p old new m m' = IsLinked is_linked (look old) p × IsUnchanged old new m m'
 
-module _ {V M : Type 0} (old new : Field M) (p : Place) (m m' : Members V) where
+module _ {V M : Type 0} (old new : AnyTable M) (p : Place) (m m' : AnyCollection V) where
   -- AN OBJECT IS PUT IN, or refused
   abbrev pub PutsAt : Where → Bool → Type 0
   PutsAt at b = Ran {R = Unit} (p ∷ []) (λ s. asks_unlinked s p) (λ _ s t. calls.PutReplies at p s done t) old new m m' (if b then Ok tt else Err AlreadyLinked)
@@ -73,7 +73,7 @@ is_there : (o : Option Place) → o ≢ None → is_some o ≡ true
 is_there None h = absurd (h refl)
 is_there (Some q) h = refl
 
-module _ {V M T : Type 0} (K : Type 0) (old new : Field M) (p : Place) (m m' : Members V) where
+module _ {V M T : Type 0} (K : Type 0) (old new : AnyTable M) (p : Place) (m m' : AnyCollection V) where
   -- AN OBJECT TAKES THE PLACE of a member, or is refused
   abbrev pub SwapsAt : Where → Result Place (ReplaceError T) → Type 0
   SwapsAt at r = Ran (p ∷ []) (own_refusal {K = K} (one.Swap at p)) (λ out s t. calls.SwapReplies at p s (object out) t) old new m m' (result_of_swap r)

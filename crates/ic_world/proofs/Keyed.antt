@@ -6,11 +6,11 @@ use Rattle.ic_unsafe_ref.specs.Objects.{Objects}
 use Rattle.ic_link_ops.specs.Sequences.{Cut, join}
 use Rattle.ic_link_ops.specs.Tables.{IsLinked}
 use Rattle.ic_rbtree.specs.Borders.{Finds, IsBorder, less_at}
-use Rattle.ic_any_collection.specs.declared.field.Field.{Field}
-use Rattle.ic_any_collection.specs.Fields.{look}
+use Rattle.ic_any_collection.specs.declared.any_table.AnyTable.{AnyTable}
+use Rattle.ic_any_collection.specs.AnyTables.{look}
 use Rattle.ic_any_collection.specs.Entries.{is_linked}
-use Rattle.ic_any_collection.specs.declared.members.Members.{Members}
-use Rattle.ic_any_collection.specs.Members.{members_in, Held}
+use Rattle.ic_any_collection.specs.declared.any_collection.AnyCollection.{AnyCollection}
+use Rattle.ic_any_collection.specs.AnyCollection.{members_in, Held}
 use Rattle.ic_any_collection.specs.Edits.{AtGap, Moves, IsUnchanged}
 use Rattle.ic_any_collection.specs.Keyed.{FewLooks, IsVacantFor, PutsInOrder, PutsAtKey}
 use Rattle.ic_any_collection.proofs.AllKinds.{lawful}
@@ -23,7 +23,7 @@ use Rattle.ic_world.proofs.Linked.{in_linked}
 use Rattle.ic_world.proofs.Turned.{turns_by, turns_put}
 
 -- the cursor alone has moved, in a call that names what it may
-still : {V M : Type 0} (links : Field M) {m m' : Members V} {names : List Place} {cursor : Option Place} {Accepts : State → State → Type 0} → (e : Moves (look links) m m' cursor)
+still : {V M : Type 0} (links : AnyTable M) {m m' : AnyCollection V} {names : List Place} {cursor : Option Place} {Accepts : State → State → Type 0} → (e : Moves (look links) m m' cursor)
     → (state_of (look links) m' ≡ moved (state_of (look links) m) cursor → Accepts (state_of (look links) m) (state_of (look links) m'))
     → Turns names Accepts (look links) (look links) m m'
 still links {m' = m'} e accepts =
@@ -31,15 +31,15 @@ still links {m' = m'} e accepts =
     (record { kept = e.kept; alike = e.alike; cursor_is = e.cursor_is; frame = record { extent = refl; others = λ q out. refl } })
     (λ q out. out) refl accepts
 
-module _ {V M : Type 0} {links : Field M} {m : Members V} where
+module _ {V M : Type 0} {links : AnyTable M} {m : AnyCollection V} where
   -- A SEARCH
-  pub searched : {R : Type 0} {names : List Place} {m' : Members V} {cursor : Option Place} {accepts : R → State → State → Type 0} (answer : R) → Moves (look links) m m' cursor
+  pub searched : {R : Type 0} {names : List Place} {m' : AnyCollection V} {cursor : Option Place} {accepts : R → State → State → Type 0} (answer : R) → Moves (look links) m m' cursor
       → (state_of (look links) m' ≡ moved (state_of (look links) m) cursor → accepts answer (state_of (look links) m) (state_of (look links) m'))
       → Ran names (λ s. None) accepts links links m m' (Ok answer)
   searched answer e accepts = record { tested = refl; turned = still links e accepts; unchanged = tt }
 
   -- AN INSERT IN ORDER, or its refusal
-  pub inserted : {R : Type 0} {links' : Field M} {m' : Members V} {cursor : Option Place} {accepts : R → State → State → Type 0} (at : Place → Ordering) (p : Place) (answer : Option R)
+  pub inserted : {R : Type 0} {links' : AnyTable M} {m' : AnyCollection V} {cursor : Option Place} {accepts : R → State → State → Type 0} (at : Place → Ordering) (p : Place) (answer : Option R)
       → OnSome answer (PutsInOrder at (look links) (look links') m m' p cursor)
       → ((a : R) → answer ≡ Some a → (gap : Cut) → join gap ≡ members_in (look links) m → IsBorder (less_at at) gap → state_of (look links') m' ≡ put (state_of (look links) m) gap p cursor
       → accepts a (state_of (look links) m) (state_of (look links') m'))
@@ -59,7 +59,7 @@ module _ {V K : Type 0} (cmp : K → K → Ordering) (key_of : V → K) (objects
   abbrev Answers : Option (Bool × Place × ℕ) → State → State → Type 0
   Answers answer s t = EntryReplies cmp key_of objects key p s (entry_or_linked answer) t
 
-  module _ {M : Type 0} (links links' : Field M) (m m' : Members V) where
+  module _ {M : Type 0} (links links' : AnyTable M) (m m' : AnyCollection V) where
     abbrev Occupied : Bool → Place → Type 0
     Occupied b q = b ≡ true → Finds at (members_in (look links) m) (Some q) × (links' ≡ links) × Moves (look links) m m' (Some q)
 

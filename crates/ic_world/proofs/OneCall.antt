@@ -14,11 +14,11 @@ use Rattle.ic_link_ops.specs.Tables.{Table, IsCovered, IsUnlinked}
 use Rattle.ic_link_ops.specs.PlacedObjects.{ArePlaced}
 use Rattle.ic_link_ops.proofs.SequenceLemmas.{disjoint_cons}
 use Rattle.ic_any_collection.specs.declared.entry.Entry.{Entry}
-use Rattle.ic_any_collection.specs.declared.field.Field.{Field}
+use Rattle.ic_any_collection.specs.declared.any_table.AnyTable.{AnyTable}
 use Rattle.ic_world.specs.declared.field.WorldField.{WorldField}
 use Rattle.ic_any_collection.specs.Entries.{is_linked}
-use Rattle.ic_any_collection.specs.Members.{kind_in, cursor_in, members_in}
-use Rattle.ic_any_collection.specs.declared.members.Members.{Members}
+use Rattle.ic_any_collection.specs.AnyCollection.{kind_in, cursor_in, members_in}
+use Rattle.ic_any_collection.specs.declared.any_collection.AnyCollection.{AnyCollection}
 use Rattle.ic_any_collection.specs.Edits.{IsUnchanged}
 use Rattle.ic_any_collection.proofs.AllKinds.{lawful as lawful_field, unlinked_absent}
 use Rattle.ic_world.specs.declared.collection.Collection.{Collection}
@@ -102,7 +102,7 @@ module _ {V : Type 0} {objects : Objects V} {room : ℕ} {ts : List (Table Entry
     linked q there true e = e
     linked q there false e = absurd (there (unlinked_absent (table ts k.field) k.members (sequence ts k) (whole.held c k is).shown e))
 
-  module _ {named : List Place} {Accepts : State → State → Type 0} {new : Table Entry} {m : Members V} (turns : Turns named Accepts (table ts k.field) new k.members m)
+  module _ {named : List Place} {Accepts : State → State → Type 0} {new : Table Entry} {m : AnyCollection V} (turns : Turns named Accepts (table ts k.field) new k.members m)
       (has : Each (λ p. HasObject objects (index_of p)) named) where
     turn_edit : Edit objects ts cs c k new m (members_in new m) (turns.fresh ++ sequence ts k)
     turn_edit = record {
@@ -156,7 +156,7 @@ module _ {A V M : Type 0} {adapter : A} {objects : Objects V} {room : ℕ} {tabl
   pub room_for : (s : List Place) → list_all (place_is_placed objects) s ≡ true → Each (IsCovered (table_of now)) s
   room_for s e = each_map (λ p. HasObject objects (index_of p)) (IsCovered (table_of now)) (λ p has. let a = whole.within (index_of p) has in let b = rw at_k.read at (whole.covered k.field at_k.field) in omega (arith, a, b)) s (placed_each s e)
 
-  module _ {K : Type 0} (cmp : K → K → Ordering) (key_of : A → V → K) (call : Call K) (placed : list_all (place_is_placed objects) (names call) ≡ true) (can : has_call call (kind_in k.members) ≡ true) {R : Type 0} (accepted : R → Reply) (r : Result R Refusal) (links : Field M) (m : Members V)
+  module _ {K : Type 0} (cmp : K → K → Ordering) (key_of : A → V → K) (call : Call K) (placed : list_all (place_is_placed objects) (names call) ≡ true) (can : has_call call (kind_in k.members) ≡ true) {R : Type 0} (accepted : R → Reply) (r : Result R Refusal) (links : AnyTable M) (m : AnyCollection V)
       (ran : Ran (names call) (own_refusal call) (λ a s t. Replies cmp (key_of adapter) objects call s (accepted a) t) now.links links k.members m r) where
     abbrev nf : WorldField M
     nf = record now { links = links }

@@ -16,13 +16,13 @@ use Rattle.ic_any_collection.specs.declared.kind.Kind.{Kind}
 use Rattle.ic_any_collection.specs.Kinds.{carries}
 use Rattle.ic_any_collection.specs.Entries.{kind_of}
 use Rattle.ic_world.specs.declared.collection.Collection.{Collection}
-use Rattle.ic_any_collection.specs.declared.members.Members.{Members}
+use Rattle.ic_any_collection.specs.declared.any_collection.AnyCollection.{AnyCollection}
 use Rattle.ic_world.specs.declared.call.Refusal.{Refusal}
 use Rattle.ic_world.specs.declared.call.Refusal.TheVariants.{NoSuchField, WrongKind, OutOfMemory}
 use Rattle.ic_world.specs.Family.{Family, has_field, field_of, with_opened}
 use Rattle.ic_world.specs.Pieces.{Appends}
 use Rattle.ic_world.specs.declared.call.Command.TheVariants.{Open}
-use Rattle.ic_any_collection.specs.Members.{Keeps, Held, kind_in, cursor_in}
+use Rattle.ic_any_collection.specs.AnyCollection.{Keeps, Held, kind_in, cursor_in}
 use Rattle.ic_world.specs.Tables.{table, table_of, field_in, sequence, seen_as, shown_as, at, family_of, IsWhole}
 use Rattle.ic_world.specs.Replies.{reply_of}
 use Rattle.ic_world.specs.Calls.{opened, refused, asks}
@@ -89,7 +89,7 @@ open_tests adapter objects tables cs view f kind t within read =
     ∙ ap (λ x. asks (carries x.kind kind) WrongKind None) (field_at adapter objects (map table_of tables) cs f (rw length-map within) ∙ ap field_in (table_read tables f t within read)))
 
 -- members of a kind that were made new
-abbrev New : {V : Type 0} → Kind → Members V → Type 0
+abbrev New : {V : Type 0} → Kind → AnyCollection V → Type 0
 New of_kind m = record {
   kind : kind_in m ≡ of_kind;
   null : cursor_in m ≡ None;
@@ -99,7 +99,7 @@ New of_kind m = record {
 -- AN OPENING that no test refuses. `cmp`, `key_of`: the order of the keys, and the key of a value
 module _ {A V K : Type 0} (cmp : K → K → Ordering) (key_of : A → V → K) {adapter : A} {objects : Objects V} {room : ℕ} {ts : List (Table Entry)} {cs : List (Option (Collection V))}
     (whole : IsWhole objects room ts cs) {old : Family A V} (view : family_of adapter objects ts cs ≡ old) (f : ℕ) (kind : Kind) (none : refusal_of_open old f kind ≡ None)
-    (m : Members V) (new : New kind m) where
+    (m : AnyCollection V) (new : New kind m) where
   abbrev fresh : Collection V
   fresh = record { field = f; members = m }
 

@@ -6,8 +6,8 @@ use Rattle.ic_link_ops.specs.Tables.{Table, KeepsBeside, KeepsLinked}
 use Rattle.ic_link_ops.proofs.SequenceLemmas.{absent_both, absent_left, absent_right, distinct_disjoint, disjoint_sym}
 use Rattle.ic_any_collection.specs.declared.entry.Entry.{Entry}
 use Rattle.ic_any_collection.specs.Entries.{is_linked}
-use Rattle.ic_any_collection.specs.declared.members.Members.{Members}
-use Rattle.ic_any_collection.specs.Members.{cursor_in, members_in, Keeps, Held, Alike}
+use Rattle.ic_any_collection.specs.declared.any_collection.AnyCollection.{AnyCollection}
+use Rattle.ic_any_collection.specs.AnyCollection.{cursor_in, members_in, Keeps, Held, Alike}
 use Rattle.ic_any_collection.specs.Edits.{Parts}
 use Rattle.ic_any_collection.proofs.AllKinds.{IsLawful, one_sequence, distinct, held_of}
 use Rattle.ic_world.specs.Calls.{State, having}
@@ -17,13 +17,13 @@ use Rattle.ic_world.specs.declared.part.Part.TheVariants.{All, After, Before}
 use Rattle.ic_world.proofs.Linked.{linked_same}
 
 -- the two sides of a gap share no member, and what is no member is at neither
-apart_gap : {V : Type 0} {t : Table Entry} {m : Members V} → Held t m → (gap : Cut) → join gap ≡ members_in t m → IsDisjoint gap.front gap.back
+apart_gap : {V : Type 0} {t : Table Entry} {m : AnyCollection V} → Held t m → (gap : Cut) → join gap ≡ members_in t m → IsDisjoint gap.front gap.back
 apart_gap {t} {m} held gap cut = distinct_disjoint gap.front gap.back (subst IsDistinct (sym cut) (distinct t m (members_in t m) held.shown))
 
 absent_gap : {s : List Place} (gap : Cut) → join gap ≡ s → (q : Place) → IsAbsent q s → IsAbsent q (join gap)
 absent_gap gap cut q out = subst (IsAbsent q) (sym cut) out
 
-module _ {V : Type 0} {old new : Table Entry} {m m' part : Members V} (law : IsLawful old) (law' : IsLawful new) where
+module _ {V : Type 0} {old new : Table Entry} {m m' part : AnyCollection V} (law : IsLawful old) (law' : IsLawful new) where
   -- the members s stay, and u are handed out
   hands_by : {P : State → State → State → Type 0} (s u : List Place) (cursor : Option Place) → Keeps new m' s → Keeps new part u → Alike m m' → Alike m part
       → cursor_in m' ≡ cursor → cursor_in part ≡ None → KeepsLinked is_linked old new → KeepsBeside old new (members_in old m)
@@ -70,7 +70,7 @@ module _ {V : Type 0} {old new : Table Entry} {m m' part : Members V} (law : IsL
         (disjoint_sym gap.front gap.back (apart_gap held gap cut)) (gap, cut, (before, refl, refl))
 
 -- all members are handed out, and no entry changes
-pub hands_all : {V : Type 0} {t : Table Entry} {m m' part : Members V} → IsLawful t → Keeps t m' [] → Keeps t part (members_in t m) → Alike m m' → Alike m part
+pub hands_all : {V : Type 0} {t : Table Entry} {m m' part : AnyCollection V} → IsLawful t → Keeps t m' [] → Keeps t part (members_in t m) → Alike m m' → Alike m part
     → cursor_in m' ≡ None → cursor_in part ≡ None → HandsOut (PartsOf All) t t m m' part
 hands_all {t} {m} law kept handed alike part_alike null part_null =
     hands_by law law [] (members_in t m) None kept handed alike part_alike null part_null (λ q. refl)

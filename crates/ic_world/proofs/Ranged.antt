@@ -8,8 +8,8 @@ use Rattle.ic_rbtree.specs.declared.keys.key_adapter.Bound.{Bound}
 use Rattle.ic_rbtree.specs.Ranges.{runs_up, IsRange}
 use Rattle.ic_any_collection.specs.declared.entry.Entry.{Entry}
 use Rattle.ic_any_collection.specs.declared.kind.Kind.{Kind}
-use Rattle.ic_any_collection.specs.declared.members.Members.{Members}
-use Rattle.ic_any_collection.specs.Members.{kind_in, cursor_in, members_in, is_tree}
+use Rattle.ic_any_collection.specs.declared.any_collection.AnyCollection.{AnyCollection}
+use Rattle.ic_any_collection.specs.AnyCollection.{kind_in, cursor_in, members_in, is_tree}
 use Rattle.ic_any_collection.specs.Keyed.{FewLooksWithin}
 use Rattle.ic_world.specs.declared.collection.Collection.{Collection}
 use Rattle.ic_world.specs.declared.call.Command.TheVariants.{Range, Current}
@@ -30,20 +30,20 @@ module _ {A V K : Type 0} (cmp : K → K → Ordering) (key_of : A → V → K) 
   Ranges w s = IsRange (bound_at cmp (key_of w.adapter) (objects_of w) min) (bound_at cmp (key_of w.adapter) (objects_of w) max) (runs_up cmp (key_of w.adapter) (objects_of w)) s places
       × FewLooksWithin min first s × FewLooksWithin max second s
 
-  step_ranged : {t : Table Entry} {m : Members V} (w : Family A V) (c : ℕ) → Sees w c t m → is_tree (kind_in m) ≡ true → Ranges w (members_in t m) → Step cmp key_of w (Range c min max) (range places first second) w
+  step_ranged : {t : Table Entry} {m : AnyCollection V} (w : Family A V) (c : ℕ) → Sees w c t m → is_tree (kind_in m) ≡ true → Ranges w (members_in t m) → Step cmp key_of w (Range c min max) (range places first second) w
   step_ranged {t} {m} w c sees tree replies =
       let kind = ap (λ (s : State). s.kind) sees.state in
       let members = ap (λ (s : State). s.members) sees.state in
       step_accepted cmp key_of w (Range c min max) (range places first second) w (rw (sees.is, kind, tree) refl) (sees.s, sees.is, subst (Ranges w) (sym members) replies, refl)
 
-  pub ranged : {t : Table Entry} {m : Members V} (adapter : A) (objects : Objects V) (ts : List (Table Entry)) (cs : List (Option (Collection V))) {w : Family A V} (c : ℕ) → family_of adapter objects ts cs ≡ w
+  pub ranged : {t : Table Entry} {m : AnyCollection V} (adapter : A) (objects : Objects V) (ts : List (Table Entry)) (cs : List (Option (Collection V))) {w : Family A V} (c : ℕ) → family_of adapter objects ts cs ≡ w
       → Sees w c t m → is_tree (kind_in m) ≡ true
       → IsRange (bound_at cmp (key_of adapter) objects min) (bound_at cmp (key_of adapter) objects max) (runs_up cmp (key_of adapter) objects) (members_in t m) places
       → FewLooksWithin min first (members_in t m) × FewLooksWithin max second (members_in t m) → Step cmp key_of w (Range c min max) (range places first second) w
   ranged {t} {m} adapter objects ts cs {w} c view sees tree is looks = step_ranged w c sees tree (subst (λ v. Ranges v (members_in t m)) view (is, looks.0, looks.1))
 
 -- WHERE A CURSOR IS
-pub current_read : {A V K : Type 0} (cmp : K → K → Ordering) (key_of : A → V → K) (w : Family A V) (c : ℕ) {t : Table Entry} {m : Members V} → Sees w c t m
+pub current_read : {A V K : Type 0} (cmp : K → K → Ordering) (key_of : A → V → K) (w : Family A V) (c : ℕ) {t : Table Entry} {m : AnyCollection V} → Sees w c t m
     → Step cmp key_of w (Current c) (object_or_nothing (cursor_in m)) w
 current_read cmp key_of w c {m = m} sees =
     step_accepted cmp key_of w (Current c) (object_or_nothing (cursor_in m)) w (rw sees.is refl)

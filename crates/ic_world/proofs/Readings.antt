@@ -7,11 +7,11 @@ use Rattle.std.proofs.Math.ListN.{get_or-map as map_at}
 use Rattle.ic_unsafe_ref.specs.Objects.{Objects}
 use Rattle.ic_link_ops.specs.Tables.{Table}
 use Rattle.ic_any_collection.specs.declared.entry.Entry.{Entry}
-use Rattle.ic_any_collection.specs.declared.field.Field.{Field}
+use Rattle.ic_any_collection.specs.declared.any_table.AnyTable.{AnyTable}
 use Rattle.ic_world.specs.declared.field.WorldField.{WorldField}
 use Rattle.ic_world.specs.declared.collection.Collection.{Collection}
-use Rattle.ic_any_collection.specs.declared.members.Members.{Members}
-use Rattle.ic_any_collection.specs.Members.{Held}
+use Rattle.ic_any_collection.specs.declared.any_collection.AnyCollection.{AnyCollection}
+use Rattle.ic_any_collection.specs.AnyCollection.{Held}
 use Rattle.ic_world.specs.Collections.{its_field, its_members, having, with_members}
 use Rattle.ic_world.specs.Tables.{table, table_of, left_in, no_table, field_in, sequence, seen_as, shown_as, at, family_of}
 use Rattle.ic_world.specs.LeftLinked.{IsKept}
@@ -31,7 +31,7 @@ pub set_back : {X : Type 0} (xs : List X) (i : ℕ) (x : X) → x ≡ get_or xs 
 set_back xs i x e = ap (set xs i) e ∙ set-get_or xs i x
 
 -- a table in the place of one of a field: the field says what it said
-pub left_back : {M : Type 0} (tables : List (WorldField M)) (f : ℕ) (now : WorldField M) (links : Field M) → set tables f now ≡ tables → left_in (set tables f (record now { links = links })) ≡ left_in tables
+pub left_back : {M : Type 0} (tables : List (WorldField M)) (f : ℕ) (now : WorldField M) (links : AnyTable M) → set tables f now ≡ tables → left_in (set tables f (record now { links = links })) ≡ left_in tables
 left_back {M} tables f now links back =
     let says : WorldField M → Bool = λ x. x.left_linked in
     map-set says tables f (record now { links = links }) ∙ sym (map-set says tables f now) ∙ ap left_in back
@@ -76,12 +76,12 @@ module _ {V : Type 0} where
   none_there None h = refl
   none_there (Some k) h = absurd cc
 
-  pub one_read : (o : Option (Collection V)) (f : ℕ) (m : Members V) → Some f ≡ its_field o → Some m ≡ its_members o → o ≡ Some (record { field = f; members = m })
+  pub one_read : (o : Option (Collection V)) (f : ℕ) (m : AnyCollection V) → Some f ≡ its_field o → Some m ≡ its_members o → o ≡ Some (record { field = f; members = m })
   one_read None f m h e = absurd cc
   one_read (Some k) f m h e = λ i. Some (record { field = same_Some _ _ (sym h) i; members = same_Some _ _ (sym e) i })
 
   -- it has other members now
-  pub with_is : (cs : List (Option (Collection V))) (c : ℕ) (k : Collection V) → at cs c ≡ Some k → (m : Members V) → with_members cs c m ≡ set cs c (Some (record { field = k.field; members = m }))
+  pub with_is : (cs : List (Option (Collection V))) (c : ℕ) (k : Collection V) → at cs c ≡ Some k → (m : AnyCollection V) → with_members cs c m ≡ set cs c (Some (record { field = k.field; members = m }))
   with_is cs c k is m = ap (λ o. set cs c (having m o)) is
 
   module _ {A : Type 0} (adapter : A) (objects : Objects V) (ts : List (Table Entry)) (cs : List (Option (Collection V))) where

@@ -15,9 +15,9 @@ use Rattle.ic_any_collection.specs.declared.entry.Entry.{Entry}
 use Rattle.ic_any_collection.specs.declared.kind.Kind.TheVariants.{Singly as SinglyKind}
 use Rattle.ic_any_collection.specs.Entries.{is_linked}
 use Rattle.ic_any_collection.specs.Kinds.{carries}
-use Rattle.ic_any_collection.specs.declared.members.Members.{Members}
-use Rattle.ic_any_collection.specs.declared.members.Members.TheVariants.{Singly, Doubly, Xor, Tree}
-use Rattle.ic_any_collection.specs.Members.{kind_in, cursor_in, StandsIn}
+use Rattle.ic_any_collection.specs.declared.any_collection.AnyCollection.{AnyCollection}
+use Rattle.ic_any_collection.specs.declared.any_collection.AnyCollection.TheVariants.{Singly, Doubly, Xor, Tree}
+use Rattle.ic_any_collection.specs.AnyCollection.{kind_in, cursor_in, StandsIn}
 use Rattle.ic_any_collection.proofs.AllKinds.{IsLawful, lawful, unlinked_absent}
 use Rattle.ic_world.specs.declared.collection.Collection.{Collection}
 use Rattle.ic_world.specs.declared.field.WorldField.{WorldField}
@@ -35,7 +35,7 @@ last_member gap s p cut e out =
     (absent_right p (but_last gap.front) (p ∷ []) (subst (IsAbsent p) (split_last gap.front (sym e)) (absent_left p gap.front gap.back (subst (IsAbsent p) (sym cut) out)))).0 refl
 
 -- a cursor that stands in s is on a member
-stands_on : {V : Type 0} (m : Members V) (s : List Place) → StandsIn s m → (p : Place) → cursor_in m ≡ Some p → IsMember p s
+stands_on : {V : Type 0} (m : AnyCollection V) (s : List Place) → StandsIn s m → (p : Place) → cursor_in m ≡ Some p → IsMember p s
 stands_on (Singly m) s h p e = last_member h.0 s p h.1 (sym e ∙ h.2)
 stands_on (Doubly m) s h p e = last_member h.0 s p h.1 (sym e ∙ h.2)
 stands_on (Xor m) s h p e = last_member h.0 s p h.1 (sym e ∙ h.2)

@@ -7,8 +7,8 @@ use Rattle.ic_link_ops.specs.Sequences.{Cut, join, splice, IsDisjoint}
 use Rattle.ic_link_ops.specs.Tables.{Table}
 use Rattle.ic_link_ops.proofs.SequenceLemmas.{disjoint_sym, disjoint_both}
 use Rattle.ic_any_collection.specs.declared.entry.Entry.{Entry}
-use Rattle.ic_any_collection.specs.declared.members.Members.{Members}
-use Rattle.ic_any_collection.specs.Members.{Alike, cursor_in}
+use Rattle.ic_any_collection.specs.declared.any_collection.AnyCollection.{AnyCollection}
+use Rattle.ic_any_collection.specs.AnyCollection.{Alike, cursor_in}
 use Rattle.ic_any_collection.specs.Edits.{PutsAll}
 use Rattle.ic_any_collection.proofs.AllKinds.{one_sequence}
 use Rattle.ic_world.specs.declared.collection.Collection.{Collection}
@@ -21,12 +21,12 @@ use Rattle.ic_world.proofs.Edits.{Edit, after, lawful, edited_lawful, edited_who
 use Rattle.ic_world.proofs.Opened.{disjoint_none}
 
 -- a collection as it is seen, of the same kind and with its cursor elsewhere
-pub seen_after : {V : Type 0} (m : Members V) (k : Collection V) (s t : List Place) {cursor : Option Place} → Alike k.members m → cursor_in m ≡ cursor
+pub seen_after : {V : Type 0} (m : AnyCollection V) (k : Collection V) (s t : List Place) {cursor : Option Place} → Alike k.members m → cursor_in m ≡ cursor
     → seen_as (after k m) t ≡ with_members (seen_as k s) t cursor
 seen_after m k s t alike cursor_is = λ i. record { field = k.field; kind = alike i; members = t; cursor = cursor_is i }
 
 module _ {V : Type 0} {objects : Objects V} {room : ℕ} {ts : List (Table Entry)} {cs : List (Option (Collection V))} (whole : IsWhole objects room ts cs)
-    (c : ℕ) (k : Collection V) (is : at cs c ≡ Some k) (m : Members V) (e : Emptied k.members m) where
+    (c : ℕ) (k : Collection V) (is : at cs c ≡ Some k) (m : AnyCollection V) (e : Emptied k.members m) where
   -- A COLLECTION IS EMPTIED, and its members stay linked
   pub emptied_edit : Edit objects ts cs c k (table ts k.field) m [] []
   emptied_edit = record {
@@ -55,7 +55,7 @@ module _ {V : Type 0} {objects : Objects V} {room : ℕ} {ts : List (Table Entry
 -- THE SPLICE of collection d into c
 module _ {V : Type 0} {objects : Objects V} {room : ℕ} {ts : List (Table Entry)} {cs : List (Option (Collection V))} (whole : IsWhole objects room ts cs)
     (c d : ℕ) (k l : Collection V) (is_k : at cs c ≡ Some k) (is_l : at cs d ≡ Some l) (differ : c ≢ d) (fields : k.field ≡ l.field)
-    (new : Table Entry) (m emptied : Members V) (e : Emptied l.members emptied) (gap : Cut) (cut : join gap ≡ sequence ts k)
+    (new : Table Entry) (m emptied : AnyCollection V) (e : Emptied l.members emptied) (gap : Cut) (cut : join gap ≡ sequence ts k)
     (puts : PutsAll (table ts k.field) new k.members m gap (sequence ts l)) where
   abbrev pub between : List (Option (Collection V))
   between = set cs d (Some (after l emptied))

@@ -4,10 +4,10 @@ use Rattle.std.proofs.Common.{◌≡◌, Option, Some, None, IfSome, IfNone, [],
 use Rattle.ic_unsafe_ref.specs.declared.place.Place.{Place}
 use Rattle.ic_link_ops.specs.Sequences.{Cut, join, at_front, at_back, first, last, but_last, IsAfter, IsBefore, IsDistinct}
 use Rattle.ic_link_ops.proofs.SequenceLemmas.{but_last_of_push, nothing_last}
-use Rattle.ic_any_collection.specs.declared.field.Field.{Field}
-use Rattle.ic_any_collection.specs.Fields.{look}
-use Rattle.ic_any_collection.specs.declared.members.Members.{Members}
-use Rattle.ic_any_collection.specs.Members.{cursor_in, members_in, Held}
+use Rattle.ic_any_collection.specs.declared.any_table.AnyTable.{AnyTable}
+use Rattle.ic_any_collection.specs.AnyTables.{look}
+use Rattle.ic_any_collection.specs.declared.any_collection.AnyCollection.{AnyCollection}
+use Rattle.ic_any_collection.specs.AnyCollection.{cursor_in, members_in, Held}
 use Rattle.ic_any_collection.specs.Edits.{AtGap, Moves, Takes}
 use Rattle.ic_any_collection.proofs.AllKinds.{lawful, distinct, held_of}
 use Rattle.ic_world.specs.declared.calls.one_call.Where.{Where}
@@ -21,32 +21,32 @@ use Rattle.ic_world.proofs.Ends.{front_is, back_is, first_gap, last_gap}
 use Rattle.ic_world.proofs.Turned.{unmoved, still_members, still_held, moves_on, turns_moved, turns_out, turns_out_between, turns_still}
 
 -- the cursor moves, and the answer is where it is
-abbrev pub MovedTo : {V M : Type 0} → Direction → (links : Field M) (m m' : Members V) → Option Place → Type 0
+abbrev pub MovedTo : {V M : Type 0} → Direction → (links : AnyTable M) (m m' : AnyCollection V) → Option Place → Type 0
 MovedTo way links m m' r = Turns [] (λ s t. calls.MoveReplies way s (object_or_nothing r) t) (look links) (look links) m m'
 
-module _ {V M : Type 0} (links : Field M) {m m' : Members V} (r : Option Place) where
+module _ {V M : Type 0} (links : AnyTable M) {m m' : AnyCollection V} (r : Option Place) where
   pub moved_next : AtGap (members_in (look links) m) (λ gap. IsAfter gap (cursor_in m) × Moves (look links) m m' (first gap.back)) → r ≡ cursor_in m' → MovedTo Next links m m' r
   moved_next e answer = turns_still (lawful links) e.2.1 (λ same. (e.0, e.1, (e.2.0, ap object_or_nothing (answer ∙ e.2.1.cursor_is), same)))
 
   pub moved_prev : AtGap (members_in (look links) m) (λ gap. IsBefore gap (cursor_in m) × Moves (look links) m m' (last gap.front)) → r ≡ cursor_in m' → MovedTo Prev links m m' r
   moved_prev e answer = turns_still (lawful links) e.2.1 (λ same. (e.0, e.1, (e.2.0, ap object_or_nothing (answer ∙ e.2.1.cursor_is), same)))
 
-module _ {V M : Type 0} (links : Field M) where
+module _ {V M : Type 0} (links : AnyTable M) where
   -- the cursor goes to null and on to the first member, or to the last
-  pub to_first : {m m1 m2 : Members V} → Moves (look links) m m1 None
+  pub to_first : {m m1 m2 : AnyCollection V} → Moves (look links) m m1 None
       → AtGap (members_in (look links) m1) (λ gap. IsAfter gap (cursor_in m1) × Moves (look links) m1 m2 (first gap.back)) → Moves (look links) m m2 (first (members_in (look links) m))
   to_first {m} {m1} {m2} null e =
       let law = lawful links in
       subst (λ gap. Moves (look links) m m2 (first gap.back)) (front_is e.0 (e.1 ∙ still_members law null) e.2.0 null.cursor_is) (moves_on law null e.2.1)
 
-  pub to_last : {m m1 m2 : Members V} → Moves (look links) m m1 None
+  pub to_last : {m m1 m2 : AnyCollection V} → Moves (look links) m m1 None
       → AtGap (members_in (look links) m1) (λ gap. IsBefore gap (cursor_in m1) × Moves (look links) m1 m2 (last gap.front)) → Moves (look links) m m2 (last (members_in (look links) m))
   to_last {m} {m1} {m2} null e =
       let law = lawful links in
       subst (λ gap. Moves (look links) m m2 (last gap.front)) (back_is e.0 (e.1 ∙ still_members law null) e.2.0 null.cursor_is) (moves_on law null e.2.1)
 
 -- what a call there leaves, with the member that it answered
-abbrev pub TakenAt : {V M : Type 0} → Where → (links links' : Field M) (m m' : Members V) → Option Place → Type 0
+abbrev pub TakenAt : {V M : Type 0} → Where → (links links' : AnyTable M) (m m' : AnyCollection V) → Option Place → Type 0
 TakenAt at links links' m m' r = Turns [] (λ s t. calls.TakeReplies at s (object_or_nothing r) t) (look links) (look links') m m'
 
 -- the gap with nothing behind it, and the one with p behind it
@@ -56,9 +56,9 @@ none_out s gap cursor e = ap (without s gap cursor) e
 some_out : (s : State) (gap : Cut) (cursor : Option Place) (p : Place) → Some p ≡ first gap.back → taken s gap p cursor ≡ without s gap cursor (first gap.back)
 some_out s gap cursor p e = ap (without s gap cursor) e
 
-module _ {V M : Type 0} (links links' : Field M) where
+module _ {V M : Type 0} (links links' : AnyTable M) where
   -- the member that the cursor is on goes out, if there is one
-  pub removed : {m m' : Members V} (r : Option Place) → Held (look links) m
+  pub removed : {m m' : AnyCollection V} (r : Option Place) → Held (look links) m
       → IfSome r (λ p. AtGap (members_in (look links) m) (λ gap. IsBefore gap (cursor_in m) × Takes (look links) (look links') m m' gap p (first (drop 1 gap.back))))
       → r ≡ cursor_in m → IfNone r ((m' ≡ m) × (links' ≡ links)) → TakenAt Before links links' m m' r
   removed {m} None held e answer none =
@@ -68,7 +68,7 @@ module _ {V M : Type 0} (links links' : Field M) where
       turns_out (lawful links) (lawful links') e.0 p e.1 e.2.1 (λ same. (e.0, e.1, (e.2.0, ap object_or_nothing (answer ∙ e.2.0), same ∙ some_out (state_of (look links) m) e.0 (first (drop 1 e.0.back)) p (answer ∙ e.2.0))))
 
   -- the member behind the cursor goes out, if there is one
-  pub removed_next : {m m' : Members V} (r : Option Place) → Held (look links) m
+  pub removed_next : {m m' : AnyCollection V} (r : Option Place) → Held (look links) m
       → IfSome r (λ p. AtGap (members_in (look links) m) (λ gap. IsAfter gap (cursor_in m) × Takes (look links) (look links') m m' gap p (cursor_in m)))
       → IfNone r (AtGap (members_in (look links) m) (λ gap. IsAfter gap (cursor_in m) × (first gap.back ≡ None)) × (m' ≡ m) × (links' ≡ links))
       → TakenAt After links links' m m' r
@@ -79,7 +79,7 @@ module _ {V M : Type 0} (links links' : Field M) where
       turns_out (lawful links) (lawful links') e.0 p e.1 e.2.1 (λ same. (e.0, e.1, (e.2.0, ap object_or_nothing (sym e.2.1.there), same ∙ some_out (state_of (look links) m) e.0 (cursor_in m) p (sym e.2.1.there))))
 
   -- with the cursor at null it is the first one
-  pub pops_next : {m m1 m' : Members V} (r : Option Place) → Moves (look links) m m1 None
+  pub pops_next : {m m1 m' : AnyCollection V} (r : Option Place) → Moves (look links) m m1 None
       → IfSome r (λ p. AtGap (members_in (look links) m1) (λ gap. IsAfter gap (cursor_in m1) × Takes (look links) (look links') m1 m' gap p (cursor_in m1)))
       → IfNone r (AtGap (members_in (look links) m1) (λ gap. IsAfter gap (cursor_in m1) × (first gap.back ≡ None)) × (m' ≡ m1) × (links' ≡ links))
       → TakenAt Front links links' m m' r
@@ -116,9 +116,9 @@ last_lacks s t empty same =
     let none = nothing_last s.members empty in
     (at_front s.members, refl, (sym (ap but_last none), ap (λ u. object_or_nothing (first u)) (sym none), same ∙ none_out s (at_front s.members) None (sym (ap first none))))
 
-module _ {V M : Type 0} (links links' : Field M) where
+module _ {V M : Type 0} (links links' : AnyTable M) where
   -- the cursor went to that member, which went out, and then to null
-  pub pops_first : {m m1 m2 m' : Members V} (r : Option Place) → Held (look links) m → Moves (look links) m m1 (first (members_in (look links) m))
+  pub pops_first : {m m1 m2 m' : AnyCollection V} (r : Option Place) → Held (look links) m → Moves (look links) m m1 (first (members_in (look links) m))
       → IfSome r (λ p. AtGap (members_in (look links) m1) (λ gap. IsBefore gap (cursor_in m1) × Takes (look links) (look links') m1 m2 gap p (first (drop 1 gap.back))))
       → r ≡ cursor_in m1 → IfNone r ((m2 ≡ m1) × (links' ≡ links)) → (Held (look links') m2 → Moves (look links') m2 m' None) → TakenAt Front links links' m m' r
   pops_first {m} {m1} {m2} {m'} None held at e answer none null =
@@ -131,7 +131,7 @@ module _ {V M : Type 0} (links links' : Field M) where
       first_goes (state_of (look links) m) p _ (distinct (look links) m _ held.shown) (sym (answer ∙ at.cursor_is)) e.0 cut (answer ∙ e.2.0) same)
 
   -- the cursor went to that member, which went out: it is at null then
-  pub pops_last : {m m1 m' : Members V} (r : Option Place) → Held (look links) m → Moves (look links) m m1 (last (members_in (look links) m))
+  pub pops_last : {m m1 m' : AnyCollection V} (r : Option Place) → Held (look links) m → Moves (look links) m m1 (last (members_in (look links) m))
       → IfSome r (λ p. AtGap (members_in (look links) m1) (λ gap. IsBefore gap (cursor_in m1) × Takes (look links) (look links') m1 m' gap p (first (drop 1 gap.back))))
       → r ≡ cursor_in m1 → IfNone r ((m' ≡ m1) × (links' ≡ links)) → TakenAt Back links links' m m' r
   pops_last {m} None held at e answer none =

@@ -5,7 +5,7 @@ use Rattle.std.proofs.lemmas.Bool.{cases_eq}
 use Rattle.std.proofs.lemmas.List.{length-set, length-append, map-set, set-get_or, get_or-set_same, get_or-set_other}
 use Rattle.std.proofs.lemmas.Option.{slice_get_within, slice_get_past, same_Some}
 use Rattle.std.specs.declared.vec.Vec.{Vec}
-use Rattle.ic_any_collection.specs.declared.members.Members.{Members}
+use Rattle.ic_any_collection.specs.declared.any_collection.AnyCollection.{AnyCollection}
 use Rattle.ic_world.specs.declared.collection.Collection.{Collection}
 use Rattle.ic_world.specs.declared.collections_by_number.Slot.{Slot}
 use Rattle.ic_world.specs.declared.collections_by_number.Numbered.{Numbered}
@@ -133,7 +133,7 @@ module _ {V : Type 0} where
         ]
 
     -- what another number has
-    at_moved : moved ≢ c → (m : Members V) × (lying fewer f i ≡ Some (record { number = moved; members = m }))
+    at_moved : moved ≢ c → (m : AnyCollection V) × (lying fewer f i ≡ Some (record { number = moved; members = m }))
     at_moved other = (out.last.members, moved_here (moved_is other) ∙ (λ k. Some (record { number = sym out.moved k; members = out.last.members })))
 
     not_its_slot : (d : ℕ) (t : Slot) → slice_get ns d ≡ Some t → d ≢ c → t.field ≡ f → t.index ≡ i → ⊥
@@ -146,7 +146,7 @@ module _ {V : Type 0} where
     pub numbered_less : AreNumbered fewer after
     numbered_less = record { found = λ g j x e. (found g j x e).0; before = λ g j x e. (found g j x e).1; kept = kept }
       where
-        kept : (d : ℕ) (t : Slot) → slice_get after d ≡ Some t → t.index ≢ disposed → (m : Members V) × (lying fewer t.field t.index ≡ Some (record { number = d; members = m }))
+        kept : (d : ℕ) (t : Slot) → slice_get after d ≡ Some t → t.index ≢ disposed → (m : AnyCollection V) × (lying fewer t.field t.index ≡ Some (record { number = d; members = m }))
         kept d t e live = elim (cases_eq d c) [
           | inl same ↦ absurd (live (ap (λ (u : Slot). u.index) (same_Some _ _ (sym e ∙ ap (slice_get after) same ∙ slot_gone)) ∙ disposed_of))
           | inr not_c ↦ elim (cases_eq d moved) [

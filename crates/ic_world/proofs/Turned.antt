@@ -12,8 +12,8 @@ use Rattle.ic_link_ops.proofs.SequenceLemmas.{absent_both, absent_left, absent_r
 use Rattle.ic_link_ops.proofs.StepLemmas.{released_stay, each_unlinked}
 use Rattle.ic_any_collection.specs.declared.entry.Entry.{Entry}
 use Rattle.ic_any_collection.specs.Entries.{is_linked}
-use Rattle.ic_any_collection.specs.declared.members.Members.{Members}
-use Rattle.ic_any_collection.specs.Members.{kind_in, cursor_in, members_in, Keeps, Held, Alike}
+use Rattle.ic_any_collection.specs.declared.any_collection.AnyCollection.{AnyCollection}
+use Rattle.ic_any_collection.specs.AnyCollection.{kind_in, cursor_in, members_in, Keeps, Held, Alike}
 use Rattle.ic_any_collection.specs.Edits.{Leaves, Moves, Puts, Takes, Swaps, Empties}
 use Rattle.ic_any_collection.proofs.AllKinds.{IsLawful, one_sequence, held_of}
 use Rattle.ic_world.specs.LinkedSets.{linked_in}
@@ -26,10 +26,10 @@ absent_drop q [] h = tt
 absent_drop q (x ∷ t) h = h.1
 
 -- a collection with these members now, on a table in which only covered places are linked
-abbrev after_call : {V : Type 0} → Members V → List Place → Option Place → set.FinSet nat_cmp → State
+abbrev after_call : {V : Type 0} → AnyCollection V → List Place → Option Place → set.FinSet nat_cmp → State
 after_call m s cursor linked = record { kind = kind_in m; members = s; cursor = cursor; linked = linked }
 
-module _ {V : Type 0} {old new : Table Entry} {m m' : Members V} (law : IsLawful old) (law' : IsLawful new) where
+module _ {V : Type 0} {old new : Table Entry} {m m' : AnyCollection V} (law : IsLawful old) (law' : IsLawful new) where
   -- WHAT A CALL LEAVES, by what is newly linked, what it leaves of the collection, and the linked set after it
   pub turns_by : {names s : List Place} {cursor : Option Place} {linked : set.FinSet nat_cmp} {Accepts : State → State → Type 0} (fresh : List Place)
       → (fresh ≡ []) ⊎ (fresh ≡ names) → Each (IsUnlinked is_linked old) fresh
@@ -98,7 +98,7 @@ module _ {V : Type 0} {old new : Table Entry} {m m' : Members V} (law : IsLawful
       ]) e.leaves (λ q out. tt) (linked_unlinks old new law law' (members_in old m) gone same) accepts
 
 -- the cursor alone has moved
-pub turns_still : {V : Type 0} {t : Table Entry} {m m' : Members V} {cursor : Option Place} {names : List Place} {Accepts : State → State → Type 0} → IsLawful t → (e : Moves t m m' cursor)
+pub turns_still : {V : Type 0} {t : Table Entry} {m m' : AnyCollection V} {cursor : Option Place} {names : List Place} {Accepts : State → State → Type 0} → IsLawful t → (e : Moves t m m' cursor)
     → (state_of t m' ≡ moved (state_of t m) cursor → Accepts (state_of t m) (state_of t m')) → Turns names Accepts t t m m'
 turns_still {t = t'} {m = m'} law e accepts =
     turns_by law law [] (inl refl) tt (λ q out h. h)
@@ -106,16 +106,16 @@ turns_still {t = t'} {m = m'} law e accepts =
     (λ q out. out) refl accepts
 
 -- nothing has moved
-pub unmoved : {V : Type 0} {t : Table Entry} {m : Members V} → Held t m → Moves t m m (cursor_in m)
+pub unmoved : {V : Type 0} {t : Table Entry} {m : AnyCollection V} → Held t m → Moves t m m (cursor_in m)
 unmoved held = record { kept = held; alike = refl; cursor_is = refl }
 
 module _ {V : Type 0} where
   -- the collection, with its cursor at null
-  pub nulled : {t : Table Entry} {m m' : Members V} → Held t m → ((t : Table Entry) (s : List Place) → Keeps t m s → Keeps t m' s) → Alike m m' → cursor_in m' ≡ None
+  pub nulled : {t : Table Entry} {m m' : AnyCollection V} → Held t m → ((t : Table Entry) (s : List Place) → Keeps t m s → Keeps t m' s) → Alike m m' → cursor_in m' ≡ None
       → Moves t m m' None
   nulled {t} {m} held kept alike null = record { kept = kept t (members_in t m) held; alike = alike; cursor_is = null }
 
-  module _ {t : Table Entry} (law : IsLawful t) {m m1 : Members V} {cursor : Option Place} (e : Moves t m m1 cursor) where
+  module _ {t : Table Entry} (law : IsLawful t) {m m1 : AnyCollection V} {cursor : Option Place} (e : Moves t m m1 cursor) where
     pub still_members : members_in t m1 ≡ members_in t m
     still_members = one_sequence t law m1 (members_in t m) e.kept.shown
 
@@ -126,7 +126,7 @@ module _ {V : Type 0} where
     state_moved = λ i. record { kind = e.alike i; members = still_members i; cursor = e.cursor_is i; linked = linked_in t }
 
     -- two moves are one
-    pub moves_on : {m2 : Members V} {next : Option Place} → Moves t m1 m2 next → Moves t m m2 next
+    pub moves_on : {m2 : AnyCollection V} {next : Option Place} → Moves t m1 m2 next → Moves t m m2 next
     moves_on {m2 = m2'} d = record {
       kept = subst (Keeps t m2') still_members d.kept;
       alike = d.alike ∙ e.alike;
@@ -134,7 +134,7 @@ module _ {V : Type 0} where
     }
 
     -- A MOVE AND THEN A CALL are one call
-    pub turns_moved : {t' : Table Entry} {m2 : Members V} {names : List Place} {Accepts : State → State → Type 0} (Then : State → State → Type 0) → Turns names Then t t' m1 m2
+    pub turns_moved : {t' : Table Entry} {m2 : AnyCollection V} {names : List Place} {Accepts : State → State → Type 0} (Then : State → State → Type 0) → Turns names Then t t' m1 m2
         → (Then (moved (state_of t m) cursor) (state_of t' m2) → Accepts (state_of t m) (state_of t' m2)) → Turns names Accepts t t' m m2
     turns_moved {t' = t2} {m2 = m2'} Then d accepts = record {
       fresh = d.fresh;
@@ -149,7 +149,7 @@ module _ {V : Type 0} where
     }
 
   -- A CALL AND THEN A MOVE are one call
-  pub turns_then : {t t' : Table Entry} {m m1 m2 : Members V} {cursor : Option Place} {names : List Place} {Accepts : State → State → Type 0} (law' : IsLawful t')
+  pub turns_then : {t t' : Table Entry} {m m1 m2 : AnyCollection V} {cursor : Option Place} {names : List Place} {Accepts : State → State → Type 0} (law' : IsLawful t')
       (First : State → State → Type 0) → Turns names First t t' m m1 → (e : Moves t' m1 m2 cursor)
       → (First (state_of t m) (state_of t' m1) → state_of t' m2 ≡ moved (state_of t' m1) cursor → Accepts (state_of t m) (state_of t' m2)) → Turns names Accepts t t' m m2
   turns_then law' First d e accepts = record {
@@ -165,7 +165,7 @@ module _ {V : Type 0} where
   }
 
   -- the table stays, and keeps other members for the collection
-  pub turns_kept : {t : Table Entry} {m m' : Members V} {cursor : Option Place} {Accepts : State → State → Type 0} (law : IsLawful t) (s : List Place) → Keeps t m' s → Alike m m'
+  pub turns_kept : {t : Table Entry} {m m' : AnyCollection V} {cursor : Option Place} {Accepts : State → State → Type 0} (law : IsLawful t) (s : List Place) → Keeps t m' s → Alike m m'
       → cursor_in m' ≡ cursor → ((q : Place) → IsAbsent q (members_in t m) → IsAbsent q s) → (state_of t m' ≡ having (state_of t m) s cursor → Accepts (state_of t m) (state_of t m'))
       → Turns [] Accepts t t m m'
   turns_kept law s kept alike cursor_is within accepts =
@@ -173,7 +173,7 @@ module _ {V : Type 0} where
       (record { kept = kept; alike = alike; cursor_is = cursor_is; frame = record { extent = refl; others = λ q out. refl } }) within refl accepts
 
   -- the member p behind a gap goes out, between a move of the cursor and one to null
-  pub turns_out_between : {t t' : Table Entry} {m m1 m2 m3 : Members V} {cursor next : Option Place} {Accepts : State → State → Type 0} (law : IsLawful t) (law' : IsLawful t')
+  pub turns_out_between : {t t' : Table Entry} {m m1 m2 m3 : AnyCollection V} {cursor next : Option Place} {Accepts : State → State → Type 0} (law : IsLawful t) (law' : IsLawful t')
       (e : Moves t m m1 cursor) (gap : Cut) (p : Place) → join gap ≡ members_in t m1 → Takes t t' m1 m2 gap p next → Moves t' m2 m3 None
       → (join gap ≡ members_in t m → state_of t' m3 ≡ taken (state_of t m) gap p None → Accepts (state_of t m) (state_of t' m3)) → Turns [] Accepts t t' m m3
   turns_out_between {t} {t'} {m} {m1} {m2} {next = next'} law law' e gap p cut takes null accepts =

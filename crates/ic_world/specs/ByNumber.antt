@@ -5,8 +5,8 @@ use Rattle.ic_unsafe_ref.specs.declared.place.Place.{Place}
 use Rattle.ic_link_ops.specs.Tables.{Table}
 use Rattle.ic_link_ops.specs.Sequences.{IsMember}
 use Rattle.ic_any_collection.specs.declared.entry.Entry.{Entry}
-use Rattle.ic_any_collection.specs.declared.members.Members.{Members}
-use Rattle.ic_any_collection.specs.Members.{members_in, Held}
+use Rattle.ic_any_collection.specs.declared.any_collection.AnyCollection.{AnyCollection}
+use Rattle.ic_any_collection.specs.AnyCollection.{members_in, Held}
 use Rattle.ic_world.specs.declared.collection.Collection.{Collection}
 use Rattle.ic_world.specs.declared.collections_by_number.Slot.{Slot}
 use Rattle.ic_world.specs.declared.collections_by_number.Numbered.{Numbered}
@@ -47,7 +47,7 @@ pub record AreNumbered {V : Type 0} (ls : List (List (Numbered V))) (ns : List S
   -- and lies below the index of disposed ones
   pub before : (f i : ℕ) (n : Numbered V) → lying ls f i ≡ Some n → i < disposed
   -- in each slot but those of disposed ones lies a collection, with the number of the slot
-  pub kept : (c : ℕ) (s : Slot) → slice_get ns c ≡ Some s → s.index ≢ disposed → (m : Members V) × (lying ls s.field s.index ≡ Some (record { number = c; members = m }))
+  pub kept : (c : ℕ) (s : Slot) → slice_get ns c ≡ Some s → s.index ≢ disposed → (m : AnyCollection V) × (lying ls s.field s.index ≡ Some (record { number = c; members = m }))
 
 -- the last one is at the index of the one that was taken out
 pub record IsTakenOut {V : Type 0} (old : List (Numbered V)) (i : ℕ) (number : ℕ) (new : List (Numbered V)) : Type 0 where

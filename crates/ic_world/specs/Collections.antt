@@ -4,8 +4,8 @@ use Rattle.ic_unsafe_ref.specs.declared.place.Place.{Place}
 use Rattle.ic_link_ops.specs.Tables.{Table}
 use Rattle.ic_link_ops.specs.Sequences.{IsMember}
 use Rattle.ic_any_collection.specs.declared.entry.Entry.{Entry}
-use Rattle.ic_any_collection.specs.declared.members.Members.{Members}
-use Rattle.ic_any_collection.specs.Members.{members_in, Held}
+use Rattle.ic_any_collection.specs.declared.any_collection.AnyCollection.{AnyCollection}
+use Rattle.ic_any_collection.specs.AnyCollection.{members_in, Held}
 use Rattle.ic_world.specs.declared.collection.Collection.{Collection}
 use Rattle.ic_world.specs.Tables.{at}
 
@@ -16,17 +16,17 @@ module _ {V : Type 0} where
   its_field (Some k) = Some k.field
 
   -- and its members
-  abbrev pub its_members : Option (Collection V) → Option (Members V)
+  abbrev pub its_members : Option (Collection V) → Option (AnyCollection V)
   its_members None = None
   its_members (Some k) = Some k.members
 
   -- it has these members now
-  abbrev pub having : Members V → Option (Collection V) → Option (Collection V)
+  abbrev pub having : AnyCollection V → Option (Collection V) → Option (Collection V)
   having m None = None
   having m (Some k) = Some (record { field = k.field; members = m })
 
   -- collection c has these members now, and all others are as they were
-  abbrev pub with_members : List (Option (Collection V)) → ℕ → Members V → List (Option (Collection V))
+  abbrev pub with_members : List (Option (Collection V)) → ℕ → AnyCollection V → List (Option (Collection V))
   with_members cs c m = slice_set cs c (having m (at cs c))
 
   -- the table of field f keeps each collection of that field

@@ -3,7 +3,7 @@ use Rattle.std.specs.Prelude.{◌≡◌, Some, Result, OnOk, OnErr}
 use Rattle.ic_unsafe_ref.specs.declared.place.Place.{Place}
 use Rattle.ic_link_ops.specs.Tables.{Table}
 use Rattle.ic_any_collection.specs.declared.entry.Entry.{Entry}
-use Rattle.ic_any_collection.specs.declared.members.Members.{Members}
+use Rattle.ic_any_collection.specs.declared.any_collection.AnyCollection.{AnyCollection}
 use Rattle.ic_any_collection.specs.Edits.{Moves}
 use Rattle.ic_world.specs.declared.call.Refusal.{Refusal}
 use Rattle.ic_world.specs.declared.calls.seek.Seek.{Seek}
@@ -11,7 +11,7 @@ use Rattle.ic_world.specs.Calls.{refusal_of_seek}
 use Rattle.ic_world.specs.Turns.{refusal_in, state_of}
 
 -- it is refused as its tests say, and the collection stays; or the cursor is on the place
-pub record Sought {V : Type 0} (call : Seek) (p : Place) (t : Table Entry) (m : Members V) (result : Result Unit Refusal) (m' : Members V) : Type 0 where
+pub record Sought {V : Type 0} (call : Seek) (p : Place) (t : Table Entry) (m : AnyCollection V) (result : Result Unit Refusal) (m' : AnyCollection V) : Type 0 where
   pub tested : refusal_in result ≡ refusal_of_seek call (state_of t m)
   pub moved : OnOk result (Moves t m m' (Some p))
   pub unchanged : OnErr result (m' ≡ m)

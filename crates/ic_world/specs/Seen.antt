@@ -3,14 +3,14 @@ use Rattle.std.specs.Prelude.{◌≡◌, ℕ, Some}
 use Rattle.ic_link_ops.specs.Tables.{Table}
 use Rattle.ic_link_ops.specs.PlacedObjects.{ArePlaced}
 use Rattle.ic_any_collection.specs.declared.entry.Entry.{Entry}
-use Rattle.ic_any_collection.specs.declared.members.Members.{Members}
-use Rattle.ic_any_collection.specs.Members.{members_in, Held}
+use Rattle.ic_any_collection.specs.declared.any_collection.AnyCollection.{AnyCollection}
+use Rattle.ic_any_collection.specs.AnyCollection.{members_in, Held}
 use Rattle.ic_world.specs.Family.{Family, Sequence, collection, objects_of}
 use Rattle.ic_world.specs.Turns.{state_of}
 use Rattle.ic_world.specs.Several.{state_in}
 
 -- collection c of the world is m, and t is the table of its field
-pub record Sees {A V : Type 0} (w : Family A V) (c : ℕ) (t : Table Entry) (m : Members V) : Type 0 where
+pub record Sees {A V : Type 0} (w : Family A V) (c : ℕ) (t : Table Entry) (m : AnyCollection V) : Type 0 where
   pub s : Sequence
   pub is : collection w c ≡ Some s
   pub state : state_in w s ≡ state_of t m

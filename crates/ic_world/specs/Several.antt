@@ -4,7 +4,7 @@ use Rattle.ic_unsafe_ref.specs.declared.place.Place.{Place}
 use Rattle.ic_link_ops.specs.Sequences.{Cut, join, splice, IsAfter, IsBefore}
 use Rattle.ic_any_collection.specs.declared.kind.Kind.{Kind}
 use Rattle.ic_any_collection.specs.Kinds.{carries}
-use Rattle.ic_any_collection.specs.Members.{is_list, is_two_way_list}
+use Rattle.ic_any_collection.specs.AnyCollection.{is_list, is_two_way_list}
 use Rattle.ic_world.specs.declared.call.Refusal.{Refusal}
 use Rattle.ic_world.specs.declared.call.Refusal.TheVariants.{NoSuchField, NoSuchCollection, WrongKind, SameCollection, OtherField, OutOfMemory}
 use Rattle.ic_world.specs.declared.part.Part.{Part}

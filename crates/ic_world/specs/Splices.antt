@@ -5,8 +5,8 @@ use Rattle.ic_link_ops.specs.Sequences.{Cut, IsAfter, IsBefore, IsDisjoint}
 use Rattle.ic_link_ops.specs.Tables.{Table}
 use Rattle.ic_any_collection.specs.declared.entry.Entry.{Entry}
 use Rattle.ic_any_collection.specs.declared.kind.Kind.{Kind}
-use Rattle.ic_any_collection.specs.declared.members.Members.{Members}
-use Rattle.ic_any_collection.specs.Members.{is_list, is_two_way_list, kind_in, cursor_in, members_in, Keeps, Held, Alike}
+use Rattle.ic_any_collection.specs.declared.any_collection.AnyCollection.{AnyCollection}
+use Rattle.ic_any_collection.specs.AnyCollection.{is_list, is_two_way_list, kind_in, cursor_in, members_in, Keeps, Held, Alike}
 use Rattle.ic_any_collection.specs.Edits.{AtGap, PutsAll}
 use Rattle.ic_world.specs.declared.collection.Collection.{Collection}
 use Rattle.ic_world.specs.Tables.{table, at}
@@ -23,13 +23,13 @@ can_splice false = is_list
 
 module _ {V : Type 0} where
   -- THE COLLECTION HAS NO MEMBER NOW, and its cursor is at null; its members stay linked
-  pub record Emptied (m m' : Members V) : Type 0 where
+  pub record Emptied (m m' : AnyCollection V) : Type 0 where
     pub kept : (t : Table Entry) (s : List Place) → Keeps t m s → Keeps t m' []
     pub alike : Alike m m'
     pub null : cursor_in m' ≡ None
 
   -- the members `r` are put at the gap beside the cursor, on the side that is told
-  abbrev pub PutsBeside : Bool → (t t' : Table Entry) (m m' : Members V) (r : List Place) → Type 0
+  abbrev pub PutsBeside : Bool → (t t' : Table Entry) (m m' : AnyCollection V) (r : List Place) → Type 0
   PutsBeside before t t' m m' r = AtGap (members_in t m) (λ gap. IsBesideOf before gap (cursor_in m) × PutsAll t t' m m' gap r)
 
   -- two collections that can be spliced: both are in one table, are lists of one kind, and share no member

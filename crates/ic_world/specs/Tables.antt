@@ -8,9 +8,9 @@ use Rattle.ic_link_ops.specs.Tables.{Table}
 use Rattle.ic_link_ops.specs.Sequences.{IsDisjoint}
 use Rattle.ic_link_ops.specs.declared.color.Color.TheVariants.{Red}
 use Rattle.ic_any_collection.specs.declared.entry.Entry.{Entry}
-use Rattle.ic_any_collection.specs.Fields.{look}
+use Rattle.ic_any_collection.specs.AnyTables.{look}
 use Rattle.ic_any_collection.specs.Entries.{is_linked, kind_of}
-use Rattle.ic_any_collection.specs.Members.{kind_in, cursor_in, members_in, Held}
+use Rattle.ic_any_collection.specs.AnyCollection.{kind_in, cursor_in, members_in, Held}
 use Rattle.ic_world.specs.declared.collection.Collection.{Collection}
 use Rattle.ic_world.specs.declared.field.WorldField.{WorldField}
 use Rattle.ic_world.specs.Family.{Family, Sequence, LinkField}

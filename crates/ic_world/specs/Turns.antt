@@ -4,11 +4,11 @@ use Rattle.ic_unsafe_ref.specs.declared.place.Place.{Place}
 use Rattle.ic_link_ops.specs.Sequences.{IsAbsent, IsDisjoint}
 use Rattle.ic_link_ops.specs.Tables.{Table, KeepsBeside, KeepsLinked, IsUnlinked}
 use Rattle.ic_any_collection.specs.declared.entry.Entry.{Entry}
-use Rattle.ic_any_collection.specs.declared.field.Field.{Field}
-use Rattle.ic_any_collection.specs.Fields.{look}
+use Rattle.ic_any_collection.specs.declared.any_table.AnyTable.{AnyTable}
+use Rattle.ic_any_collection.specs.AnyTables.{look}
 use Rattle.ic_any_collection.specs.Entries.{is_linked}
-use Rattle.ic_any_collection.specs.declared.members.Members.{Members}
-use Rattle.ic_any_collection.specs.Members.{kind_in, cursor_in, members_in, Held, Alike}
+use Rattle.ic_any_collection.specs.declared.any_collection.AnyCollection.{AnyCollection}
+use Rattle.ic_any_collection.specs.AnyCollection.{kind_in, cursor_in, members_in, Held, Alike}
 use Rattle.ic_any_collection.specs.Edits.{IsUnchanged}
 use Rattle.ic_world.specs.declared.call.Refusal.{Refusal}
 use Rattle.ic_world.specs.LinkedSets.{linked_in}
@@ -26,11 +26,11 @@ Each P (p ∷ s) = P p × Each P s
 
 module _ {V : Type 0} where
   -- the state of a collection, as its table shows it
-  abbrev pub state_of : Table Entry → Members V → State
+  abbrev pub state_of : Table Entry → AnyCollection V → State
   state_of t m = record { kind = kind_in m; members = members_in t m; cursor = cursor_in m; linked = linked_in t }
 
   -- WHAT A CALL OF ONE COLLECTION LEAVES: its step, and the rest as it was. Nothing is newly linked but what the call names
-  pub record Turns (names : List Place) (Accepts : State → State → Type 0) (old new : Table Entry) (m m' : Members V) : Type 0 where
+  pub record Turns (names : List Place) (Accepts : State → State → Type 0) (old new : Table Entry) (m m' : AnyCollection V) : Type 0 where
     pub fresh : List Place
     pub named : (fresh ≡ []) ⊎ (fresh ≡ names)
     pub free : Each (IsUnlinked is_linked old) fresh
@@ -43,13 +43,13 @@ module _ {V : Type 0} where
 
   -- A CALL IS DONE: it is refused as its tests say, and nothing has changed; or it leaves what it accepts
   pub record Ran {M R : Type 0} (names : List Place) (refusal : State → Option Refusal) (accepts : R → State → State → Type 0)
-      (links links' : Field M) (m m' : Members V) (result : Result R Refusal) : Type 0 where
+      (links links' : AnyTable M) (m m' : AnyCollection V) (result : Result R Refusal) : Type 0 where
     pub tested : refusal_in result ≡ refusal (state_of (look links) m)
     pub turned : IfOk result (λ answer. Turns names (accepts answer) (look links) (look links') m m')
     pub unchanged : OnErr result (IsUnchanged links links' m m')
 
   -- WHAT A CALL THAT HANDS A PART OUT LEAVES: the same places are linked, and nothing but entries of members is changed
-  pub record HandsOut (Parts : State → State → State → Type 0) (old new : Table Entry) (m m' handed : Members V) : Type 0 where
+  pub record HandsOut (Parts : State → State → State → Type 0) (old new : Table Entry) (m m' handed : AnyCollection V) : Type 0 where
     pub held : Held new m'
     pub hands_out : Held new handed
     pub alike : Alike m m'

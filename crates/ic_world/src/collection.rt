@@ -1,14 +1,14 @@
 //! A collection of a world.
 //!
 //! ```text
-//! let queue = Collection { field: 0, members: Members::new(kind) };
+//! let queue = Collection { field: 0, members: AnyCollection::new(kind) };
 //! ```
 
-use ic_any_collection::Members;
+use ic_any_collection::AnyCollection;
 
 /// The members and the cursor, with the number of the field that links them.
 #[derive(Drop)]
 pub struct Collection<T> {
     pub field: usize,
-    pub members: Members<T>,
+    pub members: AnyCollection<T>,
 }

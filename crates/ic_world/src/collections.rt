@@ -8,8 +8,8 @@
 
 ghost use Rattle.std.specs.Prelude.{◌≡◌, true, None, map};
 ghost use Rattle.ic_link_ops.specs.Sequences.{IsDisjoint};
-ghost use Rattle.ic_any_collection.specs.Fields.{look};
-ghost use Rattle.ic_any_collection.specs.Members.{kind_in, members_in, Held};
+ghost use Rattle.ic_any_collection.specs.AnyTables.{look};
+ghost use Rattle.ic_any_collection.specs.AnyCollection.{kind_in, members_in, Held};
 ghost use Rattle.ic_world.specs.Splices.{can_splice, PutsBeside, CanBeJoined, AreJoined};
 ghost use Rattle.ic_world.specs.Tables.{table_of, left_in};
 
@@ -20,16 +20,16 @@ use crate::calls::whole::Whole;
 use crate::collections_by_number::CollectionsByNumber;
 use crate::field::WorldField;
 use crate::part::Part;
-use ic_any_collection::{Field, Kind, Members};
+use ic_any_collection::{AnyCollection, AnyTable, Kind};
 use ic_rbtree::KeyAdapter;
 use ic_unsafe_ref::Place;
 use std::alloc::Allocator;
 
 // Puts all members of the given list beside the cursor of another.
 fn put_beside<T, M: Allocator>(
-    list: &mut Members<T>,
-    links: &mut Field<M>,
-    given: Members<T>,
+    list: &mut AnyCollection<T>,
+    links: &mut AnyTable<M>,
+    given: AnyCollection<T>,
     before: bool,
 )
     requires held { Held (look links.old) list.old }
@@ -85,7 +85,7 @@ impl<A: KeyAdapter, M: Allocator + Copy> World<A, M> {
         if let Some(refusal) = self.open_refused(field, kind) {
             return Err(refusal);
         }
-        self.collections.push(field, Members::new(kind))
+        self.collections.push(field, AnyCollection::new(kind))
     }
 
     // The refusal of a collection of a kind in a field.

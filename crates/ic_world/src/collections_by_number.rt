@@ -1,21 +1,21 @@
 //! The collections of a world by number. Each live one lies in a list of its field, and a number that was disposed of keeps 8 bytes.
 //!
 //! ```text
-//! let number = collections.push(field, Members::new(kind))?;
+//! let number = collections.push(field, AnyCollection::new(kind))?;
 //! collections.members_mut(number).go_null();
 //! collections.dispose(number); // it names nothing from then on
 //! ```
 
 ghost use Rattle.std.specs.Prelude.{◌≡◌, ◌<◌, ◌↔◌, [], length, map, slice_set, Some, None, IsSome, IsTrue, OnOk, vec_len};
 ghost use Rattle.ic_link_ops.specs.Tables.{IsCovered};
-ghost use Rattle.ic_any_collection.specs.Fields.{look};
+ghost use Rattle.ic_any_collection.specs.AnyTables.{look};
 ghost use Rattle.ic_world.specs.Tables.{at};
 ghost use Rattle.ic_world.specs.Collections.{its_field, its_members, AreHeld, HasMember};
 ghost use Rattle.ic_world.specs.ByNumber.{items_of, IsTakenOut, Enters, HaveLists, EachHeld, SomeHas};
 ghost use Rattle.ic_world.specs.Pieces.{Appends};
 
 use crate::call::Refusal;
-use ic_any_collection::{Field, Members};
+use ic_any_collection::{AnyCollection, AnyTable};
 use ic_unsafe_ref::Place;
 use std::alloc::{AllocError, Allocator, Global};
 use std::marker::Model;
@@ -34,7 +34,7 @@ const DISPOSED: u32 = u32::MAX;
 #[derive(Drop)]
 struct Numbered<T> {
     number: usize,
-    members: Members<T>,
+    members: AnyCollection<T>,
 }
 
 /// Collections by number, each of a field. A clause sees them as a list, with none where one was disposed of.
@@ -121,7 +121,7 @@ fn enter<T, M: Allocator + Copy>(
 }
 
 // Whether one of the collections has the object as a member: they are asked one after the other.
-fn contains_in<T, M: Allocator>(list: &[Numbered<T>], links: &Field<M>, object: Place) -> bool
+fn contains_in<T, M: Allocator>(list: &[Numbered<T>], links: &AnyTable<M>, object: Place) -> bool
     requires held { EachHeld (look links.now) list.now }
     requires covered { IsCovered (look links.now) object }
     ensures { IsTrue result ↔ SomeHas (look links.now) object list.now }
@@ -166,7 +166,7 @@ impl<T, M: Allocator + Copy> CollectionsByNumber<T, M> {
 
     /// The members of a collection, to be read. O(1).
     #[inline]
-    pub(crate) fn members(&self, number: usize) -> &Members<T>
+    pub(crate) fn members(&self, number: usize) -> &AnyCollection<T>
         requires { IsSome (at self.now number) }
         ensures { Some result.now ≡ its_members (at self.now number) }
     {
@@ -176,7 +176,7 @@ impl<T, M: Allocator + Copy> CollectionsByNumber<T, M> {
 
     /// The members of a collection, to be changed. O(1).
     #[inline]
-    pub(crate) fn members_mut(&mut self, number: usize) -> &mut Members<T>
+    pub(crate) fn members_mut(&mut self, number: usize) -> &mut AnyCollection<T>
         requires { IsSome (at self.old number) }
         ensures* writes_back { sem 𝓛 (LendsMembers T.row M.row M.Allocator self.entry number result) }
         ensures value { Some result.now ≡ its_members (at self.old number) }
@@ -190,7 +190,7 @@ impl<T, M: Allocator + Copy> CollectionsByNumber<T, M> {
     /// Puts a collection into a field, under the next number, which it answers. O(1), but for the first one of a field.
     ///
     /// Refused: `OutOfMemory`, also where the number of the field, or how many live ones it has, doesn't fit in 32 bits.
-    pub(crate) fn push(&mut self, field: usize, members: Members<T>) -> Result<usize, Refusal>
+    pub(crate) fn push(&mut self, field: usize, members: AnyCollection<T>) -> Result<usize, Refusal>
         ensures { Appends self.old (Some (record { field = field; members = members })) result self.new }
     {
         if self.numbers.try_reserve(1).is_err() {
@@ -222,7 +222,7 @@ impl<T, M: Allocator + Copy> CollectionsByNumber<T, M> {
     }
 
     /// Whether a live collection of the field has the object as a member. Only these are asked, until one has it.
-    pub(crate) fn any_contains(&self, field: usize, links: &Field<M>, object: Place) -> bool
+    pub(crate) fn any_contains(&self, field: usize, links: &AnyTable<M>, object: Place) -> bool
         requires held { AreHeld self.now field (look links.now) }
         requires covered { IsCovered (look links.now) object }
         ensures { IsTrue result ↔ HasMember self.now field (look links.now) object }

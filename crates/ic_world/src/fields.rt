@@ -6,23 +6,23 @@
 //! ```
 
 ghost use Rattle.std.specs.Prelude.{◌≡◌, true, IfSome};
-ghost use Rattle.ic_any_collection.specs.Fields.{look};
+ghost use Rattle.ic_any_collection.specs.AnyTables.{look};
 ghost use Rattle.ic_world.specs.Pieces.{IsFresh};
 
 use crate::World;
 use crate::call::{Command, Refusal};
 use crate::field::WorldField;
 use crate::world::append;
-use ic_any_collection::{Field, Kind};
+use ic_any_collection::{AnyTable, Kind};
 use ic_rbtree::KeyAdapter;
 use ic_unsafe_ref::Place;
 use std::alloc::Allocator;
 
 // A table that covers so many places, if memory is found for it.
-fn covering<M: Allocator>(alloc: M, kind: Kind, room: usize) -> Option<Field<M>>
+fn covering<M: Allocator>(alloc: M, kind: Kind, room: usize) -> Option<AnyTable<M>>
     ensures { IfSome result (λ links. IsFresh kind room (look links)) }
 {
-    let mut links = Field::new(alloc, kind);
+    let mut links = AnyTable::new(alloc, kind);
     match links.cover(room) {
         Ok(()) => Some(links),
         Err(_) => None,

@@ -1,13 +1,13 @@
 //! Which members are handed out to a collection more.
 
 ghost use Rattle.std.specs.Prelude.{◌≡◌, true};
-ghost use Rattle.ic_any_collection.specs.Fields.{look};
-ghost use Rattle.ic_any_collection.specs.Members.{kind_in, Held};
+ghost use Rattle.ic_any_collection.specs.AnyTables.{look};
+ghost use Rattle.ic_any_collection.specs.AnyCollection.{kind_in, Held};
 ghost use Rattle.ic_world.specs.Turns.{HandsOut};
 ghost use Rattle.ic_world.specs.Several.{has_part, PartsOf};
 
 use crate::calls::kinds::{is_list, is_two_way_list};
-use ic_any_collection::{Field, Kind, Members};
+use ic_any_collection::{AnyCollection, AnyTable, Kind};
 use std::alloc::Allocator;
 
 /// Which members are handed out.
@@ -36,9 +36,9 @@ impl Part {
     /// Hands the part out. The cursor of what is handed out is null.
     pub fn hand_out<T, M: Allocator>(
         self,
-        members: &mut Members<T>,
-        links: &mut Field<M>,
-    ) -> Members<T>
+        members: &mut AnyCollection<T>,
+        links: &mut AnyTable<M>,
+    ) -> AnyCollection<T>
         requires held { Held (look links.old) members.old }
         requires can { has_part self (kind_in members.old) ≡ true }
         ensures { HandsOut (PartsOf self) (look links.old) (look links.new) members.old members.new result }

@@ -1,7 +1,7 @@
 //! The world, and how a call goes to one of its collections.
 
 ghost use Rattle.std.specs.Prelude.{◌≡◌, [], Some, None, IfSome, IfNone};
-ghost use Rattle.ic_any_collection.specs.Fields.{look};
+ghost use Rattle.ic_any_collection.specs.AnyTables.{look};
 ghost use Rattle.std.specs.FinMap as map;
 ghost use Rattle.ic_world.specs.Calls.{opened};
 ghost use Rattle.ic_world.specs.Replies.{reply_of};
@@ -12,7 +12,7 @@ use crate::calls::one_call::OneCall;
 use crate::collections_by_number::CollectionsByNumber;
 use crate::field::WorldField;
 use crate::part::Part;
-use ic_any_collection::{Field, Members};
+use ic_any_collection::{AnyCollection, AnyTable};
 use ic_rbtree::KeyAdapter;
 use ic_unsafe_ref::Objects;
 use std::alloc::{Allocator, Global};
@@ -127,7 +127,7 @@ impl<A: KeyAdapter, M: Allocator + Copy> World<A, M> {
         if !part.is_of(kind) {
             return Err(Refusal::WrongKind);
         }
-        match self.collections.push(field, Members::new(kind)) {
+        match self.collections.push(field, AnyCollection::new(kind)) {
             Err(refusal) => Err(refusal),
             Ok(number) => {
                 let links = &mut self.fields[field].links;
@@ -139,7 +139,10 @@ impl<A: KeyAdapter, M: Allocator + Copy> World<A, M> {
     }
 
     // A collection and the table of its field, to be read.
-    pub(crate) fn found(&self, collection: usize) -> Option<(&Members<A::Value>, &Field<M>)>
+    pub(crate) fn found(
+        &self,
+        collection: usize,
+    ) -> Option<(&AnyCollection<A::Value>, &AnyTable<M>)>
         ensures some { IfSome result (λ found. Sees self.now collection (look found.1.now) found.0.now) }
         ensures none { IfNone result (collection_of self.now collection ≡ None) }
     {

@@ -20,7 +20,7 @@ use Rattle.ic_link_ops.specs.Sequences.{Cut, first, IsAbsent, IsMember, IsDistin
 use Rattle.ic_link_ops.proofs.SequenceLemmas.{some_same, first_is}
 use Rattle.ic_any_collection.specs.declared.kind.Kind.{Kind}
 use Rattle.ic_any_collection.specs.declared.kind.Kind.TheVariants.{Singly}
-use Rattle.ic_any_collection.specs.Members.{is_list, is_two_way_list}
+use Rattle.ic_any_collection.specs.AnyCollection.{is_list, is_two_way_list}
 use Rattle.ic_rbtree.specs.Borders.{IsBorder, less_at}
 use Rattle.ic_rbtree.specs.Comparing.{answer_at, compared, order_of}
 use Rattle.ic_rbtree.proofs.KeyLaws.{value_there}

@@ -12,7 +12,7 @@ use Rattle.ic_link_ops.proofs.SequenceLemmas.{absent_left, absent_right, absent_
 use Rattle.ic_any_collection.specs.declared.kind.Kind.{Kind}
 use Rattle.ic_any_collection.specs.Kinds.{carries}
 use Rattle.ic_any_collection.specs.declared.kind.Kind.TheVariants.{Singly}
-use Rattle.ic_any_collection.specs.Members.{is_list, is_two_way_list}
+use Rattle.ic_any_collection.specs.AnyCollection.{is_list, is_two_way_list}
 use Rattle.ic_world.specs.declared.call.Refusal.{Refusal}
 use Rattle.ic_world.specs.declared.call.Refusal.TheVariants.{NoSuchField, NoSuchObject, WrongKind, IsMember as IsMemberRefusal, StillLinked, TooManyObjects, OutOfMemory}
 use Rattle.ic_world.specs.declared.call.Command.{Command}

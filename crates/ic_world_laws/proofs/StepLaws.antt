@@ -9,7 +9,7 @@ use Rattle.ic_unsafe_ref.specs.Objects.{Objects}
 use Rattle.ic_rbtree.specs.declared.keys.key_adapter.Bound.{Bound}
 use Rattle.ic_link_ops.specs.Sequences.{first, last}
 use Rattle.ic_link_ops.proofs.SequenceLemmas.{some_same}
-use Rattle.ic_any_collection.specs.Members.{is_tree}
+use Rattle.ic_any_collection.specs.AnyCollection.{is_tree}
 use Rattle.ic_world.specs.declared.call.Refusal.{Refusal}
 use Rattle.ic_world.specs.declared.call.Refusal.TheVariants.{NoSuchObject, WrongKind, NothingThere, AlreadyLinked, TooManyObjects, OutOfMemory}
 use Rattle.ic_world.specs.declared.call.Command.{Command}

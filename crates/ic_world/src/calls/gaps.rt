@@ -6,9 +6,9 @@
 //! ```
 
 ghost use Rattle.std.specs.Prelude.{◌≡◌, [], true, Ok, Err, if◌then◌else◌};
-ghost use Rattle.ic_any_collection.specs.Fields.{look};
-ghost use Rattle.ic_any_collection.specs.Members.{kind_in, Held};
-ghost use Rattle.ic_any_collection.specs.Members as kinds;
+ghost use Rattle.ic_any_collection.specs.AnyTables.{look};
+ghost use Rattle.ic_any_collection.specs.AnyCollection.{kind_in, Held};
+ghost use Rattle.ic_any_collection.specs.AnyCollection as kinds;
 ghost use Rattle.ic_world.specs.Turns.{Turns};
 ghost use Rattle.ic_world.specs.Calls as calls;
 ghost use Rattle.ic_world.specs.Replies.{result_of_swap};
@@ -17,7 +17,7 @@ ghost use Rattle.ic_world.specs.declared.calls.one_call.Call.TheVariants as one;
 use crate::call::Refusal;
 use crate::calls::kinds::{has_before, is_list, is_singly, is_two_way_list};
 use crate::calls::one_call::{OneCall, Where};
-use ic_any_collection::{Field, Kind, Members};
+use ic_any_collection::{AnyCollection, AnyTable, Kind};
 use ic_link_ops::ReplaceError;
 use ic_rbtree::KeyAdapter;
 use ic_unsafe_ref::{Objects, Place, UnsafeRef};
@@ -60,8 +60,8 @@ impl<A: KeyAdapter> OneCall<A> for Put {
     #[inline(always)]
     fn run<M: Allocator>(
         &self,
-        members: &mut Members<A::Value>,
-        links: &mut Field<M>,
+        members: &mut AnyCollection<A::Value>,
+        links: &mut AnyTable<M>,
         objects: &Objects<A::Value, M>,
         adapter: A,
     ) -> Result<(), Refusal> {
@@ -114,8 +114,8 @@ impl<A: KeyAdapter> OneCall<A> for Take {
     #[inline(always)]
     fn run<M: Allocator>(
         &self,
-        members: &mut Members<A::Value>,
-        links: &mut Field<M>,
+        members: &mut AnyCollection<A::Value>,
+        links: &mut AnyTable<M>,
         objects: &Objects<A::Value, M>,
         adapter: A,
     ) -> Result<Option<Place>, Refusal> {
@@ -132,7 +132,10 @@ impl<A: KeyAdapter> OneCall<A> for Take {
 
 // Takes the first member out of a list, and moves the cursor to null.
 #[inline]
-fn pop_front<T, M: Allocator>(members: &mut Members<T>, links: &mut Field<M>) -> Option<Place>
+fn pop_front<T, M: Allocator>(
+    members: &mut AnyCollection<T>,
+    links: &mut AnyTable<M>,
+) -> Option<Place>
     requires held { Held (look links.old) members.old }
     requires can { kinds.is_list (kind_in members.old) ≡ true }
     ensures { Turns [] (λ s t. calls.TakeReplies Where.Front s (calls.object_or_nothing result) t) (look links.old) (look links.new) members.old members.new }
@@ -149,7 +152,10 @@ fn pop_front<T, M: Allocator>(members: &mut Members<T>, links: &mut Field<M>) ->
 
 // Takes the last member out of a doubly linked or an XOR list, and moves the cursor to null, which is behind that member.
 #[inline]
-fn pop_back<T, M: Allocator>(members: &mut Members<T>, links: &mut Field<M>) -> Option<Place>
+fn pop_back<T, M: Allocator>(
+    members: &mut AnyCollection<T>,
+    links: &mut AnyTable<M>,
+) -> Option<Place>
     requires held { Held (look links.old) members.old }
     requires can { kinds.is_two_way_list (kind_in members.old) ≡ true }
     ensures { Turns [] (λ s t. calls.TakeReplies Where.Back s (calls.object_or_nothing result) t) (look links.old) (look links.new) members.old members.new }
@@ -183,8 +189,8 @@ impl<A: KeyAdapter> OneCall<A> for Swap {
     #[inline(always)]
     fn run<M: Allocator>(
         &self,
-        members: &mut Members<A::Value>,
-        links: &mut Field<M>,
+        members: &mut AnyCollection<A::Value>,
+        links: &mut AnyTable<M>,
         objects: &Objects<A::Value, M>,
         adapter: A,
     ) -> Result<Place, Refusal> {

@@ -10,7 +10,7 @@ ghost use Rattle.std.specs.Prelude.{◌≡◌};
 use crate::call::Refusal;
 use crate::calls::kinds::is_tree;
 use crate::calls::one_call::OneCall;
-use ic_any_collection::{Field, Kind, Members};
+use ic_any_collection::{AnyCollection, AnyTable, Kind};
 use ic_rbtree::KeyAdapter;
 use ic_unsafe_ref::{Objects, Place};
 use std::alloc::Allocator;
@@ -49,8 +49,8 @@ impl<A: KeyAdapter> OneCall<A> for Insertion {
 
     fn run<M: Allocator>(
         &self,
-        members: &mut Members<A::Value>,
-        links: &mut Field<M>,
+        members: &mut AnyCollection<A::Value>,
+        links: &mut AnyTable<M>,
         objects: &Objects<A::Value, M>,
         adapter: A,
     ) -> Result<u64, Refusal> {
@@ -95,8 +95,8 @@ impl<A: KeyAdapter> OneCall<A> for EntryAt<A::Key> {
 
     fn run<M: Allocator>(
         &self,
-        members: &mut Members<A::Value>,
-        links: &mut Field<M>,
+        members: &mut AnyCollection<A::Value>,
+        links: &mut AnyTable<M>,
         objects: &Objects<A::Value, M>,
         adapter: A,
     ) -> Result<Option<(bool, Place, u64)>, Refusal> {

@@ -5,7 +5,7 @@
 //! ```
 
 ghost use Rattle.std.specs.Prelude.{◌≡◌};
-ghost use Rattle.ic_any_collection.specs.Members as kinds;
+ghost use Rattle.ic_any_collection.specs.AnyCollection as kinds;
 ghost use Rattle.ic_world.specs.Family as family;
 
 use ic_any_collection::Kind;

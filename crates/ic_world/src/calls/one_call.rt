@@ -10,8 +10,8 @@ ghost use Rattle.std.specs.List.{list_all};
 ghost use Rattle.ic_unsafe_ref.specs.Objects.{is_placed as place_is_placed};
 ghost use Rattle.ic_link_ops.specs.Tables.{IsCovered};
 ghost use Rattle.ic_link_ops.specs.PlacedObjects.{ArePlaced};
-ghost use Rattle.ic_any_collection.specs.Fields.{look};
-ghost use Rattle.ic_any_collection.specs.Members.{kind_in, members_in, Held};
+ghost use Rattle.ic_any_collection.specs.AnyTables.{look};
+ghost use Rattle.ic_any_collection.specs.AnyCollection.{kind_in, members_in, Held};
 ghost use Rattle.ic_world.specs.Turns.{Each, Ran};
 ghost use Rattle.ic_world.specs.Calls.{Reply, names, has_call, own_refusal, Replies};
 ghost use Rattle.ic_world.specs.Step.{call_of as call_meant};
@@ -21,7 +21,7 @@ use crate::calls::insertion::Insertion;
 use crate::calls::search::Search;
 use crate::calls::seek::Seek;
 use crate::calls::whole::Whole;
-use ic_any_collection::{Field, Kind, Members};
+use ic_any_collection::{AnyCollection, AnyTable, Kind};
 use ic_rbtree::KeyAdapter;
 use ic_unsafe_ref::{Objects, Place};
 use std::alloc::Allocator;
@@ -94,8 +94,8 @@ pub trait OneCall<A: KeyAdapter> {
     /// each place that the call names, and that these are covered. A refusal changes nothing.
     fn run<M: Allocator>(
         &self,
-        members: &mut Members<A::Value>,
-        links: &mut Field<M>,
+        members: &mut AnyCollection<A::Value>,
+        links: &mut AnyTable<M>,
         objects: &Objects<A::Value, M>,
         adapter: A,
     ) -> Result<Self::Answer, Refusal>

@@ -9,18 +9,18 @@ ghost use Rattle.std.specs.Prelude.{◌≡◌, true, Some};
 ghost use Rattle.std.specs.List.{list_all};
 ghost use Rattle.ic_unsafe_ref.specs.Objects.{is_placed as place_is_placed};
 ghost use Rattle.ic_link_ops.specs.Tables.{IsCovered};
-ghost use Rattle.ic_any_collection.specs.Fields.{look};
+ghost use Rattle.ic_any_collection.specs.AnyTables.{look};
 ghost use Rattle.ic_link_ops.specs.Sequences.{IsAfter, IsBefore};
 ghost use Rattle.ic_any_collection.specs.Edits.{AtGap};
-ghost use Rattle.ic_any_collection.specs.Members.{kind_in, members_in, Held};
-ghost use Rattle.ic_any_collection.specs.Members as kinds;
+ghost use Rattle.ic_any_collection.specs.AnyCollection.{kind_in, members_in, Held};
+ghost use Rattle.ic_any_collection.specs.AnyCollection as kinds;
 ghost use Rattle.ic_world.specs.Calls.{named_if, beside_of};
 ghost use Rattle.ic_world.specs.Seeks.{Sought};
 
 use crate::call::Refusal;
 use crate::calls::kinds::{has_before, has_pointer, is_xor, same_position};
 use crate::calls::one_call::{Direction, OneCall};
-use ic_any_collection::{Field, Kind, Members};
+use ic_any_collection::{AnyCollection, AnyTable, Kind};
 use ic_rbtree::KeyAdapter;
 use ic_unsafe_ref::{Objects, Place};
 use std::alloc::Allocator;
@@ -67,8 +67,8 @@ impl<A: KeyAdapter> OneCall<A> for Move {
     #[inline(always)]
     fn run<M: Allocator>(
         &self,
-        members: &mut Members<A::Value>,
-        links: &mut Field<M>,
+        members: &mut AnyCollection<A::Value>,
+        links: &mut AnyTable<M>,
         objects: &Objects<A::Value, M>,
         adapter: A,
     ) -> Result<Option<Place>, Refusal> {
@@ -130,8 +130,8 @@ impl<A: KeyAdapter> OneCall<A> for Seek {
     #[inline(always)]
     fn run<M: Allocator>(
         &self,
-        members: &mut Members<A::Value>,
-        links: &mut Field<M>,
+        members: &mut AnyCollection<A::Value>,
+        links: &mut AnyTable<M>,
         objects: &Objects<A::Value, M>,
         adapter: A,
     ) -> Result<(), Refusal> {
@@ -150,8 +150,8 @@ impl<A: KeyAdapter> OneCall<A> for Seek {
 
 // Puts the cursor on the object. No table is written.
 fn seek_on<T, M: Allocator>(
-    members: &mut Members<T>,
-    links: &Field<M>,
+    members: &mut AnyCollection<T>,
+    links: &AnyTable<M>,
     object: Place,
 ) -> Result<(), Refusal>
     requires held { Held (look links.now) members.old }
@@ -173,8 +173,8 @@ fn seek_on<T, M: Allocator>(
 // The neighbor of a member that stands behind `prev`, none beyond an end.
 #[inline]
 fn neighbor<T, M: Allocator>(
-    members: &Members<T>,
-    links: &Field<M>,
+    members: &AnyCollection<T>,
+    links: &AnyTable<M>,
     way: Direction,
     prev: Option<Place>,
     object: Place,
@@ -191,8 +191,8 @@ fn neighbor<T, M: Allocator>(
 
 // Puts the cursor of an XOR list on the object, if that member stands beside it.
 fn seek_with<T, M: Allocator>(
-    members: &mut Members<T>,
-    links: &Field<M>,
+    members: &mut AnyCollection<T>,
+    links: &AnyTable<M>,
     way: Direction,
     object: Place,
     beside: Option<Place>,

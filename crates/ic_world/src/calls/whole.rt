@@ -9,7 +9,7 @@ ghost use Rattle.std.specs.Prelude.{◌≡◌};
 use crate::call::Refusal;
 use crate::calls::kinds::is_xor;
 use crate::calls::one_call::OneCall;
-use ic_any_collection::{Field, Kind, Members};
+use ic_any_collection::{AnyCollection, AnyTable, Kind};
 use ic_rbtree::KeyAdapter;
 use ic_unsafe_ref::Objects;
 use std::alloc::Allocator;
@@ -50,8 +50,8 @@ impl<A: KeyAdapter> OneCall<A> for Whole {
     #[inline(always)]
     fn run<M: Allocator>(
         &self,
-        members: &mut Members<A::Value>,
-        links: &mut Field<M>,
+        members: &mut AnyCollection<A::Value>,
+        links: &mut AnyTable<M>,
         objects: &Objects<A::Value, M>,
         adapter: A,
     ) -> Result<(), Refusal> {

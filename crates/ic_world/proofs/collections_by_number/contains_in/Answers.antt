@@ -1,4 +1,4 @@
-use Rattle.ic_any_collection.specs.Fields.{look}
+use Rattle.ic_any_collection.specs.AnyTables.{look}
 use Rattle.ic_world.proofs.Live.{one_held, some_has, none_more, none_has}
 use Rattle.ic_world.proofs.collections_by_number.contains_in.Goals as goal
 

@@ -1,8 +1,8 @@
 use Rattle.std.proofs.Common.{◌≡◌, ℕ, ◌<◌, Some}
 use Rattle.std.specs.Prelude.{slice_get}
 use Rattle.ic_link_ops.specs.Sequences.{IsMember}
-use Rattle.ic_any_collection.specs.Fields.{look}
-use Rattle.ic_any_collection.specs.Members.{members_in}
+use Rattle.ic_any_collection.specs.AnyTables.{look}
+use Rattle.ic_any_collection.specs.AnyCollection.{members_in}
 use Rattle.ic_world.specs.declared.collections_by_number.Numbered.{Numbered}
 use Rattle.ic_world.proofs.collections_by_number.contains_in.Given as goal
 

@@ -1,5 +1,5 @@
 use Rattle.std.proofs.Common.{◌∙◌, ap, arith}
-use Rattle.ic_any_collection.specs.Fields.{look}
+use Rattle.ic_any_collection.specs.AnyTables.{look}
 use Rattle.ic_any_collection.specs.Kinds.{kind_with}
 use Rattle.ic_world.proofs.Growth.{nothing_linked}
 use Rattle.ic_world.proofs.fields.covering.Goals as goal

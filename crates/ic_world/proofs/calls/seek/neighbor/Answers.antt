@@ -1,5 +1,5 @@
 use Rattle.std.proofs.Common.{◌∙◌, sym}
-use Rattle.ic_any_collection.specs.Fields.{look}
+use Rattle.ic_any_collection.specs.AnyTables.{look}
 use Rattle.ic_any_collection.proofs.AllKinds.{distinct}
 use Rattle.ic_world.proofs.Neighbors.{before_gap, behind_gap}
 use Rattle.ic_world.proofs.calls.seek.neighbor.Goals as goal

@@ -1,6 +1,6 @@
 use Rattle.std.proofs.Common.{◌∙◌, refl, sym}
-use Rattle.ic_any_collection.specs.Fields.{look}
-use Rattle.ic_any_collection.specs.Members.{members_in, kind_in}
+use Rattle.ic_any_collection.specs.AnyTables.{look}
+use Rattle.ic_any_collection.specs.AnyCollection.{members_in, kind_in}
 use Rattle.ic_any_collection.proofs.AllKinds.{unlinked_absent}
 use Rattle.ic_world.proofs.Neighbors.{member_gap, contains_tells, not_among}
 use Rattle.ic_world.proofs.Seeking.{pointer_not_xor}

@@ -1,6 +1,6 @@
 use Rattle.std.proofs.Common.{◌∙◌, refl, sym, ap}
-use Rattle.ic_any_collection.specs.Fields.{look}
-use Rattle.ic_any_collection.specs.Members.{members_in}
+use Rattle.ic_any_collection.specs.AnyTables.{look}
+use Rattle.ic_any_collection.specs.AnyCollection.{members_in}
 use Rattle.ic_any_collection.proofs.AllKinds.{unlinked_absent}
 use Rattle.ic_world.specs.Family.{same_position}
 use Rattle.ic_world.proofs.Neighbors.{not_among, among_gap}

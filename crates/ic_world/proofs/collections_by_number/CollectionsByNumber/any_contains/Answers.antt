@@ -1,6 +1,6 @@
 use Rattle.std.proofs.Common.{◌∙◌, map, sym, subst, arith, ◌↔◌, IsTrue}
 use Rattle.std.proofs.lemmas.List.{length-map}
-use Rattle.ic_any_collection.specs.Fields.{look}
+use Rattle.ic_any_collection.specs.AnyTables.{look}
 use Rattle.ic_world.specs.ByNumber.{items_of, EachHeld, SomeHas}
 use Rattle.ic_world.proofs.Live.{each_held, has_member, has_none, field_list}
 use Rattle.ic_world.proofs.collections_by_number.CollectionsByNumber.any_contains.Goals as goal

@@ -1,5 +1,5 @@
-use Rattle.ic_any_collection.specs.Fields.{look}
-use Rattle.ic_any_collection.specs.Members.{members_in}
+use Rattle.ic_any_collection.specs.AnyTables.{look}
+use Rattle.ic_any_collection.specs.AnyCollection.{members_in}
 use Rattle.ic_any_collection.proofs.AllKinds.{lawful}
 use Rattle.ic_world.proofs.Parted.{hands_all, hands_after, hands_before}
 use Rattle.ic_world.proofs.part.Part.hand_out.Goals as goal

@@ -1,7 +1,7 @@
 use Rattle.std.proofs.Common.{◌≡◌, ◌∙◌, refl, sym, ap, arith, map, set, subst}
 use Rattle.std.proofs.lemmas.List.{length-map}
 use Rattle.std.proofs.lemmas.Option.{same_Some}
-use Rattle.ic_any_collection.specs.Members.{kind_in}
+use Rattle.ic_any_collection.specs.AnyCollection.{kind_in}
 use Rattle.ic_world.specs.Calls.{names, has_call}
 use Rattle.ic_world.specs.LeftLinked.{IsKept}
 use Rattle.ic_world.specs.Replies.{reply_of}

@@ -2,7 +2,7 @@ use Rattle.std.proofs.Common.{◌≡◌, ◌∙◌, refl, sym, ap, subst, arith,
 use Rattle.std.specs.Prelude.{IsSome}
 use Rattle.std.proofs.lemmas.List.{length-map}
 use Rattle.std.proofs.lemmas.Option.{same_Some}
-use Rattle.ic_any_collection.specs.Members.{kind_in}
+use Rattle.ic_any_collection.specs.AnyCollection.{kind_in}
 use Rattle.ic_world.specs.declared.collection.Collection.{Collection}
 use Rattle.ic_world.specs.Calls.{opened, refused}
 use Rattle.ic_world.specs.Collections.{its_members, with_members}

@@ -1,0 +1,8 @@
+use Rattle.std.proofs.Common.{rules}
+use Rattle.ic_any_collection.proofs.Wholes.{keeps_turned}
+use Rattle.ic_any_collection.proofs.any_collection.AnyCollection.reverse.Goals as goal
+
+pub returns-in-Xor-clause-kept : goal.returns-in-Xor-clause-kept
+returns-in-Xor-clause-kept g c =
+    let held = rw c.in-Xor.is at c.requires.held in
+    rw c.in-Xor.is (keeps_turned c.in-Xor.cursor _ held (search rules) (search rules))

@@ -1,0 +1,79 @@
+//! A collection of any kind: what it is made as, its kind and its cursor.
+//!
+//! ```text
+//! let mut queue = AnyCollection::new(Kind::Doubly);
+//! queue.kind() // Kind::Doubly, whatever is done with it
+//! ```
+
+ghost use Rattle.std.specs.Prelude.{◌≡◌, List, None, [], true};
+ghost use Rattle.ic_unsafe_ref.specs.declared.place.Place.{Place};
+ghost use Rattle.ic_link_ops.specs.Tables.{Table};
+ghost use Rattle.ic_any_collection.specs.declared.entry.Entry.{Entry};
+ghost use Rattle.ic_any_collection.specs.Kinds.{carries};
+ghost use Rattle.ic_any_collection.specs.Entries.{kind_of};
+
+use crate::kind::Kind;
+use crate::unkeyed::Unkeyed;
+use ic_linked_list::LinkedList;
+use ic_rbtree::RBTree;
+use ic_singly_linked_list::SinglyLinkedList;
+use ic_unsafe_ref::Place;
+use ic_xor_linked_list::XorLinkedList;
+
+/// A collection of one of the kinds, with its cursor, which is null or on a member.
+#[derive(Drop)]
+pub enum AnyCollection<T> {
+    /// A singly linked list.
+    Singly(ic_singly_linked_list::CursorOwning<T>),
+    /// A doubly linked list.
+    Doubly(ic_linked_list::CursorOwning<T>),
+    /// An XOR linked list.
+    Xor(ic_xor_linked_list::CursorOwning<T>),
+    /// A red-black tree.
+    Tree(ic_rbtree::CursorOwning<Unkeyed<T>>),
+}
+
+impl<T> AnyCollection<T> {
+    ghost use Rattle.ic_any_collection.specs.AnyCollection.{kind_in, cursor_in, Keeps};
+
+    /// An empty collection of that kind, with its cursor at null. It takes no memory.
+    #[inline]
+    pub fn new(kind: Kind) -> AnyCollection<T>
+        ensures kind { kind_in result ≡ kind }
+        ensures null { cursor_in result ≡ None }
+        ensures kept { (t : Table Entry) → carries (kind_of t) kind ≡ true → Keeps t result [] }
+    {
+        match kind {
+            Kind::Singly => Self::Singly(SinglyLinkedList::new().cursor_owning()),
+            Kind::Doubly => Self::Doubly(LinkedList::new().cursor_owning()),
+            Kind::Xor => Self::Xor(XorLinkedList::new().cursor_owning()),
+            Kind::Tree => Self::Tree(RBTree::new(Unkeyed::new()).cursor_owning()),
+        }
+    }
+
+    /// The kind of the collection.
+    #[inline]
+    pub fn kind(&self) -> Kind
+        ensures { result ≡ kind_in self.now }
+    {
+        match self {
+            Self::Singly(_) => Kind::Singly,
+            Self::Doubly(_) => Kind::Doubly,
+            Self::Xor(_) => Kind::Xor,
+            Self::Tree(_) => Kind::Tree,
+        }
+    }
+
+    /// The place of the member that the cursor is on, `None` at null.
+    #[inline]
+    pub fn cursor(&self) -> Option<Place>
+        ensures { result ≡ cursor_in self.now }
+    {
+        match self {
+            Self::Singly(cursor) => cursor.get_ptr(),
+            Self::Doubly(cursor) => cursor.get_ptr(),
+            Self::Xor(cursor) => cursor.get_ptr(),
+            Self::Tree(cursor) => cursor.get_ptr(),
+        }
+    }
+}

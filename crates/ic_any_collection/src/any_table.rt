@@ -1,0 +1,302 @@
+//! The table of a link field, of any of the four kinds. Each carries singly linked and XOR lists.
+//!
+//! ```text
+//! let mut links = AnyTable::new(rt.alloc(), Kind::Xor);
+//! links.cover(3)?;
+//! links.kind() // Kind::Xor, whatever is done with it
+//! ```
+
+ghost use Rattle.std.specs.Prelude.{◌≡◌, ◌≤◌, ◌<◌, ◌↔◌, max, OnOk, OnErr, IsOk, Err};
+ghost use Rattle.ic_unsafe_ref.specs.declared.place.Place.{Place};
+ghost use Rattle.ic_link_ops.specs.Tables.{IsCovered, IsLinked, IsUnlinked, ChangesOnly};
+
+use crate::entry::Entry;
+use crate::kind::Kind;
+use crate::table_with_prev::TableWithPrev;
+use crate::tree_table::TreeTable;
+use ic_link_ops::singly_linked_list::SinglyLinkedListOps;
+use ic_link_ops::xor_linked_list::XorLinkedListOps;
+use ic_link_ops::{CoverError, LinkOps, linked_list, rbtree, singly_linked_list, xor_linked_list};
+use ic_unsafe_ref::Place;
+use std::alloc::{Allocator, Global};
+
+/// The table of a link field. No call makes it one of another kind.
+#[derive(Drop)]
+pub enum AnyTable<M: Allocator = Global> {
+    /// A table of singly links.
+    Singly(singly_linked_list::LinkOps<M>),
+    /// A table of XOR links.
+    Xor(xor_linked_list::LinkOps<M>),
+    /// A table of doubly links, or of tree links.
+    WithPrev(TableWithPrev<M>),
+}
+
+impl<M: Allocator> AnyTable<M> {
+    ghost use Rattle.ic_any_collection.specs.Entries.{is_linked, kind_of};
+    ghost use Rattle.ic_any_collection.specs.AnyTables.{look};
+
+    /// A table of that kind which covers no place. It takes no memory.
+    pub fn new(alloc: M, kind: Kind) -> AnyTable<M>
+        ensures covers { (look result).extent.places ≡ 0 }
+        ensures kind { kind_of (look result) ≡ kind }
+    {
+        match kind {
+            Kind::Singly => Self::Singly(singly_linked_list::LinkOps::new(alloc)),
+            Kind::Xor => Self::Xor(xor_linked_list::LinkOps::new(alloc)),
+            Kind::Doubly => Self::WithPrev(TableWithPrev::Doubly(linked_list::LinkOps::new(alloc))),
+            Kind::Tree => {
+                let links = TreeTable(rbtree::LinkOps::new(alloc));
+                Self::WithPrev(TableWithPrev::Tree(links))
+            }
+        }
+    }
+
+    /// The kind of the table.
+    #[inline]
+    pub fn kind(&self) -> Kind
+        ensures { result ≡ kind_of (look self.now) }
+    {
+        match self {
+            Self::Singly(_) => Kind::Singly,
+            Self::Xor(_) => Kind::Xor,
+            Self::WithPrev(TableWithPrev::Doubly(_)) => Kind::Doubly,
+            Self::WithPrev(TableWithPrev::Tree(_)) => Kind::Tree,
+        }
+    }
+
+    /// How many places are covered: those with a smaller index.
+    #[inline]
+    pub fn covers(&self) -> usize
+        ensures { result ≡ (look self.now).extent.places }
+    {
+        match self {
+            Self::Singly(links) => links.covers(),
+            Self::Xor(links) => links.covers(),
+            Self::WithPrev(TableWithPrev::Doubly(links)) => links.covers(),
+            Self::WithPrev(TableWithPrev::Tree(TreeTable(links))) => links.covers(),
+        }
+    }
+
+    /// Whether `place` is linked. It asks that the place is covered. O(1).
+    #[inline]
+    pub fn is_linked(&self, place: Place) -> bool
+        requires covered { IsCovered (look self.now) place }
+        ensures { result ≡ is_linked ((look self.now).entry place) }
+    {
+        match self {
+            Self::Singly(links) => links.is_linked(place),
+            Self::Xor(links) => links.is_linked(place),
+            Self::WithPrev(TableWithPrev::Doubly(links)) => links.is_linked(place),
+            Self::WithPrev(TableWithPrev::Tree(TreeTable(links))) => links.is_linked(place),
+        }
+    }
+
+    /// Unlinks `place`, whoever linked it. An unlinked place stays so. It asks that the place is covered. O(1).
+    ///
+    /// Every other entry stays, so each collection of which the place is no member keeps its sequence.
+    #[inline]
+    pub fn force_unlink(&mut self, place: Place)
+        requires covered { IsCovered (look self.old) place }
+        ensures unlinked { IsUnlinked is_linked (look self.new) place }
+        ensures frame { ChangesOnly (look self.old) (look self.new) place }
+    {
+        match self {
+            Self::Singly(links) => links.force_unlink(place),
+            Self::Xor(links) => links.force_unlink(place),
+            Self::WithPrev(TableWithPrev::Doubly(links)) => links.force_unlink(place),
+            Self::WithPrev(TableWithPrev::Tree(TreeTable(links))) => links.force_unlink(place),
+        }
+    }
+
+    /// Covers the first `count` places, with an unlinked entry for each that is new.
+    ///
+    /// It is refused above 4,294,967,296 places, and where no memory is found; then nothing has changed. The entries that are
+    /// there stay, and where `count` is smaller than what is covered nothing changes. At most one request for memory.
+    pub fn cover(&mut self, count: usize) -> Result<(), CoverError>
+        ensures too_many { (result ≡ Err CoverError.TooManyPlaces) ↔ 4294967296 < count }
+        ensures covers { OnOk result ((look self.new).extent.places ≡ max (look self.old).extent.places count) }
+        ensures stays { (q : Place) → (look self.new).entry q ≡ (look self.old).entry q }
+        ensures identity { (look self.new).extent.identity ≡ (look self.old).extent.identity }
+        ensures enough { count ≤ (look self.old).extent.places → count ≤ 4294967296 → IsOk result }
+        ensures refused { OnErr result ((look self.new).extent ≡ (look self.old).extent) }
+    {
+        match self {
+            Self::Singly(links) => links.cover(count),
+            Self::Xor(links) => links.cover(count),
+            Self::WithPrev(TableWithPrev::Doubly(links)) => links.cover(count),
+            Self::WithPrev(TableWithPrev::Tree(TreeTable(links))) => links.cover(count),
+        }
+    }
+}
+
+impl<M: Allocator> LinkOps for AnyTable<M> {
+    ghost use Rattle.std.proofs.Common.{ap, refl};
+    ghost use Rattle.ic_link_ops.specs.LinkSteps.{Replays};
+    ghost use Rattle.ic_link_ops.specs.StepLaws.{replays_on};
+    ghost use Rattle.ic_any_collection.specs.Entries.{is_linked};
+    ghost use Rattle.ic_any_collection.specs.AnyTables.{look, covered_where_linked};
+
+    type Entry = Entry;
+
+    ghost table = { look };
+
+    ghost linked = { is_linked };
+
+    ghost Does = { λ old new s. Replays is_linked (look old) (look new) s };
+
+    ghost Refused = { λ old new p. IsLinked is_linked (look old) p × (new ≡ old) };
+
+    #[inline]
+    fn acquire_link(&mut self, place: Place) -> bool {
+        match self {
+            Self::Singly(links) => links.acquire_link(place),
+            Self::Xor(links) => links.acquire_link(place),
+            Self::WithPrev(links) => links.acquire_link(place),
+        }
+    }
+
+    #[inline]
+    fn release_link(&mut self, place: Place) {
+        match self {
+            Self::Singly(links) => links.release_link(place),
+            Self::Xor(links) => links.release_link(place),
+            Self::WithPrev(links) => links.release_link(place),
+        }
+    }
+
+    ghost linked_is_covered = { covered_where_linked };
+
+    ghost does_nothing = { λ t q. refl };
+
+    ghost does_on = { λ a b c s t h k. replays_on is_linked s t (look a) (look b) (look c) h k };
+
+    ghost does_replay = { λ old new s h. h };
+
+    ghost refused_keeps = { λ old new p h. ap look h.1 };
+}
+
+impl<M: Allocator> SinglyLinkedListOps for AnyTable<M> {
+    ghost use Rattle.std.specs.Prelude.{refl};
+    ghost use Rattle.ic_any_collection.specs.Entries.{successor};
+
+    ghost successor = { successor };
+
+    #[inline]
+    fn next(&self, place: Place) -> Option<Place> {
+        match self {
+            Self::Singly(links) => SinglyLinkedListOps::next(links, place),
+            Self::Xor(links) => SinglyLinkedListOps::next(links, place),
+            Self::WithPrev(TableWithPrev::Doubly(links)) => SinglyLinkedListOps::next(links, place),
+            Self::WithPrev(TableWithPrev::Tree(TreeTable(links))) => SinglyLinkedListOps::next(
+                links, place,
+            ),
+        }
+    }
+
+    #[inline]
+    fn set_next(&mut self, place: Place, next: Option<Place>) {
+        match self {
+            Self::Singly(links) => SinglyLinkedListOps::set_next(links, place, next),
+            Self::Xor(links) => SinglyLinkedListOps::set_next(links, place, next),
+            Self::WithPrev(TableWithPrev::Doubly(links)) => SinglyLinkedListOps::set_next(
+                links, place, next,
+            ),
+            Self::WithPrev(TableWithPrev::Tree(TreeTable(links))) => SinglyLinkedListOps::set_next(
+                links, place, next,
+            ),
+        }
+    }
+
+    #[inline]
+    fn link_before(&mut self, place: Place, next: Option<Place>) -> bool {
+        match self {
+            Self::Singly(links) => links.link_before(place, next),
+            Self::Xor(links) => links.link_before(place, next),
+            Self::WithPrev(TableWithPrev::Doubly(links)) => links.link_before(place, next),
+            Self::WithPrev(TableWithPrev::Tree(TreeTable(links))) => links.link_before(place, next),
+        }
+    }
+
+    ghost linked_alike = { λ e. refl };
+}
+
+impl<M: Allocator> XorLinkedListOps for AnyTable<M> {
+    ghost use Rattle.ic_any_collection.specs.Entries.{Joins, other};
+    ghost use Rattle.ic_link_ops.specs.XorLaws.{joins_symmetric, joins_one_other, joins_finds_other};
+
+    ghost Joins = { Joins };
+
+    ghost other = { other };
+
+    #[inline]
+    fn next(&self, place: Place, prev: Option<Place>) -> Option<Place> {
+        match self {
+            Self::Singly(links) => XorLinkedListOps::next(links, place, prev),
+            Self::Xor(links) => XorLinkedListOps::next(links, place, prev),
+            Self::WithPrev(TableWithPrev::Doubly(links)) => XorLinkedListOps::next(
+                links, place, prev,
+            ),
+            Self::WithPrev(TableWithPrev::Tree(TreeTable(links))) => XorLinkedListOps::next(
+                links, place, prev,
+            ),
+        }
+    }
+
+    #[inline]
+    fn prev(&self, place: Place, next: Option<Place>) -> Option<Place> {
+        match self {
+            Self::Singly(links) => XorLinkedListOps::prev(links, place, next),
+            Self::Xor(links) => XorLinkedListOps::prev(links, place, next),
+            Self::WithPrev(TableWithPrev::Doubly(links)) => XorLinkedListOps::prev(
+                links, place, next,
+            ),
+            Self::WithPrev(TableWithPrev::Tree(TreeTable(links))) => XorLinkedListOps::prev(
+                links, place, next,
+            ),
+        }
+    }
+
+    #[inline]
+    fn set(&mut self, place: Place, prev: Option<Place>, next: Option<Place>) {
+        match self {
+            Self::Singly(links) => links.set(place, prev, next),
+            Self::Xor(links) => links.set(place, prev, next),
+            Self::WithPrev(TableWithPrev::Doubly(links)) => links.set(place, prev, next),
+            Self::WithPrev(TableWithPrev::Tree(TreeTable(links))) => links.set(place, prev, next),
+        }
+    }
+
+    #[inline]
+    fn link_between(&mut self, place: Place, prev: Option<Place>, next: Option<Place>) -> bool {
+        match self {
+            Self::Singly(links) => XorLinkedListOps::link_between(links, place, prev, next),
+            Self::Xor(links) => XorLinkedListOps::link_between(links, place, prev, next),
+            Self::WithPrev(TableWithPrev::Doubly(links)) => XorLinkedListOps::link_between(
+                links, place, prev, next,
+            ),
+            Self::WithPrev(TableWithPrev::Tree(TreeTable(links))) => XorLinkedListOps::link_between(
+                links, place, prev, next,
+            ),
+        }
+    }
+
+    #[inline]
+    fn replace_next_or_prev(&mut self, place: Place, old: Option<Place>, new: Option<Place>) {
+        match self {
+            Self::Singly(links) => links.replace_next_or_prev(place, old, new),
+            Self::Xor(links) => links.replace_next_or_prev(place, old, new),
+            Self::WithPrev(TableWithPrev::Doubly(links)) => links.replace_next_or_prev(
+                place, old, new,
+            ),
+            Self::WithPrev(TableWithPrev::Tree(TreeTable(links))) => links.replace_next_or_prev(
+                place, old, new,
+            ),
+        }
+    }
+
+    ghost symmetric = { λ e a b j. joins_symmetric e.word a b j };
+
+    ghost one_other = { λ e a b c j k. joins_one_other e.word a b c j k };
+
+    ghost finds_other = { λ e a b j. joins_finds_other e.word a b j };
+}
