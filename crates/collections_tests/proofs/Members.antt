@@ -1,12 +1,11 @@
 -- That a cursor can be made anew on the member to which another moved, and on the one from which it moves.
-use Rattle.std.proofs.Common.{◌≡◌, Option, Some, List, drop, sym, ◌∙◌}
+use Rattle.std.proofs.Common.{◌≡◌, Option, Some, List, [], ◌∷◌, ◌++◌, append_assoc, drop, sym, ◌∙◌}
 use Rattle.ic_unsafe_ref.specs.declared.place.Place.{Place}
 use Rattle.ic_link_ops.specs.Positions.{Site, ShowsAt, Stands, MovesOn}
 use Rattle.ic_link_ops.specs.Tables.{Table}
 use Rattle.ic_link_ops.proofs.Positions.{member_there}
-use Rattle.ic_link_ops.proofs.SequenceLemmas.{first_is}
-use Rattle.ic_xor_linked_list.specs.Position.{HasMemberBehind, HasMemberBefore}
-use Rattle.ic_xor_linked_list.proofs.Standing.{behind_member}
+use Rattle.ic_link_ops.proofs.SequenceLemmas.{first_is, last_of_push}
+use Rattle.ic_chain.specs.Standing.{HasMemberBehind, HasMemberBefore}
 
 module _ {L E H : Type 0} {S : Table E → H → List Place → Type 0} {table : L → Table E} {at : Site L H} {next : Option Place} {p : Place}
     (stands : Stands S table at) (on : MovesOn S table at next) where
@@ -20,5 +19,9 @@ module _ {L E H : Type 0} {S : Table E → H → List Place → Type 0} {table :
 
   pub member_before : at.position ≡ Some p → HasMemberBefore (ShowsAt S table at) p next
   member_before is =
-      let m = member_there stands is in
-      record { front = m.front; back = m.back; shown = m.shown; neighbor = behind_member m.front m.back p (record { stands = stands; on = on }) m.shown is }
+      let m = member_there stands is in record {
+        front = m.front;
+        back = m.back;
+        shown = m.shown;
+        neighbor = on.leads (record { front = m.front ++ p ∷ []; back = m.back }) (rw (append_assoc m.front (p ∷ []) m.back) m.shown) (is ∙ sym (last_of_push m.front p));
+      }

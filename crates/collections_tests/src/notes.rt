@@ -4,6 +4,7 @@ use ic_test_support::answers::{object, standing, value};
 use ic_test_support::notes::{Answer, Text};
 use ic_unsafe_ref::{Place, UnsafeRef};
 use std::alloc::Global;
+use std::fmt::Debug;
 use std::process::Abort;
 
 /// Asserts that the notes have these words. The one comparison of each test.
@@ -43,3 +44,14 @@ pub(crate) fn write_looks(
     notes.add(value(found), " ");
     write_places(notes, beside);
 }
+
+/// Whether a collection prints this: on one line, and then with each object on a line of its own.
+pub(crate) fn prints(alloc: Global, listing: &impl Debug, wanted: &str) -> bool {
+    match format!(in alloc; "{listing:?} {listing:#?}") {
+        Ok(text) => text.as_str() == wanted,
+        Err(_) => false,
+    }
+}
+
+/// What a collection of the objects 10 and 20 prints, in this order.
+pub(crate) const TEN_TWENTY: &str = "[10, 20] [\n    10,\n    20,\n]";

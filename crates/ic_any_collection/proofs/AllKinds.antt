@@ -15,9 +15,7 @@ use Rattle.ic_link_ops.proofs.DoublyLists as doubly_laws
 use Rattle.ic_link_ops.proofs.XorLists as xor_laws
 use Rattle.ic_link_ops.proofs.ShownTrees as tree_laws
 use Rattle.ic_rbtree.proofs.Members as tree_members
-use Rattle.ic_linked_list.specs.CursorOwning as doubly_cursor
-use Rattle.ic_singly_linked_list.specs.CursorOwning as singly_cursor
-use Rattle.ic_xor_linked_list.specs.CursorOwning as xor_cursor
+use Rattle.ic_cursors.specs.CursorOwning.{list_of}
 use Rattle.ic_rbtree.specs.CursorOwning as tree_cursor
 use Rattle.ic_rbtree.specs.Tree.{root_of}
 use Rattle.ic_any_collection.specs.declared.entry.Entry.{Entry}
@@ -36,7 +34,7 @@ pub lawful : {M : Type 0} (links : AnyTable M) → IsLawful (look links)
 lawful links q h = covered_where_linked links q h
 
 -- what each kind brings
-pub singly_kind : IsKind (singly.Shows successor) is_linked None
+pub singly_kind : IsKind (singly.Shows successor) is_linked (singly.list_from None)
 singly_kind = singly_laws.singly_lists (λ e. refl)
 
 pub doubly_kind : IsKind (doubly.Shows neighbors) is_linked no_members
@@ -51,9 +49,9 @@ tree_kind = tree_laws.red_black_trees (λ e. refl)
 module _ {V : Type 0} where
   -- a table shows one sequence, which the walk gives
   pub one_sequence : (t : Table Entry) → IsLawful t → (m : AnyCollection V) (s : List Place) → ShowsIn t m s → members_in t m ≡ s
-  one_sequence t law (Singly m) s shown = singly_laws.members_shown t law (singly_cursor.list_of m) s shown
-  one_sequence t law (Doubly m) s shown = doubly_laws.members_shown t law (doubly_cursor.list_of m) s shown
-  one_sequence t law (Xor m) s shown = xor_laws.members_shown other (λ e a b j. joins_finds_other e.word a b j) t law (xor_cursor.list_of m) s shown
+  one_sequence t law (Singly m) s shown = singly_laws.members_shown t law (list_of m) s shown
+  one_sequence t law (Doubly m) s shown = doubly_laws.members_shown t law (list_of m) s shown
+  one_sequence t law (Xor m) s shown = xor_laws.members_shown other (λ e a b j. joins_finds_other e.word a b j) t law (list_of m) s shown
   one_sequence t law (Tree m) s shown = tree_members.members_shown t law (root_of (tree_cursor.tree_of m)) s shown
 
   -- no place stands twice in it

@@ -1,5 +1,5 @@
 -- Edits of a collection at its cursor: what the call of a kind says, in the words of all kinds.
-use Rattle.std.proofs.Common.{◌≡◌, ◌≢◌, ◌∙◌, Bool, true, false, ap, Result, Ok, Err, OnOk, IfOk, IfErr, OnErr, Option, Some, None, IfSome, List, [], ◌∷◌, drop, sym, subst}
+use Rattle.std.proofs.Common.{◌≡◌, ◌≢◌, ◌∙◌, Bool, true, false, ap, Result, Ok, Err, OnOk, IfOk, IfErr, OnErr, Option, Some, None, IfSome, IfNone, List, [], ◌∷◌, drop, refl, sym, subst}
 use Rattle.std.specs.Bool.{OnTrue, OnFalse}
 use Rattle.std.specs.Result.{is_ok}
 use Rattle.ic_unsafe_ref.specs.declared.place.Place.{Place}
@@ -12,10 +12,15 @@ use Rattle.ic_link_ops.specs.Tables.{Table, KeepsBeside, IsLinked}
 use Rattle.ic_link_ops.specs.LinkSteps.{LinkStep, Replays, acquires}
 use Rattle.ic_link_ops.specs.Positions.{site}
 use Rattle.ic_link_ops.specs.EditsAt.{InsertsBeside, RemovesThere, RemovesNext, ReplacesThere, ReplacesNext}
+use Rattle.ic_link_ops.specs.Chains.{Ends}
+use Rattle.ic_link_ops.proofs.SequenceLemmas.{none_not}
+use Rattle.ic_cursors.specs.CursorOwning.{list_of, place_of}
+use Rattle.ic_xor_linked_list.specs.Position.{PlaceAndNext, member_of}
 use Rattle.ic_any_collection.specs.declared.entry.Entry.{Entry}
 use Rattle.ic_any_collection.specs.Entries.{is_linked}
 use Rattle.ic_any_collection.specs.declared.any_collection.AnyCollection.{AnyCollection}
-use Rattle.ic_any_collection.specs.AnyCollection.{cursor_in, members_in, Held}
+use Rattle.ic_any_collection.specs.declared.any_collection.AnyCollection.TheVariants.{Xor}
+use Rattle.ic_any_collection.specs.AnyCollection.{XorCursor, cursor_in, members_in, Held}
 use Rattle.ic_any_collection.specs.Edits.{AtGap, Leaves, Moves, Puts, Takes, Swaps}
 use Rattle.ic_any_collection.proofs.Moving.{Turned, cut_shown, turned_keeps, moves}
 
@@ -176,3 +181,19 @@ module _ {V L H : Type 0} {Shows : Table Entry → H → List Place → Type 0} 
       let same = (e.refused at.0 (cut_shown turned held at.0 at.1) at.2).1 in (same, stays turned held (ap table same) e.unchanged.1 e.position)
   swaps_next_stays {result = Err (Linked object)} e turned held at =
       let same = (e.refused at.0 (cut_shown turned held at.0 at.1) at.2).1.1 in (same, stays turned held (ap table same) e.unchanged.1 e.position)
+
+-- A REMOVAL AT NULL leaves an XOR list's cursor as it was, since there it keeps nothing
+null_is_none : (at : Option PlaceAndNext) → member_of at ≡ None → at ≡ None
+null_is_none None null = refl
+null_is_none (Some at) null = absurd (none_not at.place (sym null))
+
+pub nothing_taken : {V L : Type 0} {Shows : Table Entry → Ends → List Place → Type 0} {table : L → Table Entry} {Steps : L → L → List LinkStep → Type 0} {old new : L} (m m' : XorCursor V)
+    (r : Option Place) → RemovesThere Shows table Steps (site old (list_of m) (member_of (place_of m))) r (site new (list_of m') (member_of (place_of m')))
+    → IfNone r ((Xor m' ≡ Xor m) × (new ≡ old))
+nothing_taken m m' (Some p) e = tt
+nothing_taken m m' None e =
+    let was = null_is_none (place_of m) (sym e.answer) in
+    let is = null_is_none (place_of m') (ap (λ at. at.position) e.null ∙ sym e.answer) in (
+      ap (λ list. Xor (record { list = list; current = place_of m' })) (ap (λ at. at.head) e.null) ∙ ap (λ at. Xor (record { list = list_of m; current = at })) (is ∙ sym was),
+      ap (λ at. at.links) e.null,
+    )

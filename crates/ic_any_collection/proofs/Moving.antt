@@ -10,9 +10,7 @@ use Rattle.ic_link_ops.specs.RedBlackTree as tree
 use Rattle.ic_link_ops.specs.Positions as position
 use Rattle.ic_link_ops.specs.Positions.{site, MovesOn, MovesBack}
 use Rattle.ic_link_ops.proofs.CollectionLaws.{IsKind, one_sequence_is_shown}
-use Rattle.ic_linked_list.specs.CursorOwning as doubly_cursor
-use Rattle.ic_singly_linked_list.specs.CursorOwning as singly_cursor
-use Rattle.ic_xor_linked_list.specs.CursorOwning as xor_cursor
+use Rattle.ic_cursors.specs.CursorOwning.{list_of, place_of}
 use Rattle.ic_rbtree.specs.CursorOwning as tree_cursor
 use Rattle.ic_rbtree.specs.Tree.{root_of}
 use Rattle.ic_any_collection.specs.declared.entry.Entry.{Entry}
@@ -20,10 +18,10 @@ use Rattle.ic_any_collection.specs.Entries.{is_linked, neighbors, successor, nod
 use Rattle.ic_any_collection.specs.declared.unkeyed.Unkeyed.{Unkeyed}
 use Rattle.ic_any_collection.specs.declared.any_collection.AnyCollection.{AnyCollection}
 use Rattle.ic_any_collection.specs.declared.any_collection.AnyCollection.TheVariants.{Singly, Doubly, Xor, Tree}
-use Rattle.ic_any_collection.specs.AnyCollection.{IsAt, StandsIn, ShowsIn, cursor_in, members_in, Keeps, Held, Alike}
+use Rattle.ic_any_collection.specs.AnyCollection.{SinglyCursor, DoublyCursor, XorCursor, IsAt, StandsIn, ShowsIn, cursor_in, members_in, Keeps, Held, Alike}
 use Rattle.ic_any_collection.specs.Edits.{AtGap, Moves}
 use Rattle.ic_any_collection.proofs.AllKinds.{singly_kind, doubly_kind, tree_kind}
-use Rattle.ic_any_collection.proofs.Standing.{known}
+use Rattle.ic_any_collection.proofs.Standing.{XorStands, known}
 
 -- `Shows t head s`: the shows-relation of a kind. A CALL TURNS m, with this head, into m', with that one: what is shown for either is
 -- what its kind says, m' stands in what is shown for it, and the two are of the same kind
@@ -40,8 +38,8 @@ at_shown kind stands s shown = (stands.gap, one_sequence_is_shown kind stands.sh
 
 -- SO IS EACH CALL of a kind that says that its cursor stands then
 module _ {V L : Type 0} {table : L → Table Entry} {new : L} {t : Table Entry} where
-  pub singly_turned : {m m' : singly_cursor.Owning V} → position.Stands (singly.Shows successor) table (singly_cursor.site_of new m')
-      → Turned {V = V} (singly.Shows successor) t (table new) (singly_cursor.list_of m) (singly_cursor.list_of m') (Singly m) (Singly m')
+  pub singly_turned : {m m' : SinglyCursor V} → position.Stands (singly.Shows successor) table (site new (list_of m') (place_of m'))
+      → Turned {V = V} (singly.Shows successor) t (table new) (list_of m) (list_of m') (Singly m) (Singly m')
   singly_turned stands = record {
     reads = λ s shown. shown;
     shows = λ s shown. shown;
@@ -49,8 +47,8 @@ module _ {V L : Type 0} {table : L → Table Entry} {new : L} {t : Table Entry} 
     alike = refl;
   }
 
-  pub doubly_turned : {m m' : doubly_cursor.Owning V} → position.Stands (doubly.Shows neighbors) table (doubly_cursor.site_of new m')
-      → Turned {V = V} (doubly.Shows neighbors) t (table new) (doubly_cursor.list_of m) (doubly_cursor.list_of m') (Doubly m) (Doubly m')
+  pub doubly_turned : {m m' : DoublyCursor V} → position.Stands (doubly.Shows neighbors) table (site new (list_of m') (place_of m'))
+      → Turned {V = V} (doubly.Shows neighbors) t (table new) (list_of m) (list_of m') (Doubly m) (Doubly m')
   doubly_turned stands = record {
     reads = λ s shown. shown;
     shows = λ s shown. shown;
@@ -58,8 +56,8 @@ module _ {V L : Type 0} {table : L → Table Entry} {new : L} {t : Table Entry} 
     alike = refl;
   }
 
-  pub xor_turned : {m m' : xor_cursor.Owning V} → xor_cursor.KnowsNeighbors (xor.Shows is_linked Joins) table new m'
-      → Turned {V = V} (xor.Shows is_linked Joins) t (table new) (xor_cursor.list_of m) (xor_cursor.list_of m') (Xor m) (Xor m')
+  pub xor_turned : {m m' : XorCursor V} → XorStands table new m'
+      → Turned {V = V} (xor.Shows is_linked Joins) t (table new) (list_of m) (list_of m') (Xor m) (Xor m')
   xor_turned {m' = to} knows = record {
     reads = λ s shown. shown;
     shows = λ s shown. shown;

@@ -9,16 +9,13 @@ use Rattle.ic_link_ops.specs.SinglyLinkedList as singly
 use Rattle.ic_link_ops.specs.XorLinkedList as xor
 use Rattle.ic_link_ops.specs.Positions.{site}
 use Rattle.ic_link_ops.specs.EditsAt.{SplicesBeside, SplitsBeside}
-use Rattle.ic_link_ops.proofs.SequenceLemmas.{gap_after}
-use Rattle.ic_linked_list.specs.CursorOwning as doubly_cursor
-use Rattle.ic_singly_linked_list.specs.CursorOwning as singly_cursor
-use Rattle.ic_xor_linked_list.specs.CursorOwning as xor_cursor
-use Rattle.ic_xor_linked_list.specs.Position.{null_of}
+use Rattle.ic_link_ops.proofs.SequenceLemmas.{gap_after, none_not}
+use Rattle.ic_cursors.specs.CursorOwning.{list_of, place_of}
 use Rattle.ic_any_collection.specs.declared.entry.Entry.{Entry}
 use Rattle.ic_any_collection.specs.Entries.{is_linked, neighbors, successor, Joins}
 use Rattle.ic_any_collection.specs.declared.any_collection.AnyCollection.{AnyCollection}
 use Rattle.ic_any_collection.specs.declared.any_collection.AnyCollection.TheVariants.{Singly, Doubly, Xor}
-use Rattle.ic_any_collection.specs.AnyCollection.{IsAt, IsAtBefore, ShowsIn, StandsIn, cursor_in, Keeps, Alike}
+use Rattle.ic_any_collection.specs.AnyCollection.{SinglyCursor, DoublyCursor, XorCursor, IsAt, IsXorAt, ShowsIn, StandsIn, cursor_in, Keeps, Alike}
 use Rattle.ic_any_collection.specs.Edits.{PutsAll, Parts}
 
 -- WHERE A CURSOR STANDS: at null,
@@ -44,10 +41,9 @@ pub at_put_before : (gap : Cut) (r : List Place) {position : Option Place} → I
 at_put_before gap r {position} before =
     let at = at_before (record { front = gap.front ++ r; back = gap.back }) before in (at.0, at.1 ∙ append_assoc gap.front r gap.back, at.2)
 
--- an XOR list's cursor at null, with the head behind it
-pub xor_null : {V : Type 0} {t : Table Entry} (m : xor_cursor.Owning V) (s : List Place) → xor.Shows is_linked Joins t (xor_cursor.list_of m) s
-    → xor_cursor.place_of m ≡ null_of (xor_cursor.list_of m) → IsAtBefore s (xor_cursor.position m) (xor_cursor.place_of m).next
-xor_null m s shown null = rw null (at_front s, refl, refl, shown.head)
+-- an XOR list's cursor at null, where it keeps nothing
+pub xor_null : {V : Type 0} (m : XorCursor V) (s : List Place) → place_of m ≡ None → IsXorAt s (place_of m)
+xor_null m s null = rw null (at_front s, refl, refl, tt)
 
 -- a kind of list, of which a collection `made m` has this head: what the table shows for the head, it shows for the collection
 pub record IsListKind {V C H : Type 0} (made : C → AnyCollection V) (Shows : Table Entry → H → List Place → Type 0) (head : C → H) : Type 0 where
@@ -56,13 +52,13 @@ pub record IsListKind {V C H : Type 0} (made : C → AnyCollection V) (Shows : T
   pub shown : (t : Table Entry) (m : C) (s : List Place) → ShowsIn t (made m) s → Shows t (head m) s
 
 module _ {V : Type 0} where
-  pub singly_list : IsListKind {V = V} (λ m. Singly m) (singly.Shows successor) (λ m. singly_cursor.list_of m)
+  pub singly_list : IsListKind {V = V} (λ m. Singly m) (singly.Shows successor) (λ m. list_of m)
   singly_list = record { alike = λ m m'. refl; shows = λ t m s h. h; shown = λ t m s h. h }
 
-  pub doubly_list : IsListKind {V = V} (λ m. Doubly m) (doubly.Shows neighbors) (λ m. doubly_cursor.list_of m)
+  pub doubly_list : IsListKind {V = V} (λ m. Doubly m) (doubly.Shows neighbors) (λ m. list_of m)
   doubly_list = record { alike = λ m m'. refl; shows = λ t m s h. h; shown = λ t m s h. h }
 
-  pub xor_list : IsListKind {V = V} (λ m. Xor m) (xor.Shows is_linked Joins) (λ m. xor_cursor.list_of m)
+  pub xor_list : IsListKind {V = V} (λ m. Xor m) (xor.Shows is_linked Joins) (λ m. list_of m)
   xor_list = record { alike = λ m m'. refl; shows = λ t m s h. h; shown = λ t m s h. h }
 
 module _ {V C H : Type 0} {made : C → AnyCollection V} {Shows : Table Entry → H → List Place → Type 0} {head : C → H} (kind : IsListKind made Shows head) where

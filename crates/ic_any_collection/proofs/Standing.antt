@@ -1,18 +1,20 @@
 -- Where a cursor stands: the gaps beside it, and what an XOR list's cursor keeps.
-use Rattle.std.proofs.Common.{◌≡◌, ◌∙◌, Option, List, sym, subst}
+use Rattle.std.proofs.Common.{◌≡◌, ◌∙◌, Option, Some, None, List, refl, sym, subst}
+use Rattle.std.specs.Prelude.{⊤}
 use Rattle.ic_unsafe_ref.specs.declared.place.Place.{Place}
 use Rattle.ic_link_ops.specs.Sequences.{Cut, join, IsBefore}
 use Rattle.ic_link_ops.specs.Tables.{Table}
 use Rattle.ic_link_ops.specs.XorLinkedList as xor
 use Rattle.ic_link_ops.proofs.CollectionLaws.{one_sequence_is_shown}
 use Rattle.ic_link_ops.proofs.SequenceLemmas.{gap_before}
-use Rattle.ic_xor_linked_list.specs.CursorOwning as xor_cursor
-use Rattle.ic_xor_linked_list.proofs.Standing.{stands_before}
+use Rattle.ic_cursors.specs.CursorOwning.{list_of, place_of}
+use Rattle.ic_chain.specs.Standing.{StandsAt}
+use Rattle.ic_xor_linked_list.specs.Position.{PlaceAndNext, member_of, CachesNext}
 use Rattle.ic_any_collection.specs.declared.entry.Entry.{Entry}
 use Rattle.ic_any_collection.specs.Entries.{is_linked, Joins}
 use Rattle.ic_any_collection.specs.declared.any_collection.AnyCollection.{AnyCollection}
 use Rattle.ic_any_collection.specs.declared.any_collection.AnyCollection.TheVariants.{Singly, Doubly, Xor, Tree}
-use Rattle.ic_any_collection.specs.AnyCollection.{IsAt, IsAtBefore, StandsIn, cursor_in, members_in, Held}
+use Rattle.ic_any_collection.specs.AnyCollection.{XorCursor, IsAt, IsXorAt, StandsIn, cursor_in, members_in, Held}
 use Rattle.ic_any_collection.proofs.AllKinds.{xor_kind}
 
 -- the gap before a position
@@ -34,16 +36,34 @@ module _ {V : Type 0} where
   pub gap_before_cursor : {t : Table Entry} (m : AnyCollection V) → Held t m → (gap : Cut) × (join gap ≡ members_in t m) × IsBefore gap (cursor_in m)
   gap_before_cursor m held = before_at (gap_after_cursor m held)
 
--- AN XOR LIST'S CURSOR keeps the place behind it, as the calls of the list ask it,
-pub knows : {V L : Type 0} {table : L → Table Entry} {links : L} (m : xor_cursor.Owning V) (s : List Place)
-    → xor.Shows is_linked Joins (table links) (xor_cursor.list_of m) s → IsAtBefore s (xor_cursor.position m) (xor_cursor.place_of m).next
-    → xor_cursor.KnowsNeighbors (xor.Shows is_linked Joins) table links m
-knows {table = table} {links = links} m s shown at =
-    stands_before xor_kind at.0 (subst (xor.Shows is_linked Joins (table links) (xor_cursor.list_of m)) (sym at.1) shown) at.2 at.3
+-- A LIST'S CURSOR STANDS as its calls ask it: where it keeps its place alone,
+pub stands_plainly : {L E H : Type 0} {Shows : Table E → H → List Place → Type 0} {table : L → Table E} {links : L} {list : H} {at : Option Place} (s : List Place)
+    → Shows (table links) list s → IsAt s at → StandsAt Shows table (λ at. at) (λ at next. ⊤) links list at
+stands_plainly {Shows = Shows} {table} {links} {list} s shown at = record {
+  gap = at.0;
+  shown = subst (Shows (table links) list) (sym at.1) shown;
+  after = at.2;
+  caches = λ q on. tt;
+}
+
+-- and where it keeps the place behind it too, as an XOR list's does,
+abbrev pub XorStands : {V L : Type 0} → (L → Table Entry) → L → XorCursor V → Type 0
+XorStands table links m = StandsAt (xor.Shows is_linked Joins) table member_of CachesNext links (list_of m) (place_of m)
+
+pub knows : {V L : Type 0} {table : L → Table Entry} {links : L} (m : XorCursor V) (s : List Place)
+    → xor.Shows is_linked Joins (table links) (list_of m) s → IsXorAt s (place_of m) → XorStands table links m
+knows {table = table} {links = links} m s shown at = record {
+  gap = at.0;
+  shown = subst (xor.Shows is_linked Joins (table links) (list_of m)) (sym at.1) shown;
+  after = at.2;
+  caches = λ q on. at.3;
+}
 
 -- and as they leave it
-pub known : {V L : Type 0} {table : L → Table Entry} {links : L} (m : xor_cursor.Owning V) (s : List Place)
-    → xor.Shows is_linked Joins (table links) (xor_cursor.list_of m) s → xor_cursor.KnowsNeighbors (xor.Shows is_linked Joins) table links m
-    → IsAtBefore s (xor_cursor.position m) (xor_cursor.place_of m).next
-known m s shown k =
-    (k.stands.gap, one_sequence_is_shown xor_kind k.stands.shown shown, k.stands.after, k.on.leads k.stands.gap k.stands.shown k.stands.after)
+caches_next : (at : Option PlaceAndNext) (next : Option Place) → ((q : Place) → member_of at ≡ Some q → CachesNext at next) → CachesNext at next
+caches_next None next caches = tt
+caches_next (Some at) next caches = caches at.place refl
+
+pub known : {V L : Type 0} {table : L → Table Entry} {links : L} (m : XorCursor V) (s : List Place)
+    → xor.Shows is_linked Joins (table links) (list_of m) s → XorStands table links m → IsXorAt s (place_of m)
+known m s shown k = (k.gap, one_sequence_is_shown xor_kind k.shown shown, k.after, caches_next (place_of m) _ k.caches)

@@ -1,16 +1,18 @@
 -- The collections of all kinds: which sequence a table shows for one, and where its cursor stands.
 use Rattle.std.specs.Prelude.{◌≡◌, Bool, true, false, Option, List}
 use Rattle.ic_unsafe_ref.specs.declared.place.Place.{Place}
-use Rattle.ic_link_ops.specs.Sequences.{Cut, join, IsAfter, IsBefore}
+use Rattle.ic_link_ops.specs.Sequences.{Cut, join, first, IsAfter}
 use Rattle.ic_link_ops.specs.Tables.{Table}
 use Rattle.ic_link_ops.specs.LinkedList as doubly
 use Rattle.ic_link_ops.specs.SinglyLinkedList as singly
 use Rattle.ic_link_ops.specs.XorLinkedList as xor
 use Rattle.ic_link_ops.specs.RedBlackTree as tree
 use Rattle.ic_rbtree.specs.Members as tree_members
-use Rattle.ic_linked_list.specs.CursorOwning as doubly_cursor
-use Rattle.ic_singly_linked_list.specs.CursorOwning as singly_cursor
-use Rattle.ic_xor_linked_list.specs.CursorOwning as xor_cursor
+use Rattle.ic_link_ops.specs.Chains.{Ends}
+use Rattle.ic_link_ops.specs.SinglyLinkedList.{Front}
+use Rattle.ic_cursors.specs.declared.cursor_owning.CursorOwning.{CursorOwning}
+use Rattle.ic_cursors.specs.CursorOwning.{list_of, place_of}
+use Rattle.ic_xor_linked_list.specs.Position.{PlaceAndNext, member_of, CachesNext}
 use Rattle.ic_rbtree.specs.CursorOwning as tree_cursor
 use Rattle.ic_rbtree.specs.Tree.{root_of}
 use Rattle.ic_any_collection.specs.declared.entry.Entry.{Entry}
@@ -21,13 +23,23 @@ use Rattle.ic_any_collection.specs.Entries.{is_linked, neighbors, successor, nod
 use Rattle.ic_any_collection.specs.declared.any_collection.AnyCollection.{AnyCollection}
 use Rattle.ic_any_collection.specs.declared.any_collection.AnyCollection.TheVariants.{Singly, Doubly, Xor, Tree}
 
+-- the cursors of the lists, of whose kinds a singly list keeps its first member, and an XOR list's cursor the place behind it
+abbrev pub SinglyCursor : Type 0 → Type 0
+SinglyCursor V = CursorOwning Front V (Option Place) Front
+
+abbrev pub DoublyCursor : Type 0 → Type 0
+DoublyCursor V = CursorOwning Ends V (Option Place) Ends
+
+abbrev pub XorCursor : Type 0 → Type 0
+XorCursor V = CursorOwning Ends V (Option PlaceAndNext) Ends
+
 -- the position is one of s: there is a gap after it
 abbrev pub IsAt : List Place → Option Place → Type 0
 IsAt s position = (gap : Cut) × (join gap ≡ s) × IsAfter gap position
 
--- and the place behind that gap is the next one
-abbrev pub IsAtBefore : List Place → (position next : Option Place) → Type 0
-IsAtBefore s position next = (gap : Cut) × (join gap ≡ s) × IsAfter gap position × IsBefore gap next
+-- so it is for a position of an XOR list, and the place that it keeps is the one behind that gap
+abbrev pub IsXorAt : List Place → Option PlaceAndNext → Type 0
+IsXorAt s at = (gap : Cut) × (join gap ≡ s) × IsAfter gap (member_of at) × CachesNext at (first gap.back)
 
 -- which kinds have calls at the position before the cursor: all but singly linked lists
 abbrev pub has_before : Kind → Bool
@@ -85,27 +97,27 @@ module _ {V : Type 0} where
   kind_in (Tree m) = kind.Tree
 
   abbrev pub cursor_in : AnyCollection V → Option Place
-  cursor_in (Singly m) = singly_cursor.position m
-  cursor_in (Doubly m) = doubly_cursor.position m
-  cursor_in (Xor m) = xor_cursor.position m
+  cursor_in (Singly m) = place_of m
+  cursor_in (Doubly m) = place_of m
+  cursor_in (Xor m) = member_of (place_of m)
   cursor_in (Tree m) = tree_cursor.position m
 
   abbrev pub ShowsIn : Table Entry → AnyCollection V → List Place → Type 0
-  ShowsIn t (Singly m) s = singly.Shows successor t (singly_cursor.list_of m) s
-  ShowsIn t (Doubly m) s = doubly.Shows neighbors t (doubly_cursor.list_of m) s
-  ShowsIn t (Xor m) s = xor.Shows is_linked Joins t (xor_cursor.list_of m) s
+  ShowsIn t (Singly m) s = singly.Shows successor t (list_of m) s
+  ShowsIn t (Doubly m) s = doubly.Shows neighbors t (list_of m) s
+  ShowsIn t (Xor m) s = xor.Shows is_linked Joins t (list_of m) s
   ShowsIn t (Tree m) s = tree.Shows node t (root_of (tree_cursor.tree_of m)) s
 
   abbrev pub members_in : Table Entry → AnyCollection V → List Place
-  members_in t (Singly m) = singly.members successor t (singly_cursor.list_of m)
-  members_in t (Doubly m) = doubly.members neighbors t (doubly_cursor.list_of m)
-  members_in t (Xor m) = xor.members other t (xor_cursor.list_of m)
+  members_in t (Singly m) = singly.members successor t (list_of m)
+  members_in t (Doubly m) = doubly.members neighbors t (list_of m)
+  members_in t (Xor m) = xor.members other t (list_of m)
   members_in t (Tree m) = tree_members.members node t (root_of (tree_cursor.tree_of m))
 
   abbrev pub StandsIn : List Place → AnyCollection V → Type 0
-  StandsIn s (Singly m) = IsAt s (singly_cursor.position m)
-  StandsIn s (Doubly m) = IsAt s (doubly_cursor.position m)
-  StandsIn s (Xor m) = IsAtBefore s (xor_cursor.position m) (xor_cursor.place_of m).next
+  StandsIn s (Singly m) = IsAt s (place_of m)
+  StandsIn s (Doubly m) = IsAt s (place_of m)
+  StandsIn s (Xor m) = IsXorAt s (place_of m)
   StandsIn s (Tree m) = IsAt s (tree_cursor.position m)
 
   -- THE TABLE KEEPS s for the collection: it carries its kind, shows s, and the cursor stands in s

@@ -29,7 +29,7 @@ ghost use Rattle.ic_any_collection.specs.Keyed.{FewLooks, FewLooksWithin, looks_
 
 use crate::unkeyed::Unkeyed;
 use crate::{AnyCollection, AnyTable, TableWithPrev, TreeTable};
-use ic_link_ops::End;
+use ic_link_ops::PlaceWord;
 use ic_link_ops::rbtree::RBTreeOps;
 use ic_rbtree::{Bound, Entry, Iter, KeyAdapter, KeyProbe, RBTree, RefusedInsert};
 use ic_unsafe_ref::{Objects, Place, UnsafeRef, Values};
@@ -365,7 +365,7 @@ impl<T> AnyCollection<T> {
                     let mut probe = KeyProbe::new(adapter, key);
                     let tree = cursor.list_mut();
                     let (occupied, place) = put_at_key(tree, links, objects, &mut probe, object)?;
-                    cursor.go_to(End::of(Some(place)));
+                    cursor.go_to(PlaceWord::of(Some(place)));
                     Some((occupied, place, probe.looks()))
                 }
                 AnyTable::WithPrev(TableWithPrev::Doubly(_))

@@ -13,7 +13,7 @@ ghost use Rattle.ic_any_collection.specs.declared.entry.Entry.{Entry};
 ghost use Rattle.ic_any_collection.specs.AnyTables.{look};
 
 use crate::{AnyCollection, AnyTable, TableWithPrev};
-use ic_link_ops::End;
+use ic_link_ops::PlaceWord;
 use ic_unsafe_ref::{Place, UnsafeRef};
 use std::alloc::Allocator;
 
@@ -107,13 +107,13 @@ impl<T> AnyCollection<T> {
         ensures { Moves (look links.now) self.old self.new (Some place) }
     {
         match self {
-            Self::Singly(cursor) => cursor.go_to(End::of(Some(place))),
-            Self::Doubly(cursor) => cursor.go_to(End::of(Some(place))),
+            Self::Singly(cursor) => cursor.go_to(PlaceWord::of(Some(place))),
+            Self::Doubly(cursor) => cursor.go_to(PlaceWord::of(Some(place))),
             Self::Xor(cursor) => {
-                let at = cursor.list().position_behind(links, prev, Some(place));
+                let at = cursor.list().position_at(links, prev, Some(place));
                 cursor.go_to(at);
             }
-            Self::Tree(cursor) => cursor.go_to(End::of(Some(place))),
+            Self::Tree(cursor) => cursor.go_to(PlaceWord::of(Some(place))),
         }
     }
 }

@@ -10,7 +10,7 @@ ghost use Rattle.std.specs.Prelude.{◌≡◌, ◌↔◌, None, IsTrue, ⊤};
 ghost use Rattle.std.specs.Option.{option_copied};
 ghost use Rattle.ic_link_ops.specs.Positions.{MovesOn, MovesBack, object_there};
 
-use crate::{Collection, Kind, Position, TwoWay};
+use crate::{Bidirectional, Collection, CursorOps, Position};
 use ic_link_ops::LinkOps;
 use ic_unsafe_ref::{Objects, Place, UnsafeRef};
 use std::alloc::{AllocError, Allocator};
@@ -83,7 +83,7 @@ impl<'a, C: Collection, L> Cursor<'a, C, L> {
     }
 }
 
-impl<'a, L: LinkOps, C: Kind<L>> Cursor<'a, C, L> {
+impl<'a, L: LinkOps, C: CursorOps<L>> Cursor<'a, C, L> {
     ghost use Rattle.ic_cursors.specs.Cursor.{list_of, links_of, position, site_of, IsStanding};
 
     /// Moves to the next member, from null to the first one, and from the last one to null.
@@ -117,7 +117,7 @@ impl<'a, L: LinkOps, C: Kind<L>> Cursor<'a, C, L> {
     }
 }
 
-impl<'a, L: LinkOps, C: TwoWay<L>> Cursor<'a, C, L> {
+impl<'a, L: LinkOps, C: Bidirectional<L>> Cursor<'a, C, L> {
     ghost use Rattle.ic_cursors.specs.Cursor.{list_of, links_of, position, site_of, IsStanding};
 
     /// Moves to the previous member, from null to the last one, and from the first one to null.

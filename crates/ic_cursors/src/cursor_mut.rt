@@ -18,7 +18,10 @@ ghost use Rattle.ic_link_ops.specs.EditsAt.{InsertsBeside, RemovesThere, Replace
 ghost use Rattle.ic_cursors.specs.Ordered.{InsertsAmong};
 
 use crate::answers::replaced;
-use crate::{Collection, Cursor, Kind, OneWay, Ordered, Position, Sliced, TwoWay, TwoWaySliced};
+use crate::{
+    Bidirectional, BidirectionalSplice, Collection, Cursor, CursorOps, ForwardOnly, Ordered,
+    Position, Splice,
+};
 use ic_link_ops::{AlreadyLinked, LinkOps, ReplaceError};
 use ic_unsafe_ref::{Objects, Place, UnsafeRef, Values};
 use std::alloc::Allocator;
@@ -108,7 +111,7 @@ impl<'a, C: Collection, L> CursorMut<'a, C, L> {
     }
 }
 
-impl<'a, L: LinkOps, C: Kind<L>> CursorMut<'a, C, L> {
+impl<'a, L: LinkOps, C: CursorOps<L>> CursorMut<'a, C, L> {
     ghost use Rattle.ic_cursors.specs.CursorMut.{list_of, links_of, position, site_of, IsStanding, Stays, Edited};
     ghost use Rattle.ic_cursors.specs.Cursor as reading;
 
@@ -162,7 +165,7 @@ impl<'a, L: LinkOps, C: Kind<L>> CursorMut<'a, C, L> {
     }
 }
 
-impl<'a, L: LinkOps, C: TwoWay<L>> CursorMut<'a, C, L> {
+impl<'a, L: LinkOps, C: Bidirectional<L>> CursorMut<'a, C, L> {
     ghost use Rattle.ic_cursors.specs.CursorMut.{list_of, links_of, position, site_of, IsStanding, Stays, Edited};
     ghost use Rattle.ic_cursors.specs.Cursor as reading;
 
@@ -280,7 +283,7 @@ impl<'a, L: LinkOps, C: Ordered<L>> CursorMut<'a, C, L> {
     }
 }
 
-impl<'a, L: LinkOps, C: OneWay<L>> CursorMut<'a, C, L> {
+impl<'a, L: LinkOps, C: ForwardOnly<L>> CursorMut<'a, C, L> {
     ghost use Rattle.ic_cursors.specs.CursorMut.{links_of, site_of, IsStanding, Edited};
 
     /// Removes the member behind the cursor and returns it, at null the first one; `None` where there is none.
@@ -319,7 +322,7 @@ impl<'a, L: LinkOps, C: OneWay<L>> CursorMut<'a, C, L> {
     }
 }
 
-impl<'a, L: LinkOps, C: Sliced<L>> CursorMut<'a, C, L> {
+impl<'a, L: LinkOps, C: Splice<L>> CursorMut<'a, C, L> {
     ghost use Rattle.ic_cursors.specs.CursorMut.{list_of, links_of, site_of, IsStanding, SameBorrows, Edited};
 
     /// Puts all of the given collection behind the cursor, and in front of the first member at null.
@@ -352,7 +355,7 @@ impl<'a, L: LinkOps, C: Sliced<L>> CursorMut<'a, C, L> {
     }
 }
 
-impl<'a, L: LinkOps, C: TwoWaySliced<L>> CursorMut<'a, C, L> {
+impl<'a, L: LinkOps, C: BidirectionalSplice<L>> CursorMut<'a, C, L> {
     ghost use Rattle.ic_cursors.specs.CursorMut.{list_of, links_of, site_of, IsStanding, SameBorrows, Edited};
 
     /// Puts all of the given collection in front of the cursor, and behind the last member at null.

@@ -19,7 +19,10 @@ ghost use Rattle.ic_link_ops.specs.EditsAt.{InsertsBeside, RemovesThere, Replace
 ghost use Rattle.ic_cursors.specs.Ordered.{InsertsAmong};
 
 use crate::answers::replaced;
-use crate::{Collection, Cursor, Kind, OneWay, Ordered, Position, Sliced, TwoWay, TwoWaySliced};
+use crate::{
+    Bidirectional, BidirectionalSplice, Collection, Cursor, CursorOps, ForwardOnly, Ordered,
+    Position, Splice,
+};
 use ic_link_ops::{AlreadyLinked, LinkOps, ReplaceError};
 use ic_unsafe_ref::{Place, UnsafeRef, Values};
 
@@ -127,7 +130,7 @@ impl<C: Collection> CursorOwning<C> {
     #[inline]
     pub fn move_next<L: LinkOps>(&mut self, links: &L)
     where
-        C: Kind<L>,
+        C: CursorOps<L>,
         requires stands { IsStanding C.StandsAt links.now self.old }
         ensures moved { MovesOn C.Shows L.table (site_of C.head_of C.Position.member links.now self.old) (position C.Position.member self.new) }
         ensures kept { IsStanding C.StandsAt links.now self.new }
@@ -146,7 +149,7 @@ impl<C: Collection> CursorOwning<C> {
         object: UnsafeRef<C::Object>,
     ) -> Result<(), AlreadyLinked<C::Object>>
     where
-        C: Kind<L>,
+        C: CursorOps<L>,
         requires covered { IsCovered (L.table links.old) object }
         requires stands { IsStanding C.StandsAt links.old self.old }
         ensures inserted { InsertsBeside C.Shows L.table L.Does L.Refused IsAfter
@@ -168,7 +171,7 @@ impl<C: Collection> CursorOwning<C> {
     #[inline]
     pub fn move_prev<L: LinkOps>(&mut self, links: &L)
     where
-        C: TwoWay<L>,
+        C: Bidirectional<L>,
         requires stands { IsStanding C.StandsAt links.now self.old }
         ensures moved { MovesBack C.Shows L.table (site_of C.head_of C.Position.member links.now self.old) (position C.Position.member self.new) }
         ensures kept { IsStanding C.StandsAt links.now self.new }
@@ -187,7 +190,7 @@ impl<C: Collection> CursorOwning<C> {
         object: UnsafeRef<C::Object>,
     ) -> Result<(), AlreadyLinked<C::Object>>
     where
-        C: TwoWay<L>,
+        C: Bidirectional<L>,
         requires covered { IsCovered (L.table links.old) object }
         requires stands { IsStanding C.StandsAt links.old self.old }
         ensures inserted { InsertsBeside C.Shows L.table L.Does L.Refused IsBefore
@@ -209,7 +212,7 @@ impl<C: Collection> CursorOwning<C> {
     #[inline]
     pub fn remove<L: LinkOps>(&mut self, links: &mut L) -> Option<UnsafeRef<C::Object>>
     where
-        C: TwoWay<L>,
+        C: Bidirectional<L>,
         requires stands { IsStanding C.StandsAt links.old self.old }
         ensures removed { RemovesThere C.Shows L.table L.Does (site_of C.head_of C.Position.member links.old self.old) result (site_of C.head_of C.Position.member links.new self.new) }
         ensures kept { Edited C.StandsAt C.Keeps self.old links.new self.new }
@@ -229,7 +232,7 @@ impl<C: Collection> CursorOwning<C> {
         object: UnsafeRef<C::Object>,
     ) -> Result<UnsafeRef<C::Object>, ReplaceError<C::Object>>
     where
-        C: TwoWay<L>,
+        C: Bidirectional<L>,
         requires covered { IsCovered (L.table links.old) object }
         requires stands { IsStanding C.StandsAt links.old self.old }
         ensures replaced { ReplacesThere C.Shows L.table L.Does L.Refused
@@ -277,7 +280,7 @@ impl<C: Collection> CursorOwning<C> {
     #[inline]
     pub fn remove_next<L: LinkOps>(&mut self, links: &mut L) -> Option<UnsafeRef<C::Object>>
     where
-        C: OneWay<L>,
+        C: ForwardOnly<L>,
         requires stands { IsStanding C.StandsAt links.old self.old }
         ensures removed { RemovesNext C.Shows L.table L.Does (site_of C.head_of C.Position.member links.old self.old) result (site_of C.head_of C.Position.member links.new self.new) }
         ensures kept { Edited C.StandsAt C.Keeps self.old links.new self.new }
@@ -297,7 +300,7 @@ impl<C: Collection> CursorOwning<C> {
         object: UnsafeRef<C::Object>,
     ) -> Result<UnsafeRef<C::Object>, ReplaceError<C::Object>>
     where
-        C: OneWay<L>,
+        C: ForwardOnly<L>,
         requires covered { IsCovered (L.table links.old) object }
         requires stands { IsStanding C.StandsAt links.old self.old }
         ensures replaced { ReplacesNext C.Shows L.table L.Does L.Refused
@@ -315,7 +318,7 @@ impl<C: Collection> CursorOwning<C> {
     #[inline]
     pub fn splice_after<L: LinkOps>(&mut self, links: &mut L, given: C)
     where
-        C: Sliced<L>,
+        C: Splice<L>,
         requires stands { IsStanding C.StandsAt links.old self.old }
         requires given { (s : List Place) × C.Shows (L.table links.old) (C.head_of given) s }
         ensures spliced { SplicesBeside C.Shows L.table L.Does IsAfter
@@ -333,7 +336,7 @@ impl<C: Collection> CursorOwning<C> {
     #[inline]
     pub fn split_after<L: LinkOps>(&mut self, links: &mut L) -> C
     where
-        C: Sliced<L>,
+        C: Splice<L>,
         requires stands { IsStanding C.StandsAt links.old self.old }
         ensures split { SplitsAfter C.Shows L.table L.Does (site_of C.head_of C.Position.member links.old self.old) (C.head_of result) (site_of C.head_of C.Position.member links.new self.new) }
         ensures kept { Edited C.StandsAt C.Keeps self.old links.new self.new }
@@ -347,7 +350,7 @@ impl<C: Collection> CursorOwning<C> {
     #[inline]
     pub fn splice_before<L: LinkOps>(&mut self, links: &mut L, given: C)
     where
-        C: TwoWaySliced<L>,
+        C: BidirectionalSplice<L>,
         requires stands { IsStanding C.StandsAt links.old self.old }
         requires given { (s : List Place) × C.Shows (L.table links.old) (C.head_of given) s }
         ensures spliced { SplicesBeside C.Shows L.table L.Does IsBefore
@@ -365,7 +368,7 @@ impl<C: Collection> CursorOwning<C> {
     #[inline]
     pub fn split_before<L: LinkOps>(&mut self, links: &mut L) -> C
     where
-        C: TwoWaySliced<L>,
+        C: BidirectionalSplice<L>,
         requires stands { IsStanding C.StandsAt links.old self.old }
         ensures split { SplitsBefore C.Shows L.table L.Does (site_of C.head_of C.Position.member links.old self.old) (C.head_of result) (site_of C.head_of C.Position.member links.new self.new) }
         ensures kept { Edited C.StandsAt C.Keeps self.old links.new self.new }

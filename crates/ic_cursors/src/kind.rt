@@ -51,7 +51,7 @@ pub trait Collection {
 }
 
 /// A kind of collection over tables `L`: where a move on leads, and the insert behind a position.
-pub trait Kind<L: LinkOps>: Collection {
+pub trait CursorOps<L: LinkOps>: Collection {
     // The table shows this sequence for the collection.
     ghost Shows: { Table L.Entry → Self.Head → List Place → Type 0 };
 
@@ -74,7 +74,7 @@ pub trait Kind<L: LinkOps>: Collection {
 }
 
 /// A kind that leads both ways.
-pub trait TwoWay<L: LinkOps>: Kind<L> {
+pub trait Bidirectional<L: LinkOps>: CursorOps<L> {
     /// The position to which a move back leads.
     fn prev_of(&self, links: &L, at: &Self::Position) -> Self::Position
         requires stands { Self.StandsAt links.now self.now at.now }
@@ -107,7 +107,7 @@ pub trait TwoWay<L: LinkOps>: Kind<L> {
 }
 
 /// A kind whose collections are spliced and split behind a position.
-pub trait Sliced<L: LinkOps>: Kind<L> {
+pub trait Splice<L: LinkOps>: CursorOps<L> {
     /// Puts all of the given collection behind the position, which stays.
     fn splice_after_at(&mut self, links: &mut L, at: &mut Self::Position, given: Self)
         requires stands { Self.StandsAt links.old self.old at.old }
@@ -127,7 +127,7 @@ pub trait Sliced<L: LinkOps>: Kind<L> {
 }
 
 /// A kind whose collections are spliced and split in front of a position too.
-pub trait TwoWaySliced<L: LinkOps>: Sliced<L> {
+pub trait BidirectionalSplice<L: LinkOps>: Splice<L> {
     /// Puts all of the given collection in front of the position, which stays.
     fn splice_before_at(&mut self, links: &mut L, at: &mut Self::Position, given: Self)
         requires stands { Self.StandsAt links.old self.old at.old }
@@ -147,7 +147,7 @@ pub trait TwoWaySliced<L: LinkOps>: Sliced<L> {
 }
 
 /// A kind whose members are taken out and replaced behind a position.
-pub trait OneWay<L: LinkOps>: Kind<L> {
+pub trait ForwardOnly<L: LinkOps>: CursorOps<L> {
     /// Removes the member behind the position, at null the first one. The position stays.
     fn remove_next_at(&mut self, links: &mut L, at: &mut Self::Position) -> Option<Place>
         requires stands { Self.StandsAt links.old self.old at.old }
@@ -171,7 +171,7 @@ pub trait OneWay<L: LinkOps>: Kind<L> {
 }
 
 /// A kind that keeps its members in the order of their keys.
-pub trait Ordered<L: LinkOps>: Kind<L> {
+pub trait Ordered<L: LinkOps>: CursorOps<L> {
     // HOW AN OBJECT STANDS to each member: `Less` where it is less.
     ghost order_of: { Self → Objects Self.Object → Place → Place → Ordering };
 

@@ -3,10 +3,10 @@
 //! A kind says by traits what a cursor needs of it:
 //!
 //! - [`Collection`]: what its members are objects of, and what a position is.
-//! - [`Kind`]: the move on, and the insert behind a position.
-//! - [`TwoWay`]: the move back, the insert in front, the removal and the replacement.
-//! - [`OneWay`]: the removal and the replacement behind a position, of a kind that does not lead back.
-//! - [`Sliced`], [`TwoWaySliced`]: splices and splits, behind a position and in front of it.
+//! - [`CursorOps`]: the move on, and the insert behind a position.
+//! - [`Bidirectional`]: the move back, the insert in front, the removal and the replacement.
+//! - [`ForwardOnly`]: the removal and the replacement behind a position, of a kind that does not lead back.
+//! - [`Splice`], [`BidirectionalSplice`]: splices and splits, behind a position and in front of it.
 //! - [`Ordered`]: the insert where a key belongs.
 //!
 //! [`Cursor`] reads, [`CursorMut`] edits, and [`CursorOwning`] edits and keeps its collection. [`Listing`] prints
@@ -30,6 +30,8 @@ mod position;
 pub use cursor::Cursor;
 pub use cursor_mut::CursorMut;
 pub use cursor_owning::CursorOwning;
-pub use kind::{Collection, Kind, OneWay, Ordered, Sliced, TwoWay, TwoWaySliced};
+pub use kind::{
+    Bidirectional, BidirectionalSplice, Collection, CursorOps, ForwardOnly, Ordered, Splice,
+};
 pub use listing::Listing;
 pub use position::Position;

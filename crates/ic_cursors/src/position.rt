@@ -8,7 +8,7 @@
 ghost use Rattle.std.specs.Prelude.{◌≡◌, Option};
 ghost use Rattle.ic_unsafe_ref.specs.declared.place.Place.{Place};
 
-use ic_link_ops::End;
+use ic_link_ops::PlaceWord;
 use ic_unsafe_ref::Place;
 
 /// A position: on a member, or null. A kind may keep more in it than the member.
@@ -25,16 +25,16 @@ pub trait Position: Drop {
         ensures { result ≡ self.now };
 }
 
-impl Position for End {
+impl Position for PlaceWord {
     ghost member = { λ at. at };
 
     #[inline]
     fn get(&self) -> Option<Place> {
-        End::get(self)
+        PlaceWord::get(self)
     }
 
     #[inline]
-    fn again(&self) -> End {
-        End::of(End::get(self))
+    fn again(&self) -> PlaceWord {
+        PlaceWord::of(PlaceWord::get(self))
     }
 }

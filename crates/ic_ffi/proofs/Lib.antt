@@ -2,6 +2,7 @@ pub mod Entries
 pub mod Numbers
 pub mod Gaps
 pub mod Views
+pub mod Lists
 pub mod Doubly
 pub mod Singly
 pub mod Xor

@@ -6,16 +6,13 @@ use Rattle.ic_link_ops.specs.Tables.{Table}
 use Rattle.ic_link_ops.specs.Chains.{Ends}
 use Rattle.ic_link_ops.specs.XorLaws.{joins_symmetric, joins_finds_other}
 use Rattle.ic_link_ops.proofs.SequenceLemmas.{first_of_back, last_of_front, split_last, first_is}
-use Rattle.ic_link_ops.proofs.ShownLists.{shows_kept, shows_middle, shows_reversed, before_gap, behind_gap, gap_linked, gap_behind_linked}
+use Rattle.ic_link_ops.proofs.ShownLists.{shows_middle, shows_reversed, before_gap, behind_gap, gap_linked, gap_behind_linked}
 use Rattle.ic_link_ops.proofs.XorLists.{joined_linked, joined_symmetric}
 use Rattle.ic_ffi.specs.declared.words.RawOne.{RawOne}
 use Rattle.ic_ffi.specs.Words.{is_linked_one, next_of_one}
 use Rattle.ic_ffi.specs.Gaps.{Stands}
 use Rattle.ic_ffi.specs.Xor.{Shows, Joins, other}
-
--- a sequence stays where no entry changes
-pub kept : (t u : Table RawOne) (list : Ends) (s : List Place) → Shows t list s → ((q : Place) → u.entry q ≡ t.entry q) → Shows u list s
-kept t u list s shown same = shows_kept shown (λ q member. same q)
+use Rattle.ic_ffi.proofs.Lists.{behind_stands}
 
 -- either neighbor tells the other
 other_behind : (e : RawOne) (a b : Option Place) → Joins e a b → other e a ≡ b
@@ -25,14 +22,7 @@ other_before : (e : RawOne) (a b : Option Place) → Joins e a b → other e b �
 other_before e a b j = joins_finds_other (next_of_one e) b a (joins_symmetric (next_of_one e) a b j)
 
 module _ {t : Table RawOne} {list : Ends} (front back : List Place) (shown : Shows t list (front ++ back)) where
-  -- the places beside a gap stand
-  pub before_stands : {at : Option Place} → at ≡ last front → Stands is_linked_one t at
-  before_stands e q k = gap_linked joined_linked front back shown (sym k ∙ e)
-
-  pub behind_stands : {at : Option Place} → at ≡ first back → Stands is_linked_one t at
-  behind_stands e q k = gap_behind_linked joined_linked front back shown (sym k ∙ e)
-
-  -- what is beyond them stands
+  -- what is beyond the places beside a gap stands
   pub far_before : {at to : Option Place} → at ≡ last front → to ≡ first back → (p : Place) → at ≡ Some p → Stands is_linked_one t (other (t.entry p) to)
   far_before {at} {to} e k p is =
       let here : Some p ≡ last front = sym is ∙ e in
@@ -64,7 +54,7 @@ module _ {t : Table RawOne} {list : Ends} (front : List Place) (p : Place) (back
   prev_shown e = ap (other (t.entry p)) e ∙ other_before (t.entry p) _ _ (shows_middle front back shown).joined
 
   pub member_stands : Stands is_linked_one t (Some p)
-  member_stands = behind_stands front (p ∷ back) shown refl
+  member_stands = behind_stands joined_linked front (p ∷ back) shown refl
 
 -- a list is turned round by its ends alone
 pub turned : {t : Table RawOne} {list list' : Ends} {s : List Place} → Shows t list s → list'.head ≡ list.tail → list'.tail ≡ list.head → Shows t list' (reverse s)

@@ -4,7 +4,7 @@ use Rattle.ic_unsafe_ref.specs.declared.place.Place.{Place}
 use Rattle.ic_link_ops.specs.Sequences.{Cut}
 use Rattle.ic_link_ops.specs.Tables.{Table}
 use Rattle.ic_link_ops.specs.SinglyLinkedList as singly
-use Rattle.ic_link_ops.specs.SinglyLinkedList.{Successor, successor_at}
+use Rattle.ic_link_ops.specs.SinglyLinkedList.{Front, list_from, Successor, successor_at}
 use Rattle.ic_link_ops.specs.PlainTables as plain
 use Rattle.ic_ffi.specs.declared.words.RawOne.{RawOne}
 use Rattle.ic_ffi.specs.declared.words.RawFront.{RawFront}
@@ -25,39 +25,43 @@ abbrev pub successor : RawOne → Successor
 successor = successor_of next_of_one is_linked_one
 
 -- THE TABLE SHOWS s for the list with this front
-abbrev pub Shows : Table RawOne → Option Place → List Place → Type 0
+abbrev pub Shows : Table RawOne → Front → List Place → Type 0
 Shows = singly.Shows successor
 
 -- the front of a list by its word
 abbrev pub front_of : RawFront → Option Place
 front_of l = place_in l.head
 
+-- and the list with that front
+abbrev pub list_of : RawFront → Front
+list_of l = list_from (front_of l)
+
 -- what stands behind a place, the first of the list at none
-abbrev pub next_from : Table RawOne → Option Place → Option Place → Option Place
-next_from t front None = front
-next_from t front (Some p) = (successor_at successor t p).next
+abbrev pub next_from : Table RawOne → Front → Option Place → Option Place
+next_from t list None = list.head
+next_from t list (Some p) = (successor_at successor t p).next
 
 -- what a call does to such words
 abbrev pub ShowsList : List RawOne → RawFront → List Place → Type 0
-ShowsList = calls.ShowsList Shows is_linked_one no_word front_of
+ShowsList = calls.ShowsList Shows is_linked_one no_word list_of
 
 abbrev pub FreeIn : List RawOne → Place → Type 0
-FreeIn = calls.FreeIn Shows is_linked_one no_word front_of
+FreeIn = calls.FreeIn Shows is_linked_one no_word list_of
 
 abbrev pub StandsIn : List RawOne → Option Place → Type 0
-StandsIn = calls.StandsIn Shows is_linked_one no_word front_of
+StandsIn = calls.StandsIn Shows is_linked_one no_word list_of
 
 abbrev pub Inserted : (old new : List RawOne) (list list' : RawFront) (status : ℕ) → Cut → Place → Type 0
-Inserted = calls.Inserted Shows is_linked_one no_word front_of
+Inserted = calls.Inserted Shows is_linked_one no_word list_of
 
 abbrev pub Popped : (old new : List RawOne) (list list' : RawFront) (status number : ℕ) → Place → (front back : List Place) → Type 0
-Popped = calls.Popped Shows is_linked_one no_word front_of
+Popped = calls.Popped Shows is_linked_one no_word list_of
 
 abbrev pub Exchanged : (old new : List RawOne) (list list' : RawFront) (status number : ℕ) → Place → (front back : List Place) → Place → Type 0
-Exchanged = calls.Exchanged Shows is_linked_one no_word front_of
+Exchanged = calls.Exchanged Shows is_linked_one no_word list_of
 
 abbrev pub Spliced : (old new : List RawOne) (list list' : RawFront) (status : ℕ) → RawFront → Cut → List Place → Type 0
-Spliced = calls.Spliced Shows is_linked_one no_word front_of
+Spliced = calls.Spliced Shows is_linked_one no_word list_of
 
 abbrev pub Split : (old new : List RawOne) (list list' : RawFront) (status : ℕ) → RawFront → Cut → Type 0
-Split old new list list' status rest cut = calls.Split Shows is_linked_one no_word front_of old new list list' status rest cut cut.front cut.back
+Split old new list list' status rest cut = calls.Split Shows is_linked_one no_word list_of old new list list' status rest cut cut.front cut.back

@@ -185,7 +185,7 @@ pub(crate) fn insert(
     if status != OK {
         return status;
     }
-    list.put_between(links, gap.before, place, gap.behind);
+    list.insert_linked(links, gap.before, place, gap.behind);
     OK
 }
 
@@ -208,7 +208,7 @@ pub(crate) fn remove(links: &mut RawTable<'_, RawTwo>, list: &mut List, at: Opti
     if gap.status != OK {
         return gap.status;
     }
-    list.close_between(links, gap.before, gap.behind);
+    list.bypass(links, gap.before, member, gap.behind);
     links.release_link(member);
     OK
 }
@@ -247,7 +247,7 @@ pub(crate) fn replace(
     if status != OK {
         return status;
     }
-    list.put_between(links, gap.before, place, gap.behind);
+    list.replace_linked(links, gap.before, member, place, gap.behind);
     links.release_link(member);
     OK
 }
@@ -276,7 +276,8 @@ pub(crate) fn splice(
     if !has_ends(&*links, &given) {
         return BROKEN;
     }
-    list.splice_between(links, gap.before, given, gap.behind);
+    let end = given.last();
+    list.splice_between(links, gap.before, given, end, gap.behind);
     OK
 }
 

@@ -9,6 +9,7 @@ ghost use Rattle.ic_unsafe_ref.specs.declared.place.Place.{Place};
 ghost use Rattle.ic_link_ops.specs.Sequences.{Cut, join, last, IsDisjoint, IsAfter};
 ghost use Rattle.ic_link_ops.specs.Tables.{IsLinked, IsUnlinked};
 ghost use Rattle.ic_link_ops.specs.Edits.{Inserts, Removes, Replaces, Splices, Splits};
+ghost use Rattle.ic_link_ops.specs.SinglyLinkedList.{list_from};
 ghost use Rattle.ic_ffi.specs.Answers.{IsStatus, IsAccepted};
 ghost use Rattle.ic_ffi.specs.Gaps.{Stands, StandBeside, before, gap_of};
 ghost use Rattle.ic_ffi.specs.Tables.{IsFree};
@@ -92,7 +93,7 @@ pub(crate) fn insert(
     if status != OK {
         return status;
     }
-    list.put_between(links, gap.before, place, gap.behind);
+    list.insert_linked(links, gap.before, place, gap.behind);
     OK
 }
 
@@ -121,7 +122,7 @@ pub(crate) fn remove(
         return NULL;
     };
     let behind = links.next(out);
-    list.close_between(links, gap.before, behind);
+    list.bypass(links, gap.before, out, behind);
     links.release_link(out);
     *removed = number_of(out);
     OK
@@ -163,7 +164,7 @@ pub(crate) fn replace(
     if status != OK {
         return status;
     }
-    list.put_between(links, gap.before, place, behind);
+    list.replace_linked(links, gap.before, out, place, behind);
     links.release_link(out);
     *replaced = number_of(out);
     OK
@@ -172,7 +173,7 @@ pub(crate) fn replace(
 // The last member of the list with this front. None where it has no end within as many steps as there are places.
 fn last_from(links: &RawTable<'_, RawOne>, front: Place) -> Option<Place>
     ensures stands { IfSome result (λ p. IsLinked is_linked_one (lent_table links.now) p) }
-    ensures shown { (s : List Place) → Shows (lent_table links.now) (Some front) s → result ≡ last s }
+    ensures shown { (s : List Place) → Shows (lent_table links.now) (list_from (Some front)) s → result ≡ last s }
 {
     let mut at = front;
     let mut left = links.places();
@@ -195,7 +196,7 @@ pub(crate) fn splice(
     links: &mut RawTable<'_, RawOne>,
     list: &mut Stack,
     at: Option<Place>,
-    given: Option<Place>,
+    given: Stack,
 ) -> u32
     ensures spliced { (cut : Cut) (t : List Place) → Shows (lent_table links.old) list.old (join cut) → IsAfter cut at
         → Shows (lent_table links.old) given t → IsDisjoint t (join cut)
@@ -209,13 +210,13 @@ pub(crate) fn splice(
     if gap.status != OK {
         return gap.status;
     }
-    let Some(front) = given else {
+    let Some(front) = given.first() else {
         return OK;
     };
     let Some(back) = last_from(&*links, front) else {
         return BROKEN;
     };
-    list.splice_between(links, gap.before, front, back, gap.behind);
+    list.splice_between(links, gap.before, given, Some(back), gap.behind);
     OK
 }
 

@@ -11,6 +11,7 @@
 ghost use Rattle.std.specs.Prelude.{◌≡◌, ◌≢◌, [], List, Some, None};
 ghost use Rattle.ic_unsafe_ref.specs.declared.place.Place.{Place};
 ghost use Rattle.ic_link_ops.specs.Sequences.{Cut, at_front, last, IsAfter};
+ghost use Rattle.ic_link_ops.specs.SinglyLinkedList.{list_from};
 ghost use Rattle.ic_ffi.specs.Words.{place_of};
 ghost use Rattle.ic_ffi.specs.Singly.{ShowsList, FreeIn, StandsIn, front_of, Inserted, Popped, Exchanged, Spliced, Split};
 ghost use Rattle.ic_ffi.specs.Answers.{IsStatus};
@@ -25,7 +26,7 @@ use ic_singly_linked_list::SinglyLinkedList;
 // The list of its word.
 #[inline]
 fn stack_of(words: &RawFront) -> stack::Stack
-    ensures { result ≡ front_of words.now }
+    ensures { result ≡ list_from (front_of words.now) }
 {
     SinglyLinkedList::from_front(place_in(words.head))
 }
@@ -161,7 +162,7 @@ pub extern "C" fn ic_stack_splice_after(
 {
     let mut links = RawTable::new(table);
     let mut edited = stack_of(&*list);
-    let status = stack::splice(&mut links, &mut edited, place_of(at), place_in(given.head));
+    let status = stack::splice(&mut links, &mut edited, place_of(at), stack_of(&*given));
     list.keep(status, edited.first());
     given.keep(status, None);
     status

@@ -136,7 +136,7 @@ pub(crate) fn put(
     if status != OK {
         return status;
     }
-    list.put_between(links, before, place, behind);
+    list.insert_linked(links, before, place, behind);
     OK
 }
 
@@ -193,7 +193,7 @@ fn take_out(
     if !are_beside(&*links, &*list, before, member, behind) {
         return BROKEN;
     }
-    list.close_between(links, before, member, behind);
+    list.bypass(links, before, member, behind);
     links.release_link(member);
     OK
 }
@@ -282,7 +282,7 @@ fn exchange(
     if status != OK {
         return status;
     }
-    list.replace_between(links, before, member, place, behind);
+    list.replace_linked(links, before, member, place, behind);
     links.release_link(member);
     OK
 }
@@ -363,7 +363,8 @@ pub(crate) fn splice(
     if !has_ends(&*links, &given) {
         return BROKEN;
     }
-    list.splice_between(links, before, given, behind);
+    let end = given.last();
+    list.splice_between(links, before, given, end, behind);
     OK
 }
 

@@ -14,7 +14,7 @@ use Rattle.ic_link_ops.specs.EditsAt.{RemovesThere}
 use Rattle.ic_link_ops.specs.Positions.{Site, Stands, HasMember}
 use Rattle.ic_link_ops.proofs.Positions.{gap_there}
 use Rattle.ic_link_ops.proofs.SequenceLemmas.{member_split}
-use Rattle.ic_link_ops.specs.Chains.{Ends, ShowsBetween}
+use Rattle.ic_link_ops.specs.Chains.{ListHead, ShowsChain}
 use Rattle.ic_link_ops.specs.Walk.{GivesFirst}
 use Rattle.ic_link_ops.proofs.ShownLists.{shows_kept}
 
@@ -29,8 +29,8 @@ either R (Ok a) holds refused unchanged accepts refuses = accepts holds
 either R (Err e) holds refused unchanged accepts refuses = refuses refused unchanged.1
 
 -- LISTS SURVIVE `cover`, whatever it answered: `stays` is its clause
-pub still_shown : {E : Type 0} {between : E → Option Place → Option Place → Type 0} {old new : Table E} {list : Ends} {s : List Place}
-    → ((q : Place) → new.entry q ≡ old.entry q) → ShowsBetween between old list s → ShowsBetween between new list s
+pub still_shown : {E W : Type 0} {between : E → Option Place → Option Place → Type 0} {kept : Option Place → W} {old new : Table E} {list : ListHead W} {s : List Place}
+    → ((q : Place) → new.entry q ≡ old.entry q) → ShowsChain between kept old list s → ShowsChain between kept new list s
 still_shown stays shown = shows_kept shown (λ q member. stays q)
 
 -- WHAT A WALK LENDS, as a `for`, a `collect` and the like take it: `left s` are the objects left at s, and `is` the clause `walks` of `iter`

@@ -12,7 +12,7 @@ use Rattle.ic_link_ops.proofs.Turning.{turns_behind, turns_before}
 use Rattle.ic_link_ops.proofs.ShownLists.{shows_frame, shows_one, free_absent}
 use Rattle.ic_link_ops.proofs.CollectionLaws.{IsKind}
 use Rattle.ic_link_ops.proofs.Clearing.{Releases, releases_left_blind}
-use Rattle.ic_link_ops.proofs.Walks.{walk_blind, walked_from_gap, stretch_walked, stretch_length, stretch_one, stretch_more, stretch_less, stretch_none, stretch_empty, stretch_empty_back, stretch_of, stretch_first, stretch_last}
+use Rattle.ic_link_ops.proofs.Walks.{walk_blind, walked_from_gap, stretch_walked, stretch_length, stretch_one, stretch_more, stretch_less, stretch_none, stretch_empty, stretch_empty_back, stretch_between, stretch_first, stretch_last}
 
 -- ONLY COVERED PLACES ARE LINKED, as neighbors say it too
 pub neighbors_covered : {L E : Type 0} {linked : E → Bool} (n : E → Neighbors) (table : L → Table E) → ((t : L) (q : Place) → IsLinked linked (table t) q → IsCovered (table t) q)
@@ -88,7 +88,7 @@ module _ {E : Type 0} {n : E → Neighbors} where
 
   -- a list's members are a walk
   pub walk_of : (t : Table E) {list : Ends} {s : List Place} → Shows n t list s → IsWalk n t.entry list.head list.tail s
-  walk_of t h = record { before = None; behind = None; part = stretch_of h }
+  walk_of t h = record { before = None; behind = None; part = stretch_between h }
 
   -- THE MEMBERS of a list are the one sequence that the table shows for it
   pub members_shown : (t : Table E) → ((q : Place) → (n (t.entry q)).linked ≡ true → IsCovered t q)

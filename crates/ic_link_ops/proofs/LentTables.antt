@@ -4,7 +4,7 @@ use Rattle.std.proofs.lemmas.List.{with_items_is}
 use Rattle.ic_unsafe_ref.specs.declared.place.Place.{Place}
 use Rattle.ic_link_ops.specs.declared.link.Link.{Link}
 use Rattle.ic_link_ops.specs.declared.table.PlainTable.{PlainTable}
-use Rattle.ic_link_ops.specs.Chains.{Ends, ShowsBetween}
+use Rattle.ic_link_ops.specs.Chains.{ListHead, ShowsChain}
 use Rattle.ic_link_ops.specs.PlainTables.{entries, entry_at, table_of, table_with, with_entries}
 use Rattle.ic_link_ops.proofs.ShownLists.{shows_kept}
 
@@ -12,14 +12,14 @@ use Rattle.ic_link_ops.proofs.ShownLists.{shows_kept}
 pub given_back : {W A V : Type 0} (t : PlainTable W A V) (es : List (Link W V)) → length es ≡ length (entries t) → entries (with_entries t es) ≡ es
 given_back t es e = with_items_is t.entries es (e ∙ sym t.entries.ok.0)
 
-module _ {W V : Type 0} {between : Link W V → Option Place → Option Place → Type 0} (unlinked : Link W V) {list : Ends} {s : List Place} where
+module _ {W V K : Type 0} {between : Link W V → Option Place → Option Place → Type 0} {kept : Option Place → K} (unlinked : Link W V) {list : ListHead K} {s : List Place} where
   -- the same links show the same, whose they are
-  pub shown_alike : {old new : List ℕ} {es es' : List (Link W V)} → es' ≡ es → ShowsBetween between (table_with unlinked old es) list s
-      → ShowsBetween between (table_with unlinked new es') list s
+  pub shown_alike : {old new : List ℕ} {es es' : List (Link W V)} → es' ≡ es → ShowsChain between kept (table_with unlinked old es) list s
+      → ShowsChain between kept (table_with unlinked new es') list s
   shown_alike e shown = shows_kept shown (λ q member. ap (λ es. entry_at unlinked es q) e)
 
   -- SO THE TABLE SHOWS FOR EACH LIST what the view showed last
   pub shown_back : {A : Type 0} {identity : List ℕ} (t : PlainTable W A V) (es : List (Link W V)) → length es ≡ length (entries t)
-      → ShowsBetween between (table_with unlinked identity es) list s
-      → ShowsBetween between (table_of unlinked (entries (with_entries t es))) list s
+      → ShowsChain between kept (table_with unlinked identity es) list s
+      → ShowsChain between kept (table_of unlinked (entries (with_entries t es))) list s
   shown_back t es e shown = shown_alike (given_back t es e) shown

@@ -1,18 +1,18 @@
 -- Shown sequences, of whatever kind: edited, read at a gap, and kept where the table keeps their entries.
-use Rattle.std.proofs.Common.{◌≡◌, ◌≢◌, Option, Some, None, List, [], ◌∷◌, ◌++◌, reverse, Bool, true, false, refl, sym, ◌∙◌, append-nil, append_assoc, drop}
+use Rattle.std.proofs.Common.{◌≡◌, ◌≢◌, Option, Some, None, List, [], ◌∷◌, ◌++◌, reverse, Bool, true, false, refl, sym, ap, ◌∙◌, append-nil, append_assoc, drop}
 use Rattle.ic_unsafe_ref.specs.declared.place.Place.{Place}
 use Rattle.ic_link_ops.specs.Sequences.{IsAbsent, IsDisjoint, first, last, but_last}
 use Rattle.ic_link_ops.specs.Tables.{Table}
-use Rattle.ic_link_ops.specs.Chains.{Ends, end_of, ShowsBetween}
+use Rattle.ic_link_ops.specs.Chains.{Ends, ListHead, end_of, TurnsTail, ShowsChain, ShowsBetween}
 use Rattle.ic_link_ops.specs.Turns.{TurnsBehind, TurnsBefore}
-use Rattle.ic_link_ops.proofs.SequenceLemmas.{distinct_left, distinct_right, distinct_insert, distinct_remove, distinct_replace, distinct_splice, distinct_reverse, last_not, first_not, none_not, some_same, split_last, new_head, new_tail, first_of_reverse, last_of_reverse}
+use Rattle.ic_link_ops.proofs.SequenceLemmas.{distinct_left, distinct_right, distinct_insert, distinct_remove, distinct_replace, distinct_splice, distinct_reverse, last_not, first_not, none_not, some_same, new_head, new_tail, first_of_reverse, last_of_reverse}
 use Rattle.ic_link_ops.proofs.Chains.{chain_kept, chain_frame, chain_cut, chain_glue, chain_parts, chain_filled, chain_spliced, last_between, first_between, chain_one, chain_absent, chain_reversed}
 
-module _ {E : Type 0} {between : E → Option Place → Option Place → Type 0} where
+module _ {E W : Type 0} {between : E → Option Place → Option Place → Type 0} {kept : Option Place → W} where
   -- a shown sequence stays where the table keeps the entries of its members
-  pub shows_kept : {old new : Table E} {ends : Ends} {s : List Place}
-      → ShowsBetween between old ends s → ((q : Place) → (IsAbsent q s → ⊥) → new.entry q ≡ old.entry q) → ShowsBetween between new ends s
-  shows_kept {old} {new} {ends} {s} h same = record {
+  pub shows_kept : {old new : Table E} {list : ListHead W} {s : List Place}
+      → ShowsChain between kept old list s → ((q : Place) → (IsAbsent q s → ⊥) → new.entry q ≡ old.entry q) → ShowsChain between kept new list s
+  shows_kept {old} {new} {list} {s} h same = record {
     distinct = h.distinct;
     chain = chain_kept between old.entry new.entry None s None same h.chain;
     head = h.head;
@@ -20,14 +20,14 @@ module _ {E : Type 0} {between : E → Option Place → Option Place → Type 0}
   }
 
   -- it stays where another place changes
-  pub shows_beside : {old new : Table E} {ends : Ends} {s : List Place} {p : Place}
-      → ShowsBetween between old ends s → IsAbsent p s → ((q : Place) → q ≢ p → new.entry q ≡ old.entry q) → ShowsBetween between new ends s
-  shows_beside {old} {new} {ends} {s} {p} h out same = shows_kept h (λ q member. same q (λ e. member (rw e out)))
+  pub shows_beside : {old new : Table E} {list : ListHead W} {s : List Place} {p : Place}
+      → ShowsChain between kept old list s → IsAbsent p s → ((q : Place) → q ≢ p → new.entry q ≡ old.entry q) → ShowsChain between kept new list s
+  shows_beside {old} {new} {list} {s} {p} h out same = shows_kept h (λ q member. same q (λ e. member (rw e out)))
 
   -- THE FRAME: a list which shares no member with s keeps its sequence where only entries of s change
-  pub shows_frame : {old new : Table E} {ends : Ends} {t : List Place} (s : List Place)
-      → ShowsBetween between old ends t → IsDisjoint t s → ((q : Place) → IsAbsent q s → new.entry q ≡ old.entry q) → ShowsBetween between new ends t
-  shows_frame {old} {new} {ends} {t} s h apart same = record {
+  pub shows_frame : {old new : Table E} {list : ListHead W} {t : List Place} (s : List Place)
+      → ShowsChain between kept old list t → IsDisjoint t s → ((q : Place) → IsAbsent q s → new.entry q ≡ old.entry q) → ShowsChain between kept new list t
+  shows_frame {old} {new} {list} {t} s h apart same = record {
     distinct = h.distinct;
     chain = chain_frame between old.entry new.entry None t None s apart same h.chain;
     head = h.head;
@@ -35,45 +35,42 @@ module _ {E : Type 0} {between : E → Option Place → Option Place → Type 0}
   }
 
   -- how a member stands between its neighbors
-  pub shows_middle : {t : Table E} {ends : Ends} (front back : List Place) {p : Place}
-      → ShowsBetween between t ends (front ++ p ∷ back) → between (t.entry p) (last front) (first back)
+  pub shows_middle : {t : Table E} {list : ListHead W} (front back : List Place) {p : Place}
+      → ShowsChain between kept t list (front ++ p ∷ back) → between (t.entry p) (last front) (first back)
   shows_middle {t} front back {p} shown = (chain_cut between t.entry None front (p ∷ back) None shown.chain).1.0
 
   -- how the member before a gap stands, and the one behind it
-  pub before_gap : {t : Table E} {ends : Ends} (front back : List Place) {q : Place}
-      → ShowsBetween between t ends (front ++ back) → Some q ≡ last front → between (t.entry q) (last (but_last front)) (first back)
+  pub before_gap : {t : Table E} {list : ListHead W} (front back : List Place) {q : Place}
+      → ShowsChain between kept t list (front ++ back) → Some q ≡ last front → between (t.entry q) (last (but_last front)) (first back)
   before_gap {t} front back shown e =
       last_between between t.entry None front (first back) (chain_cut between t.entry None front back None shown.chain).0 e
 
-  pub behind_gap : {t : Table E} {ends : Ends} (front back : List Place) {q : Place}
-      → ShowsBetween between t ends (front ++ back) → Some q ≡ first back → between (t.entry q) (last front) (first (drop 1 back))
+  pub behind_gap : {t : Table E} {list : ListHead W} (front back : List Place) {q : Place}
+      → ShowsChain between kept t list (front ++ back) → Some q ≡ first back → between (t.entry q) (last front) (first (drop 1 back))
   behind_gap {t} front [] {q} shown e = absurd (none_not q (sym e))
   behind_gap {t} front (x ∷ back) shown e =
       first_between between t.entry (last front) x back None (chain_cut between t.entry None front (x ∷ back) None shown.chain).1 (some_same e)
 
-  -- the head is the first member, and the tail the last
-  pub shows_first : {t : Table E} {ends : Ends} (s : List Place) {p : Place} → ShowsBetween between t ends s → ends.head ≡ Some p → s ≡ p ∷ drop 1 s
+  -- the head is the first member
+  pub shows_first : {t : Table E} {list : ListHead W} (s : List Place) {p : Place} → ShowsChain between kept t list s → list.head ≡ Some p → s ≡ p ∷ drop 1 s
   shows_first [] {p} shown e = absurd (none_not p (sym shown.head ∙ e))
   shows_first (x ∷ s) {p} shown e = let k : Some x ≡ Some p = sym shown.head ∙ e in cc
 
-  pub shows_last : {t : Table E} {ends : Ends} (s : List Place) {p : Place} → ShowsBetween between t ends s → ends.tail ≡ Some p → s ≡ but_last s ++ p ∷ []
-  shows_last s shown e = split_last s (sym shown.tail ∙ e)
-
-  -- what is no member is at neither end
-  pub ends_not : {t : Table E} {ends : Ends} {s : List Place} {q : Place} → ShowsBetween between t ends s → IsAbsent q s
-      → (ends.head ≢ Some q) × (ends.tail ≢ Some q)
-  ends_not {t} {ends} {s} {q} shown out = (
+  -- what is no member is at neither end. `back`: the last member
+  pub ends_not : {t : Table E} {list : ListHead W} {s : List Place} {q : Place} {back : Option Place} → ShowsChain between kept t list s → back ≡ last s → IsAbsent q s
+      → (list.head ≢ Some q) × (back ≢ Some q)
+  ends_not {t} {list} {s} {q} shown is_back out = (
     (λ e. first_not s None q (none_not q) out (sym shown.head ∙ e)),
-    (λ e. last_not None s q (none_not q) out (sym shown.tail ∙ e)),
+    (λ e. last_not None s q (none_not q) out (sym is_back ∙ e)),
   )
 
   -- INSERT: p is put into a gap. Its two sides are turned, and then p is set
-  pub shows_insert : {t0 t3 : Table E} {t1 t2 : Place → E} {ends ends' : Ends} (front back : List Place) {p : Place} {before behind : Option Place}
-      → before ≡ last front → behind ≡ first back → ShowsBetween between t0 ends (front ++ back) → IsAbsent p (front ++ back)
+  pub shows_insert : {t0 t3 : Table E} {t1 t2 : Place → E} {list list' : ListHead W} (front back : List Place) {p : Place} {before behind : Option Place}
+      → before ≡ last front → behind ≡ first back → ShowsChain between kept t0 list (front ++ back) → IsAbsent p (front ++ back)
       → TurnsBehind between t0.entry t1 before behind (Some p) → TurnsBefore between t1 t2 behind before (Some p)
       → between (t3.entry p) before behind → ((q : Place) → q ≢ p → t3.entry q ≡ t2 q)
-      → ends'.head ≡ end_of before (Some p) ends.head → ends'.tail ≡ end_of behind (Some p) ends.tail
-      → ShowsBetween between t3 ends' (front ++ p ∷ back)
+      → list'.head ≡ end_of before (Some p) list.head → TurnsTail kept list.tail list'.tail behind (Some p)
+      → ShowsChain between kept t3 list' (front ++ p ∷ back)
   shows_insert {t0} {t3} {t1} {t2} front back {p} is_before is_behind shown out turn1 turn2 stands same head tail =
       let cut = chain_cut between t0.entry None front back None shown.chain in
       let d = distinct_insert front back p shown.distinct out in record {
@@ -81,15 +78,15 @@ module _ {E : Type 0} {between : E → Option Place → Option Place → Type 0}
         chain = chain_filled between t0.entry t1 t2 t3.entry front p back (first back) (last front) d (rw (is_before, is_behind) at turn1)
             (rw (is_before, is_behind) at turn2) (rw (is_before, is_behind) at stands) same cut.0 cut.1;
         head = new_head front back (p ∷ back) is_before refl shown.head head;
-        tail = new_tail front [] (p ∷ []) back is_behind refl shown.tail tail;
+        tail = tail (last (front ++ back)) shown.tail ∙ ap kept (new_tail front [] (p ∷ []) back is_behind refl refl refl);
       }
 
   -- REMOVE: p is taken out. Its two neighbors are turned to each other
-  pub shows_remove : {t0 t2 : Table E} {t1 : Place → E} {ends ends' : Ends} (front back : List Place) (p : Place) {before behind : Option Place}
-      → before ≡ last front → behind ≡ first back → ShowsBetween between t0 ends (front ++ p ∷ back)
+  pub shows_remove : {t0 t2 : Table E} {t1 : Place → E} {list list' : ListHead W} (front back : List Place) (p : Place) {before behind : Option Place}
+      → before ≡ last front → behind ≡ first back → ShowsChain between kept t0 list (front ++ p ∷ back)
       → TurnsBehind between t0.entry t1 before (Some p) behind → TurnsBefore between t1 t2.entry behind (Some p) before
-      → ends'.head ≡ end_of before behind ends.head → ends'.tail ≡ end_of behind before ends.tail
-      → ShowsBetween between t2 ends' (front ++ back)
+      → list'.head ≡ end_of before behind list.head → TurnsTail kept list.tail list'.tail behind before
+      → ShowsChain between kept t2 list' (front ++ back)
   shows_remove {t0} {t2} {t1} front back p is_before is_behind shown turn1 turn2 head tail =
       let cut = chain_cut between t0.entry None front (p ∷ back) None shown.chain in
       let d = distinct_remove front back p shown.distinct in
@@ -98,16 +95,16 @@ module _ {E : Type 0} {between : E → Option Place → Option Place → Type 0}
         distinct = d;
         chain = chain_glue between t2.entry None front back None parts.0 parts.1;
         head = new_head front (p ∷ back) back is_before is_behind shown.head head;
-        tail = new_tail front (p ∷ []) [] back is_behind is_before shown.tail tail;
+        tail = tail (last (front ++ p ∷ back)) shown.tail ∙ ap kept (new_tail front (p ∷ []) [] back is_behind is_before refl refl);
       }
 
   -- REPLACE: r is put in the place of p. The two neighbors of p are turned, and then r is set
-  pub shows_replace : {t0 t3 : Table E} {t1 t2 : Place → E} {ends ends' : Ends} (front back : List Place) (p : Place) {r : Place} {before behind : Option Place}
-      → before ≡ last front → behind ≡ first back → ShowsBetween between t0 ends (front ++ p ∷ back) → IsAbsent r (front ++ p ∷ back)
+  pub shows_replace : {t0 t3 : Table E} {t1 t2 : Place → E} {list list' : ListHead W} (front back : List Place) (p : Place) {r : Place} {before behind : Option Place}
+      → before ≡ last front → behind ≡ first back → ShowsChain between kept t0 list (front ++ p ∷ back) → IsAbsent r (front ++ p ∷ back)
       → TurnsBehind between t0.entry t1 before (Some p) (Some r) → TurnsBefore between t1 t2 behind (Some p) (Some r)
       → between (t3.entry r) before behind → ((q : Place) → q ≢ r → t3.entry q ≡ t2 q)
-      → ends'.head ≡ end_of before (Some r) ends.head → ends'.tail ≡ end_of behind (Some r) ends.tail
-      → ShowsBetween between t3 ends' (front ++ r ∷ back)
+      → list'.head ≡ end_of before (Some r) list.head → TurnsTail kept list.tail list'.tail behind (Some r)
+      → ShowsChain between kept t3 list' (front ++ r ∷ back)
   shows_replace {t0} {t3} {t1} {t2} front back p {r} is_before is_behind shown out turn1 turn2 stands same head tail =
       let cut = chain_cut between t0.entry None front (p ∷ back) None shown.chain in
       let d = distinct_replace front back p r shown.distinct out in record {
@@ -115,34 +112,34 @@ module _ {E : Type 0} {between : E → Option Place → Option Place → Type 0}
         chain = chain_filled between t0.entry t1 t2 t3.entry front r back (Some p) (Some p) d (rw is_before at turn1) (rw is_behind at turn2)
             (rw (is_before, is_behind) at stands) same cut.0 cut.1.1;
         head = new_head front (p ∷ back) (r ∷ back) is_before refl shown.head head;
-        tail = new_tail front (p ∷ []) (r ∷ []) back is_behind refl shown.tail tail;
+        tail = tail (last (front ++ p ∷ back)) shown.tail ∙ ap kept (new_tail front (p ∷ []) (r ∷ []) back is_behind refl refl refl);
       }
 
-  -- SPLICE: all of another list is put into a gap. The two sides of the gap are turned, and then the given first and last
-  pub shows_splice : {t0 t4 : Table E} {t1 t2 t3 : Place → E} {ends ends' given : Ends} (front mid back : List Place) (x : Place) {before behind : Option Place}
-      → given.head ≡ Some x → before ≡ last front → behind ≡ first back
-      → ShowsBetween between t0 ends (front ++ back) → ShowsBetween between t0 given mid → IsDisjoint mid (front ++ back)
-      → TurnsBehind between t0.entry t1 before behind given.head → TurnsBefore between t1 t2 behind before given.tail
-      → TurnsBefore between t2 t3 given.head None before → TurnsBehind between t3 t4.entry given.tail None behind
-      → ends'.head ≡ end_of before given.head ends.head → ends'.tail ≡ end_of behind given.tail ends.tail
-      → ShowsBetween between t4 ends' (front ++ (mid ++ back))
-  shows_splice front [] back x e is_before is_behind shown other apart turn1 turn2 turn3 turn4 head tail =
+  -- SPLICE: all of another list, whose last member is `end`, is put into a gap. The two sides of the gap are turned, and then the given first and last
+  pub shows_splice : {t0 t4 : Table E} {t1 t2 t3 : Place → E} {list list' given : ListHead W} (front mid back : List Place) (x : Place) {before behind end : Option Place}
+      → given.head ≡ Some x → end ≡ last mid → before ≡ last front → behind ≡ first back
+      → ShowsChain between kept t0 list (front ++ back) → ShowsChain between kept t0 given mid → IsDisjoint mid (front ++ back)
+      → TurnsBehind between t0.entry t1 before behind given.head → TurnsBefore between t1 t2 behind before end
+      → TurnsBefore between t2 t3 given.head None before → TurnsBehind between t3 t4.entry end None behind
+      → list'.head ≡ end_of before given.head list.head → TurnsTail kept list.tail list'.tail behind end
+      → ShowsChain between kept t4 list' (front ++ (mid ++ back))
+  shows_splice front [] back x e is_end is_before is_behind shown other apart turn1 turn2 turn3 turn4 head tail =
       absurd (none_not x (sym other.head ∙ e))
-  shows_splice {t0} {t4} {t1} {t2} {t3} front (y ∷ mid) back x e is_before is_behind shown other apart turn1 turn2 turn3 turn4 head tail = record {
+  shows_splice {t0} {t4} {t1} {t2} {t3} front (y ∷ mid) back x e is_end is_before is_behind shown other apart turn1 turn2 turn3 turn4 head tail = record {
     distinct = distinct_splice front (y ∷ mid) back shown.distinct other.distinct apart;
     chain = chain_spliced between t0.entry t1 t2 t3 t4.entry front y mid back shown.distinct other.distinct apart
-        (rw (is_before, is_behind, other.head) at turn1) (rw (is_before, is_behind, other.tail) at turn2) (rw (is_before, other.head) at turn3)
-        (rw (is_behind, other.tail) at turn4) shown.chain other.chain;
+        (rw (is_before, is_behind, other.head) at turn1) (rw (is_before, is_behind, is_end) at turn2) (rw (is_before, other.head) at turn3)
+        (rw (is_behind, is_end) at turn4) shown.chain other.chain;
     head = new_head front back (y ∷ mid ++ back) is_before other.head shown.head head;
-    tail = new_tail front [] (y ∷ mid) back is_behind other.tail shown.tail tail;
+    tail = tail (last (front ++ back)) shown.tail ∙ ap kept (new_tail front [] (y ∷ mid) back is_behind is_end refl refl);
   }
 
   -- SPLIT: a list is cut at a gap. Its two sides are turned, and each part is shown for its own ends, whichever is handed out
-  pub shows_split : {t0 t2 : Table E} {t1 : Place → E} {ends fronts backs : Ends} (front back : List Place) {before behind : Option Place}
-      → before ≡ last front → behind ≡ first back → ShowsBetween between t0 ends (front ++ back)
+  pub shows_split : {t0 t2 : Table E} {t1 : Place → E} {list fronts backs : ListHead W} (front back : List Place) {before behind : Option Place}
+      → before ≡ last front → behind ≡ first back → ShowsChain between kept t0 list (front ++ back)
       → TurnsBehind between t0.entry t1 before behind None → TurnsBefore between t1 t2.entry behind before None
-      → fronts.head ≡ end_of before None ends.head → fronts.tail ≡ before → backs.head ≡ behind → backs.tail ≡ end_of behind None ends.tail
-      → ShowsBetween between t2 fronts front × ShowsBetween between t2 backs back
+      → fronts.head ≡ end_of before None list.head → fronts.tail ≡ kept before → backs.head ≡ behind → TurnsTail kept list.tail backs.tail behind None
+      → ShowsChain between kept t2 fronts front × ShowsChain between kept t2 backs back
   shows_split {t0} {t2} {t1} front back is_before is_behind shown turn1 turn2 head1 tail1 head2 tail2 =
       let cut = chain_cut between t0.entry None front back None shown.chain in
       let parts = chain_parts between t0.entry t1 t2.entry front back (first back) (last front) None None shown.distinct (rw (is_before, is_behind) at turn1)
@@ -151,50 +148,51 @@ module _ {E : Type 0} {between : E → Option Place → Option Place → Type 0}
           distinct = distinct_left front back shown.distinct;
           chain = parts.0;
           head = rw append-nil at (new_head front back [] is_before refl shown.head head1);
-          tail = tail1 ∙ is_before;
+          tail = tail1 ∙ ap kept is_before;
         },
         record {
           distinct = distinct_right front back shown.distinct;
           chain = parts.1;
           head = head2 ∙ is_behind;
-          tail = new_tail [] front [] back is_behind refl shown.tail tail2;
+          tail = tail2 (last (front ++ back)) shown.tail ∙ ap kept (new_tail [] front [] back is_behind refl refl refl);
         },
       )
 
-  -- REVERSE: a list of a symmetric kind is turned round by its ends alone
-  pub shows_reversed : ((e : E) (b a : Option Place) → between e b a → between e a b) → {t : Table E} {ends ends' : Ends} {s : List Place}
-      → ShowsBetween between t ends s → ends'.head ≡ ends.tail → ends'.tail ≡ ends.head → ShowsBetween between t ends' (reverse s)
-  shows_reversed turn {t} {ends} {ends'} {s} shown head tail = record {
-    distinct = distinct_reverse s shown.distinct;
-    chain = chain_reversed between turn t.entry None s None shown.chain;
-    head = head ∙ shown.tail ∙ sym (first_of_reverse s None);
-    tail = tail ∙ shown.head ∙ sym (last_of_reverse None s);
-  }
-
   -- A TABLE SHOWS AT MOST ONE SEQUENCE for a list, if an entry and what stands before it tell what stands behind
-  pub shows_one : ((e : E) (a b c : Option Place) → between e a b → between e a c → b ≡ c) → {t : Table E} {ends : Ends} {s r : List Place}
-      → ShowsBetween between t ends s → ShowsBetween between t ends r → s ≡ r
-  shows_one one {t} {ends} {s} {r} h k = chain_one between one t.entry None s r (sym h.head ∙ k.head) h.chain k.chain
+  pub shows_one : ((e : E) (a b c : Option Place) → between e a b → between e a c → b ≡ c) → {t : Table E} {list : ListHead W} {s r : List Place}
+      → ShowsChain between kept t list s → ShowsChain between kept t list r → s ≡ r
+  shows_one one {t} {list} {s} {r} h k = chain_one between one t.entry None s r (sym h.head ∙ k.head) h.chain k.chain
 
   -- `law`: what stands between two others is linked
   module _ {linked : E → Bool} (law : (e : E) (b a : Option Place) → between e b a → linked e ≡ true) where
     -- what is not linked is no member
-    pub free_absent : {t : Table E} {ends : Ends} {s : List Place} {p : Place} → ShowsBetween between t ends s → linked (t.entry p) ≡ false → IsAbsent p s
-    free_absent {t} {ends} {s} {p} shown free = chain_absent between linked law t.entry None s None p shown.chain free
+    pub free_absent : {t : Table E} {list : ListHead W} {s : List Place} {p : Place} → ShowsChain between kept t list s → linked (t.entry p) ≡ false → IsAbsent p s
+    free_absent {t} {list} {s} {p} shown free = chain_absent between linked law t.entry None s None p shown.chain free
 
     -- the member before a gap is linked, and the one behind it
-    pub gap_linked : {t : Table E} {ends : Ends} (front back : List Place) {q : Place}
-        → ShowsBetween between t ends (front ++ back) → Some q ≡ last front → linked (t.entry q) ≡ true
+    pub gap_linked : {t : Table E} {list : ListHead W} (front back : List Place) {q : Place}
+        → ShowsChain between kept t list (front ++ back) → Some q ≡ last front → linked (t.entry q) ≡ true
     gap_linked front back shown e = law _ _ _ (before_gap front back shown e)
 
-    pub gap_behind_linked : {t : Table E} {ends : Ends} (front back : List Place) {q : Place}
-        → ShowsBetween between t ends (front ++ back) → Some q ≡ first back → linked (t.entry q) ≡ true
+    pub gap_behind_linked : {t : Table E} {list : ListHead W} (front back : List Place) {q : Place}
+        → ShowsChain between kept t list (front ++ back) → Some q ≡ first back → linked (t.entry q) ≡ true
     gap_behind_linked front back shown e = law _ _ _ (behind_gap front back shown e)
 
     -- so is the member behind p
-    pub next_linked : {t : Table E} {ends : Ends} (front : List Place) (p : Place) (back : List Place) {q : Place}
-        → ShowsBetween between t ends (front ++ p ∷ back) → Some q ≡ first back → linked (t.entry q) ≡ true
-    next_linked {t} {ends} front p back shown e = gap_behind_linked {t = t} {ends = ends} (front ++ p ∷ []) back (rw append_assoc shown) e
+    pub next_linked : {t : Table E} {list : ListHead W} (front : List Place) (p : Place) (back : List Place) {q : Place}
+        → ShowsChain between kept t list (front ++ p ∷ back) → Some q ≡ first back → linked (t.entry q) ≡ true
+    next_linked {t} {list} front p back shown e = gap_behind_linked {t = t} {list = list} (front ++ p ∷ []) back (rw append_assoc shown) e
 
-    pub tail_linked : {t : Table E} {ends : Ends} {s : List Place} {q : Place} → ShowsBetween between t ends s → ends.tail ≡ Some q → linked (t.entry q) ≡ true
-    tail_linked {t} {ends} {s} shown e = gap_linked {t = t} {ends = ends} s [] (rw append-nil shown) (sym e ∙ shown.tail)
+    pub last_linked : {t : Table E} {list : ListHead W} {s : List Place} {q : Place} → ShowsChain between kept t list s → Some q ≡ last s → linked (t.entry q) ≡ true
+    last_linked {t} {list} {s} shown e = gap_linked {t = t} {list = list} s [] (rw append-nil shown) e
+
+-- REVERSE: a list of a symmetric kind, which keeps both ends, is turned round by them alone
+pub shows_reversed : {E : Type 0} {between : E → Option Place → Option Place → Type 0} → ((e : E) (b a : Option Place) → between e b a → between e a b)
+    → {t : Table E} {ends ends' : Ends} {s : List Place} → ShowsBetween between t ends s → ends'.head ≡ ends.tail → ends'.tail ≡ ends.head
+    → ShowsBetween between t ends' (reverse s)
+shows_reversed {between = between} turn {t} {ends} {ends'} {s} shown head tail = record {
+  distinct = distinct_reverse s shown.distinct;
+  chain = chain_reversed between turn t.entry None s None shown.chain;
+  head = head ∙ shown.tail ∙ sym (first_of_reverse s None);
+  tail = tail ∙ shown.head ∙ sym (last_of_reverse None s);
+}

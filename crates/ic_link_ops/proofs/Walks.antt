@@ -10,7 +10,7 @@ use Rattle.ic_unsafe_ref.specs.Places.{index_of}
 use Rattle.ic_unsafe_ref.proofs.PlaceLemmas.{same_index, index_small}
 use Rattle.ic_link_ops.specs.Sequences.{IsAbsent, IsDistinct, first_or, last_or, first, last, but_last}
 use Rattle.ic_link_ops.specs.Tables.{Table, IsCovered}
-use Rattle.ic_link_ops.specs.Chains.{Ends, IsChain, IsStretch, ShowsBetween}
+use Rattle.ic_link_ops.specs.Chains.{ListHead, Ends, IsChain, IsStretch, ShowsChain, ShowsBetween}
 use Rattle.ic_link_ops.specs.Walk.{walk, walked, is_end, GivesFirst, GivesLast}
 use Rattle.ic_link_ops.proofs.Counting.{count, count_falls, count_at_most}
 use Rattle.ic_link_ops.proofs.SequenceLemmas.{distinct_left, distinct_right, last_not, none_not, some_same, last_some, split_last}
@@ -96,8 +96,12 @@ module _ {E : Type 0} {between : E → Option Place → Option Place → Type 0}
       absurd (last_not (Some y) w x (λ h. k.distinct.0.0 (sym (some_same h))) k.distinct.0.1 (sym k.ends ∙ ap Some e))
 
   -- all of a shown sequence is one
-  pub stretch_of : {t : Table E} {list : Ends} {s : List Place} → ShowsBetween between t list s → IsStretch between t.entry None list.head list.tail None s
-  stretch_of h = record { distinct = h.distinct; chain = h.chain; starts = h.head; ends = h.tail }
+  pub stretch_of : {W : Type 0} {kept : Option Place → W} {t : Table E} {list : ListHead W} {s : List Place} → ShowsChain between kept t list s
+      → IsStretch between t.entry None list.head (last s) None s
+  stretch_of h = record { distinct = h.distinct; chain = h.chain; starts = h.head; ends = refl }
+
+  pub stretch_between : {t : Table E} {list : Ends} {s : List Place} → ShowsBetween between t list s → IsStretch between t.entry None list.head list.tail None s
+  stretch_between h = record { distinct = h.distinct; chain = h.chain; starts = h.head; ends = h.tail }
 
   -- how its first member stands, and its last
   pub stretch_first : {t : Place → E} {b to a : Option Place} {p : Place} {w : List Place} → IsStretch between t b (Some p) to a w

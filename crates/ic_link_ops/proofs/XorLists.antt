@@ -9,7 +9,7 @@ use Rattle.ic_link_ops.specs.XorLinkedList.{IsJoined, Shows, members}
 use Rattle.ic_link_ops.proofs.Turning.{turns_behind, turns_before}
 use Rattle.ic_link_ops.proofs.CollectionLaws.{IsKind}
 use Rattle.ic_link_ops.proofs.ShownLists.{shows_frame, shows_one, free_absent}
-use Rattle.ic_link_ops.proofs.Walks.{stretch_of, stretch_length, stretch_walked}
+use Rattle.ic_link_ops.proofs.Walks.{stretch_of, stretch_between, stretch_length, stretch_walked}
 
 module _ {E : Type 0} {linked : E → Bool} {joins : E → Option Place → Option Place → Type 0} where
   -- A REPLACEMENT gives a turn on either side
@@ -61,7 +61,7 @@ module _ {E : Type 0} {linked : E → Bool} {joins : E → Option Place → Opti
     -- and so the members of a list
     pub members_shown : (t : Table E) → ((q : Place) → linked (t.entry q) ≡ true → IsCovered t q)
         → (list : Ends) (s : List Place) → Shows linked joins t list s → members other t list ≡ s
-    members_shown t covered list s shown = part_walked t covered (stretch_of shown)
+    members_shown t covered list s shown = part_walked t covered (stretch_between shown)
 
 -- the five facts of XOR lists: `one` is the law that one neighbor tells the other
 pub xor_lists : {E : Type 0} {linked : E → Bool} {joins : E → Option Place → Option Place → Type 0}

@@ -4,19 +4,34 @@ use Rattle.ic_unsafe_ref.specs.declared.place.Place.{Place}
 use Rattle.ic_link_ops.specs.Sequences.{IsDistinct, first_or, first, last}
 use Rattle.ic_link_ops.specs.Tables.{Table}
 
--- the two ends of a list
-pub record Ends : Type 0 where
+-- what a list keeps: its first member, and what its kind keeps of the last one
+pub record ListHead (W : Type 0) : Type 0 where
   pub head : Option Place
-  pub tail : Option Place
+  pub tail : W
 
--- the ends of a list with no members
+abbrev pub list_head : {W : Type 0} → Option Place → W → ListHead W
+list_head head tail = record { head = head; tail = tail }
+
+-- the two ends of a list that keeps both
+abbrev pub Ends : Type 0
+Ends = ListHead (Option Place)
+
+-- a list with no members. `kept p`: what the kind keeps where p is the last member, none of an empty list
+abbrev pub empty_list : {W : Type 0} → (Option Place → W) → ListHead W
+empty_list kept = list_head None (kept None)
+
+-- so it is where both ends are kept
 abbrev pub no_members : Ends
-no_members = record { head = None; tail = None }
+no_members = empty_list (λ last. last)
 
 -- an end of a list whose outermost member has this neighbor beyond it now: the end stays where there is one
 abbrev pub end_of : Option Place → Option Place → Option Place → Option Place
 end_of None fresh end = fresh
 end_of (Some x) fresh end = end
+
+-- what is kept of the last member is right where `fresh` stands in front of `at` now: where that is none, `fresh` is the last
+abbrev pub TurnsTail : {W : Type 0} → (Option Place → W) → W → W → Option Place → Option Place → Type 0
+TurnsTail kept old new at fresh = (last : Option Place) → old ≡ kept last → new ≡ kept (end_of at fresh last)
 
 -- `between e a b`: the entry e says that its place stands between a and b, none beyond an end
 module _ {E : Type 0} (between : E → Option Place → Option Place → Type 0) where
@@ -32,9 +47,18 @@ module _ {E : Type 0} (between : E → Option Place → Option Place → Type 0)
     pub starts : front ≡ first w
     pub ends : back ≡ last w
 
-  -- THE TABLE SHOWS s for the list with these ends: s is a chain of distinct places from the head to the tail
-  pub record ShowsBetween (t : Table E) (list : Ends) (s : List Place) : Type 0 where
-    pub distinct : IsDistinct s
-    pub chain : IsChain t.entry None s None
-    pub head : list.head ≡ first s
-    pub tail : list.tail ≡ last s
+  module _ {W : Type 0} (kept : Option Place → W) where
+    -- THE TABLE SHOWS s for the list: s is a chain of distinct places from the head on, and what is kept of the last one is right
+    pub record ShowsChain (t : Table E) (list : ListHead W) (s : List Place) : Type 0 where
+      pub distinct : IsDistinct s
+      pub chain : IsChain t.entry None s None
+      pub head : list.head ≡ first s
+      pub tail : list.tail ≡ kept (last s)
+
+    -- the table shows a sequence for the list
+    abbrev pub ShowsSomeChain : Table E → ListHead W → Type 0
+    ShowsSomeChain t list = (s : List Place) × ShowsChain t list s
+
+  -- the same of a list that keeps both ends
+  abbrev pub ShowsBetween : Table E → Ends → List Place → Type 0
+  ShowsBetween = ShowsChain (λ last. last)

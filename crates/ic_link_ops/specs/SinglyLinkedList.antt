@@ -1,10 +1,18 @@
 -- Which sequence a table shows for a singly linked list.
-use Rattle.std.specs.Prelude.{◌≡◌, Bool, true, Option, None, List}
+use Rattle.std.specs.Prelude.{◌≡◌, ⊤, Bool, true, Option, None, List}
 use Rattle.ic_unsafe_ref.specs.declared.place.Place.{Place}
-use Rattle.ic_link_ops.specs.Sequences.{IsDistinct, first, last}
+use Rattle.ic_link_ops.specs.Sequences.{last}
 use Rattle.ic_link_ops.specs.Tables.{Table}
-use Rattle.ic_link_ops.specs.Chains.{IsChain, IsStretch}
+use Rattle.ic_link_ops.specs.Chains.{ListHead, list_head, IsStretch, ShowsChain}
 use Rattle.ic_link_ops.specs.Walk.{walked}
+
+-- what a list keeps: its first member, and nothing of the last one
+abbrev pub Front : Type 0
+Front = ListHead ⊤
+
+-- the list that begins with this member
+abbrev pub list_from : Option Place → Front
+list_from first = list_head first tt
 
 -- what an entry says: whether its place is linked, and which place stands behind it
 pub record Successor : Type 0 where
@@ -21,23 +29,24 @@ module _ {E : Type 0} (successor : E → Successor) where
     pub linked : (successor e).linked ≡ true
     pub next : (successor e).next ≡ behind
 
-  -- THE TABLE SHOWS s for the list with this front, the one end that it keeps: s is a chain of distinct places from it on
-  pub record Shows (t : Table E) (front : Option Place) (s : List Place) : Type 0 where
-    pub distinct : IsDistinct s
-    pub chain : IsChain IsFollowed t.entry None s None
-    pub head : front ≡ first s
+  -- THE TABLE SHOWS s for the list, which keeps its first member alone
+  abbrev pub Shows : Table E → Front → List Place → Type 0
+  Shows = ShowsChain IsFollowed (λ last. tt)
 
   -- the table shows a sequence for the list
-  abbrev pub ShowsSome : Table E → Option Place → Type 0
-  ShowsSome t front = (s : List Place) × Shows t front s
+  abbrev pub ShowsSome : Table E → Front → Type 0
+  ShowsSome t list = (s : List Place) × Shows t list s
 
   -- the place behind, whatever stands before
   abbrev pub next_of : E → Option Place → Option Place
   next_of e before = (successor e).next
 
-  -- the members from a place on, and so those of the list with this front
-  abbrev pub members : Table E → Option Place → List Place
-  members t front = walked next_of t None front None
+  -- the members from a place on, and so those of a list
+  abbrev pub members_from : Table E → Option Place → List Place
+  members_from t front = walked next_of t None front None
+
+  abbrev pub members : Table E → Front → List Place
+  members t list = members_from t list.head
 
   -- w is the rest of a chain, from front on
   pub record IsWalk (entry : Place → E) (front : Option Place) (w : List Place) : Type 0 where

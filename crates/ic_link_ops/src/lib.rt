@@ -10,7 +10,6 @@
 #![tactic(auto)]
 
 mod color;
-mod end;
 mod errors;
 mod lent_table;
 mod link;
@@ -19,6 +18,7 @@ mod link_value;
 pub mod linked_list;
 mod marked_word;
 mod one_word;
+mod place_word;
 pub mod rbtree;
 mod side;
 pub mod singly_linked_list;
@@ -28,7 +28,6 @@ mod word;
 pub mod xor_linked_list;
 
 pub use color::Color;
-pub use end::End;
 pub use errors::{AlreadyLinked, CoverError, ReplaceError};
 pub use lent_table::LentTable;
 pub use link::{Link, NextWord, PrevPlace, Words};
@@ -36,6 +35,7 @@ pub use link_ops::LinkOps;
 pub use link_value::{LinkValue, LinkValues};
 pub use marked_word::MarkedWord;
 pub use one_word::OneWord;
+pub use place_word::PlaceWord;
 pub use side::Side;
 pub use table::PlainTable;
 pub use tree_word::TreeWord;

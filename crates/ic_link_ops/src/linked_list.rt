@@ -13,12 +13,12 @@ ghost use Rattle.ic_link_ops.specs.Tables.{IsCovered, IsLinked, ChangesOnly};
 ghost use Rattle.ic_link_ops.specs.LinkSteps.{acquires};
 ghost use Rattle.ic_link_ops.specs.LinkedList.{Neighbors, neighbors_at, IsBetween};
 
-use crate::end::End;
 use crate::lent_table::LentTable;
 use crate::link::{self, NextWord, PrevPlace, Words};
 use crate::link_ops;
 use crate::link_value::LinkValue;
 use crate::marked_word::MarkedWord;
+use crate::place_word::PlaceWord;
 use crate::table::PlainTable;
 use crate::word::Word;
 use ic_unsafe_ref::Place;
@@ -84,7 +84,7 @@ pub trait LinkedListOps: link_ops::LinkOps {
 #[derive(Drop)]
 pub struct TwoWords {
     next: MarkedWord,
-    prev: End,
+    prev: PlaceWord,
 }
 
 /// What the table keeps at a place: two words.
@@ -108,7 +108,7 @@ impl Words for TwoWords {
     fn unlinked() -> Self {
         TwoWords {
             next: MarkedWord::mark(),
-            prev: End::of(None),
+            prev: PlaceWord::of(None),
         }
     }
 
@@ -160,7 +160,7 @@ impl PrevPlace for TwoWords {
 
     #[inline]
     fn set_prev(&mut self, place: Option<Place>) {
-        self.prev = End::of(place);
+        self.prev = PlaceWord::of(place);
     }
 
     ghost keeps_prev = { λ old new h. h };

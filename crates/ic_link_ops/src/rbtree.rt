@@ -12,11 +12,11 @@ ghost use Rattle.ic_link_ops.specs.RedBlackTree.{Node, node_at};
 ghost use Rattle.ic_link_ops.specs.declared.color.Color.{Color};
 
 use crate::color::Color;
-use crate::end::End;
 use crate::lent_table::LentTable;
 use crate::link::{self, NextWord, PrevPlace, Words};
 use crate::link_ops;
 use crate::link_value::LinkValue;
+use crate::place_word::PlaceWord;
 use crate::table::PlainTable;
 use crate::tree_word::TreeWord;
 use crate::word::Word;
@@ -92,7 +92,7 @@ pub trait RBTreeOps: link_ops::LinkOps {
 /// right.
 #[derive(Drop)]
 pub struct ThreeWords {
-    left: End,
+    left: PlaceWord,
     right: Word,
     third: TreeWord,
 }
@@ -138,7 +138,7 @@ impl Words for ThreeWords {
     #[inline]
     fn unlinked() -> Self {
         ThreeWords {
-            left: End::of(None),
+            left: PlaceWord::of(None),
             right: Word::none(),
             third: TreeWord::unlinked(),
         }
@@ -192,7 +192,7 @@ impl PrevPlace for ThreeWords {
 
     #[inline]
     fn set_prev(&mut self, place: Option<Place>) {
-        self.left = End::of(place);
+        self.left = PlaceWord::of(place);
     }
 
     ghost keeps_prev = { λ old new h. h };
@@ -227,7 +227,7 @@ impl<A: Allocator, V: LinkValue> RBTreeOps for PlainTable<ThreeWords, A, V> {
     #[inline]
     fn set_left(&mut self, place: Place, left: Option<Place>) {
         let entry = &mut self.entries[place.index()];
-        entry.words.left = End::of(left);
+        entry.words.left = PlaceWord::of(left);
     }
 
     #[inline]
@@ -280,7 +280,7 @@ impl<V: LinkValue> RBTreeOps for LentTable<'_, ThreeWords, V> {
     #[inline]
     fn set_left(&mut self, place: Place, left: Option<Place>) {
         let link = &mut self.entries[place.index()];
-        link.words.left = End::of(left);
+        link.words.left = PlaceWord::of(left);
     }
 
     #[inline]

@@ -1,7 +1,7 @@
 //! The words of which links are made, and of which ends are.
 
 use crate::fixture::check;
-use ic_link_ops::{Color, End, MarkedWord, TreeWord, Word};
+use ic_link_ops::{Color, MarkedWord, PlaceWord, TreeWord, Word};
 use ic_unsafe_ref::Place;
 
 // Words as numbers: of no place, of the second one, of both, of the one beside the first, of the one beside the second, and of both
@@ -33,7 +33,7 @@ fn tree_numbers(parent: Option<Place>) -> ([u64; 5], bool) {
     word.set_parent(parent);
     let below = word.number();
     word.set_color(Color::Red);
-    let above = Place::to_word(End::of(word.parent()).get());
+    let above = Place::to_word(PlaceWord::of(word.parent()).get());
     let is_red = word.color() == Color::Red && word.is_linked();
     let unlinked = TreeWord::unlinked().number();
     ([unlinked, black, below, word.number(), above], is_red)

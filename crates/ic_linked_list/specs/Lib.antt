@@ -1,6 +1,1 @@
-pub mod Cursor
-pub mod CursorMut
-pub mod CursorOwning
-pub mod Iter
-pub mod IntoIter
 pub mod ListedValues

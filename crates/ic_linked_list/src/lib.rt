@@ -1,7 +1,7 @@
 //! A doubly linked list over any table with two neighbors in an entry.
 //!
 //! Each operation takes the table of the link field. Linking takes no memory, and one object can be in lists of
-//! several fields.
+//! several fields. An object leaves from the middle by its reference. [`Chain`] has all calls.
 //!
 //! ```text
 //! let mut links = linked_list::LinkOps::new(rt.alloc());
@@ -10,41 +10,37 @@
 //! list.push_back(&mut links, first)?;
 //! list.push_back(&mut links, second)?;
 //! let taken = list.pop_front(&mut links); // the first
-//! ```
-//!
-//! A cursor is on a member, or at null, which stands between the last and the first. [`Cursor`] reads. [`CursorMut`]
-//! edits: it inserts, removes, replaces, splices and splits, each in O(1). [`CursorOwning`] edits too, and keeps its
-//! list, so it can stand in a structure; it is handed the table at each call.
-//!
-//! ```text
 //! let mut cursor = list.front_mut(&mut links);
-//! cursor.insert_after(object)?;    // behind the first
-//! let rest = cursor.split_after(); // the list ends with the first now
-//! ```
-//!
-//! [`Iter`] lends the objects, and [`IntoIter`] takes the members off, each from both ends.
-//!
-//! Who keeps lists in words of his own makes a list of what he keeps, makes one edit by the layer under these calls, and reads the list
-//! again. That layer asks only that the places which it writes are linked.
-//!
-//! ```text
-//! let mut list: LinkedList<Job> = LinkedList::from_ends(first, last);
-//! list.put_between(&mut links, last, place, None); // at the back
+//! cursor.insert_after(object)?;           // behind the second
 //! ```
 #![tactic(auto)]
 
-mod contains;
-mod cursors;
-mod edits;
-mod into_iter;
-mod iter;
-mod list;
-mod surgery;
-mod whole;
+mod kind;
 
-pub use cursors::{Cursor, CursorMut, CursorOwning};
+use ic_chain::Chain;
+pub use ic_chain::laws;
 pub use ic_cursors::Listing;
 pub use ic_link_ops::linked_list::{Link, LinkOps, LinkedListOps};
-pub use into_iter::IntoIter;
-pub use iter::Iter;
-pub use list::LinkedList;
+use ic_unsafe_ref::Objects;
+pub use kind::DoublyLinked;
+
+/// A doubly linked list of objects, of which it keeps the first and the last.
+///
+/// Good for queues, and for lists from whose middle objects leave. A clause sees the list's ends; which sequence it has is what the
+/// table shows for them.
+pub type LinkedList<T> = Chain<DoublyLinked, T>;
+
+/// A position in a list: on a member, or null, which stands between the last and the first.
+pub type Cursor<'a, T, L> = ic_cursors::Cursor<'a, LinkedList<T>, L>;
+
+/// A position in a list that it edits, with the list and the table of its links.
+pub type CursorMut<'a, T, L> = ic_cursors::CursorMut<'a, LinkedList<T>, L>;
+
+/// A position in a list that it keeps. Its calls take the table of the list's links each time.
+pub type CursorOwning<T> = ic_cursors::CursorOwning<LinkedList<T>>;
+
+/// The objects of a list that are not given out yet, from both ends.
+pub type Iter<'a, T, L, O = Objects<T>> = ic_chain::Iter<'a, DoublyLinked, T, L, O>;
+
+/// The members of a list that are not given out yet, from both ends. Each that is given out is unlinked.
+pub type IntoIter<'a, T, L> = ic_chain::IntoIter<'a, DoublyLinked, T, L>;

@@ -21,7 +21,7 @@ ghost use Rattle.ic_rbtree.specs.Tree.{root_of};
 
 use crate::{KeyAdapter, RBTree};
 use ic_link_ops::rbtree::RBTreeOps;
-use ic_link_ops::{End, LinkOps};
+use ic_link_ops::{LinkOps, PlaceWord};
 use ic_unsafe_ref::UnsafeRef;
 
 /// A position in a tree: on a member, or null, which stands between the last and the first.
@@ -39,7 +39,7 @@ impl<A: KeyAdapter> RBTree<A> {
         ensures links { links_of result ≡ links.now }
         ensures null { position result ≡ None }
     {
-        Cursor::new(self, links, End::of(None))
+        Cursor::new(self, links, PlaceWord::of(None))
     }
 
     /// A cursor on the object, which has to be a member.
@@ -55,7 +55,7 @@ impl<A: KeyAdapter> RBTree<A> {
         ensures position { position result ≡ Some object }
         ensures stands { Stands (Shows L.node) L.table (site_of result) }
     {
-        Cursor::new(self, links, End::of(Some(object.place())))
+        Cursor::new(self, links, PlaceWord::of(Some(object.place())))
     }
 
     /// A cursor on the first member, null in an empty tree. O(log n): it goes down to it, so it asks that the tree is shown.
@@ -67,7 +67,7 @@ impl<A: KeyAdapter> RBTree<A> {
         ensures position { (s : List Place) → Shows L.node (L.table links.now) (root_of self.now) s
             → position result ≡ first s }
     {
-        Cursor::new(self, links, End::of(self.first(links)))
+        Cursor::new(self, links, PlaceWord::of(self.first(links)))
     }
 
     /// A cursor on the last member, null in an empty tree. O(log n): it goes down to it, so it asks that the tree is shown.
@@ -79,7 +79,7 @@ impl<A: KeyAdapter> RBTree<A> {
         ensures position { (s : List Place) → Shows L.node (L.table links.now) (root_of self.now) s
             → position result ≡ last s }
     {
-        Cursor::new(self, links, End::of(self.last(links)))
+        Cursor::new(self, links, PlaceWord::of(self.last(links)))
     }
 }
 
@@ -97,7 +97,7 @@ impl<A: KeyAdapter> RBTree<A> {
         ensures borrows { IsBorrowed self.entry links.entry result }
         ensures null { position result ≡ None }
     {
-        CursorMut::new(self, links, End::of(None))
+        CursorMut::new(self, links, PlaceWord::of(None))
     }
 
     /// A cursor that edits, on the object, which has to be a member.
@@ -112,7 +112,7 @@ impl<A: KeyAdapter> RBTree<A> {
         ensures position { position result ≡ Some object }
         ensures stands { Stands (Shows L.node) L.table (site_of result) }
     {
-        let current = End::of(Some(object.place()));
+        let current = PlaceWord::of(Some(object.place()));
         CursorMut::new(self, links, current)
     }
 
@@ -124,7 +124,7 @@ impl<A: KeyAdapter> RBTree<A> {
         ensures position { (s : List Place) → Shows L.node (L.table links.old) (root_of self.old) s
             → position result ≡ first s }
     {
-        let current = End::of(self.first(&*links));
+        let current = PlaceWord::of(self.first(&*links));
         CursorMut::new(self, links, current)
     }
 
@@ -136,7 +136,7 @@ impl<A: KeyAdapter> RBTree<A> {
         ensures position { (s : List Place) → Shows L.node (L.table links.old) (root_of self.old) s
             → position result ≡ last s }
     {
-        let current = End::of(self.last(&*links));
+        let current = PlaceWord::of(self.last(&*links));
         CursorMut::new(self, links, current)
     }
 }
@@ -154,7 +154,7 @@ impl<A: KeyAdapter> RBTree<A> {
         ensures tree { tree_of result ≡ self }
         ensures null { position result ≡ None }
     {
-        CursorOwning::new(self, End::of(None))
+        CursorOwning::new(self, PlaceWord::of(None))
     }
 
     /// A cursor that keeps the tree, on the object, which has to be a member.
@@ -170,7 +170,7 @@ impl<A: KeyAdapter> RBTree<A> {
         ensures stands { Stands (Shows L.node) L.table (site_of links.now result) }
     {
         let _ = links;
-        CursorOwning::new(self, End::of(Some(object.place())))
+        CursorOwning::new(self, PlaceWord::of(Some(object.place())))
     }
 
     /// A cursor that keeps the tree, on the first member, null in an empty tree. O(log n): it asks that the tree is shown.
@@ -181,7 +181,7 @@ impl<A: KeyAdapter> RBTree<A> {
         ensures position { (s : List Place) → Shows L.node (L.table links.now) (root_of self) s
             → position result ≡ first s }
     {
-        let at = End::of(self.first(links));
+        let at = PlaceWord::of(self.first(links));
         CursorOwning::new(self, at)
     }
 
@@ -193,7 +193,7 @@ impl<A: KeyAdapter> RBTree<A> {
         ensures position { (s : List Place) → Shows L.node (L.table links.now) (root_of self) s
             → position result ≡ last s }
     {
-        let at = End::of(self.last(links));
+        let at = PlaceWord::of(self.last(links));
         CursorOwning::new(self, at)
     }
 }

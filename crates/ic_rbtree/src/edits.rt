@@ -19,9 +19,9 @@ ghost use Rattle.ic_rbtree.specs.Tree.{root_of, adapter_of};
 use crate::linking::{insert, remove, replace};
 use crate::steps::{end_on, hole_beside, step};
 use crate::{KeyAdapter, RBTree};
-use ic_cursors::{Collection, Kind, TwoWay};
+use ic_cursors::{Bidirectional, Collection, CursorOps};
 use ic_link_ops::rbtree::RBTreeOps;
-use ic_link_ops::{End, LinkOps, Side};
+use ic_link_ops::{LinkOps, PlaceWord, Side};
 use ic_unsafe_ref::{Place, UnsafeRef};
 
 impl<A: KeyAdapter> RBTree<A> {
@@ -65,7 +65,7 @@ impl<A: KeyAdapter> RBTree<A> {
     fn insert_beside<L: RBTreeOps>(
         &mut self,
         links: &mut L,
-        at: &End,
+        at: &PlaceWord,
         side: Side,
         object: Place,
     ) -> bool
@@ -83,9 +83,9 @@ impl<A: KeyAdapter> RBTree<A> {
 impl<A: KeyAdapter> Collection for RBTree<A> {
     type Object = A::Value;
 
-    type Position = End;
+    type Position = PlaceWord;
 
-    type Head = End;
+    type Head = PlaceWord;
 
     ghost head_of = { root_of };
 
@@ -94,40 +94,40 @@ impl<A: KeyAdapter> Collection for RBTree<A> {
     ghost null_of = { λ tree. None };
 
     #[inline]
-    fn null_position(&self) -> End {
-        End::of(None)
+    fn null_position(&self) -> PlaceWord {
+        PlaceWord::of(None)
     }
 }
 
-impl<A: KeyAdapter, L: RBTreeOps> Kind<L> for RBTree<A> {
+impl<A: KeyAdapter, L: RBTreeOps> CursorOps<L> for RBTree<A> {
     ghost Shows = { red_black.Shows L.node };
 
     ghost StandsAt = { λ links tree at. Stands (red_black.Shows L.node) L.table (site links (root_of tree) at) };
 
     #[inline]
-    fn next_of(&self, links: &L, at: &End) -> End {
-        End::of(step(links, self.root.get(), at.get(), Side::Right))
+    fn next_of(&self, links: &L, at: &PlaceWord) -> PlaceWord {
+        PlaceWord::of(step(links, self.root.get(), at.get(), Side::Right))
     }
 
     #[inline]
-    fn insert_after_at(&mut self, links: &mut L, at: &mut End, object: Place) -> bool {
+    fn insert_after_at(&mut self, links: &mut L, at: &mut PlaceWord, object: Place) -> bool {
         self.insert_beside(links, at, Side::Right, object)
     }
 }
 
-impl<A: KeyAdapter, L: RBTreeOps> TwoWay<L> for RBTree<A> {
+impl<A: KeyAdapter, L: RBTreeOps> Bidirectional<L> for RBTree<A> {
     #[inline]
-    fn prev_of(&self, links: &L, at: &End) -> End {
-        End::of(step(links, self.root.get(), at.get(), Side::Left))
+    fn prev_of(&self, links: &L, at: &PlaceWord) -> PlaceWord {
+        PlaceWord::of(step(links, self.root.get(), at.get(), Side::Left))
     }
 
     #[inline]
-    fn insert_before_at(&mut self, links: &mut L, at: &mut End, object: Place) -> bool {
+    fn insert_before_at(&mut self, links: &mut L, at: &mut PlaceWord, object: Place) -> bool {
         self.insert_beside(links, at, Side::Left, object)
     }
 
     #[inline]
-    fn remove_at(&mut self, links: &mut L, at: &mut End) -> Option<Place> {
+    fn remove_at(&mut self, links: &mut L, at: &mut PlaceWord) -> Option<Place> {
         let place = at.get()?;
         *at = self.next_of(&*links, at);
         remove(links, &mut self.root, place);
@@ -135,14 +135,14 @@ impl<A: KeyAdapter, L: RBTreeOps> TwoWay<L> for RBTree<A> {
     }
 
     #[inline]
-    fn replace_at(&mut self, links: &mut L, at: &mut End, object: Place) -> bool {
+    fn replace_at(&mut self, links: &mut L, at: &mut PlaceWord, object: Place) -> bool {
         let Some(out) = at.get() else {
             return false;
         };
         if !replace(links, &mut self.root, out, object) {
             return false;
         }
-        *at = End::of(Some(object));
+        *at = PlaceWord::of(Some(object));
         true
     }
 }

@@ -23,7 +23,7 @@ use crate::repair::writers::{adopt, set_child};
 use crate::steps::outermost;
 use crate::{KeyAdapter, RBTree};
 use ic_link_ops::rbtree::RBTreeOps;
-use ic_link_ops::{End, LinkOps, Side};
+use ic_link_ops::{LinkOps, PlaceWord, Side};
 use ic_unsafe_ref::{Place, UnsafeRef};
 use std::marker::PhantomData;
 
@@ -32,8 +32,8 @@ use std::marker::PhantomData;
 /// Each member that is given out is unlinked, and no other. When the two ends meet, both are exhausted. If the walk is
 /// dropped, the rest stays linked: call [`finish`](Self::finish) to unlink it.
 pub struct IntoIter<'a, A, L> {
-    front: End,
-    back: End,
+    front: PlaceWord,
+    back: PlaceWord,
     links: &'a mut L,
     of: PhantomData<A>,
 }
@@ -131,8 +131,8 @@ impl<A: KeyAdapter> RBTree<A> {
         let front = self.first(&*links);
         let back = self.last(&*links);
         IntoIter {
-            front: End::of(front),
-            back: End::of(back),
+            front: PlaceWord::of(front),
+            back: PlaceWord::of(back),
             links,
             of: PhantomData,
         }
@@ -142,7 +142,12 @@ impl<A: KeyAdapter> RBTree<A> {
 // Takes the member at the near end off, the outermost one on this side, and unlinks it.
 //
 // It has no child on this side, and its other child comes up in its place. Colors stay, and nobody keeps a root.
-fn take_end<L: RBTreeOps>(links: &mut L, near: &mut End, far: &mut End, side: Side) -> Option<Place>
+fn take_end<L: RBTreeOps>(
+    links: &mut L,
+    near: &mut PlaceWord,
+    far: &mut PlaceWord,
+    side: Side,
+) -> Option<Place>
     requires shown { (w : List Place) × ShowsFrom L.node side (L.table links.old) near.old far.old w }
     ensures answer { (w : List Place) → ShowsFrom L.node side (L.table links.old) near.old far.old w
         → result ≡ end_on side w }
@@ -159,8 +164,8 @@ fn take_end<L: RBTreeOps>(links: &mut L, near: &mut End, far: &mut End, side: Si
     adopt(links, below, parent);
     hang(links, parent, side, below);
     let next = outer(&*links, below, parent, side);
-    *near = End::of(next);
-    *far = End::of(next.and(far.get()));
+    *near = PlaceWord::of(next);
+    *far = PlaceWord::of(next.and(far.get()));
     links.release_link(place);
     Some(place)
 }

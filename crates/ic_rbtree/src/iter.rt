@@ -16,9 +16,9 @@ ghost use Rattle.ic_rbtree.specs.Tree.{root_of};
 
 use crate::readings::is_at;
 use crate::{KeyAdapter, RBTree};
-use ic_cursors::{Kind, Listing, TwoWay};
+use ic_cursors::{Bidirectional, CursorOps, Listing};
 use ic_link_ops::rbtree::RBTreeOps;
-use ic_link_ops::{End, LinkOps};
+use ic_link_ops::{LinkOps, PlaceWord};
 use ic_unsafe_ref::{Objects, Place, Values};
 use std::alloc::AllocError;
 use std::marker::PhantomData;
@@ -73,7 +73,10 @@ impl<'a, A: KeyAdapter, L: RBTreeOps, O: Values<A::Value>> Iterator for Iter<'a,
             self.head = None;
             self.tail = None;
         } else {
-            self.head = self.tree.next_of(self.links, &End::of(Some(place))).get();
+            self.head = self
+                .tree
+                .next_of(self.links, &PlaceWord::of(Some(place)))
+                .get();
         }
         Some(value)
     }
@@ -96,7 +99,10 @@ impl<'a, A: KeyAdapter, L: RBTreeOps, O: Values<A::Value>> DoubleEndedIterator
             self.head = None;
             self.tail = None;
         } else {
-            self.tail = self.tree.prev_of(self.links, &End::of(Some(place))).get();
+            self.tail = self
+                .tree
+                .prev_of(self.links, &PlaceWord::of(Some(place)))
+                .get();
         }
         Some(value)
     }

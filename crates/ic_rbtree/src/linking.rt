@@ -23,14 +23,14 @@ use crate::repair::insertion::attach;
 use crate::repair::removal::unlink;
 use crate::repair::writers::take_place;
 use ic_link_ops::rbtree::RBTreeOps;
-use ic_link_ops::{End, LinkOps, Side};
+use ic_link_ops::{LinkOps, PlaceWord, Side};
 use ic_unsafe_ref::{Place, Values};
 
 // Links the place as a new member on this side of `parent`, which has no child there, and says whether the link could be
 // had. With no parent the tree is empty.
 pub(crate) fn insert<L: RBTreeOps>(
     links: &mut L,
-    root: &mut End,
+    root: &mut PlaceWord,
     parent: Option<Place>,
     side: Side,
     place: Place,
@@ -57,7 +57,7 @@ pub(crate) fn insert<L: RBTreeOps>(
 #[inline]
 pub(crate) fn insert_in_order<L: RBTreeOps, V, P: Probe<V>, O: Values<V>>(
     links: &mut L,
-    root: &mut End,
+    root: &mut PlaceWord,
     objects: &O,
     probe: &mut P,
     object: Place,
@@ -84,7 +84,7 @@ pub(crate) fn insert_in_order<L: RBTreeOps, V, P: Probe<V>, O: Values<V>>(
 }
 
 // Takes the member off the tree, and unlinks it.
-pub(crate) fn remove<L: RBTreeOps>(links: &mut L, root: &mut End, place: Place)
+pub(crate) fn remove<L: RBTreeOps>(links: &mut L, root: &mut PlaceWord, place: Place)
     requires member { (gap : Cut) × Shows L.node (L.table links.old) root.old (join gap) × IsBefore gap (Some place) }
     ensures removed { (gap : Cut) → Shows L.node (L.table links.old) root.old (join gap) → IsBefore gap (Some place)
         → Removes (Shows L.node) (L.table links.old) (L.table links.new) root.new gap }
@@ -95,7 +95,12 @@ pub(crate) fn remove<L: RBTreeOps>(links: &mut L, root: &mut End, place: Place)
 }
 
 // In place of a member stands another place, and the member is unlinked. It says whether the link could be had.
-pub(crate) fn replace<L: RBTreeOps>(links: &mut L, root: &mut End, place: Place, new: Place) -> bool
+pub(crate) fn replace<L: RBTreeOps>(
+    links: &mut L,
+    root: &mut PlaceWord,
+    place: Place,
+    new: Place,
+) -> bool
     requires covered { IsCovered (L.table links.old) new }
     requires member { (gap : Cut) × Shows L.node (L.table links.old) root.old (join gap) × IsBefore gap (Some place) }
     ensures replaced { (gap : Cut) → Shows L.node (L.table links.old) root.old (join gap) → IsBefore gap (Some place)

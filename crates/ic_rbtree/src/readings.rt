@@ -12,7 +12,7 @@ ghost use Rattle.ic_rbtree.specs.Steps.{IsSideOf};
 ghost use Rattle.ic_rbtree.specs.Closed.{IsNode};
 
 use crate::nodes::Nodes;
-use ic_link_ops::{Color, End, Side};
+use ic_link_ops::{Color, PlaceWord, Side};
 use ic_unsafe_ref::Place;
 
 pub(crate) fn other(side: Side) -> Side
@@ -70,8 +70,8 @@ pub(crate) fn only_child<N: Nodes>(links: &N, place: Place) -> Option<Place>
 {
     // as a word, which both ways lead to
     let only = match links.left(place) {
-        Some(left) => End::of(Some(left)),
-        None => End::of(links.right(place)),
+        Some(left) => PlaceWord::of(Some(left)),
+        None => PlaceWord::of(links.right(place)),
     };
     only.get()
 }

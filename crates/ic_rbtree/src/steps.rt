@@ -14,7 +14,7 @@ ghost use Rattle.ic_rbtree.specs.Sides.{IsBeside, nearest, StandsAt, IsOutermost
 
 use crate::readings::{child, is_at, other};
 use ic_link_ops::rbtree::RBTreeOps;
-use ic_link_ops::{End, Side};
+use ic_link_ops::{PlaceWord, Side};
 use ic_unsafe_ref::Place;
 
 // The member at or below a place that stands outermost on a side.
@@ -81,12 +81,12 @@ pub(crate) fn step<L: RBTreeOps>(
         → IsBeside (across side) gap result }
 {
     let Some(place) = current else {
-        return End::of(end_from_null(links, root, other(side))).get();
+        return PlaceWord::of(end_from_null(links, root, other(side))).get();
     };
     // as a word, which all ways lead to
     match child(links, place, side) {
-        Some(below) => End::of(Some(outermost(links, below, other(side)))).get(),
-        None => End::of(above_on(links, place, side)).get(),
+        Some(below) => PlaceWord::of(Some(outermost(links, below, other(side)))).get(),
+        None => PlaceWord::of(above_on(links, place, side)).get(),
     }
 }
 

@@ -25,14 +25,14 @@ use crate::repair::insertion::attach;
 use crate::repair::removal::unlink;
 use crate::repair::writers::take_place;
 use crate::within::{descend_within, step_within};
-use ic_link_ops::{End, Side};
+use ic_link_ops::{PlaceWord, Side};
 use ic_unsafe_ref::{Place, Values};
 
 /// A red-black tree of objects in an order, of which it keeps the root, and the adapter that finds their keys.
 ///
 /// Good for objects in order that come and leave anywhere. Which sequence it has is what the table shows for its root.
 pub struct RBTree<A> {
-    pub(crate) root: End,
+    pub(crate) root: PlaceWord,
     pub(crate) adapter: A,
 }
 
@@ -72,7 +72,7 @@ impl<A> RBTree<A> {
         ensures adapter { adapter_of result ≡ adapter }
     {
         RBTree {
-            root: End::of(root),
+            root: PlaceWord::of(root),
             adapter,
         }
     }

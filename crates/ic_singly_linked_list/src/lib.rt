@@ -1,50 +1,46 @@
-//! A singly linked list over any table whose entries name what stands behind.
+//! A singly linked list over any table with the next place in an entry.
 //!
 //! Each operation takes the table of the link field. Linking takes no memory, and one object can be in lists of
-//! several fields. An entry is one word, and so is the list.
+//! several fields. Entries do not lead back, so members are inserted and removed behind a known one. [`Chain`] has all calls.
 //!
 //! ```text
 //! let mut links = singly_linked_list::LinkOps::new(rt.alloc());
 //! links.cover(2)?;
 //! let mut list = SinglyLinkedList::new();
-//! list.push_front(&mut links, first)?;
 //! list.push_front(&mut links, second)?;
-//! let taken = list.pop_front(&mut links); // the second
-//! ```
-//!
-//! A cursor is on a member, or at null, which stands in front of the first. [`Cursor`] reads. [`CursorMut`] edits what is
-//! behind it: it inserts, removes, replaces and splits in O(1). [`CursorOwning`] edits too, and keeps its list, so it can stand
-//! in a structure; it is handed the table at each call.
-//!
-//! ```text
+//! list.push_front(&mut links, first)?;
 //! let mut cursor = list.front_mut(&mut links);
-//! cursor.insert_after(object)?;         // behind the first
-//! let removed = cursor.remove_next();   // and taken off again
-//! ```
-//!
-//! [`Iter`] lends the objects, and [`IntoIter`] takes the members off.
-//!
-//! Who keeps lists in words of his own makes a list of what he keeps, makes one edit by the layer under these calls, and reads the list
-//! again. That layer asks only that the places which it writes are linked.
-//!
-//! ```text
-//! let mut list: SinglyLinkedList<Job> = SinglyLinkedList::from_front(first);
-//! list.put_between(&mut links, None, place, first); // at the front
+//! let removed = cursor.remove_next();        // the second, and the cursor stays on the first
+//! let taken = list.pop_front(&mut links);    // the first
 //! ```
 #![tactic(auto)]
 
-mod contains;
-mod cursors;
-mod edits;
-mod into_iter;
-mod iter;
-mod list;
-mod surgery;
-mod whole;
+mod kind;
 
-pub use cursors::{Cursor, CursorMut, CursorOwning};
+use ic_chain::Chain;
+pub use ic_chain::laws;
 pub use ic_cursors::Listing;
 pub use ic_link_ops::singly_linked_list::{Link, LinkOps, SinglyLinkedListOps};
-pub use into_iter::IntoIter;
-pub use iter::Iter;
-pub use list::SinglyLinkedList;
+use ic_unsafe_ref::Objects;
+pub use kind::{NoTail, SinglyLinked};
+
+/// A singly linked list of objects, of which it keeps the first.
+///
+/// Good for stacks and free lists, and where an entry should be one word. A clause sees its first member; which sequence it has
+/// is what the table shows for that.
+pub type SinglyLinkedList<T> = Chain<SinglyLinked, T>;
+
+/// A position in a list: on a member, or null, which stands in front of the first.
+pub type Cursor<'a, T, L> = ic_cursors::Cursor<'a, SinglyLinkedList<T>, L>;
+
+/// A position in a list that it edits, with the list and the table of its links.
+pub type CursorMut<'a, T, L> = ic_cursors::CursorMut<'a, SinglyLinkedList<T>, L>;
+
+/// A position in a list that it keeps. Its calls take the table of the list's links each time.
+pub type CursorOwning<T> = ic_cursors::CursorOwning<SinglyLinkedList<T>>;
+
+/// The objects of a list that are not given out yet, from the front.
+pub type Iter<'a, T, L, O = Objects<T>> = ic_chain::Iter<'a, SinglyLinked, T, L, O>;
+
+/// The members of a list that are not given out yet, from the front. Each that is given out is unlinked.
+pub type IntoIter<'a, T, L> = ic_chain::IntoIter<'a, SinglyLinked, T, L>;

@@ -1,8 +1,1 @@
 pub mod Position
-pub mod Cursor
-pub mod CursorMut
-pub mod CursorOwning
-pub mod Iter
-pub mod IntoIter
-pub mod Turned
-pub mod PlainLists

@@ -2,7 +2,8 @@
 //!
 //! Each operation takes the table of the link field. Linking takes no memory, and one object can be in lists of
 //! several fields. An entry tells a neighbor only to who knows the other, so there is no call that takes a member off by
-//! its reference alone, and a list can be turned round by its two ends.
+//! its reference alone, and a list can be turned round by its two ends. A cursor keeps the place behind it, by which an entry tells
+//! the one in front. [`Chain`] has all calls.
 //!
 //! ```text
 //! let mut links = xor_linked_list::LinkOps::new(rt.alloc());
@@ -10,44 +11,40 @@
 //! let mut list = XorLinkedList::new();
 //! list.push_back(&mut links, first)?;
 //! list.push_back(&mut links, second)?;
-//! let taken = list.pop_front(&mut links); // the first
-//! ```
-//!
-//! A cursor is on a member, or at null, which stands between the last and the first, and knows the place behind it, by
-//! which an entry tells the one in front. [`Cursor`] reads. [`CursorMut`] edits: it inserts, removes, replaces, splices and
-//! splits, each in O(1). [`CursorOwning`] edits too, and keeps its list, so it can stand in a structure; it is handed the
-//! table at each call.
-//!
-//! ```text
-//! let mut cursor = list.front_mut(&mut links);
-//! cursor.insert_after(object)?;    // behind the first
-//! let rest = cursor.split_after(); // the list ends with the first now
-//! ```
-//!
-//! [`Iter`] lends the objects, and [`IntoIter`] takes the members off, each from both ends.
-//!
-//! Who keeps lists in words of his own makes a list of what he keeps, makes one edit by the layer under these calls, and reads the list
-//! again. That layer asks only that the places which it writes are linked.
-//!
-//! ```text
-//! let mut list: XorLinkedList<Job> = XorLinkedList::from_ends(first, last);
-//! list.put_between(&mut links, last, place, None); // at the back
+//! list.reverse();
+//! let taken = list.pop_front(&mut links); // the second
 //! ```
 #![tactic(auto)]
 
-mod contains;
-mod cursors;
-mod edits;
-mod into_iter;
-mod iter;
-mod list;
+mod kind;
+pub mod laws;
 mod position;
-mod surgery;
-mod whole;
 
-pub use cursors::{Cursor, CursorMut, CursorOwning};
+use ic_chain::Chain;
 pub use ic_cursors::Listing;
 pub use ic_link_ops::xor_linked_list::{Link, LinkOps, XorLinkedListOps};
-pub use into_iter::IntoIter;
-pub use iter::Iter;
-pub use list::XorLinkedList;
+use ic_unsafe_ref::Objects;
+pub use kind::XorLinked;
+pub use position::PositionWithNext;
+
+/// An XOR linked list of objects, of which it keeps the two ends.
+///
+/// Good for queues, and for lists that are turned round: `reverse` is O(1). An entry is one word, so a member is
+/// found by a walk alone, and leaves at a cursor. A clause sees the list's ends; which sequence it has is what the table
+/// shows for them.
+pub type XorLinkedList<T> = Chain<XorLinked, T>;
+
+/// A position in a list: on a member, or null, which stands between the last and the first. It knows the place behind it.
+pub type Cursor<'a, T, L> = ic_cursors::Cursor<'a, XorLinkedList<T>, L>;
+
+/// A position in a list that it edits, with the list and the table of its links. It knows the place behind it.
+pub type CursorMut<'a, T, L> = ic_cursors::CursorMut<'a, XorLinkedList<T>, L>;
+
+/// A position in a list that it keeps, with the place behind it. Its calls take the table of the list's links each time.
+pub type CursorOwning<T> = ic_cursors::CursorOwning<XorLinkedList<T>>;
+
+/// The objects of a list that are not given out yet, from both ends.
+pub type Iter<'a, T, L, O = Objects<T>> = ic_chain::Iter<'a, XorLinked, T, L, O>;
+
+/// The members of a list that are not given out yet, from both ends. Each that is given out is unlinked.
+pub type IntoIter<'a, T, L> = ic_chain::IntoIter<'a, XorLinked, T, L>;

@@ -5,6 +5,7 @@
 //! | `unsafe_ref` | objects by place, and references to them |
 //! | `pool` | objects with the tables of their links: `Pool`, which makes room before it places |
 //! | `link_ops` | tables of links, and what collections ask of them |
+//! | `chain` | the list of every kind |
 //! | `linked_list` | the doubly linked list |
 //! | `singly_linked_list` | the singly linked list |
 //! | `xor_linked_list` | the XOR list: both neighbors in one word |
@@ -22,6 +23,7 @@ pub mod singly_linked_list;
 pub mod xor_linked_list;
 
 pub use ic_atomic as atomic;
+pub use ic_chain as chain;
 pub use ic_link_ops as link_ops;
 pub use ic_link_ops::LinkOps;
 pub use ic_link_ops::linked_list::Link as LinkedListLink;

@@ -1,8 +1,7 @@
 //! The doubly linked list, with tables whose places are claimed.
 
 pub use ic_atomic::linked_list::AtomicLinkOps;
-pub use ic_laws::linked_list as laws;
 pub use ic_linked_list::{
-    Cursor, CursorMut, CursorOwning, IntoIter, Iter, Link, LinkOps, LinkedList, LinkedListOps,
-    Listing,
+    Cursor, CursorMut, CursorOwning, DoublyLinked, IntoIter, Iter, Link, LinkOps, LinkedList,
+    LinkedListOps, Listing, laws,
 };

@@ -19,7 +19,7 @@ use Rattle.ic_link_ops.specs.declared.one_word.OneWord.{OneWord}
 use Rattle.ic_link_ops.specs.declared.table.PlainTable.{PlainTable}
 use Rattle.ic_link_ops.specs.OneWord.{no_word, has_word}
 use Rattle.ic_link_ops.specs.Sequences.{first, IsAbsent, IsMember}
-use Rattle.ic_link_ops.specs.SinglyLinkedList.{Shows}
+use Rattle.ic_link_ops.specs.SinglyLinkedList.{Front, list_from, Shows}
 use Rattle.ic_link_ops.specs.Tables.{IsCovered, IsUnlinked, LinksAlso, Unlinks, KeepsBeside}
 use Rattle.ic_link_ops.proofs.CollectionLaws.{IsKind, kept_shown}
 use Rattle.ic_link_ops.proofs.PlacedValues.{all_beside}
@@ -33,11 +33,11 @@ use Rattle.pool_uses.specs.KeptSlots.{is_linked, successor, plain_table, value_i
 use Rattle.pool_uses.specs.Slots.{Naming, named, is_given, named_in, given_in, is_last, IsUsable, HasVacant, IsUnchanged, Inserts, Removes}
 use Rattle.ic_unsafe_ref.proofs.Counting.{fewer_keys, some_key}
 
-lists : {K : Type 0} → IsKind {E = Link (OneWord K) ⊤} (Shows successor) is_linked None
+lists : {K : Type 0} → IsKind {E = Link (OneWord K) ⊤} (Shows successor) is_linked (list_from None)
 lists = singly_lists (λ e. refl)
 
 module _ {T K A : Type 0} where
-  module _ {objects : Objects (Slot T)} {links : PlainTable (OneWord K) A ⊤} {vacant : Option Place} {members : List Place} {len : ℕ} (k : Keeps objects links vacant members len) where
+  module _ {objects : Objects (Slot T)} {links : PlainTable (OneWord K) A ⊤} {vacant : Front} {members : List Place} {len : ℕ} (k : Keeps objects links vacant members len) where
     -- FEWER VALUES than slots
     count_keeps : len ≤ map.len objects.values
     count_keeps = omega (arith, k.count, fewer_keys (map.len k.values) k.values objects.values refl (λ i is. placed (map.get objects.values i) (ap is_some (sym (k.are i)) ∙ is))) where
@@ -59,7 +59,7 @@ module _ {T K A : Type 0} where
     }
 
     -- A VACANT SLOT goes to the front of the list
-    keeps_pushed : {more : PlainTable (OneWord K) A ⊤} {front : Option Place} {p : Place} → IsUsable (object_at objects p) → is_placed objects p ≡ true
+    keeps_pushed : {more : PlainTable (OneWord K) A ⊤} {front : Front} {p : Place} → IsUsable (object_at objects p) → is_placed objects p ≡ true
         → LinksAlso is_linked (plain_table links) (plain_table more) p → (plain_table more).extent ≡ (plain_table links).extent
         → ((s : List Place) → Shows successor (plain_table links) vacant s → Shows successor (plain_table more) front (p ∷ s)) → Keeps objects more front (p ∷ members) len
     keeps_pushed {p = p} can placed also extent pushed = record {
@@ -80,7 +80,7 @@ module _ {T K A : Type 0} where
       no_value (Some slot) can = can.0
 
     -- ONE SLOT CHANGES, which is linked nowhere then
-    module _ {new : Objects (Slot T)} {p : Place} {slot : Slot T} (puts : Puts objects new p slot) {after : PlainTable (OneWord K) A ⊤} {front : Option Place} {after_members : List Place}
+    module _ {new : Objects (Slot T)} {p : Place} {slot : Slot T} (puts : Puts objects new p slot) {after : PlainTable (OneWord K) A ⊤} {front : Front} {after_members : List Place}
         (shown : Shows successor (plain_table after) front after_members) (usable : AllByRecursion (λ q. IsUsable (object_at objects q)) after_members) (free : IsUnlinked is_linked (plain_table after) p)
         (same : (q : Place) → q ≢ p → is_linked ((plain_table after).entry q) ≡ is_linked ((plain_table links).entry q)) (pooled : IsPooled is_linked new (plain_table after))
         (taken : IsSome slot.value → IsTaken (Some slot)) {count : ℕ} (values : map.FinMap nat_cmp T) (beside : (i : ℕ) → i ≢ index_of p → map.get values i ≡ map.get k.values i)
@@ -116,7 +116,7 @@ module _ {T K A : Type 0} where
         (pooled_placed k.pooled grows places room) (λ is. let never : false ≡ true = is in absurd (cc)) k.values (λ i n. refl) (k.are (index_of p) ∙ ap value_in places.vacant) k.count
 
     -- THE FIRST VACANT SLOT is filled
-    keeps_filled : {after : PlainTable (OneWord K) A ⊤} {front : Option Place} {new : Objects (Slot T)} {p : Place} {was : Slot T} {value : T} → Some p ≡ first members
+    keeps_filled : {after : PlainTable (OneWord K) A ⊤} {front : Front} {new : Objects (Slot T)} {p : Place} {was : Slot T} {value : T} → Some p ≡ first members
         → ((s : List Place) → Shows successor (plain_table links) vacant s → Shows successor (plain_table after) front (drop 1 s)) → Unlinks is_linked (plain_table links) (plain_table after) p
         → (plain_table after).extent ≡ (plain_table links).extent → object_at objects p ≡ Some was
         → Puts objects new p (record was { value = Some value }) → Keeps new after front (drop 1 members) (len + 1)
@@ -151,10 +151,10 @@ module _ {T K A : Type 0} where
 
 -- AT FIRST
 pub kept_none : {T K A : Type 0} (objects : Objects (Slot T)) (links : PlainTable (OneWord K) A ⊤) → objects.values ≡ map.empty → ((p : Place) → object_at objects p ≡ None)
-    → (plain_table links).extent.places ≡ 0 → IsKept objects links None 0
+    → (plain_table links).extent.places ≡ 0 → IsKept objects links (list_from None) 0
 kept_none {T} objects links none vacant no_links =
     let pooled = pooled_first has_word no_word refl links no_links vacant in
-    let keeps : Keeps objects links None [] 0 = record {
+    let keeps : Keeps objects links (list_from None) [] 0 = record {
       shown = lists.nothing (plain_table links);
       usable = tt;
       pooled = pooled;
@@ -257,7 +257,7 @@ module _ {T : Type 0} where
       vacant = left;
     }
 
-module _ {T K A : Type 0} {objects : Objects (Slot T)} {links : PlainTable (OneWord K) A ⊤} {vacant : Option Place} {len : ℕ} (k : IsKept objects links vacant len) where
+module _ {T K A : Type 0} {objects : Objects (Slot T)} {links : PlainTable (OneWord K) A ⊤} {vacant : Front} {len : ℕ} (k : IsKept objects links vacant len) where
   abbrev pub members : List Place
   members = k.members
 
@@ -273,9 +273,9 @@ module _ {T K A : Type 0} {objects : Objects (Slot T)} {links : PlainTable (OneW
     by (p ∷ s) member = refl
 
   -- AND WHERE IT IS NOT EMPTY, a slot is vacant
-  pub vacant_first : (is_empty : Bool) → IsTrue is_empty ↔ (vacant ≡ None) → is_empty ≡ false → HasVacant (naming_of objects len)
+  pub vacant_first : (is_empty : Bool) → IsTrue is_empty ↔ (vacant.head ≡ None) → is_empty ≡ false → HasVacant (naming_of objects len)
   vacant_first is_empty tells off = by members k.keeps.shown.head k.keeps.usable where
-    by : (s : List Place) → vacant ≡ first s → AllByRecursion (λ p. IsUsable (object_at objects p)) s → HasVacant (naming_of objects len)
+    by : (s : List Place) → vacant.head ≡ first s → AllByRecursion (λ p. IsUsable (object_at objects p)) s → HasVacant (naming_of objects len)
     by [] none usable = absurd (true≢false (sym (tells.1 none) ∙ off))
     by (p ∷ s) head usable = (p, usable.0)
 
@@ -288,7 +288,7 @@ module _ {T K A : Type 0} {objects : Objects (Slot T)} {links : PlainTable (OneW
   listed_pushed new {p} same q can out = k.listed q (subst IsUsable (same q out.0) can) out.1
 
   -- A NEW SLOT, with no value, goes there
-  pub kept_placed : (grown : PlainTable (OneWord K) A ⊤) {more : PlainTable (OneWord K) A ⊤} {front : Option Place} {new : Objects (Slot T)} {p : Place} → Grows (plain_table links) (plain_table grown)
+  pub kept_placed : (grown : PlainTable (OneWord K) A ⊤) {more : PlainTable (OneWord K) A ⊤} {front : Front} {new : Objects (Slot T)} {p : Place} → Grows (plain_table links) (plain_table grown)
       → Places objects new p (record { generation = 0; value = None }) → IsCovered (plain_table grown) p → LinksAlso is_linked (plain_table grown) (plain_table more) p
       → KeepsBeside (plain_table grown) (plain_table more) (p ∷ members) → ((s : List Place) → Shows successor (plain_table grown) vacant s → Shows successor (plain_table more) front (p ∷ s))
       → IsKept new more front len
@@ -300,7 +300,7 @@ module _ {T K A : Type 0} {objects : Objects (Slot T)} {links : PlainTable (OneW
       }
 
   -- THE FIRST VACANT SLOT is taken off the list and filled
-  module _ (after : PlainTable (OneWord K) A ⊤) (front : Option Place) (value : T) {new : Objects (Slot T)} {p : Place} {g : ℕ} (is : Some p ≡ first members)
+  module _ (after : PlainTable (OneWord K) A ⊤) (front : Front) (value : T) {new : Objects (Slot T)} {p : Place} {g : ℕ} (is : Some p ≡ first members)
       (popped : (s : List Place) → Shows successor (plain_table links) vacant s → Shows successor (plain_table after) front (drop 1 s)) (off : Unlinks is_linked (plain_table links) (plain_table after) p)
       (extent : (plain_table after).extent ≡ (plain_table links).extent)
       (fills : (s : Slot T) → object_at objects p ≡ Some s → (g ≡ s.generation) × (new ≡ with_object objects p (record s { value = Some value }))) where
@@ -367,7 +367,7 @@ module _ {T K A : Type 0} {objects : Objects (Slot T)} {links : PlainTable (OneW
       ];
     }
 
-    pub kept_vacated : h.generation + 1 ≢ 18446744073709551615 → {more : PlainTable (OneWord K) A ⊤} {front : Option Place} → LinksAlso is_linked (plain_table links) (plain_table more) h.place
+    pub kept_vacated : h.generation + 1 ≢ 18446744073709551615 → {more : PlainTable (OneWord K) A ⊤} {front : Front} → LinksAlso is_linked (plain_table links) (plain_table more) h.place
         → KeepsBeside (plain_table links) (plain_table more) (h.place ∷ members) → ((s : List Place) → Shows successor (plain_table links) vacant s → Shows successor (plain_table more) front (h.place ∷ s))
         → IsKept new more front (len - 1)
     kept_vacated last also frame pushed = record {

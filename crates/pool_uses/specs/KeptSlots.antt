@@ -12,7 +12,7 @@ use Rattle.ic_link_ops.specs.OneWord.{no_word, has_word, next_word_of}
 use Rattle.ic_link_ops.specs.PlainTables.{linked_by, table}
 use Rattle.ic_link_ops.specs.Readings.{successor_of}
 use Rattle.ic_link_ops.specs.Sequences.{IsMember}
-use Rattle.ic_link_ops.specs.SinglyLinkedList.{Successor, Shows}
+use Rattle.ic_link_ops.specs.SinglyLinkedList.{Front, Successor, Shows}
 use Rattle.ic_link_ops.specs.Tables.{Table, IsLinked}
 use Rattle.ic_pool.specs.Pooled.{IsPooled}
 use Rattle.pool_uses.specs.declared.slots.Slot.{Slot}
@@ -46,7 +46,7 @@ naming_of objects len = record { slots = objects.values; count = len; is_full = 
 
 -- what slots keep within a call: the list has vacant slots that are not used up, a slot with a value is linked nowhere and not used up,
 -- and `len` is how many have one (`values`: by the index of their places)
-pub record Keeps {T K A : Type 0} (objects : Objects (Slot T)) (links : PlainTable (OneWord K) A ⊤) (vacant : Option Place) (members : List Place) (len : ℕ) : Type 0 where
+pub record Keeps {T K A : Type 0} (objects : Objects (Slot T)) (links : PlainTable (OneWord K) A ⊤) (vacant : Front) (members : List Place) (len : ℕ) : Type 0 where
   pub shown : Shows successor (plain_table links) vacant members
   pub usable : AllByRecursion (λ p. IsUsable (object_at objects p)) members
   pub pooled : IsPooled is_linked objects (plain_table links)
@@ -57,7 +57,7 @@ pub record Keeps {T K A : Type 0} (objects : Objects (Slot T)) (links : PlainTab
   pub count : len ≡ map.len values
 
 -- WHAT SLOTS KEEP: that, and each slot that is vacant and not used up is in the list
-pub record IsKept {T K A : Type 0} (objects : Objects (Slot T)) (links : PlainTable (OneWord K) A ⊤) (vacant : Option Place) (len : ℕ) : Type 0 where
+pub record IsKept {T K A : Type 0} (objects : Objects (Slot T)) (links : PlainTable (OneWord K) A ⊤) (vacant : Front) (len : ℕ) : Type 0 where
   pub members : List Place
   pub keeps : Keeps objects links vacant members len
   pub listed : (p : Place) → IsUsable (object_at objects p) → IsMember p members

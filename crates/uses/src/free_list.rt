@@ -10,7 +10,7 @@ ghost use Rattle.ic_unsafe_ref.specs.declared.place.Place.{Place};
 ghost use Rattle.ic_link_ops.specs.Sequences.{first, IsDisjoint};
 ghost use Rattle.ic_link_ops.specs.Tables.{IsCovered, KeepsBeside};
 ghost use Rattle.ic_link_ops.specs.LinkSteps.{acquires, releases};
-ghost use Rattle.ic_link_ops.specs.SinglyLinkedList.{Shows, ShowsSome};
+ghost use Rattle.ic_link_ops.specs.SinglyLinkedList.{Front, Shows, ShowsSome};
 
 use ic_link_ops::singly_linked_list::SinglyLinkedListOps;
 use ic_link_ops::{AlreadyLinked, LinkOps};
@@ -34,7 +34,7 @@ pub fn give_back<T, L: SinglyLinkedListOps>(
     ensures acquired { OnOk result (L.Does links.old links.new (acquires object ∷ [])) }
     ensures refused { OnErr result (L.Refused links.old links.new object) }
     ensures unchanged { IfErr result (λ refused. (refused.0 ≡ object) × (free.new ≡ free.old)) }
-    ensures others { (s t : List Place) (other : Option Place) → Shows L.successor (L.table links.old) free.old s
+    ensures others { (s t : List Place) (other : Front) → Shows L.successor (L.table links.old) free.old s
         → Shows L.successor (L.table links.old) other t → IsDisjoint t (object ∷ s) → Shows L.successor (L.table links.new) other t }
     ensures frame { (s : List Place) → Shows L.successor (L.table links.old) free.old s
         → KeepsBeside (L.table links.old) (L.table links.new) (object ∷ s) }
@@ -57,7 +57,7 @@ pub fn take<T, L: SinglyLinkedListOps>(
         → Shows L.successor (L.table links.new) free.new (drop 1 s) }
     ensures released { IfSome result (λ object. L.Does links.old links.new (releases object ∷ [])) }
     ensures empty { IfNone result ((free.new ≡ free.old) × (links.new ≡ links.old)) }
-    ensures others { (s t : List Place) (other : Option Place) → Shows L.successor (L.table links.old) free.old s
+    ensures others { (s t : List Place) (other : Front) → Shows L.successor (L.table links.old) free.old s
         → Shows L.successor (L.table links.old) other t → IsDisjoint t s → Shows L.successor (L.table links.new) other t }
     ensures frame { (s : List Place) → Shows L.successor (L.table links.old) free.old s
         → KeepsBeside (L.table links.old) (L.table links.new) s }

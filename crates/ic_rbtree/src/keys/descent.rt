@@ -14,7 +14,7 @@ ghost use Rattle.ic_rbtree.specs.Descents.{at_root, passed, is_equal, EndsAt};
 use crate::Probe;
 use crate::readings::is_at;
 use ic_link_ops::rbtree::RBTreeOps;
-use ic_link_ops::{End, Side};
+use ic_link_ops::{PlaceWord, Side};
 use ic_unsafe_ref::{Place, Values};
 use std::cmp::Ordering;
 
@@ -22,15 +22,15 @@ use std::cmp::Ordering;
 #[derive(Drop)]
 pub struct Descent {
     /// The member below which the gap is, none in an empty tree.
-    pub parent: End,
+    pub parent: PlaceWord,
     /// The side of that member.
     pub side: Side,
     /// The member in front of the gap.
-    pub front: End,
+    pub front: PlaceWord,
     /// The member behind the gap.
-    pub back: End,
+    pub back: PlaceWord,
     /// The last member that compared equal, which may be behind the gap.
-    pub(crate) equal: End,
+    pub(crate) equal: PlaceWord,
 }
 
 // Whether a descent goes left at a member that answers so, where it turns to the side `equals` at an equal one.
@@ -74,11 +74,11 @@ impl Descent {
         ensures { result ≡ at_root }
     {
         Descent {
-            parent: End::of(None),
+            parent: PlaceWord::of(None),
             side: Side::Left,
-            front: End::of(None),
-            back: End::of(None),
-            equal: End::of(None),
+            front: PlaceWord::of(None),
+            back: PlaceWord::of(None),
+            equal: PlaceWord::of(None),
         }
     }
 
@@ -109,16 +109,16 @@ impl Descent {
     fn pass(&mut self, place: Place, left: bool, equal: bool)
         ensures { self.new ≡ passed self.old place left equal }
     {
-        self.parent = End::of(Some(place));
+        self.parent = PlaceWord::of(Some(place));
         if equal {
-            self.equal = End::of(Some(place));
+            self.equal = PlaceWord::of(Some(place));
         }
         if left {
             self.side = Side::Left;
-            self.back = End::of(Some(place));
+            self.back = PlaceWord::of(Some(place));
         } else {
             self.side = Side::Right;
-            self.front = End::of(Some(place));
+            self.front = PlaceWord::of(Some(place));
         }
     }
 }
@@ -138,9 +138,9 @@ fn pick(takes_left: bool, left: Option<Place>, right: Option<Place>) -> Option<P
     ensures { result ≡ cond takes_left left right }
 {
     let picked = if takes_left {
-        End::of(left)
+        PlaceWord::of(left)
     } else {
-        End::of(right)
+        PlaceWord::of(right)
     };
     picked.get()
 }

@@ -20,14 +20,14 @@ use crate::keys::descent::{Turn, descend};
 use crate::linking::insert;
 use crate::{CursorMut, KeyAdapter, KeyProbe, Probe, RBTree};
 use ic_link_ops::rbtree::RBTreeOps;
-use ic_link_ops::{End, LinkOps, Side};
+use ic_link_ops::{LinkOps, PlaceWord, Side};
 use ic_unsafe_ref::{UnsafeRef, Values};
 
 /// The gap of a tree where a key would stand that no member has, with the tree and the table of its links.
 pub struct InsertCursor<'a, A, L> {
     tree: &'a mut RBTree<A>,
     links: &'a mut L,
-    parent: End,
+    parent: PlaceWord,
     side: Side,
 }
 
@@ -89,10 +89,10 @@ impl<A: KeyAdapter> RBTree<A> {
         let root = self.root.get();
         let descent = descend(&*links, root, objects, probe, Side::Left, Turn::Picked);
         if descent.is_equal() {
-            let current = End::of(descent.back.get());
+            let current = PlaceWord::of(descent.back.get());
             return Entry::Occupied(CursorMut::new(self, links, current));
         }
-        let parent = End::of(descent.parent.get());
+        let parent = PlaceWord::of(descent.parent.get());
         Entry::Vacant(InsertCursor {
             tree: self,
             links,
@@ -152,7 +152,7 @@ impl<'a, A: KeyAdapter, L: RBTreeOps> InsertCursor<'a, A, L> {
             };
             return Err(RefusedInsert { gap, object });
         }
-        let current = End::of(Some(object.place()));
+        let current = PlaceWord::of(Some(object.place()));
         Ok(CursorMut::new(tree, links, current))
     }
 }

@@ -19,7 +19,7 @@ use crate::linking::insert_in_order;
 use crate::{KeyAdapter, KeyProbe, Probe, RBTree};
 use ic_cursors::Ordered;
 use ic_link_ops::rbtree::RBTreeOps;
-use ic_link_ops::{AlreadyLinked, End, LinkOps};
+use ic_link_ops::{AlreadyLinked, LinkOps, PlaceWord};
 use ic_unsafe_ref::{Place, UnsafeRef, Values};
 
 impl<A: KeyAdapter, L: RBTreeOps> Ordered<L> for RBTree<A> {
@@ -31,7 +31,7 @@ impl<A: KeyAdapter, L: RBTreeOps> Ordered<L> for RBTree<A> {
         &mut self,
         links: &mut L,
         objects: &O,
-        at: &mut End,
+        at: &mut PlaceWord,
         object: Place,
     ) -> bool {
         let _ = at;

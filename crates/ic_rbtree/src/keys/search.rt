@@ -13,7 +13,7 @@ ghost use Rattle.ic_rbtree.specs.Tree.{root_of};
 use crate::keys::descent::{Turn, descend};
 use crate::{Bound, KeyAdapter, Probe, RBTree};
 use ic_link_ops::rbtree::RBTreeOps;
-use ic_link_ops::{End, LinkOps, Side};
+use ic_link_ops::{LinkOps, PlaceWord, Side};
 use ic_unsafe_ref::Values;
 
 impl<A: KeyAdapter> RBTree<A> {
@@ -24,7 +24,7 @@ impl<A: KeyAdapter> RBTree<A> {
         links: &L,
         objects: &O,
         probe: &mut P,
-    ) -> End
+    ) -> PlaceWord
         requires placed { ShowsPlaced (Shows L.node (L.table links.now) (root_of self.now)) (O.values objects.now) }
         requires room { HasRoom (P.count probe.old) }
         ensures found { (s : List Place) → Shows L.node (L.table links.now) (root_of self.now) s
@@ -35,7 +35,7 @@ impl<A: KeyAdapter> RBTree<A> {
         let root = self.root.get();
         let descent = descend(links, root, objects, probe, Side::Left, Turn::Picked);
         if !descent.is_equal() {
-            return End::of(None);
+            return PlaceWord::of(None);
         }
         descent.back
     }
@@ -47,7 +47,7 @@ impl<A: KeyAdapter> RBTree<A> {
         links: &L,
         objects: &O,
         bound: &mut Bound<P>,
-    ) -> End
+    ) -> PlaceWord
         requires placed { ShowsPlaced (Shows L.node (L.table links.now) (root_of self.now)) (O.values objects.now) }
         requires room { HasRoomWithin P.count bound.old }
         ensures border { (s : List Place) → Shows L.node (L.table links.now) (root_of self.now) s
@@ -65,7 +65,7 @@ impl<A: KeyAdapter> RBTree<A> {
             Bound::Excluded(probe) => {
                 descend(links, root, objects, probe, Side::Right, Turn::Picked).back
             }
-            Bound::Unbounded => End::of(self.first(links)),
+            Bound::Unbounded => PlaceWord::of(self.first(links)),
         }
     }
 
@@ -76,7 +76,7 @@ impl<A: KeyAdapter> RBTree<A> {
         links: &L,
         objects: &O,
         bound: &mut Bound<P>,
-    ) -> End
+    ) -> PlaceWord
         requires placed { ShowsPlaced (Shows L.node (L.table links.now) (root_of self.now)) (O.values objects.now) }
         requires room { HasRoomWithin P.count bound.old }
         ensures border { (s : List Place) → Shows L.node (L.table links.now) (root_of self.now) s
@@ -94,7 +94,7 @@ impl<A: KeyAdapter> RBTree<A> {
             Bound::Excluded(probe) => {
                 descend(links, root, objects, probe, Side::Left, Turn::Picked).front
             }
-            Bound::Unbounded => End::of(self.last(links)),
+            Bound::Unbounded => PlaceWord::of(self.last(links)),
         }
     }
 }

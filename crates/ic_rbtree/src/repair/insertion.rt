@@ -9,7 +9,7 @@ use crate::nodes::Nodes;
 use crate::readings::{child, color_here, is_across, is_red, other, side_of};
 use crate::repair::TURNS;
 use crate::repair::writers::{rotate, set_child, set_color, set_parent};
-use ic_link_ops::{Color, End, Side};
+use ic_link_ops::{Color, PlaceWord, Side};
 use ic_unsafe_ref::Place;
 
 // The red children of `grand` turn black, and it turns red unless it is the root.
@@ -31,7 +31,7 @@ pub(crate) fn recolor<N: Nodes>(links: &mut N, parent: Place, uncle: Place, gran
 // Makes a red pair straight, and says which is the upper one then.
 pub(crate) fn straighten<N: Nodes>(
     links: &mut N,
-    root: &mut End,
+    root: &mut PlaceWord,
     place: Place,
     parent: Place,
     side: Side,
@@ -51,7 +51,13 @@ pub(crate) fn straighten<N: Nodes>(
 }
 
 // The upper one of a straight red pair comes up, above `grand`.
-pub(crate) fn lift<N: Nodes>(links: &mut N, root: &mut End, upper: Place, grand: Place, side: Side)
+pub(crate) fn lift<N: Nodes>(
+    links: &mut N,
+    root: &mut PlaceWord,
+    upper: Place,
+    grand: Place,
+    side: Side,
+)
     requires { IsSafe N.node (N.table links.old) root.old (Some upper ∷ Some grand ∷ []) }
     ensures lifted { Lifts N.node (N.table links.old) (N.table links.new) root.old root.new upper grand side }
     ensures linked { KeepsNodes N.node (N.table links.old) (N.table links.new) }
@@ -65,7 +71,7 @@ pub(crate) fn lift<N: Nodes>(links: &mut N, root: &mut End, upper: Place, grand:
 
 pub(crate) fn ease_pair<N: Nodes>(
     links: &mut N,
-    root: &mut End,
+    root: &mut PlaceWord,
     place: Place,
     parent: Place,
     grand: Place,
@@ -89,7 +95,7 @@ pub(crate) fn ease_pair<N: Nodes>(
 }
 
 // One step of the repair: where the next one stands, if it was not the last.
-pub(crate) fn ease<N: Nodes>(links: &mut N, root: &mut End, place: Place) -> Option<Place>
+pub(crate) fn ease<N: Nodes>(links: &mut N, root: &mut PlaceWord, place: Place) -> Option<Place>
     requires { IsSafe N.node (N.table links.old) root.old (Some place ∷ []) }
     ensures eased { Eases N.node (N.table links.old) (N.table links.new) root.old root.new place result }
     ensures linked { KeepsNodes N.node (N.table links.old) (N.table links.new) }
@@ -105,7 +111,7 @@ pub(crate) fn ease<N: Nodes>(links: &mut N, root: &mut End, place: Place) -> Opt
 }
 
 /// Repairs the colors above a member that was put in red.
-pub(crate) fn repair_red<N: Nodes>(links: &mut N, root: &mut End, place: Place)
+pub(crate) fn repair_red<N: Nodes>(links: &mut N, root: &mut PlaceWord, place: Place)
     requires { IsSafe N.node (N.table links.old) root.old (Some place ∷ []) }
     ensures repaired { Repairs N.node (N.table links.old) (N.table links.new) root.old root.new place }
     ensures linked { KeepsNodes N.node (N.table links.old) (N.table links.new) }
@@ -124,7 +130,7 @@ pub(crate) fn repair_red<N: Nodes>(links: &mut N, root: &mut End, place: Place)
 // Puts a linked place, which is on its own, into a hole of the tree.
 pub(crate) fn attach<N: Nodes>(
     links: &mut N,
-    root: &mut End,
+    root: &mut PlaceWord,
     parent: Option<Place>,
     side: Side,
     place: Place,
@@ -141,7 +147,7 @@ pub(crate) fn attach<N: Nodes>(
     match parent {
         None => {
             set_color(links, place, Color::Black);
-            *root = End::of(Some(place));
+            *root = PlaceWord::of(Some(place));
         }
         Some(parent) => {
             set_color(links, place, Color::Red);

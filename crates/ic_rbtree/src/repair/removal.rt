@@ -13,13 +13,13 @@ use crate::readings::{
 use crate::repair::TURNS;
 use crate::repair::writers::{adopt, relink, rotate, set_color, take_place};
 use crate::within::outermost_within;
-use ic_link_ops::{Color, End, Side};
+use ic_link_ops::{Color, PlaceWord, Side};
 use ic_unsafe_ref::Place;
 
 // The black sibling of a short subtree: a red one comes up first.
 pub(crate) fn raise<N: Nodes>(
     links: &mut N,
-    root: &mut End,
+    root: &mut PlaceWord,
     place: Place,
     side: Side,
 ) -> Option<Place>
@@ -43,7 +43,7 @@ pub(crate) fn raise<N: Nodes>(
 // The far child of a black sibling with a red child turns red, if it is not: the near one comes up.
 pub(crate) fn lean<N: Nodes>(
     links: &mut N,
-    root: &mut End,
+    root: &mut PlaceWord,
     sibling: Place,
     side: Side,
 ) -> Option<Place>
@@ -68,7 +68,7 @@ pub(crate) fn lean<N: Nodes>(
 // The sibling comes up with the parent's color, and all is right.
 pub(crate) fn settle<N: Nodes>(
     links: &mut N,
-    root: &mut End,
+    root: &mut PlaceWord,
     place: Place,
     sibling: Place,
     side: Side,
@@ -111,7 +111,7 @@ pub(crate) fn fade<N: Nodes>(links: &mut N, place: Place, sibling: Place) -> boo
 }
 
 // One step of the repair, which says whether it was the last.
-pub(crate) fn mend<N: Nodes>(links: &mut N, root: &mut End, place: Place, side: Side) -> bool
+pub(crate) fn mend<N: Nodes>(links: &mut N, root: &mut PlaceWord, place: Place, side: Side) -> bool
     requires { IsSafe N.node (N.table links.old) root.old (Some place ∷ []) }
     ensures mended { Steps N.node (N.table links.old) (N.table links.new) root.old root.new place side result }
     ensures linked { KeepsNodes N.node (N.table links.old) (N.table links.new) }
@@ -131,7 +131,7 @@ pub(crate) fn mend<N: Nodes>(links: &mut N, root: &mut End, place: Place, side: 
 /// Repairs a tree that is one black short on this side of `parent`.
 pub(crate) fn repair_short<N: Nodes>(
     links: &mut N,
-    root: &mut End,
+    root: &mut PlaceWord,
     parent: Option<Place>,
     side: Side,
 )
@@ -158,7 +158,7 @@ pub(crate) fn repair_short<N: Nodes>(
 // Repairs the colors where a member of this color was taken out, and its child hangs in its place.
 pub(crate) fn close_gap<N: Nodes>(
     links: &mut N,
-    root: &mut End,
+    root: &mut PlaceWord,
     color: Color,
     child: Option<Place>,
     parent: Option<Place>,
@@ -180,7 +180,7 @@ pub(crate) fn close_gap<N: Nodes>(
 }
 
 // Takes out a member that has one child at most.
-pub(crate) fn take_out<N: Nodes>(links: &mut N, root: &mut End, place: Place)
+pub(crate) fn take_out<N: Nodes>(links: &mut N, root: &mut PlaceWord, place: Place)
     requires { IsSafe N.node (N.table links.old) root.old (Some place ∷ []) }
     ensures taken { TakesOut N.node (N.table links.old) (N.table links.new) root.old root.new place }
     ensures linked { KeepsNodes N.node (N.table links.old) (N.table links.new) }
@@ -197,7 +197,7 @@ pub(crate) fn take_out<N: Nodes>(links: &mut N, root: &mut End, place: Place)
 }
 
 // Takes a member out of the tree, and leaves it linked. One with two children changes places with the next.
-pub(crate) fn unlink<N: Nodes>(links: &mut N, root: &mut End, place: Place)
+pub(crate) fn unlink<N: Nodes>(links: &mut N, root: &mut PlaceWord, place: Place)
     requires { IsSafe N.node (N.table links.old) root.old (Some place ∷ []) }
     ensures taken { TakesAway N.node (N.table links.old) (N.table links.new) root.old root.new place }
     ensures linked { KeepsNodes N.node (N.table links.old) (N.table links.new) }

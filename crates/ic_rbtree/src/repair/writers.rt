@@ -11,7 +11,7 @@ ghost use Rattle.ic_rbtree.specs.Steps.{Adopts, Relinks, Rotates};
 
 use crate::nodes::Nodes;
 use crate::readings::{child, other, side_of};
-use ic_link_ops::{Color, End, Side};
+use ic_link_ops::{Color, PlaceWord, Side};
 use ic_unsafe_ref::Place;
 
 pub(crate) fn set_child<N: Nodes>(links: &mut N, place: Place, side: Side, to: Option<Place>)
@@ -72,7 +72,7 @@ pub(crate) fn adopt<N: Nodes>(links: &mut N, child: Option<Place>, parent: Optio
 // Another subtree hangs where `was` hung.
 pub(crate) fn relink<N: Nodes>(
     links: &mut N,
-    root: &mut End,
+    root: &mut PlaceWord,
     parent: Option<Place>,
     was: Place,
     to: Option<Place>,
@@ -88,12 +88,12 @@ pub(crate) fn relink<N: Nodes>(
         let side = side_of(&*links, was, parent);
         set_child(links, parent, side, to);
     } else {
-        *root = End::of(to);
+        *root = PlaceWord::of(to);
     }
 }
 
 /// The place goes down on this side, and its child on the other side comes up.
-pub(crate) fn rotate<N: Nodes>(links: &mut N, root: &mut End, place: Place, side: Side)
+pub(crate) fn rotate<N: Nodes>(links: &mut N, root: &mut PlaceWord, place: Place, side: Side)
     requires { IsSafe N.node (N.table links.old) root.old (Some place ∷ []) }
     ensures rotated { Rotates N.node (N.table links.old) (N.table links.new) root.old root.new place side }
     ensures linked { KeepsNodes N.node (N.table links.old) (N.table links.new) }
@@ -115,7 +115,7 @@ pub(crate) fn rotate<N: Nodes>(links: &mut N, root: &mut End, place: Place, side
 }
 
 /// In place of a member stands another place, which is on its own before.
-pub(crate) fn take_place<N: Nodes>(links: &mut N, root: &mut End, place: Place, new: Place)
+pub(crate) fn take_place<N: Nodes>(links: &mut N, root: &mut PlaceWord, place: Place, new: Place)
     requires safe { IsSafeBut N.node (N.table links.old) root.old new (Some place ∷ Some new ∷ []) }
     requires apart { place ≢ new }
     ensures taken { TakesPlace N.node (N.table links.old) (N.table links.new) root.old root.new place new }

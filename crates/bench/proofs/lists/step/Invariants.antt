@@ -1,7 +1,8 @@
+use Rattle.std.specs.Prelude.{⊤}
 use Rattle.ic_link_ops.specs.LinkedList.{Shows}
-use Rattle.ic_link_ops.specs.Positions.{Stands}
-use Rattle.ic_linked_list.specs.Cursor.{site_of}
+use Rattle.ic_cursors.specs.Cursor.{IsStanding}
+use Rattle.ic_chain.specs.Standing.{StandsAt}
 use Rattle.bench.proofs.lists.step.Given as goal
 
 abbrev pub invariant-loop-operation : goal.invariant-loop-operation
-invariant-loop-operation g l = record { stands : Stands (Shows g.L.LinkedListOps.neighbors) g.L.LinkOps.table (site_of l.cursor) }
+invariant-loop-operation g l = record { stands : IsStanding (StandsAt (Shows g.L.LinkedListOps.neighbors) g.L.LinkOps.table (λ at. at) (λ at next. ⊤)) l.cursor }

@@ -1,22 +1,22 @@
 use Rattle.std.proofs.Common.{rules, ◌++◌}
 use Rattle.ic_link_ops.specs.Sequences.{join, at_front}
 use Rattle.ic_link_ops.proofs.DoublyLists.{doubly_lists}
-use Rattle.ic_link_ops.proofs.Positions.{stands_null}
 use Rattle.ic_link_ops.proofs.SequenceLemmas.{absent_turned, disjoint_sym, distinct_disjoint}
+use Rattle.ic_chain.proofs.Standing.{stands_at_null}
 use Rattle.bench.proofs.Members.{still_member}
 use Rattle.bench.proofs.lists.turn.Goals as goal
 
 pub splice_after-requires-clause-stands : goal.splice_after-requires-clause-stands
 splice_after-requires-clause-stands g c =
-    let stands = c.cursor_mut_from_ptr.ensures.stands in
+    let stands = c.cursor_mut_from_ptr.ensures.kept in
     let keeps = (c.split_after-rest.ensures.split.split stands.gap stands.shown stands.after).keeps in
     let e = c.cursor_mut.ensures in
-    stands_null stands.gap.front (rw (e.borrows.3, e.borrows.2) (search rules)) e.null
+    stands_at_null stands.gap.front (rw (e.borrows.3, e.borrows.2) (search rules)) e.null
 
 pub returns : goal.returns
 returns g c =
     let on = c.cursor_mut_from_ptr.ensures in
-    let stands = on.stands in
+    let stands = on.kept in
     let gap = stands.gap in
     let parts = c.split_after-rest.ensures.split.split gap stands.shown stands.after in
     let e = c.cursor_mut.ensures in

@@ -1,7 +1,7 @@
 use Rattle.std.proofs.Common.{◌∙◌, rules}
 use Rattle.ic_ffi.specs.Words.{no_words, is_linked_two}
 use Rattle.ic_ffi.proofs.Views.{free_viewed, viewed, replaced_back}
-use Rattle.ic_ffi.proofs.Doubly.{kept}
+use Rattle.ic_ffi.proofs.Lists.{kept}
 use Rattle.ic_ffi.proofs.list_calls.ic_list_replace.Goals as goal
 
 pub returns-clause-replaced : goal.returns-clause-replaced

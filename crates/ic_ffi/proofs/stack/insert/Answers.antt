@@ -1,26 +1,17 @@
 use Rattle.std.proofs.Common.{◌≡◌, refl, sym, ap, ◌∙◌}
-use Rattle.ic_link_ops.proofs.SequenceLemmas.{gap_not, some_same}
-use Rattle.ic_link_ops.proofs.ShownLists.{free_absent}
-use Rattle.ic_link_ops.proofs.SinglyLists.{two_ended, front_beside}
-use Rattle.ic_ffi.specs.Singly.{lent_table}
+use Rattle.ic_link_ops.proofs.SequenceLemmas.{some_same}
 use Rattle.ic_ffi.proofs.Singly.{law}
+use Rattle.ic_ffi.proofs.Lists.{inserted}
 use Rattle.ic_ffi.proofs.stack.insert.Goals as goal
 
 pub returns-clause-inserted : goal.returns-clause-inserted
-returns-clause-inserted c cut p shown after is free =
+returns-clause-inserted c cut p shown after is free' =
     let one : p ≡ c.in-Some.place = some_same (sym is ∙ c.in-Some.is) in
     let gap = c.gap_after-gap.ensures.shown cut shown after in
-    let before = ap (λ g. g.before) gap in
-    let behind = ap (λ g. g.behind) gap in
-    let changes = c.acquire-status.ensures.frame c.if-status-ne-OK.false in
-    let out = free_absent law (two_ended shown) (c.acquire-status.ensures.free c.if-status-ne-OK.false).unlinked in
+    let free = c.acquire-status.ensures.free c.if-status-ne-OK.false in
+    let put = c.insert_linked.ensures in
     rw one (record {
       accepted = refl;
-      done = record {
-        shows = c.put_between.ensures.shows cut.front cut.back (front_beside {new = lent_table c.acquire-status.new.self} shown out changes.others) out before behind;
-        frame = record {
-          extent = c.put_between.ensures.extent ∙ changes.extent;
-          others = λ q apart. c.put_between.ensures.others q (gap_not cut.front cut.back before behind apart.1).0 apart.0 ∙ changes.others q apart.0;
-        };
-      };
+      done = inserted law cut (ap (λ g. g.before) gap) (ap (λ g. g.behind) gap) shown free (c.acquire-status.ensures.frame c.if-status-ne-OK.false) put.shows put.extent
+          put.others;
     })

@@ -1,7 +1,8 @@
-use Rattle.std.proofs.Common.{length, refl, sym, ap, ◌∙◌, arith}
+use Rattle.std.proofs.Common.{Some, length, refl, sym, ap, ◌∙◌, arith}
+use Rattle.ic_link_ops.specs.SinglyLinkedList.{next_of}
 use Rattle.ic_link_ops.proofs.SinglyLists.{walk_of, walk_linked, shown_length}
-use Rattle.ic_singly_linked_list.proofs.LastMembers.{goes_on, ends_there}
-use Rattle.ic_ffi.specs.Singly.{lent_table}
+use Rattle.ic_chain.proofs.Walking.{rest_goes_on, rest_ends}
+use Rattle.ic_ffi.specs.Singly.{lent_table, successor}
 use Rattle.ic_ffi.proofs.Gaps.{never}
 use Rattle.ic_ffi.proofs.Singly.{covered}
 use Rattle.ic_ffi.proofs.stack.last_from.Goals as goal
@@ -20,12 +21,12 @@ returns-then-not-is_linked-clause-shown c s shown =
 pub returns-in_default-clause-shown : goal.returns-in_default-clause-shown
 returns-in_default-clause-shown c s shown =
     let rest = c.loop-left.invariant.rest s shown in
-    ends_there (lent_table c.args.links.now).entry c.loop-left.at rest.0 rest.1 (sym c.next.ensures ∙ c.in_default.is) ∙ sym rest.2
+    rest_ends {step = next_of successor} (λ e b a h. h.next) rest.1.part (sym c.next.ensures ∙ c.in_default.is) ∙ sym rest.2
 
 pub loop-left-preserved : goal.loop-left-preserved
 loop-left-preserved c = record {
   rest = λ s shown.
       let rest = c.loop-left.invariant.rest s shown in
-      let more = goes_on (lent_table c.args.links.now).entry c.loop-left.at c.in-Some.next rest.0 rest.1 (sym c.next.ensures ∙ c.in-Some.is) in
-      (more.0, more.2, rest.2 ∙ more.3, omega (arith, rest.3, ap length more.1));
+      let more = rest_goes_on {step = next_of successor} (λ e b a h. h.next) rest.1.part (sym c.next.ensures ∙ c.in-Some.is) in
+      (more.0, record { before = Some c.loop-left.at; part = more.2 }, rest.2 ∙ more.3, omega (arith, rest.3, ap length more.1));
 }

@@ -1,11 +1,11 @@
-use Rattle.std.proofs.Common.{◌≡◌, [], ◌∷◌, ◌++◌, append-nil, refl, sym, ap, ◌∙◌}
+use Rattle.std.proofs.Common.{◌≡◌, [], ◌++◌, append-nil, refl, sym, ap, ◌∙◌}
 use Rattle.ic_link_ops.specs.Sequences.{at_back}
-use Rattle.ic_link_ops.proofs.SequenceLemmas.{absent_right, absent_with, distinct_middle, beside_not, some_same, none_not}
-use Rattle.ic_link_ops.proofs.ShownLists.{shows_middle, free_absent}
-use Rattle.ic_link_ops.proofs.SinglyLists.{two_ended, front_beside}
+use Rattle.ic_link_ops.proofs.SequenceLemmas.{some_same, none_not}
+use Rattle.ic_link_ops.proofs.ShownLists.{shows_middle}
 use Rattle.ic_ffi.specs.Gaps.{before}
 use Rattle.ic_ffi.specs.Singly.{Shows, lent_table}
 use Rattle.ic_ffi.proofs.Singly.{law}
+use Rattle.ic_ffi.proofs.Lists.{replaced}
 use Rattle.ic_ffi.proofs.stack.replace.Goals as goal
 
 pub returns-then-gap-ne-OK-clause-replaced : goal.returns-then-gap-ne-OK-clause-replaced
@@ -17,33 +17,20 @@ returns-in_default-clause-replaced c front back out p shown after is free =
     absurd (none_not out (sym c.in_default.is ∙ ap (λ g. g.behind) (c.gap_after-gap.ensures.shown (before out front back) shown after)))
 
 pub returns-clause-replaced : goal.returns-clause-replaced
-returns-clause-replaced c front back out' p shown' after is free =
-    let out = c.in-Some.out in
-    let gap = c.gap_after-gap.ensures.shown (before out' front back) shown' after in
+returns-clause-replaced c front back out p shown' after is free' =
+    let gap = c.gap_after-gap.ensures.shown (before out front back) shown' after in
     let one : p ≡ c.in-Some-place.place = some_same (sym is ∙ c.in-Some-place.is) in
-    let other : out' ≡ c.in-Some.out = some_same (sym (ap (λ g. g.behind) gap) ∙ c.in-Some.is) in
+    let other : out ≡ c.in-Some.out = some_same (sym (ap (λ g. g.behind) gap) ∙ c.in-Some.is) in
     let shown = rw other at shown' in
-    let in_front = ap (λ g. g.before) gap in
-    let behind = c.next-behind.ensures ∙ (shows_middle front back (two_ended shown)).next in
-    let changes = c.acquire-status.ensures.frame c.if-status-ne-OK.false in
-    let absent = free_absent law (two_ended shown) (c.acquire-status.ensures.free c.if-status-ne-OK.false).unlinked in
-    let apart = (absent_right c.in-Some-place.place front (out ∷ back) absent).0 in
+    let behind = c.next-behind.ensures ∙ (shows_middle front back shown).next in
+    let free = c.acquire-status.ensures.free c.if-status-ne-OK.false in
+    let put = c.replace_linked.ensures in
     let released = c.release_link.ensures in
-    let put = c.put_between.ensures in
     rw (one, other) (record {
       accepted = refl;
       done = (
-        record {
-          shows = front_beside {new = lent_table c.release_link.new.self}
-              (put.replaces front back out (front_beside {new = lent_table c.acquire-status.new.self} shown absent changes.others) absent in_front behind)
-              (absent_with front back c.in-Some-place.place out (λ e. apart (sym e)) (distinct_middle front back out shown.distinct)) released.frame.others;
-          frame = record {
-            extent = released.frame.extent ∙ put.extent ∙ changes.extent;
-            others = λ q away.
-                released.frame.others q (absent_right q front (out ∷ back) away.1).0
-                ∙ put.others q (beside_not front back out in_front behind away.1).0 away.0 ∙ changes.others q away.0;
-          };
-        },
+        replaced law front c.in-Some.out back (ap (λ g. g.before) gap) behind shown free (c.acquire-status.ensures.frame c.if-status-ne-OK.false) put.shows put.extent
+            put.others released.frame,
         released.released.is,
         c.number_of.ensures,
       );

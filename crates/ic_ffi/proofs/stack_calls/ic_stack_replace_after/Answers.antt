@@ -1,7 +1,7 @@
 use Rattle.std.proofs.Common.{◌∙◌, rules}
 use Rattle.ic_ffi.specs.Words.{no_word, is_linked_one}
 use Rattle.ic_ffi.proofs.Views.{free_viewed, viewed, exchanged_back}
-use Rattle.ic_ffi.proofs.Singly.{kept}
+use Rattle.ic_ffi.proofs.Lists.{kept}
 use Rattle.ic_ffi.proofs.stack_calls.ic_stack_replace_after.Goals as goal
 
 pub returns-clause-replaced : goal.returns-clause-replaced

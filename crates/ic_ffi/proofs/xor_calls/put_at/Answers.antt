@@ -1,7 +1,7 @@
 use Rattle.std.proofs.Common.{◌∙◌, rules}
 use Rattle.ic_ffi.specs.Words.{no_word}
 use Rattle.ic_ffi.proofs.Views.{free_viewed, viewed, inserted_back}
-use Rattle.ic_ffi.proofs.Xor.{kept}
+use Rattle.ic_ffi.proofs.Lists.{kept}
 use Rattle.ic_ffi.proofs.xor_calls.put_at.Goals as goal
 
 pub returns-clause-inserted : goal.returns-clause-inserted

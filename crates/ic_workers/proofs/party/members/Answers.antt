@@ -4,8 +4,9 @@ use Rattle.ic_link_ops.specs.Sequences.{Cut, join, IsAfter, IsBefore}
 use Rattle.ic_link_ops.specs.LinkedList.{Shows}
 use Rattle.ic_link_ops.proofs.Clearing.{releases_fewer}
 use Rattle.ic_link_ops.proofs.DoublyLists.{neighbors_covered, members_behind}
-use Rattle.ic_link_ops.proofs.Positions.{stands_by_gap}
-use Rattle.ic_linked_list.specs.Cursor.{position}
+use Rattle.ic_link_ops.proofs.SequenceLemmas.{gap_after}
+use Rattle.ic_cursors.specs.Cursor.{position}
+use Rattle.ic_chain.proofs.Standing.{stands_here}
 use Rattle.ic_workers.proofs.Walking.{Seen, seen_more, seen_less}
 use Rattle.ic_workers.proofs.party.members.Given as given
 use Rattle.ic_workers.proofs.party.members.Goals as goal
@@ -16,7 +17,7 @@ loop-place-init g c =
     record {
       list = e.list;
       links = e.links;
-      seen = λ s shown. subst (λ (l : List Place). Seen l (position c.front-cursor.result) s) (sym c.new-places.ensures.items) (record { rest = s; is = refl; at = e.position s shown });
+      seen = λ s shown. subst (λ (l : List Place). Seen l (position (λ at. at) c.front-cursor.result) s) (sym c.new-places.ensures.items) (record { rest = s; is = refl; at = e.position s shown });
     }
 
 pub move_next-requires : goal.move_next-requires
@@ -24,17 +25,18 @@ move_next-requires g c =
     let s = c.requires in
     let i = c.loop-place.invariant in
     let k = i.seen s.0 s.1 in
-    record { stands = stands_by_gap (record { front = c.loop-place.places.items; back = k.rest }) (rw (i.links, i.list) (rw k.is at s.1)) k.at }
+    let gap = gap_after (record { front = c.loop-place.places.items; back = k.rest }) (position (λ at. at) c.loop-place.cursor) k.at in
+    record { stands = stands_here gap.0 (rw (i.links, i.list, gap.1) (rw k.is at s.1)) gap.2 tt refl }
 
 -- the member that the cursor was on has been seen, and it is on the next one
 module _ (g : given.Over) (c : goal.After-move_next g) (s : List Place) (shown : Shows g.L.LinkedListOps.neighbors (g.L.LinkOps.table c.args.links.now) c.args.list.now s) where
-  here : Some c.in-Some.place ≡ position c.loop-place.cursor
+  here : Some c.in-Some.place ≡ position (λ at. at) c.loop-place.cursor
   here = sym c.in-Some.is ∙ c.get_ptr.ensures
 
-  more : Seen (c.loop-place.places.items ++ c.in-Some.place ∷ []) (position c.move_next.new.self) s
+  more : Seen (c.loop-place.places.items ++ c.in-Some.place ∷ []) (position (λ at. at) c.move_next.new.self) s
   more =
       let i = c.loop-place.invariant in
-      let leads : (gap : Cut) → s ≡ join gap → IsAfter gap (position c.loop-place.cursor) → IsBefore gap (position c.move_next.new.self) =
+      let leads : (gap : Cut) → s ≡ join gap → IsAfter gap (position (λ at. at) c.loop-place.cursor) → IsBefore gap (position (λ at. at) c.move_next.new.self) =
       λ gap is after. c.move_next.ensures.moved.leads gap (rw (i.links, i.list) (subst (Shows g.L.LinkedListOps.neighbors (g.L.LinkOps.table c.args.links.now) c.args.list.now) is shown)) after in
       seen_more (i.seen s shown) c.in-Some.place here leads
 
@@ -55,5 +57,5 @@ pub loop-place-preserved : goal.loop-place-preserved
 loop-place-preserved g c = record {
   list = c.move_next.ensures.list ∙ c.loop-place.invariant.list;
   links = c.move_next.ensures.links ∙ c.loop-place.invariant.links;
-  seen = λ s shown. subst (λ (l : List Place). Seen l (position c.move_next.new.self) s) (sym c.in_ok-push.ensures.items) (more g c s shown);
+  seen = λ s shown. subst (λ (l : List Place). Seen l (position (λ at. at) c.move_next.new.self) s) (sym c.in_ok-push.ensures.items) (more g c s shown);
 }

@@ -5,7 +5,7 @@ use Rattle.ic_link_ops.specs.DoublyEntries.{entries, neighbors_of, table_of}
 use Rattle.ic_link_ops.proofs.CollectionLaws.{new_shows_nothing}
 use Rattle.ic_link_ops.proofs.DoublyLists.{plain_lists}
 use Rattle.ic_link_ops.proofs.Covering.{still_covered}
-use Rattle.ic_link_ops.proofs.Positions.{stands_null}
+use Rattle.ic_chain.proofs.Standing.{stands_at_null}
 use Rattle.uses.proofs.first_steps.first_steps.Goals as goal
 
 pub push_back-requires-2-clause-covered : goal.push_back-requires-2-clause-covered
@@ -24,7 +24,7 @@ move_next-requires g c =
     let one = c.in_ok-push_back.ensures.inserted [] none in
     let two = c.in_ok-push_back-2.ensures.inserted (c.args.first ∷ []) one in
     let e = c.cursor-cursor.ensures in
-    record { stands = stands_null (c.args.first ∷ c.args.second ∷ []) (rw (e.links, e.list) two) e.null }
+    record { stands = stands_at_null (c.args.first ∷ c.args.second ∷ []) (rw (e.links, e.list) two) e.null }
 
 pub returns-clause-position : goal.returns-clause-position
 returns-clause-position g c =

@@ -1,11 +1,12 @@
 use Rattle.std.proofs.Common.{rules, ◌≡◌, ◌∙◌, sym, refl, ap, List, ◌∷◌}
 use Rattle.std.specs.Option.{option_copied}
 use Rattle.std.specs.Fn.{FnReturnsAt}
-use Rattle.ic_linked_list.specs.CursorMut.{site_of}
+use Rattle.ic_cursors.specs.CursorMut.{site_of}
 use Rattle.ic_unsafe_ref.specs.declared.place.Place.{Place}
 use Rattle.ic_link_ops.proofs.CollectionLaws.{one_sequence_is_shown}
 use Rattle.ic_link_ops.proofs.DoublyLists.{neighbors_covered, doubly_lists}
-use Rattle.ic_link_ops.proofs.Positions.{stands_by_gap}
+use Rattle.ic_link_ops.proofs.SequenceLemmas.{gap_after}
+use Rattle.ic_chain.proofs.Standing.{stands_here}
 use Rattle.ic_link_ops.proofs.EditingWalks.{walk_begins}
 use Rattle.uses.proofs.Retaining.{Retains, retains_none, retains_kept, retains_gone, retains_all, ahead_less}
 use Rattle.uses.proofs.retain.retain.Goals as goal
@@ -28,17 +29,19 @@ loop-object-init g c =
 pub move_next-requires : goal.move_next-requires
 move_next-requires g c =
     let h = c.loop-object.invariant.retains.1 in
-    record { stands = stands_by_gap (record { front = h.behind; back = c.loop-object.invariant.retains.0 }) h.walked.shown h.walked.here }
+    let gap = gap_after (record { front = h.behind; back = c.loop-object.invariant.retains.0 }) _ h.walked.here in
+    record { stands = stands_here gap.0 (rw gap.1 h.walked.shown) gap.2 tt refl }
 
 pub remove-requires : goal.remove-requires
 remove-requires g c =
     let h = c.loop-object.invariant.retains.1 in
-    record { stands = stands_by_gap (record { front = h.behind; back = c.loop-object.invariant.retains.0 }) h.walked.shown h.walked.here }
+    let gap = gap_after (record { front = h.behind; back = c.loop-object.invariant.retains.0 }) _ h.walked.here in
+    record { stands = stands_here gap.0 (rw gap.1 h.walked.shown) gap.2 tt refl }
 
 -- the turn that kept the member, and the one that took it off
 kept : (g : Over) (c : goal.After-move_next g) → (p : Place) × (rest : List Place) × (c.loop-object.invariant.retains.0 ≡ p ∷ rest)
     × Retains g.L.LinkedListOps.neighbors g.L.LinkOps.table g.L.LinkOps.Does c.args.objects.now (FnReturnsAt g.F.Fn c.args.keeps) c.args.links.now
-    c.loop-object.invariant.shown.0 (site_of c.move_next.new.self) rest
+    c.loop-object.invariant.shown.0 (site_of (λ list. list) (λ at. at) c.move_next.new.self) rest
 kept g c =
     let h = c.loop-object.invariant.retains.1 in
     let m = c.move_next.ensures in
@@ -48,7 +51,7 @@ kept g c =
 
 gone : (g : Over) (c : goal.After-drop-remove g) → (p : Place) × (rest : List Place) × (c.loop-object.invariant.retains.0 ≡ p ∷ rest)
     × Retains g.L.LinkedListOps.neighbors g.L.LinkOps.table g.L.LinkOps.Does c.args.objects.now (FnReturnsAt g.F.Fn c.args.keeps) c.args.links.now
-    c.loop-object.invariant.shown.0 (site_of c.remove.new.self) rest
+    c.loop-object.invariant.shown.0 (site_of (λ list. list) (λ at. at) c.remove.new.self) rest
 gone g c =
     let h = c.loop-object.invariant.retains.1 in
     let told : FnReturnsAt g.F.Fn c.args.keeps c.in-Some.object.now c.keeps.result = record { shown = c.in-Some.object; shows = refl; says = record { met = c.keeps.ensures } } in

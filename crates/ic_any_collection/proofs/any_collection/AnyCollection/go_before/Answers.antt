@@ -1,8 +1,11 @@
 use Rattle.ic_any_collection.specs.AnyTables.{look}
 use Rattle.ic_any_collection.specs.TablesWithPrev as with_prev
-use Rattle.ic_any_collection.proofs.Standing.{before_at, gap_before_cursor, knows, known}
+use Rattle.ic_any_collection.proofs.Standing.{stands_plainly, before_at, gap_before_cursor, knows, known}
 use Rattle.ic_any_collection.proofs.Parting.{puts_all, doubly_list, xor_list, at_put_before}
 use Rattle.ic_any_collection.proofs.any_collection.AnyCollection.go_before.Goals as goal
+
+pub splice_before-requires-clause-stands : goal.splice_before-requires-clause-stands
+splice_before-requires-clause-stands g c = let held = rw (c.in-Doubly-list.is, c.in-WithPrev.is) at c.requires.held in stands_plainly _ held.shown held.stands
 
 pub returns-in-WithPrev : goal.returns-in-WithPrev
 returns-in-WithPrev g c =

@@ -1,8 +1,14 @@
 use Rattle.ic_any_collection.specs.AnyTables.{look}
 use Rattle.ic_any_collection.specs.TablesWithPrev as with_prev
-use Rattle.ic_any_collection.proofs.Standing.{gap_after_cursor, knows, known}
+use Rattle.ic_any_collection.proofs.Standing.{stands_plainly, gap_after_cursor, knows, known}
 use Rattle.ic_any_collection.proofs.Parting.{puts_all, singly_list, doubly_list, xor_list, at_put_behind}
 use Rattle.ic_any_collection.proofs.any_collection.AnyCollection.go_behind.Goals as goal
+
+pub splice_after-requires-clause-stands : goal.splice_after-requires-clause-stands
+splice_after-requires-clause-stands g c = let held = rw c.in-Singly-list.is at c.requires.held in stands_plainly _ held.shown held.stands
+
+pub splice_after-requires-in-WithPrev-clause-stands : goal.splice_after-requires-in-WithPrev-clause-stands
+splice_after-requires-in-WithPrev-clause-stands g c = let held = rw (c.in-Doubly-list.is, c.in-WithPrev.is) at c.requires.held in stands_plainly _ held.shown held.stands
 
 pub returns-in-Singly-list : goal.returns-in-Singly-list
 returns-in-Singly-list g c =

@@ -1,5 +1,6 @@
-use Rattle.std.proofs.Common.{◌∙◌, refl, ap}
+use Rattle.std.proofs.Common.{refl}
 use Rattle.ic_link_ops.specs.Sequences.{at_front}
+use Rattle.ic_any_collection.proofs.Parting.{xor_null}
 use Rattle.ic_any_collection.proofs.any_collection.AnyCollection.go_null.Goals as goal
 
 pub returns-in-Singly-clause-kept : goal.returns-in-Singly-clause-kept
@@ -18,7 +19,7 @@ pub returns-in-Xor-clause-kept : goal.returns-in-Xor-clause-kept
 returns-in-Xor-clause-kept g c t s kept =
     let k = rw c.in-Xor.is at kept in
     let e = c.go_null-in-Xor.ensures in
-    record { carried = k.carried; shown = rw e.list k.shown; stands = (at_front s, refl, ap (λ at. at.current) e.null, ap (λ at. at.next) e.null ∙ k.shown.head) }
+    record { carried = k.carried; shown = rw e.list k.shown; stands = xor_null c.go_null-in-Xor.new.self s e.null }
 
 pub returns-in-Tree-clause-kept : goal.returns-in-Tree-clause-kept
 returns-in-Tree-clause-kept g c t s kept =

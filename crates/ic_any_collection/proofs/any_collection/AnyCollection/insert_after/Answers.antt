@@ -1,9 +1,15 @@
 use Rattle.ic_any_collection.specs.declared.any_table.AnyTable.TheVariants.{WithPrev}
 use Rattle.ic_any_collection.specs.declared.table_with_prev.TableWithPrev.TheVariants.{Tree}
-use Rattle.ic_any_collection.proofs.Standing.{knows, gap_after_cursor}
+use Rattle.ic_any_collection.proofs.Standing.{stands_plainly, knows, gap_after_cursor}
 use Rattle.ic_any_collection.proofs.Moving.{singly_turned, doubly_turned, xor_turned, tree_turned}
 use Rattle.ic_any_collection.proofs.Editing.{puts, puts_not, in_table}
 use Rattle.ic_any_collection.proofs.any_collection.AnyCollection.insert_after.Goals as goal
+
+pub insert_after-requires-clause-stands : goal.insert_after-requires-clause-stands
+insert_after-requires-clause-stands g c = let held = rw c.in-Singly.is at c.requires.held in stands_plainly _ held.shown held.stands
+
+pub insert_after-requires-in-WithPrev-clause-stands : goal.insert_after-requires-in-WithPrev-clause-stands
+insert_after-requires-in-WithPrev-clause-stands g c = let held = rw (c.in-Doubly.is, c.in-WithPrev.is) at c.requires.held in stands_plainly _ held.shown held.stands
 
 pub insert_after-requires-in-Xor-clause-stands : goal.insert_after-requires-in-Xor-clause-stands
 insert_after-requires-in-Xor-clause-stands g c =

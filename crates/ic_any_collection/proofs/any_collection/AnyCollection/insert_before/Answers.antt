@@ -1,9 +1,12 @@
 use Rattle.ic_any_collection.specs.declared.any_table.AnyTable.TheVariants.{WithPrev}
 use Rattle.ic_any_collection.specs.declared.table_with_prev.TableWithPrev.TheVariants.{Tree}
-use Rattle.ic_any_collection.proofs.Standing.{knows, gap_before_cursor}
+use Rattle.ic_any_collection.proofs.Standing.{stands_plainly, knows, gap_before_cursor}
 use Rattle.ic_any_collection.proofs.Moving.{doubly_turned, xor_turned, tree_turned}
 use Rattle.ic_any_collection.proofs.Editing.{puts, puts_not, in_table}
 use Rattle.ic_any_collection.proofs.any_collection.AnyCollection.insert_before.Goals as goal
+
+pub insert_before-requires-clause-stands : goal.insert_before-requires-clause-stands
+insert_before-requires-clause-stands g c = let held = rw (c.in-Doubly.is, c.in-WithPrev.is) at c.requires.held in stands_plainly _ held.shown held.stands
 
 pub insert_before-requires-in-Xor-clause-stands : goal.insert_before-requires-in-Xor-clause-stands
 insert_before-requires-in-Xor-clause-stands g c =

@@ -1,8 +1,14 @@
 use Rattle.std.proofs.Common.{ap}
 use Rattle.ic_rbtree.specs.Tree.{root_of}
-use Rattle.ic_any_collection.proofs.Standing.{knows, gap_after_cursor}
+use Rattle.ic_any_collection.proofs.Standing.{stands_plainly, knows, gap_after_cursor}
 use Rattle.ic_any_collection.proofs.Moving.{with_head, singly_turned, doubly_turned, xor_turned, tree_turned, goes_on}
 use Rattle.ic_any_collection.proofs.any_collection.AnyCollection.move_next.Goals as goal
+
+pub move_next-requires : goal.move_next-requires
+move_next-requires g c = let held = rw c.in-Singly.is at c.requires.held in record { stands = stands_plainly _ held.shown held.stands }
+
+pub move_next-requires-in-WithPrev : goal.move_next-requires-in-WithPrev
+move_next-requires-in-WithPrev g c = let held = rw (c.in-Doubly.is, c.in-WithPrev.is) at c.requires.held in record { stands = stands_plainly _ held.shown held.stands }
 
 pub move_next-requires-in-Xor : goal.move_next-requires-in-Xor
 move_next-requires-in-Xor g c =

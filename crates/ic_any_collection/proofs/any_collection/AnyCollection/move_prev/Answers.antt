@@ -1,8 +1,11 @@
 use Rattle.std.proofs.Common.{ap}
 use Rattle.ic_rbtree.specs.Tree.{root_of}
-use Rattle.ic_any_collection.proofs.Standing.{knows, gap_before_cursor}
+use Rattle.ic_any_collection.proofs.Standing.{stands_plainly, knows, gap_before_cursor}
 use Rattle.ic_any_collection.proofs.Moving.{with_head, doubly_turned, xor_turned, tree_turned, goes_back}
 use Rattle.ic_any_collection.proofs.any_collection.AnyCollection.move_prev.Goals as goal
+
+pub move_prev-requires : goal.move_prev-requires
+move_prev-requires g c = let held = rw (c.in-Doubly.is, c.in-WithPrev.is) at c.requires.held in record { stands = stands_plainly _ held.shown held.stands }
 
 pub move_prev-requires-in-Xor : goal.move_prev-requires-in-Xor
 move_prev-requires-in-Xor g c =

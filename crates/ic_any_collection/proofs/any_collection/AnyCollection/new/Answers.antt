@@ -15,7 +15,7 @@ returns-in-Doubly-clause-kept g c t carried =
 pub returns-in-Xor-clause-kept : goal.returns-in-Xor-clause-kept
 returns-in-Xor-clause-kept g c t carried =
     let made = c.cursor_owning-in-Xor.ensures in
-    new_xor t c.cursor_owning-in-Xor.result (rw c.in-Xor.is at carried) (made.list ∙ c.new-in-Xor.ensures) (rw made.list made.null)
+    new_xor t c.cursor_owning-in-Xor.result (rw c.in-Xor.is at carried) (made.list ∙ c.new-in-Xor.ensures) made.null
 
 pub returns-in-Tree-clause-kept : goal.returns-in-Tree-clause-kept
 returns-in-Tree-clause-kept g c t carried =

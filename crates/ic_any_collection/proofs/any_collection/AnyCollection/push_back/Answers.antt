@@ -26,4 +26,4 @@ returns-then-pushed-2-clause-put g c =
     let list = c.list_mut-in-Xor.ensures.list in
     rw (c.in-Xor.is, c.if-pushed-2.true, ← c.new-object.ensures)
     (pushes c.push_back-in-Xor.result c.is_ok-pushed-in-Xor.ensures.value c.if-pushed-2.true (at_back _) (append-nil _) held (rw on.list (e.inserted _ (rw list held.shown))) e.acquired (e.frame _ (rw list held.shown)) on.position
-    (λ shown. xor_turned {table = λ t. t} {new = look c.push_back-in-Xor.new.links} (knows {table = λ t. t} {links = look c.push_back-in-Xor.new.links} c.go_null-then-pushed-2.new.self _ shown (xor_null c.go_null-then-pushed-2.new.self _ shown (rw on.list on.null)))))
+    (λ shown. xor_turned {table = λ t. t} {new = look c.push_back-in-Xor.new.links} (knows {table = λ t. t} {links = look c.push_back-in-Xor.new.links} c.go_null-then-pushed-2.new.self _ shown (xor_null c.go_null-then-pushed-2.new.self _ on.null))))

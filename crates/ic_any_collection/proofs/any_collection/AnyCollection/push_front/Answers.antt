@@ -36,4 +36,4 @@ returns-then-pushed-3-clause-put g c =
     let list = c.list_mut-in-Xor.ensures.list in
     rw (c.in-Xor.is, c.if-pushed-3.true, ← c.new-object.ensures)
     (pushes c.push_front-in-Xor.result c.is_ok-pushed-in-Xor.ensures.value c.if-pushed-3.true (at_front _) refl held (rw on.list (e.inserted _ (rw list held.shown))) e.acquired (e.frame _ (rw list held.shown)) on.position
-    (λ shown. xor_turned {table = λ t. t} {new = look c.push_front-in-Xor.new.links} (knows {table = λ t. t} {links = look c.push_front-in-Xor.new.links} c.go_null-then-pushed-3.new.self _ shown (xor_null c.go_null-then-pushed-3.new.self _ shown (rw on.list on.null)))))
+    (λ shown. xor_turned {table = λ t. t} {new = look c.push_front-in-Xor.new.links} (knows {table = λ t. t} {links = look c.push_front-in-Xor.new.links} c.go_null-then-pushed-3.new.self _ shown (xor_null c.go_null-then-pushed-3.new.self _ on.null))))

@@ -1,7 +1,10 @@
-use Rattle.ic_any_collection.proofs.Standing.{knows, gap_before_cursor}
+use Rattle.ic_any_collection.proofs.Standing.{stands_plainly, knows, gap_before_cursor}
 use Rattle.ic_any_collection.proofs.Moving.{doubly_turned, xor_turned, tree_turned}
-use Rattle.ic_any_collection.proofs.Editing.{takes}
+use Rattle.ic_any_collection.proofs.Editing.{takes, nothing_taken}
 use Rattle.ic_any_collection.proofs.any_collection.AnyCollection.remove.Goals as goal
+
+pub remove-requires : goal.remove-requires
+remove-requires g c = let held = rw (c.in-Doubly.is, c.in-WithPrev.is) at c.requires.held in record { stands = stands_plainly _ held.shown held.stands }
 
 pub remove-requires-in-Xor : goal.remove-requires-in-Xor
 remove-requires-in-Xor g c =
@@ -25,3 +28,7 @@ returns-in-WithPrev-Tree-clause-taken g c =
     let e = c.remove-in-WithPrev-Tree.ensures in
     rw (c.in-Tree.is, c.in-WithPrev-Tree.is, c.in-WithPrev-Tree.field-0-is, c.place_of-in-WithPrev-Tree.ensures)
     (takes e.removed (tree_turned e.removed.stands) held (gap_before_cursor _ held))
+
+pub returns-in-Xor-clause-null : goal.returns-in-Xor-clause-null
+returns-in-Xor-clause-null g c =
+    rw (c.in-Xor.is, c.place_of-in-Xor.ensures) (nothing_taken _ _ _ c.remove-in-Xor.ensures.removed)

@@ -1,7 +1,10 @@
-use Rattle.ic_any_collection.proofs.Standing.{gap_after_cursor}
+use Rattle.ic_any_collection.proofs.Standing.{stands_plainly, gap_after_cursor}
 use Rattle.ic_any_collection.proofs.Moving.{singly_turned}
 use Rattle.ic_any_collection.proofs.Editing.{swaps_next, swaps_next_not, swaps_next_stays}
 use Rattle.ic_any_collection.proofs.any_collection.AnyCollection.replace_next_with.Goals as goal
+
+pub replace_next_with-requires-clause-stands : goal.replace_next_with-requires-clause-stands
+replace_next_with-requires-clause-stands g c = let held = rw c.in-Singly.is at c.requires.held in stands_plainly _ held.shown held.stands
 
 pub returns : goal.returns
 returns g c =

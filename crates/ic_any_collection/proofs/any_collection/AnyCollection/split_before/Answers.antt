@@ -1,9 +1,13 @@
 use Rattle.std.proofs.Common.{ap}
 use Rattle.ic_any_collection.specs.AnyTables.{look}
 use Rattle.ic_any_collection.specs.TablesWithPrev as with_prev
-use Rattle.ic_any_collection.proofs.Standing.{before_at, gap_before_cursor, knows, known}
+use Rattle.ic_xor_linked_list.specs.Position.{member_of}
+use Rattle.ic_any_collection.proofs.Standing.{stands_plainly, before_at, gap_before_cursor, knows, known}
 use Rattle.ic_any_collection.proofs.Parting.{parts, doubly_list, xor_list, at_null, at_start, xor_null}
 use Rattle.ic_any_collection.proofs.any_collection.AnyCollection.split_before.Goals as goal
+
+pub split_before-requires : goal.split_before-requires
+split_before-requires g c = let held = rw (c.in-Doubly.is, c.in-WithPrev.is) at c.requires.held in record { stands = stands_plainly _ held.shown held.stands }
 
 pub split_before-requires-in-Xor : goal.split_before-requires-in-Xor
 split_before-requires-in-Xor g c =
@@ -30,7 +34,7 @@ returns-in-Xor g c =
       at.1,
       (
         at.2,
-        parts xor_list look held at.0 at.1 at.2 e.split (λ here shown. known c.split_before-in-Xor.new.self _ shown e.kept.stands) part.ensures.list (ap (λ z. z.current) part.ensures.null)
-            (λ shown. xor_null part.result _ shown (rw part.ensures.list part.ensures.null)),
+        parts xor_list look held at.0 at.1 at.2 e.split (λ here shown. known c.split_before-in-Xor.new.self _ shown e.kept.stands) part.ensures.list (ap member_of part.ensures.null)
+            (λ shown. xor_null part.result _ part.ensures.null),
       ),
     )

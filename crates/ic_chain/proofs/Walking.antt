@@ -1,0 +1,234 @@
+-- The walk over a list's objects: where it goes from a member, one step of it, and its end.
+use Rattle.std.proofs.Common.{◌≡◌, inl, inr, Bool, Option, Some, None, List, [], ◌∷◌, ◌++◌, true, false, Bor, refl, sym, ◌∙◌, ap, subst}
+use Rattle.std.specs.Option.{option_copied}
+use Rattle.std.specs.List.{cons_option}
+use Rattle.std.specs.Iterator.{MakesProgress, item_count}
+use Rattle.std.proofs.lemmas.List.Elements.{filter_map-append}
+use Rattle.ic_unsafe_ref.specs.declared.place.Place.{Place}
+use Rattle.ic_unsafe_ref.specs.Objects.{Objects, object_at}
+use Rattle.ic_link_ops.specs.Sequences.{first, last}
+use Rattle.ic_link_ops.specs.Tables.{Table, IsCovered}
+use Rattle.ic_link_ops.specs.Chains.{ListHead, IsStretch, ShowsChain}
+use Rattle.ic_link_ops.specs.Turns.{TurnsBehind, TurnsBefore}
+use Rattle.ic_link_ops.specs.Walk.{walked, is_end, GivesFirst, GivesLast}
+use Rattle.ic_link_ops.specs.PlacedObjects.{ArePlaced, values_at}
+use Rattle.ic_link_ops.proofs.SequenceLemmas.{none_not, some_same, last_some}
+use Rattle.ic_link_ops.proofs.PlacedEnds.{all_but_last}
+use Rattle.ic_link_ops.proofs.Walks.{is_end_yes, is_end_no, yields_placed, makes_progress, yields_placed_back, makes_progress_back, stretch_empty, stretch_empty_back, stretch_none, stretch_of, stretch_one, stretch_more, stretch_less, stretch_walked, stretch_through}
+use Rattle.ic_chain.specs.declared.iter.Iter.{Iter}
+use Rattle.ic_chain.specs.Walk.{WalkEnds, IsTold}
+use Rattle.ic_chain.specs.Iter.{objects_left, IsLeft, CanWalk}
+
+last_behind : (p : Place) {q : Place} (r : List Place) → Some q ≡ first r → last (p ∷ r) ≡ last r
+last_behind p {q} [] e = absurd (none_not q (sym e))
+last_behind p (x ∷ r) e = refl
+
+-- WHAT IS TOLD of a last member: a place is it,
+pub told_some : (keeps : Bool) (behind : Option Place) {p : Place} {last : Option Place} → IsTold keeps (Some p) behind last → Some p ≡ last
+told_some keeps behind (inl e) = e
+told_some true behind (inr e) = e
+told_some false behind {p} (inr e) = absurd (none_not p (sym e.0))
+
+-- and where none is told of a list that has one, the kind keeps none, and nothing is to stand behind
+pub told_none : (keeps : Bool) (behind : Option Place) (x : Place) (t : List Place) → IsTold keeps None behind (last (x ∷ t)) → (keeps ≡ false) × (behind ≡ None)
+told_none keeps behind x t (inl e) = absurd (last_some x t (sym e))
+told_none true behind x t (inr e) = absurd (last_some x t (sym e))
+told_none false behind x t (inr e) = (refl, e.1)
+
+-- then nothing is turned: neither in front of what would stand there, nor behind the last member
+pub turned_nowhere : {E : Type 0} {between : E → Option Place → Option Place → Type 0} {old new : Place → E} {at from to to' : Option Place} → at ≡ None
+    → TurnsBefore between old new at from to → TurnsBefore between old new at from to'
+turned_nowhere none turns = record { turned = λ q b e h. absurd (none_not q (sym none ∙ e)); others = turns.others }
+
+pub turned_to_none : {E : Type 0} {between : E → Option Place → Option Place → Type 0} {t : Place → E} {at to : Option Place} → to ≡ None → TurnsBehind between t t at None to
+turned_to_none none = record { turned = λ q a e h. rw none h; others = λ q apart. refl }
+
+-- A PART OF A CHAIN behind which nothing stands. `leads`: the law that an entry leads on
+module _ {E : Type 0} {between : E → Option Place → Option Place → Type 0} {step : E → Option Place → Option Place}
+    (leads : (e : E) (b a : Option Place) → between e b a → step e b ≡ a) {t : Place → E} {b : Option Place} {p : Place} where
+  -- it goes on behind its first member,
+  pub rest_more : {w : List Place} → IsStretch between t b (Some p) (last w) None w
+      → (r : List Place) × (w ≡ p ∷ r) × IsStretch between t (Some p) (step (t p) b) (last r) None r
+  rest_more {w = []} k = absurd (none_not p (sym k.starts))
+  rest_more {w = x ∷ w} k =
+      let e : p ≡ x = some_same k.starts in (
+        w,
+        ap (λ (q : Place). q ∷ w) (sym e),
+        record { distinct = k.distinct.1; chain = rw e k.chain.1; starts = rw e (leads _ _ _ k.chain.0); ends = refl },
+      )
+
+  -- to the same last member, where something stands there,
+  pub rest_goes_on : {q : Place} {w : List Place} → IsStretch between t b (Some p) (last w) None w → step (t p) b ≡ Some q
+      → (r : List Place) × (w ≡ p ∷ r) × IsStretch between t (Some p) (Some q) (last r) None r × (last w ≡ last r)
+  rest_goes_on {q} k e =
+      let more = rest_more k in
+      let rest : IsStretch between t (Some p) (Some q) (last more.0) None more.0 = rw e at more.2 in
+      (more.0, more.1, rest, ap last more.1 ∙ last_behind p more.0 rest.starts)
+
+  -- and ends there, where nothing does
+  pub rest_ends : {w : List Place} → IsStretch between t b (Some p) (last w) None w → step (t p) b ≡ None → Some p ≡ last w
+  rest_ends k e =
+      let more = rest_more k in
+      sym (ap last (more.1 ∙ ap (λ (r : List Place). p ∷ r) (stretch_empty e more.2)))
+
+-- A PART OF A CHAIN, AND WHERE A WALK OVER IT ENDS
+module _ {E : Type 0} {between : E → Option Place → Option Place → Type 0} {t : Place → E} {b a : Option Place} where
+  -- with the end for its last member, where that is kept
+  pub at_end : {keeps : Bool} → keeps ≡ true → {from end : Option Place} {w : List Place} → IsStretch between t b from (last w) a w → WalkEnds keeps end a (last w)
+      → IsStretch between t b from end a w
+  at_end closed {end = end} {w} k e =
+      record { distinct = k.distinct; chain = k.chain; starts = k.starts; ends = subst (λ keeps. WalkEnds keeps end a (last w)) closed e }
+
+  -- and the other way round
+  pub to_last : {keeps : Bool} → keeps ≡ true → {from end : Option Place} {w : List Place} → IsStretch between t b from end a w
+      → IsStretch between t b from (last w) a w × WalkEnds keeps end a (last w)
+  to_last closed {end = end} {w} k = (
+    record { distinct = k.distinct; chain = k.chain; starts = k.starts; ends = refl },
+    subst (λ keeps. WalkEnds keeps end a (last w)) (sym closed) k.ends,
+  )
+
+module _ {E : Type 0} {between : E → Option Place → Option Place → Type 0} {t : Place → E} {b a : Option Place} where
+  -- a walk that comes to its end was on the last member
+  pub comes_to_end : (keeps : Bool) (end : Option Place) (p : Place) {w : List Place} → IsStretch between t b (Some p) (last w) a w → WalkEnds keeps end a (last w)
+      → is_end end p ≡ true → (w ≡ p ∷ []) × WalkEnds keeps None a None
+  comes_to_end true end p k e ends = (stretch_one (rw (is_end_yes end p ends) at (at_end refl k e)), refl)
+  comes_to_end false end p k e ends = let never : false ≡ true = rw e.0 at ends in absurd (cc)
+
+  -- else it goes on behind that,
+  pub goes_on : (step : E → Option Place → Option Place) → ((e : E) (b a : Option Place) → between e b a → step e b ≡ a) → (keeps : Bool) (end : Option Place) (p : Place)
+      {w : List Place} → IsStretch between t b (Some p) (last w) a w → WalkEnds keeps end a (last w) → is_end end p ≡ false
+      → (r : List Place) × (w ≡ p ∷ r) × IsStretch between t (Some p) (step (t p) b) (last r) a r × WalkEnds keeps end a (last r)
+  goes_on step leads true end p k e goes =
+      let more = stretch_more step leads {to = end} (at_end refl k e) (is_end_no end p goes) in
+      let rest = to_last refl {end = end} more.2 in (more.0, more.1, rest.0, rest.1)
+  goes_on step leads false end p k e goes = let more = rest_more leads (rw e.1 at k) in (more.0, more.1, rw e.1 more.2, e)
+
+-- and gives all members of the part
+pub walks_over : {E : Type 0} {between : E → Option Place → Option Place → Type 0} (step : E → Option Place → Option Place)
+    → ((e : E) (b a : Option Place) → between e b a → step e b ≡ a) → (t : Table E) → ((q : Place) (b a : Option Place) → between (t.entry q) b a → IsCovered t q)
+    → (keeps : Bool) (end : Option Place) {b from a : Option Place} {w : List Place} → IsStretch between t.entry b from (last w) a w → WalkEnds keeps end a (last w) → walked step t b from end ≡ w
+walks_over step leads t covered true end k e = stretch_walked step leads t covered (at_end refl k e)
+walks_over step leads t covered false end k e = rw e.0 (stretch_through step leads t covered (rw e.1 at k))
+
+-- THE MEMBERS OF A LIST, as the entries lead through them
+pub members_shown : {E W : Type 0} {between : E → Option Place → Option Place → Type 0} {kept : Option Place → W} (step : E → Option Place → Option Place)
+    → ((e : E) (b a : Option Place) → between e b a → step e b ≡ a) → (t : Table E) → ((q : Place) (b a : Option Place) → between (t.entry q) b a → IsCovered t q)
+    → {list : ListHead W} {s : List Place} → ShowsChain between kept t list s → walked step t None list.head None ≡ s
+members_shown step leads t covered shown = stretch_through step leads t covered (stretch_of shown)
+
+module _ {K T L O E : Type 0} (keeps : Bool) (between : E → Option Place → Option Place → Type 0) (table : L → Table E) (values : O → Objects T) where
+  -- the walk gave out the member at p, and goes on behind it
+  pub record Steps (old new : Iter K T L O) (p : Place) : Type 0 where
+    pub members : List Place
+    pub walk : IsLeft keeps between table values new members
+    pub whole : IsLeft keeps between table values old (p ∷ members)
+    pub placed : ArePlaced (values old.objects.now) (p ∷ members)
+    pub objects : values new.objects.now ≡ values old.objects.now
+
+  -- it ends at the last member
+  pub steps_last : (t : Iter K T L O) (p : Place) → CanWalk keeps between table values t → t.head ≡ Some p → is_end t.tail p ≡ true
+      → Steps t (record t { head = None; tail = None }) p
+  steps_last t p can at end =
+      let k = comes_to_end keeps t.tail p (rw at at can.1.0) can.1.1 end in
+      record {
+        members = [];
+        walk = (stretch_none, k.1);
+        whole = rw k.0 at can.1;
+        placed = rw k.0 at can.2;
+        objects = refl;
+      }
+
+  -- the same from the back: it gave out the member at p, and ends before it
+  pub record StepsBack (old new : Iter K T L O) (p : Place) : Type 0 where
+    pub members : List Place
+    pub walk : IsLeft keeps between table values new members
+    pub whole : IsLeft keeps between table values old (members ++ p ∷ [])
+    pub placed : ArePlaced (values old.objects.now) (members ++ p ∷ [])
+    pub objects : values new.objects.now ≡ values old.objects.now
+
+  pub steps_back_last : keeps ≡ true → (t : Iter K T L O) (p : Place) → CanWalk keeps between table values t → t.tail ≡ Some p → is_end t.head p ≡ true
+      → StepsBack t (record t { head = None; tail = None }) p
+  steps_back_last closed t p can at end =
+      let e = stretch_one (rw (at, is_end_yes t.head p end) at (at_end closed can.1.0 can.1.1)) in
+      record {
+        members = [];
+        walk = to_last closed stretch_none;
+        whole = rw e at can.1;
+        placed = rw e at can.2;
+        objects = refl;
+      }
+
+  -- the walk can go on
+  pub can_walk : {old new : Iter K T L O} {p : Place} → Steps old new p → CanWalk keeps between table values new
+  can_walk k = (k.members, k.walk, rw k.objects k.placed.1)
+
+  pub can_walk_back : {old new : Iter K T L O} {p : Place} → StepsBack old new p → CanWalk keeps between table values new
+  can_walk_back k = (k.members, k.walk, rw k.objects (all_but_last _ k.members _ k.placed).0)
+
+  -- `leads`: the law that an entry leads on
+  module _ (step : E → Option Place → Option Place) (leads : (e : E) (b a : Option Place) → between e b a → step e b ≡ a) where
+    -- else it goes on at the next one
+    pub steps_more : (t : Iter K T L O) (p : Place) (next : Option Place) → CanWalk keeps between table values t → t.head ≡ Some p → is_end t.tail p ≡ false
+        → next ≡ step ((table t.links.now).entry p) t.before → Steps t (record t { before = Some p; head = next }) p
+    steps_more t p next can at end is_next =
+        let r = goes_on step leads keeps t.tail p (rw at at can.1.0) can.1.1 end in
+        record {
+          members = r.0;
+          walk = (rw is_next r.2, r.3);
+          whole = rw r.1 at can.1;
+          placed = rw r.1 at can.2;
+          objects = refl;
+        }
+
+    -- and from the back, by the neighbor on the other side of what is behind
+    pub steps_back_more : (back : E → Option Place → Option Place) → ((e : E) (b a : Option Place) → between e b a → back e a ≡ b) → keeps ≡ true → (t : Iter K T L O) (p : Place) (prev : Option Place)
+        → CanWalk keeps between table values t → t.tail ≡ Some p → is_end t.head p ≡ false
+        → prev ≡ back ((table t.links.now).entry p) t.behind → StepsBack t (record t { tail = prev; behind = Some p }) p
+    steps_back_more back leads_back closed t p prev can at end is_prev =
+        let r = stretch_less back leads_back (rw at at (at_end closed can.1.0 can.1.1)) (is_end_no t.head p end) in
+        record {
+          members = r.0;
+          walk = to_last closed (rw is_prev r.2);
+          whole = rw r.1 at can.1;
+          placed = rw r.1 at can.2;
+          objects = refl;
+        }
+
+    module _ (law : (t : L) (q : Place) (b a : Option Place) → between ((table t).entry q) b a → IsCovered (table t) q) where
+      -- what is left is what stands at the members of the walk
+      pub left_is : (t : Iter K T L O) (w : List Place) → IsLeft keeps between table values t w → objects_left step table values t ≡ values_at (values t.objects.now) w
+      left_is t w k = ap (values_at (values t.objects.now)) (walks_over step leads (table t.links.now) (law t.links.now) keeps t.tail k.0 k.1)
+
+      -- where it has no first member, nothing is left
+      pub none_left : (t : Iter K T L O) → CanWalk keeps between table values t → t.head ≡ None → objects_left step table values t ≡ []
+      none_left t can at = left_is t can.0 can.1 ∙ ap (values_at (values t.objects.now)) (stretch_empty at can.1.0)
+
+      pub none_left_back : keeps ≡ true → (t : Iter K T L O) → CanWalk keeps between table values t → t.tail ≡ None → objects_left step table values t ≡ []
+      none_left_back closed t can at = left_is t can.0 can.1 ∙ ap (values_at (values t.objects.now)) (stretch_empty_back at (at_end closed can.1.0 can.1.1))
+
+      -- the step gives the object at p
+      pub gives : {old new : Iter K T L O} {p : Place} (r : Option (Bor T)) → Steps old new p → option_copied r ≡ object_at (values old.objects.now) p
+          → GivesFirst (objects_left step table values) old r new
+      gives {old} {new} {p} r k is =
+          yields_placed (objects_left step table values) old new r (object_at (values old.objects.now) p) k.placed.0 is
+          (left_is old (p ∷ k.members) k.whole
+          ∙ ap (cons_option (object_at (values old.objects.now) p)) (sym (left_is new k.members k.walk ∙ ap (λ o. values_at o k.members) k.objects)))
+
+      -- and leaves one less
+      pub goes : {old new : Iter K T L O} {p : Place} (r : Option (Bor T)) → Steps old new p → option_copied r ≡ object_at (values old.objects.now) p
+          → MakesProgress (CanWalk keeps between table values) (item_count (objects_left step table values)) old r new
+      goes {old} {new} {p} r k is = makes_progress (objects_left step table values) (CanWalk keeps between table values) old new r (can_walk k) (gives r k is)
+
+      -- the same from the back
+      pub gives_back : {old new : Iter K T L O} {p : Place} (r : Option (Bor T)) → StepsBack old new p → option_copied r ≡ object_at (values old.objects.now) p
+          → GivesLast (objects_left step table values) old r new
+      gives_back {old} {new} {p} r k is =
+          yields_placed_back (objects_left step table values) old new r (object_at (values old.objects.now) p) (all_but_last _ k.members p k.placed).1 is
+          (left_is old (k.members ++ p ∷ []) k.whole
+          ∙ filter_map-append (object_at (values old.objects.now)) k.members (p ∷ [])
+          ∙ ap (λ (l : List T). l ++ cons_option (object_at (values old.objects.now) p) []) (sym (left_is new k.members k.walk ∙ ap (λ o. values_at o k.members) k.objects)))
+
+      pub goes_back : {old new : Iter K T L O} {p : Place} (r : Option (Bor T)) → StepsBack old new p → option_copied r ≡ object_at (values old.objects.now) p
+          → MakesProgress (CanWalk keeps between table values) (item_count (objects_left step table values)) old r new
+      goes_back {old} {new} {p} r k is =
+          makes_progress_back (objects_left step table values) (CanWalk keeps between table values) old new r (can_walk_back k) (gives_back r k is)

@@ -1,0 +1,19 @@
+use Rattle.std.proofs.Common.{[], ◌∷◌}
+use Rattle.ic_link_ops.proofs.Covering.{frames_join}
+use Rattle.ic_link_ops.specs.LinkSteps.{releases}
+use Rattle.ic_link_ops.proofs.LinkedSets.{unlinked_again}
+use Rattle.ic_chain.proofs.laws.push_then_pop_front.Goals as goal
+
+pub returns : goal.returns
+returns g c old pushed new object result s shown push pop =
+    let put = push.inserted s shown in
+    let is = pop.answer (object ∷ s) put in
+    let table = g.L.LinkOps.table in
+    let replay = g.met.L.LinkOps.does_replay in
+    record {
+      answer = is;
+      sequence = pop.removed (object ∷ s) put;
+      linked = unlinked_again {linked = g.L.LinkOps.linked} (table old.links) (table pushed.links) (table new.links) object
+          (replay _ _ _ push.acquired) (replay _ _ (releases object ∷ []) (rw is at pop.released));
+      frame = frames_join (push.frame s shown) (pop.frame (object ∷ s) put) (λ q out. out);
+    }

@@ -1,0 +1,77 @@
+use Rattle.std.proofs.Common.{[], ◌∷◌, Some, ◌++◌, ◌∙◌, sym, ap, refl, drop, ◌≡◌}
+use Rattle.ic_link_ops.specs.Chains.{ListHead, list_head, ShowsChain}
+use Rattle.ic_link_ops.proofs.SequenceLemmas.{gap_not, absent_left, absent_right, absent_both}
+use Rattle.ic_link_ops.proofs.ShownLists.{shows_splice, shows_first, ends_not}
+use Rattle.ic_chain.proofs.Walking.{told_some, told_none, turned_nowhere, turned_to_none}
+use Rattle.ic_chain.proofs.list.Chain.splice_between.Goals as goal
+
+pub set_prev_or_tail-requires : goal.set_prev_or_tail-requires
+set_prev_or_tail-requires g c names q e = g.met.L.LinkOps.does_replay _ _ [] c.set_next_or_head.ensures.no_step q ∙ c.requires.behind names q e
+
+pub set_next-requires : goal.set_next-requires
+set_next-requires g c =
+    let L = g.met.L.LinkOps in record {
+      linked = rw (L.does_replay _ _ [] c.set_prev.ensures.no_step _, L.does_replay _ _ [] c.set_prev_or_tail.ensures.no_step _, L.does_replay _ _ [] c.set_next_or_head.ensures.no_step _)
+          (c.requires.end c.in-Some-end.end c.in-Some-end.is);
+    }
+
+pub returns-in-Some-end-clause-spliced : goal.returns-in-Some-end-clause-spliced
+returns-in-Some-end-clause-spliced g c gap t shown before behind other told apart =
+    let is_end = c.in-Some-end.is ∙ told_some _ _ (rw c.in-Some-end.is at told) in
+    let list : ListHead g.row.K-Tail.Denot = list_head (Some c.in-Some.first) c.args.given.tail in
+    let given : ShowsChain g.K.ForwardLinks.Between g.K.ListKind.kept (g.L.LinkOps.table c.args.links.now) list t =
+    record { distinct = other.distinct; chain = other.chain; head = sym c.in-Some.is ∙ c.first.ensures ∙ other.head; tail = other.tail } in
+    let turn3 = c.set_prev.ensures in
+    let turn4 = c.set_next.ensures in
+    record {
+      shows = shows_splice {t4 = g.L.LinkOps.table c.set_next.new.links} {list' = list_head c.set_next_or_head.new.head c.set_prev_or_tail.new.tail} {given = list}
+          gap.front t gap.back c.in-Some.first refl is_end before behind (rw (← c.self.view_is) at shown) given apart
+          c.set_next_or_head.ensures.turns c.set_prev_or_tail.ensures.turns turn3.turns (rw c.in-Some-end.is turn4.turns) c.set_next_or_head.ensures.head c.set_prev_or_tail.ensures.tail;
+      frame = record {
+        extent = turn4.frame.extent ∙ turn3.frame.extent ∙ c.set_prev_or_tail.ensures.extent ∙ c.set_next_or_head.ensures.extent;
+        others = λ q out.
+            let rest = absent_right q gap.front (t ++ gap.back) out in
+            let beside = gap_not gap.front gap.back before behind
+            (absent_both q gap.front gap.back (absent_left q gap.front (t ++ gap.back) out) (absent_right q t gap.back rest)) in
+            let apart_ends = ends_not given is_end (absent_left q t gap.back rest) in
+            turn4.frame.others q (λ e. apart_ends.1 (c.in-Some-end.is ∙ ap Some (sym e))) ∙ turn3.frame.others q (λ e. apart_ends.0 (ap Some (sym e)))
+            ∙ c.set_prev_or_tail.ensures.turns.others q beside.1 ∙ c.set_next_or_head.ensures.turns.others q beside.0;
+      };
+    }
+
+pub returns-in-Some-end-clause-no_step : goal.returns-in-Some-end-clause-no_step
+returns-in-Some-end-clause-no_step g c =
+    let L = g.met.L.LinkOps in
+    L.does_on _ _ _ _ _ (L.does_on _ _ _ _ _ (L.does_on _ _ _ _ _ c.set_next_or_head.ensures.no_step c.set_prev_or_tail.ensures.no_step) c.set_prev.ensures.no_step)
+    c.set_next.ensures.no_step
+
+-- no last member is told: the kind keeps none, and nothing stands behind
+pub returns-clause-spliced : goal.returns-clause-spliced
+returns-clause-spliced g c gap t shown before behind other told apart =
+    let list : ListHead g.row.K-Tail.Denot = list_head (Some c.in-Some.first) c.args.given.tail in
+    let given : ShowsChain g.K.ForwardLinks.Between g.K.ListKind.kept (g.L.LinkOps.table c.args.links.now) list t =
+    record { distinct = other.distinct; chain = other.chain; head = sym c.in-Some.is ∙ c.first.ensures ∙ other.head; tail = other.tail } in
+    let starts : t ≡ c.in-Some.first ∷ drop 1 t = shows_first t given refl in
+    let none = told_none _ _ c.in-Some.first (drop 1 t) (rw (c.in-None.is, starts) at told) in
+    let turn3 = c.set_prev.ensures in
+    record {
+      shows = shows_splice {t4 = g.L.LinkOps.table c.set_prev.new.links} {list' = list_head c.set_next_or_head.new.head c.set_prev_or_tail.new.tail} {given = list}
+          gap.front t gap.back c.in-Some.first refl refl before behind (rw (← c.self.view_is) at shown) given apart
+          c.set_next_or_head.ensures.turns (turned_nowhere none.1 c.set_prev_or_tail.ensures.turns) turn3.turns (turned_to_none none.1) c.set_next_or_head.ensures.head
+          (λ end is. c.set_prev_or_tail.ensures.tail end is ∙ g.met.K.ListKind.tells_nothing none.0 _ _);
+      frame = record {
+        extent = turn3.frame.extent ∙ c.set_prev_or_tail.ensures.extent ∙ c.set_next_or_head.ensures.extent;
+        others = λ q out.
+            let rest = absent_right q gap.front (t ++ gap.back) out in
+            let beside = gap_not gap.front gap.back before behind
+            (absent_both q gap.front gap.back (absent_left q gap.front (t ++ gap.back) out) (absent_right q t gap.back rest)) in
+            let apart_ends = ends_not given refl (absent_left q t gap.back rest) in
+            turn3.frame.others q (λ e. apart_ends.0 (ap Some (sym e)))
+            ∙ c.set_prev_or_tail.ensures.turns.others q beside.1 ∙ c.set_next_or_head.ensures.turns.others q beside.0;
+      };
+    }
+
+pub returns-clause-no_step : goal.returns-clause-no_step
+returns-clause-no_step g c =
+    let L = g.met.L.LinkOps in
+    L.does_on _ _ _ _ _ (L.does_on _ _ _ _ _ c.set_next_or_head.ensures.no_step c.set_prev_or_tail.ensures.no_step) c.set_prev.ensures.no_step

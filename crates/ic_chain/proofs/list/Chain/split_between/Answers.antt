@@ -1,0 +1,27 @@
+use Rattle.std.proofs.Common.{[], ◌∙◌, refl}
+use Rattle.ic_link_ops.specs.Chains.{list_head}
+use Rattle.ic_link_ops.proofs.SequenceLemmas.{gap_not}
+use Rattle.ic_link_ops.proofs.ShownLists.{shows_split}
+use Rattle.ic_chain.proofs.list.Chain.split_between.Goals as goal
+
+pub set_prev_or_tail-requires : goal.set_prev_or_tail-requires
+set_prev_or_tail-requires g c names q e = g.met.L.LinkOps.does_replay _ _ [] c.set_next_or_head.ensures.no_step q ∙ c.requires.behind names q e
+
+pub returns-clause-split : goal.returns-clause-split
+returns-clause-split g c gap shown before behind =
+    let parts = shows_split {t2 = g.L.LinkOps.table c.set_prev_or_tail.new.links} {fronts = list_head c.set_next_or_head.new.head c.keep.result} {backs = list_head c.args.behind c.set_prev_or_tail.new.tail}
+    gap.front gap.back before behind (rw (← c.self.view_is) at shown) c.set_next_or_head.ensures.turns c.set_prev_or_tail.ensures.turns
+    c.set_next_or_head.ensures.head c.keep.ensures refl c.set_prev_or_tail.ensures.tail in
+    record {
+      keeps = rw c.replace.ensures.after parts.0;
+      hands_out = rw (c.of.ensures, c.replace.ensures.value) parts.1;
+      frame = record {
+        extent = c.set_prev_or_tail.ensures.extent ∙ c.set_next_or_head.ensures.extent;
+        others = λ q out.
+            let beside = gap_not gap.front gap.back before behind out in
+            c.set_prev_or_tail.ensures.turns.others q beside.1 ∙ c.set_next_or_head.ensures.turns.others q beside.0;
+      };
+    }
+
+pub returns-clause-no_step : goal.returns-clause-no_step
+returns-clause-no_step g c = g.met.L.LinkOps.does_on _ _ _ _ _ c.set_next_or_head.ensures.no_step c.set_prev_or_tail.ensures.no_step

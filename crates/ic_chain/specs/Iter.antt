@@ -1,0 +1,31 @@
+-- What clauses see of a walk over a list's objects.
+use Rattle.std.specs.Prelude.{Bool, Option, List}
+use Rattle.ic_unsafe_ref.specs.declared.place.Place.{Place}
+use Rattle.ic_unsafe_ref.specs.Objects.{Objects}
+use Rattle.ic_link_ops.specs.Sequences.{last}
+use Rattle.ic_link_ops.specs.Tables.{Table}
+use Rattle.ic_link_ops.specs.Chains.{IsStretch}
+use Rattle.ic_link_ops.specs.Walk.{walked}
+use Rattle.ic_link_ops.specs.PlacedObjects.{ArePlaced, values_at}
+use Rattle.ic_chain.specs.Walk.{WalkEnds}
+use Rattle.ic_chain.specs.declared.iter.Iter.{Iter}
+
+-- `values`: the values by place
+module _ {K T L O E : Type 0} (step : E → Option Place → Option Place) (table : L → Table E) (values : O → Objects T) where
+  -- the members that the walk has not given out yet
+  abbrev pub rest_of : Iter K T L O → List Place
+  rest_of t = walked step (table t.links.now) t.before t.head t.tail
+
+  -- the objects that it has not given out yet
+  abbrev pub objects_left : Iter K T L O → List T
+  objects_left t = values_at (values t.objects.now) (rest_of t)
+
+-- `keeps_last`: lists of the kind keep their last member
+module _ {K T L O E : Type 0} (keeps_last : Bool) (between : E → Option Place → Option Place → Type 0) (table : L → Table E) (values : O → Objects T) where
+  -- what is left are these members, a part of a chain
+  abbrev pub IsLeft : Iter K T L O → List Place → Type 0
+  IsLeft t w = IsStretch between (table t.links.now).entry t.before t.head (last w) t.behind w × WalkEnds keeps_last t.tail t.behind (last w)
+
+  -- there are such members, all of them placed
+  abbrev pub CanWalk : Iter K T L O → Type 0
+  CanWalk t = (w : List Place) × IsLeft t w × ArePlaced (values t.objects.now) w

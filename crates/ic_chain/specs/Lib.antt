@@ -1,0 +1,5 @@
+pub mod IntoIter
+pub mod Iter
+pub mod Laws
+pub mod Standing
+pub mod Walk

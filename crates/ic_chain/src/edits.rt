@@ -1,0 +1,241 @@
+//! What a list of any kind gives the cursors: moves and edits at a position.
+//!
+//! "After" is the gap behind the position's member, or the first gap at null; "before" is the gap in front of it, or
+//! the last gap at null. An edit behind the position leaves it with the place that stands there then. What each does, the traits say.
+
+ghost use Rattle.std.specs.Prelude.{◌≡◌, List, ⊤};
+ghost use Rattle.ic_link_ops.specs.Sequences.{Cut, join, IsAfter, IsBefore};
+ghost use Rattle.ic_link_ops.specs.Chains.{ShowsChain};
+ghost use Rattle.ic_chain.specs.Standing.{StandsAt};
+
+use crate::Chain;
+use crate::kind::{BidirectionalLinks, DoubleEnded, ForwardLinks, ListKind, SingleEnded};
+use crate::position::ListPosition;
+use ic_cursors::{
+    Bidirectional, BidirectionalSplice, Collection, CursorOps, ForwardOnly, Position, Splice,
+};
+use ic_link_ops::LinkOps;
+use ic_unsafe_ref::Place;
+use std::mem;
+
+impl<K: ListKind, T> Collection for Chain<K, T> {
+    type Object = T;
+
+    type Position = K::Position;
+
+    type Head = Chain<K, T>;
+
+    ghost head_of = { λ list. list };
+
+    ghost Keeps = { λ old new. ⊤ };
+
+    ghost null_of = { λ list. K.Position.null };
+
+    #[inline]
+    fn null_position(&self) -> K::Position {
+        ListPosition::null()
+    }
+}
+
+// The neighbors of a position, for edits. A cursor's step asks for the end of a list out of line, since it comes to null once a round; an
+// edit is made at null as often as anywhere.
+impl<K: ListKind, T> Chain<K, T> {
+    // What stands behind the position: at null the first member.
+    #[inline]
+    fn behind<L: LinkOps>(&self, links: &L, at: &K::Position) -> Option<Place>
+    where
+        K: ForwardLinks<L>,
+        requires { StandsAt (ShowsChain K.Between K.kept) L.table K.Position.member K.Position.CachesNext links.now self.now at.now }
+        ensures { (gap : Cut) → ShowsChain K.Between K.kept (L.table links.now) self.now (join gap) → IsAfter gap (K.Position.member at.now) → IsBefore gap result }
+    {
+        match at.get() {
+            None => self.first(),
+            Some(place) => K::next_at(links, place, at),
+        }
+    }
+
+    /// The position on the member `current`, `None` for null, in front of which `prev` stands, as a cursor of the list keeps it.
+    ///
+    /// It requires that they are neighbors, if the kind reads the member's entry. O(1): at most one reading.
+    #[inline]
+    pub fn position_at<L: LinkOps>(
+        &self,
+        links: &L,
+        prev: Option<Place>,
+        current: Option<Place>,
+    ) -> K::Position
+    where
+        K: ForwardLinks<L>,
+        requires shown { K.ReadsNext → (gap : Cut) × ShowsChain K.Between K.kept (L.table links.now) self.now (join gap)
+            × IsAfter gap prev × IsBefore gap current }
+        ensures on { K.Position.member result ≡ current }
+        ensures kept { (gap : Cut) → ShowsChain K.Between K.kept (L.table links.now) self.now (join gap) → IsAfter gap prev → IsBefore gap current
+            → StandsAt (ShowsChain K.Between K.kept) L.table K.Position.member K.Position.CachesNext links.now self.now result }
+    {
+        match current {
+            None => ListPosition::null(),
+            Some(place) => K::position_at(links, place, prev),
+        }
+    }
+}
+
+impl<K: DoubleEnded, T> Chain<K, T> {
+    // What stands in front of the position: at null the last member.
+    #[inline]
+    fn before<L: LinkOps>(&self, links: &L, at: &K::Position) -> Option<Place>
+    where
+        K: BidirectionalLinks<L>,
+        requires { StandsAt (ShowsChain K.Between K.kept) L.table K.Position.member K.Position.CachesNext links.now self.now at.now }
+        ensures { (gap : Cut) → ShowsChain K.Between K.kept (L.table links.now) self.now (join gap) → IsBefore gap (K.Position.member at.now) → IsAfter gap result }
+    {
+        match at.get() {
+            None => self.last(),
+            Some(place) => {
+                let behind = K::next_at(links, place, at);
+                K::prev(links, place, behind)
+            }
+        }
+    }
+}
+
+impl<T, L: LinkOps, K: ForwardLinks<L>> CursorOps<L> for Chain<K, T> {
+    ghost Shows = { ShowsChain K.Between K.kept };
+
+    ghost StandsAt = { StandsAt (ShowsChain K.Between K.kept) L.table K.Position.member K.Position.CachesNext };
+
+    #[inline]
+    fn next_of(&self, links: &L, at: &K::Position) -> K::Position {
+        let current = at.get();
+        match current {
+            None => self.position_at(links, current, self.head_from_null()),
+            Some(_) => self.position_at(links, current, self.behind(links, at)),
+        }
+    }
+
+    #[inline]
+    fn insert_after_at(&mut self, links: &mut L, at: &mut K::Position, object: Place) -> bool {
+        let current = at.get();
+        let behind = self.behind(&*links, at);
+        if !self.insert_between(links, current, object, behind) {
+            return false;
+        }
+        *at = ListPosition::of(current, Some(object));
+        true
+    }
+}
+
+impl<T, L: LinkOps, K: SingleEnded + ForwardLinks<L>> ForwardOnly<L> for Chain<K, T> {
+    #[inline]
+    fn remove_next_at(&mut self, links: &mut L, at: &mut K::Position) -> Option<Place> {
+        let current = at.get();
+        let place = self.behind(&*links, at)?;
+        let behind = K::next(&*links, place, current);
+        self.unlink(links, current, place, behind);
+        *at = ListPosition::of(current, behind);
+        Some(place)
+    }
+
+    #[inline]
+    fn replace_next_at(
+        &mut self,
+        links: &mut L,
+        at: &mut K::Position,
+        object: Place,
+    ) -> (Option<Place>, bool) {
+        let current = at.get();
+        let next = self.behind(&*links, at);
+        let Some(out) = next else {
+            return (None, false);
+        };
+        let behind = K::next(&*links, out, current);
+        if !self.replace(links, current, out, object, behind) {
+            return (next, false);
+        }
+        *at = ListPosition::of(current, Some(object));
+        (next, true)
+    }
+}
+
+impl<T, L: LinkOps, K: DoubleEnded + BidirectionalLinks<L>> Bidirectional<L> for Chain<K, T> {
+    #[inline]
+    fn prev_of(&self, links: &L, at: &K::Position) -> K::Position {
+        let current = at.get();
+        match current {
+            None => ListPosition::of(self.last_from_null(), current),
+            Some(_) => ListPosition::of(self.before(links, at), current),
+        }
+    }
+
+    #[inline]
+    fn insert_before_at(&mut self, links: &mut L, at: &mut K::Position, object: Place) -> bool {
+        let current = at.get();
+        let before = self.before(&*links, at);
+        if !self.insert_between(links, before, object, current) {
+            return false;
+        }
+        true
+    }
+
+    #[inline]
+    fn remove_at(&mut self, links: &mut L, at: &mut K::Position) -> Option<Place> {
+        let place = at.get()?;
+        let before = self.before(&*links, at);
+        let behind = self.behind(&*links, at);
+        self.unlink(links, before, place, behind);
+        *at = self.position_at(&*links, before, behind);
+        Some(place)
+    }
+
+    #[inline]
+    fn replace_at(&mut self, links: &mut L, at: &mut K::Position, object: Place) -> bool {
+        let Some(out) = at.get() else {
+            return false;
+        };
+        let before = self.before(&*links, at);
+        let behind = self.behind(&*links, at);
+        if !self.replace(links, before, out, object, behind) {
+            return false;
+        }
+        *at = ListPosition::of(Some(object), behind);
+        true
+    }
+}
+
+impl<T, L: LinkOps, K: ForwardLinks<L>> Splice<L> for Chain<K, T> {
+    #[inline]
+    fn splice_after_at(&mut self, links: &mut L, at: &mut K::Position, given: Chain<K, T>) {
+        let current = at.get();
+        let behind = self.behind(&*links, at);
+        let first = given.first();
+        let last = given.last_before(&*links, behind);
+        self.splice_between(links, current, given, last, behind);
+        *at = ListPosition::of(current, first.or(behind));
+    }
+
+    #[inline]
+    fn split_after_at(&mut self, links: &mut L, at: &mut K::Position) -> Chain<K, T> {
+        let current = at.get();
+        let behind = self.behind(&*links, at);
+        let rest = self.split_between(links, current, behind);
+        *at = ListPosition::of(current, None);
+        rest
+    }
+}
+
+impl<T, L: LinkOps, K: DoubleEnded + BidirectionalLinks<L>> BidirectionalSplice<L> for Chain<K, T> {
+    #[inline]
+    fn splice_before_at(&mut self, links: &mut L, at: &mut K::Position, given: Chain<K, T>) {
+        let current = at.get();
+        let before = self.before(&*links, at);
+        let last = given.last();
+        self.splice_between(links, before, given, last, current);
+    }
+
+    #[inline]
+    fn split_before_at(&mut self, links: &mut L, at: &mut K::Position) -> Chain<K, T> {
+        let current = at.get();
+        let before = self.before(&*links, at);
+        let rest = self.split_between(links, before, current);
+        mem::replace(self, rest)
+    }
+}

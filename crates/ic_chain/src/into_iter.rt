@@ -1,0 +1,109 @@
+//! A walk that takes the members off.
+//!
+//! ```text
+//! let mut rest = list.into_iter(&mut links);
+//! let first = rest.next();      // unlinked now
+//! rest.finish();                // and all others
+//! ```
+
+ghost use Rattle.std.specs.Prelude.{◌≡◌, List};
+ghost use Rattle.std.specs.Iterator.{item_count};
+ghost use Rattle.ic_unsafe_ref.specs.declared.place.Place.{Place};
+ghost use Rattle.ic_link_ops.specs.Tables.{KeepsBeside};
+ghost use Rattle.ic_link_ops.specs.LinkSteps.{releases_each};
+ghost use Rattle.ic_link_ops.specs.Taking.{Leaves, CanTake, TakesFirst, TakesLast};
+ghost use Rattle.ic_link_ops.specs.Chains.{ShowsChain, ShowsSomeChain};
+
+use crate::Chain;
+use crate::kind::{BidirectionalLinks, DoubleEnded, ForwardLinks, ListKind};
+use ic_link_ops::LinkOps;
+use ic_unsafe_ref::UnsafeRef;
+
+/// The members of a list that are not given out yet: from the front by `next`, and where the kind leads back from the back by
+/// `next_back`.
+///
+/// Each member that is given out is unlinked, and no other. If the walk is dropped, the rest stays linked: call
+/// [`finish`](Self::finish) to unlink it.
+pub struct IntoIter<'a, K: ListKind, T, L> {
+    list: Chain<K, T>,
+    links: &'a mut L,
+}
+
+impl<K: ListKind, T, L> Drop for IntoIter<'_, K, T, L> {
+    fn drop(self)
+        ensures links { self.exit.1.0.now ≡ self.entry.links.now }
+    {
+        let IntoIter { list: _, links: _ } = self;
+    }
+}
+
+impl<'a, T, L: LinkOps, K: ForwardLinks<L>> Iterator for IntoIter<'a, K, T, L> {
+    type Item = UnsafeRef<T>;
+
+    ghost use Rattle.ic_chain.specs.IntoIter.{rest_of, members_left};
+
+    ghost can_next = { λ t. CanTake (ShowsChain K.Between K.kept) L.table (rest_of t) };
+
+    ghost next_gives = { λ s r t. TakesFirst (ShowsChain K.Between K.kept) L.table L.Does (rest_of s) r (rest_of t) };
+
+    ghost remaining = { item_count (members_left K.step L.table) };
+
+    /// Takes the next object off the list. O(1).
+    #[inline]
+    fn next(&mut self) -> Option<UnsafeRef<T>> {
+        self.list.pop_front(self.links)
+    }
+}
+
+impl<'a, T, L: LinkOps, K: DoubleEnded + BidirectionalLinks<L>> DoubleEndedIterator
+    for IntoIter<'a, K, T, L> {
+    ghost use Rattle.ic_chain.specs.IntoIter.{rest_of};
+
+    ghost can_next_back = { λ t. CanTake (ShowsChain K.Between K.kept) L.table (rest_of t) };
+
+    ghost next_back_gives = { λ s r t. TakesLast (ShowsChain K.Between K.kept) L.table L.Does (rest_of s) r (rest_of t) };
+
+    /// Takes the next object from the back off the list. O(1).
+    #[inline]
+    fn next_back(&mut self) -> Option<UnsafeRef<T>> {
+        self.list.pop_back(self.links)
+    }
+}
+
+impl<'a, T, L: LinkOps, K: ForwardLinks<L>> IntoIter<'a, K, T, L> {
+    ghost use Rattle.ic_chain.specs.IntoIter.{rest_of};
+
+    /// The table, as the walk has changed it so far.
+    #[inline]
+    pub fn links(&self) -> &L
+        ensures { result.now ≡ self.now.links.now }
+    {
+        self.links
+    }
+
+    /// Unlinks the members that were not given out. One step for each of them, and no memory.
+    pub fn finish(self)
+        requires can_take { CanTake (ShowsChain K.Between K.kept) L.table (rest_of self) }
+        ensures released { (w : List Place) → Leaves (ShowsChain K.Between K.kept) L.table (rest_of self.entry) w
+            → L.Does self.entry.links.now self.exit.1.0.now (releases_each w) }
+        ensures frame { (w : List Place) → Leaves (ShowsChain K.Between K.kept) L.table (rest_of self.entry) w
+            → KeepsBeside (L.table self.entry.links.now) (L.table self.exit.1.0.now) w }
+    {
+        let IntoIter { list, links } = self;
+        list.dispose(links);
+    }
+}
+
+impl<K: ListKind, T> Chain<K, T> {
+    /// A walk that takes the members off. O(1): nothing is unlinked yet.
+    pub fn into_iter<'a, L: LinkOps>(self, links: &'a mut L) -> IntoIter<'a, K, T, L>
+    where
+        K: ForwardLinks<L>,
+        requires shown { ShowsSomeChain K.Between K.kept (L.table links.old) self }
+        ensures list { result.list ≡ self }
+        ensures links { result.links.now ≡ links.entry.now }
+        ensures same_links { result.links.ghost_name ≡ links.entry.ghost_name }
+    {
+        IntoIter { list: self, links }
+    }
+}

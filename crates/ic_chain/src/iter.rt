@@ -1,0 +1,181 @@
+//! Walks over the objects of a list.
+//!
+//! ```text
+//! for task in list.iter(&links, &objects) {
+//!     task.run();
+//! }
+//! let newest = list.iter(&links, &objects).next_back();
+//! ```
+
+ghost use Rattle.std.specs.Prelude.{◌≡◌, List, Option, Some, ⊤};
+ghost use Rattle.ic_unsafe_ref.specs.declared.place.Place.{Place};
+ghost use Rattle.ic_link_ops.specs.Walk.{is_end, GivesFirst, GivesLast};
+ghost use Rattle.ic_link_ops.specs.PlacedObjects.{ShowsPlaced, values_at};
+ghost use Rattle.ic_link_ops.specs.Chains.{ShowsChain};
+
+use crate::Chain;
+use crate::kind::{BidirectionalLinks, DoubleEnded, ForwardLinks, ListKind};
+use ic_cursors::Listing;
+use ic_link_ops::LinkOps;
+use ic_unsafe_ref::{Objects, Place, Values};
+use std::alloc::AllocError;
+use std::marker::PhantomData;
+
+/// The objects of a list that are not given out yet: from the front by `next`, and where the kind keeps both ends and leads back, from the
+/// back by `next_back`.
+///
+/// It keeps the two ends of what is left and the places beyond them. When the two ends meet, both are exhausted. A kind that keeps no last
+/// member is walked until nothing follows.
+pub struct Iter<'a, K, T, L, O = Objects<T>> {
+    links: &'a L,
+    objects: &'a O,
+    of: PhantomData<&'a T>,
+    kind: PhantomData<&'a K>,
+    before: Option<Place>,
+    head: Option<Place>,
+    tail: Option<Place>,
+    behind: Option<Place>,
+}
+
+impl<K, T, L, O> Drop for Iter<'_, K, T, L, O> {
+    fn drop(self) {
+        let Iter {
+            links: _,
+            objects: _,
+            of: _,
+            kind: _,
+            before: _,
+            head: _,
+            tail: _,
+            behind: _,
+        } = self;
+    }
+}
+
+// Whether the end of the walk is `place`.
+#[inline]
+fn is_at(end: Option<Place>, place: Place) -> bool
+    ensures { result ≡ is_end end place }
+{
+    match end {
+        None => false,
+        Some(end) => end == place,
+    }
+}
+
+impl<'a, K: ForwardLinks<L>, T, L: LinkOps, O: Values<T>> Iterator for Iter<'a, K, T, L, O> {
+    type Item = &'a T;
+
+    ghost use Rattle.std.specs.Iterator.{item_count};
+    ghost use Rattle.ic_chain.specs.Iter.{objects_left, CanWalk};
+
+    ghost can_next = { CanWalk K.keeps_last K.Between L.table O.values };
+
+    ghost next_gives = { GivesFirst (objects_left K.step L.table O.values) };
+
+    ghost remaining = { item_count (objects_left K.step L.table O.values) };
+
+    /// The next object. O(1): one reading of an entry, and one look-up of the object.
+    fn next(&mut self) -> Option<&'a T> {
+        let place = self.head?;
+        let objects: &'a O = self.objects;
+        let value = objects.value(place);
+        if is_at(self.tail, place) {
+            self.head = None;
+            self.tail = None;
+        } else {
+            self.head = K::next(self.links, place, self.before);
+            self.before = Some(place);
+        }
+        Some(value)
+    }
+}
+
+impl<'a, K: DoubleEnded + BidirectionalLinks<L>, T, L: LinkOps, O: Values<T>> DoubleEndedIterator
+    for Iter<'a, K, T, L, O> {
+    ghost use Rattle.ic_chain.specs.Iter.{objects_left, CanWalk};
+
+    ghost can_next_back = { CanWalk K.keeps_last K.Between L.table O.values };
+
+    ghost next_back_gives = { GivesLast (objects_left K.step L.table O.values) };
+
+    /// The next object from the back. O(1), as `next`.
+    fn next_back(&mut self) -> Option<&'a T> {
+        let place = self.tail?;
+        let objects: &'a O = self.objects;
+        let value = objects.value(place);
+        if is_at(self.head, place) {
+            self.head = None;
+            self.tail = None;
+        } else {
+            self.tail = K::prev(self.links, place, self.behind);
+            self.behind = Some(place);
+        }
+        Some(value)
+    }
+}
+
+impl<K, T, L, O> Clone for Iter<'_, K, T, L, O> {
+    ghost is_clone = { λ t copy. copy ≡ t };
+
+    ghost is_infallible = { λ _. ⊤ };
+
+    /// A walk over the same objects, from the same two ends. It never fails.
+    fn clone(&self) -> Result<Self, AllocError> {
+        Ok(Iter {
+            links: self.links,
+            objects: self.objects,
+            of: PhantomData,
+            kind: PhantomData,
+            before: self.before,
+            head: self.head,
+            tail: self.tail,
+            behind: self.behind,
+        })
+    }
+}
+
+impl<K: ListKind, T> Chain<K, T> {
+    ghost use Rattle.ic_chain.specs.Iter.{objects_left, CanWalk};
+
+    /// A walk over the objects of the list: from the front, and from the back too where the kind keeps both ends and leads back. It requires
+    /// that all members are placed.
+    pub fn iter<'a, L: LinkOps, O: Values<T>>(
+        &self,
+        links: &'a L,
+        objects: &'a O,
+    ) -> Iter<'a, K, T, L, O>
+    where
+        K: ForwardLinks<L>,
+        requires placed { ShowsPlaced (ShowsChain K.Between K.kept (L.table links.now) self.now) (O.values objects.now) }
+        ensures walks { (s : List Place) → ShowsChain K.Between K.kept (L.table links.now) self.now s
+            → objects_left K.step L.table O.values result ≡ values_at (O.values objects.now) s }
+        ensures can_walk { CanWalk K.keeps_last K.Between L.table O.values result }
+    {
+        Iter {
+            links,
+            objects,
+            of: PhantomData,
+            kind: PhantomData,
+            before: None,
+            head: self.first(),
+            tail: self.kept_last(),
+            behind: None,
+        }
+    }
+    /// A value that prints the objects of the list, in order: `{:?}` writes `[10, 20]`, and `{:#?}` writes each object on lines of its own.
+    /// It requires that all members are placed. O(1), and no memory.
+    pub fn debug<'a, L: LinkOps, O: Values<T>>(
+        &self,
+        links: &'a L,
+        objects: &'a O,
+    ) -> Listing<Iter<'a, K, T, L, O>>
+    where
+        K: ForwardLinks<L>,
+        requires placed { ShowsPlaced (ShowsChain K.Between K.kept (L.table links.now) self.now) (O.values objects.now) }
+        ensures lists { (s : List Place) → ShowsChain K.Between K.kept (L.table links.now) self.now s
+            → objects_left K.step L.table O.values result ≡ values_at (O.values objects.now) s }
+    {
+        Listing::new(self.iter(links, objects))
+    }
+}

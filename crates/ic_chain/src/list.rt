@@ -1,0 +1,523 @@
+//! The list.
+//!
+//! ```text
+//! list.push_back(&mut links, object)?;
+//! let first = list.pop_front(&mut links);
+//! ```
+
+ghost use Rattle.std.specs.Prelude.{◌≡◌, ◌≢◌, ◌↔◌, ◌++◌, ◌∷◌, List, [], Option, Some, None, IsTrue, OnOk, OnErr, IfErr, IfSome, IfNone};
+ghost use Rattle.ic_unsafe_ref.specs.declared.place.Place.{Place};
+ghost use Rattle.ic_link_ops.specs.Sequences.{Cut, join, first, last, IsAbsent, IsDisjoint, IsAfter, IsBefore, at_front, at_back, insert, remove, but_last};
+ghost use Rattle.std.specs.Bool.{OnTrue, OnFalse};
+ghost use Rattle.ic_link_ops.specs.Tables.{IsCovered, IsLinked, KeepsBeside};
+ghost use Rattle.ic_link_ops.specs.LinkSteps.{acquires, releases};
+ghost use Rattle.ic_link_ops.specs.Edits.{Inserts, Splices, Splits};
+ghost use Rattle.ic_link_ops.specs.Chains.{list_head, empty_list, ShowsChain, ShowsSomeChain};
+ghost use Rattle.ic_chain.specs.Walk.{IsTold};
+
+use crate::kind::{BidirectionalLinks, DoubleEnded, ForwardLinks, ListKind, SingleEnded};
+use crate::neighbors::{last_from, set_next_or_head, set_prev_or_tail};
+use ic_link_ops::{AlreadyLinked, LinkOps, PlaceWord};
+use ic_unsafe_ref::{Place, UnsafeRef};
+use std::marker::{Model, PhantomData};
+use std::mem;
+
+/// A list of objects, of whatever kind: it keeps its first member, and what its kind keeps of the last one.
+///
+/// A clause sees these. Which sequence the list has is what the table shows for them.
+pub struct Chain<K: ListKind, T> {
+    head: PlaceWord,
+    tail: K::Tail,
+    of: PhantomData<T>,
+    kind: PhantomData<K>,
+}
+
+impl<K: ListKind, T> Model for Chain<K, T> {
+    ghost use Rattle.ic_link_ops.specs.Chains.{ListHead};
+
+    ghost Value = { ListHead K.Tail };
+
+    ghost view = { λ l. record { head = l.head; tail = l.tail } };
+}
+
+impl<K: ListKind, T> Drop for Chain<K, T> {
+    fn drop(self) {
+        let Chain {
+            head: _,
+            tail: _,
+            of: _,
+            kind: _,
+        } = self;
+    }
+}
+
+impl<K: ListKind, T> Default for Chain<K, T> {
+    ghost is_default = { λ l. l ≡ empty_list K.kept };
+
+    /// An empty list.
+    fn default() -> Chain<K, T> {
+        Chain::new()
+    }
+}
+
+impl<K: ListKind, T> Chain<K, T> {
+    /// An empty list: every table shows the empty sequence for it.
+    pub fn new() -> Chain<K, T>
+        ensures { result ≡ empty_list K.kept }
+    {
+        Chain::from_ends(None, None)
+    }
+
+    /// The list with these ends, for who keeps the ends of his lists himself. O(1).
+    ///
+    /// It requires nothing of them: which sequence the list has, if any, is what a table shows for it. [`Chain::first`] reads the first again,
+    /// and [`Chain::last`] the last, if the kind keeps it.
+    #[inline]
+    pub fn from_ends(first: Option<Place>, last: Option<Place>) -> Chain<K, T>
+        ensures { result ≡ list_head first (K.kept last) }
+    {
+        Chain {
+            head: PlaceWord::of(first),
+            tail: K::keep(last),
+            of: PhantomData,
+            kind: PhantomData,
+        }
+    }
+
+    /// Whether the list has no members. It reads no links.
+    #[inline]
+    pub fn is_empty(&self) -> bool
+        ensures { IsTrue result ↔ (self.now.head ≡ None) }
+    {
+        self.head.get().is_none()
+    }
+
+    /// The first member, `None` in an empty list. It reads no links. O(1).
+    #[inline]
+    pub fn first(&self) -> Option<Place>
+        ensures { result ≡ self.now.head }
+    {
+        self.head.get()
+    }
+
+    // The first member, as a cursor comes to it from null, once a round. Called and not inlined, so that a step from a member
+    // is a load by itself.
+    #[cold]
+    #[inline(never)]
+    pub(crate) fn head_from_null(&self) -> Option<Place>
+        ensures { result ≡ self.now.head }
+    {
+        self.first()
+    }
+
+    // The last member as it is kept, `None` where the kind keeps none.
+    #[inline]
+    pub(crate) fn kept_last(&self) -> Option<Place>
+        ensures { result ≡ K.kept_last self.now.tail }
+    {
+        K::kept_last(&self.tail)
+    }
+}
+
+impl<K: SingleEnded, T> Chain<K, T> {
+    /// The list with this first place, for who keeps the first place of his lists himself. O(1).
+    ///
+    /// It requires nothing of it: which sequence the list has, if any, is what a table shows for it. [`Chain::first`] reads it again.
+    #[inline]
+    pub fn from_front(first: Option<Place>) -> Chain<K, T>
+        ensures { result ≡ list_head first (K.kept None) }
+    {
+        Chain::from_ends(first, None)
+    }
+}
+
+impl<K: ListKind, T> Chain<K, T> {
+    /// Puts the object at the front of the list, unless its link is refused. O(1), and it takes no memory.
+    ///
+    /// It requires and returns what [`Chain::push_back`] does. Good for stacks, and for what was used last.
+    #[inline]
+    pub fn push_front<L: LinkOps>(
+        &mut self,
+        links: &mut L,
+        object: UnsafeRef<T>,
+    ) -> Result<(), AlreadyLinked<T>>
+    where
+        K: ForwardLinks<L>,
+        requires covered { IsCovered (L.table links.old) object }
+        requires shown { ShowsSomeChain K.Between K.kept (L.table links.old) self.old }
+
+        ensures inserted { (s : List Place) → ShowsChain K.Between K.kept (L.table links.old) self.old s
+            → OnOk result (ShowsChain K.Between K.kept (L.table links.new) self.new (insert (at_front s) object)) }
+        ensures acquired { OnOk result (L.Does links.old links.new (acquires object ∷ [])) }
+        ensures refused { OnErr result (L.Refused links.old links.new object) }
+        ensures unchanged { IfErr result (λ refused. (refused.0 ≡ object) × (self.new ≡ self.old)) }
+        ensures frame { (s : List Place) → ShowsChain K.Between K.kept (L.table links.old) self.old s
+            → KeepsBeside (L.table links.old) (L.table links.new) (object ∷ s) }
+    {
+        let head = self.first();
+        if !self.insert_between(links, None, object.place(), head) {
+            return Err(AlreadyLinked(object));
+        }
+        Ok(())
+    }
+
+    /// Takes the object at the front off the list and returns it, or `None` if the list is empty. O(1).
+    #[inline]
+    pub fn pop_front<L: LinkOps>(&mut self, links: &mut L) -> Option<UnsafeRef<T>>
+    where
+        K: ForwardLinks<L>,
+        requires shown { ShowsSomeChain K.Between K.kept (L.table links.old) self.old }
+
+        ensures answer { (s : List Place) → ShowsChain K.Between K.kept (L.table links.old) self.old s → result ≡ first s }
+        ensures removed { (s : List Place) → ShowsChain K.Between K.kept (L.table links.old) self.old s
+            → ShowsChain K.Between K.kept (L.table links.new) self.new (remove (at_front s)) }
+        ensures released { IfSome result (λ object. L.Does links.old links.new (releases object ∷ [])) }
+        ensures empty { IfNone result ((self.new ≡ self.old) × (links.new ≡ links.old)) }
+        ensures frame { (s : List Place) → ShowsChain K.Between K.kept (L.table links.old) self.old s
+            → KeepsBeside (L.table links.old) (L.table links.new) s }
+    {
+        let front = self.first()?;
+        let behind = K::next(&*links, front, None);
+        self.unlink(links, None, front, behind);
+        Some(UnsafeRef::new(front))
+    }
+
+    // The last member, behind which `behind` is to stand: as it is kept, or found by a walk, unless nothing is to stand there.
+    #[inline]
+    pub(crate) fn last_before<L: LinkOps>(&self, links: &L, behind: Option<Place>) -> Option<Place>
+    where
+        K: ForwardLinks<L>,
+        requires { ShowsSomeChain K.Between K.kept (L.table links.now) self.now }
+        ensures { (s : List Place) → ShowsChain K.Between K.kept (L.table links.now) self.now s → IsTold K.keeps_last result behind (last s) }
+    {
+        if K::keeps_last() {
+            return self.kept_last();
+        }
+        behind?;
+        last_from::<K, L>(links, self.first()?)
+    }
+
+    // Puts the object where the member `out` is, between the same neighbors, and unlinks that one. Answers whether its link was acquired.
+    #[inline]
+    pub(crate) fn replace<L: LinkOps>(
+        &mut self,
+        links: &mut L,
+        before: Option<Place>,
+        out: Place,
+        object: Place,
+        behind: Option<Place>,
+    ) -> bool
+    where
+        K: ForwardLinks<L>,
+        requires covered { IsCovered (L.table links.old) object }
+        requires shown { (front back : List Place) × ShowsChain K.Between K.kept (L.table links.old) self.old (front ++ out ∷ back)
+            × (before ≡ last front) × (behind ≡ first back) }
+        ensures replaced { (front back : List Place) → ShowsChain K.Between K.kept (L.table links.old) self.old (front ++ out ∷ back)
+            → before ≡ last front → behind ≡ first back
+            → OnTrue result (ShowsChain K.Between K.kept (L.table links.new) self.new (front ++ object ∷ back)) }
+        ensures exchanged { OnTrue result (L.Does links.old links.new (acquires object ∷ releases out ∷ [])) }
+        ensures refused { OnFalse result (L.Refused links.old links.new object) }
+        ensures unchanged { OnFalse result (self.new ≡ self.old) }
+        ensures frame { (front back : List Place) → ShowsChain K.Between K.kept (L.table links.old) self.old (front ++ out ∷ back)
+            → before ≡ last front → behind ≡ first back
+            → OnTrue result (KeepsBeside (L.table links.old) (L.table links.new) (object ∷ front ++ out ∷ back)) }
+    {
+        if !links.acquire_link(object) {
+            return false;
+        }
+        self.replace_linked(links, before, out, object, behind);
+        links.release_link(out);
+        true
+    }
+
+    // Takes the member out from between its two neighbors and unlinks it.
+    #[inline]
+    pub(crate) fn unlink<L: LinkOps>(
+        &mut self,
+        links: &mut L,
+        before: Option<Place>,
+        place: Place,
+        behind: Option<Place>,
+    )
+    where
+        K: ForwardLinks<L>,
+        requires shown { (front back : List Place) × ShowsChain K.Between K.kept (L.table links.old) self.old (front ++ place ∷ back)
+            × (before ≡ last front) × (behind ≡ first back) }
+        ensures removed { (front back : List Place) → ShowsChain K.Between K.kept (L.table links.old) self.old (front ++ place ∷ back)
+            → before ≡ last front → behind ≡ first back
+            → ShowsChain K.Between K.kept (L.table links.new) self.new (front ++ back) }
+        ensures released { L.Does links.old links.new (releases place ∷ []) }
+        ensures frame { (front back : List Place) → ShowsChain K.Between K.kept (L.table links.old) self.old (front ++ place ∷ back)
+            → before ≡ last front → behind ≡ first back
+            → KeepsBeside (L.table links.old) (L.table links.new) (front ++ place ∷ back) }
+    {
+        self.bypass(links, before, place, behind);
+        links.release_link(place);
+    }
+
+    // Puts the place into the gap between two neighbors, and answers whether its link was acquired.
+    #[inline]
+    pub(crate) fn insert_between<L: LinkOps>(
+        &mut self,
+        links: &mut L,
+        before: Option<Place>,
+        place: Place,
+        behind: Option<Place>,
+    ) -> bool
+    where
+        K: ForwardLinks<L>,
+        requires covered { IsCovered (L.table links.old) place }
+        requires shown { (gap : Cut) × ShowsChain K.Between K.kept (L.table links.old) self.old (join gap)
+            × IsAfter gap before × IsBefore gap behind }
+        ensures inserted { (gap : Cut) → ShowsChain K.Between K.kept (L.table links.old) self.old (join gap)
+            → IsAfter gap before → IsBefore gap behind → OnTrue result (Inserts (ShowsChain K.Between K.kept)
+            (L.table links.old) (L.table links.new) self.new gap place) }
+        ensures acquired { OnTrue result (L.Does links.old links.new (acquires place ∷ [])) }
+        ensures refused { OnFalse result (L.Refused links.old links.new place) }
+        ensures unchanged { OnFalse result (self.new ≡ self.old) }
+        ensures frame { (gap : Cut) → ShowsChain K.Between K.kept (L.table links.old) self.old (join gap)
+            → IsAfter gap before → IsBefore gap behind
+            → KeepsBeside (L.table links.old) (L.table links.new) (place ∷ join gap) }
+    {
+        if !K::link_between(links, place, before, behind) {
+            return false;
+        }
+        let inserted = Some(place);
+        set_next_or_head::<K, L>(links, &mut self.head, before, behind, inserted);
+        set_prev_or_tail::<K, L>(links, &mut self.tail, behind, before, inserted);
+        true
+    }
+}
+
+// The calls of lists that keep their last member.
+impl<K: DoubleEnded, T> Chain<K, T> {
+    /// The last member, `None` in an empty list. It reads no links. O(1).
+    #[inline]
+    pub fn last(&self) -> Option<Place>
+        ensures { result ≡ K.kept_last self.now.tail }
+    {
+        self.kept_last()
+    }
+
+    // The last member, as a cursor comes to it from null, once a round. Called and not inlined.
+    #[cold]
+    #[inline(never)]
+    pub(crate) fn last_from_null(&self) -> Option<Place>
+        ensures { result ≡ K.kept_last self.now.tail }
+    {
+        self.last()
+    }
+
+    /// Puts the object at the back of the list, unless its link is refused. O(1), and it takes no memory.
+    ///
+    /// It requires that the object's place is covered. A refused object comes back, and the list is as it was: over a plain
+    /// table that is so exactly if the object is linked in this field.
+    #[inline]
+    pub fn push_back<L: LinkOps>(
+        &mut self,
+        links: &mut L,
+        object: UnsafeRef<T>,
+    ) -> Result<(), AlreadyLinked<T>>
+    where
+        K: ForwardLinks<L>,
+        requires covered { IsCovered (L.table links.old) object }
+        requires shown { ShowsSomeChain K.Between K.kept (L.table links.old) self.old }
+
+        ensures inserted { (s : List Place) → ShowsChain K.Between K.kept (L.table links.old) self.old s
+            → OnOk result (ShowsChain K.Between K.kept (L.table links.new) self.new (insert (at_back s) object)) }
+        ensures acquired { OnOk result (L.Does links.old links.new (acquires object ∷ [])) }
+        ensures refused { OnErr result (L.Refused links.old links.new object) }
+        ensures unchanged { IfErr result (λ refused. (refused.0 ≡ object) × (self.new ≡ self.old)) }
+        ensures frame { (s : List Place) → ShowsChain K.Between K.kept (L.table links.old) self.old s
+            → KeepsBeside (L.table links.old) (L.table links.new) (object ∷ s) }
+    {
+        let tail = self.last();
+        if !self.insert_between(links, tail, object.place(), None) {
+            return Err(AlreadyLinked(object));
+        }
+        Ok(())
+    }
+
+    /// Takes the object at the back off the list and returns it, or `None` if the list is empty. O(1).
+    #[inline]
+    pub fn pop_back<L: LinkOps>(&mut self, links: &mut L) -> Option<UnsafeRef<T>>
+    where
+        K: BidirectionalLinks<L>,
+        requires shown { ShowsSomeChain K.Between K.kept (L.table links.old) self.old }
+
+        ensures answer { (s : List Place) → ShowsChain K.Between K.kept (L.table links.old) self.old s → result ≡ last s }
+        ensures removed { (s : List Place) → ShowsChain K.Between K.kept (L.table links.old) self.old s
+            → ShowsChain K.Between K.kept (L.table links.new) self.new (but_last s) }
+        ensures released { IfSome result (λ object. L.Does links.old links.new (releases object ∷ [])) }
+        ensures empty { IfNone result ((self.new ≡ self.old) × (links.new ≡ links.old)) }
+        ensures frame { (s : List Place) → ShowsChain K.Between K.kept (L.table links.old) self.old s
+            → KeepsBeside (L.table links.old) (L.table links.new) s }
+    {
+        let back = self.last()?;
+        let before = K::prev(&*links, back, None);
+        self.unlink(links, before, back, None);
+        Some(UnsafeRef::new(back))
+    }
+}
+
+// The layer under the calls above, for who keeps lists in words of his own and tests them himself: none of these requires that
+// the table shows a sequence.
+impl<K: ListKind, T> Chain<K, T> {
+    /// Puts a place that is linked already between two neighbors. O(1).
+    ///
+    /// It requires only that the places which it writes are linked: this one, and the neighbors that there are.
+    #[inline]
+    pub fn insert_linked<L: LinkOps>(
+        &mut self,
+        links: &mut L,
+        before: Option<Place>,
+        place: Place,
+        behind: Option<Place>,
+    )
+    where
+        K: ForwardLinks<L>,
+        requires held { IsLinked L.linked (L.table links.old) place }
+        requires before { (q : Place) → before ≡ Some q → IsLinked L.linked (L.table links.old) q }
+        requires behind { K.NamesPrev → (q : Place) → behind ≡ Some q → IsLinked L.linked (L.table links.old) q }
+        ensures shows { (front back : List Place) → ShowsChain K.Between K.kept (L.table links.old) self.old (front ++ back)
+            → IsAbsent place (front ++ back) → before ≡ last front → behind ≡ first back
+            → ShowsChain K.Between K.kept (L.table links.new) self.new (front ++ place ∷ back) }
+        ensures no_step { L.Does links.old links.new [] }
+        ensures extent { (L.table links.new).extent ≡ (L.table links.old).extent }
+        ensures others { (q : Place) → before ≢ Some q → q ≢ place → (K.NamesPrev → behind ≢ Some q)
+            → (L.table links.new).entry q ≡ (L.table links.old).entry q }
+    {
+        set_next_or_head::<K, L>(links, &mut self.head, before, behind, Some(place));
+        set_prev_or_tail::<K, L>(links, &mut self.tail, behind, before, Some(place));
+        K::set_neighbors(links, place, before, behind);
+    }
+
+    /// Puts a place that is linked already where the member `out` is, between the same neighbors. O(1).
+    ///
+    /// It requires only that the places which it writes are linked: this one, and the neighbors that there are. The member stays linked.
+    #[inline]
+    pub fn replace_linked<L: LinkOps>(
+        &mut self,
+        links: &mut L,
+        before: Option<Place>,
+        out: Place,
+        place: Place,
+        behind: Option<Place>,
+    )
+    where
+        K: ForwardLinks<L>,
+        requires held { IsLinked L.linked (L.table links.old) place }
+        requires before { (q : Place) → before ≡ Some q → IsLinked L.linked (L.table links.old) q }
+        requires behind { K.NamesPrev → (q : Place) → behind ≡ Some q → IsLinked L.linked (L.table links.old) q }
+        ensures shows { (front back : List Place) → ShowsChain K.Between K.kept (L.table links.old) self.old (front ++ out ∷ back)
+            → before ≡ last front → behind ≡ first back → IsAbsent place (front ++ out ∷ back)
+            → ShowsChain K.Between K.kept (L.table links.new) self.new (front ++ place ∷ back) }
+        ensures no_step { L.Does links.old links.new [] }
+        ensures extent { (L.table links.new).extent ≡ (L.table links.old).extent }
+        ensures others { (q : Place) → before ≢ Some q → q ≢ place → (K.NamesPrev → behind ≢ Some q)
+            → (L.table links.new).entry q ≡ (L.table links.old).entry q }
+    {
+        set_next_or_head::<K, L>(links, &mut self.head, before, Some(out), Some(place));
+        set_prev_or_tail::<K, L>(links, &mut self.tail, behind, Some(out), Some(place));
+        K::set_neighbors(links, place, before, behind);
+    }
+
+    /// Takes the member `out` out from between its two neighbors. O(1).
+    ///
+    /// It requires only that both are linked, where they are places. They, or an end where there is none, are turned to each other. The member
+    /// stays linked: unlink it by the table's `release_link`.
+    #[inline]
+    pub fn bypass<L: LinkOps>(
+        &mut self,
+        links: &mut L,
+        before: Option<Place>,
+        out: Place,
+        behind: Option<Place>,
+    )
+    where
+        K: ForwardLinks<L>,
+        requires before { (q : Place) → before ≡ Some q → IsLinked L.linked (L.table links.old) q }
+        requires behind { K.NamesPrev → (q : Place) → behind ≡ Some q → IsLinked L.linked (L.table links.old) q }
+        ensures shows { (front back : List Place) → ShowsChain K.Between K.kept (L.table links.old) self.old (front ++ out ∷ back)
+            → before ≡ last front → behind ≡ first back
+            → ShowsChain K.Between K.kept (L.table links.new) self.new (front ++ back) }
+        ensures no_step { L.Does links.old links.new [] }
+        ensures extent { (L.table links.new).extent ≡ (L.table links.old).extent }
+        ensures others { (q : Place) → before ≢ Some q → (K.NamesPrev → behind ≢ Some q)
+            → (L.table links.new).entry q ≡ (L.table links.old).entry q }
+    {
+        set_next_or_head::<K, L>(links, &mut self.head, before, Some(out), behind);
+        set_prev_or_tail::<K, L>(links, &mut self.tail, behind, Some(out), before);
+    }
+
+    /// Puts all of the given list, whose last member is `end`, between two neighbors. O(1). An empty list changes nothing.
+    ///
+    /// It requires only that the places which it writes are linked: both neighbors and both ends of the given list, where they are places. Where
+    /// the kind keeps no last member and nothing stands behind, `end` can be `None`.
+    #[inline]
+    pub fn splice_between<L: LinkOps>(
+        &mut self,
+        links: &mut L,
+        before: Option<Place>,
+        given: Chain<K, T>,
+        end: Option<Place>,
+        behind: Option<Place>,
+    )
+    where
+        K: ForwardLinks<L>,
+        requires before { (q : Place) → before ≡ Some q → IsLinked L.linked (L.table links.old) q }
+        requires behind { K.NamesPrev → (q : Place) → behind ≡ Some q → IsLinked L.linked (L.table links.old) q }
+        requires first { K.NamesPrev → (q : Place) → given.head ≡ Some q → IsLinked L.linked (L.table links.old) q }
+        requires end { (q : Place) → end ≡ Some q → IsLinked L.linked (L.table links.old) q }
+        ensures spliced { (gap : Cut) (t : List Place) → ShowsChain K.Between K.kept (L.table links.old) self.old (join gap)
+            → IsAfter gap before → IsBefore gap behind → ShowsChain K.Between K.kept (L.table links.old) given t
+            → IsTold K.keeps_last end behind (last t) → IsDisjoint t (join gap) → Splices (ShowsChain K.Between K.kept)
+            (L.table links.old) (L.table links.new) self.new gap t }
+        ensures nothing { given.head ≡ None → (self.new ≡ self.old) × (links.new ≡ links.old) }
+        ensures no_step { L.Does links.old links.new [] }
+        ensures extent { (L.table links.new).extent ≡ (L.table links.old).extent }
+        ensures others { (q : Place) → before ≢ Some q → (K.NamesPrev → behind ≢ Some q) → (K.NamesPrev → given.head ≢ Some q)
+            → end ≢ Some q → (L.table links.new).entry q ≡ (L.table links.old).entry q }
+    {
+        let Some(first) = given.first() else {
+            return;
+        };
+        set_next_or_head::<K, L>(links, &mut self.head, before, behind, Some(first));
+        set_prev_or_tail::<K, L>(links, &mut self.tail, behind, before, end);
+        K::set_prev(links, first, None, before);
+        match end {
+            Some(end) => K::set_next(links, end, None, behind),
+            None => {}
+        }
+    }
+
+    /// Cuts the list between two neighbors: it keeps what is in front of the cut, and the rest is handed out. O(1).
+    ///
+    /// It requires only that both are linked, where they are places.
+    #[inline]
+    pub fn split_between<L: LinkOps>(
+        &mut self,
+        links: &mut L,
+        before: Option<Place>,
+        behind: Option<Place>,
+    ) -> Chain<K, T>
+    where
+        K: ForwardLinks<L>,
+        requires before { (q : Place) → before ≡ Some q → IsLinked L.linked (L.table links.old) q }
+        requires behind { K.NamesPrev → (q : Place) → behind ≡ Some q → IsLinked L.linked (L.table links.old) q }
+        ensures split { (gap : Cut) → ShowsChain K.Between K.kept (L.table links.old) self.old (join gap)
+            → IsAfter gap before → IsBefore gap behind → Splits (ShowsChain K.Between K.kept)
+            (L.table links.old) (L.table links.new) self.new result gap.front gap.back }
+        ensures no_step { L.Does links.old links.new [] }
+        ensures extent { (L.table links.new).extent ≡ (L.table links.old).extent }
+    {
+        set_next_or_head::<K, L>(links, &mut self.head, before, behind, None);
+        set_prev_or_tail::<K, L>(links, &mut self.tail, behind, before, None);
+        Chain {
+            head: PlaceWord::of(behind),
+            tail: mem::replace(&mut self.tail, K::keep(before)),
+            of: PhantomData,
+            kind: PhantomData,
+        }
+    }
+}

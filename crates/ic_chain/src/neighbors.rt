@@ -1,0 +1,69 @@
+//! What writes a neighbor, or an end of the list where there is none; and what finds the last member.
+
+ghost use Rattle.std.specs.Prelude.{◌≡◌, ◌≢◌, Option, Some, None, List, []};
+ghost use Rattle.ic_unsafe_ref.specs.declared.place.Place.{Place};
+ghost use Rattle.ic_link_ops.specs.Sequences.{last};
+ghost use Rattle.ic_link_ops.specs.Tables.{IsLinked};
+ghost use Rattle.ic_link_ops.specs.Chains.{end_of, TurnsTail, IsStretch};
+ghost use Rattle.ic_link_ops.specs.Turns.{TurnsBehind, TurnsBefore};
+
+use crate::kind::ForwardLinks;
+use ic_link_ops::{LinkOps, PlaceWord};
+use ic_unsafe_ref::Place;
+
+/// Behind `place` stands `next` now, where `from` stood. Where there is no such place, `next` is the list's head.
+#[inline]
+pub(crate) fn set_next_or_head<K: ForwardLinks<L>, L: LinkOps>(
+    links: &mut L,
+    head: &mut PlaceWord,
+    place: Option<Place>,
+    from: Option<Place>,
+    next: Option<Place>,
+)
+    requires { (q : Place) → place ≡ Some q → IsLinked L.linked (L.table links.old) q }
+    ensures turns { TurnsBehind K.Between (L.table links.old).entry (L.table links.new).entry place from next }
+    ensures extent { (L.table links.new).extent ≡ (L.table links.old).extent }
+    ensures no_step { L.Does links.old links.new [] }
+    ensures head { head.new ≡ end_of place next head.old }
+{
+    match place {
+        Some(place) => K::set_next(links, place, from, next),
+        None => *head = PlaceWord::of(next),
+    }
+}
+
+/// In front of `place` stands `prev` now, where `from` stood. Where there is no such place, `prev` is the list's last member.
+#[inline]
+pub(crate) fn set_prev_or_tail<K: ForwardLinks<L>, L: LinkOps>(
+    links: &mut L,
+    tail: &mut K::Tail,
+    place: Option<Place>,
+    from: Option<Place>,
+    prev: Option<Place>,
+)
+    requires { K.NamesPrev → (q : Place) → place ≡ Some q → IsLinked L.linked (L.table links.old) q }
+    ensures turns { TurnsBefore K.Between (L.table links.old).entry (L.table links.new).entry place from prev }
+    ensures others { (q : Place) → (K.NamesPrev → place ≢ Some q) → (L.table links.new).entry q ≡ (L.table links.old).entry q }
+    ensures extent { (L.table links.new).extent ≡ (L.table links.old).extent }
+    ensures no_step { L.Does links.old links.new [] }
+    ensures tail { TurnsTail K.kept tail.old tail.new place prev }
+{
+    match place {
+        Some(place) => K::set_prev(links, place, from, prev),
+        None => *tail = K::keep(prev),
+    }
+}
+
+/// The last member of a list with this first one. One reading for each member.
+pub(crate) fn last_from<K: ForwardLinks<L>, L: LinkOps>(links: &L, first: Place) -> Option<Place>
+    requires rest { (s : List Place) × IsStretch K.Between (L.table links.now).entry None (Some first) (last s) None s }
+    ensures { (s : List Place) → IsStretch K.Between (L.table links.now).entry None (Some first) (last s) None s → result ≡ last s }
+{
+    let mut prev = None;
+    let mut member = first;
+    while let Some(next) = K::next(links, member, prev) {
+        prev = Some(member);
+        member = next;
+    }
+    Some(member)
+}

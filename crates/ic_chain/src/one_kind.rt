@@ -1,0 +1,45 @@
+//! Calls of some kinds alone, and lists that are made of kept words.
+
+ghost use Rattle.std.specs.Prelude.{◌≡◌, ◌++◌, ◌∷◌, List, []};
+ghost use Rattle.ic_unsafe_ref.specs.declared.place.Place.{Place};
+ghost use Rattle.ic_link_ops.specs.Tables.{KeepsBeside};
+ghost use Rattle.ic_link_ops.specs.LinkSteps.{releases};
+ghost use Rattle.ic_link_ops.specs.Positions.{HasMember};
+ghost use Rattle.ic_link_ops.specs.Chains.{list_head, ShowsChain};
+
+use crate::Chain;
+use crate::kind::{ListKind, NamesBoth, Reversible};
+use ic_link_ops::LinkOps;
+use ic_unsafe_ref::{Place, UnsafeRef};
+
+impl<K: ListKind, T> Chain<K, T> {
+    /// Takes the object, which has to be a member, off the list. O(1).
+    ///
+    /// The other members stay in their order, and so does every other list of the table.
+    #[inline]
+    pub fn remove<L: LinkOps>(&mut self, links: &mut L, object: &UnsafeRef<T>)
+    where
+        K: NamesBoth<L>,
+        requires member { HasMember (ShowsChain K.Between K.kept (L.table links.old) self.old) object.now }
+        ensures removed { (front back : List Place) → ShowsChain K.Between K.kept (L.table links.old) self.old (front ++ object.now ∷ back)
+            → ShowsChain K.Between K.kept (L.table links.new) self.new (front ++ back) }
+        ensures released { L.Does links.old links.new (releases object.now ∷ []) }
+        ensures frame { (s : List Place) → ShowsChain K.Between K.kept (L.table links.old) self.old s
+            → KeepsBeside (L.table links.old) (L.table links.new) s }
+    {
+        let place = object.place();
+        let before = K::prev(&*links, place, None);
+        let behind = K::next(&*links, place, before);
+        self.unlink(links, before, place, behind);
+    }
+}
+
+impl<K: Reversible, T> Chain<K, T> {
+    /// Turns the list round. O(1): its two ends change places, and no entry is written.
+    #[inline]
+    pub fn reverse(&mut self)
+        ensures { self.new ≡ list_head (K.kept_last self.old.tail) (K.kept self.old.head) }
+    {
+        *self = Chain::from_ends(self.last(), self.first());
+    }
+}

@@ -1,0 +1,99 @@
+//! Calls on a list as a whole.
+//!
+//! ```text
+//! let rest = list.take();      // `list` is empty now
+//! rest.dispose(&mut links);    // and its members are unlinked
+//! ```
+
+ghost use Rattle.std.specs.Prelude.{◌≡◌, ◌↔◌, List, IsTrue};
+ghost use Rattle.ic_unsafe_ref.specs.declared.place.Place.{Place};
+ghost use Rattle.ic_link_ops.specs.Sequences.{IsMember};
+ghost use Rattle.ic_link_ops.specs.Tables.{KeepsBeside};
+ghost use Rattle.ic_link_ops.specs.LinkSteps.{releases_each};
+ghost use Rattle.ic_link_ops.specs.Chains.{ShowsChain, ShowsSomeChain, empty_list};
+
+use crate::Chain;
+use crate::kind::{ForwardLinks, ListKind};
+use ic_link_ops::LinkOps;
+use ic_unsafe_ref::Place;
+use std::mem;
+
+impl<K: ListKind, T> Chain<K, T> {
+    /// Whether the place is that of a member. It walks from the front: O(n), and no memory.
+    pub fn contains<L: LinkOps>(&self, links: &L, place: Place) -> bool
+    where
+        K: ForwardLinks<L>,
+        requires shown { ShowsSomeChain K.Between K.kept (L.table links.now) self.now }
+        ensures { (s : List Place) → ShowsChain K.Between K.kept (L.table links.now) self.now s → IsTrue result ↔ IsMember place s }
+    {
+        let mut current = self.first();
+        let mut prev = None;
+        while let Some(member) = current {
+            if member == place {
+                return true;
+            }
+            current = K::next(links, member, prev);
+            prev = Some(member);
+        }
+        false
+    }
+
+    /// Takes all objects off the list: each member is unlinked, and the list is empty.
+    ///
+    /// One step for each member, and no memory. Lists that share no member with this one stay.
+    pub fn clear<L: LinkOps>(&mut self, links: &mut L)
+    where
+        K: ForwardLinks<L>,
+        requires shown { ShowsSomeChain K.Between K.kept (L.table links.old) self.old }
+
+        ensures empty { self.new ≡ empty_list K.kept }
+        ensures released { (s : List Place) → ShowsChain K.Between K.kept (L.table links.old) self.old s
+            → L.Does links.old links.new (releases_each s) }
+        ensures frame { (s : List Place) → ShowsChain K.Between K.kept (L.table links.old) self.old s
+            → KeepsBeside (L.table links.old) (L.table links.new) s }
+    {
+        let mut current = self.first();
+        let mut prev = None;
+        self.fast_clear();
+        while let Some(place) = current {
+            current = K::next(&*links, place, prev);
+            links.release_link(place);
+            prev = Some(place);
+        }
+    }
+
+    /// Takes all objects off a list that is given up. What [`clear`](Self::clear) says of the table holds here as well.
+    pub fn dispose<L: LinkOps>(self, links: &mut L)
+    where
+        K: ForwardLinks<L>,
+        requires shown { ShowsSomeChain K.Between K.kept (L.table links.old) self }
+
+        ensures released { (s : List Place) → ShowsChain K.Between K.kept (L.table links.old) self s
+            → L.Does links.old links.new (releases_each s) }
+        ensures frame { (s : List Place) → ShowsChain K.Between K.kept (L.table links.old) self s
+            → KeepsBeside (L.table links.old) (L.table links.new) s }
+    {
+        let mut list = self;
+        list.clear(links);
+    }
+
+    /// Empties the list, and leaves the objects that were in it linked. O(1): it reads no table.
+    ///
+    /// A linked object goes into no list, until the table is made to forget its link, by the call `force_unlink` of a
+    /// plain one.
+    #[inline]
+    pub fn fast_clear(&mut self)
+        ensures empty { self.new ≡ empty_list K.kept }
+    {
+        let _ = self.take();
+    }
+
+    /// Hands out all of the list, and leaves it empty. O(1): it reads no table, and no link changes.
+    #[inline]
+    pub fn take(&mut self) -> Chain<K, T>
+        ensures whole { result ≡ self.old }
+        ensures empty { self.new ≡ empty_list K.kept }
+    {
+        mem::take(self)
+    }
+}

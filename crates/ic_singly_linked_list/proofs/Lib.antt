@@ -1,2 +1,0 @@
-pub mod Walking
-pub mod LastMembers

@@ -1,5 +1,0 @@
-pub mod Cursor
-pub mod CursorMut
-pub mod CursorOwning
-pub mod Iter
-pub mod IntoIter

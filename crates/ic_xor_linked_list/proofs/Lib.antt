@@ -1,3 +1,0 @@
-pub mod Standing
-pub mod Walking
-pub mod Reversing

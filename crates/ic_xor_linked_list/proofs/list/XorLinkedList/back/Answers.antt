@@ -1,6 +1,0 @@
-use Rattle.std.proofs.Common.{refl, append-nil, ◌∙◌}
-use Rattle.ic_link_ops.specs.Sequences.{at_back}
-use Rattle.ic_xor_linked_list.proofs.list.XorLinkedList.back.Goals as goal
-
-pub position_before-requires : goal.position_before-requires
-position_before-requires g c = let s = c.requires.shown in record { shown = (at_back s.0, rw append-nil s.1, c.last.ensures ∙ s.1.tail, refl) }

@@ -1,0 +1,27 @@
+//! What follows of several calls of an XOR list together, each law as the contract of a function: those of every list, and that a list
+//! is turned round.
+//!
+//! ```text
+//! laws::reversed_is_shown(&mut list, &links); // its members in the opposite order
+//! ```
+
+ghost use Rattle.std.specs.Prelude.{List, reverse};
+ghost use Rattle.ic_unsafe_ref.specs.declared.place.Place.{Place};
+ghost use Rattle.ic_link_ops.specs.XorLinkedList.{Shows};
+
+use crate::XorLinkedList;
+pub use ic_chain::laws::{
+    fields_are_apart, null_there_and_back, push_then_pop, push_then_pop_front, split_then_splice,
+};
+use ic_link_ops::xor_linked_list::XorLinkedListOps;
+
+/// Turns a list round: a table that showed a sequence for it shows that sequence turned round. Turned round twice, it is what it was.
+///
+/// No entry says which of its neighbors is in front. O(1), and the table is not written.
+pub fn reversed_is_shown<T, L: XorLinkedListOps>(list: &mut XorLinkedList<T>, links: &L)
+    ensures shown { (s : List Place) → Shows L.linked L.Joins (L.table links.now) list.old s
+        → Shows L.linked L.Joins (L.table links.now) list.new (reverse s) }
+{
+    let _ = links;
+    list.reverse();
+}
