@@ -15,8 +15,6 @@ use Rattle.ic_link_ops.proofs.DoublyLists as doubly_laws
 use Rattle.ic_link_ops.proofs.XorLists as xor_laws
 use Rattle.ic_link_ops.proofs.ShownTrees as tree_laws
 use Rattle.ic_rbtree.proofs.Members as tree_members
-use Rattle.ic_cursors.specs.CursorOwning.{list_of}
-use Rattle.ic_rbtree.specs.CursorOwning as tree_cursor
 use Rattle.ic_rbtree.specs.Tree.{root_of}
 use Rattle.ic_any_collection.specs.declared.entry.Entry.{Entry}
 use Rattle.ic_any_collection.specs.declared.any_table.AnyTable.{AnyTable}
@@ -49,32 +47,32 @@ tree_kind = tree_laws.red_black_trees (λ e. refl)
 module _ {V : Type 0} where
   -- a table shows one sequence, which the walk gives
   pub one_sequence : (t : Table Entry) → IsLawful t → (m : AnyCollection V) (s : List Place) → ShowsIn t m s → members_in t m ≡ s
-  one_sequence t law (Singly m) s shown = singly_laws.members_shown t law (list_of m) s shown
-  one_sequence t law (Doubly m) s shown = doubly_laws.members_shown t law (list_of m) s shown
-  one_sequence t law (Xor m) s shown = xor_laws.members_shown other (λ e a b j. joins_finds_other e.word a b j) t law (list_of m) s shown
-  one_sequence t law (Tree m) s shown = tree_members.members_shown t law (root_of (tree_cursor.tree_of m)) s shown
+  one_sequence t law (Singly l at) s shown = singly_laws.members_shown t law l s shown
+  one_sequence t law (Doubly l at) s shown = doubly_laws.members_shown t law l s shown
+  one_sequence t law (Xor l at) s shown = xor_laws.members_shown other (λ e a b j. joins_finds_other e.word a b j) t law l s shown
+  one_sequence t law (Tree l at) s shown = tree_members.members_shown t law (root_of l) s shown
 
   -- no place stands twice in it
   pub distinct : (t : Table Entry) (m : AnyCollection V) (s : List Place) → ShowsIn t m s → IsDistinct s
-  distinct t (Singly m) s shown = singly_kind.distinct t _ s shown
-  distinct t (Doubly m) s shown = doubly_kind.distinct t _ s shown
-  distinct t (Xor m) s shown = xor_kind.distinct t _ s shown
-  distinct t (Tree m) s shown = tree_kind.distinct t _ s shown
+  distinct t (Singly l at) s shown = singly_kind.distinct t _ s shown
+  distinct t (Doubly l at) s shown = doubly_kind.distinct t _ s shown
+  distinct t (Xor l at) s shown = xor_kind.distinct t _ s shown
+  distinct t (Tree l at) s shown = tree_kind.distinct t _ s shown
 
   -- the frame
   pub shown_frame : (old new : Table Entry) (m : AnyCollection V) (s touched : List Place) → ShowsIn old m s → IsDisjoint s touched
       → ((q : Place) → IsAbsent q touched → new.entry q ≡ old.entry q) → ShowsIn new m s
-  shown_frame old new (Singly m) s touched shown apart same = singly_kind.frame old new _ s touched shown apart same
-  shown_frame old new (Doubly m) s touched shown apart same = doubly_kind.frame old new _ s touched shown apart same
-  shown_frame old new (Xor m) s touched shown apart same = xor_kind.frame old new _ s touched shown apart same
-  shown_frame old new (Tree m) s touched shown apart same = tree_kind.frame old new _ s touched shown apart same
+  shown_frame old new (Singly l at) s touched shown apart same = singly_kind.frame old new _ s touched shown apart same
+  shown_frame old new (Doubly l at) s touched shown apart same = doubly_kind.frame old new _ s touched shown apart same
+  shown_frame old new (Xor l at) s touched shown apart same = xor_kind.frame old new _ s touched shown apart same
+  shown_frame old new (Tree l at) s touched shown apart same = tree_kind.frame old new _ s touched shown apart same
 
   -- an unlinked place is no member
   pub unlinked_absent : (t : Table Entry) (m : AnyCollection V) (s : List Place) {p : Place} → ShowsIn t m s → IsUnlinked is_linked t p → IsAbsent p s
-  unlinked_absent t (Singly m) s {p} shown free = singly_kind.free t _ s p shown free
-  unlinked_absent t (Doubly m) s {p} shown free = doubly_kind.free t _ s p shown free
-  unlinked_absent t (Xor m) s {p} shown free = xor_kind.free t _ s p shown free
-  unlinked_absent t (Tree m) s {p} shown free = tree_kind.free t _ s p shown free
+  unlinked_absent t (Singly l at) s {p} shown free = singly_kind.free t _ s p shown free
+  unlinked_absent t (Doubly l at) s {p} shown free = doubly_kind.free t _ s p shown free
+  unlinked_absent t (Xor l at) s {p} shown free = xor_kind.free t _ s p shown free
+  unlinked_absent t (Tree l at) s {p} shown free = tree_kind.free t _ s p shown free
 
   -- A TABLE WITH THE SAME ENTRIES AT ITS MEMBERS keeps the collection
   pub keeps_frame : {old new : Table Entry} (m : AnyCollection V) (s touched : List Place) → Keeps old m s → IsDisjoint s touched → KeepsBeside old new touched → Keeps new m s

@@ -1,30 +1,29 @@
 -- Edits by key: what the calls of a tree give, in the words of all kinds, and that the cursor is moved after an edit.
-use Rattle.std.proofs.Common.{◌≡◌, ◌∙◌, Bool, true, false, cond, append_assoc, Option, Some, None, List, [], ◌∷◌, ◌++◌, drop, refl, sym, ap, subst}
+use Rattle.std.proofs.Common.{◌≡◌, ◌∙◌, Bool, true, false, cond, append_assoc, Result, Ok, Err, OnOk, OnErr, Option, Some, None, List, [], ◌∷◌, ◌++◌, drop, refl, sym, ap, subst}
 use Rattle.std.specs.declared.cmp.Ordering.{Ordering}
 use Rattle.ic_unsafe_ref.specs.declared.place.Place.{Place}
-use Rattle.ic_link_ops.specs.Sequences.{Cut, join, insert, at_front, first, IsBefore, IsAbsent, IsMember}
+use Rattle.ic_link_ops.specs.Sequences.{Cut, join, insert, at_front, first, IsAbsent, IsMember}
 use Rattle.ic_link_ops.specs.Tables.{Table, KeepsBeside, LinksAlso}
 use Rattle.ic_link_ops.specs.Edits.{Inserts}
 use Rattle.ic_link_ops.specs.RedBlackTree as tree
 use Rattle.ic_link_ops.proofs.SequenceLemmas.{member_split, first_is, absent_right, absent_without, gap_after, last_of_push, none_not}
-use Rattle.ic_rbtree.specs.CursorOwning.{CursorOwning, tree_of, position}
 use Rattle.ic_rbtree.specs.declared.keys.entry.Entry.{Entry as TreeEntry}
 use Rattle.ic_rbtree.specs.declared.keys.entry.Entry.TheVariants.{Occupied, Vacant}
 use Rattle.ic_rbtree.specs.declared.keys.entry.InsertCursor.{InsertCursor}
 use Rattle.ic_rbtree.specs.CursorMut.{CursorMut}
-use Rattle.ic_rbtree.specs.Borders.{IsBorder, Finds, less_at, equal_at, if_passes}
+use Rattle.ic_rbtree.specs.Borders.{Finds, equal_at, if_passes}
 use Rattle.ic_rbtree.specs.Ordered.{InsertsInOrder}
 use Rattle.ic_rbtree.specs.Tree.{root_of}
 use Rattle.ic_rbtree.specs.declared.tree.RBTree.{RBTree}
 use Rattle.ic_any_collection.specs.declared.entry.Entry.{Entry}
 use Rattle.ic_any_collection.specs.Entries.{is_linked, node}
 use Rattle.ic_any_collection.specs.declared.unkeyed.Unkeyed.{Unkeyed}
-use Rattle.ic_any_collection.specs.declared.any_collection.AnyCollection.{AnyCollection}
+use Rattle.ic_any_collection.specs.declared.any_table.AnyTable.{AnyTable}
+use Rattle.ic_any_collection.specs.declared.edit_error.EditError.{EditError}
 use Rattle.ic_any_collection.specs.declared.any_collection.AnyCollection.TheVariants.{Tree}
-use Rattle.ic_any_collection.specs.AnyCollection.{IsAt, members_in, Keeps, Held}
+use Rattle.ic_any_collection.specs.AnyCollection.{IsAt, members_in, Held}
 use Rattle.ic_any_collection.specs.Edits.{AtGap, Moves, Puts}
 use Rattle.ic_any_collection.specs.Keyed.{PutsInOrder, PutsAtKey, IsVacantFor}
-use Rattle.ic_any_collection.proofs.AllKinds.{IsLawful, one_sequence, held_of}
 use Rattle.ic_any_collection.proofs.Standing.{before_at}
 
 -- a member of a sequence is a position of it
@@ -32,10 +31,10 @@ on_it : {s : List Place} (front : List Place) (p : Place) (back : List Place) �
 on_it front p back same = (record { front = front ++ p ∷ []; back = back }, append_assoc front (p ∷ []) back ∙ same, sym (last_of_push front p))
 
 -- p IS PUT INTO A TREE, as its insert gives it
-pub puts_in_tree : {V : Type 0} {t t' : Table Entry} {m m' : CursorOwning (Unkeyed V) V} {gap : Cut} {p : Place} {cursor : Option Place}
-    → Held {V = V} t (Tree m) → join gap ≡ members_in {V = V} t (Tree m) → Inserts (tree.Shows node) t t' (root_of (tree_of m')) gap p
-    → LinksAlso is_linked t t' p → IsAt (insert gap p) cursor → position m' ≡ cursor
-    → Puts {V = V} t t' (Tree m) (Tree m') gap p cursor
+pub puts_in_tree : {V : Type 0} {t t' : Table Entry} {l l' : RBTree (Unkeyed V)} {at at' : Option Place} {gap : Cut} {p : Place} {cursor : Option Place}
+    → Held {V = V} t (Tree l at) → join gap ≡ members_in {V = V} t (Tree l at) → Inserts (tree.Shows node) t t' (root_of l') gap p
+    → LinksAlso is_linked t t' p → IsAt (insert gap p) cursor → at' ≡ cursor
+    → Puts {V = V} t t' (Tree l at) (Tree l' at') gap p cursor
 puts_in_tree {t = t} {t' = t'} {p = p} held same put links at there = record {
   leaves = record {
     kept = record { carried = rw put.frame.extent held.carried; shown = put.shows; stands = rw there at };
@@ -57,20 +56,34 @@ still_at {s} gap p same (Some q) at =
     let k = member_split q (insert gap p) there in
     on_it k.0 q k.1 (sym k.2)
 
--- and in order, while the cursor stays. `r`: the tree then
-pub puts_in_order : {V : Type 0} {at at' : Place → Ordering} {t t' : Table Entry} {m m' : CursorOwning (Unkeyed V) V} {r : RBTree (Unkeyed V)} {p : Place} → at ≡ at'
-    → Held {V = V} t (Tree m) → ((s : List Place) → tree.Shows node t (root_of (tree_of m)) s → InsertsInOrder (tree.Shows node) at t t' (root_of r) s p)
-    → LinksAlso is_linked t t' p → tree_of m' ≡ r → position m' ≡ position m
-    → PutsInOrder {V = V} at' t t' (Tree m) (Tree m') p (position m)
-puts_in_order {m = m} {p = p} order held inserted links head stays =
-    let put = inserted _ held.shown in (
-      put.gap,
-      put.same,
-      (
-        subst (λ at. IsBorder (less_at at) put.gap) order put.border,
-        puts_in_tree held put.same (rw head put.inserted) links (still_at put.gap p put.same (position m) held.stands) stays,
-      ),
-    )
+-- and in order, while the cursor stays, or goes to the object. `l'`: the tree then
+module _ {V : Type 0} {t t' : Table Entry} {l l' : RBTree (Unkeyed V)} {at : Option Place} (held : Held {V = V} t (Tree l at)) (by : Place → Ordering) (p : Place) where
+  put_in_order : {at' cursor : Option Place} → InsertsInOrder (tree.Shows node) by t t' (root_of l') (members_in {V = V} t (Tree l at)) p → LinksAlso is_linked t t' p
+      → ((gap : Cut) → join gap ≡ members_in {V = V} t (Tree l at) → IsAt (insert gap p) cursor) → at' ≡ cursor
+      → PutsInOrder {V = V} by t t' (Tree l at) (Tree l' at') p cursor
+  put_in_order put links stands is = (put.gap, put.same, (put.border, puts_in_tree held put.same put.inserted links (stands put.gap put.same) is))
+
+  pub puts_and_goes : {at' : Option Place} → InsertsInOrder (tree.Shows node) by t t' (root_of l') (members_in {V = V} t (Tree l at)) p → LinksAlso is_linked t t' p → at' ≡ Some p
+      → PutsInOrder {V = V} by t t' (Tree l at) (Tree l' at') p (Some p)
+  puts_and_goes put links is = put_in_order put links (λ gap same. on_it gap.front p gap.back refl) is
+
+module _ {V R : Type 0} (result : Result R EditError) where
+  pub puts_and_stays : (t t' : Table Entry) (l l' : RBTree (Unkeyed V)) (at : Option Place) (by : Place → Ordering) (p : Place) → Held {V = V} t (Tree l at)
+      → ((s : List Place) → tree.Shows node t (root_of l) s → OnOk result (InsertsInOrder (tree.Shows node) by t t' (root_of l') s p))
+      → OnOk result (LinksAlso is_linked t t' p) → OnOk result (PutsInOrder {V = V} by t t' (Tree l at) (Tree l' at) p at)
+  puts_and_stays t t' l l' at by p held = of result where
+    of : (result : Result R EditError) → ((s : List Place) → tree.Shows node t (root_of l) s → OnOk result (InsertsInOrder (tree.Shows node) by t t' (root_of l') s p))
+        → OnOk result (LinksAlso is_linked t t' p) → OnOk result (PutsInOrder {V = V} by t t' (Tree l at) (Tree l' at) p at)
+    of (Ok r) put links = put_in_order held by p (put _ held.shown) links (λ gap same. still_at gap p same at held.stands) refl
+    of (Err r) put links = tt
+
+  -- A REFUSAL leaves all as it was
+  pub put_stays : {L M : Type 0} (table : L → Table Entry) (field : L → AnyTable M) (old new : L) (l l' : RBTree (Unkeyed V)) (at : Option Place) → Held {V = V} (table old) (Tree l at)
+      → OnErr result ((l' ≡ l) × (new ≡ old)) → OnErr result ((field new ≡ field old) × Moves {V = V} (table old) (Tree l at) (Tree l' at) at)
+  put_stays {M = M'} table field old new l l' at held = of result where
+    of : (result : Result R EditError) → OnErr result ((l' ≡ l) × (new ≡ old)) → OnErr result ((field new ≡ field old) × Moves {V = V} (table old) (Tree l at) (Tree l' at) at)
+    of (Ok r) same = tt
+    of (Err r) same = (ap field same.1, record { kept = rw same.0 held; alike = refl; cursor_is = refl })
 
 -- an entry that is not occupied is vacant
 pub vacant_one : {A L V K : Type 0} (entry : TreeEntry A L V K) → ((c : CursorMut A L V) → entry ≡ Occupied c → ⊥) → (v : InsertCursor A L) × (entry ≡ Vacant v)
@@ -94,44 +107,19 @@ passed test (Some q) {p} e = by (test q) e where
   by true e = e
   by false e = absurd (none_not p (sym e))
 
-pub moves_to_key : {V : Type 0} {at : Place → Ordering} {t : Table Entry} {m m' : CursorOwning (Unkeyed V) V} {p : Place} → Held {V = V} t (Tree m)
-    → Finds at (members_in {V = V} t (Tree m)) (Some p) → tree_of m' ≡ tree_of m → position m' ≡ Some p → Moves {V = V} t (Tree m) (Tree m') (Some p)
-moves_to_key {at = at} {p = p} held found same there =
-    let k = gap_after found.gap (Some p) (passed (equal_at at) (first found.gap.back) found.answer) in record {
+pub moves_to_key : {V : Type 0} {by : Place → Ordering} {t : Table Entry} {l l' : RBTree (Unkeyed V)} {at at' : Option Place} {p : Place} → Held {V = V} t (Tree l at)
+    → Finds by (members_in {V = V} t (Tree l at)) (Some p) → l' ≡ l → at' ≡ Some p → Moves {V = V} t (Tree l at) (Tree l' at') (Some p)
+moves_to_key {by = by} {p = p} held found same there =
+    let k = gap_after found.gap (Some p) (passed (equal_at by) (first found.gap.back) found.answer) in record {
       kept = record { carried = held.carried; shown = rw same held.shown; stands = rw there (k.0, k.1 ∙ found.same, k.2) };
       alike = refl;
       cursor_is = there;
     }
 
 -- AN OBJECT IS PUT where the key would stand, and the cursor is put on it
-pub puts_at_key : {V : Type 0} (at : Place → Ordering) {t t' : Table Entry} {m m' : CursorOwning (Unkeyed V) V} {r : RBTree (Unkeyed V)} {p : Place} → Held {V = V} t (Tree m)
-    → AtGap (members_in {V = V} t (Tree m)) (λ gap. IsVacantFor at gap × Inserts (tree.Shows node) t t' (root_of r) gap p) → LinksAlso is_linked t t' p
-    → tree_of m' ≡ r → position m' ≡ Some p → PutsAtKey {V = V} at t t' (Tree m) (Tree m') p (Some p)
-puts_at_key at {p = p} held put links head there =
+pub puts_at_key : {V : Type 0} (by : Place → Ordering) {t t' : Table Entry} {l l' : RBTree (Unkeyed V)} {at at' : Option Place} {p : Place} → Held {V = V} t (Tree l at)
+    → AtGap (members_in {V = V} t (Tree l at)) (λ gap. IsVacantFor by gap × Inserts (tree.Shows node) t t' (root_of l') gap p) → LinksAlso is_linked t t' p
+    → at' ≡ Some p → PutsAtKey {V = V} by t t' (Tree l at) (Tree l' at') p (Some p)
+puts_at_key by {p = p} held put links there =
     let gap = put.0 in
-    (gap, put.1, (put.2.0, puts_in_tree held put.1 (rw head put.2.1) links (on_it gap.front p gap.back refl) there))
-
-module _ {V : Type 0} {t t' : Table Entry} (law : IsLawful t') {m m' : AnyCollection V} {gap : Cut} {p : Place} {cursor : Option Place}
-    (puts : Puts t t' m m' gap p cursor) where
-  -- the members then
-  pub members_after : members_in t' m' ≡ insert gap p
-  members_after = one_sequence t' law m' (insert gap p) puts.leaves.kept.shown
-
-  pub held_after : Held t' m'
-  held_after = held_of law m' (insert gap p) puts.leaves.kept
-
-  -- and the object is one of them
-  pub object_there : AtGap (members_in t' m') (λ at. IsBefore at (Some p))
-  object_there = (record { front = gap.front; back = p ∷ gap.back }, sym members_after, refl)
-
-  -- AND THEN THE CURSOR IS MOVED
-  pub puts_and_moves : {m'' : AnyCollection V} {at : Option Place} → Moves t' m' m'' at → Puts t t' m m'' gap p at
-  puts_and_moves {m'' = to} moves = record {
-    leaves = record {
-      kept = subst (Keeps t' to) members_after moves.kept;
-      alike = moves.alike ∙ puts.leaves.alike;
-      cursor_is = moves.cursor_is;
-      frame = puts.leaves.frame;
-    };
-    links = puts.links;
-  }
+    (gap, put.1, (put.2.0, puts_in_tree held put.1 put.2.1 links (on_it gap.front p gap.back refl) there))

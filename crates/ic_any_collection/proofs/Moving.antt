@@ -7,18 +7,20 @@ use Rattle.ic_link_ops.specs.LinkedList as doubly
 use Rattle.ic_link_ops.specs.SinglyLinkedList as singly
 use Rattle.ic_link_ops.specs.XorLinkedList as xor
 use Rattle.ic_link_ops.specs.RedBlackTree as tree
+use Rattle.ic_link_ops.specs.Chains.{Ends}
+use Rattle.ic_link_ops.specs.SinglyLinkedList.{Front}
 use Rattle.ic_link_ops.specs.Positions as position
 use Rattle.ic_link_ops.specs.Positions.{site, MovesOn, MovesBack}
 use Rattle.ic_link_ops.proofs.CollectionLaws.{IsKind, one_sequence_is_shown}
-use Rattle.ic_cursors.specs.CursorOwning.{list_of, place_of}
-use Rattle.ic_rbtree.specs.CursorOwning as tree_cursor
+use Rattle.ic_rbtree.specs.declared.tree.RBTree.{RBTree}
 use Rattle.ic_rbtree.specs.Tree.{root_of}
+use Rattle.ic_xor_linked_list.specs.Position.{PlaceAndNext}
 use Rattle.ic_any_collection.specs.declared.entry.Entry.{Entry}
 use Rattle.ic_any_collection.specs.Entries.{is_linked, neighbors, successor, node, Joins}
 use Rattle.ic_any_collection.specs.declared.unkeyed.Unkeyed.{Unkeyed}
 use Rattle.ic_any_collection.specs.declared.any_collection.AnyCollection.{AnyCollection}
 use Rattle.ic_any_collection.specs.declared.any_collection.AnyCollection.TheVariants.{Singly, Doubly, Xor, Tree}
-use Rattle.ic_any_collection.specs.AnyCollection.{SinglyCursor, DoublyCursor, XorCursor, IsAt, StandsIn, ShowsIn, cursor_in, members_in, Keeps, Held, Alike}
+use Rattle.ic_any_collection.specs.AnyCollection.{IsAt, StandsIn, ShowsIn, cursor_in, members_in, Keeps, Held, Alike}
 use Rattle.ic_any_collection.specs.Edits.{AtGap, Moves}
 use Rattle.ic_any_collection.proofs.AllKinds.{singly_kind, doubly_kind, tree_kind}
 use Rattle.ic_any_collection.proofs.Standing.{XorStands, known}
@@ -37,9 +39,9 @@ at_shown : {L E H : Type 0} {Shows : Table E → H → List Place → Type 0} {l
 at_shown kind stands s shown = (stands.gap, one_sequence_is_shown kind stands.shown shown, stands.after)
 
 -- SO IS EACH CALL of a kind that says that its cursor stands then
-module _ {V L : Type 0} {table : L → Table Entry} {new : L} {t : Table Entry} where
-  pub singly_turned : {m m' : SinglyCursor V} → position.Stands (singly.Shows successor) table (site new (list_of m') (place_of m'))
-      → Turned {V = V} (singly.Shows successor) t (table new) (list_of m) (list_of m') (Singly m) (Singly m')
+module _ {V L : Type 0} {table : L → Table Entry} {new : L} {t : Table Entry} {at at' : Option Place} where
+  pub singly_turned : {l l' : Front} → position.Stands (singly.Shows successor) table (site new l' at')
+      → Turned {V = V} (singly.Shows successor) t (table new) l l' (Singly l at) (Singly l' at')
   singly_turned stands = record {
     reads = λ s shown. shown;
     shows = λ s shown. shown;
@@ -47,8 +49,8 @@ module _ {V L : Type 0} {table : L → Table Entry} {new : L} {t : Table Entry} 
     alike = refl;
   }
 
-  pub doubly_turned : {m m' : DoublyCursor V} → position.Stands (doubly.Shows neighbors) table (site new (list_of m') (place_of m'))
-      → Turned {V = V} (doubly.Shows neighbors) t (table new) (list_of m) (list_of m') (Doubly m) (Doubly m')
+  pub doubly_turned : {l l' : Ends} → position.Stands (doubly.Shows neighbors) table (site new l' at')
+      → Turned {V = V} (doubly.Shows neighbors) t (table new) l l' (Doubly l at) (Doubly l' at')
   doubly_turned stands = record {
     reads = λ s shown. shown;
     shows = λ s shown. shown;
@@ -56,23 +58,23 @@ module _ {V L : Type 0} {table : L → Table Entry} {new : L} {t : Table Entry} 
     alike = refl;
   }
 
-  pub xor_turned : {m m' : XorCursor V} → XorStands table new m'
-      → Turned {V = V} (xor.Shows is_linked Joins) t (table new) (list_of m) (list_of m') (Xor m) (Xor m')
-  xor_turned {m' = to} knows = record {
-    reads = λ s shown. shown;
-    shows = λ s shown. shown;
-    stands = λ s shown. known {table = table} {links = new} to s shown knows;
-    alike = refl;
-  }
-
-  pub tree_turned : {m m' : tree_cursor.CursorOwning (Unkeyed V) V} → position.Stands (tree.Shows node) table (tree_cursor.site_of new m')
-      → Turned {V = V} (tree.Shows node) t (table new) (root_of (tree_cursor.tree_of m)) (root_of (tree_cursor.tree_of m')) (Tree m) (Tree m')
+  pub tree_turned : {l l' : RBTree (Unkeyed V)} → position.Stands (tree.Shows node) table (site new (root_of l') at')
+      → Turned {V = V} (tree.Shows node) t (table new) (root_of l) (root_of l') (Tree l at) (Tree l' at')
   tree_turned stands = record {
     reads = λ s shown. shown;
     shows = λ s shown. shown;
     stands = at_shown tree_kind stands;
     alike = refl;
   }
+
+pub xor_turned : {V L : Type 0} {table : L → Table Entry} {new : L} {t : Table Entry} {l l' : Ends} {at at' : Option PlaceAndNext} → XorStands table new l' at'
+    → Turned {V = V} (xor.Shows is_linked Joins) t (table new) l l' (Xor l at) (Xor l' at')
+xor_turned {table = table} {new = new} knows = record {
+  reads = λ s shown. shown;
+  shows = λ s shown. shown;
+  stands = λ s shown. known {table = table} {links = new} s shown knows;
+  alike = refl;
+}
 
 module _ {V H : Type 0} {Shows : Table Entry → H → List Place → Type 0} {t t' : Table Entry} {head head' : H} {m m' : AnyCollection V}
     (turned : Turned Shows t t' head head' m m') (held : Held t m) where

@@ -9,13 +9,13 @@ use Rattle.ic_link_ops.specs.SinglyLinkedList as singly
 use Rattle.ic_link_ops.specs.XorLinkedList as xor
 use Rattle.ic_link_ops.specs.Positions.{site}
 use Rattle.ic_link_ops.specs.EditsAt.{SplicesBeside, SplitsBeside}
-use Rattle.ic_link_ops.proofs.SequenceLemmas.{gap_after, none_not}
-use Rattle.ic_cursors.specs.CursorOwning.{list_of, place_of}
+use Rattle.ic_link_ops.proofs.SequenceLemmas.{gap_after}
+use Rattle.ic_xor_linked_list.specs.Position.{PlaceAndNext}
 use Rattle.ic_any_collection.specs.declared.entry.Entry.{Entry}
 use Rattle.ic_any_collection.specs.Entries.{is_linked, neighbors, successor, Joins}
 use Rattle.ic_any_collection.specs.declared.any_collection.AnyCollection.{AnyCollection}
 use Rattle.ic_any_collection.specs.declared.any_collection.AnyCollection.TheVariants.{Singly, Doubly, Xor}
-use Rattle.ic_any_collection.specs.AnyCollection.{SinglyCursor, DoublyCursor, XorCursor, IsAt, IsXorAt, ShowsIn, StandsIn, cursor_in, Keeps, Alike}
+use Rattle.ic_any_collection.specs.AnyCollection.{IsAt, IsXorAt, ShowsIn, StandsIn, cursor_in, Keeps, Alike}
 use Rattle.ic_any_collection.specs.Edits.{PutsAll, Parts}
 
 -- WHERE A CURSOR STANDS: at null,
@@ -42,54 +42,53 @@ at_put_before gap r {position} before =
     let at = at_before (record { front = gap.front ++ r; back = gap.back }) before in (at.0, at.1 ∙ append_assoc gap.front r gap.back, at.2)
 
 -- an XOR list's cursor at null, where it keeps nothing
-pub xor_null : {V : Type 0} (m : XorCursor V) (s : List Place) → place_of m ≡ None → IsXorAt s (place_of m)
-xor_null m s null = rw null (at_front s, refl, refl, tt)
+pub xor_null : (s : List Place) {at : Option PlaceAndNext} → at ≡ None → IsXorAt s at
+xor_null s null = rw null (at_front s, refl, refl, tt)
 
--- a kind of list, of which a collection `made m` has this head: what the table shows for the head, it shows for the collection
-pub record IsListKind {V C H : Type 0} (made : C → AnyCollection V) (Shows : Table Entry → H → List Place → Type 0) (head : C → H) : Type 0 where
-  pub alike : (m m' : C) → Alike (made m) (made m')
-  pub shows : (t : Table Entry) (m : C) (s : List Place) → Shows t (head m) s → ShowsIn t (made m) s
-  pub shown : (t : Table Entry) (m : C) (s : List Place) → ShowsIn t (made m) s → Shows t (head m) s
+-- a kind of list: what the table shows for the list, it shows for the collection
+pub record IsListKind {V H P : Type 0} (made : H → P → AnyCollection V) (Shows : Table Entry → H → List Place → Type 0) : Type 0 where
+  pub alike : (l l' : H) (at at' : P) → Alike (made l at) (made l' at')
+  pub shows : (t : Table Entry) (l : H) (at : P) (s : List Place) → Shows t l s → ShowsIn t (made l at) s
+  pub shown : (t : Table Entry) (l : H) (at : P) (s : List Place) → ShowsIn t (made l at) s → Shows t l s
 
 module _ {V : Type 0} where
-  pub singly_list : IsListKind {V = V} (λ m. Singly m) (singly.Shows successor) (λ m. list_of m)
-  singly_list = record { alike = λ m m'. refl; shows = λ t m s h. h; shown = λ t m s h. h }
+  pub singly_list : IsListKind {V = V} (λ l at. Singly l at) (singly.Shows successor)
+  singly_list = record { alike = λ l l' at at'. refl; shows = λ t l at s h. h; shown = λ t l at s h. h }
 
-  pub doubly_list : IsListKind {V = V} (λ m. Doubly m) (doubly.Shows neighbors) (λ m. list_of m)
-  doubly_list = record { alike = λ m m'. refl; shows = λ t m s h. h; shown = λ t m s h. h }
+  pub doubly_list : IsListKind {V = V} (λ l at. Doubly l at) (doubly.Shows neighbors)
+  doubly_list = record { alike = λ l l' at at'. refl; shows = λ t l at s h. h; shown = λ t l at s h. h }
 
-  pub xor_list : IsListKind {V = V} (λ m. Xor m) (xor.Shows is_linked Joins) (λ m. list_of m)
-  xor_list = record { alike = λ m m'. refl; shows = λ t m s h. h; shown = λ t m s h. h }
+  pub xor_list : IsListKind {V = V} (λ l at. Xor l at) (xor.Shows is_linked Joins)
+  xor_list = record { alike = λ l l' at at'. refl; shows = λ t l at s h. h; shown = λ t l at s h. h }
 
-module _ {V C H : Type 0} {made : C → AnyCollection V} {Shows : Table Entry → H → List Place → Type 0} {head : C → H} (kind : IsListKind made Shows head) where
+module _ {V H P : Type 0} {made : H → P → AnyCollection V} {Shows : Table Entry → H → List Place → Type 0} (kind : IsListKind made Shows) where
   -- what the list shows, cut at a gap
-  shown_cut : {t : Table Entry} {m : C} {s : List Place} → Keeps t (made m) s → (gap : Cut) → join gap ≡ s → Shows t (head m) (join gap)
-  shown_cut {t} {m} {s} held gap cut = rw cut (kind.shown t m s held.shown)
+  shown_cut : {t : Table Entry} {l : H} {at : P} {s : List Place} → Keeps t (made l at) s → (gap : Cut) → join gap ≡ s → Shows t l (join gap)
+  shown_cut {t} {l} {at} {s} held gap cut = rw cut (kind.shown t l at s held.shown)
 
   -- a table with the same extent keeps what it shows for another list of the kind
-  keeps : {t t' : Table Entry} {m m' : C} {s u touched : List Place} → Keeps t (made m) s → KeepsBeside t t' touched
-      → Shows t' (head m') u → StandsIn u (made m') → Keeps t' (made m') u
-  keeps {t' = t'} {m = m} {m' = m'} {u = u} held frame shown stands = record {
-    carried = rw (frame.extent, kind.alike m m') held.carried;
-    shown = kind.shows t' m' u shown;
+  keeps : {t t' : Table Entry} {l l' : H} {at at' : P} {s u touched : List Place} → Keeps t (made l at) s → KeepsBeside t t' touched
+      → Shows t' l' u → StandsIn u (made l' at') → Keeps t' (made l' at') u
+  keeps {t' = t'} {l = l} {l' = l'} {at = at} {at' = at'} {u = u} held frame shown stands = record {
+    carried = rw (frame.extent, kind.alike l l' at at') held.carried;
+    shown = kind.shows t' l' at' u shown;
     stands = stands;
   }
 
-  module _ {L : Type 0} (table : L → Table Entry) {IsBeside : Cut → Option Place → Type 0} {links links' : L} {m m' : C} {s : List Place} (held : Keeps (table links) (made m) s)
-      (gap : Cut) (cut : join gap ≡ s) (there : IsBeside gap (cursor_in (made m))) where
+  module _ {L : Type 0} (table : L → Table Entry) {IsBeside : Cut → Option Place → Type 0} {links links' : L} {l l' : H} {at at' : P} {s : List Place} (held : Keeps (table links) (made l at) s)
+      (gap : Cut) (cut : join gap ≡ s) (there : IsBeside gap (cursor_in (made l at))) where
     -- A SPLIT BESIDE THE CURSOR leaves one part, and hands out the other in a collection of its own
-    pub parts : {kept handed : Cut → List Place} {result : H} {part : C}
+    pub parts : {kept handed : Cut → List Place} {part : H} {null : P}
         → SplitsBeside Shows table (λ a b steps. Replays is_linked (table a) (table b) steps) IsBeside kept handed
-        (site links (head m) (cursor_in (made m))) result (site links' (head m') (cursor_in (made m')))
-        → (IsBeside gap (cursor_in (made m')) → Shows (table links') (head m') (kept gap) → StandsIn (kept gap) (made m'))
-        → head part ≡ result → cursor_in (made part) ≡ None → (Shows (table links') (head part) (handed gap) → StandsIn (handed gap) (made part))
-        → Parts (table links) (table links') (made m) (made m') (kept gap) (handed gap) (made part)
-    parts {handed = handed} {part = part} e stands list null part_stands =
-        let splits = e.split gap (shown_cut held gap cut) there in
-        let hands_out : Shows (table links') (head part) (handed gap) = rw list splits.hands_out in record {
-          leaves = record { kept = keeps held splits.frame splits.keeps (stands (subst (IsBeside gap) (sym e.position) there) splits.keeps); alike = kind.alike m m'; cursor_is = e.position; frame = splits.frame };
-          hands_out = keeps held splits.frame hands_out (part_stands hands_out);
-          part_alike = kind.alike m part;
+        (site links l (cursor_in (made l at))) part (site links' l' (cursor_in (made l' at')))
+        → (IsBeside gap (cursor_in (made l' at')) → Shows (table links') l' (kept gap) → StandsIn (kept gap) (made l' at'))
+        → cursor_in (made part null) ≡ None → StandsIn (handed gap) (made part null)
+        → Parts (table links) (table links') (made l at) (made l' at') (kept gap) (handed gap) (made part null)
+    parts {part = part} {null = at_null} e stands null part_stands =
+        let splits = e.split gap (shown_cut held gap cut) there in record {
+          leaves = record { kept = keeps held splits.frame splits.keeps (stands (subst (IsBeside gap) (sym e.position) there) splits.keeps); alike = kind.alike l l' at at'; cursor_is = e.position; frame = splits.frame };
+          hands_out = keeps held splits.frame splits.hands_out part_stands;
+          part_alike = kind.alike l part at at_null;
           null = null;
           links = e.no_step;
         }
@@ -97,14 +96,14 @@ module _ {V C H : Type 0} {made : C → AnyCollection V} {Shows : Table Entry �
     -- A SPLICE BESIDE THE CURSOR puts all of the given list there
     pub puts_all : {given : H} (r : List Place)
         → SplicesBeside Shows table (λ a b steps. Replays is_linked (table a) (table b) steps) IsBeside
-        (site links (head m) (cursor_in (made m))) given (site links' (head m') (cursor_in (made m')))
+        (site links l (cursor_in (made l at))) given (site links' l' (cursor_in (made l' at')))
         → Shows (table links) given r → IsDisjoint r s
-        → (IsBeside gap (cursor_in (made m')) → Shows (table links) (head m) (join gap) → IsDisjoint r (join gap) → Shows (table links') (head m') (splice gap r) → StandsIn (splice gap r) (made m'))
-        → PutsAll (table links) (table links') (made m) (made m') gap r
+        → (IsBeside gap (cursor_in (made l' at')) → Shows (table links) l (join gap) → IsDisjoint r (join gap) → Shows (table links') l' (splice gap r) → StandsIn (splice gap r) (made l' at'))
+        → PutsAll (table links) (table links') (made l at) (made l' at') gap r
     puts_all r e shown apart stands =
         let was = shown_cut held gap cut in
         let apart_there : IsDisjoint r (join gap) = rw cut apart in
         let splices = e.spliced gap r was there shown apart_there in record {
-          leaves = record { kept = keeps held splices.frame splices.shows (stands (subst (IsBeside gap) (sym e.position) there) was apart_there splices.shows); alike = kind.alike m m'; cursor_is = e.position; frame = splices.frame };
+          leaves = record { kept = keeps held splices.frame splices.shows (stands (subst (IsBeside gap) (sym e.position) there) was apart_there splices.shows); alike = kind.alike l l' at at'; cursor_is = e.position; frame = splices.frame };
           links = e.no_step;
         }

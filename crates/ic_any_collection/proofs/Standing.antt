@@ -4,17 +4,17 @@ use Rattle.std.specs.Prelude.{⊤}
 use Rattle.ic_unsafe_ref.specs.declared.place.Place.{Place}
 use Rattle.ic_link_ops.specs.Sequences.{Cut, join, IsBefore}
 use Rattle.ic_link_ops.specs.Tables.{Table}
+use Rattle.ic_link_ops.specs.Chains.{Ends}
 use Rattle.ic_link_ops.specs.XorLinkedList as xor
 use Rattle.ic_link_ops.proofs.CollectionLaws.{one_sequence_is_shown}
 use Rattle.ic_link_ops.proofs.SequenceLemmas.{gap_before}
-use Rattle.ic_cursors.specs.CursorOwning.{list_of, place_of}
 use Rattle.ic_chain.specs.Standing.{StandsAt}
 use Rattle.ic_xor_linked_list.specs.Position.{PlaceAndNext, member_of, CachesNext}
 use Rattle.ic_any_collection.specs.declared.entry.Entry.{Entry}
 use Rattle.ic_any_collection.specs.Entries.{is_linked, Joins}
 use Rattle.ic_any_collection.specs.declared.any_collection.AnyCollection.{AnyCollection}
 use Rattle.ic_any_collection.specs.declared.any_collection.AnyCollection.TheVariants.{Singly, Doubly, Xor, Tree}
-use Rattle.ic_any_collection.specs.AnyCollection.{XorCursor, IsAt, IsXorAt, StandsIn, cursor_in, members_in, Held}
+use Rattle.ic_any_collection.specs.AnyCollection.{IsAt, IsXorAt, StandsIn, cursor_in, members_in, Held}
 use Rattle.ic_any_collection.proofs.AllKinds.{xor_kind}
 
 -- the gap before a position
@@ -24,10 +24,10 @@ before_at {s} {position} at = let prev = gap_before at.0 position at.2 in (prev.
 module _ {V : Type 0} where
   -- whatever the kind, the cursor is at a position of s
   pub stands_at : (s : List Place) (m : AnyCollection V) → StandsIn s m → IsAt s (cursor_in m)
-  stands_at s (Singly m) at = at
-  stands_at s (Doubly m) at = at
-  stands_at s (Xor m) at = (at.0, at.1, at.2)
-  stands_at s (Tree m) at = at
+  stands_at s (Singly l at) stands = stands
+  stands_at s (Doubly l at) stands = stands
+  stands_at s (Xor l at) stands = (stands.0, stands.1, stands.2)
+  stands_at s (Tree l at) stands = stands
 
   -- so there is a gap after it, and one before it
   pub gap_after_cursor : {t : Table Entry} (m : AnyCollection V) → Held t m → IsAt (members_in t m) (cursor_in m)
@@ -47,14 +47,14 @@ stands_plainly {Shows = Shows} {table} {links} {list} s shown at = record {
 }
 
 -- and where it keeps the place behind it too, as an XOR list's does,
-abbrev pub XorStands : {V L : Type 0} → (L → Table Entry) → L → XorCursor V → Type 0
-XorStands table links m = StandsAt (xor.Shows is_linked Joins) table member_of CachesNext links (list_of m) (place_of m)
+abbrev pub XorStands : {L : Type 0} → (L → Table Entry) → L → Ends → Option PlaceAndNext → Type 0
+XorStands table links l at = StandsAt (xor.Shows is_linked Joins) table member_of CachesNext links l at
 
-pub knows : {V L : Type 0} {table : L → Table Entry} {links : L} (m : XorCursor V) (s : List Place)
-    → xor.Shows is_linked Joins (table links) (list_of m) s → IsXorAt s (place_of m) → XorStands table links m
-knows {table = table} {links = links} m s shown at = record {
+pub knows : {L : Type 0} {table : L → Table Entry} {links : L} {l : Ends} {at : Option PlaceAndNext} (s : List Place)
+    → xor.Shows is_linked Joins (table links) l s → IsXorAt s at → XorStands table links l at
+knows {table = table} {links = links} {l = l'} s shown at = record {
   gap = at.0;
-  shown = subst (xor.Shows is_linked Joins (table links) (list_of m)) (sym at.1) shown;
+  shown = subst (xor.Shows is_linked Joins (table links) l') (sym at.1) shown;
   after = at.2;
   caches = λ q on. at.3;
 }
@@ -64,6 +64,6 @@ caches_next : (at : Option PlaceAndNext) (next : Option Place) → ((q : Place) 
 caches_next None next caches = tt
 caches_next (Some at) next caches = caches at.place refl
 
-pub known : {V L : Type 0} {table : L → Table Entry} {links : L} (m : XorCursor V) (s : List Place)
-    → xor.Shows is_linked Joins (table links) (list_of m) s → XorStands table links m → IsXorAt s (place_of m)
-known m s shown k = (k.gap, one_sequence_is_shown xor_kind k.shown shown, k.after, caches_next (place_of m) _ k.caches)
+pub known : {L : Type 0} {table : L → Table Entry} {links : L} {l : Ends} {at : Option PlaceAndNext} (s : List Place)
+    → xor.Shows is_linked Joins (table links) l s → XorStands table links l at → IsXorAt s at
+known {at = at'} s shown k = (k.gap, one_sequence_is_shown xor_kind k.shown shown, k.after, caches_next at' _ k.caches)

@@ -8,12 +8,7 @@ use Rattle.ic_link_ops.specs.SinglyLinkedList as singly
 use Rattle.ic_link_ops.specs.XorLinkedList as xor
 use Rattle.ic_link_ops.specs.RedBlackTree as tree
 use Rattle.ic_rbtree.specs.Members as tree_members
-use Rattle.ic_link_ops.specs.Chains.{Ends}
-use Rattle.ic_link_ops.specs.SinglyLinkedList.{Front}
-use Rattle.ic_cursors.specs.declared.cursor_owning.CursorOwning.{CursorOwning}
-use Rattle.ic_cursors.specs.CursorOwning.{list_of, place_of}
 use Rattle.ic_xor_linked_list.specs.Position.{PlaceAndNext, member_of, CachesNext}
-use Rattle.ic_rbtree.specs.CursorOwning as tree_cursor
 use Rattle.ic_rbtree.specs.Tree.{root_of}
 use Rattle.ic_any_collection.specs.declared.entry.Entry.{Entry}
 use Rattle.ic_any_collection.specs.declared.kind.Kind.{Kind}
@@ -22,16 +17,6 @@ use Rattle.ic_any_collection.specs.Kinds.{carries}
 use Rattle.ic_any_collection.specs.Entries.{is_linked, neighbors, successor, node, Joins, other, kind_of}
 use Rattle.ic_any_collection.specs.declared.any_collection.AnyCollection.{AnyCollection}
 use Rattle.ic_any_collection.specs.declared.any_collection.AnyCollection.TheVariants.{Singly, Doubly, Xor, Tree}
-
--- the cursors of the lists, of whose kinds a singly list keeps its first member, and an XOR list's cursor the place behind it
-abbrev pub SinglyCursor : Type 0 → Type 0
-SinglyCursor V = CursorOwning Front V (Option Place) Front
-
-abbrev pub DoublyCursor : Type 0 → Type 0
-DoublyCursor V = CursorOwning Ends V (Option Place) Ends
-
-abbrev pub XorCursor : Type 0 → Type 0
-XorCursor V = CursorOwning Ends V (Option PlaceAndNext) Ends
 
 -- the position is one of s: there is a gap after it
 abbrev pub IsAt : List Place → Option Place → Type 0
@@ -88,37 +73,38 @@ is_tree kind.Xor = false
 is_tree kind.Tree = true
 
 module _ {V : Type 0} where
-  -- FOR EACH KIND: its name, the member that the cursor is on, which sequence a table shows, the walk that finds
-  -- it, and where the cursor stands in it: in an XOR list with the place behind it, which it keeps
+  -- FOR EACH KIND, of which `l` is the list and `at` the position of its cursor: its name, the member that the cursor is on, which
+  -- sequence a table shows, the walk that finds it, and where the cursor stands in it: in an XOR list with the place behind it, which
+  -- it keeps
   abbrev pub kind_in : AnyCollection V → Kind
-  kind_in (Singly m) = kind.Singly
-  kind_in (Doubly m) = kind.Doubly
-  kind_in (Xor m) = kind.Xor
-  kind_in (Tree m) = kind.Tree
+  kind_in (Singly l at) = kind.Singly
+  kind_in (Doubly l at) = kind.Doubly
+  kind_in (Xor l at) = kind.Xor
+  kind_in (Tree l at) = kind.Tree
 
   abbrev pub cursor_in : AnyCollection V → Option Place
-  cursor_in (Singly m) = place_of m
-  cursor_in (Doubly m) = place_of m
-  cursor_in (Xor m) = member_of (place_of m)
-  cursor_in (Tree m) = tree_cursor.position m
+  cursor_in (Singly l at) = at
+  cursor_in (Doubly l at) = at
+  cursor_in (Xor l at) = member_of at
+  cursor_in (Tree l at) = at
 
   abbrev pub ShowsIn : Table Entry → AnyCollection V → List Place → Type 0
-  ShowsIn t (Singly m) s = singly.Shows successor t (list_of m) s
-  ShowsIn t (Doubly m) s = doubly.Shows neighbors t (list_of m) s
-  ShowsIn t (Xor m) s = xor.Shows is_linked Joins t (list_of m) s
-  ShowsIn t (Tree m) s = tree.Shows node t (root_of (tree_cursor.tree_of m)) s
+  ShowsIn t (Singly l at) s = singly.Shows successor t l s
+  ShowsIn t (Doubly l at) s = doubly.Shows neighbors t l s
+  ShowsIn t (Xor l at) s = xor.Shows is_linked Joins t l s
+  ShowsIn t (Tree l at) s = tree.Shows node t (root_of l) s
 
   abbrev pub members_in : Table Entry → AnyCollection V → List Place
-  members_in t (Singly m) = singly.members successor t (list_of m)
-  members_in t (Doubly m) = doubly.members neighbors t (list_of m)
-  members_in t (Xor m) = xor.members other t (list_of m)
-  members_in t (Tree m) = tree_members.members node t (root_of (tree_cursor.tree_of m))
+  members_in t (Singly l at) = singly.members successor t l
+  members_in t (Doubly l at) = doubly.members neighbors t l
+  members_in t (Xor l at) = xor.members other t l
+  members_in t (Tree l at) = tree_members.members node t (root_of l)
 
   abbrev pub StandsIn : List Place → AnyCollection V → Type 0
-  StandsIn s (Singly m) = IsAt s (place_of m)
-  StandsIn s (Doubly m) = IsAt s (place_of m)
-  StandsIn s (Xor m) = IsXorAt s (place_of m)
-  StandsIn s (Tree m) = IsAt s (tree_cursor.position m)
+  StandsIn s (Singly l at) = IsAt s at
+  StandsIn s (Doubly l at) = IsAt s at
+  StandsIn s (Xor l at) = IsXorAt s at
+  StandsIn s (Tree l at) = IsAt s at
 
   -- THE TABLE KEEPS s for the collection: it carries its kind, shows s, and the cursor stands in s
   pub record Keeps (t : Table Entry) (m : AnyCollection V) (s : List Place) : Type 0 where

@@ -5,4 +5,5 @@ pub mod TablesWithPrev
 pub mod AnyTables
 pub mod AnyCollection
 pub mod Edits
+pub mod Refusals
 pub mod Keyed

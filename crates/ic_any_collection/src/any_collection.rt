@@ -14,23 +14,26 @@ ghost use Rattle.ic_any_collection.specs.Entries.{kind_of};
 
 use crate::kind::Kind;
 use crate::unkeyed::Unkeyed;
+use ic_chain::ListPosition;
+use ic_cursors::Position;
+use ic_link_ops::PlaceWord;
 use ic_linked_list::LinkedList;
 use ic_rbtree::RBTree;
 use ic_singly_linked_list::SinglyLinkedList;
 use ic_unsafe_ref::Place;
-use ic_xor_linked_list::XorLinkedList;
+use ic_xor_linked_list::{PositionWithNext, XorLinkedList};
 
-/// A collection of one of the kinds, with its cursor, which is null or on a member.
+/// A collection of one of the kinds, and where its cursor is: null, or on a member.
 #[derive(Drop)]
 pub enum AnyCollection<T> {
     /// A singly linked list.
-    Singly(ic_singly_linked_list::CursorOwning<T>),
+    Singly(SinglyLinkedList<T>, PlaceWord),
     /// A doubly linked list.
-    Doubly(ic_linked_list::CursorOwning<T>),
+    Doubly(LinkedList<T>, PlaceWord),
     /// An XOR linked list.
-    Xor(ic_xor_linked_list::CursorOwning<T>),
+    Xor(XorLinkedList<T>, PositionWithNext),
     /// A red-black tree.
-    Tree(ic_rbtree::CursorOwning<Unkeyed<T>>),
+    Tree(RBTree<Unkeyed<T>>, PlaceWord),
 }
 
 impl<T> AnyCollection<T> {
@@ -44,10 +47,10 @@ impl<T> AnyCollection<T> {
         ensures kept { (t : Table Entry) → carries (kind_of t) kind ≡ true → Keeps t result [] }
     {
         match kind {
-            Kind::Singly => Self::Singly(SinglyLinkedList::new().cursor_owning()),
-            Kind::Doubly => Self::Doubly(LinkedList::new().cursor_owning()),
-            Kind::Xor => Self::Xor(XorLinkedList::new().cursor_owning()),
-            Kind::Tree => Self::Tree(RBTree::new(Unkeyed::new()).cursor_owning()),
+            Kind::Singly => Self::Singly(SinglyLinkedList::new(), ListPosition::null()),
+            Kind::Doubly => Self::Doubly(LinkedList::new(), ListPosition::null()),
+            Kind::Xor => Self::Xor(XorLinkedList::new(), ListPosition::null()),
+            Kind::Tree => Self::Tree(RBTree::new(Unkeyed::new()), ListPosition::null()),
         }
     }
 
@@ -57,10 +60,10 @@ impl<T> AnyCollection<T> {
         ensures { result ≡ kind_in self.now }
     {
         match self {
-            Self::Singly(_) => Kind::Singly,
-            Self::Doubly(_) => Kind::Doubly,
-            Self::Xor(_) => Kind::Xor,
-            Self::Tree(_) => Kind::Tree,
+            Self::Singly(..) => Kind::Singly,
+            Self::Doubly(..) => Kind::Doubly,
+            Self::Xor(..) => Kind::Xor,
+            Self::Tree(..) => Kind::Tree,
         }
     }
 
@@ -70,10 +73,10 @@ impl<T> AnyCollection<T> {
         ensures { result ≡ cursor_in self.now }
     {
         match self {
-            Self::Singly(cursor) => cursor.get_ptr(),
-            Self::Doubly(cursor) => cursor.get_ptr(),
-            Self::Xor(cursor) => cursor.get_ptr(),
-            Self::Tree(cursor) => cursor.get_ptr(),
+            Self::Singly(_, at) => at.get(),
+            Self::Doubly(_, at) => at.get(),
+            Self::Xor(_, at) => at.get(),
+            Self::Tree(_, at) => at.get(),
         }
     }
 }

@@ -5,7 +5,7 @@
 //! tree.find(&field, &objects, adapter, &5) // the first member of key 5, and how many objects were compared
 //! ```
 
-ghost use Rattle.std.specs.Prelude.{◌≡◌, List, ◌++◌, Option, Some, None, true, false, IfOk, IfErr, OnErr, IfSome, IfNone, OnSome};
+ghost use Rattle.std.specs.Prelude.{◌≡◌, List, ◌++◌, Option, Some, None, true, false, IfOk, OnOk, OnErr, IfSome, IfNone};
 ghost use Rattle.ic_unsafe_ref.specs.declared.place.Place.{Place};
 ghost use Rattle.ic_unsafe_ref.specs.Objects.{Objects as Placed, is_placed};
 ghost use Rattle.ic_link_ops.specs.Sequences.{Cut, join, IsBefore};
@@ -19,16 +19,18 @@ ghost use Rattle.ic_rbtree.specs.CursorMut as editing;
 ghost use Rattle.ic_rbtree.specs.Entry as gaps;
 ghost use Rattle.ic_rbtree.specs.Iter.{rest_of, CanWalk};
 ghost use Rattle.ic_rbtree.specs.KeyProbe.{key_order, looks_of, HasAdapter};
+ghost use Rattle.ic_rbtree.specs.Ordered.{InsertsInOrder};
 ghost use Rattle.ic_rbtree.specs.Ranges.{runs_up, IsRange};
 ghost use Rattle.ic_rbtree.specs.Tree.{root_of, adapter_of};
 ghost use Rattle.ic_any_collection.specs.Entries.{is_linked, node};
 ghost use Rattle.ic_any_collection.specs.AnyTables.{look};
 ghost use Rattle.ic_any_collection.specs.TreeTables as tree_table;
 ghost use Rattle.ic_any_collection.specs.Edits.{AtGap};
+ghost use Rattle.ic_any_collection.specs.Refusals.{refusal_in, refusal_of_object, refusal_of_put};
 ghost use Rattle.ic_any_collection.specs.Keyed.{FewLooks, FewLooksWithin, looks_within, HasNoLooks, IsVacantFor};
 
 use crate::unkeyed::Unkeyed;
-use crate::{AnyCollection, AnyTable, TableWithPrev, TreeTable};
+use crate::{AnyCollection, AnyTable, EditError, TableWithPrev, TreeTable};
 use ic_link_ops::PlaceWord;
 use ic_link_ops::rbtree::RBTreeOps;
 use ic_rbtree::{Bound, Entry, Iter, KeyAdapter, KeyProbe, RBTree, RefusedInsert};
@@ -135,8 +137,8 @@ impl<T> AnyCollection<T> {
     {
         let mut probe = KeyProbe::new(adapter, key);
         let position = match (&*self, links) {
-            (Self::Tree(cursor), AnyTable::WithPrev(TableWithPrev::Tree(links))) => {
-                cursor.list().find_by(links, objects, &mut probe).get_ptr()
+            (Self::Tree(tree, _), AnyTable::WithPrev(TableWithPrev::Tree(links))) => {
+                tree.find_by(links, objects, &mut probe).get_ptr()
             }
             _ => unreachable!(),
         };
@@ -180,11 +182,8 @@ impl<T> AnyCollection<T> {
     {
         let mut probe = probe_for(adapter, bound);
         let position = match (&*self, links) {
-            (Self::Tree(cursor), AnyTable::WithPrev(TableWithPrev::Tree(links))) => {
-                cursor
-                    .list()
-                    .lower_bound_by(links, objects, &mut probe)
-                    .get_ptr()
+            (Self::Tree(tree, _), AnyTable::WithPrev(TableWithPrev::Tree(links))) => {
+                tree.lower_bound_by(links, objects, &mut probe).get_ptr()
             }
             _ => unreachable!(),
         };
@@ -215,11 +214,8 @@ impl<T> AnyCollection<T> {
     {
         let mut probe = probe_for(adapter, bound);
         let position = match (&*self, links) {
-            (Self::Tree(cursor), AnyTable::WithPrev(TableWithPrev::Tree(links))) => {
-                cursor
-                    .list()
-                    .upper_bound_by(links, objects, &mut probe)
-                    .get_ptr()
+            (Self::Tree(tree, _), AnyTable::WithPrev(TableWithPrev::Tree(links))) => {
+                tree.upper_bound_by(links, objects, &mut probe).get_ptr()
             }
             _ => unreachable!(),
         };
@@ -249,9 +245,9 @@ impl<T> AnyCollection<T> {
             × FewLooksWithin max.now answer.2 (members_in (look links.now) self.now)) }
     {
         match self {
-            Self::Tree(cursor) => match links {
+            Self::Tree(tree, _) => match links {
                 AnyTable::WithPrev(TableWithPrev::Tree(links)) => {
-                    let tree = RBTree::from_root(adapter, cursor.list().root());
+                    let tree = RBTree::from_root(adapter, tree.root());
                     let (walk, from, to) = walk_between(&tree, links, objects, min, max);
                     let places = list_walk(alloc, &tree, links, walk)?;
                     Ok((places, from, to))
@@ -260,14 +256,15 @@ impl<T> AnyCollection<T> {
                 | AnyTable::Singly(_)
                 | AnyTable::Xor(_) => unreachable!(),
             },
-            Self::Singly(_) | Self::Doubly(_) | Self::Xor(_) => unreachable!(),
+            Self::Singly(..) | Self::Doubly(..) | Self::Xor(..) => unreachable!(),
         }
     }
 
     /// Puts the object where its own key belongs, behind members with the same key, and the cursor on it. Returns the looks of the
-    /// descent, or `None` for an object that is linked, and then nothing has changed.
+    /// descent. O(log n).
     ///
-    /// It asks that this is a tree, that an object stands at each member and at the place, and that the place is covered. O(log n).
+    /// It requires that an object stands at each member and at the place, and that the place is covered. Refused: `WrongKind` of a list,
+    /// `AlreadyLinked`.
     #[inline]
     pub fn insert<A: KeyAdapter<Value = T>, M: Allocator, B: Allocator>(
         &mut self,
@@ -275,59 +272,65 @@ impl<T> AnyCollection<T> {
         objects: &Objects<T, B>,
         adapter: A,
         object: Place,
-    ) -> Option<u64>
+    ) -> Result<u64, EditError>
         requires held { Held (look links.old) self.old }
-        requires can { is_tree (kind_in self.old) ≡ true }
         requires placed { ArePlaced objects.now (members_in (look links.old) self.old) }
         requires object { is_placed objects.now object ≡ true }
         requires covered { IsCovered (look links.old) object }
-        ensures inserted { OnSome result (PutsInOrder (compared (own_order A.Key.cmp (A.key_of adapter) objects.now object) objects.now)
+        ensures tested { refusal_in result ≡ refusal_of_put (is_tree (kind_in self.old)) (look links.old) object }
+        ensures inserted { OnOk result (PutsInOrder (compared (own_order A.Key.cmp (A.key_of adapter) objects.now object) objects.now)
             (look links.old) (look links.new) self.old self.new object (Some object)) }
-        ensures looks { IfSome result (λ looks. FewLooks looks (members_in (look links.old) self.old)) }
-        ensures refused { IfNone result (IsLinked is_linked (look links.old) object
-            × IsUnchanged links.old links.new self.old self.new) }
+        ensures looks { IfOk result (λ looks. FewLooks looks (members_in (look links.old) self.old)) }
+        ensures unchanged { OnErr result (IsUnchanged links.old links.new self.old self.new) }
     {
-        let looks = self.cursor_insert(links, objects, adapter, object)?;
-        self.stand_at(links, Some(object));
-        Some(looks)
+        match self {
+            Self::Tree(tree, at) => match links {
+                AnyTable::WithPrev(TableWithPrev::Tree(links)) => {
+                    match put_in_order(tree, links, objects, adapter, object) {
+                        Ok(looks) => {
+                            *at = PlaceWord::of(Some(object));
+                            Ok(looks)
+                        }
+                        Err(refusal) => Err(refusal),
+                    }
+                }
+                AnyTable::WithPrev(TableWithPrev::Doubly(_))
+                | AnyTable::Singly(_)
+                | AnyTable::Xor(_) => unreachable!(),
+            },
+            Self::Singly(..) | Self::Doubly(..) | Self::Xor(..) => Err(EditError::WrongKind),
+        }
     }
 
-    /// Puts the object where its own key belongs, behind members with the same key. The cursor stays.
+    /// Puts the object where its own key belongs, behind members with the same key. The cursor stays. It requires, returns and refuses
+    /// what [`AnyCollection::insert`] does.
     pub fn cursor_insert<A: KeyAdapter<Value = T>, M: Allocator, B: Allocator>(
         &mut self,
         links: &mut AnyTable<M>,
         objects: &Objects<T, B>,
         adapter: A,
         object: Place,
-    ) -> Option<u64>
+    ) -> Result<u64, EditError>
         requires held { Held (look links.old) self.old }
-        requires can { is_tree (kind_in self.old) ≡ true }
         requires placed { ArePlaced objects.now (members_in (look links.old) self.old) }
         requires object { is_placed objects.now object ≡ true }
         requires covered { IsCovered (look links.old) object }
-        ensures inserted { OnSome result (PutsInOrder (compared (own_order A.Key.cmp (A.key_of adapter) objects.now object) objects.now)
+        ensures tested { refusal_in result ≡ refusal_of_put (is_tree (kind_in self.old)) (look links.old) object }
+        ensures inserted { OnOk result (PutsInOrder (compared (own_order A.Key.cmp (A.key_of adapter) objects.now object) objects.now)
             (look links.old) (look links.new) self.old self.new object (cursor_in self.old)) }
-        ensures looks { IfSome result (λ looks. FewLooks looks (members_in (look links.old) self.old)) }
-        ensures refused { IfNone result (IsLinked is_linked (look links.old) object
-            × IsUnchanged links.old links.new self.old self.new) }
+        ensures looks { IfOk result (λ looks. FewLooks looks (members_in (look links.old) self.old)) }
+        ensures unchanged { OnErr result (IsUnchanged links.old links.new self.old self.new) }
     {
         match self {
-            Self::Tree(cursor) => match links {
+            Self::Tree(tree, _) => match links {
                 AnyTable::WithPrev(TableWithPrev::Tree(links)) => {
-                    let value = objects.get(object).unwrap(); // proved: it is placed
-                    let mut probe = KeyProbe::new(adapter, adapter.get_key(value));
-                    let object = UnsafeRef::new(object);
-                    let list = cursor.list_mut();
-                    let Ok(()) = list.insert_by(links, objects, &mut probe, object) else {
-                        return None;
-                    };
-                    Some(probe.looks())
+                    put_in_order(tree, links, objects, adapter, object)
                 }
                 AnyTable::WithPrev(TableWithPrev::Doubly(_))
                 | AnyTable::Singly(_)
                 | AnyTable::Xor(_) => unreachable!(),
             },
-            Self::Singly(_) | Self::Doubly(_) | Self::Xor(_) => unreachable!(),
+            Self::Singly(..) | Self::Doubly(..) | Self::Xor(..) => Err(EditError::WrongKind),
         }
     }
 
@@ -360,21 +363,49 @@ impl<T> AnyCollection<T> {
             × IsUnchanged links.old links.new self.old self.new) }
     {
         match self {
-            Self::Tree(cursor) => match links {
+            Self::Tree(tree, at) => match links {
                 AnyTable::WithPrev(TableWithPrev::Tree(links)) => {
                     let mut probe = KeyProbe::new(adapter, key);
-                    let tree = cursor.list_mut();
                     let (occupied, place) = put_at_key(tree, links, objects, &mut probe, object)?;
-                    cursor.go_to(PlaceWord::of(Some(place)));
+                    *at = PlaceWord::of(Some(place));
                     Some((occupied, place, probe.looks()))
                 }
                 AnyTable::WithPrev(TableWithPrev::Doubly(_))
                 | AnyTable::Singly(_)
                 | AnyTable::Xor(_) => unreachable!(),
             },
-            Self::Singly(_) | Self::Doubly(_) | Self::Xor(_) => unreachable!(),
+            Self::Singly(..) | Self::Doubly(..) | Self::Xor(..) => unreachable!(),
         }
     }
+}
+
+// Puts the object where its own key belongs, and returns the looks of the descent.
+#[inline]
+fn put_in_order<A: KeyAdapter, M: Allocator, B: Allocator>(
+    tree: &mut RBTree<Unkeyed<A::Value>>,
+    links: &mut TreeTable<M>,
+    objects: &Objects<A::Value, B>,
+    adapter: A,
+    object: Place,
+) -> Result<u64, EditError>
+    requires placed { ShowsPlaced (Shows node (tree_table.look links.old) (root_of tree.old)) objects.now }
+    requires object { is_placed objects.now object ≡ true }
+    requires covered { IsCovered (tree_table.look links.old) object }
+    ensures tested { refusal_in result ≡ refusal_of_object (tree_table.look links.old) object }
+    ensures inserted { (s : List Place) → Shows node (tree_table.look links.old) (root_of tree.old) s → OnOk result
+        (InsertsInOrder (Shows node) (compared (own_order A.Key.cmp (A.key_of adapter) objects.now object) objects.now)
+        (tree_table.look links.old) (tree_table.look links.new) (root_of tree.new) s object) }
+    ensures acquired { OnOk result (LinksAlso is_linked (tree_table.look links.old) (tree_table.look links.new) object) }
+    ensures looks { (s : List Place) → Shows node (tree_table.look links.old) (root_of tree.old) s → IfOk result (λ looks. FewLooks looks s) }
+    ensures unchanged { OnErr result ((tree.new ≡ tree.old) × (links.new ≡ links.old)) }
+{
+    let value = objects.get(object).unwrap(); // proved: it is placed
+    let mut probe = KeyProbe::new(adapter, adapter.get_key(value));
+    let object = UnsafeRef::new(object);
+    let Ok(()) = tree.insert_by(links, objects, &mut probe, object) else {
+        return Err(EditError::AlreadyLinked);
+    };
+    Ok(probe.looks())
 }
 
 // The first member that compares equal, or the object, which goes into the gap where the search ended; `None` where it is linked.

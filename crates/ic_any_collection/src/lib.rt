@@ -4,21 +4,22 @@
 //! let mut links = AnyTable::new(rt.alloc(), Kind::Tree);
 //! links.cover(3)?;
 //! let mut queue = AnyCollection::new(Kind::Xor);
-//! queue.insert_after(&mut links, place); // at null: in front of all
-//! queue.move_next(&links);
-//! queue.cursor() // Some(place)
+//! queue.insert_after(&mut links, place)?; // at null: in front of all
+//! queue.move_next(&links) // Some(place)
 //! ```
 //!
 //! An [`AnyTable`] is a table of any kind, and each carries singly linked and XOR lists. One that has a place before in each entry has
 //! a [`TableWithPrev`], which carries doubly linked lists, too, and one of those may have a [`TreeTable`], which carries trees.
 //!
 //! An [`AnyCollection`] is a collection of any kind, with its cursor. Each call goes to the kind of the collection and to the table
-//! that carries it, and each is said in the same words for every kind. What a kind has no call for is asked of the caller.
+//! that carries it, and each is said in the same words for every kind. A kind refuses an edit that it has no call for.
 #![tactic(auto)]
 
 mod any_collection;
 mod any_table;
+mod edit_error;
 mod edits;
+mod ends;
 mod entry;
 mod keyed;
 mod kind;
@@ -31,6 +32,7 @@ mod whole;
 
 pub use any_collection::AnyCollection;
 pub use any_table::AnyTable;
+pub use edit_error::EditError;
 pub use entry::Entry;
 pub use kind::Kind;
 pub use table_with_prev::TableWithPrev;

@@ -2,35 +2,37 @@
 //!
 //! ```text
 //! queue.go_null();
-//! queue.move_next(&field); // on the first member, or still at null
+//! queue.move_next(&field) // the first member, or none
 //! ```
 
-ghost use Rattle.std.specs.Prelude.{◌≡◌, List, Some, None, true, ◌++◌, ◌∷◌};
+ghost use Rattle.std.specs.Prelude.{◌≡◌, List, Some, None, true, IfOk, OnOk, OnErr};
 ghost use Rattle.ic_unsafe_ref.specs.declared.place.Place.{Place};
 ghost use Rattle.ic_link_ops.specs.Sequences.{first, last, IsAfter, IsBefore};
 ghost use Rattle.ic_link_ops.specs.Tables.{Table};
 ghost use Rattle.ic_any_collection.specs.declared.entry.Entry.{Entry};
 ghost use Rattle.ic_any_collection.specs.AnyTables.{look};
 
-use crate::{AnyCollection, AnyTable, TableWithPrev};
+use crate::{AnyCollection, AnyTable, EditError, TableWithPrev};
+use ic_chain::ListPosition;
+use ic_cursors::{Bidirectional, CursorOps, Position};
 use ic_link_ops::PlaceWord;
-use ic_unsafe_ref::{Place, UnsafeRef};
+use ic_unsafe_ref::Place;
 use std::alloc::Allocator;
 
-// The object at a place.
+// Moves a position there, and returns the member that it is on.
 #[inline]
-pub(crate) fn object_of<T>(place: Option<Place>) -> Option<UnsafeRef<T>>
-    ensures { result ≡ place }
+fn moved_to<P: Position>(at: &mut P, to: P) -> Option<Place>
+    ensures moved { at.new ≡ to }
+    ensures answer { result ≡ P.member to }
 {
-    match place {
-        None => None,
-        Some(place) => Some(UnsafeRef::new(place)),
-    }
+    *at = to;
+    at.get()
 }
 
 impl<T> AnyCollection<T> {
     ghost use Rattle.ic_any_collection.specs.AnyCollection.{kind_in, cursor_in, members_in, has_before, is_xor, Keeps, Held, Alike};
     ghost use Rattle.ic_any_collection.specs.Edits.{AtGap, Moves};
+    ghost use Rattle.ic_any_collection.specs.Refusals.{refusal_in, refusal_of_kind};
 
     /// Moves the cursor to null. It reads no table, and asks nothing. O(1).
     #[inline]
@@ -40,60 +42,73 @@ impl<T> AnyCollection<T> {
         ensures null { cursor_in self.new ≡ None }
     {
         match self {
-            Self::Singly(cursor) => cursor.go_null(),
-            Self::Doubly(cursor) => cursor.go_null(),
-            Self::Xor(cursor) => cursor.go_null(),
-            Self::Tree(cursor) => cursor.go_null(),
+            Self::Singly(_, at) => *at = ListPosition::null(),
+            Self::Doubly(_, at) => *at = ListPosition::null(),
+            Self::Xor(_, at) => *at = ListPosition::null(),
+            Self::Tree(_, at) => *at = ListPosition::null(),
         }
     }
 
-    /// Moves the cursor to the next member, from null to the first one, and from the last one to null. O(1), in a tree O(log n).
+    /// Moves the cursor to the next member, from null to the first one, and from the last one to null, and returns where it is. O(1), in
+    /// a tree O(log n).
     ///
-    /// It asks that the field's table keeps the collection, as all calls do that take the table.
+    /// It requires that the field's table keeps the collection, as all calls do that take the table.
     #[inline]
-    pub fn move_next<M: Allocator>(&mut self, links: &AnyTable<M>)
+    pub fn move_next<M: Allocator>(&mut self, links: &AnyTable<M>) -> Option<Place>
         requires held { Held (look links.now) self.old }
-        ensures { AtGap (members_in (look links.now) self.old) (λ gap. IsAfter gap (cursor_in self.old)
+        ensures moved { AtGap (members_in (look links.now) self.old) (λ gap. IsAfter gap (cursor_in self.old)
             × Moves (look links.now) self.old self.new (first gap.back)) }
+        ensures answer { result ≡ cursor_in self.new }
     {
         match self {
-            Self::Singly(cursor) => cursor.move_next(links),
-            Self::Doubly(cursor) => {
-                if let AnyTable::WithPrev(links) = links {
-                    cursor.move_next(links);
+            Self::Singly(list, at) => moved_to(at, list.next_of(links, at)),
+            Self::Doubly(list, at) => match links {
+                AnyTable::WithPrev(links) => moved_to(at, list.next_of(links, at)),
+                AnyTable::Singly(_) | AnyTable::Xor(_) => unreachable!(), // proved: it carries no such list
+            },
+            Self::Xor(list, at) => moved_to(at, list.next_of(links, at)),
+            Self::Tree(tree, at) => match links {
+                AnyTable::WithPrev(TableWithPrev::Tree(links)) => {
+                    moved_to(at, tree.next_of(links, at))
                 }
-            }
-            Self::Xor(cursor) => cursor.move_next(links),
-            Self::Tree(cursor) => {
-                if let AnyTable::WithPrev(TableWithPrev::Tree(links)) = links {
-                    cursor.move_next(links);
-                }
-            }
+                AnyTable::WithPrev(TableWithPrev::Doubly(_))
+                | AnyTable::Singly(_)
+                | AnyTable::Xor(_) => unreachable!(),
+            },
         }
     }
 
-    /// Moves the cursor to the previous member, from null to the last one, and from the first one to null. It asks that the kind
-    /// has such moves: that it is no singly linked list. O(1), in a tree O(log n).
+    /// Moves the cursor to the previous member, from null to the last one, and from the first one to null, and returns where it is. O(1),
+    /// in a tree O(log n).
+    ///
+    /// Refused: `WrongKind` of a singly linked list.
     #[inline]
-    pub fn move_prev<M: Allocator>(&mut self, links: &AnyTable<M>)
+    pub fn move_prev<M: Allocator>(
+        &mut self,
+        links: &AnyTable<M>,
+    ) -> Result<Option<Place>, EditError>
         requires held { Held (look links.now) self.old }
-        requires can { has_before (kind_in self.old) ≡ true }
-        ensures { AtGap (members_in (look links.now) self.old) (λ gap. IsBefore gap (cursor_in self.old)
-            × Moves (look links.now) self.old self.new (last gap.front)) }
+        ensures tested { refusal_in result ≡ refusal_of_kind (has_before (kind_in self.old)) }
+        ensures moved { OnOk result (AtGap (members_in (look links.now) self.old) (λ gap. IsBefore gap (cursor_in self.old)
+            × Moves (look links.now) self.old self.new (last gap.front))) }
+        ensures answer { IfOk result (λ on. on ≡ cursor_in self.new) }
+        ensures unchanged { OnErr result (Moves (look links.now) self.old self.new (cursor_in self.old)) }
     {
         match self {
-            Self::Singly(_) => unreachable!(),
-            Self::Doubly(cursor) => {
-                if let AnyTable::WithPrev(links) = links {
-                    cursor.move_prev(links);
+            Self::Singly(..) => Err(EditError::WrongKind),
+            Self::Doubly(list, at) => match links {
+                AnyTable::WithPrev(links) => Ok(moved_to(at, list.prev_of(links, at))),
+                AnyTable::Singly(_) | AnyTable::Xor(_) => unreachable!(),
+            },
+            Self::Xor(list, at) => Ok(moved_to(at, list.prev_of(links, at))),
+            Self::Tree(tree, at) => match links {
+                AnyTable::WithPrev(TableWithPrev::Tree(links)) => {
+                    Ok(moved_to(at, tree.prev_of(links, at)))
                 }
-            }
-            Self::Xor(cursor) => cursor.move_prev(links),
-            Self::Tree(cursor) => {
-                if let AnyTable::WithPrev(TableWithPrev::Tree(links)) = links {
-                    cursor.move_prev(links);
-                }
-            }
+                AnyTable::WithPrev(TableWithPrev::Doubly(_))
+                | AnyTable::Singly(_)
+                | AnyTable::Xor(_) => unreachable!(),
+            },
         }
     }
 
@@ -107,13 +122,10 @@ impl<T> AnyCollection<T> {
         ensures { Moves (look links.now) self.old self.new (Some place) }
     {
         match self {
-            Self::Singly(cursor) => cursor.go_to(PlaceWord::of(Some(place))),
-            Self::Doubly(cursor) => cursor.go_to(PlaceWord::of(Some(place))),
-            Self::Xor(cursor) => {
-                let at = cursor.list().position_at(links, prev, Some(place));
-                cursor.go_to(at);
-            }
-            Self::Tree(cursor) => cursor.go_to(PlaceWord::of(Some(place))),
+            Self::Singly(_, at) => *at = PlaceWord::of(Some(place)),
+            Self::Doubly(_, at) => *at = PlaceWord::of(Some(place)),
+            Self::Xor(list, at) => *at = list.position_at(links, prev, Some(place)),
+            Self::Tree(_, at) => *at = PlaceWord::of(Some(place)),
         }
     }
 }

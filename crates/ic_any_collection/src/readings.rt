@@ -11,9 +11,10 @@ ghost use Rattle.ic_link_ops.specs.Sequences.{Cut, join, first, last, IsAfter, I
 ghost use Rattle.ic_link_ops.specs.Tables.{IsCovered};
 ghost use Rattle.ic_any_collection.specs.AnyTables.{look};
 
-use crate::moves::object_of;
 use crate::{AnyCollection, AnyTable, TableWithPrev};
-use ic_unsafe_ref::{Place, UnsafeRef};
+use ic_cursors::{CursorOps, Position};
+use ic_link_ops::PlaceWord;
+use ic_unsafe_ref::Place;
 use std::alloc::{AllocError, Allocator};
 
 impl<T> AnyCollection<T> {
@@ -27,17 +28,11 @@ impl<T> AnyCollection<T> {
         ensures { result ≡ first (members_in (look links.now) self.now) }
     {
         match self {
-            Self::Singly(cursor) => cursor.list().front(links).get_ptr(),
-            Self::Doubly(cursor) => match links {
-                AnyTable::WithPrev(links) => cursor.list().front(links).get_ptr(),
-                AnyTable::Singly(_) | AnyTable::Xor(_) => unreachable!(),
-            },
-            Self::Xor(cursor) => cursor.list().front(links).get_ptr(),
-            Self::Tree(cursor) => match links {
-                AnyTable::WithPrev(TableWithPrev::Tree(links)) => cursor
-                    .list()
-                    .front(links)
-                    .get_ptr(),
+            Self::Singly(list, _) => list.first(),
+            Self::Doubly(list, _) => list.first(),
+            Self::Xor(list, _) => list.first(),
+            Self::Tree(tree, _) => match links {
+                AnyTable::WithPrev(TableWithPrev::Tree(links)) => tree.front(links).get_ptr(),
                 AnyTable::WithPrev(TableWithPrev::Doubly(_))
                 | AnyTable::Singly(_)
                 | AnyTable::Xor(_) => unreachable!(),
@@ -58,35 +53,22 @@ impl<T> AnyCollection<T> {
         ensures { (gap : Cut) → join gap ≡ members_in (look links.now) self.now → IsAfter gap prev → IsBefore gap (Some place)
             → result ≡ first (drop 1 gap.back) }
     {
-        let object = UnsafeRef::new(place);
         match self {
-            Self::Singly(cursor) => cursor
-                .list()
-                .cursor_from_ptr(links, object)
-                .peek_next()
-                .get_ptr(),
-            Self::Doubly(cursor) => match links {
-                AnyTable::WithPrev(links) => cursor
-                    .list()
-                    .cursor_from_ptr(links, object)
-                    .peek_next()
-                    .get_ptr(),
+            Self::Singly(list, _) => list.next_of(links, &PlaceWord::of(Some(place))).get(),
+            Self::Doubly(list, _) => match links {
+                AnyTable::WithPrev(links) => {
+                    list.next_of(links, &PlaceWord::of(Some(place))).get()
+                }
                 AnyTable::Singly(_) | AnyTable::Xor(_) => unreachable!(),
             },
-            Self::Xor(cursor) => {
-                let prev = object_of(prev);
-                cursor
-                    .list()
-                    .cursor_from_ptr_and_prev(links, object, prev)
-                    .peek_next()
-                    .get_ptr()
+            Self::Xor(list, _) => {
+                let at = list.position_at(links, prev, Some(place));
+                list.next_of(links, &at).get()
             }
-            Self::Tree(cursor) => match links {
-                AnyTable::WithPrev(TableWithPrev::Tree(links)) => cursor
-                    .list()
-                    .cursor_from_ptr(links, object)
-                    .peek_next()
-                    .get_ptr(),
+            Self::Tree(tree, _) => match links {
+                AnyTable::WithPrev(TableWithPrev::Tree(links)) => {
+                    tree.next_of(links, &PlaceWord::of(Some(place))).get()
+                }
                 AnyTable::WithPrev(TableWithPrev::Doubly(_))
                 | AnyTable::Singly(_)
                 | AnyTable::Xor(_) => unreachable!(),
@@ -146,16 +128,14 @@ impl<T> AnyCollection<T> {
         ensures { IsTrue result ↔ IsMember place (members_in (look links.now) self.now) }
     {
         match self {
-            Self::Singly(cursor) => cursor.list().contains(links, place),
-            Self::Doubly(cursor) => match links {
-                AnyTable::WithPrev(links) => cursor.list().contains(links, place),
+            Self::Singly(list, _) => list.contains(links, place),
+            Self::Doubly(list, _) => match links {
+                AnyTable::WithPrev(links) => list.contains(links, place),
                 AnyTable::Singly(_) | AnyTable::Xor(_) => unreachable!(),
             },
-            Self::Xor(cursor) => cursor.list().contains(links, place),
-            Self::Tree(cursor) => match links {
-                AnyTable::WithPrev(TableWithPrev::Tree(links)) => cursor
-                    .list()
-                    .contains(&links.0, place),
+            Self::Xor(list, _) => list.contains(links, place),
+            Self::Tree(tree, _) => match links {
+                AnyTable::WithPrev(TableWithPrev::Tree(links)) => tree.contains(&links.0, place),
                 AnyTable::WithPrev(TableWithPrev::Doubly(_))
                 | AnyTable::Singly(_)
                 | AnyTable::Xor(_) => unreachable!(),

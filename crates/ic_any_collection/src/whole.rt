@@ -6,7 +6,7 @@
 //! queue.unlink_all(&mut field);
 //! ```
 
-ghost use Rattle.std.specs.Prelude.{◌≡◌, List, None, [], true};
+ghost use Rattle.std.specs.Prelude.{◌≡◌, List, None, [], true, OnOk, OnErr};
 ghost use Rattle.std.specs.Prelude.{reverse};
 ghost use Rattle.ic_unsafe_ref.specs.declared.place.Place.{Place};
 ghost use Rattle.ic_link_ops.specs.Sequences.{join, IsAfter, IsBefore, IsDisjoint};
@@ -16,13 +16,16 @@ ghost use Rattle.ic_any_collection.specs.Entries.{is_linked};
 ghost use Rattle.ic_any_collection.specs.declared.entry.Entry.{Entry};
 ghost use Rattle.ic_any_collection.specs.AnyTables.{look};
 
-use crate::{AnyCollection, AnyTable, TableWithPrev};
+use crate::{AnyCollection, AnyTable, EditError, TableWithPrev};
+use ic_chain::ListPosition;
+use ic_cursors::{BidirectionalSplice, Splice};
 use std::alloc::Allocator;
 use std::mem;
 
 impl<T> AnyCollection<T> {
     ghost use Rattle.ic_any_collection.specs.AnyCollection.{kind_in, cursor_in, members_in, is_list, is_two_way_list, is_xor, Keeps, Held, Alike};
     ghost use Rattle.ic_any_collection.specs.Edits.{AtGap, Moves, Empties, PutsAll, Parts};
+    ghost use Rattle.ic_any_collection.specs.Refusals.{refusal_in, refusal_of_kind};
 
     /// Hands out the whole collection, with its cursor at null, and leaves it empty. O(1): it reads no table, and no link changes.
     #[inline]
@@ -47,16 +50,16 @@ impl<T> AnyCollection<T> {
         ensures frame { KeepsBeside (look links.old) (look links.new) (members_in (look links.old) self) }
     {
         match self {
-            Self::Singly(cursor) => cursor.into_inner().dispose(links),
-            Self::Doubly(cursor) => {
+            Self::Singly(list, _) => list.dispose(links),
+            Self::Doubly(list, _) => {
                 if let AnyTable::WithPrev(links) = links {
-                    cursor.into_inner().dispose(links);
+                    list.dispose(links);
                 }
             }
-            Self::Xor(cursor) => cursor.into_inner().dispose(links),
-            Self::Tree(cursor) => {
+            Self::Xor(list, _) => list.dispose(links),
+            Self::Tree(tree, _) => {
                 if let AnyTable::WithPrev(TableWithPrev::Tree(links)) = links {
-                    cursor.into_inner().dispose(links);
+                    tree.dispose(links);
                 }
             }
         }
@@ -115,24 +118,24 @@ impl<T> AnyCollection<T> {
             × PutsAll (look links.old) (look links.new) list.old list.new gap (members_in (look links.old) self)) }
     {
         match self {
-            Self::Singly(given) => {
-                if let Self::Singly(cursor) = list {
-                    cursor.splice_after(links, given.into_inner());
+            Self::Singly(given, _) => {
+                if let Self::Singly(list, at) = list {
+                    list.splice_after_at(links, at, given);
                 }
             }
-            Self::Doubly(given) => {
-                if let Self::Doubly(cursor) = list {
+            Self::Doubly(given, _) => {
+                if let Self::Doubly(list, at) = list {
                     if let AnyTable::WithPrev(links) = links {
-                        cursor.splice_after(links, given.into_inner());
+                        list.splice_after_at(links, at, given);
                     }
                 }
             }
-            Self::Xor(given) => {
-                if let Self::Xor(cursor) = list {
-                    cursor.splice_after(links, given.into_inner());
+            Self::Xor(given, _) => {
+                if let Self::Xor(list, at) = list {
+                    list.splice_after_at(links, at, given);
                 }
             }
-            Self::Tree(_) => unreachable!(),
+            Self::Tree(..) => unreachable!(),
         }
     }
 
@@ -147,20 +150,20 @@ impl<T> AnyCollection<T> {
             × PutsAll (look links.old) (look links.new) list.old list.new gap (members_in (look links.old) self)) }
     {
         match self {
-            Self::Singly(_) => unreachable!(),
-            Self::Doubly(given) => {
-                if let Self::Doubly(cursor) = list {
+            Self::Singly(..) => unreachable!(),
+            Self::Doubly(given, _) => {
+                if let Self::Doubly(list, at) = list {
                     if let AnyTable::WithPrev(links) = links {
-                        cursor.splice_before(links, given.into_inner());
+                        list.splice_before_at(links, at, given);
                     }
                 }
             }
-            Self::Xor(given) => {
-                if let Self::Xor(cursor) = list {
-                    cursor.splice_before(links, given.into_inner());
+            Self::Xor(given, _) => {
+                if let Self::Xor(list, at) = list {
+                    list.splice_before_at(links, at, given);
                 }
             }
-            Self::Tree(_) => unreachable!(),
+            Self::Tree(..) => unreachable!(),
         }
     }
 
@@ -175,15 +178,18 @@ impl<T> AnyCollection<T> {
             × Parts (look links.old) (look links.new) self.old self.new gap.front gap.back result) }
     {
         match self {
-            Self::Singly(cursor) => Self::Singly(cursor.split_after(links).cursor_owning()),
-            Self::Doubly(cursor) => match links {
-                AnyTable::WithPrev(links) => Self::Doubly(
-                    cursor.split_after(links).cursor_owning(),
-                ),
+            Self::Singly(list, at) => Self::Singly(
+                list.split_after_at(links, at),
+                ListPosition::null(),
+            ),
+            Self::Doubly(list, at) => match links {
+                AnyTable::WithPrev(links) => {
+                    Self::Doubly(list.split_after_at(links, at), ListPosition::null())
+                }
                 AnyTable::Singly(_) | AnyTable::Xor(_) => unreachable!(),
             },
-            Self::Xor(cursor) => Self::Xor(cursor.split_after(links).cursor_owning()),
-            Self::Tree(_) => unreachable!(),
+            Self::Xor(list, at) => Self::Xor(list.split_after_at(links, at), ListPosition::null()),
+            Self::Tree(..) => unreachable!(),
         }
     }
 
@@ -198,30 +204,37 @@ impl<T> AnyCollection<T> {
             × Parts (look links.old) (look links.new) self.old self.new gap.back gap.front result) }
     {
         match self {
-            Self::Doubly(cursor) => match links {
-                AnyTable::WithPrev(links) => Self::Doubly(
-                    cursor.split_before(links).cursor_owning(),
-                ),
+            Self::Doubly(list, at) => match links {
+                AnyTable::WithPrev(links) => {
+                    Self::Doubly(list.split_before_at(links, at), ListPosition::null())
+                }
                 AnyTable::Singly(_) | AnyTable::Xor(_) => unreachable!(),
             },
-            Self::Xor(cursor) => Self::Xor(cursor.split_before(links).cursor_owning()),
-            Self::Singly(_) | Self::Tree(_) => unreachable!(),
+            Self::Xor(list, at) => Self::Xor(list.split_before_at(links, at), ListPosition::null()),
+            Self::Singly(..) | Self::Tree(..) => unreachable!(),
         }
     }
 
-    /// Turns the collection round, and moves its cursor to null. It asks that this is an XOR list. O(1): no entry is written.
+    /// Turns an XOR list round, and moves its cursor to null. O(1): no entry is written.
+    ///
+    /// Refused: `WrongKind` of the other kinds.
     #[inline]
-    pub fn reverse<M: Allocator>(&mut self, links: &AnyTable<M>)
+    pub fn reverse<M: Allocator>(&mut self, links: &AnyTable<M>) -> Result<(), EditError>
         requires held { Held (look links.now) self.old }
-        requires can { is_xor (kind_in self.old) ≡ true }
-        ensures kept { Keeps (look links.now) self.new (reverse (members_in (look links.now) self.old)) }
+        ensures tested { refusal_in result ≡ refusal_of_kind (is_xor (kind_in self.old)) }
+        ensures kept { OnOk result (Keeps (look links.now) self.new (reverse (members_in (look links.now) self.old))) }
         ensures alike { Alike self.old self.new }
-        ensures null { cursor_in self.new ≡ None }
+        ensures null { OnOk result (cursor_in self.new ≡ None) }
+        ensures unchanged { OnErr result (Moves (look links.now) self.old self.new (cursor_in self.old)) }
     {
         let _ = links;
-        if let Self::Xor(cursor) = self {
-            cursor.list_mut().reverse();
-            cursor.go_null();
+        match self {
+            Self::Xor(list, at) => {
+                list.reverse();
+                *at = ListPosition::null();
+                Ok(())
+            }
+            Self::Singly(..) | Self::Doubly(..) | Self::Tree(..) => Err(EditError::WrongKind),
         }
     }
 }

@@ -255,9 +255,12 @@ impl<K: ListKind, T> Chain<K, T> {
         links.release_link(place);
     }
 
-    // Puts the place into the gap between two neighbors, and answers whether its link was acquired.
+    /// Puts the place into the gap between two neighbors, and returns whether its link was acquired. O(1), and it takes no memory.
+    ///
+    /// It requires that the place is covered, and that the neighbors stand beside one gap, `None` beyond an end. Where its link is refused
+    /// the list is as it was.
     #[inline]
-    pub(crate) fn insert_between<L: LinkOps>(
+    pub fn insert_between<L: LinkOps>(
         &mut self,
         links: &mut L,
         before: Option<Place>,
@@ -380,7 +383,7 @@ impl<K: ListKind, T> Chain<K, T> {
         requires before { (q : Place) → before ≡ Some q → IsLinked L.linked (L.table links.old) q }
         requires behind { K.NamesPrev → (q : Place) → behind ≡ Some q → IsLinked L.linked (L.table links.old) q }
         ensures shows { (front back : List Place) → ShowsChain K.Between K.kept (L.table links.old) self.old (front ++ back)
-            → IsAbsent place (front ++ back) → before ≡ last front → behind ≡ first back
+            → before ≡ last front → behind ≡ first back → IsAbsent place (front ++ back)
             → ShowsChain K.Between K.kept (L.table links.new) self.new (front ++ place ∷ back) }
         ensures no_step { L.Does links.old links.new [] }
         ensures extent { (L.table links.new).extent ≡ (L.table links.old).extent }
@@ -510,6 +513,8 @@ impl<K: ListKind, T> Chain<K, T> {
             (L.table links.old) (L.table links.new) self.new result gap.front gap.back }
         ensures no_step { L.Does links.old links.new [] }
         ensures extent { (L.table links.new).extent ≡ (L.table links.old).extent }
+        ensures others { (q : Place) → before ≢ Some q → (K.NamesPrev → behind ≢ Some q)
+            → (L.table links.new).entry q ≡ (L.table links.old).entry q }
     {
         set_next_or_head::<K, L>(links, &mut self.head, before, behind, None);
         set_prev_or_tail::<K, L>(links, &mut self.tail, behind, before, None);

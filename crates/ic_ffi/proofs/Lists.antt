@@ -46,13 +46,13 @@ module _ {E W : Type 0} {between : E → Option Place → Option Place → Type 
     -- INSERT: p, which is free, is acquired, and then put into the gap
     pub inserted : {Names : Type 0} {old mid new : Table E} {list list' : ListHead W} (cut : Cut) {p : Place} {before behind : Option Place}
         → IsAfter cut before → IsBefore cut behind → ShowsChain between keep old list (join cut) → IsFree linked old p → ChangesOnly old mid p
-        → ((front back : List Place) → ShowsChain between keep mid list (front ++ back) → IsAbsent p (front ++ back) → before ≡ last front → behind ≡ first back
+        → ((front back : List Place) → ShowsChain between keep mid list (front ++ back) → before ≡ last front → behind ≡ first back → IsAbsent p (front ++ back)
         → ShowsChain between keep new list' (front ++ p ∷ back))
         → new.extent ≡ mid.extent → ((q : Place) → before ≢ Some q → q ≢ p → (Names → behind ≢ Some q) → new.entry q ≡ mid.entry q)
         → Inserts (ShowsChain between keep) old new list' cut p
     inserted {mid} cut after ahead shown free acquired put extent others =
         let out = free_absent law shown free.unlinked in record {
-          shows = put cut.front cut.back (shows_beside {new = mid} shown out acquired.others) out after ahead;
+          shows = put cut.front cut.back (shows_beside {new = mid} shown out acquired.others) after ahead out;
           frame = record {
             extent = extent ∙ acquired.extent;
             others = λ q away.

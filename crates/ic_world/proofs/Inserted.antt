@@ -1,119 +1,88 @@
--- What an object that is put into a gap, or in the place of a member, leaves to the world, and that it is refused where it is linked.
-use Rattle.std.proofs.Common.{◌≡◌, ◌≢◌, Bool, true, false, not, is_some, if◌then◌else◌, Option, Some, None, [], ◌∷◌, Result, Ok, Err, OnErr, IfOk, IfErr, refl, ap, ◌∙◌, append-nil}
-use Rattle.std.specs.Bool.{OnTrue, OnFalse}
-use Rattle.std.specs.FinSet as set
+-- What an object that is put into a gap, or in the place of a member, leaves to the world, and what it is refused for.
+use Rattle.std.proofs.Common.{◌≡◌, Bool, not, is_some, Option, Some, None, [], ◌∷◌, Result, OnOk, OnErr, IfOk, refl, sym, ap, ◌∙◌, append-nil}
 use Rattle.ic_unsafe_ref.specs.declared.place.Place.{Place}
-use Rattle.ic_unsafe_ref.specs.Places.{index_of}
-use Rattle.ic_link_ops.specs.declared.errors.ReplaceError.{ReplaceError}
-use Rattle.ic_link_ops.specs.declared.errors.ReplaceError.TheVariants.{Null, AlreadyLinked as Linked}
-use Rattle.ic_link_ops.specs.Errors.{ByCause}
 use Rattle.ic_link_ops.specs.Sequences.{at_front, at_back, first, IsAfter, IsBefore}
-use Rattle.ic_link_ops.specs.Tables.{IsCovered, IsLinked, IsUnlinked}
+use Rattle.ic_link_ops.specs.Tables.{IsCovered}
 use Rattle.ic_any_collection.specs.declared.any_table.AnyTable.{AnyTable}
+use Rattle.ic_any_collection.specs.declared.edit_error.EditError.{EditError}
 use Rattle.ic_any_collection.specs.AnyTables.{look}
 use Rattle.ic_any_collection.specs.Entries.{is_linked}
 use Rattle.ic_any_collection.specs.declared.any_collection.AnyCollection.{AnyCollection}
-use Rattle.ic_any_collection.specs.AnyCollection.{cursor_in, members_in, Held}
+use Rattle.ic_any_collection.specs.AnyCollection.{kind_in, cursor_in, members_in, has_before, is_list, is_two_way_list, is_singly, Held}
 use Rattle.ic_any_collection.specs.Edits.{AtGap, Puts, Swaps, IsUnchanged}
+use Rattle.ic_any_collection.specs.Refusals.{refusal_in, refusal_of_object, refusal_of_put, refusal_of_swap}
 use Rattle.ic_any_collection.proofs.AllKinds.{lawful, distinct}
 use Rattle.ic_world.specs.declared.calls.one_call.Call.TheVariants as one
 use Rattle.ic_world.specs.declared.calls.one_call.Where.{Where}
 use Rattle.ic_world.specs.declared.calls.one_call.Where.TheVariants.{Front, Back, Before, After}
-use Rattle.ic_world.specs.declared.call.Refusal.TheVariants.{AlreadyLinked}
-use Rattle.ic_world.specs.Calls.{done, object, member_at, own_refusal, asks_unlinked}
+use Rattle.ic_world.specs.declared.call.Refusal.TheVariants.{WrongKind, NothingThere, AlreadyLinked}
+use Rattle.ic_world.specs.Calls.{done, object, asks, has_call, member_at, rests, onto, refusal_of, IsAt, IsFrontOf}
 use Rattle.ic_world.specs.Calls as calls
-use Rattle.ic_world.specs.LinkedSets.{linked_in}
-use Rattle.ic_world.specs.Replies.{result_of_swap}
-use Rattle.ic_world.specs.Turns.{Turns, Ran, state_of}
+use Rattle.ic_world.specs.Replies.{told}
+use Rattle.ic_world.specs.Turns.{Ran, state_of}
 use Rattle.ic_world.proofs.Linked.{in_linked}
 use Rattle.ic_world.proofs.Neighbors.{next_gap}
-use Rattle.ic_world.proofs.Tested.{goes_on, stops}
+use Rattle.ic_world.proofs.Tested.{told_put, told_swap, told_ok, told_err, on_ok, if_ok}
 use Rattle.ic_world.proofs.Turned.{turns_put, turns_swap}
 
--- whether the set of linked places has p
-in_set : {M : Type 0} (links : AnyTable M) (p : Place) {b : Bool} → is_linked ((look links).entry p) ≡ b → set.contains (linked_in (look links)) (index_of p) ≡ b
-in_set links p e = in_linked (look links) (lawful links) p ∙ e
-
--- p is linked, and nothing has changed
-abbrev pub Refuses : {V M : Type 0} → Place → (old new : AnyTable M) (m m' : AnyCollection V) → Type 0
-Refuses p old new m m' = IsLinked is_linked (look old) p × IsUnchanged old new m m'
-
-module _ {V M : Type 0} (old new : AnyTable M) (p : Place) (m m' : AnyCollection V) where
+module _ {V M : Type 0} (K : Type 0) (old new : AnyTable M) (p : Place) (m m' : AnyCollection V) where
   -- AN OBJECT IS PUT IN, or refused
-  abbrev pub PutsAt : Where → Bool → Type 0
-  PutsAt at b = Ran {R = Unit} (p ∷ []) (λ s. asks_unlinked s p) (λ _ s t. calls.PutReplies at p s done t) old new m m' (if b then Ok tt else Err AlreadyLinked)
+  abbrev pub PutsAt : Where → Result Unit EditError → Type 0
+  PutsAt at r = Ran (p ∷ []) (refusal_of {K = K} (one.Put at p)) (λ _ s t. calls.PutReplies at p s done t) old new m m' (told r)
 
-  puts_at : (at : Where) (b : Bool) {P : Type 0} → OnTrue b P → (P → IsUnlinked is_linked (look old) p × Turns (p ∷ []) (λ s t. calls.PutReplies at p s done t) (look old) (look new) m m')
-      → OnFalse b (Refuses p old new m m') → PutsAt at b
-  puts_at at true put turns refused = let e = turns put in record { tested = rw (in_set old p e.0) refl; turned = e.1; unchanged = tt }
-  puts_at at false put turns refused = record { tested = rw (in_set old p refused.0) refl; turned = tt; unchanged = refused.1 }
+  module _ (r : Result Unit EditError) where
+    puts_at : (at : Where) (has : Bool) → has_call {K = K} (one.Put at p) (kind_in m) ≡ has → refusal_in r ≡ refusal_of_put has (look old) p
+        → IfOk r (λ _. AtGap (members_in (look old) m) (λ gap. IsAt at (cursor_in m) gap × Puts (look old) (look new) m m' gap p (rests at (cursor_in m))))
+        → OnErr r (IsUnchanged old new m m') → PutsAt at r
+    puts_at at has is tests put unchanged = record {
+      tested = told_put r has (look old) p tests ∙ ap (λ b. asks b WrongKind (asks (not (is_linked ((look old).entry p))) AlreadyLinked None)) (sym is)
+          ∙ ap (λ b. asks (has_call {K = K} (one.Put at p) (kind_in m)) WrongKind (asks (not b) AlreadyLinked None)) (sym (in_linked (look old) (lawful old) p));
+      turned = told_ok _ r (if_ok _ _ r put (λ _ e. turns_put (lawful old) (lawful new) e.0 p e.1 e.2.1 (λ same. (refl, (e.0, e.1, (e.2.0, same))))));
+      unchanged = told_err _ r unchanged;
+    }
 
-  pub puts_front : (b : Bool) → OnTrue b (Puts (look old) (look new) m m' (at_front (members_in (look old) m)) p None) → OnFalse b (Refuses p old new m m') → PutsAt Front b
-  puts_front b put = puts_at Front b put (λ e. let gap = at_front (members_in (look old) m) in (e.links.was, turns_put (lawful old) (lawful new) gap p refl e (λ same. (refl, (gap, refl, (refl, same))))))
+    pub puts_front : refusal_in r ≡ refusal_of_put (is_list (kind_in m)) (look old) p → OnOk r (Puts (look old) (look new) m m' (at_front (members_in (look old) m)) p None)
+        → OnErr r (IsUnchanged old new m m') → PutsAt Front r
+    puts_front tests put = puts_at Front _ refl tests (on_ok _ _ r put (λ e. (at_front _, refl, (refl, e))))
 
-  pub puts_back : (b : Bool) → OnTrue b (Puts (look old) (look new) m m' (at_back (members_in (look old) m)) p None) → OnFalse b (Refuses p old new m m') → PutsAt Back b
-  puts_back b put = puts_at Back b put (λ e. let gap = at_back (members_in (look old) m) in
-      (e.links.was, turns_put (lawful old) (lawful new) gap p (append-nil _) e (λ same. (refl, (gap, append-nil _, (refl, same))))))
+    pub puts_back : refusal_in r ≡ refusal_of_put (is_two_way_list (kind_in m)) (look old) p → OnOk r (Puts (look old) (look new) m m' (at_back (members_in (look old) m)) p None)
+        → OnErr r (IsUnchanged old new m m') → PutsAt Back r
+    puts_back tests put = puts_at Back _ refl tests (on_ok _ _ r put (λ e. (at_back _, append-nil _, (refl, e))))
 
-  pub puts_after : (b : Bool) → OnTrue b (AtGap (members_in (look old) m) (λ gap. IsAfter gap (cursor_in m) × Puts (look old) (look new) m m' gap p (cursor_in m)))
-      → OnFalse b (Refuses p old new m m') → PutsAt After b
-  puts_after b put = puts_at After b put (λ e. (e.2.1.links.was, turns_put (lawful old) (lawful new) e.0 p e.1 e.2.1 (λ same. (refl, (e.0, e.1, (e.2.0, same))))))
+    pub puts_after : refusal_in r ≡ refusal_of_object (look old) p
+        → OnOk r (AtGap (members_in (look old) m) (λ gap. IsAfter gap (cursor_in m) × Puts (look old) (look new) m m' gap p (cursor_in m))) → OnErr r (IsUnchanged old new m m') → PutsAt After r
+    puts_after tests put = puts_at After _ refl tests (on_ok _ _ r put (λ e. e))
 
-  pub puts_before : (b : Bool) → OnTrue b (AtGap (members_in (look old) m) (λ gap. IsBefore gap (cursor_in m) × Puts (look old) (look new) m m' gap p (cursor_in m)))
-      → OnFalse b (Refuses p old new m m') → PutsAt Before b
-  puts_before b put = puts_at Before b put (λ e. (e.2.1.links.was, turns_put (lawful old) (lawful new) e.0 p e.1 e.2.1 (λ same. (refl, (e.0, e.1, (e.2.0, same))))))
+    pub puts_before : refusal_in r ≡ refusal_of_put (has_before (kind_in m)) (look old) p
+        → OnOk r (AtGap (members_in (look old) m) (λ gap. IsBefore gap (cursor_in m) × Puts (look old) (look new) m m' gap p (cursor_in m))) → OnErr r (IsUnchanged old new m m') → PutsAt Before r
+    puts_before tests put = puts_at Before _ refl tests (on_ok _ _ r put (λ e. e))
 
--- what follows of an answer
-swaps_on : {T : Type 0} (P Q : Place → Type 0) (r : Result Place (ReplaceError T)) → IfOk r P → ((out : Place) → P out → Q out) → IfOk r Q
-swaps_on P Q (Ok out) h f = f out h
-swaps_on P Q (Err e) h f = tt
-
--- one that is there is no null
-is_there : (o : Option Place) → o ≢ None → is_some o ≡ true
-is_there None h = absurd (h refl)
-is_there (Some q) h = refl
-
-module _ {V M T : Type 0} (K : Type 0) (old new : AnyTable M) (p : Place) (m m' : AnyCollection V) where
   -- AN OBJECT TAKES THE PLACE of a member, or is refused
-  abbrev pub SwapsAt : Where → Result Place (ReplaceError T) → Type 0
-  SwapsAt at r = Ran (p ∷ []) (own_refusal {K = K} (one.Swap at p)) (λ out s t. calls.SwapReplies at p s (object out) t) old new m m' (result_of_swap r)
+  abbrev pub SwapsAt : Where → Result Place EditError → Type 0
+  SwapsAt at r = Ran (p ∷ []) (refusal_of {K = K} (one.Swap at p)) (λ out s t. calls.SwapReplies at p s (object out) t) old new m m' (told r)
 
-  swaps_at : (at : Where) (there : Option Place) → member_at at (state_of (look old) m) ≡ there → (r : Result Place (ReplaceError T))
-      → IfOk r (λ out. (there ≡ Some out) × IsUnlinked is_linked (look old) p × Turns (p ∷ []) (λ s t. calls.SwapReplies at p s (object out) t) (look old) (look new) m m')
-      → IfErr r (ByCause (there ≡ None) ((there ≢ None) × IsLinked is_linked (look old) p)) → OnErr r (IsUnchanged old new m m') → SwapsAt at r
-  swaps_at at there is (Ok out) swapped refused unchanged = record {
-    tested = goes_on _ _ _ (ap is_some (is ∙ swapped.0)) (goes_on _ _ _ (ap not (in_set old p swapped.1)) refl);
-    turned = swapped.2;
-    unchanged = tt;
-  }
-  swaps_at at there is (Err (Null x)) swapped refused unchanged = record { tested = stops _ _ _ (ap is_some (is ∙ refused)); turned = tt; unchanged = unchanged }
-  swaps_at at there is (Err (Linked x)) swapped refused unchanged = record {
-    tested = goes_on _ _ _ (ap is_some is ∙ is_there there refused.0) (stops _ _ _ (ap not (in_set old p refused.1)));
-    turned = tt;
-    unchanged = unchanged;
-  }
+  module _ (covered : IsCovered (look old) p) (r : Result Place EditError) where
+    swaps_at : (at : Where) (has : Bool) → has_call {K = K} (one.Swap at p) (kind_in m) ≡ has → (there : Option Place) → member_at at (state_of (look old) m) ≡ there
+        → refusal_in r ≡ refusal_of_swap has (is_some there) (look old) p
+        → IfOk r (λ out. AtGap (members_in (look old) m) (λ gap. IsFrontOf at (state_of (look old) m) gap × Swaps (look old) (look new) m m' gap p out (onto at (cursor_in m) p)))
+        → OnErr r (IsUnchanged old new m m') → SwapsAt at r
+    swaps_at at has is there at_there tests swapped unchanged = record {
+      tested = told_swap r has (is_some there) (look old) p tests
+          ∙ ap (λ b. asks b WrongKind (asks (is_some there) NothingThere (asks (not (is_linked ((look old).entry p))) AlreadyLinked None))) (sym is)
+          ∙ ap (λ o. asks (has_call {K = K} (one.Swap at p) (kind_in m)) WrongKind (asks (is_some o) NothingThere (asks (not (is_linked ((look old).entry p))) AlreadyLinked None))) (sym at_there)
+          ∙ ap (λ b. asks (has_call {K = K} (one.Swap at p) (kind_in m)) WrongKind (asks (is_some (member_at at (state_of (look old) m))) NothingThere (asks (not b) AlreadyLinked None)))
+          (sym (in_linked (look old) (lawful old) p));
+      turned = told_ok _ r (if_ok _ _ r swapped (λ out e. turns_swap (lawful old) (lawful new) e.0 p out covered e.1 e.2.1 (λ same. (e.0, e.1, (e.2.0, out, e.2.1.there, refl, same)))));
+      unchanged = told_err _ r unchanged;
+    }
 
-  module _ (covered : IsCovered (look old) p) (r : Result Place (ReplaceError T)) where
-    pub swaps_before : IfOk r (λ out. AtGap (members_in (look old) m) (λ gap. IsBefore gap (cursor_in m) × Swaps (look old) (look new) m m' gap p out (Some p)))
-        → IfErr r (ByCause (cursor_in m ≡ None) ((cursor_in m ≢ None) × IsLinked is_linked (look old) p)) → OnErr r (IsUnchanged old new m m') → SwapsAt Before r
-    swaps_before swapped = swaps_at Before (cursor_in m) refl r (swaps_on _ _ r swapped (λ out e. (
-      e.2.0 ∙ e.2.1.there,
-      e.2.1.links.1.was,
-      turns_swap (lawful old) (lawful new) e.0 p out covered e.1 e.2.1 (λ same. (e.0, e.1, (e.2.0, out, e.2.1.there, refl, same))),
-    )))
+    pub swaps_before : refusal_in r ≡ refusal_of_swap (has_before (kind_in m)) (is_some (cursor_in m)) (look old) p
+        → IfOk r (λ out. AtGap (members_in (look old) m) (λ gap. IsBefore gap (cursor_in m) × Swaps (look old) (look new) m m' gap p out (Some p))) → OnErr r (IsUnchanged old new m m') → SwapsAt Before r
+    swaps_before tests swapped = swaps_at Before _ refl (cursor_in m) refl tests swapped
 
-    pub swaps_after : Held (look old) m → IfOk r (λ out. AtGap (members_in (look old) m) (λ gap. IsAfter gap (cursor_in m) × Swaps (look old) (look new) m m' gap p out (cursor_in m)))
-        → IfErr r (λ refused. AtGap (members_in (look old) m) (λ gap. IsAfter gap (cursor_in m) × ByCause (first gap.back ≡ None) ((first gap.back ≢ None) × IsLinked is_linked (look old) p) refused))
-        → OnErr r (IsUnchanged old new m m') → SwapsAt After r
-    swaps_after held swapped refused unchanged = by r swapped refused unchanged
-      where
-        by : (r : Result Place (ReplaceError T)) → IfOk r (λ out. AtGap (members_in (look old) m) (λ gap. IsAfter gap (cursor_in m) × Swaps (look old) (look new) m m' gap p out (cursor_in m)))
-            → IfErr r (λ refused. AtGap (members_in (look old) m) (λ gap. IsAfter gap (cursor_in m) × ByCause (first gap.back ≡ None) ((first gap.back ≢ None) × IsLinked is_linked (look old) p) refused))
-            → OnErr r (IsUnchanged old new m m') → SwapsAt After r
-        by (Ok out) e refused unchanged =
-            let next = next_gap e.0 (cursor_in m) {s = members_in (look old) m} (distinct (look old) m (members_in (look old) m) held.shown) e.1 e.2.0 in
-            swaps_at After (first e.0.back) next (Ok out)
-            (e.2.1.there, e.2.1.links.1.was, turns_swap (lawful old) (lawful new) e.0 p out covered e.1 e.2.1 (λ same. (e.0, e.1, (e.2.0, out, e.2.1.there, refl, same)))) tt tt
-        by (Err x) e refused unchanged =
-            let next = next_gap refused.0 (cursor_in m) {s = members_in (look old) m} (distinct (look old) m (members_in (look old) m) held.shown) refused.1 refused.2.0 in
-            swaps_at After (first refused.0.back) next (Err x) tt refused.2.1 unchanged
+    pub swaps_after : Held (look old) m
+        → AtGap (members_in (look old) m) (λ gap. IsAfter gap (cursor_in m) × (refusal_in r ≡ refusal_of_swap (is_singly (kind_in m)) (is_some (first gap.back)) (look old) p))
+        → IfOk r (λ out. AtGap (members_in (look old) m) (λ gap. IsAfter gap (cursor_in m) × Swaps (look old) (look new) m m' gap p out (cursor_in m))) → OnErr r (IsUnchanged old new m m') → SwapsAt After r
+    swaps_after held tests swapped =
+        let next = next_gap tests.0 (cursor_in m) {s = members_in (look old) m} (distinct (look old) m (members_in (look old) m) held.shown) tests.1 tests.2.0 in
+        swaps_at After _ refl (first tests.0.back) next tests.2.1 swapped

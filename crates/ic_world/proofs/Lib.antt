@@ -23,7 +23,6 @@ pub mod FastCleared
 pub mod FieldCalls
 pub mod Disposed
 pub mod Tested
-pub mod Ends
 pub mod Taken
 pub mod Neighbors
 pub mod Seeking

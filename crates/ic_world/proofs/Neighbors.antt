@@ -5,9 +5,8 @@ use Rattle.ic_unsafe_ref.specs.declared.place.Place.{Place}
 use Rattle.ic_unsafe_ref.specs.Places.{index_of}
 use Rattle.ic_unsafe_ref.proofs.PlaceLemmas.{same_index}
 use Rattle.ic_link_ops.specs.Sequences.{Cut, join, first, last, last_or, but_last, IsAfter, IsBefore, IsAbsent, IsMember, IsDistinct}
-use Rattle.ic_link_ops.proofs.SequenceLemmas.{absent_left, distinct_middle, first_is, split_last, member_split}
+use Rattle.ic_link_ops.proofs.SequenceLemmas.{absent_left, distinct_middle, first_is, nothing_last, split_last, member_split}
 use Rattle.ic_world.specs.Family.{same_place, is_among, before_or, behind_of, next_of}
-use Rattle.ic_world.proofs.Ends.{front_is}
 use Rattle.ic_world.proofs.Linked.{absent_or}
 
 same_here : (p : Place) → same_place p p ≡ true
@@ -56,7 +55,7 @@ module _ (gap : Cut) {s : List Place} {p : Place} (cut : join gap ≡ s) (is : I
 
 -- the member behind a cursor
 pub next_gap : (gap : Cut) (cursor : Option Place) {s : List Place} → IsDistinct s → join gap ≡ s → IsAfter gap cursor → next_of s cursor ≡ first gap.back
-next_gap gap None distinct cut is = sym (ap (λ g. first g.back) (front_is gap cut is refl))
+next_gap gap None distinct cut is = ap first (sym cut) ∙ ap (λ f. first (f ++ gap.back)) (nothing_last gap.front is)
 next_gap gap (Some p) {s} distinct cut is =
     let front : gap.front ≡ but_last gap.front ++ p ∷ [] = split_last gap.front (sym is) in
     let here : s ≡ (but_last gap.front ++ p ∷ []) ++ gap.back = sym cut ∙ ap (λ f. f ++ gap.back) front in

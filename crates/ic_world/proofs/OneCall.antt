@@ -23,14 +23,14 @@ use Rattle.ic_any_collection.specs.Edits.{IsUnchanged}
 use Rattle.ic_any_collection.proofs.AllKinds.{lawful as lawful_field, unlinked_absent}
 use Rattle.ic_world.specs.declared.collection.Collection.{Collection}
 use Rattle.ic_world.specs.declared.call.Refusal.{Refusal}
-use Rattle.ic_world.specs.declared.call.Refusal.TheVariants.{NoSuchObject, WrongKind, AlreadyLinked}
+use Rattle.ic_world.specs.declared.call.Refusal.TheVariants.{NoSuchObject, AlreadyLinked}
 use Rattle.ic_world.specs.declared.calls.one_call.Call.TheVariants as one
 use Rattle.ic_world.specs.declared.calls.seek.Seek.TheVariants.{Null, On, With}
 use Rattle.ic_world.specs.declared.calls.whole.Whole.TheVariants.{Clear, Reverse}
 use Rattle.ic_world.specs.declared.calls.insertion.Insertion.TheVariants.{Insert, CursorInsert}
 use Rattle.ic_world.specs.declared.calls.search.Search.TheVariants.{Find, LowerBound, UpperBound}
 use Rattle.ic_world.specs.Family.{Family, Sequence, is_placed, objects_of, with_collection}
-use Rattle.ic_world.specs.Calls.{Call, State, Reply, refused, found, looked, entry, asks, has_call, names, own_refusal, refusal_of, Replies}
+use Rattle.ic_world.specs.Calls.{Call, State, Reply, refused, found, looked, entry, asks, names, refusal_of, Replies}
 use Rattle.ic_world.specs.Replies.{reply_of}
 use Rattle.ic_world.specs.Turns.{Each, Turns, Ran, refusal_in, state_of}
 use Rattle.ic_world.specs.LeftLinked.{IsKept}
@@ -156,8 +156,8 @@ module _ {A V M : Type 0} {adapter : A} {objects : Objects V} {room : ℕ} {tabl
   pub room_for : (s : List Place) → list_all (place_is_placed objects) s ≡ true → Each (IsCovered (table_of now)) s
   room_for s e = each_map (λ p. HasObject objects (index_of p)) (IsCovered (table_of now)) (λ p has. let a = whole.within (index_of p) has in let b = rw at_k.read at (whole.covered k.field at_k.field) in omega (arith, a, b)) s (placed_each s e)
 
-  module _ {K : Type 0} (cmp : K → K → Ordering) (key_of : A → V → K) (call : Call K) (placed : list_all (place_is_placed objects) (names call) ≡ true) (can : has_call call (kind_in k.members) ≡ true) {R : Type 0} (accepted : R → Reply) (r : Result R Refusal) (links : AnyTable M) (m : AnyCollection V)
-      (ran : Ran (names call) (own_refusal call) (λ a s t. Replies cmp (key_of adapter) objects call s (accepted a) t) now.links links k.members m r) where
+  module _ {K : Type 0} (cmp : K → K → Ordering) (key_of : A → V → K) (call : Call K) (placed : list_all (place_is_placed objects) (names call) ≡ true) {R : Type 0} (accepted : R → Reply) (r : Result R Refusal) (links : AnyTable M) (m : AnyCollection V)
+      (ran : Ran (names call) (refusal_of call) (λ a s t. Replies cmp (key_of adapter) objects call s (accepted a) t) now.links links k.members m r) where
     abbrev nf : WorldField M
     nf = record now { links = links }
 
@@ -190,8 +190,7 @@ module _ {A V M : Type 0} {adapter : A} {objects : Objects V} {room : ℕ} {tabl
     step_by view =
         let tests : refusal_on (family_of adapter objects ts cs) c call ≡ refusal_in r = ap (λ o. asks_collection o (λ s. asks (list_all (is_placed (family_of adapter objects ts cs)) (names call)) NoSuchObject (refusal_of call (state_in (family_of adapter objects ts cs) s)))) (collection_is adapter objects ts cs c k at_k.is)
         ∙ ap (λ b. asks b NoSuchObject (refusal_of call (state_in (family_of adapter objects ts cs) (seen_as k (sequence ts k))))) placed
-        ∙ ap (refusal_of call) (same_state whole c k at_k.is adapter ∙ ap (λ t. state_of t k.members) at_k.read)
-        ∙ ap (λ b. asks b WrongKind (own_refusal call (state_of (table_of now) k.members))) can ∙ sym ran.tested in
+        ∙ ap (refusal_of call) (same_state whole c k at_k.is adapter ∙ ap (λ t. state_of t k.members) at_k.read) ∙ sym ran.tested in
         subst (λ w. StepOn cmp key_of w c call (reply_of accepted r) (family_of adapter objects (map table_of (set tables k.field nf)) (set cs c (Some (after k m))))) view (by r ran.turned ran.unchanged tests)
       where
         by : (r : Result R Refusal) → IfOk r (λ a. Turns (names call) (λ s t. Replies cmp (key_of adapter) objects call s (accepted a) t) (table_of now) (table_of nf) k.members m) → OnErr r (IsUnchanged now.links links k.members m)
@@ -214,22 +213,15 @@ module _ {A V M : Type 0} {adapter : A} {objects : Objects V} {room : ℕ} {tabl
     kept_by =
         (whole_by, rw (left_back tables k.field now links at_k.table_back) (none_on kept.1 cmp key_of c call (reply_of accepted r) (step_by refl)))
 
--- the call is refused before the collection is touched: an object that it names is not placed, or the kind lacks it
+-- the call is refused before the collection is touched: an object that it names is not placed
 module _ {A V K : Type 0} (cmp : K → K → Ordering) (key_of : A → V → K) (adapter : A) (objects : Objects V) (ts : List (Table Entry)) (cs : List (Option (Collection V))) (c : ℕ) (k : Collection V)
     (call : Call K) {old : Family A V} (view : family_of adapter objects ts cs ≡ old) (is : at cs c ≡ Some k) where
   abbrev w : Family A V
   w = family_of adapter objects ts cs
 
-  step_early : (r : Refusal) → asks (list_all (is_placed w) (names call)) NoSuchObject (refusal_of call (state_in w (seen_as k (sequence ts k)))) ≡ Some r → StepOn cmp key_of old c call (refused r) old
-  step_early r first =
-      let e : refusal_on w c call ≡ Some r =
-      ap (λ o. asks_collection o (λ s. asks (list_all (is_placed w) (names call)) NoSuchObject (refusal_of call (state_in w s)))) (collection_is adapter objects ts cs c k is) ∙ first in
-      rw (← view, e) (refl, refl)
-
   pub step_unplaced : list_all (place_is_placed objects) (names call) ≡ false → StepOn cmp key_of old c call (refused NoSuchObject) old
-  step_unplaced lacks = step_early NoSuchObject (ap (λ b. asks b NoSuchObject (refusal_of call (state_in w (seen_as k (sequence ts k))))) lacks)
-
-  pub step_lacking : list_all (place_is_placed objects) (names call) ≡ true → has_call call (kind_in k.members) ≡ false → StepOn cmp key_of old c call (refused WrongKind) old
-  step_lacking placed lacks =
-      step_early WrongKind (ap (λ b. asks b NoSuchObject (refusal_of call (state_in w (seen_as k (sequence ts k))))) placed
-      ∙ ap (λ b. asks b WrongKind (own_refusal call (state_in w (seen_as k (sequence ts k))))) lacks)
+  step_unplaced lacks =
+      let e : refusal_on w c call ≡ Some NoSuchObject =
+      ap (λ o. asks_collection o (λ s. asks (list_all (is_placed w) (names call)) NoSuchObject (refusal_of call (state_in w s)))) (collection_is adapter objects ts cs c k is)
+      ∙ ap (λ b. asks b NoSuchObject (refusal_of call (state_in w (seen_as k (sequence ts k))))) lacks in
+      rw (← view, e) (refl, refl)

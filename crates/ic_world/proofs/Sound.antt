@@ -36,10 +36,10 @@ last_member gap s p cut e out =
 
 -- a cursor that stands in s is on a member
 stands_on : {V : Type 0} (m : AnyCollection V) (s : List Place) → StandsIn s m → (p : Place) → cursor_in m ≡ Some p → IsMember p s
-stands_on (Singly m) s h p e = last_member h.0 s p h.1 (sym e ∙ h.2)
-stands_on (Doubly m) s h p e = last_member h.0 s p h.1 (sym e ∙ h.2)
-stands_on (Xor m) s h p e = last_member h.0 s p h.1 (sym e ∙ h.2)
-stands_on (Tree m) s h p e = last_member h.0 s p h.1 (sym e ∙ h.2)
+stands_on (Singly l at) s h p e = last_member h.0 s p h.1 (sym e ∙ h.2)
+stands_on (Doubly l at) s h p e = last_member h.0 s p h.1 (sym e ∙ h.2)
+stands_on (Xor l at) s h p e = last_member h.0 s p h.1 (sym e ∙ h.2)
+stands_on (Tree l at) s h p e = last_member h.0 s p h.1 (sym e ∙ h.2)
 
 -- in the table of every field only covered places are linked, and in none where there is no field
 lawful_at : {M : Type 0} (fields : List (WorldField M)) (f : ℕ) → IsLawful (table (map table_of fields) f)

@@ -7,7 +7,7 @@ use Rattle.ic_unsafe_ref.specs.declared.place.Place.{Place}
 use Rattle.ic_unsafe_ref.specs.Places.{index_of}
 use Rattle.ic_unsafe_ref.proofs.PlaceLemmas.{same_index}
 use Rattle.ic_link_ops.specs.Sequences.{Cut, join, insert, remove, replace, IsAbsent}
-use Rattle.ic_link_ops.specs.Tables.{Table, IsCovered, IsUnlinked, KeepsBeside}
+use Rattle.ic_link_ops.specs.Tables.{Table, IsCovered, IsUnlinked}
 use Rattle.ic_link_ops.proofs.SequenceLemmas.{absent_both, absent_left, absent_right}
 use Rattle.ic_link_ops.proofs.StepLemmas.{released_stay, each_unlinked}
 use Rattle.ic_any_collection.specs.declared.entry.Entry.{Entry}
@@ -115,55 +115,6 @@ module _ {V : Type 0} where
       → Moves t m m' None
   nulled {t} {m} held kept alike null = record { kept = kept t (members_in t m) held; alike = alike; cursor_is = null }
 
-  module _ {t : Table Entry} (law : IsLawful t) {m m1 : AnyCollection V} {cursor : Option Place} (e : Moves t m m1 cursor) where
-    pub still_members : members_in t m1 ≡ members_in t m
-    still_members = one_sequence t law m1 (members_in t m) e.kept.shown
-
-    pub still_held : Held t m1
-    still_held = held_of law m1 (members_in t m) e.kept
-
-    pub state_moved : state_of t m1 ≡ moved (state_of t m) cursor
-    state_moved = λ i. record { kind = e.alike i; members = still_members i; cursor = e.cursor_is i; linked = linked_in t }
-
-    -- two moves are one
-    pub moves_on : {m2 : AnyCollection V} {next : Option Place} → Moves t m1 m2 next → Moves t m m2 next
-    moves_on {m2 = m2'} d = record {
-      kept = subst (Keeps t m2') still_members d.kept;
-      alike = d.alike ∙ e.alike;
-      cursor_is = d.cursor_is;
-    }
-
-    -- A MOVE AND THEN A CALL are one call
-    pub turns_moved : {t' : Table Entry} {m2 : AnyCollection V} {names : List Place} {Accepts : State → State → Type 0} (Then : State → State → Type 0) → Turns names Then t t' m1 m2
-        → (Then (moved (state_of t m) cursor) (state_of t' m2) → Accepts (state_of t m) (state_of t' m2)) → Turns names Accepts t t' m m2
-    turns_moved {t' = t2} {m2 = m2'} Then d accepts = record {
-      fresh = d.fresh;
-      named = d.named;
-      free = d.free;
-      only = d.only;
-      frame = subst (λ s. KeepsBeside t t2 (d.fresh ++ s)) still_members d.frame;
-      within = λ q out. d.within q (subst (λ s. IsAbsent q (d.fresh ++ s)) (sym still_members) out);
-      held = d.held;
-      alike = d.alike ∙ e.alike;
-      accepts = accepts (subst (λ s. Then s (state_of t2 m2')) state_moved d.accepts);
-    }
-
-  -- A CALL AND THEN A MOVE are one call
-  pub turns_then : {t t' : Table Entry} {m m1 m2 : AnyCollection V} {cursor : Option Place} {names : List Place} {Accepts : State → State → Type 0} (law' : IsLawful t')
-      (First : State → State → Type 0) → Turns names First t t' m m1 → (e : Moves t' m1 m2 cursor)
-      → (First (state_of t m) (state_of t' m1) → state_of t' m2 ≡ moved (state_of t' m1) cursor → Accepts (state_of t m) (state_of t' m2)) → Turns names Accepts t t' m m2
-  turns_then law' First d e accepts = record {
-    fresh = d.fresh;
-    named = d.named;
-    free = d.free;
-    only = d.only;
-    frame = d.frame;
-    within = λ q out. subst (IsAbsent q) (sym (still_members law' e)) (d.within q out);
-    held = still_held law' e;
-    alike = e.alike ∙ d.alike;
-    accepts = accepts d.accepts (state_moved law' e);
-  }
-
   -- the table stays, and keeps other members for the collection
   pub turns_kept : {t : Table Entry} {m m' : AnyCollection V} {cursor : Option Place} {Accepts : State → State → Type 0} (law : IsLawful t) (s : List Place) → Keeps t m' s → Alike m m'
       → cursor_in m' ≡ cursor → ((q : Place) → IsAbsent q (members_in t m) → IsAbsent q s) → (state_of t m' ≡ having (state_of t m) s cursor → Accepts (state_of t m) (state_of t m'))
@@ -171,13 +122,3 @@ module _ {V : Type 0} where
   turns_kept law s kept alike cursor_is within accepts =
       turns_by law law [] (inl refl) tt (λ q out h. h)
       (record { kept = kept; alike = alike; cursor_is = cursor_is; frame = record { extent = refl; others = λ q out. refl } }) within refl accepts
-
-  -- the member p behind a gap goes out, between a move of the cursor and one to null
-  pub turns_out_between : {t t' : Table Entry} {m m1 m2 m3 : AnyCollection V} {cursor next : Option Place} {Accepts : State → State → Type 0} (law : IsLawful t) (law' : IsLawful t')
-      (e : Moves t m m1 cursor) (gap : Cut) (p : Place) → join gap ≡ members_in t m1 → Takes t t' m1 m2 gap p next → Moves t' m2 m3 None
-      → (join gap ≡ members_in t m → state_of t' m3 ≡ taken (state_of t m) gap p None → Accepts (state_of t m) (state_of t' m3)) → Turns [] Accepts t t' m m3
-  turns_out_between {t} {t'} {m} {m1} {m2} {next = next'} law law' e gap p cut takes null accepts =
-      let First : State → State → Type 0 = λ s u. u ≡ taken s gap p next' in
-      let taking : Turns [] First t t' m1 m2 = turns_out law law' gap p cut takes (λ same. same) in
-      let out : Turns [] First t t' m m2 = turns_moved law e First taking (λ same. same) in
-      turns_then law' First out null (λ was now. accepts (cut ∙ still_members law e) (now ∙ ap (λ s. moved s None) was))

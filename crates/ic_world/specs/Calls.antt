@@ -13,6 +13,7 @@ use Rattle.ic_rbtree.specs.Borders.{Finds, IsBorder, IsLowerBorder, IsUpperBorde
 use Rattle.ic_rbtree.specs.Comparing.{compared, compared_within, order_of, own_order}
 use Rattle.ic_any_collection.specs.AnyCollection.{has_before, is_list, is_two_way_list, is_singly, is_xor, is_tree, has_pointer}
 use Rattle.ic_any_collection.specs.Keyed.{FewLooks, FewLooksWithin, IsVacantFor}
+pub use Rattle.ic_any_collection.specs.Refusals.{asks}
 use Rattle.ic_world.specs.declared.call.Refusal.{Refusal}
 use Rattle.ic_world.specs.declared.call.Refusal.TheVariants.{WrongKind, NothingThere, NotAMember, NotANeighbour, AlreadyLinked}
 pub use Rattle.ic_world.specs.declared.calls.one_call.Call.{Call}
@@ -159,11 +160,6 @@ member_at After s = next_of s.members s.cursor
 abbrev pub beside_of : Direction → List Place → Place → Option Place
 beside_of Next s p = behind_of s p
 beside_of Prev s p = before_or None s p
-
--- the refusal r unless the test holds, and then the rest of the tests
-abbrev pub asks : Bool → Refusal → Option Refusal → Option Refusal
-asks true r rest = rest
-asks false r rest = Some r
 
 abbrev pub asks_unlinked : State → Place → Option Refusal
 asks_unlinked s p = asks (not (is_linked_in s p)) AlreadyLinked None

@@ -1,5 +1,5 @@
 -- What a call of one collection gives to the world, whatever it does.
-use Rattle.std.specs.Prelude.{◌≡◌, ◌⊎◌, true, Option, Some, None, List, [], ◌∷◌, ◌++◌, Result, Ok, Err, IfOk, OnErr}
+use Rattle.std.specs.Prelude.{◌≡◌, ◌⊎◌, true, Option, List, [], ◌∷◌, ◌++◌, Result, IfOk, OnErr}
 use Rattle.ic_unsafe_ref.specs.declared.place.Place.{Place}
 use Rattle.ic_link_ops.specs.Sequences.{IsAbsent, IsDisjoint}
 use Rattle.ic_link_ops.specs.Tables.{Table, KeepsBeside, KeepsLinked, IsUnlinked}
@@ -10,14 +10,10 @@ use Rattle.ic_any_collection.specs.Entries.{is_linked}
 use Rattle.ic_any_collection.specs.declared.any_collection.AnyCollection.{AnyCollection}
 use Rattle.ic_any_collection.specs.AnyCollection.{kind_in, cursor_in, members_in, Held, Alike}
 use Rattle.ic_any_collection.specs.Edits.{IsUnchanged}
+pub use Rattle.ic_any_collection.specs.Refusals.{refusal_in}
 use Rattle.ic_world.specs.declared.call.Refusal.{Refusal}
 use Rattle.ic_world.specs.LinkedSets.{linked_in}
 use Rattle.ic_world.specs.Calls.{State}
-
--- the refusal that a result is, if it is one
-abbrev pub refusal_in : {A : Type 0} → Result A Refusal → Option Refusal
-refusal_in (Ok a) = None
-refusal_in (Err r) = Some r
 
 -- P holds of each place
 abbrev pub Each : (Place → Type 0) → List Place → Type 0

@@ -108,9 +108,6 @@ impl<A: KeyAdapter, M: Allocator + Copy> World<A, M> {
         if !call.is_placed(&self.objects) {
             return Err(Refusal::NoSuchObject);
         }
-        if !call.is_of(self.collections.members(collection).kind()) {
-            return Err(Refusal::WrongKind);
-        }
         let links = &mut self.fields[field].links;
         let members = self.collections.members_mut(collection);
         call.run(members, links, &self.objects, self.adapter)

@@ -9,8 +9,8 @@ ghost use Rattle.std.specs.Prelude.{◌≡◌};
 
 use crate::call::Refusal;
 use crate::calls::kinds::is_tree;
-use crate::calls::one_call::OneCall;
-use ic_any_collection::{AnyCollection, AnyTable, Kind};
+use crate::calls::one_call::{OneCall, told};
+use ic_any_collection::{AnyCollection, AnyTable};
 use ic_rbtree::KeyAdapter;
 use ic_unsafe_ref::{Objects, Place};
 use std::alloc::Allocator;
@@ -35,11 +35,6 @@ impl<A: KeyAdapter> OneCall<A> for Insertion {
     ghost reply = { looked };
 
     #[inline]
-    fn is_of(&self, kind: Kind) -> bool {
-        is_tree(kind)
-    }
-
-    #[inline]
     fn is_placed<M: Allocator>(&self, objects: &Objects<A::Value, M>) -> bool {
         match *self {
             Insertion::Insert(object) => objects.is_placed(object),
@@ -55,12 +50,10 @@ impl<A: KeyAdapter> OneCall<A> for Insertion {
         adapter: A,
     ) -> Result<u64, Refusal> {
         match *self {
-            Insertion::Insert(object) => members
-                .insert(links, objects, adapter, object)
-                .ok_or(Refusal::AlreadyLinked),
-            Insertion::CursorInsert(object) => members
-                .cursor_insert(links, objects, adapter, object)
-                .ok_or(Refusal::AlreadyLinked),
+            Insertion::Insert(object) => told(members.insert(links, objects, adapter, object)),
+            Insertion::CursorInsert(object) => {
+                told(members.cursor_insert(links, objects, adapter, object))
+            }
         }
     }
 }
@@ -84,11 +77,6 @@ impl<A: KeyAdapter> OneCall<A> for EntryAt<A::Key> {
     ghost reply = { entry_or_linked };
 
     #[inline]
-    fn is_of(&self, kind: Kind) -> bool {
-        is_tree(kind)
-    }
-
-    #[inline]
     fn is_placed<M: Allocator>(&self, objects: &Objects<A::Value, M>) -> bool {
         objects.is_placed(self.object)
     }
@@ -100,6 +88,9 @@ impl<A: KeyAdapter> OneCall<A> for EntryAt<A::Key> {
         objects: &Objects<A::Value, M>,
         adapter: A,
     ) -> Result<Option<(bool, Place, u64)>, Refusal> {
+        if !is_tree(members.kind()) {
+            return Err(Refusal::WrongKind);
+        }
         Ok(members.entry(links, objects, adapter, &self.key, self.object))
     }
 }

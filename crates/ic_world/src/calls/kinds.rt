@@ -36,13 +36,6 @@ pub(crate) fn is_two_way_list(kind: Kind) -> bool
 }
 
 #[inline]
-pub(crate) fn is_singly(kind: Kind) -> bool
-    ensures { result ≡ kinds.is_singly kind }
-{
-    matches!(kind, Kind::Singly)
-}
-
-#[inline]
 pub(crate) fn is_xor(kind: Kind) -> bool
     ensures { result ≡ kinds.is_xor kind }
 {

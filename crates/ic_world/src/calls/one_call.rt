@@ -11,9 +11,10 @@ ghost use Rattle.ic_unsafe_ref.specs.Objects.{is_placed as place_is_placed};
 ghost use Rattle.ic_link_ops.specs.Tables.{IsCovered};
 ghost use Rattle.ic_link_ops.specs.PlacedObjects.{ArePlaced};
 ghost use Rattle.ic_any_collection.specs.AnyTables.{look};
-ghost use Rattle.ic_any_collection.specs.AnyCollection.{kind_in, members_in, Held};
+ghost use Rattle.ic_any_collection.specs.AnyCollection.{members_in, Held};
 ghost use Rattle.ic_world.specs.Turns.{Each, Ran};
-ghost use Rattle.ic_world.specs.Calls.{Reply, names, has_call, own_refusal, Replies};
+ghost use Rattle.ic_world.specs.Calls.{Reply, names, refusal_of, Replies};
+ghost use Rattle.ic_world.specs.Replies.{told};
 ghost use Rattle.ic_world.specs.Step.{call_of as call_meant};
 
 use crate::call::{Command, Refusal};
@@ -21,7 +22,7 @@ use crate::calls::insertion::Insertion;
 use crate::calls::search::Search;
 use crate::calls::seek::Seek;
 use crate::calls::whole::Whole;
-use ic_any_collection::{AnyCollection, AnyTable, Kind};
+use ic_any_collection::{AnyCollection, AnyTable, EditError};
 use ic_rbtree::KeyAdapter;
 use ic_unsafe_ref::{Objects, Place};
 use std::alloc::Allocator;
@@ -82,16 +83,12 @@ pub trait OneCall<A: KeyAdapter> {
 
     ghost reply: { Self.Answer → Reply };
 
-    /// Whether a kind has the call.
-    fn is_of(&self, kind: Kind) -> bool
-        ensures { result ≡ has_call (call self.now) kind };
-
     /// Whether an object stands at each place that the call names.
     fn is_placed<M: Allocator>(&self, objects: &Objects<A::Value, M>) -> bool
         ensures { result ≡ list_all (place_is_placed objects.now) (names (call self.now)) };
 
-    /// Does the call. It asks that the kind has it, that the table keeps the collection, that an object stands at each member and at
-    /// each place that the call names, and that these are covered. A refusal changes nothing.
+    /// Does the call. It requires that the table keeps the collection, that an object stands at each member and at each place that the call
+    /// names, and that these are covered. A refusal changes nothing: `WrongKind` of a kind that lacks the call, and then the call's own.
     fn run<M: Allocator>(
         &self,
         members: &mut AnyCollection<A::Value>,
@@ -100,13 +97,25 @@ pub trait OneCall<A: KeyAdapter> {
         adapter: A,
     ) -> Result<Self::Answer, Refusal>
         requires held { Held (look links.old) members.old }
-        requires can { has_call (call self.now) (kind_in members.old) ≡ true }
         requires covered { Each (IsCovered (look links.old)) (names (call self.now)) }
         requires placed { ArePlaced objects.now (members_in (look links.old) members.old) }
         requires named { list_all (place_is_placed objects.now) (names (call self.now)) ≡ true }
-        ensures { Ran (names (call self.now)) (own_refusal (call self.now))
+        ensures { Ran (names (call self.now)) (refusal_of (call self.now))
             (λ a s t. Replies A.Key.cmp (A.key_of adapter) objects.now (call self.now) s (reply a) t)
             links.old links.new members.old members.new result };
+}
+
+/// What a collection's own call gave, as the world tells it.
+#[inline]
+pub(crate) fn told<R>(edited: Result<R, EditError>) -> Result<R, Refusal>
+    ensures { result ≡ told edited }
+{
+    match edited {
+        Ok(answer) => Ok(answer),
+        Err(EditError::WrongKind) => Err(Refusal::WrongKind),
+        Err(EditError::NothingThere) => Err(Refusal::NothingThere),
+        Err(EditError::AlreadyLinked) => Err(Refusal::AlreadyLinked),
+    }
 }
 
 /// The call of one collection that the command is, with the collection's number. None of the other commands. Of these `current` and `show`

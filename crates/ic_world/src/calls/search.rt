@@ -9,7 +9,7 @@ ghost use Rattle.std.specs.Prelude.{◌≡◌};
 use crate::call::Refusal;
 use crate::calls::kinds::is_tree;
 use crate::calls::one_call::OneCall;
-use ic_any_collection::{AnyCollection, AnyTable, Kind};
+use ic_any_collection::{AnyCollection, AnyTable};
 use ic_rbtree::{Bound, KeyAdapter};
 use ic_unsafe_ref::{Objects, Place};
 use std::alloc::Allocator;
@@ -36,11 +36,6 @@ impl<A: KeyAdapter> OneCall<A> for Search<A::Key> {
     ghost reply = { λ answer. found answer.0 answer.1 };
 
     #[inline]
-    fn is_of(&self, kind: Kind) -> bool {
-        is_tree(kind)
-    }
-
-    #[inline]
     fn is_placed<M: Allocator>(&self, objects: &Objects<A::Value, M>) -> bool {
         let _ = objects;
         true
@@ -53,6 +48,9 @@ impl<A: KeyAdapter> OneCall<A> for Search<A::Key> {
         objects: &Objects<A::Value, M>,
         adapter: A,
     ) -> Result<(Option<Place>, u64), Refusal> {
+        if !is_tree(members.kind()) {
+            return Err(Refusal::WrongKind);
+        }
         match self {
             Search::Find(key) => Ok(members.find(links, objects, adapter, key)),
             Search::LowerBound(bound) => Ok(members.lower_bound(links, objects, adapter, bound)),

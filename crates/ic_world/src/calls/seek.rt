@@ -18,9 +18,9 @@ ghost use Rattle.ic_world.specs.Calls.{named_if, beside_of};
 ghost use Rattle.ic_world.specs.Seeks.{Sought};
 
 use crate::call::Refusal;
-use crate::calls::kinds::{has_before, has_pointer, is_xor, same_position};
-use crate::calls::one_call::{Direction, OneCall};
-use ic_any_collection::{AnyCollection, AnyTable, Kind};
+use crate::calls::kinds::{has_pointer, is_xor, same_position};
+use crate::calls::one_call::{Direction, OneCall, told};
+use ic_any_collection::{AnyCollection, AnyTable};
 use ic_rbtree::KeyAdapter;
 use ic_unsafe_ref::{Objects, Place};
 use std::alloc::Allocator;
@@ -51,14 +51,6 @@ impl<A: KeyAdapter> OneCall<A> for Move {
     ghost reply = { object_or_nothing };
 
     #[inline]
-    fn is_of(&self, kind: Kind) -> bool {
-        match self.0 {
-            Direction::Next => true,
-            Direction::Prev => has_before(kind),
-        }
-    }
-
-    #[inline]
     fn is_placed<M: Allocator>(&self, objects: &Objects<A::Value, M>) -> bool {
         let _ = objects;
         true
@@ -75,14 +67,8 @@ impl<A: KeyAdapter> OneCall<A> for Move {
         let _ = objects;
         let _ = adapter;
         match self.0 {
-            Direction::Next => {
-                members.move_next(links);
-                Ok(members.cursor())
-            }
-            Direction::Prev => {
-                members.move_prev(links);
-                Ok(members.cursor())
-            }
+            Direction::Next => Ok(members.move_next(links)),
+            Direction::Prev => told(members.move_prev(links)),
         }
     }
 }
@@ -109,15 +95,6 @@ impl<A: KeyAdapter> OneCall<A> for Seek {
     ghost reply = { λ _. done };
 
     #[inline]
-    fn is_of(&self, kind: Kind) -> bool {
-        match self {
-            Seek::Null => true,
-            Seek::On(_) => has_pointer(kind),
-            Seek::With(..) => is_xor(kind),
-        }
-    }
-
-    #[inline]
     fn is_placed<M: Allocator>(&self, objects: &Objects<A::Value, M>) -> bool {
         match *self {
             Seek::Null => true,
@@ -142,8 +119,18 @@ impl<A: KeyAdapter> OneCall<A> for Seek {
                 members.go_null();
                 Ok(())
             }
-            Seek::On(object) => seek_on(members, links, object),
-            Seek::With(way, object, beside) => seek_with(members, links, way, object, beside),
+            Seek::On(object) => {
+                if !has_pointer(members.kind()) {
+                    return Err(Refusal::WrongKind);
+                }
+                seek_on(members, links, object)
+            }
+            Seek::With(way, object, beside) => {
+                if !is_xor(members.kind()) {
+                    return Err(Refusal::WrongKind);
+                }
+                seek_with(members, links, way, object, beside)
+            }
         }
     }
 }

@@ -7,9 +7,8 @@
 ghost use Rattle.std.specs.Prelude.{◌≡◌};
 
 use crate::call::Refusal;
-use crate::calls::kinds::is_xor;
-use crate::calls::one_call::OneCall;
-use ic_any_collection::{AnyCollection, AnyTable, Kind};
+use crate::calls::one_call::{OneCall, told};
+use ic_any_collection::{AnyCollection, AnyTable};
 use ic_rbtree::KeyAdapter;
 use ic_unsafe_ref::Objects;
 use std::alloc::Allocator;
@@ -34,14 +33,6 @@ impl<A: KeyAdapter> OneCall<A> for Whole {
     ghost reply = { λ _. done };
 
     #[inline]
-    fn is_of(&self, kind: Kind) -> bool {
-        match self {
-            Whole::Clear => true,
-            Whole::Reverse => is_xor(kind),
-        }
-    }
-
-    #[inline]
     fn is_placed<M: Allocator>(&self, objects: &Objects<A::Value, M>) -> bool {
         let _ = objects;
         true
@@ -62,10 +53,7 @@ impl<A: KeyAdapter> OneCall<A> for Whole {
                 members.unlink_all(links);
                 Ok(())
             }
-            Whole::Reverse => {
-                members.reverse(links);
-                Ok(())
-            }
+            Whole::Reverse => told(members.reverse(links)),
         }
     }
 }

@@ -9,10 +9,10 @@ pub contains-requires-in-WithPrev-Tree-clause-shown :
 contains-requires-in-WithPrev-Tree-clause-shown g c =
     let is = rw c.in-WithPrev-Tree.is at c.in-WithPrev-Tree.field-0-is in
     let held = rw (c.in-Tree.is, c.in-WithPrev-Tree.is, is) at c.requires.held in
-    let shown = seen node node_of (λ p. refl) held.shown in rw c.list-in-WithPrev-Tree.ensures (_, shown)
+    (_, seen node node_of (λ p. refl) held.shown)
 
 pub returns-in-WithPrev-Tree : goal.returns-in-WithPrev-Tree
 returns-in-WithPrev-Tree g c =
     let is = rw c.in-WithPrev-Tree.is at c.in-WithPrev-Tree.field-0-is in
     let held = rw (c.in-Tree.is, c.in-WithPrev-Tree.is, is) at c.requires.held in
-    rw (c.in-Tree.is, c.in-WithPrev-Tree.is, is) (c.contains-in-WithPrev-Tree.ensures _ (rw c.list-in-WithPrev-Tree.ensures (seen node node_of (λ p. refl) held.shown)))
+    rw (c.in-Tree.is, c.in-WithPrev-Tree.is, is) (c.contains-in-WithPrev-Tree.ensures _ (seen node node_of (λ p. refl) held.shown))

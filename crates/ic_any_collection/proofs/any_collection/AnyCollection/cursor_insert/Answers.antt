@@ -1,17 +1,17 @@
-use Rattle.std.proofs.Common.{refl, sym, ap, ◌∙◌}
-use Rattle.std.specs.Option.{option_copied}
-use Rattle.ic_rbtree.specs.Comparing.{compared}
-use Rattle.ic_rbtree.proofs.InOrder.{own_is}
-use Rattle.ic_any_collection.proofs.KeyedEdits.{puts_in_order}
+use Rattle.ic_any_collection.specs.TreeTables.{look}
+use Rattle.ic_any_collection.specs.declared.any_table.AnyTable.TheVariants.{WithPrev}
+use Rattle.ic_any_collection.specs.declared.table_with_prev.TableWithPrev.TheVariants.{Tree}
+use Rattle.ic_any_collection.proofs.KeyedEdits.{put_stays, puts_and_stays}
 use Rattle.ic_any_collection.proofs.any_collection.AnyCollection.cursor_insert.Goals as goal
 
-pub returns-clause-inserted : goal.returns-clause-inserted
-returns-clause-inserted g c =
-    let e = c.in-Ok.ensures in
-    let list = c.list_mut-list.ensures.list in
+pub returns-in-WithPrev-Tree : goal.returns-in-WithPrev-Tree
+returns-in-WithPrev-Tree g c =
     let held = rw (c.in-Tree.is, c.in-WithPrev-Tree.is, c.in-WithPrev-Tree.field-0-is) at c.requires.held in
-    let order =
-    own_is g.A.Key.Ord.cmp g.A.KeyAdapter.key_of c.args.objects.now c.new-probe.ensures.adapter (c.new-probe.ensures.key ∙ c.get_key.ensures) refl
-    (sym c.get.ensures ∙ ap option_copied c.unwrap-value.ensures) in
-    rw (c.in-Tree.is, c.in-WithPrev-Tree.is, c.in-WithPrev-Tree.field-0-is)
-    (puts_in_order (ap (λ order. compared order c.args.objects.now) order) held (λ s shown. rw c.new-object.ensures at (e.inserted s (rw list shown))) (rw c.new-object.ensures at e.acquired) refl refl)
+    let e = c.put_in_order.ensures in
+    let result = c.put_in_order.result in
+    rw (c.in-Tree.is, c.in-WithPrev-Tree.is, c.in-WithPrev-Tree.field-0-is) (record {
+      tested = e.tested;
+      inserted = puts_and_stays result _ _ _ _ _ _ _ held e.inserted e.acquired;
+      looks = e.looks _ held.shown;
+      unchanged = put_stays result look (λ l. WithPrev (Tree l)) _ _ _ _ _ held e.unchanged;
+    })

@@ -1,5 +1,4 @@
 use Rattle.std.proofs.Common.{ap, refl, Some, ◌∙◌}
-use Rattle.ic_rbtree.specs.CursorOwning.{tree_of}
 use Rattle.ic_rbtree.specs.Members.{members}
 use Rattle.ic_rbtree.specs.Tree.{root_of}
 use Rattle.ic_any_collection.specs.Entries.{node}
@@ -12,38 +11,33 @@ use Rattle.ic_any_collection.proofs.any_collection.AnyCollection.entry.Goals as 
 pub returns-in_err-occupied-in-WithPrev-Tree-clause-refused : goal.returns-in_err-occupied-in-WithPrev-Tree-clause-refused
 returns-in_err-occupied-in-WithPrev-Tree-clause-refused g c =
     let held = rw (c.in-Tree.is, c.in-WithPrev-Tree.is, c.in-WithPrev-Tree.field-0-is) at c.requires.held in
-    let list = c.list_mut-tree.ensures.list in
-    let s = members node (look c.in-WithPrev-Tree.links) (root_of (tree_of c.in-Tree.cursor)) in
+    let s = members node (look c.in-WithPrev-Tree.links) (root_of c.in-Tree.tree) in
     let probe = c.new-probe.ensures in
     let e = c.in_err-occupied-in-WithPrev-Tree.ensures in
     rw (c.from_residual.ensures, c.in-Tree.is, c.in-WithPrev-Tree.is, c.in-WithPrev-Tree.field-0-is) (
       e.unchanged.0,
-      rw (probe.adapter, probe.key) at (e.refused s (rw list held.shown)),
-      (ap (λ l. WithPrev (Tree l)) e.unchanged.2, record { kept = rw (e.unchanged.1, list) held; alike = refl; cursor_is = refl }),
+      rw (probe.adapter, probe.key) at (e.refused s held.shown),
+      (ap (λ l. WithPrev (Tree l)) e.unchanged.2, record { kept = rw e.unchanged.1 held; alike = refl; cursor_is = refl }),
     )
 
 pub returns-clause-occupied : goal.returns-clause-occupied
 returns-clause-occupied g c had =
     let held = rw (c.in-Tree.is, c.in-WithPrev-Tree.is, c.in-WithPrev-Tree.field-0-is) at c.requires.held in
-    let list = c.list_mut-tree.ensures.list in
-    let s = members node (look c.in-WithPrev-Tree.links) (root_of (tree_of c.in-Tree.cursor)) in
+    let s = members node (look c.in-WithPrev-Tree.links) (root_of c.in-Tree.tree) in
     let probe = c.new-probe.ensures in
     let e = c.in_ok-occupied-in-WithPrev-Tree.ensures in
     let same = e.stays had in
-    let found = rw (probe.adapter, probe.key) at (e.found s (rw list held.shown) had) in
-    let on = c.go_to.ensures in
+    let found = rw (probe.adapter, probe.key) at (e.found s held.shown had) in
     rw (c.in-Tree.is, c.in-WithPrev-Tree.is, c.in-WithPrev-Tree.field-0-is)
-    (found, ap (λ l. WithPrev (Tree l)) same.1, moves_to_key held found (on.list ∙ same.0 ∙ list) (on.position ∙ c.of.ensures))
+    (found, ap (λ l. WithPrev (Tree l)) same.1, moves_to_key held found same.0 c.of.ensures)
 
 pub returns-clause-vacant : goal.returns-clause-vacant
 returns-clause-vacant g c new =
     let held = rw (c.in-Tree.is, c.in-WithPrev-Tree.is, c.in-WithPrev-Tree.field-0-is) at c.requires.held in
-    let list = c.list_mut-tree.ensures.list in
-    let s = members node (look c.in-WithPrev-Tree.links) (root_of (tree_of c.in-Tree.cursor)) in
+    let s = members node (look c.in-WithPrev-Tree.links) (root_of c.in-Tree.tree) in
     let probe = c.new-probe.ensures in
     let e = c.in_ok-occupied-in-WithPrev-Tree.ensures in
     let links = e.links new in
-    let put = rw (probe.adapter, probe.key) at (e.put s (rw list held.shown) new) in
-    let on = c.go_to.ensures in
+    let put = rw (probe.adapter, probe.key) at (e.put s held.shown new) in
     rw (c.in-Tree.is, c.in-WithPrev-Tree.is, c.in-WithPrev-Tree.field-0-is)
-    (links.0, puts_at_key _ held put links.1 on.list (on.position ∙ c.of.ensures ∙ ap Some links.0))
+    (links.0, puts_at_key _ held put links.1 (c.of.ensures ∙ ap Some links.0))

@@ -5,24 +5,16 @@ use Rattle.ic_any_collection.proofs.any_collection.AnyCollection.go_null.Goals a
 
 pub returns-in-Singly-clause-kept : goal.returns-in-Singly-clause-kept
 returns-in-Singly-clause-kept g c t s kept =
-    let k = rw c.in-Singly.is at kept in
-    let e = c.go_null.ensures in
-    record { carried = k.carried; shown = rw e.list k.shown; stands = (at_front s, refl, e.null) }
+    let k = rw c.in-Singly.is at kept in record { carried = k.carried; shown = k.shown; stands = (at_front s, refl, c.null.ensures.null) }
 
 pub returns-in-Doubly-clause-kept : goal.returns-in-Doubly-clause-kept
 returns-in-Doubly-clause-kept g c t s kept =
-    let k = rw c.in-Doubly.is at kept in
-    let e = c.go_null-in-Doubly.ensures in
-    record { carried = k.carried; shown = rw e.list k.shown; stands = (at_front s, refl, e.null) }
+    let k = rw c.in-Doubly.is at kept in record { carried = k.carried; shown = k.shown; stands = (at_front s, refl, c.null-in-Doubly.ensures.null) }
 
 pub returns-in-Xor-clause-kept : goal.returns-in-Xor-clause-kept
 returns-in-Xor-clause-kept g c t s kept =
-    let k = rw c.in-Xor.is at kept in
-    let e = c.go_null-in-Xor.ensures in
-    record { carried = k.carried; shown = rw e.list k.shown; stands = xor_null c.go_null-in-Xor.new.self s e.null }
+    let k = rw c.in-Xor.is at kept in record { carried = k.carried; shown = k.shown; stands = xor_null s c.null-in-Xor.ensures.null }
 
 pub returns-in-Tree-clause-kept : goal.returns-in-Tree-clause-kept
 returns-in-Tree-clause-kept g c t s kept =
-    let k = rw c.in-Tree.is at kept in
-    let e = c.go_null-in-Tree.ensures in
-    record { carried = k.carried; shown = rw e.list k.shown; stands = (at_front s, refl, e.null) }
+    let k = rw c.in-Tree.is at kept in record { carried = k.carried; shown = k.shown; stands = (at_front s, refl, c.null-in-Tree.ensures.null) }

@@ -1,14 +1,27 @@
-use Rattle.ic_any_collection.proofs.AllKinds.{lawful}
-use Rattle.ic_any_collection.proofs.KeyedEdits.{held_after, object_there, puts_and_moves}
+use Rattle.std.proofs.Common.{refl, ap}
+use Rattle.ic_any_collection.specs.declared.any_table.AnyTable.TheVariants.{WithPrev}
+use Rattle.ic_any_collection.specs.declared.table_with_prev.TableWithPrev.TheVariants.{Tree}
+use Rattle.ic_any_collection.proofs.KeyedEdits.{puts_and_goes}
 use Rattle.ic_any_collection.proofs.any_collection.AnyCollection.insert.Goals as goal
 
-pub stand_at-requires-clause-held : goal.stand_at-requires-clause-held
-stand_at-requires-clause-held g c = held_after (lawful c.cursor_insert.new.links) c.in_ok-looks.ensures.inserted.2.1
+pub returns-in-Ok : goal.returns-in-Ok
+returns-in-Ok g c =
+    let held = rw (c.in-Tree.is, c.in-WithPrev-Tree.is, c.in-WithPrev-Tree.field-0-is) at c.requires.held in
+    let e = c.in-Ok.ensures in
+    rw (c.in-Tree.is, c.in-WithPrev-Tree.is, c.in-WithPrev-Tree.field-0-is) (record {
+      tested = e.tested;
+      inserted = puts_and_goes held _ _ (e.inserted _ held.shown) e.acquired c.of.ensures;
+      looks = e.looks _ held.shown;
+      unchanged = tt;
+    })
 
-pub stand_at-requires-clause-member : goal.stand_at-requires-clause-member
-stand_at-requires-clause-member g c = object_there (lawful c.cursor_insert.new.links) c.in_ok-looks.ensures.inserted.2.1
-
-pub returns-clause-inserted : goal.returns-clause-inserted
-returns-clause-inserted g c =
-    let put = c.in_ok-looks.ensures.inserted in
-    (put.0, put.1, (put.2.0, puts_and_moves (lawful c.cursor_insert.new.links) put.2.1 c.stand_at.ensures))
+pub returns-in-Err : goal.returns-in-Err
+returns-in-Err g c =
+    let held = rw (c.in-Tree.is, c.in-WithPrev-Tree.is, c.in-WithPrev-Tree.field-0-is) at c.requires.held in
+    let e = c.in-Err.ensures in
+    rw (c.in-Tree.is, c.in-WithPrev-Tree.is, c.in-WithPrev-Tree.field-0-is) (record {
+      tested = e.tested;
+      inserted = tt;
+      looks = tt;
+      unchanged = (ap (λ l. WithPrev (Tree l)) e.unchanged.1, record { kept = rw e.unchanged.0 held; alike = refl; cursor_is = refl });
+    })

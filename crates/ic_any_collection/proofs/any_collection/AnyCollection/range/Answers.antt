@@ -1,6 +1,5 @@
-use Rattle.std.proofs.Common.{◌∙◌, ap}
+use Rattle.std.proofs.Common.{◌∙◌}
 use Rattle.ic_link_ops.specs.RedBlackTree.{Shows}
-use Rattle.ic_rbtree.specs.CursorOwning.{tree_of}
 use Rattle.ic_rbtree.specs.Members.{members}
 use Rattle.ic_rbtree.specs.Tree.{root_of}
 use Rattle.ic_any_collection.specs.Entries.{node}
@@ -12,16 +11,16 @@ pub list_walk-requires-clause-shown : goal.list_walk-requires-clause-shown
 list_walk-requires-clause-shown g c =
     let inner = rw c.in-WithPrev-Tree.is at c.in-WithPrev-Tree.field-0-is in
     let held = rw (c.in-Tree.is, c.in-WithPrev-Tree.is, inner) at c.requires.held in
-    let s = members node (look c.in-WithPrev-Tree.links) (root_of (tree_of c.in-Tree.cursor)) in
-    let root = c.from_root-tree.ensures.root ∙ c.root.ensures ∙ ap root_of c.list.ensures in
+    let s = members node (look c.in-WithPrev-Tree.links) (root_of c.in-Tree.tree) in
+    let root = c.from_root-tree.ensures.root ∙ c.root.ensures in
     let range = c.walk_between-walk.ensures.range s (rw root held.shown) in
-    rw root (range_shown (Shows node (look c.in-WithPrev-Tree.links) (root_of (tree_of c.in-Tree.cursor))) range held.shown)
+    rw root (range_shown (Shows node (look c.in-WithPrev-Tree.links) (root_of c.in-Tree.tree)) range held.shown)
 
 pub returns-clause-range : goal.returns-clause-range
 returns-clause-range g c =
     let inner = rw c.in-WithPrev-Tree.is at c.in-WithPrev-Tree.field-0-is in
     let held = rw (c.in-Tree.is, c.in-WithPrev-Tree.is, inner) at c.requires.held in
-    let s = members node (look c.in-WithPrev-Tree.links) (root_of (tree_of c.in-Tree.cursor)) in
-    let root = c.from_root-tree.ensures.root ∙ c.root.ensures ∙ ap root_of c.list.ensures in
+    let s = members node (look c.in-WithPrev-Tree.links) (root_of c.in-Tree.tree) in
+    let root = c.from_root-tree.ensures.root ∙ c.root.ensures in
     let range = rw (c.from_root-tree.ensures.adapter) at (c.walk_between-walk.ensures.range s (rw root held.shown)) in
     rw (c.in-Tree.is, c.in-WithPrev-Tree.is, inner, c.in_ok-places-in-WithPrev-Tree.ensures) range

@@ -5,4 +5,4 @@ use Rattle.ic_any_collection.proofs.any_collection.AnyCollection.reverse.Goals a
 pub returns-in-Xor-clause-kept : goal.returns-in-Xor-clause-kept
 returns-in-Xor-clause-kept g c =
     let held = rw c.in-Xor.is at c.requires.held in
-    rw c.in-Xor.is (keeps_turned c.in-Xor.cursor _ held (search rules) (search rules))
+    rw c.in-Xor.is (keeps_turned held (search rules) c.null.ensures.null)

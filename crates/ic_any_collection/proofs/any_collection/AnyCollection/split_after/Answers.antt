@@ -1,51 +1,36 @@
-use Rattle.std.proofs.Common.{ap}
+use Rattle.std.proofs.Common.{refl}
 use Rattle.ic_any_collection.specs.AnyTables.{look}
 use Rattle.ic_any_collection.specs.TablesWithPrev as with_prev
-use Rattle.ic_xor_linked_list.specs.Position.{member_of}
-use Rattle.ic_any_collection.proofs.Standing.{stands_plainly, knows, known}
+use Rattle.ic_any_collection.proofs.Standing.{stands_plainly, gap_after_cursor, knows, known}
 use Rattle.ic_any_collection.proofs.Parting.{parts, singly_list, doubly_list, xor_list, at_null, at_end, xor_null}
 use Rattle.ic_any_collection.proofs.any_collection.AnyCollection.split_after.Goals as goal
 
-pub split_after-requires : goal.split_after-requires
-split_after-requires g c = let held = rw c.in-Singly.is at c.requires.held in record { stands = stands_plainly _ held.shown held.stands }
-
-pub split_after-requires-in-WithPrev : goal.split_after-requires-in-WithPrev
-split_after-requires-in-WithPrev g c = let held = rw (c.in-Doubly.is, c.in-WithPrev.is) at c.requires.held in record { stands = stands_plainly _ held.shown held.stands }
-
-pub split_after-requires-in-Xor : goal.split_after-requires-in-Xor
-split_after-requires-in-Xor g c =
-    let held = rw c.in-Xor.is at c.requires.held in
-    record { stands = knows c.in-Xor.cursor _ held.shown held.stands }
+pub split_after_at-requires : goal.split_after_at-requires
+split_after_at-requires g c = let held = rw (c.in-Singly.is) at c.requires.held in record { stands = stands_plainly _ held.shown held.stands }
 
 pub returns-in-Singly : goal.returns-in-Singly
 returns-in-Singly g c =
-    let held = rw c.in-Singly.is at c.requires.held in
-    let at = held.stands in
-    let part = c.cursor_owning.ensures in
-    rw c.in-Singly.is
-    (at.0, at.1, (at.2, parts singly_list look held at.0 at.1 at.2 c.split_after.ensures.split (λ here shown. at_end at.0 here) part.list part.null (λ shown. at_null part.null)))
+    let held = rw (c.in-Singly.is) at c.requires.held in
+    let at = gap_after_cursor _ held in
+    let e = c.split_after_at.ensures in
+    rw (c.in-Singly.is) (at.0, at.1, (at.2, parts singly_list look held at.0 at.1 at.2 e.split (λ here shown. at_end at.0 here) c.null.ensures.null (at_null c.null.ensures.null)))
+
+pub split_after_at-requires-in-WithPrev : goal.split_after_at-requires-in-WithPrev
+split_after_at-requires-in-WithPrev g c = let held = rw (c.in-Doubly.is, c.in-WithPrev.is) at c.requires.held in record { stands = stands_plainly _ held.shown held.stands }
 
 pub returns-in-WithPrev : goal.returns-in-WithPrev
 returns-in-WithPrev g c =
     let held = rw (c.in-Doubly.is, c.in-WithPrev.is) at c.requires.held in
-    let at = held.stands in
-    let e = c.split_after-in-WithPrev.ensures.split in
-    let part = c.cursor_owning-in-WithPrev.ensures in
-    rw (c.in-Doubly.is, c.in-WithPrev.is)
-    (at.0, at.1, (at.2, parts doubly_list with_prev.look held at.0 at.1 at.2 e (λ here shown. at_end at.0 here) part.list part.null (λ shown. at_null part.null)))
+    let at = gap_after_cursor _ held in
+    let e = c.split_after_at-in-WithPrev.ensures in
+    rw (c.in-Doubly.is, c.in-WithPrev.is) (at.0, at.1, (at.2, parts doubly_list with_prev.look held at.0 at.1 at.2 e.split (λ here shown. at_end at.0 here) c.null-in-WithPrev.ensures.null (at_null c.null-in-WithPrev.ensures.null)))
+
+pub split_after_at-requires-in-Xor : goal.split_after_at-requires-in-Xor
+split_after_at-requires-in-Xor g c = let held = rw (c.in-Xor.is) at c.requires.held in record { stands = knows _ held.shown held.stands }
 
 pub returns-in-Xor : goal.returns-in-Xor
 returns-in-Xor g c =
-    let held = rw c.in-Xor.is at c.requires.held in
-    let at = held.stands in
-    let e = c.split_after-in-Xor.ensures in
-    let part = c.cursor_owning-in-Xor in
-    rw c.in-Xor.is (
-      at.0,
-      at.1,
-      (
-        at.2,
-        parts xor_list look held at.0 at.1 at.2 e.split (λ here shown. known c.split_after-in-Xor.new.self _ shown e.kept.stands) part.ensures.list (ap member_of part.ensures.null)
-            (λ shown. xor_null part.result _ part.ensures.null),
-      ),
-    )
+    let held = rw (c.in-Xor.is) at c.requires.held in
+    let at = gap_after_cursor _ held in
+    let e = c.split_after_at-in-Xor.ensures in
+    rw (c.in-Xor.is) (at.0, at.1, (at.2, parts xor_list look held at.0 at.1 at.2 e.split (λ here shown. known _ shown e.kept.stands) (rw c.null-in-Xor.ensures.null refl) (xor_null _ c.null-in-Xor.ensures.null)))

@@ -7,7 +7,7 @@ pub set_prev_or_tail-requires : goal.set_prev_or_tail-requires
 set_prev_or_tail-requires g c names q e = g.met.L.LinkOps.does_replay _ _ [] c.set_next_or_head.ensures.no_step q ∙ c.requires.behind names q e
 
 pub returns-clause-shows : goal.returns-clause-shows
-returns-clause-shows g c front back shown free before behind =
+returns-clause-shows g c front back shown before behind free =
     shows_insert {t3 = g.L.LinkOps.table c.set_neighbors.new.links} {list' = list_head c.set_next_or_head.new.head c.set_prev_or_tail.new.tail}
     front back before behind (rw (← c.self.view_is) at shown) free c.set_next_or_head.ensures.turns c.set_prev_or_tail.ensures.turns
     c.set_neighbors.ensures.set c.set_neighbors.ensures.frame.others c.set_next_or_head.ensures.head c.set_prev_or_tail.ensures.tail

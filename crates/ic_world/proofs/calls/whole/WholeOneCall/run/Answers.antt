@@ -1,7 +1,7 @@
 use Rattle.std.proofs.Common.{refl}
-use Rattle.ic_link_ops.proofs.SequenceLemmas.{absent_reverse}
 use Rattle.ic_any_collection.proofs.AllKinds.{lawful}
-use Rattle.ic_world.proofs.Turned.{turns_clear, turns_kept}
+use Rattle.ic_world.proofs.Turned.{turns_clear}
+use Rattle.ic_world.proofs.Seeking.{turns_round}
 use Rattle.ic_world.proofs.calls.whole.WholeOneCall.run.Goals as goal
 
 pub returns-in-Clear : goal.returns-in-Clear
@@ -11,4 +11,4 @@ returns-in-Clear g c =
 pub returns-in-Reverse : goal.returns-in-Reverse
 returns-in-Reverse g c =
     let e = c.reverse.ensures in
-    rw c.in-Reverse.is (record { tested = refl; turned = turns_kept (lawful c.args.links.now) _ e.kept e.alike e.null (λ q out. absent_reverse q _ out) (λ same. (refl, same)); unchanged = tt })
+    rw (c.in-Reverse.is, c.told.ensures) (turns_round g.row.A-Key.Denot c.args.links.now c.reverse.result e.tested e.kept e.alike e.null e.unchanged)
