@@ -1,28 +1,20 @@
--- That a table shows nothing for a tree with no root, where members are placed, that a vacant entry can insert, and that an insert covers
--- as many places as before.
-use Rattle.std.proofs.Common.{◌≡◌, true, Result, Ok, Err, Option, None, List, [], ◌∷◌, refl, ap}
+-- That a table shows nothing for a tree with no root, where members are placed, and that a vacant entry can insert.
+use Rattle.std.proofs.Common.{◌≡◌, true, Option, None, List, [], ◌∷◌, refl}
 use Rattle.std.specs.List.{AllByRecursion}
 use Rattle.std.specs.declared.cmp.Ordering.{Ordering}
 use Rattle.ic_unsafe_ref.specs.declared.place.Place.{Place}
 use Rattle.ic_unsafe_ref.specs.Objects.{Objects, is_placed}
 use Rattle.ic_unsafe_ref.specs.Places.{index_of}
-use Rattle.ic_link_ops.specs.EditsAt.{InsertsBeside}
 use Rattle.ic_link_ops.specs.EntryLaws.{linked_in_range}
-use Rattle.ic_link_ops.specs.LinkSteps.{LinkStep}
 use Rattle.ic_link_ops.specs.Links.{link_of}
 use Rattle.ic_link_ops.specs.PlacedObjects.{ArePlaced, ShowsPlaced}
 use Rattle.ic_link_ops.specs.PlainTables.{entries, linked_by}
-use Rattle.ic_link_ops.specs.Positions.{Site, Stands}
 use Rattle.ic_link_ops.specs.RedBlackTree.{Node, Shows}
-use Rattle.ic_link_ops.specs.Sequences.{join, IsBefore}
 use Rattle.ic_link_ops.specs.Tables.{Table, IsCovered}
 use Rattle.ic_link_ops.specs.ThreeWords.{no_words, has_link, node_of}
-use Rattle.ic_link_ops.specs.declared.errors.AlreadyLinked.{AlreadyLinked}
-use Rattle.ic_link_ops.proofs.Positions.{gap_there}
 use Rattle.ic_link_ops.proofs.ShownTrees.{shows_nothing}
 use Rattle.ic_link_ops.proofs.Trees.{tree_covered}
 use Rattle.ic_rbtree.specs.Entry.{IfVacant, IsVacantFor, CanInsert}
-use Rattle.ic_rbtree.specs.Ordered.{InsertsAmong}
 use Rattle.ic_rbtree.specs.PlainTrees.{TreeLinkOps, plain_table, PlainShows, PlainShowsSome}
 use Rattle.ic_rbtree.specs.Tree.{root_of}
 use Rattle.ic_rbtree.specs.declared.keys.entry.Entry.{Entry}
@@ -53,16 +45,3 @@ module _ {A L V K E : Type 0} (n : E → Node) (table : L → Table E) (at : Pla
       → IfVacant e (CanInsert n table)
   can_insert (Occupied c) f b = tt
   can_insert (Vacant v) f b = (f.gap, rw (b.2, b.3, f.same) shown, rw b.3 f.is_at)
-
--- `keeps` is the law that a refusal changes no entry
-module _ {L E H T : Type 0} {Shows : Table E → H → List Place → Type 0} {table : L → Table E} {Does : L → L → List LinkStep → Type 0} {Refused : L → L → Place → Type 0}
-    (keeps : (a b : L) (q : Place) → Refused a b q → table b ≡ table a) {old new : Site L H} {p : Place} (stands : Stands Shows table old) where
-  pub covered_among : {at : Place → Ordering} (r : Result Unit (AlreadyLinked T)) → InsertsAmong Shows table Does Refused at old p r new
-      → (table new.links).extent.places ≡ (table old.links).extent.places
-  covered_among (Ok x) e = ap (λ x. x.places) (e.inserted (join stands.gap) stands.shown).inserted.frame.extent
-  covered_among (Err x) e = ap (λ t. t.extent.places) (keeps _ _ _ e.refused)
-
-  pub covered_before : (r : Result Unit (AlreadyLinked T)) → InsertsBeside Shows table Does Refused IsBefore old p r new
-      → (table new.links).extent.places ≡ (table old.links).extent.places
-  covered_before (Ok x) e = let k = gap_there stands in ap (λ x. x.places) (e.inserted k.0 k.1 k.2).frame.extent
-  covered_before (Err x) e = ap (λ t. t.extent.places) (keeps _ _ _ e.refused)

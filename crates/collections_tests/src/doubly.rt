@@ -1,67 +1,107 @@
-//! The doubly linked list.
+//! The doubly linked list: edits by a cursor that borrows the list, cursors that keep it, and a walk that takes its members off.
 
-ghost use Rattle.ic_link_ops.specs.DoublyEntries.{PlainShowsSome};
+ghost use Rattle.std.specs.Prelude.{◌≡◌};
+ghost use Rattle.ic_link_ops.specs.DoublyEntries.{plain_table, PlainShowsSome};
 
-use crate::every_list::every_list;
 use crate::fixtures::reference;
-use crate::from_ptr::write_made;
-use crate::lists::{Lists, list_of};
-use crate::notes::{same, write_places};
-use crate::two_ends::{two_ends, write_edits};
-use ic_link_ops::linked_list::{Link, TwoWords};
+use crate::lists::{ListFixture, list_of};
+use crate::notes::{same, write_object, write_places, write_values};
+use ic_link_ops::linked_list::TwoWords;
 use ic_linked_list::DoublyLinked;
-use ic_test_support::notes::Text;
+use ic_test_support::notes::{Answer, Text};
 use ic_test_support::tables::write_linked;
-use std::alloc::Global;
 use std::process::Abort;
 
 /// A doubly linked list, its links and its objects.
-pub(crate) type Doubly = Lists<DoublyLinked, TwoWords>;
+pub(crate) type DoublyFixture = ListFixture<DoublyLinked, TwoWords>;
 
-// Notes the debug text of two links.
-fn write_links(notes: &mut Text, alloc: Global, first: &Link, second: &Link) {
-    if let Ok(text) = format!(in alloc; "{first:?} {second:?} ") {
-        notes.word(text.as_str());
-    }
+// Puts the object at 3 in the place of the last member, and notes which came out, and the object that the cursor is on a step back.
+fn write_replaced(notes: &mut Text, fixture: &mut DoublyFixture)
+    requires covers { (plain_table fixture.old.links).extent.places ≡ 8 }
+    requires shown { PlainShowsSome fixture.old.links fixture.old.list }
+{
+    let mut cursor = fixture.list.back_mut(&mut fixture.links);
+    write_object(notes, cursor.replace_with(reference(3)).ok());
+    cursor.move_prev();
+    notes.add(Answer::Truth(cursor.is_null()), " ");
+    write_values(notes, &[cursor.into_ref(&fixture.objects)]);
 }
 
-// Takes the second member off by its reference, and notes what is linked then, and both ends.
-fn write_removed(rt: &impl Abort, notes: &mut Text, lists: &mut Doubly)
-    requires shown { PlainShowsSome lists.old.links lists.old.list }
+// Puts the object at 3 behind the last member, and notes what is behind the cursor then.
+fn write_inserted(notes: &mut Text, fixture: &mut DoublyFixture)
+    requires covers { (plain_table fixture.old.links).extent.places ≡ 8 }
+    requires shown { PlainShowsSome fixture.old.links fixture.old.list }
 {
+    let mut cursor = fixture.list.back_mut(&mut fixture.links);
+    let _ = cursor.insert_after(reference(3));
+    write_places(notes, &[cursor.peek_next().get_ptr()]);
+}
+
+// Splits the list in front of the last member, puts both parts together again, and notes what is in front of the cursor each time.
+fn write_parts(notes: &mut Text, fixture: &mut DoublyFixture)
+    requires shown { PlainShowsSome fixture.old.links fixture.old.list }
+{
+    let mut cursor = fixture.list.back_mut(&mut fixture.links);
+    let in_front = cursor.split_before();
+    write_places(notes, &[in_front.last(), cursor.peek_prev().get_ptr()]);
+    cursor.splice_before(in_front);
+    write_places(notes, &[cursor.as_cursor().peek_prev().get_ptr()]);
+}
+
+// Notes where cursors are that keep the list: on the second member, by its reference, at the front and at the back.
+fn write_kept(rt: &impl Abort, notes: &mut Text, fixture: DoublyFixture)
+    requires shown { PlainShowsSome fixture.links fixture.list }
+{
+    let ListFixture {
+        objects: _,
+        links,
+        list,
+    } = fixture;
     let object = reference(1);
-    assert!(rt; lists.list.contains(&lists.links, object.place()));
-    lists.list.remove(&mut lists.links, &object);
-    write_linked(notes, &lists.links);
-    write_places(notes, &[lists.list.first(), lists.list.last()]);
+    assert!(rt; list.contains(&links, object.place()));
+    let on_second = list.cursor_owning_from_ptr(&links, object);
+    let second = on_second.as_cursor(&links).get_ptr();
+    let at_front = on_second.into_inner().front_owning(&links);
+    let front = at_front.get_ptr();
+    let at_back = at_front.into_inner().back_owning(&links);
+    write_places(notes, &[second, front, at_back.get_ptr()]);
+}
+
+// Takes the first member off, and notes what is linked then, and when the walk has unlinked the rest.
+fn write_taken(notes: &mut Text, fixture: DoublyFixture)
+    requires shown { PlainShowsSome fixture.links fixture.list }
+{
+    let ListFixture {
+        objects: _,
+        mut links,
+        list,
+    } = fixture;
+    let mut rest = list.into_iter(&mut links);
+    write_object(notes, rest.next());
+    write_linked(notes, rest.links());
+    rest.finish();
+    notes.word("then ");
+    write_linked(notes, &links);
 }
 
 #[test]
 fn doubly_linked_list(rt: HostRuntime) {
     let alloc = rt.alloc();
-    every_list::<DoublyLinked, TwoWords>(&rt, alloc);
-    two_ends::<DoublyLinked, TwoWords>(&rt, alloc);
     let mut notes = Text::new(alloc);
-    let mut lists: Doubly = list_of(&rt, alloc, 3);
-    let mut cursor = lists.list.back_mut(&mut lists.links);
-    write_edits(&mut notes, &mut cursor, &lists.objects);
-    let beside = [cursor.peek_prev().get_ptr(), cursor.peek_next().get_ptr()];
-    write_places(&mut notes, &beside);
-    let lists: Doubly = list_of(&rt, alloc, 3);
-    write_made(&rt, &mut notes, lists);
-    let mut lists: Doubly = list_of(&rt, alloc, 2);
-    let (linked, unlinked) = (reference(1).place(), reference(2).place());
-    write_links(
-        &mut notes,
-        alloc,
-        lists.links.link(linked),
-        lists.links.link(unlinked),
-    );
-    write_removed(&rt, &mut notes, &mut lists);
+    let mut fixture: DoublyFixture = list_of(&rt, alloc, 3);
+    write_replaced(&mut notes, &mut fixture);
+    let mut fixture: DoublyFixture = list_of(&rt, alloc, 3);
+    write_inserted(&mut notes, &mut fixture);
+    let mut fixture: DoublyFixture = list_of(&rt, alloc, 3);
+    write_parts(&mut notes, &mut fixture);
+    let fixture: DoublyFixture = list_of(&rt, alloc, 3);
+    write_kept(&rt, &mut notes, fixture);
+    let fixture: DoublyFixture = list_of(&rt, alloc, 3);
+    write_taken(&mut notes, fixture);
     same(
         &rt,
         alloc,
         &notes,
-        "2 1 no 10 0 4 5  1 20 20  linked unlinked  0 0 0",
+        "2 no 20  3  1 none 1  1 0 2  0 1 2 then",
     );
 }

@@ -1,4 +1,4 @@
-//! What the tests of each kind stand on: objects, and a table of their links.
+//! What the tests of lists and of the tree stand on: objects, and a table of their links.
 
 ghost use Rattle.std.specs.Prelude.{◌≡◌, ◌<◌, true};
 ghost use Rattle.ic_unsafe_ref.specs.declared.place.Place.{Place};
@@ -8,14 +8,16 @@ ghost use Rattle.ic_link_ops.specs.PlainTables.{table};
 
 use ic_link_ops::{PlainTable, Words};
 use ic_test_support::answers::placed;
-use ic_test_support::notes::Text;
-use ic_test_support::tables::{are_placed, write_linked};
+use ic_test_support::tables::are_placed;
 use ic_unsafe_ref::{Objects, Place, UnsafeRef};
 use std::alloc::Global;
 use std::process::Abort;
 
 /// The objects 10 to 80, in this order, and a table of links that covers their places, 0 to 7.
-pub(crate) fn eight<W: Words>(rt: &impl Abort, alloc: Global) -> (Objects<u64>, PlainTable<W>)
+pub(crate) fn eight_objects<W: Words>(
+    rt: &impl Abort,
+    alloc: Global,
+) -> (Objects<u64>, PlainTable<W>)
     ensures covers { (table W.unlinked result.1).extent.places ≡ 8 }
     ensures placed { (q : Place) → index_of q < 8 → is_placed result.0 q ≡ true }
 {
@@ -28,20 +30,6 @@ pub(crate) fn eight<W: Words>(rt: &impl Abort, alloc: Global) -> (Objects<u64>, 
     assert!(rt; links.covers() == 8);
     assert!(rt; are_placed(&links, &objects));
     (objects, links)
-}
-
-/// Unlinks each linked place by force, one after the other, and notes before each what is linked.
-pub(crate) fn free_each<W: Words>(rt: &impl Abort, notes: &mut Text, links: &mut PlainTable<W>)
-    ensures covers { (table W.unlinked links.new).extent.places ≡ 8 }
-{
-    for index in 0..8 {
-        let place = reference(index).place();
-        if index < links.covers() && links.is_linked(place) {
-            write_linked(notes, links);
-            links.force_unlink(place);
-        }
-    }
-    assert!(rt; links.covers() == 8);
 }
 
 /// The reference to the object at the place of that index.

@@ -5,7 +5,7 @@ ghost use Rattle.ic_link_ops.specs.Chains.{ShowsChain, ShowsSomeChain};
 ghost use Rattle.ic_link_ops.specs.PlacedObjects.{ShowsPlaced};
 ghost use Rattle.ic_link_ops.specs.PlainTables.{table};
 
-use crate::fixtures::{eight, reference};
+use crate::fixtures::{eight_objects, reference};
 use ic_chain::{Chain, ForwardLinks, ListKind};
 use ic_link_ops::{PlainTable, Words};
 use ic_unsafe_ref::Objects;
@@ -14,14 +14,14 @@ use std::process::Abort;
 
 /// A list, the table of its links, which covers the places 0 to 7, and its objects: 10 to 80 stand there, in this order.
 #[derive(Drop)]
-pub(crate) struct Lists<K: ListKind, W: Words> {
+pub(crate) struct ListFixture<K: ListKind, W: Words> {
     pub(crate) objects: Objects<u64>,
     pub(crate) links: PlainTable<W>,
     pub(crate) list: Chain<K, u64>,
 }
 
-/// Puts the objects at the first places into a new list, as many as that and in their order.
-pub(crate) fn filled<K: ForwardLinks<PlainTable<W>>, W: Words>(
+// Puts the objects at the first places into a new list, as many as that and in their order.
+fn filled<K: ForwardLinks<PlainTable<W>>, W: Words>(
     links: &mut PlainTable<W>,
     members: usize,
 ) -> Chain<K, u64>
@@ -42,14 +42,14 @@ pub(crate) fn list_of<K: ForwardLinks<PlainTable<W>>, W: Words>(
     rt: &impl Abort,
     alloc: Global,
     members: usize,
-) -> Lists<K, W>
+) -> ListFixture<K, W>
     requires { members ≤ 8 }
     ensures covers { (table W.unlinked result.links).extent.places ≡ 8 }
     ensures shown { ShowsPlaced (ShowsChain K.Between K.kept (table W.unlinked result.links) result.list) result.objects }
 {
-    let (objects, mut links) = eight(rt, alloc);
+    let (objects, mut links) = eight_objects(rt, alloc);
     let list = filled(&mut links, members);
-    Lists {
+    ListFixture {
         objects,
         links,
         list,

@@ -1,14 +1,21 @@
-//! What a tree prints.
+//! What lists, trees and links print.
 
-use crate::notes::{TEN_TWENTY, prints};
+use crate::fixtures::reference;
+use crate::lists::list_of;
+use crate::singly::SinglyFixture;
 use crate::tree::trees::tree_of;
 
+// A list on one line, a tree with each object on a line of its own, and two links.
 #[test]
 fn printed(rt: HostRuntime) {
     let alloc = rt.alloc();
-    let of = tree_of(&rt, alloc, 2, false);
-    let two = of.tree.debug(&of.links, &of.objects);
-    let of = tree_of(&rt, alloc, 0, false);
-    let none = of.tree.debug(&of.links, &of.objects);
-    assert!(rt; prints(alloc, &two, TEN_TWENTY) && prints(alloc, &none, "[] []"));
+    let lists: SinglyFixture = list_of(&rt, alloc, 2);
+    let linked = lists.links.link(reference(0).place());
+    let unlinked = lists.links.link(reference(2).place());
+    let list = lists.list.debug(&lists.links, &lists.objects);
+    let trees = tree_of(&rt, alloc, 2);
+    let tree = trees.tree.debug(&trees.links, &trees.objects);
+    let text = format!(in alloc; "{list:?} {tree:#?} {linked:?} {unlinked:?}");
+    let text = text.expect(&rt, "memory for a text");
+    assert!(rt; text.as_str() == "[10, 20] [\n    10,\n    20,\n] linked unlinked");
 }

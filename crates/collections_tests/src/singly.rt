@@ -1,75 +1,61 @@
-//! The singly linked list.
+//! The singly linked list: a walk with no last member to end at, and the edits behind a cursor.
 
 ghost use Rattle.std.specs.Prelude.{◌≡◌};
 ghost use Rattle.ic_link_ops.specs.OneWord.{no_word, has_word, next_word_of};
+ghost use Rattle.ic_link_ops.specs.PlacedObjects.{ShowsPlaced};
 ghost use Rattle.ic_link_ops.specs.PlainTables.{table};
 ghost use Rattle.ic_link_ops.specs.Readings.{successor_of};
-ghost use Rattle.ic_link_ops.specs.SinglyLinkedList.{ShowsSome};
+ghost use Rattle.ic_link_ops.specs.SinglyLinkedList.{Shows, ShowsSome};
 
-use crate::every_list::every_list;
 use crate::fixtures::reference;
-use crate::from_ptr::write_made;
-use crate::lists::{Lists, list_of};
-use crate::notes::{same, write_looks, write_object, write_places};
+use crate::lists::{ListFixture, list_of};
+use crate::notes::{same, write_object, write_places, write_values};
 use ic_link_ops::OneWord;
 use ic_link_ops::singly_linked_list::{LinkOps, Singly};
-use ic_singly_linked_list::{SinglyLinked, SinglyLinkedList, laws};
-use ic_test_support::answers::replaced;
+use ic_singly_linked_list::{SinglyLinked, laws};
 use ic_test_support::notes::Text;
 
 /// A singly linked list, its links and its objects.
-pub(crate) type Singles = Lists<SinglyLinked, OneWord<Singly>>;
+pub(crate) type SinglyFixture = ListFixture<SinglyLinked, OneWord<Singly>>;
 
-// Makes the edits of one object behind a cursor on the first of the members 0 and 1, and notes what came out, and where the cursor is.
-fn write_edits(notes: &mut Text, lists: &mut Singles)
-    requires covers { (table no_word lists.old.links).extent.places ≡ 8 }
-    requires shown { ShowsSome (successor_of next_word_of has_word) (table no_word lists.old.links) lists.old.list }
+// Notes what a walk over two members gives, and that it ends.
+fn write_walk(notes: &mut Text, fixture: &SinglyFixture)
+    requires { ShowsPlaced (Shows (successor_of next_word_of has_word) (table no_word fixture.now.links) fixture.now.list) fixture.now.objects }
 {
-    let mut cursor = lists.list.front_mut(&mut lists.links);
-    let _ = cursor.insert_after(reference(3));
-    let object = reference(4);
-    let place = object.place();
-    notes.add(replaced(cursor.replace_next_with(object), place), " ");
-    write_object(notes, cursor.remove_next());
-    write_object(notes, cursor.remove_next());
-    let object = reference(5);
-    let place = object.place();
-    notes.add(replaced(cursor.replace_next_with(object), place), " ");
-    write_places(notes, &[cursor.get_ptr()]);
+    let mut walk = fixture.list.iter(&fixture.links, &fixture.objects);
+    write_values(notes, &[walk.next(), walk.next(), walk.next()]);
 }
 
-// Splits a list of the members 0, 1 and 2 behind the first, puts both parts together again, and notes what the cursor tells.
-fn write_parts(notes: &mut Text, lists: &mut Singles)
-    requires shown { ShowsSome (successor_of next_word_of has_word) (table no_word lists.old.links) lists.old.list }
+// Puts the object at 3 in the place of the member behind a cursor on the first, takes it off again, and notes both that came out.
+fn write_edits(notes: &mut Text, fixture: &mut SinglyFixture)
+    requires covers { (table no_word fixture.old.links).extent.places ≡ 8 }
+    requires shown { ShowsSome (successor_of next_word_of has_word) (table no_word fixture.old.links) fixture.old.list }
 {
-    let mut cursor = lists.list.cursor_mut(&mut lists.links);
-    cursor.move_next();
+    let mut cursor = fixture.list.front_mut(&mut fixture.links);
+    write_object(notes, cursor.replace_next_with(reference(3)).ok());
+    write_object(notes, cursor.remove_next());
+}
+
+// Splits the list behind the first member, notes where the parts begin, puts them together again, and notes what is behind the cursor.
+fn write_parts(notes: &mut Text, fixture: &mut SinglyFixture)
+    requires shown { ShowsSome (successor_of next_word_of has_word) (table no_word fixture.old.links) fixture.old.list }
+{
+    let mut cursor = fixture.list.front_mut(&mut fixture.links);
     laws::split_then_splice::<SinglyLinked, LinkOps>();
     let rest = cursor.split_after();
-    write_places(notes, &[rest.first(), cursor.peek_next().get_ptr()]);
+    write_places(notes, &[cursor.get_ptr(), rest.first()]);
     cursor.splice_after(rest);
-    cursor.move_next();
-    let at = [cursor.get_ptr()];
-    write_looks(notes, cursor.is_null(), cursor.get(&lists.objects), &at);
+    write_places(notes, &[cursor.peek_next().get_ptr()]);
 }
 
 #[test]
 fn singly_linked_list(rt: HostRuntime) {
     let alloc = rt.alloc();
-    every_list::<SinglyLinked, OneWord<Singly>>(&rt, alloc);
     let mut notes = Text::new(alloc);
-    let lists: Singles = list_of(&rt, alloc, 3);
-    write_made(&rt, &mut notes, lists);
-    let mut lists: Singles = list_of(&rt, alloc, 2);
-    let again: SinglyLinkedList<u64> = SinglyLinkedList::from_front(lists.list.first());
-    write_places(&mut notes, &[again.first()]);
-    write_edits(&mut notes, &mut lists);
-    let mut lists: Singles = list_of(&rt, alloc, 3);
-    write_parts(&mut notes, &mut lists);
-    same(
-        &rt,
-        alloc,
-        &notes,
-        "1 20 20  0  3 4 1 null 0  1 none no 20 1",
-    );
+    let mut fixture: SinglyFixture = list_of(&rt, alloc, 2);
+    write_walk(&mut notes, &fixture);
+    write_edits(&mut notes, &mut fixture);
+    let mut fixture: SinglyFixture = list_of(&rt, alloc, 3);
+    write_parts(&mut notes, &mut fixture);
+    same(&rt, alloc, &notes, "10 20 none  1 3  0 1  1");
 }

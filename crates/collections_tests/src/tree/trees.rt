@@ -8,7 +8,7 @@ ghost use Rattle.ic_link_ops.specs.PlacedObjects.{ShowsPlaced};
 ghost use Rattle.ic_rbtree.specs.PlainTrees.{plain_table, PlainShows, PlainShowsSome};
 ghost use Rattle.ic_rbtree.specs.Tree.{root_of};
 
-use crate::fixtures::{eight, reference};
+use crate::fixtures::{eight_objects, reference};
 use ic_link_ops::rbtree::LinkOps;
 use ic_rbtree::{KeyAdapter, RBTree};
 use ic_test_support::tables::are_placed;
@@ -34,14 +34,14 @@ impl KeyAdapter for OwnKey {
 
 /// A tree, the table of its links, which covers the places 0 to 7, and its objects: 10 to 80 stand there, in this order.
 #[derive(Drop)]
-pub(crate) struct Trees {
+pub(crate) struct TreeFixture {
     pub(crate) objects: Objects<u64>,
     pub(crate) links: LinkOps,
     pub(crate) tree: RBTree<OwnKey>,
 }
 
-/// Puts the objects at the first places into a new tree, as many as that, each behind all members, or in front of them.
-pub(crate) fn filled(links: &mut LinkOps, members: usize, in_front: bool) -> RBTree<OwnKey>
+// Puts the objects at the first places into a new tree, as many as that, each behind all members.
+fn filled(links: &mut LinkOps, members: usize) -> RBTree<OwnKey>
     requires { members ≤ 8 }
     ensures shown { PlainShowsSome links.new (root_of result) }
 {
@@ -49,28 +49,24 @@ pub(crate) fn filled(links: &mut LinkOps, members: usize, in_front: bool) -> RBT
     for index in 0..members {
         if index < links.covers() {
             let mut cursor = tree.cursor_mut(links);
-            let _ = if in_front {
-                cursor.insert_after(reference(index))
-            } else {
-                cursor.insert_before(reference(index))
-            };
+            let _ = cursor.insert_before(reference(index));
         }
     }
     tree
 }
 
-/// A tree of the objects at the first places, as many as that, each put behind all members, or in front of them.
-pub(crate) fn tree_of(rt: &impl Abort, alloc: Global, members: usize, in_front: bool) -> Trees
+/// A tree of the objects at the first places, as many as that, in their order.
+pub(crate) fn tree_of(rt: &impl Abort, alloc: Global, members: usize) -> TreeFixture
     requires { members ≤ 8 }
     ensures covers { (plain_table result.links).extent.places ≡ 8 }
     ensures placed { (q : Place) → index_of q < 8 → is_placed result.objects q ≡ true }
     ensures shown { ShowsPlaced (PlainShows result.links (root_of result.tree)) result.objects }
 {
-    let (objects, mut links) = eight(rt, alloc);
-    let tree = filled(&mut links, members, in_front);
+    let (objects, mut links) = eight_objects(rt, alloc);
+    let tree = filled(&mut links, members);
     assert!(rt; links.covers() == 8);
     assert!(rt; are_placed(&links, &objects));
-    Trees {
+    TreeFixture {
         objects,
         links,
         tree,

@@ -12,6 +12,6 @@ returns-clause-shown g c =
     record {
       members = i.shown.0;
       shown = i.shown.1;
-      placed = chain_placed g.K.ForwardLinks.Between (table g.W.Words.unlinked c.filled-list.new.links).entry c.eight-objects.result.0
-          (λ q a b k. c.eight-objects.ensures.placed q (rw (← i.covers) (covered (index_of q) (g.met.K.ForwardLinks.between_linked _ a b k)))) _ i.shown.0 i.shown.1.chain;
+      placed = chain_placed g.K.ForwardLinks.Between (table g.W.Words.unlinked c.filled-list.new.links).entry c.eight_objects-objects.result.0
+          (λ q a b k. c.eight_objects-objects.ensures.placed q (rw (← i.covers) (covered (index_of q) (g.met.K.ForwardLinks.between_linked _ a b k)))) _ i.shown.0 i.shown.1.chain;
     }

@@ -4,9 +4,9 @@ use Rattle.collections_tests.proofs.singly.write_parts.Goals as goal
 
 pub splice_after-requires-clause-given : goal.splice_after-requires-clause-given
 splice_after-requires-clause-given c =
-    let a = c.split_then_splice.ensures.apart _ _ _ (stands c.move_next.ensures.kept) c.split_after-rest.ensures.split in (a.rest, a.other_shown)
+    let a = c.split_then_splice.ensures.apart _ _ _ (stands (c.front_mut-cursor.ensures.kept c.requires.shown)) c.split_after-rest.ensures.split in (a.rest, a.other_shown)
 
-pub move_next-requires-2 : goal.move_next-requires-2
-move_next-requires-2 c =
-    let a = c.split_then_splice.ensures.apart _ _ _ (stands c.move_next.ensures.kept) c.split_after-rest.ensures.split in
+pub peek_next-requires : goal.peek_next-requires
+peek_next-requires c =
+    let a = c.split_then_splice.ensures.apart _ _ _ (stands (c.front_mut-cursor.ensures.kept c.requires.shown)) c.split_after-rest.ensures.split in
     record { stands = where_behind c.splice_after.ensures.spliced a c.splice_after.ensures.kept }

@@ -1,0 +1,10 @@
+use Rattle.std.proofs.Common.{sym, ◌∙◌}
+use Rattle.ic_chain.proofs.Standing.{stands}
+use Rattle.collections_tests.proofs.Members.{member_before}
+use Rattle.collections_tests.proofs.neighbors.last.Goals as goal
+
+pub returns : goal.returns
+returns g c =
+    let f = c.back-cursor.ensures in
+    let h = member_before (stands (f.kept c.requires.shown)) c.peek_next.ensures.moved (sym c.clone_pointer.ensures ∙ c.expect.ensures) in
+    rw (c.clone_pointer-behind.ensures, ← f.list, ← f.links) h
