@@ -1,19 +1,36 @@
--- What a test's next call needs of the one before: that the part which was split off is shown, and shares no member with the rest, and that
--- the cursor stands when both are put together again.
-use Rattle.std.proofs.Common.{Bool, List, []}
+-- What a test's next call needs of the one before: that as many places are covered, that the part which was split off is shown, and shares
+-- no member with the rest, and that the cursor stands when both are put together again.
+use Rattle.std.proofs.Common.{◌≡◌, Bool, Result, Ok, Err, List, [], ap}
 use Rattle.ic_unsafe_ref.specs.declared.place.Place.{Place}
-use Rattle.ic_link_ops.specs.EditsAt.{SplicesBeside, SplitsBefore, WhereApart}
+use Rattle.ic_link_ops.specs.declared.errors.AlreadyLinked.{AlreadyLinked}
+use Rattle.ic_link_ops.specs.EditsAt.{InsertsBeside, SplicesBeside, SplitsAfter, SplitsBefore, WhereApart}
 use Rattle.ic_link_ops.specs.LinkSteps.{LinkStep}
 use Rattle.ic_link_ops.specs.Positions.{Site, Stands}
 use Rattle.ic_link_ops.specs.Sequences.{IsAfter, IsBefore}
 use Rattle.ic_link_ops.specs.Tables.{Table}
 use Rattle.ic_link_ops.specs.TwoLists.{AreApart}
 use Rattle.ic_link_ops.proofs.CollectionLaws.{IsKind}
+use Rattle.ic_link_ops.proofs.Positions.{gap_there}
 use Rattle.ic_link_ops.proofs.SequenceLemmas.{gap_before}
-use Rattle.ic_link_ops.proofs.TwoLists.{split_before}
+use Rattle.ic_link_ops.proofs.TwoLists.{split_after, split_before}
 
 module _ {L E H : Type 0} {Shows : Table E → H → List Place → Type 0} {table : L → Table E} where
-  -- THE TWO PARTS OF A LIST that was split in front of the position
+  -- AS MANY PLACES ARE COVERED. `keeps`: the law that a refusal changes no entry
+  pub covered_in_front : {Does : L → L → List LinkStep → Type 0} {Refused : L → L → Place → Type 0} {T : Type 0} {old new : Site L H} {p : Place}
+      → (keeps : (a b : L) (q : Place) → Refused a b q → table b ≡ table a) → Stands Shows table old
+      → (r : Result Unit (AlreadyLinked T)) → InsertsBeside Shows table Does Refused IsBefore old p r new
+      → (table new.links).extent.places ≡ (table old.links).extent.places
+  covered_in_front keeps stands (Ok x) e = let k = gap_there stands in ap (λ x. x.places) (e.inserted k.0 k.1 k.2).frame.extent
+  covered_in_front keeps stands (Err x) e = ap (λ t. t.extent.places) (keeps _ _ _ e.refused)
+
+  pub covered_behind : {Does : L → L → List LinkStep → Type 0} {Refused : L → L → Place → Type 0} {T : Type 0} {old new : Site L H} {p : Place}
+      → (keeps : (a b : L) (q : Place) → Refused a b q → table b ≡ table a) → Stands Shows table old
+      → (r : Result Unit (AlreadyLinked T)) → InsertsBeside Shows table Does Refused IsAfter old p r new
+      → (table new.links).extent.places ≡ (table old.links).extent.places
+  covered_behind keeps stands (Ok x) e = ap (λ x. x.places) (e.inserted stands.gap stands.shown stands.after).frame.extent
+  covered_behind keeps stands (Err x) e = ap (λ t. t.extent.places) (keeps _ _ _ e.refused)
+
+  -- THE TWO PARTS OF A LIST that was split at the position
   module _ {linked : E → Bool} {empty : H} (kind : IsKind Shows linked empty) {old : Site L H} (stands : Stands Shows table old) where
     alone_there : AreApart Shows (table old.links) old.head empty old.position
     alone_there = record {
@@ -24,6 +41,10 @@ module _ {L E H : Type 0} {Shows : Table E → H → List Place → Type 0} {tab
       other_shown = kind.nothing (table old.links);
       apart = tt;
     }
+
+    pub parts_behind : {Does : L → L → List LinkStep → Type 0} {new : Site L H} {handed : H} → SplitsAfter Shows table Does old handed new
+        → AreApart Shows (table new.links) new.head handed new.position
+    parts_behind e = rw e.position (split_after kind alone_there e.split)
 
     pub parts_in_front : {Does : L → L → List LinkStep → Type 0} {new : Site L H} {handed : H} → SplitsBefore Shows table Does old handed new
         → AreApart Shows (table new.links) new.head handed new.position

@@ -16,6 +16,8 @@ mod neighbors;
 #[cfg(test)]
 mod notes;
 #[cfg(test)]
+mod owning;
+#[cfg(test)]
 mod printed;
 #[cfg(test)]
 mod singly;
