@@ -68,7 +68,7 @@ fn write_borrowed(rt: &impl Abort, notes: &mut Text, fixture: XorFixture)
     write_values(notes, &[on_second.into_ref(&objects)]);
 }
 
-// Notes where cursors are that keep the list: on the second member, and on the last.
+// Notes where cursors are that read the list, on the second member, and that keep it, on the second member and on the last.
 fn write_kept(rt: &impl Abort, notes: &mut Text, fixture: XorFixture)
     requires shown { ShowsSome (linked_by has_word) (XorJoins next_word_of) (table no_word fixture.links) fixture.list }
 {
@@ -78,12 +78,16 @@ fn write_kept(rt: &impl Abort, notes: &mut Text, fixture: XorFixture)
         list,
     } = fixture;
     let (object, prev) = second(rt, &list, &links);
+    let read = list
+        .cursor_from_ptr_and_prev(&links, object, prev)
+        .get_ptr();
+    let (object, prev) = second(rt, &list, &links);
     let on_second = list.cursor_owning_from_ptr_and_prev(&links, object, prev);
-    let place = on_second.get_ptr();
+    let kept = on_second.get_ptr();
     let list = on_second.into_inner();
     let (object, next) = last(rt, &list, &links);
     let on_last = list.cursor_owning_from_ptr_and_next(&links, object, next);
-    write_places(notes, &[place, on_last.get_ptr()]);
+    write_places(notes, &[read, kept, on_last.get_ptr()]);
 }
 
 // The list with the members 0, 1 and 2, turned round and as it is.
@@ -96,5 +100,5 @@ fn cursors_from_neighbors(rt: HostRuntime) {
     write_borrowed(&rt, &mut notes, fixture);
     let fixture: XorFixture = list_of(&rt, alloc, 3);
     write_kept(&rt, &mut notes, fixture);
-    same(&rt, alloc, &notes, "1 10 10  1 2");
+    same(&rt, alloc, &notes, "1 10 10  1 1 2");
 }

@@ -3,8 +3,14 @@ use Rattle.ic_link_ops.specs.DoublyEntries.{PlainShows}
 use Rattle.ic_link_ops.proofs.Calling.{has_member}
 use Rattle.collections_tests.proofs.doubly.write_kept.Goals as goal
 
+pub cursor_from_ptr-requires : goal.cursor_from_ptr-requires
+cursor_from_ptr-requires g c =
+    let s = c.requires.shown in
+    let member = has_member (PlainShows c.args.fixture.links c.args.fixture.list) s.0 s.1 ((c.contains.ensures s.0 s.1).0 (search rules)) in
+    record { member = rw c.new.ensures member }
+
 pub cursor_owning_from_ptr-on_second-requires : goal.cursor_owning_from_ptr-on_second-requires
 cursor_owning_from_ptr-on_second-requires g c =
     let s = c.requires.shown in
     let member = has_member (PlainShows c.args.fixture.links c.args.fixture.list) s.0 s.1 ((c.contains.ensures s.0 s.1).0 (search rules)) in
-    record { member = rw (← c.place.ensures) member }
+    record { member = rw c.new-2.ensures member }
