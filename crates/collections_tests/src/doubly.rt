@@ -49,8 +49,8 @@ fn write_parts(notes: &mut Text, fixture: &mut DoublyFixture)
     write_places(notes, &[cursor.as_cursor().peek_prev().get_ptr()]);
 }
 
-// Notes where a cursor is that reads the list, on the second member by its reference, and where those are that keep it: there, at the front
-// and at the back.
+// Notes where a cursor is that reads the list, on the second member by its reference, and where those are that keep it, there and at the
+// back.
 fn write_kept(rt: &impl Abort, notes: &mut Text, fixture: DoublyFixture)
     requires shown { PlainShowsSome fixture.links fixture.list }
 {
@@ -66,10 +66,8 @@ fn write_kept(rt: &impl Abort, notes: &mut Text, fixture: DoublyFixture)
         .get_ptr();
     let on_second = list.cursor_owning_from_ptr(&links, UnsafeRef::new(place));
     let second = on_second.as_cursor(&links).get_ptr();
-    let at_front = on_second.into_inner().front_owning(&links);
-    let front = at_front.get_ptr();
-    let at_back = at_front.into_inner().back_owning(&links);
-    write_places(notes, &[read, second, front, at_back.get_ptr()]);
+    let at_back = on_second.into_inner().back_owning(&links);
+    write_places(notes, &[read, second, at_back.get_ptr()]);
 }
 
 // Takes the first member off, and notes what is linked then, and when the walk has unlinked the rest.
@@ -107,6 +105,6 @@ fn doubly_linked_list(rt: HostRuntime) {
         &rt,
         alloc,
         &notes,
-        "2 no 20  3  1 none 1  1 1 0 2  0 1 2 then",
+        "2 no 20  3  1 none 1  1 1 2  0 1 2 then",
     );
 }
