@@ -36,6 +36,20 @@
 #include <stddef.h>
 #include <stdint.h>
 
+/* The version of this header. */
+#define IC_VERSION_MAJOR 0
+#define IC_VERSION_MINOR 1
+#define IC_VERSION_PATCH 0
+
+/* A program that includes this header needs code that defines this name, which only code of the same major and minor version does. If it
+ * needs two versions, linkers refuse it, since the code of each defines the calls. On Linux GNU ld refuses code of another version alone,
+ * too. The reference takes no memory of the program. */
+#if defined(__GNUC__) && defined(__ELF__)
+__asm__(".pushsection .ic_version, \"\"\n\t.long ic_version_0_1\n\t.popsection");
+#elif defined(__GNUC__) && !defined(__wasm__)
+__asm__(".globl ic_version_0_1");
+#endif
+
 #ifdef __cplusplus
 extern "C" {
 #endif

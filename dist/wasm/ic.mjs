@@ -1,0 +1,258 @@
+// Lists and a red-black tree over tables of links, by the proved calls of ic.wasm. ic.d.mts says what each does.
+//
+//     import { hasMemory64, open, List } from "./ic.mjs";
+//     const ic = await open(new URL(hasMemory64() ? "ic.wasm" : "ic32.wasm", import.meta.url));
+//     const list = new List(ic.links2(100)); // a hundred unlinked places, and a list with no members
+//     list.pushBack(7);
+//     list.pushBack(7); // throws Refused: LINKED, and nothing is changed
+//     list.popFront(); // 7
+
+export const NONE = 0xffffffff;
+export const STATUS = ["OK", "OUT_OF_RANGE", "LINKED", "NOT_LINKED", "NULL", "BROKEN"];
+export const [OK, OUT_OF_RANGE, LINKED, NOT_LINKED, NULL, BROKEN] = STATUS.keys();
+
+export class Refused extends Error {
+  constructor(status) {
+    super(STATUS[status]);
+    this.name = "Refused";
+    this.status = status;
+  }
+}
+
+/** A module of its own, from bytes, a response, a URL, or a module that is compiled. */
+export async function open(source) {
+  if (source instanceof URL && source.protocol === "file:") source = await fileBytes(source);
+  if (source instanceof URL || typeof source === "string") source = await fetch(source);
+  if (typeof Response !== "undefined" && source instanceof Response) source = await source.arrayBuffer();
+  const made = await WebAssembly.instantiate(source, {});
+  return new Library((made.instance ?? made).exports);
+}
+
+// What Node's fetch does not read. Bundlers leave the import as it is.
+async function fileBytes(url) {
+  const { readFile } = await import(/* webpackIgnore: true */ /* @vite-ignore */ "node:fs/promises");
+  return readFile(url);
+}
+
+/** Whether this engine runs ic.wasm. ic32.wasm has the same calls, over a memory of 32 bits. */
+export function hasMemory64() {
+  return WebAssembly.validate(new Uint8Array([0, 97, 115, 109, 1, 0, 0, 0, 5, 3, 1, 4, 1]));
+}
+
+export class Library {
+  constructor(calls) {
+    this.calls = calls;
+    this.isWide = typeof calls.__heap_base.value === "bigint";
+    this.top = Number(calls.__heap_base.value);
+    this.out = this.take(8);
+  }
+  /** An address as the calls take it. */
+  at(address) {
+    return this.isWide ? BigInt(address) : address;
+  }
+  /** Zeroed memory. It is given back with the whole module. */
+  take(bytes) {
+    const at = Math.ceil(this.top / 8) * 8;
+    this.top = at + bytes;
+    const { memory } = this.calls, lacking = Math.ceil((this.top - memory.buffer.byteLength) / 65536);
+    if (lacking > 0) grow(memory, lacking, this.isWide);
+    return at;
+  }
+  links1(places) { return new Words(this, places, 1); }
+  links2(places) { return new Words(this, places, 2); }
+  links3(places) { return new Words(this, places, 3); }
+  keys(places) { return new Words(this, places, 1); }
+  done(status) {
+    if (status !== OK) throw new Refused(status);
+  }
+  /** The member that the call has handed out, or null. */
+  member(status) {
+    if (status === NULL) return null;
+    this.done(status);
+    const { buffer } = this.calls.memory;
+    if (this.seen?.buffer !== buffer) this.seen = new Uint32Array(buffer, this.out, 1);
+    return this.seen[0];
+  }
+}
+
+// Engines differ in whether a page count of a wide memory is a BigInt.
+function grow(memory, pages, isWide) {
+  try {
+    memory.grow(isWide ? BigInt(pages) : pages);
+  } catch (error) {
+    if (!isWide || !(error instanceof TypeError)) throw error;
+    memory.grow(pages);
+  }
+}
+
+/** A table of links, keys, or the words of a list: `width` words for each of `length` places. */
+export class Words {
+  constructor(library, length, width) {
+    Object.assign(this, { library, length, width, address: library.take(8 * width * length) });
+  }
+  /** All words. Take it anew after memory was taken. */
+  get words() {
+    const { buffer } = this.library.calls.memory;
+    if (this.seen?.buffer !== buffer) this.seen = new BigUint64Array(buffer, this.address, this.width * this.length);
+    return this.seen;
+  }
+  word(place, which = 0) {
+    return this.words[this.width * place + which];
+  }
+  /** The place that a word names, or null. */
+  place(place, which = 0) {
+    if (!(place < this.length)) return null;
+    const { buffer } = this.library.calls.memory, at = 2 * (this.width * place + which);
+    if (this.halves?.buffer !== buffer) this.halves = new Uint32Array(buffer, this.address, 2 * this.width * this.length);
+    return fromHalves(this.halves[at], this.halves[at + 1] & 7);
+  }
+  isLinked(place) {
+    return place < this.length && (this.word(place) & 1n) === 1n;
+  }
+  get parts() {
+    return [this.library.at(this.address), BigInt(this.length)];
+  }
+}
+
+export const wordOf = (place) => BigInt((place ?? NONE) + 1 >>> 0) * 8n;
+export const placeOf = (word) => fromHalves(Number(word & 0xffffffffn), Number(word >> 32n & 7n));
+const fromHalves = (low, high) => orNull((high << 29 | low >>> 3) - 1 >>> 0);
+const orNull = (place) => (place === NONE ? null : place);
+const number = (place) => place ?? NONE;
+
+class Collection {
+  constructor(links, width, linkWidth) {
+    if (links.width !== linkWidth) throw new TypeError(`its table has ${linkWidth} words for each place`);
+    this.links = links;
+    this.library = links.library;
+    this.ends = new Words(this.library, 1, width);
+    [this.table, this.places] = links.parts;
+    this.self = this.library.at(this.ends.address);
+    this.out = this.library.at(this.library.out);
+  }
+  get isEmpty() {
+    return this.ends.word(0) === 0n;
+  }
+  // Calls take no notice of arguments beyond their parameters.
+  edit(call, x, y, z) {
+    this.library.done(call(this.table, this.places, this.self, number(x), number(y), number(z)));
+  }
+  taken(call) {
+    return this.library.member(call(this.table, this.places, this.self, this.out));
+  }
+  beside(call, at) {
+    return this.library.member(call(this.table, this.places, this.self, number(at), this.out));
+  }
+  /** Another collection of this table, whose members move to this one. */
+  given(other) {
+    if (other === this || other.links !== this.links) throw new TypeError("what is given is another list of the same table");
+    return other.self;
+  }
+  split(call, ...more) {
+    const rest = new this.constructor(this.links);
+    this.edit(call, ...more, rest.self);
+    return rest;
+  }
+}
+
+/** A doubly linked list over links2. */
+export class List extends Collection {
+  constructor(links) { super(links, 2, 2); }
+  get first() { return this.ends.place(0, 0); }
+  get last() { return this.ends.place(0, 1); }
+  next(at) { return this.links.place(at, 0); }
+  prev(at) { return this.links.place(at, 1); }
+  *[Symbol.iterator]() {
+    let at = this.first;
+    for (let left = this.links.length; at !== null && left > 0; left--, at = this.next(at)) yield at;
+  }
+  pushFront(place) { this.edit(this.library.calls.ic_list_push_front, place); }
+  pushBack(place) { this.edit(this.library.calls.ic_list_push_back, place); }
+  popFront() { return this.taken(this.library.calls.ic_list_pop_front); }
+  popBack() { return this.taken(this.library.calls.ic_list_pop_back); }
+  insertAfter(at, place) { this.edit(this.library.calls.ic_list_insert_after, at, place); }
+  insertBefore(at, place) { this.edit(this.library.calls.ic_list_insert_before, at, place); }
+  remove(at) { this.edit(this.library.calls.ic_list_remove, at); }
+  replace(at, place) { this.edit(this.library.calls.ic_list_replace, at, place); }
+  spliceAfter(at, given) { this.edit(this.library.calls.ic_list_splice_after, at, this.given(given)); }
+  spliceBefore(at, given) { this.edit(this.library.calls.ic_list_splice_before, at, this.given(given)); }
+  splitAfter(at) { return this.split(this.library.calls.ic_list_split_after, at); }
+  splitBefore(at) { return this.split(this.library.calls.ic_list_split_before, at); }
+}
+
+/** A singly linked list over links1. */
+export class Stack extends Collection {
+  constructor(links) { super(links, 1, 1); }
+  get first() { return this.ends.place(0); }
+  next(at) { return this.links.place(at); }
+  *[Symbol.iterator]() {
+    let at = this.first;
+    for (let left = this.links.length; at !== null && left > 0; left--, at = this.next(at)) yield at;
+  }
+  pushFront(place) { this.edit(this.library.calls.ic_stack_push_front, place); }
+  popFront() { return this.taken(this.library.calls.ic_stack_pop_front); }
+  insertAfter(at, place) { this.edit(this.library.calls.ic_stack_insert_after, at, place); }
+  removeAfter(at) { return this.beside(this.library.calls.ic_stack_remove_after, at); }
+  replaceAfter(at, place) {
+    return this.library.member(this.library.calls.ic_stack_replace_after(this.table, this.places, this.self, number(at), number(place), this.out));
+  }
+  spliceAfter(at, given) { this.edit(this.library.calls.ic_stack_splice_after, at, this.given(given)); }
+  splitAfter(at) { return this.split(this.library.calls.ic_stack_split_after, at); }
+}
+
+/** An XOR list over links1. A gap is named by both members beside it. */
+export class XorList extends Collection {
+  constructor(links) { super(links, 2, 1); }
+  get first() { return this.ends.place(0, 0); }
+  get last() { return this.ends.place(0, 1); }
+  step(from, at) { return at < this.links.length ? placeOf(this.links.word(at) ^ wordOf(from)) : null; }
+  *[Symbol.iterator]() {
+    let from = null, at = this.first;
+    for (let left = this.links.length; at !== null && left > 0; left--) {
+      yield at;
+      [from, at] = [at, this.step(from, at)];
+    }
+  }
+  pushFront(place) { this.edit(this.library.calls.ic_xor_push_front, place); }
+  pushBack(place) { this.edit(this.library.calls.ic_xor_push_back, place); }
+  popFront() { return this.taken(this.library.calls.ic_xor_pop_front); }
+  popBack() { return this.taken(this.library.calls.ic_xor_pop_back); }
+  insertBetween(before, place, behind) { this.edit(this.library.calls.ic_xor_insert_between, before, place, behind); }
+  remove(before, at) { this.edit(this.library.calls.ic_xor_remove, before, at); }
+  replace(before, at, place) { this.edit(this.library.calls.ic_xor_replace, before, at, place); }
+  spliceBetween(before, given, behind) { this.edit(this.library.calls.ic_xor_splice_between, before, this.given(given), behind); }
+  splitBetween(before, behind) { return this.split(this.library.calls.ic_xor_split_between, before, behind); }
+  reverse() { this.library.done(this.library.calls.ic_xor_reverse(this.self)); }
+}
+
+/** A red-black tree over links3, by keys if it is handed any. */
+export class Tree extends Collection {
+  constructor(links, keys = null) {
+    super(links, 1, 3);
+    if (keys && (keys.width !== 1 || keys.library !== links.library)) throw new TypeError("its keys are words of the same module");
+    this.keys = keys;
+    [this.keysAt, this.keyCount] = keys?.parts ?? [this.library.at(0), 0n];
+  }
+  get root() { return this.ends.place(0); }
+  left(at) { return this.links.place(at, 0); }
+  right(at) { return this.links.place(at, 1); }
+  parent(at) { return this.links.place(at, 2); }
+  isBlack(at) { return at < this.links.length && (this.links.word(at, 2) & 1n) === 1n; }
+  search(call, key) {
+    return this.library.member(call(this.table, this.places, this.keysAt, this.keyCount, this.self, BigInt(key), this.out));
+  }
+  insertLeft(at, place) { this.edit(this.library.calls.ic_tree_insert_left, at, place); }
+  insertRight(at, place) { this.edit(this.library.calls.ic_tree_insert_right, at, place); }
+  insert(place) { this.library.done(this.library.calls.ic_tree_insert(this.table, this.places, this.keysAt, this.keyCount, this.self, number(place))); }
+  remove(at) { this.edit(this.library.calls.ic_tree_remove, at); }
+  replace(at, place) { this.edit(this.library.calls.ic_tree_replace, at, place); }
+  find(key) { return this.search(this.library.calls.ic_tree_find, key); }
+  lowerBound(key) { return this.search(this.library.calls.ic_tree_lower_bound, key); }
+  upperBound(key) { return this.search(this.library.calls.ic_tree_upper_bound, key); }
+  next(at) { return this.beside(this.library.calls.ic_tree_next, at); }
+  prev(at) { return this.beside(this.library.calls.ic_tree_prev, at); }
+  *[Symbol.iterator]() {
+    let at = this.next(null);
+    for (let left = this.links.length; at !== null && left > 0; left--, at = this.next(at)) yield at;
+  }
+}

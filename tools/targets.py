@@ -1,0 +1,231 @@
+"""Compiles crates/ic_ffi for each processor and system, over the libraries that this checkout has built.
+
+`rattle build` proves the crate for each target of the kit, and has the clang of its toolchain compile the module that comes of it. In the
+toolchain that it is handed here, that clang first hardens the module, and keeps it and its assembly text. The kit's clang then compiles a
+kept module for each system that the kit has no target for.
+"""
+
+import collections
+import os
+import pathlib
+import re
+import shutil
+import subprocess
+import sys
+
+ROOT = pathlib.Path(__file__).resolve().parent.parent
+CRATE = ROOT / "crates/ic_ffi"
+HEADER = ROOT / "include/ic.h"
+
+# Clang's triple. The module that it is made of, for a system that the kit doesn't know. What each function gets, and what the module gets,
+# which clang calls attributes and module flags. Words for clang. How its assembly text begins a comment.
+Target = collections.namedtuple("Target", "triple module attributes flags words comment")
+BRANCHES = ("cf-protection-branch", "cf-protection-return")
+TARGETS = {
+    "x86_64-linux": Target("x86_64-unknown-linux-gnu", None, "noredzone uwtable", BRANCHES, (), "#"),
+    "aarch64-linux": Target("aarch64-unknown-linux-gnu", None, 'uwtable "branch-target-enforcement"', ("branch-target-enforcement",),
+                            ("-ffixed-x18",), "//"),
+    "wasm64": Target("wasm64-unknown-unknown", None, "", (), (), "#"),
+    "x86_64-macos": Target("x86_64-apple-macos11", "x86_64-linux", "noredzone uwtable", (), (), "##"),
+    "aarch64-macos": Target("arm64-apple-macos11", "aarch64-linux", "uwtable", (), (), ";"),
+    "x86_64-windows": Target("x86_64-pc-windows-gnu", "x86_64-linux", "noredzone", (), (), "#"),
+    # The module of wasm64 reads its stack pointer as 64 bits.
+    "wasm32": Target("wasm32-unknown-unknown", "x86_64-linux", "", (), (), "#"),
+}
+# What tells other tools of the compiler, or what the text has besides in a note.
+LEFT_OUT = re.compile(r"\s*\.(addrsig|ident|file|aeabi_subsection|aeabi_attribute)\b")
+STAND_IN = """#!{python} -B
+import sys
+sys.path.insert(0, {tools!r})
+import targets
+targets.compile_kept({clang!r}, {name!r}, {room!r}, sys.argv[1:])
+"""
+
+
+def run(words, **more):
+    """Runs a command, which has to succeed, and returns what it prints."""
+    how = {"stdout": subprocess.PIPE, "stderr": subprocess.STDOUT, "stdin": subprocess.DEVNULL, **more}
+    return subprocess.run(list(map(str, words)), check=True, text=True, errors="replace", **how).stdout
+
+
+def kit():
+    """The kit's folder, or None if there is no kit."""
+    found = shutil.which("rt")
+    folders = pathlib.Path(run([found, "doc"]).strip()).parents if found else []
+    return next((folder for folder in folders if (folder / "bin/rattle").exists()), None)
+
+
+def clang():
+    return kit() / "toolchain/bin/clang"
+
+
+def calls():
+    """The names that the header declares."""
+    return set(re.findall(r"^uint32_t (ic_\w+)\(", HEADER.read_text(), re.M))
+
+
+def version():
+    """The version that the header names: three numbers."""
+    return re.findall(r"^#define IC_VERSION_(?:MAJOR|MINOR|PATCH) (\d+)$", HEADER.read_text(), re.M)
+
+
+def version_name():
+    """The name that the header refers to, and that each text defines."""
+    return "ic_version_" + "_".join(version()[:2])
+
+
+def crates_below(name, of):
+    """The crates that one stands on, lowest first, by the lines of crates.txt."""
+    found = []
+    for crate in of[name]:
+        found += [it for it in [*crates_below(crate, of), crate] if it not in found]
+    return found
+
+
+def rattle_words(triple, toolchain, archive):
+    """The command that proves the crate over the libraries that are built, and compiles it."""
+    lines = [line.partition("#")[0].partition(":") for line in (ROOT / "crates.txt").read_text().splitlines()]
+    of = {head.split()[0]: rest.split() for head, _, rest in lines if head.strip()}
+    of = {name: [crate for crate in crates if crate in of] for name, crates in of.items()}
+    rlib, folder = {name: ROOT / "crates" / name / "out/rlib" for name in of}, kit()
+    words = [folder / "bin/rattle", "build", "--crate-name", "ic_ffi", "src/lib.rt", "--extern", f"std={folder}/rlibs/std.rlib"]
+    for name in of["ic_ffi"]:
+        words += ["--extern", f"{name}={rlib[name]}/{name}.rlib"]
+    for below in [folder / "rlibs", *(rlib[name] for name in crates_below("ic_ffi", of))]:
+        words += ["-L", f"dependency={below}"]
+    words += ["--antt-project", folder / "rattle/logic/antt-project.json", "--logic-built", folder / "logic_built", "--links", "ic_ffi="]
+    # What one target's proof keeps, the next takes. A second job is of use only to a proof from nothing.
+    kept = "out/incremental"
+    words += ["--incremental", kept, "--jobs", "1" if (CRATE / kept).is_dir() else "2", "--crate-type", "staticlib", "--backend", "llvm"]
+    words += ["--cpu", "x86-64"] if triple.startswith("x86_64") else []
+    return [*words, "--target", triple, "--toolchain", toolchain, "-o", archive]
+
+
+def stand_in(name, room):
+    """A toolchain whose clang hardens what it compiles for the target, and keeps it in the room."""
+    of, folder = kit() / "toolchain", room / f"toolchain-{name}"
+    (folder / "bin").mkdir(parents=True)
+    (folder / "lib").symlink_to(of / "lib")
+    for tool in (of / "bin").iterdir():
+        if tool.name != "clang":
+            (folder / "bin" / tool.name).symlink_to(tool)
+    script = folder / "bin/clang"
+    words = {"python": sys.executable, "tools": str(ROOT / "tools"), "clang": str(of / "bin/clang"), "name": name, "room": str(room)}
+    script.write_text(STAND_IN.format(**words))
+    script.chmod(0o755)
+    return folder
+
+
+def compile_kept(clang, name, room, words):
+    """What the clang of a stand-in does with its words. It writes ROOM/NAME.ll and NAME.s, and in NAME.words how it made the second."""
+    room, target = pathlib.Path(room), TARGETS[name]
+    words += target.words
+    for at, word in enumerate(words):
+        if word.endswith(".bc"):
+            (room / f"{name}.ll").write_text(text_of_module(clang, word, target))
+            words[at] = str(write_hardened(name, name, room))
+    if "-c" in words:
+        text = ["-S" if word == "-c" else str(room / f"{name}.s") if before == "-o" else word for before, word in zip(["", *words], words)]
+        (room / f"{name}.words").write_text("\n".join(text))
+        subprocess.run([clang, *text], check=True)
+    os.execv(clang, ["clang", *words])
+
+
+def text_of_module(clang, module, target):
+    words = [f"--target={target.triple}", "-x", "ir", "-Wno-override-module", "-Xclang", "-disable-llvm-passes", "-Xclang", "-emit-llvm-uselists"]
+    return run([clang, *words, module, "-S", "-emit-llvm", "-o", "-"], stderr=None)
+
+
+def write_hardened(module, name, room):
+    """Writes the module, hardened for the target."""
+    text, target = (room / f"{module}.ll").read_text(), TARGETS[name]
+    if target.attributes:
+        text = re.sub(r"^(attributes #\d+ = \{.*) \}$", rf"\1 {target.attributes} }}", text, flags=re.M)
+    if target.flags:
+        if "!llvm.module.flags" in text:
+            raise ValueError("the kit's module has flags of its own")
+        first = 1 + max(map(int, re.findall(r"^!(\d+) =", text, re.M)), default=0)
+        text += "".join(f'!{first + at} = !{{i32 8, !"{flag}", i32 1}}\n' for at, flag in enumerate(target.flags))
+        text += f"!llvm.module.flags = !{{{', '.join(f'!{first + at}' for at in range(len(target.flags)))}}}\n"
+    if not name.startswith("wasm"):
+        text = re.sub(r"^(target triple = .*)$", rf'\1\n\nmodule asm ".globl {version_name()}"\nmodule asm "{version_name()} = 1"', text, flags=re.M)
+    if name == "wasm32":
+        text = re.sub(r'"target-cpu"="[^"]*"', '"target-cpu"="mvp"', text)
+    hardened = room / f"{name}.hardened.ll"
+    hardened.write_text(text)
+    return hardened
+
+
+def compile_proved(name, room):
+    """Writes ROOM/NAME.a, .ll, .s and .words of a target that the kit has, and returns the verdict."""
+    said = run(rattle_words(TARGETS[name].triple, stand_in(name, room), room / f"{name}.a"), cwd=CRATE)
+    return re.search(r"^logic=proved .*", said, re.M)[0]
+
+
+def compile_other(name, room):
+    """Writes ROOM/NAME.s, or .o of WebAssembly, of a kept module for a system that the kit doesn't know."""
+    target = TARGETS[name]
+    words = (room / f"{target.module}.words").read_text().splitlines()
+    same = [it for pair in zip(words, words[1:]) if pair[0] == "-mllvm" for it in pair]
+    words = [clang(), f"--target={target.triple}", *target.words, *same, "-O3", "--no-default-config", "-Wno-override-module", "-x", "ir"]
+    words += [write_hardened(target.module, name, room)]
+    run([*words, *(["-c", "-o", room / f"{name}.o"] if name == "wasm32" else ["-S", "-o", room / f"{name}.s"])])
+
+
+def compile_all(room, names=TARGETS):
+    """Compiles for the targets, and returns what each was made of: the verdict, or the module."""
+    made = {}
+    for name in names:
+        module = TARGETS[name].module
+        if module:
+            compile_other(name, room)
+        made[name] = f"the module of {module}, for {TARGETS[name].triple}" if module else compile_proved(name, room)
+        print(f"{name}: {made[name]}", flush=True)
+    return made
+
+
+def link_wasm(name, room, module):
+    if name == "wasm64":
+        run([kit() / "bin/rattle-link", "--target", TARGETS[name].triple, "--toolchain", kit() / "toolchain", "-o", module, room / f"{name}.a"])
+        return
+    words = ["wasm-ld", "--no-entry", "--stack-first", "--export=__heap_base", "--strip-all", "-z", "stack-size=65536", "--gc-sections"]
+    run([*words, *(f"--export={it}" for it in sorted(calls())), "-o", module, room / f"{name}.o"], executable=clang())
+
+
+def plain(name):
+    """A name of the module as one that needs no quotes."""
+    return re.sub(r"[^\w.$]+", ".", name).rstrip(".")
+
+
+def portable(name, text):
+    """The assembly text without comments and what other assemblers don't know, and with names that need no quotes."""
+    quoted = {it: plain(it) for it in re.findall(r'"([^"\n]*::[^"\n]*)"', text)}
+    if len(set(quoted.values())) < len(quoted):
+        raise ValueError("two names of the text are the same without what needs quotes")
+    text = re.sub(r'"([^"\n]*::[^"\n]*)"', lambda it: quoted[it[1]], text)
+    text = re.sub(r"^\s*\.def\s+@feat\.00;\n(?:.*\n)*?\s*\.endef\n|^.*@feat\.00.*\n", "", text, flags=re.M)
+    lines = (re.sub(rf"\s*{re.escape(TARGETS[name].comment)}+\s.*$", "", line).rstrip() for line in text.splitlines())
+    return "".join(f"{line}\n" for line in lines if line and not LEFT_OUT.match(line))
+
+
+def exported(name, text):
+    """The names that the text exports, as C writes them."""
+    names = {it.strip('"') for it in re.findall(r"^\s*\.globl\s+(\S+)", text, re.M)} - {version_name()}
+    return {re.sub("^_", "", it) for it in names} if "macos" in name else names
+
+
+def has_other_code(name, text, room):
+    """Whether the kit's clang assembles the text to other instructions than those of the kit's archive, but for how padding is written."""
+    ours, theirs = room / f"{name}.of-text.o", room / f"{name}.of-archive.o"
+    run([clang(), f"--target={TARGETS[name].triple}", "-c", text, "-o", ours])
+    member = run(["llvm-ar", "t", room / f"{name}.a"], executable=clang()).split()[0]
+    theirs.write_bytes(subprocess.run(["llvm-ar", "p", room / f"{name}.a", member], executable=clang(), check=True, stdout=subprocess.PIPE).stdout)
+    return instructions(ours) != instructions(theirs)
+
+
+def instructions(file):
+    """What each section of an object file has: instructions, their bytes, and relocations."""
+    text = run(["llvm-objdump", "-dr", "--no-leading-addr", file], executable=clang())
+    text = re.sub(r"[\w.$]+(?:::(?:<#\w+>|[\w.$]+))+", lambda it: plain(it[0]), text)
+    text = re.sub(r"^ +[0-9a-f]{2}(?: [0-9a-f]{2})*\s+(?:nop\w?\b|xchgw\s+%ax, %ax).*\n", "", text, flags=re.M)
+    return dict(re.findall(r"^Disassembly of section ([^\n]+):\n(.*?)(?=^Disassembly|\Z)", text, re.M | re.S))
