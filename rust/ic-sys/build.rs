@@ -1,22 +1,19 @@
-//! Finds the static library: in the folder that IC_LIB_DIR names, or where pkg-config says.
+//! Picks the assembly text for the target. That Cargo.toml says `links` has cargo refuse two versions of the text in one program.
 
 use std::env;
-use std::process::Command;
-
-fn from_pkg_config() -> Option<String> {
-    let program = env::var("PKG_CONFIG").unwrap_or_else(|_| "pkg-config".to_string());
-    let output = Command::new(program).args(["--variable=libdir", "ic_ffi"]).output().ok()?;
-    let folder = String::from_utf8(output.stdout).ok()?.trim().to_string();
-    (output.status.success() && !folder.is_empty()).then_some(folder)
-}
+use std::path::Path;
 
 fn main() {
-    for name in ["IC_LIB_DIR", "PKG_CONFIG", "PKG_CONFIG_PATH"] {
-        println!("cargo:rerun-if-env-changed={name}");
-    }
-    let folder = env::var("IC_LIB_DIR").ok().or_else(from_pkg_config);
-    let folder = folder.expect("set IC_LIB_DIR to the folder of libic_ffi.a, or PKG_CONFIG_PATH to that of ic_ffi.pc");
-    println!("cargo:rerun-if-changed={folder}/libic_ffi.a");
-    println!("cargo:rustc-link-search=native={folder}");
-    println!("cargo:rustc-link-lib=static=ic_ffi");
+    let of = |name: &str| env::var(name).unwrap_or_default();
+    let system = match of("CARGO_CFG_TARGET_OS").as_str() {
+        "windows" => "windows",
+        "macos" => "macos",
+        // The others have ELF, or no text.
+        _ => "linux",
+    };
+    let (processor, width) = (of("CARGO_CFG_TARGET_ARCH"), of("CARGO_CFG_TARGET_POINTER_WIDTH"));
+    let text = Path::new(&of("CARGO_MANIFEST_DIR")).join(format!("asm/ic-{processor}-{system}.s"));
+    assert!(width == "64" && text.is_file(), "there is no {} for {}", text.display(), of("TARGET"));
+    println!("cargo:rerun-if-changed=build.rs");
+    println!("cargo:rustc-env=IC_TEXT={}", text.display());
 }

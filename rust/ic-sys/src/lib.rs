@@ -1,4 +1,5 @@
-//! The static library `libic_ffi.a` as `include/ic.h` declares it. The header says what each call does; the crate `ic` has safe types.
+//! The library for C as `include/ic.h` declares it, with its machine code, which is assembly text in `asm`. The header says what each call
+//! does; the crate `ic` has safe types.
 //!
 //! A call requires that `table` points to `places` links, `keys` to `key_count` keys, and each other pointer to one value of its type, that
 //! no two of these overlap, and that nothing else uses them during the call, but that others may read what is `*const`. It requires nothing
@@ -6,6 +7,11 @@
 
 #![no_std]
 #![allow(non_camel_case_types)]
+
+#[cfg(target_arch = "x86_64")]
+core::arch::global_asm!(include_str!(env!("IC_TEXT")), options(att_syntax, raw));
+#[cfg(not(target_arch = "x86_64"))]
+core::arch::global_asm!(include_str!(env!("IC_TEXT")), options(raw));
 
 /// Names no place.
 pub const IC_NONE: u32 = u32::MAX;

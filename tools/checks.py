@@ -1,0 +1,57 @@
+"""What the tests of the library share: a tally of them, commands, C compilers, and the examples."""
+
+import os
+import pathlib
+import shutil
+import subprocess
+
+ROOT = pathlib.Path(__file__).resolve().parent.parent
+TESTS = ROOT / "tests/library"
+WARNINGS = ["-Wall", "-Wextra", "-Wpedantic", "-Wshadow", "-Wconversion", "-Werror"]
+
+
+class Tally:
+    def __init__(self):
+        self.passed = self.failed = 0
+
+    def count(self, name, passed, failed, seconds=None):
+        self.passed += passed
+        self.failed += failed
+        print(f"{name}: {passed} passed, {failed} failed" + (f", {seconds:.1f} seconds" if seconds is not None else ""), flush=True)
+
+    def check(self, name, wrong):
+        """Counts one test, which failed if anything is wrong."""
+        self.passed += not wrong
+        self.failed += bool(wrong)
+        if wrong:
+            print(f"{name}: {wrong}", flush=True)
+
+
+def run(words, **more):
+    """What the program prints, and what is wrong with how it ended."""
+    try:
+        done = subprocess.run(words, stdin=subprocess.DEVNULL, stdout=subprocess.PIPE, stderr=subprocess.STDOUT, text=True, errors="replace", **more)
+    except subprocess.TimeoutExpired:
+        return "", f"did not end within {more['timeout']} seconds"
+    return done.stdout, f"ended with {done.returncode}\n{done.stdout[-2000:]}" if done.returncode else ""
+
+
+def compilers():
+    """A command for each compiler that is there: the one that CC names, or gcc and clang."""
+    named = [os.environ["CC"]] if "CC" in os.environ else ["gcc", "clang"]
+    return [name for name in named if shutil.which(name)] or [name for name in ["cc"] if shutil.which(name)]
+
+
+def build(compiler, source, target, code, include=ROOT / "include"):
+    """What is wrong with building the program with the library's code. The compiler is a list of words."""
+    return run([*compiler, "-std=c11", "-O2", *WARNINGS, f"-I{include}", source, code, "-o", target])[1]
+
+
+def runs(program, source, runner=()):
+    """What is wrong with what an example prints."""
+    printed, wrong = run([*runner, program], timeout=60)
+    return wrong or (printed.replace("\r\n", "\n") != source.with_suffix(".stdout").read_text() and f"printed\n{printed}")
+
+
+def examples():
+    return sorted((ROOT / "examples").glob("*.c"))
