@@ -1,0 +1,134 @@
+// Random calls of ic.mjs beside plain arrays, by each of the modules.
+//     node --experimental-wasm-memory64 tests/library/plain_arrays.mjs CALLS MODULE ..
+import assert from "node:assert";
+import { List, Refused, Stack, Tree, XorList, open } from "../../dist/wasm/ic.mjs";
+
+const [calls, ...modules] = process.argv.slice(2), PLACES = 20, REFUSED = "refused";
+let state = 7;
+const random = (below) => ((state = (Math.imul(state, 1664525) + 1013904223) >>> 0) >>> 8) % below;
+const orNull = (it) => it ?? null;
+
+// What an edit of the plain array returns. It is refused if a named member is in no list, or the place is in one or in no table.
+const accepts = (plain, named, place) => named.every((at) => at === null || plain.includes(at)) && !plain.includes(place) && place < PLACES;
+const insert = (plain, named, index, place) => (accepts(plain, named, place) ? (plain.splice(index, 0, place), null) : REFUSED);
+const replace = (plain, index, place) => (index >= 0 && accepts(plain, [], place) ? ((plain[index] = place), null) : REFUSED);
+const remove = (plain, index) => (index < 0 ? REFUSED : (plain.splice(index, 1), null));
+
+const counts = {};
+function compare(name, call, wanted) {
+  let said = REFUSED;
+  try {
+    said = orNull(call());
+  } catch (error) {
+    assert(error instanceof Refused, error);
+  }
+  assert.equal(said, wanted, name);
+  (counts[name] ??= [0, 0])[Number(said === REFUSED)]++;
+}
+
+/** Makes `turns` calls, each one of the rows that `rows` gives: the method's name, its arguments, and what the plain array returns. */
+function play(collection, plain, turns, rows) {
+  for (let turn = 0; turn < turns; turn++) {
+    const all = rows(turn), [name, words, wanted] = all[random(all.length)];
+    compare(`${collection.constructor.name}.${name}`, () => collection[name](...words), wanted());
+    assert.deepEqual([...collection], plain);
+  }
+}
+
+/** Hands a call's split back, whose members have to be those of the plain array from an index on, and puts them in front of the others. */
+function putInFront(plain, index, rest, splice) {
+  const moved = plain.splice(index);
+  assert.deepEqual([...rest], moved);
+  splice();
+  assert(rest.isEmpty);
+  plain.unshift(...moved);
+}
+
+function doubly(ic, turns) {
+  const list = new List(ic.links2(PLACES)), plain = [];
+  play(list, plain, turns, (turn) => {
+    const place = random(PLACES + 2), at = random(9) === 0 ? null : random(PLACES + 1);
+    if (plain.includes(at) && turn % 50 === 0) {
+      const rest = list.splitAfter(at);
+      putInFront(plain, plain.indexOf(at) + 1, rest, () => list.spliceAfter(null, rest));
+    }
+    const index = plain.indexOf(at);
+    assert.deepEqual([list.first, list.last], [orNull(plain[0]), orNull(plain.at(-1))]);
+    return [
+      ["pushBack", [place], () => insert(plain, [], plain.length, place)],
+      ["pushFront", [place], () => insert(plain, [], 0, place)],
+      ["popFront", [], () => orNull(plain.shift())],
+      ["popBack", [], () => orNull(plain.pop())],
+      ["insertAfter", [at, place], () => insert(plain, [at], index + 1, place)],
+      ["insertBefore", [at, place], () => insert(plain, [at], at === null ? plain.length : index, place)],
+      ["replace", [at, place], () => replace(plain, index, place)],
+      ["remove", [at], () => remove(plain, index)],
+    ];
+  });
+}
+
+function singly(ic, turns) {
+  const list = new Stack(ic.links1(PLACES)), plain = [];
+  play(list, plain, turns, (turn) => {
+    const place = random(PLACES + 2), at = random(9) === 0 ? null : random(PLACES + 1);
+    if (plain.includes(at) && turn % 50 === 0) {
+      const rest = list.splitAfter(at);
+      putInFront(plain, plain.indexOf(at) + 1, rest, () => list.spliceAfter(null, rest));
+    }
+    const index = plain.indexOf(at);
+    return [
+      ["pushFront", [place], () => insert(plain, [], 0, place)],
+      ["popFront", [], () => orNull(plain.shift())],
+      ["insertAfter", [at, place], () => insert(plain, [at], index + 1, place)],
+      ["removeAfter", [at], () => (at !== null && index < 0 ? REFUSED : orNull(plain.splice(index + 1, 1)[0]))],
+    ];
+  });
+}
+
+function xor(ic, turns) {
+  const list = new XorList(ic.links1(PLACES)), plain = [];
+  play(list, plain, turns, (turn) => {
+    const place = random(PLACES + 1), index = random(plain.length + 1), gap = [orNull(plain[index - 1]), orNull(plain[index])];
+    if (turn % 50 === 0) {
+      const rest = list.splitBetween(...gap);
+      putInFront(plain, index, rest, () => list.spliceBetween(null, rest, orNull(plain[0])));
+      return [["reverse", [], () => (plain.reverse(), null)]];
+    }
+    return [
+      ["pushFront", [place], () => insert(plain, [], 0, place)],
+      ["popBack", [], () => orNull(plain.pop())],
+      ["insertBetween", [gap[0], place, gap[1]], () => insert(plain, [], index, place)],
+      ["remove", gap, () => (gap[1] === null ? REFUSED : remove(plain, index))],
+    ];
+  });
+}
+
+function tree(ic, turns) {
+  const keys = ic.keys(PLACES), made = new Tree(ic.links3(PLACES), keys), plain = [];
+  const key = (place) => Number(keys.word(place));
+  play(made, plain, turns, () => {
+    const place = random(PLACES), sought = random(12);
+    if (!plain.includes(place)) keys.words[place] = BigInt(random(12));
+    const behind = plain.findIndex((it) => key(it) > key(place));
+    assert.equal(made.prev(null), orNull(plain.at(-1)));
+    return [
+      ["insert", [place], () => insert(plain, [], behind < 0 ? plain.length : behind, place)],
+      ["remove", [place], () => remove(plain, plain.indexOf(place))],
+      ["find", [sought], () => orNull(plain.find((it) => key(it) === sought))],
+      ["lowerBound", [sought], () => orNull(plain.find((it) => key(it) >= sought))],
+      ["upperBound", [sought], () => orNull(plain.findLast((it) => key(it) <= sought))],
+    ];
+  });
+}
+
+for (const module of modules) {
+  const ic = await open(new URL(`../../dist/wasm/${module}`, import.meta.url));
+  for (const part of [doubly, singly, xor, tree]) part(ic, Number(calls) / 4 / modules.length);
+  const list = new List(ic.links2(PLACES));
+  assert.throws(() => list.spliceAfter(null, list), TypeError);
+  assert.throws(() => list.spliceAfter(null, new List(ic.links2(PLACES))), TypeError);
+}
+const untested = Object.entries(counts).filter(([, [done]]) => !done);
+assert.deepEqual(untested, []);
+const all = Object.values(counts);
+console.log(`${all.flat().reduce((a, b) => a + b)} calls of ${all.length} methods, ${all.reduce((sum, [, it]) => sum + it, 0)} of them refused`);

@@ -1,0 +1,68 @@
+// Makes the same random calls by ic.wasm and by ic32.wasm, also on words that no call wrote, and compares statuses and memory after each.
+//     node --experimental-wasm-memory64 tests/library/same_memory.mjs CALLS
+import fs from "node:fs";
+import { open } from "../../dist/wasm/ic.mjs";
+
+const calls = Number(process.argv[2]), PLACES = 12, NONE = 0xffffffff;
+const file = (name) => fs.readFileSync(new URL(`../../${name}`, import.meta.url));
+const both = await Promise.all(["ic.wasm", "ic32.wasm"].map((name) => open(file(`dist/wasm/${name}`))));
+const declared = [...file("include/ic.h").toString().matchAll(/^uint32_t (ic_\w+)\(([^)]*)\);/gm)].map(([, name, parameters]) => ({
+  name,
+  parameters: parameters.split(",").map((it) => it.trim()),
+  statuses: [0, 0, 0, 0, 0, 0],
+}));
+
+let state = 1n;
+function random(below) {
+  state = BigInt.asUintN(64, state * 6364136223846793005n + 1442695040888963407n);
+  return Number((state >> 33n) % BigInt(below));
+}
+const place = () => (random(40) === 0 ? NONE : random(PLACES + 2));
+const word = () => BigInt(random(3) === 0 ? random(16) : 8 * random(PLACES + 2) + random(2)) | (random(60) === 0 ? 1n << 60n : 0n);
+
+// An area of each memory has the table, the keys, two lists or a tree, and an out parameter. Keys are words 48 to 79.
+const AREA = 1024, KEYS = [48, 80];
+const OFFSETS = { table: 0, keys: 8 * KEYS[0], list: 640, tree: 640, given: 656, rest: 656, popped: 672, removed: 672, out: 672, found: 672 };
+const bases = both.map((library) => library.take(AREA));
+const areas = both.map((library, at) => new BigUint64Array(library.calls.memory.buffer, bases[at], AREA / 8));
+function write(at, value) {
+  for (const area of areas) area[at] = value;
+}
+
+/** What a parameter gets in either memory, by its type and name. */
+function argument(parameter, length) {
+  const [name] = parameter.match(/\w+$/);
+  if (parameter.includes("*")) return { offset: OFFSETS[name] };
+  if (parameter.startsWith("size_t")) return { value: BigInt(length) };
+  return { value: parameter.startsWith("uint64_t") ? BigInt(random(20)) : place() };
+}
+
+/** Zeroed memory with random keys at first, and later words that no call wrote. */
+function prepare(turn) {
+  if (turn === 0) {
+    areas.forEach((area) => area.fill(0n));
+    for (let at = KEYS[0]; at < KEYS[1]; at++) write(at, BigInt(random(20)));
+  } else if (turn > 200 && random(6) === 0) {
+    for (let at = 0; at < AREA / 8; at++) if (random(8) === 0) write(at, word());
+  }
+}
+
+const KINDS = ["ic_list", "ic_stack", "ic_xor", "ic_tree"].map((kind) => declared.filter(({ name }) => name.startsWith(kind)));
+for (let turn = 0; turn < calls; turn++) {
+  prepare(turn % 400);
+  // A table is of one kind, so the calls of a round are of one kind.
+  const kind = KINDS[Math.floor(turn / 400) % KINDS.length], call = kind[random(kind.length)];
+  const length = random(10) === 0 ? random(PLACES) : PLACES, words = call.parameters.map((it) => argument(it, length));
+  const said = both.map((library, at) =>
+    library.calls[call.name](...words.map((it) => ("offset" in it ? library.at(bases[at] + it.offset) : it.value))),
+  );
+  const last = `call ${turn}, ${call.name}(${words.map((it) => it.offset ?? it.value)})`;
+  if (said[0] !== said[1] || said[0] > 5) throw new Error(`${last} returned ${said}`);
+  if (areas[0].some((it, at) => it !== areas[1][at])) throw new Error(`${last} left another memory`);
+  call.statuses[said[0]]++;
+}
+const refused = ({ statuses }) => statuses.slice(1).some(Boolean);
+const untested = declared.filter((call) => !call.statuses[0] || (!refused(call) && call.name !== "ic_xor_reverse"));
+if (untested.length) throw new Error(`never succeeded, or never refused: ${untested.map(({ name }) => name)}`);
+const succeeded = declared.reduce((sum, { statuses }) => sum + statuses[0], 0);
+console.log(`${calls} calls of ${declared.length} functions with the same statuses and memory, ${succeeded} of them succeeded`);

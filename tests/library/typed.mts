@@ -1,0 +1,28 @@
+// What ic.d.mts lets a program write, and what it refuses. It is checked, and not run:
+//     tsc --noEmit --strict --target es2022 --module nodenext --moduleResolution nodenext --lib es2022,dom tests/library/typed.mts
+import { List, Refused, Stack, Tree, XorList, open, type Gap } from "../../dist/wasm/ic.mjs";
+
+const ic = await open(new URL("ic.wasm", import.meta.url));
+const list = new List(ic.links2(100));
+list.pushBack(7);
+const first: Gap = list.popFront();
+const rest: List = list.splitAfter(first);
+list.spliceBefore(null, rest);
+const stack = new Stack(ic.links1(100));
+const others = new XorList(ic.links1(100));
+const keys = ic.keys(4);
+const tree = new Tree(ic.links3(4), keys);
+keys.words[3] = 50n;
+tree.insert(3);
+for (const place of tree) console.log(place + 1, tree.find(50n), tree.lowerBound(20));
+try {
+  others.insertBetween(null, 3, null);
+} catch (error) {
+  if (error instanceof Refused) console.log(error.status);
+}
+// @ts-expect-error: a list of another kind
+list.spliceAfter(null, stack);
+// @ts-expect-error: there may be no member
+const place: number = list.popBack();
+// @ts-expect-error: a place is no text
+list.pushFront("7");
