@@ -30,10 +30,11 @@ int main(void) {
     for (int page = 0; page < PAGES; page++)
         slot_of[page] = IC_NONE;
     for (uint32_t slot = 0; slot < SLOTS; slot++)
-        ic_list_push_back(links, SLOTS, &vacant, slot);
+        if (ic_list_push_back(links, SLOTS, &vacant, slot) != IC_OK)
+            return 1;
     for (size_t i = 0; i < sizeof uses / sizeof *uses; i++)
         printf("page %d: %s\n", uses[i], said[use(uses[i]) + 1]);
-    for (uint32_t slot = ic_list_first(&order); slot != IC_NONE; slot = ic_list_next(links, slot))
+    IC_LIST_FOREACH(slot, links, SLOTS, &order)
         printf("slot %u has page %d\n", (unsigned)slot, page_of[slot]);
     return 0;
 }

@@ -12,7 +12,7 @@ static uint64_t deadlines[TIMERS];
 static uint32_t start(uint32_t timer, uint64_t deadline) {
     if (timer >= TIMERS)
         return IC_OUT_OF_RANGE;
-    if (!ic_tree_is_linked(links, timer))
+    if (!ic_tree_is_linked(links, TIMERS, timer))
         deadlines[timer] = deadline; /* the key of a member must not change */
     return ic_tree_insert(links, TIMERS, deadlines, TIMERS, &queue, timer);
 }
@@ -40,8 +40,7 @@ int main(void) {
     for (uint64_t now = 10; now <= 50; now += 20)
         for (uint32_t timer = pop_due(now); timer != IC_NONE; timer = pop_due(now))
             printf("at %u timer %u rings\n", (unsigned)now, (unsigned)timer);
-    uint32_t at, status = ic_tree_first(links, TIMERS, &queue, &at);
-    for (; status == IC_OK; status = ic_tree_next(links, TIMERS, &queue, at, &at))
-        printf("timer %u runs until %u\n", (unsigned)at, (unsigned)deadlines[at]);
+    IC_TREE_FOREACH(timer, links, TIMERS, &queue)
+        printf("timer %u runs until %u\n", (unsigned)timer, (unsigned)deadlines[timer]);
     return 0;
 }

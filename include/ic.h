@@ -4,12 +4,14 @@
  * to place through one table. A place is in at most one list or tree of a table. An object that has to be in several at once has a link
  * in several tables. The library allocates nothing, keeps nothing between calls, and calls nothing.
  *
- *     struct ic_link2 links[100] = {0};          // a hundred unlinked places
- *     struct ic_list list = {0};                 // a list with no members
- *     uint32_t oldest;
- *     ic_list_push_back(links, 100, &list, 7);   // IC_OK
- *     ic_list_push_back(links, 100, &list, 7);   // IC_LINKED: nothing is changed
- *     ic_list_pop_front(links, 100, &list, &oldest);
+ *     struct ic_link2 links[100] = {0};                   // a hundred unlinked places
+ *     struct ic_list list = {0};                          // a list with no members
+ *     uint32_t status, oldest;
+ *     status = ic_list_push_back(links, 100, &list, 7);   // IC_OK
+ *     status = ic_list_push_back(links, 100, &list, 7);   // IC_LINKED: nothing is changed
+ *     IC_LIST_FOREACH(place, links, 100, &list)           // reads the members from the first to the last
+ *         printf("%u\n", (unsigned)place);
+ *     status = ic_list_pop_front(links, 100, &list, &oldest);
  *
  * Every bit pattern is a value, and zeroed memory is a table of unlinked places, an empty list and an empty tree. A copy of a table with
  * its lists and trees is as good as the original.
@@ -54,6 +56,17 @@ __asm__(".globl ic_version_0_1");
 extern "C" {
 #endif
 
+/* Marks a call that may be refused: the compiler warns if its status is overlooked. -DIC_NODISCARD= switches the warning off. */
+#ifndef IC_NODISCARD
+#if (defined(__cplusplus) && __cplusplus >= 201703L) || (defined(__STDC_VERSION__) && __STDC_VERSION__ >= 202311L)
+#define IC_NODISCARD [[nodiscard]]
+#elif defined(__GNUC__)
+#define IC_NODISCARD __attribute__((warn_unused_result))
+#else
+#define IC_NODISCARD
+#endif
+#endif
+
 /* Names no place. As a cursor of a list it is the position between the last member and the first. */
 #define IC_NONE UINT32_MAX
 
@@ -66,6 +79,19 @@ enum ic_status {
     IC_NULL = 4,         /* there is no member where the call needs one */
     IC_BROKEN = 5        /* table, list or tree, and member do not belong together */
 };
+
+/* The name of a status, as "IC_OK", and "unknown" of any other number. */
+static inline const char *ic_status_name(uint32_t status) {
+    switch (status) {
+    case IC_OK: return "IC_OK";
+    case IC_OUT_OF_RANGE: return "IC_OUT_OF_RANGE";
+    case IC_LINKED: return "IC_LINKED";
+    case IC_NOT_LINKED: return "IC_NOT_LINKED";
+    case IC_NULL: return "IC_NULL";
+    case IC_BROKEN: return "IC_BROKEN";
+    default: return "unknown";
+    }
+}
 
 /* A link of a singly linked list or an XOR list. */
 struct ic_link1 {
@@ -110,23 +136,69 @@ static inline uint64_t ic_word(uint32_t place) {
     return (uint64_t)(uint32_t)(place + 1u) * 8;
 }
 
-/* The place that a word names, or IC_NONE. */
-static inline uint32_t ic_place(uint64_t word) {
-    return (uint32_t)(word / 8) - 1u;
+/* The number that a word keeps, which is 0 for no place. Bits 0 to 2 and those from 36 on count for nothing. */
+static inline uint64_t ic_number(uint64_t word) {
+    return word / 8 % (UINT64_C(1) << 33);
 }
+
+/* The place that a word names, or IC_NONE. A number of 2^32 or more is IC_NONE too, for no place has it. */
+static inline uint32_t ic_place(uint64_t word) {
+    uint64_t number = ic_number(word);
+    return number <= UINT32_MAX ? (uint32_t)number - 1u : IC_NONE;
+}
+
+/* ---- Reads and loops --------------------------------------------------------------------------------------------------------------
+ *
+ * The inline functions that read a link take the table's length, as the calls do. They return IC_NONE if the place is out of range or
+ * unlinked, and if the word there names no place of the table. So none of them reads outside the table, whatever the words say. Those that
+ * read a list or a tree alone, as ic_list_first, know no length. If its words are broken, they may return a place that is out of range.
+ *
+ * A loop is made by a macro and runs its body once for each member. It declares `place` and the other variables that are named in front
+ * of `table`. You can leave it with `break`, go on with `continue`, and put one loop into another.
+ *
+ *     IC_LIST_FOREACH(place, links, 100, &list)
+ *         if (place % 2 == 0)
+ *             printf("%u\n", (unsigned)place);
+ *
+ * Whatever the words say, a loop runs its body at most `places` times, each time for a linked place of the table. It ends at a word that
+ * leads to no such place. It evaluates `table`, `places` and `list` in each round.
+ *
+ * A plain loop ends early if its body takes the member off. The body of a ..._SAFE loop may do so, and may then link the place in another
+ * list or tree. It has to leave the members beside it where they are.
+ */
+
+/* How many places of a table can be named. */
+static inline uint32_t ic_bound(size_t places) {
+    return places < IC_NONE ? (uint32_t)places : IC_NONE;
+}
+
+/* The place of the table that a word names, or IC_NONE. */
+static inline uint32_t ic_place_within(size_t places, uint64_t word) {
+    uint32_t place = ic_place(word);
+    return place < ic_bound(places) ? place : IC_NONE;
+}
+
+/* The loops below are made of these two: while `place` is a member, and to the member that `next` finds from it. */
+#define IC_LOOP(place, first, places, is_member, next)                                                       \
+    for (uint32_t place = (first), ic_rounds_##place = ic_bound(places); (is_member) && ic_rounds_##place--; \
+         place = (next))
+#define IC_LOOP_SAFE(place, follower, first, places, is_member, next)                       \
+    for (uint32_t place = (first), follower = (next), ic_rounds_##place = ic_bound(places); \
+         (is_member) && ic_rounds_##place--; place = follower, follower = (next))
 
 /* ---- Doubly linked lists: 16 bytes a place, all calls O(1) ------------------------------------------------------------------------
  *
  * Good for queues, and for caches, from whose middle objects leave.
  */
 
-/* Whether a place below the table's length is in a list of the table. */
-static inline int ic_list_is_linked(const struct ic_link2 *table, uint32_t place) {
-    return (int)(table[place].next & 1);
+/* Whether a place is in a list of the table. */
+static inline int ic_list_is_linked(const struct ic_link2 *table, size_t places, uint32_t place) {
+    return place < ic_bound(places) && (table[place].next & 1);
 }
 
+/* Whether there is no member: then ic_list_pop_front returns IC_NULL. */
 static inline int ic_list_is_empty(const struct ic_list *list) {
-    return list->head == 0;
+    return ic_number(list->head) == 0;
 }
 
 /* The first member, or IC_NONE. */
@@ -140,59 +212,87 @@ static inline uint32_t ic_list_last(const struct ic_list *list) {
 }
 
 /* The member behind a member, or IC_NONE. */
-static inline uint32_t ic_list_next(const struct ic_link2 *table, uint32_t at) {
-    return ic_place(table[at].next);
+static inline uint32_t ic_list_next(const struct ic_link2 *table, size_t places, uint32_t at) {
+    return ic_list_is_linked(table, places, at) ? ic_place_within(places, table[at].next) : IC_NONE;
 }
 
 /* The member in front of a member, or IC_NONE. */
-static inline uint32_t ic_list_prev(const struct ic_link2 *table, uint32_t at) {
-    return ic_place(table[at].prev);
+static inline uint32_t ic_list_prev(const struct ic_link2 *table, size_t places, uint32_t at) {
+    return ic_list_is_linked(table, places, at) ? ic_place_within(places, table[at].prev) : IC_NONE;
 }
+
+/* Loops from the first member to the last, and back. `next` is the member behind `place`, and `prev` is the one in front of it.
+ * They are IC_NONE beyond an end.
+ *
+ *     IC_LIST_FOREACH_SAFE(place, next, links, 100, &list)
+ *         if (is_done(place))
+ *             status = ic_list_remove(links, 100, &list, place);
+ */
+#define IC_LIST_FOREACH(place, table, places, list) \
+    IC_LOOP(place, ic_list_first(list), places, ic_list_is_linked(table, places, place), ic_list_next(table, places, place))
+#define IC_LIST_FOREACH_REVERSE(place, table, places, list) \
+    IC_LOOP(place, ic_list_last(list), places, ic_list_is_linked(table, places, place), ic_list_prev(table, places, place))
+#define IC_LIST_FOREACH_SAFE(place, next, table, places, list) \
+    IC_LOOP_SAFE(place, next, ic_list_first(list), places, ic_list_is_linked(table, places, place), ic_list_next(table, places, place))
+#define IC_LIST_FOREACH_REVERSE_SAFE(place, prev, table, places, list) \
+    IC_LOOP_SAFE(place, prev, ic_list_last(list), places, ic_list_is_linked(table, places, place), ic_list_prev(table, places, place))
 
 /* Links a place at the front.
  * IC_OUT_OF_RANGE or IC_LINKED: of `place`. IC_BROKEN: the first member is none of this table. */
+IC_NODISCARD
 uint32_t ic_list_push_front(struct ic_link2 *table, size_t places, struct ic_list *list, uint32_t place);
 
 /* Links a place at the back.
  * IC_OUT_OF_RANGE or IC_LINKED: of `place`. IC_BROKEN: the last member is none of this table. */
+IC_NODISCARD
 uint32_t ic_list_push_back(struct ic_link2 *table, size_t places, struct ic_list *list, uint32_t place);
 
 /* Takes the first member off, and sets *popped to it.
  * IC_NULL: the list is empty. Any other: its first member is none of this table. */
+IC_NODISCARD
 uint32_t ic_list_pop_front(struct ic_link2 *table, size_t places, struct ic_list *list, uint32_t *popped);
 
 /* Takes the last member off, and sets *popped to it.
  * IC_NULL: the list is empty. Any other: its last member is none of this table. */
+IC_NODISCARD
 uint32_t ic_list_pop_back(struct ic_link2 *table, size_t places, struct ic_list *list, uint32_t *popped);
 
 /* Links a place behind the member `at`, or at the front where `at` is IC_NONE.
  * IC_OUT_OF_RANGE: `at` or `place` is. IC_LINKED: `place` is. IC_NOT_LINKED: `at` is not. IC_BROKEN: `at` is no member. */
+IC_NODISCARD
 uint32_t ic_list_insert_after(struct ic_link2 *table, size_t places, struct ic_list *list, uint32_t at, uint32_t place);
 
 /* Links a place in front of the member `at`, or at the back where `at` is IC_NONE. Refusals as of ic_list_insert_after. */
+IC_NODISCARD
 uint32_t ic_list_insert_before(struct ic_link2 *table, size_t places, struct ic_list *list, uint32_t at, uint32_t place);
 
 /* Takes the member `at` off.
  * IC_NULL: `at` is IC_NONE. IC_OUT_OF_RANGE or IC_NOT_LINKED: of `at`. IC_BROKEN: `at` is no member. */
+IC_NODISCARD
 uint32_t ic_list_remove(struct ic_link2 *table, size_t places, struct ic_list *list, uint32_t at);
 
 /* Links a place where the member `at` is, which is taken off.
  * IC_NULL: `at` is IC_NONE. IC_OUT_OF_RANGE: `at` or `place` is. IC_LINKED: `place` is, as where it is `at`. IC_NOT_LINKED: `at` is not.
  * IC_BROKEN: `at` is no member. */
+IC_NODISCARD
 uint32_t ic_list_replace(struct ic_link2 *table, size_t places, struct ic_list *list, uint32_t at, uint32_t place);
 
 /* Moves all members of `given` behind the member `at`, or to the front where `at` is IC_NONE, in their order. `given` is empty then.
  * IC_OUT_OF_RANGE or IC_NOT_LINKED: of `at`. IC_BROKEN: `at` is no member, or `given` is no list of this table. */
+IC_NODISCARD
 uint32_t ic_list_splice_after(struct ic_link2 *table, size_t places, struct ic_list *list, uint32_t at, struct ic_list *given);
 
 /* Moves all members of `given` in front of the member `at`, or to the back where `at` is IC_NONE. Refusals as of ic_list_splice_after. */
+IC_NODISCARD
 uint32_t ic_list_splice_before(struct ic_link2 *table, size_t places, struct ic_list *list, uint32_t at, struct ic_list *given);
 
 /* Moves the members behind `at` to `rest`, or all of them where `at` is IC_NONE. What `rest` was is lost, so hand in an empty list.
  * IC_OUT_OF_RANGE or IC_NOT_LINKED: of `at`. IC_BROKEN: `at` is no member. */
+IC_NODISCARD
 uint32_t ic_list_split_after(struct ic_link2 *table, size_t places, struct ic_list *list, uint32_t at, struct ic_list *rest);
 
 /* Moves the members in front of `at` to `rest`, or all of them where `at` is IC_NONE. As ic_list_split_after in all else. */
+IC_NODISCARD
 uint32_t ic_list_split_before(struct ic_link2 *table, size_t places, struct ic_list *list, uint32_t at, struct ic_list *rest);
 
 /* ---- Singly linked lists: 8 bytes a place, all calls O(1) but ic_stack_splice_after -----------------------------------------------
@@ -201,13 +301,14 @@ uint32_t ic_list_split_before(struct ic_link2 *table, size_t places, struct ic_l
  * kept beside it, a list is a queue: insert behind it, and pop at the front.
  */
 
-/* Whether a place below the table's length is in a list of the table. */
-static inline int ic_stack_is_linked(const struct ic_link1 *table, uint32_t place) {
-    return (int)(table[place].next & 1);
+/* Whether a place is in a list of the table. */
+static inline int ic_stack_is_linked(const struct ic_link1 *table, size_t places, uint32_t place) {
+    return place < ic_bound(places) && (table[place].next & 1);
 }
 
+/* Whether there is no member: then ic_stack_pop_front returns IC_NULL. */
 static inline int ic_stack_is_empty(const struct ic_stack *list) {
-    return list->head == 0;
+    return ic_number(list->head) == 0;
 }
 
 /* The first member, or IC_NONE. */
@@ -216,38 +317,69 @@ static inline uint32_t ic_stack_first(const struct ic_stack *list) {
 }
 
 /* The member behind a member, or IC_NONE. */
-static inline uint32_t ic_stack_next(const struct ic_link1 *table, uint32_t at) {
-    return ic_place(table[at].next);
+static inline uint32_t ic_stack_next(const struct ic_link1 *table, size_t places, uint32_t at) {
+    return ic_stack_is_linked(table, places, at) ? ic_place_within(places, table[at].next) : IC_NONE;
 }
+
+/* The member to go on to from `place`, which was behind *before, or first where that is IC_NONE. If `place` is still there, it is
+ * *before from now on. If it has been taken off, the member that is there now is next. */
+static inline uint32_t ic_stack_go_on(const struct ic_link1 *table, size_t places, const struct ic_stack *list, uint32_t *before,
+                                      uint32_t place) {
+    uint32_t behind = *before == IC_NONE ? ic_stack_first(list) : ic_stack_next(table, places, *before);
+    if (behind != place)
+        return behind;
+    *before = place;
+    return ic_stack_next(table, places, place);
+}
+
+/* Loops from the first member to the last. `before` is the member in front of `place`, or IC_NONE. The calls that edit take it:
+ *
+ *     IC_STACK_FOREACH_SAFE(before, place, links, 100, &list)
+ *         if (is_done(place))
+ *             status = ic_stack_remove_after(links, 100, &list, before, &removed);
+ */
+#define IC_STACK_FOREACH(place, table, places, list) \
+    IC_LOOP(place, ic_stack_first(list), places, ic_stack_is_linked(table, places, place), ic_stack_next(table, places, place))
+#define IC_STACK_FOREACH_SAFE(before, place, table, places, list)                                       \
+    for (uint32_t before = IC_NONE, place = ic_stack_first(list), ic_rounds_##place = ic_bound(places); \
+         ic_stack_is_linked(table, places, place) && ic_rounds_##place--;                               \
+         place = ic_stack_go_on(table, places, list, &before, place))
 
 /* Links a place at the front.
  * IC_OUT_OF_RANGE or IC_LINKED: of `place`. IC_BROKEN: the first member is none of this table. */
+IC_NODISCARD
 uint32_t ic_stack_push_front(struct ic_link1 *table, size_t places, struct ic_stack *list, uint32_t place);
 
 /* Takes the first member off, and sets *popped to it.
  * IC_NULL: the list is empty. Any other: its first member is none of this table. */
+IC_NODISCARD
 uint32_t ic_stack_pop_front(struct ic_link1 *table, size_t places, struct ic_stack *list, uint32_t *popped);
 
 /* Links a place behind the member `at`, or at the front.
  * IC_OUT_OF_RANGE: `at` or `place` is. IC_LINKED: `place` is. IC_NOT_LINKED: `at` is not. IC_BROKEN: the member behind is none of this
  * table. */
+IC_NODISCARD
 uint32_t ic_stack_insert_after(struct ic_link1 *table, size_t places, struct ic_stack *list, uint32_t at, uint32_t place);
 
 /* Takes the member behind `at` off, or the first, and sets *removed to it.
  * IC_NULL: there is none. IC_OUT_OF_RANGE or IC_NOT_LINKED: of `at`. IC_BROKEN: the member behind is none of this table. */
+IC_NODISCARD
 uint32_t ic_stack_remove_after(struct ic_link1 *table, size_t places, struct ic_stack *list, uint32_t at, uint32_t *removed);
 
 /* Links a place where the member behind `at` is, or the first, takes that off, and sets *out to it.
  * IC_NULL: there is none. IC_OUT_OF_RANGE: `at` or `place` is. IC_LINKED: `place` is. IC_NOT_LINKED: `at` is not. IC_BROKEN: the member
  * behind is none of this table. */
+IC_NODISCARD
 uint32_t ic_stack_replace_after(struct ic_link1 *table, size_t places, struct ic_stack *list, uint32_t at, uint32_t place, uint32_t *out);
 
 /* Moves all members of `given` behind the member `at`, or to the front, in their order. `given` is empty then. O(members of `given`).
  * IC_OUT_OF_RANGE or IC_NOT_LINKED: of `at`. IC_BROKEN: `given` is no list of this table, or has no end within `places` steps. */
+IC_NODISCARD
 uint32_t ic_stack_splice_after(struct ic_link1 *table, size_t places, struct ic_stack *list, uint32_t at, struct ic_stack *given);
 
 /* Moves the members behind `at` to `rest`, or all of them where `at` is IC_NONE. What `rest` was is lost, so hand in an empty list.
  * IC_OUT_OF_RANGE or IC_NOT_LINKED: of `at`. IC_BROKEN: the member behind is none of this table. */
+IC_NODISCARD
 uint32_t ic_stack_split_after(struct ic_link1 *table, size_t places, struct ic_stack *list, uint32_t at, struct ic_stack *rest);
 
 /* ---- XOR lists: 8 bytes a place, all calls O(1) -----------------------------------------------------------------------------------
@@ -257,13 +389,14 @@ uint32_t ic_stack_split_after(struct ic_link1 *table, size_t places, struct ic_s
  * behind it, or IC_NONE at the back. Both are IC_NONE in an empty list.
  */
 
-/* Whether a place below the table's length is in a list of the table. */
-static inline int ic_xor_is_linked(const struct ic_link1 *table, uint32_t place) {
-    return (int)(table[place].next & 1);
+/* Whether a place is in a list of the table. */
+static inline int ic_xor_is_linked(const struct ic_link1 *table, size_t places, uint32_t place) {
+    return place < ic_bound(places) && (table[place].next & 1);
 }
 
+/* Whether there is no member: then ic_xor_pop_front returns IC_NULL. */
 static inline int ic_xor_is_empty(const struct ic_xor_list *list) {
-    return list->head == 0;
+    return ic_number(list->head) == 0;
 }
 
 /* The first member, or IC_NONE. */
@@ -277,49 +410,95 @@ static inline uint32_t ic_xor_last(const struct ic_xor_list *list) {
 }
 
 /* The neighbor of the member `at` on the other side than its neighbor `from`, or IC_NONE. `from` is IC_NONE at an end of the list.
- * From the first member with IC_NONE it leads to the back, and from the last to the front. */
-static inline uint32_t ic_xor_step(const struct ic_link1 *table, uint32_t from, uint32_t at) {
-    return ic_place(table[at].next ^ ic_word(from));
+ * From the first member with IC_NONE it leads to the back, and from the last to the front. If `from` is no neighbor, the step leads to
+ * some place of the table or to IC_NONE. */
+static inline uint32_t ic_xor_step(const struct ic_link1 *table, size_t places, uint32_t from, uint32_t at) {
+    return ic_xor_is_linked(table, places, at) ? ic_place_within(places, table[at].next ^ ic_word(from)) : IC_NONE;
 }
+
+/* The member to go on to from `place`, which was reached from *from. *from is `place` then. */
+static inline uint32_t ic_xor_go_on(const struct ic_link1 *table, size_t places, uint32_t *from, uint32_t place) {
+    uint32_t next = ic_xor_step(table, places, *from, place);
+    *from = place;
+    return next;
+}
+
+/* Loops from the first member to the last, and back. In both directions `before` is the member in front of `place`, and `behind` is the
+ * one behind it. They are IC_NONE beyond an end.
+ *
+ *     IC_XOR_FOREACH_SAFE(before, place, behind, links, 100, &list)
+ *         if (is_done(place))
+ *             status = ic_xor_remove(links, 100, &list, before, place);
+ *
+ * The body has to leave both members that come next where they are.
+ */
+#define IC_XOR_FOREACH(place, table, places, list) IC_XOR_LOOP(place, ic_xor_first(list), table, places)
+#define IC_XOR_FOREACH_REVERSE(place, table, places, list) IC_XOR_LOOP(place, ic_xor_last(list), table, places)
+#define IC_XOR_FOREACH_SAFE(before, place, behind, table, places, list) \
+    IC_XOR_LOOP_SAFE(before, place, behind, ic_xor_first(list), table, places)
+#define IC_XOR_FOREACH_REVERSE_SAFE(before, place, behind, table, places, list) \
+    IC_XOR_LOOP_SAFE(behind, place, before, ic_xor_last(list), table, places)
+
+/* The loops of both directions. The second reads what is beyond `next` before its body runs. From there it finds the member that is in
+ * front of `next` after the body: `place`, or `from` if `place` has been taken off. */
+#define IC_XOR_LOOP(place, first, table, places)                                                    \
+    for (uint32_t place = (first), ic_from_##place = IC_NONE, ic_rounds_##place = ic_bound(places); \
+         ic_xor_is_linked(table, places, place) && ic_rounds_##place--;                             \
+         place = ic_xor_go_on(table, places, &ic_from_##place, place))
+#define IC_XOR_LOOP_SAFE(from, place, next, first, table, places)                                                    \
+    for (uint32_t from = IC_NONE, place = (first), next = ic_xor_step(table, places, from, place),                   \
+                  ic_beyond_##place = ic_xor_step(table, places, place, next), ic_rounds_##place = ic_bound(places); \
+         ic_xor_is_linked(table, places, place) && ic_rounds_##place--;                                              \
+         from = ic_xor_step(table, places, ic_beyond_##place, next), place = next, next = ic_beyond_##place,         \
+                  ic_beyond_##place = ic_xor_step(table, places, place, next))
 
 /* Links a place at the front.
  * IC_OUT_OF_RANGE or IC_LINKED: of `place`. IC_BROKEN: the first member is none of this table. */
+IC_NODISCARD
 uint32_t ic_xor_push_front(struct ic_link1 *table, size_t places, struct ic_xor_list *list, uint32_t place);
 
 /* Links a place at the back.
  * IC_OUT_OF_RANGE or IC_LINKED: of `place`. IC_BROKEN: the last member is none of this table. */
+IC_NODISCARD
 uint32_t ic_xor_push_back(struct ic_link1 *table, size_t places, struct ic_xor_list *list, uint32_t place);
 
 /* Takes the first member off, and sets *popped to it.
  * IC_NULL: the list is empty. Any other: its first member is none of this table. */
+IC_NODISCARD
 uint32_t ic_xor_pop_front(struct ic_link1 *table, size_t places, struct ic_xor_list *list, uint32_t *popped);
 
 /* Takes the last member off, and sets *popped to it.
  * IC_NULL: the list is empty. Any other: its last member is none of this table. */
+IC_NODISCARD
 uint32_t ic_xor_pop_back(struct ic_link1 *table, size_t places, struct ic_xor_list *list, uint32_t *popped);
 
 /* Links a place in the gap between `before` and `behind`.
  * IC_OUT_OF_RANGE: one of the three is. IC_LINKED: `place` is. IC_NOT_LINKED: a neighbor is not. IC_BROKEN: there is no such gap. */
+IC_NODISCARD
 uint32_t ic_xor_insert_between(struct ic_link1 *table, size_t places, struct ic_xor_list *list, uint32_t before, uint32_t place,
                                uint32_t behind);
 
 /* Takes the member `at` off, whose neighbor in front is `before`.
  * IC_NULL: `at` is IC_NONE. IC_OUT_OF_RANGE or IC_NOT_LINKED: of `before` or `at`. IC_BROKEN: they are no such members. */
+IC_NODISCARD
 uint32_t ic_xor_remove(struct ic_link1 *table, size_t places, struct ic_xor_list *list, uint32_t before, uint32_t at);
 
 /* Links a place where the member `at` is, whose neighbor in front is `before`, and takes `at` off.
  * IC_NULL: `at` is IC_NONE. IC_OUT_OF_RANGE: one of the three is. IC_LINKED: `place` is. IC_NOT_LINKED: `before` or `at` is not.
  * IC_BROKEN: they are no such members. */
+IC_NODISCARD
 uint32_t ic_xor_replace(struct ic_link1 *table, size_t places, struct ic_xor_list *list, uint32_t before, uint32_t at, uint32_t place);
 
 /* Moves all members of `given` into the gap between `before` and `behind`, in their order. `given` is empty then.
  * IC_OUT_OF_RANGE or IC_NOT_LINKED: of a neighbor. IC_BROKEN: there is no such gap, or `given` is no list of this table. */
+IC_NODISCARD
 uint32_t ic_xor_splice_between(struct ic_link1 *table, size_t places, struct ic_xor_list *list, uint32_t before, struct ic_xor_list *given,
                                uint32_t behind);
 
 /* Moves the members from `behind` on to `rest`, and `before` is the last member then. All move where `before` is IC_NONE, and none where
  * `behind` is. What `rest` was is lost, so hand in an empty list.
  * IC_OUT_OF_RANGE or IC_NOT_LINKED: of a neighbor. IC_BROKEN: there is no such gap. */
+IC_NODISCARD
 uint32_t ic_xor_split_between(struct ic_link1 *table, size_t places, struct ic_xor_list *list, uint32_t before, uint32_t behind,
                               struct ic_xor_list *rest);
 
@@ -341,20 +520,21 @@ uint32_t ic_xor_reverse(struct ic_xor_list *list);
  *         while (at != IC_NONE) {
  *             left = strcmp(names[place], names[at]) < 0;
  *             under = at;
- *             at = left ? ic_tree_left(links, at) : ic_tree_right(links, at);
+ *             at = left ? ic_tree_left(links, 100, at) : ic_tree_right(links, 100, at);
  *         }
  *         status = (left ? ic_tree_insert_left : ic_tree_insert_right)(links, 100, &tree, under, place);
  *
  * Removal, and the steps to the next member and back, need no comparison.
  */
 
-/* Whether a place below the table's length is in a tree of the table. */
-static inline int ic_tree_is_linked(const struct ic_link3 *table, uint32_t place) {
-    return (int)(table[place].left & 1);
+/* Whether a place is in a tree of the table. */
+static inline int ic_tree_is_linked(const struct ic_link3 *table, size_t places, uint32_t place) {
+    return place < ic_bound(places) && (table[place].left & 1);
 }
 
+/* Whether there is no member: then ic_tree_first returns IC_NULL. */
 static inline int ic_tree_is_empty(const struct ic_tree *tree) {
-    return tree->root == 0;
+    return ic_number(tree->root) == 0;
 }
 
 /* The root, or IC_NONE. */
@@ -363,36 +543,40 @@ static inline uint32_t ic_tree_root(const struct ic_tree *tree) {
 }
 
 /* The left child of a member, or IC_NONE. The members under it are in front of the member. */
-static inline uint32_t ic_tree_left(const struct ic_link3 *table, uint32_t at) {
-    return ic_place(table[at].left);
+static inline uint32_t ic_tree_left(const struct ic_link3 *table, size_t places, uint32_t at) {
+    return ic_tree_is_linked(table, places, at) ? ic_place_within(places, table[at].left) : IC_NONE;
 }
 
 /* The right child of a member, or IC_NONE. The members under it are behind the member. */
-static inline uint32_t ic_tree_right(const struct ic_link3 *table, uint32_t at) {
-    return ic_place(table[at].right);
+static inline uint32_t ic_tree_right(const struct ic_link3 *table, size_t places, uint32_t at) {
+    return ic_tree_is_linked(table, places, at) ? ic_place_within(places, table[at].right) : IC_NONE;
 }
 
 /* The parent of a member, or IC_NONE. */
-static inline uint32_t ic_tree_parent(const struct ic_link3 *table, uint32_t at) {
-    return ic_place(table[at].parent);
+static inline uint32_t ic_tree_parent(const struct ic_link3 *table, size_t places, uint32_t at) {
+    return ic_tree_is_linked(table, places, at) ? ic_place_within(places, table[at].parent) : IC_NONE;
 }
 
 /* Links a place as the left child of the member `at`, which has none, and balances the tree: the place is just in front of `at`. Where
  * `at` is IC_NONE, the tree has to be empty, and the place is its root.
  * IC_OUT_OF_RANGE: `at` or `place` is. IC_LINKED: `place` is. IC_NOT_LINKED: `at` is not. IC_BROKEN: `at` has a left child, or is IC_NONE
  * and the tree has members, or the root is none of this table. */
+IC_NODISCARD
 uint32_t ic_tree_insert_left(struct ic_link3 *table, size_t places, struct ic_tree *tree, uint32_t at, uint32_t place);
 
 /* Links a place as the right child of the member `at`, which has none: the place is just behind `at`. As ic_tree_insert_left otherwise. */
+IC_NODISCARD
 uint32_t ic_tree_insert_right(struct ic_link3 *table, size_t places, struct ic_tree *tree, uint32_t at, uint32_t place);
 
 /* Takes the member `at` off.
  * IC_NULL: `at` is IC_NONE. IC_OUT_OF_RANGE or IC_NOT_LINKED: of `at`. IC_BROKEN: the root is none of this table. */
+IC_NODISCARD
 uint32_t ic_tree_remove(struct ic_link3 *table, size_t places, struct ic_tree *tree, uint32_t at);
 
 /* Links a place where the member `at` is, which is taken off. Nothing is compared, so hand in a place that belongs there. O(1).
  * IC_NULL: `at` is IC_NONE. IC_OUT_OF_RANGE: `at` or `place` is. IC_LINKED: `place` is, as where it is `at`. IC_NOT_LINKED: `at` is not.
  * IC_BROKEN: the root is none of this table. */
+IC_NODISCARD
 uint32_t ic_tree_replace(struct ic_link3 *table, size_t places, struct ic_tree *tree, uint32_t at, uint32_t place);
 
 /* ---- Trees by keys ----
@@ -403,15 +587,18 @@ uint32_t ic_tree_replace(struct ic_link3 *table, size_t places, struct ic_tree *
 
 /* Links a place by its key: behind all members whose keys are not greater than keys[place].
  * IC_OUT_OF_RANGE: `place` is, or there are fewer keys than places. IC_LINKED: `place` is. IC_BROKEN: the root is none of this table. */
+IC_NODISCARD
 uint32_t ic_tree_insert(struct ic_link3 *table, size_t places, const uint64_t *keys, size_t key_count, struct ic_tree *tree,
                         uint32_t place);
 
 /* Sets *found to the first member whose key is `key`.
  * IC_NULL: there is none. IC_OUT_OF_RANGE: there are fewer keys than places. IC_BROKEN: the root is none of this table. */
+IC_NODISCARD
 uint32_t ic_tree_find(const struct ic_link3 *table, size_t places, const uint64_t *keys, size_t key_count, const struct ic_tree *tree,
                       uint64_t key, uint32_t *found);
 
 /* Sets *found to the first member whose key is not less than `key`. Refusals as of ic_tree_find. */
+IC_NODISCARD
 uint32_t ic_tree_lower_bound(const struct ic_link3 *table, size_t places, const uint64_t *keys, size_t key_count,
                              const struct ic_tree *tree, uint64_t key, uint32_t *found);
 
@@ -419,6 +606,7 @@ uint32_t ic_tree_lower_bound(const struct ic_link3 *table, size_t places, const 
  * That is not the upper_bound of C++, which is the first member whose key is greater: the one behind this, or the first member where this
  * returns IC_NULL. Both bounds are named as in the Rust crate intrusive-collections: where members have keys from `low` to `high`, the
  * lower bound of `low` is the first of these, and the upper bound of `high` is the last. */
+IC_NODISCARD
 uint32_t ic_tree_upper_bound(const struct ic_link3 *table, size_t places, const uint64_t *keys, size_t key_count,
                              const struct ic_tree *tree, uint64_t key, uint32_t *found);
 
@@ -429,20 +617,48 @@ uint32_t ic_tree_upper_bound(const struct ic_link3 *table, size_t places, const 
 
 /* Sets *found to the member behind the member `at`, from IC_NONE to the first one.
  * IC_NULL: `at` is the last one, or the tree is empty. IC_OUT_OF_RANGE or IC_NOT_LINKED: of `at`. IC_BROKEN: the root is none of this table. */
+IC_NODISCARD
 uint32_t ic_tree_next(const struct ic_link3 *table, size_t places, const struct ic_tree *tree, uint32_t at, uint32_t *found);
 
 /* Sets *found to the member in front of the member `at`, from IC_NONE to the last one. As ic_tree_next otherwise. */
+IC_NODISCARD
 uint32_t ic_tree_prev(const struct ic_link3 *table, size_t places, const struct ic_tree *tree, uint32_t at, uint32_t *found);
 
 /* Sets *found to the first member. IC_NULL: the tree is empty. */
+IC_NODISCARD
 static inline uint32_t ic_tree_first(const struct ic_link3 *table, size_t places, const struct ic_tree *tree, uint32_t *found) {
     return ic_tree_next(table, places, tree, IC_NONE, found);
 }
 
 /* Sets *found to the last member. IC_NULL: the tree is empty. */
+IC_NODISCARD
 static inline uint32_t ic_tree_last(const struct ic_link3 *table, size_t places, const struct ic_tree *tree, uint32_t *found) {
     return ic_tree_prev(table, places, tree, IC_NONE, found);
 }
+
+/* The member behind the member `at`, from IC_NONE the first one, or IC_NONE if there is none. */
+static inline uint32_t ic_tree_behind(const struct ic_link3 *table, size_t places, const struct ic_tree *tree, uint32_t at) {
+    uint32_t found;
+    return ic_tree_next(table, places, tree, at, &found) == IC_OK ? found : IC_NONE;
+}
+
+/* The member in front of the member `at`, from IC_NONE the last one, or IC_NONE if there is none. */
+static inline uint32_t ic_tree_before(const struct ic_link3 *table, size_t places, const struct ic_tree *tree, uint32_t at) {
+    uint32_t found;
+    return ic_tree_prev(table, places, tree, at, &found) == IC_OK ? found : IC_NONE;
+}
+
+/* Loops from the first member to the last, and back. `next` and `prev` are as in the loops of a list. */
+#define IC_TREE_FOREACH(place, table, places, tree) \
+    IC_LOOP(place, ic_tree_behind(table, places, tree, IC_NONE), places, place != IC_NONE, ic_tree_behind(table, places, tree, place))
+#define IC_TREE_FOREACH_REVERSE(place, table, places, tree) \
+    IC_LOOP(place, ic_tree_before(table, places, tree, IC_NONE), places, place != IC_NONE, ic_tree_before(table, places, tree, place))
+#define IC_TREE_FOREACH_SAFE(place, next, table, places, tree)                                                               \
+    IC_LOOP_SAFE(place, next, ic_tree_behind(table, places, tree, IC_NONE), places, ic_tree_is_linked(table, places, place), \
+                 ic_tree_behind(table, places, tree, place))
+#define IC_TREE_FOREACH_REVERSE_SAFE(place, prev, table, places, tree)                                                       \
+    IC_LOOP_SAFE(place, prev, ic_tree_before(table, places, tree, IC_NONE), places, ic_tree_is_linked(table, places, place), \
+                 ic_tree_before(table, places, tree, place))
 
 #ifdef __cplusplus
 }

@@ -49,6 +49,12 @@ static uint64_t now(void) {
     return (uint64_t)time.tv_sec * 1000000000u + (uint64_t)time.tv_nsec;
 }
 
+/* Stops the program if a call that prepares a workload is refused. */
+static void must(uint32_t status) {
+    if (status != IC_OK)
+        exit(1);
+}
+
 #define TIMED static __attribute__((noinline)) uint64_t
 
 /* ---- The doubly linked list ---- */
@@ -83,17 +89,17 @@ TIMED timed_splice(struct ic_link2 *links, uint32_t members, struct ic_list *lis
     return failed;
 }
 
-TIMED timed_step(const struct ic_link2 *links, const struct ic_list *list, const uint64_t *values, uint64_t operations) {
+TIMED timed_step(const struct ic_link2 *links, uint32_t members, const struct ic_list *list, const uint64_t *values, uint64_t operations) {
     uint32_t at = ic_list_first(list);
     while (operations--)
-        at = at != IC_NONE ? ic_list_next(links, at) : ic_list_first(list);
+        at = at != IC_NONE ? ic_list_next(links, members, at) : ic_list_first(list);
     return at != IC_NONE ? values[at] : 0;
 }
 
-TIMED timed_iter(const struct ic_link2 *links, const struct ic_list *list, const uint64_t *values, uint64_t rounds) {
+TIMED timed_iter(const struct ic_link2 *links, uint32_t members, const struct ic_list *list, const uint64_t *values, uint64_t rounds) {
     uint64_t sum = 0;
     while (rounds--)
-        for (uint32_t at = ic_list_first(list); at != IC_NONE; at = ic_list_next(links, at))
+        IC_LIST_FOREACH(at, links, members, list)
             sum += values[at];
     return sum;
 }
@@ -103,16 +109,16 @@ static uint64_t doubly(const char *workload, const struct room *room, uint64_t *
     struct ic_link2 *links = room_for(members, sizeof *links);
     struct ic_list list = {0, 0};
     for (uint32_t index = 0; index < members; index++)
-        ic_list_push_back(links, members, &list, room->order[index]);
+        must(ic_list_push_back(links, members, &list, room->order[index]));
     uint64_t start = now();
     uint64_t checksum = !strcmp(workload, "pair")     ? timed_pair(links, members, &list, room->operations)
                         : !strcmp(workload, "touch")  ? timed_touch(links, members, &list, room->order, room->operations)
                         : !strcmp(workload, "splice") ? timed_splice(links, members, &list, room->order, room->operations)
-                        : !strcmp(workload, "step")   ? timed_step(links, &list, room->values, room->operations)
-                                                      : timed_iter(links, &list, room->values, room->operations / members);
+                        : !strcmp(workload, "step")   ? timed_step(links, members, &list, room->values, room->operations)
+                                                      : timed_iter(links, members, &list, room->values, room->operations / members);
     *time = now() - start;
     uint64_t hash = 0;
-    for (uint32_t at = ic_list_first(&list); at != IC_NONE; at = ic_list_next(links, at))
+    IC_LIST_FOREACH(at, links, members, &list)
         hash = hash * 31 + room->values[at];
     return hash + checksum;
 }
@@ -136,12 +142,12 @@ static uint64_t singly(const struct room *room, uint64_t *time) {
     struct ic_link1 *links = room_for(members, sizeof *links);
     struct ic_stack list = {0};
     for (uint32_t index = 0; index < members; index++)
-        ic_stack_push_front(links, members, &list, room->order[index]);
+        must(ic_stack_push_front(links, members, &list, room->order[index]));
     uint64_t start = now();
     uint64_t checksum = timed_singly(links, members, &list, room->order, room->operations / members);
     *time = now() - start;
     uint64_t hash = 0;
-    for (uint32_t at = ic_stack_first(&list); at != IC_NONE; at = ic_stack_next(links, at))
+    IC_STACK_FOREACH(at, links, members, &list)
         hash = hash * 31 + room->values[at];
     return hash + checksum;
 }
@@ -163,17 +169,13 @@ static uint64_t xor_list(const struct room *room, uint64_t *time) {
     struct ic_link1 *links = room_for(members, sizeof *links);
     struct ic_xor_list list = {0, 0};
     for (uint32_t index = 0; index < members; index++)
-        ic_xor_push_back(links, members, &list, room->order[index]);
+        must(ic_xor_push_back(links, members, &list, room->order[index]));
     uint64_t start = now();
     uint64_t checksum = timed_xor(links, members, &list, room->operations);
     *time = now() - start;
     uint64_t hash = 0;
-    for (uint32_t from = IC_NONE, at = ic_xor_first(&list); at != IC_NONE;) {
-        uint32_t next = ic_xor_step(links, from, at);
+    IC_XOR_FOREACH(at, links, members, &list)
         hash = hash * 31 + room->values[at];
-        from = at;
-        at = next;
-    }
     return hash + checksum;
 }
 
@@ -279,11 +281,9 @@ TIMED timed_tree_step(const struct keyed *it, uint64_t operations) {
 
 TIMED timed_tree_iter(const struct keyed *it, uint64_t rounds) {
     uint64_t sum = 0;
-    while (rounds--) {
-        uint32_t at, status = first(it, &at);
-        for (; status == IC_OK; status = next(it, at, &at))
+    while (rounds--)
+        IC_TREE_FOREACH(at, it->links, it->members, &it->tree)
             sum += it->keys[at];
-    }
     return sum;
 }
 
@@ -296,7 +296,7 @@ static void reset(struct keyed *it) {
 static void fill(struct keyed *it, const uint32_t *order) {
     reset(it);
     for (uint32_t index = 0; index < it->members; index++)
-        insert(it, order[index]);
+        must(insert(it, order[index]));
 }
 
 static uint64_t tree(const char *workload, const struct room *room, uint64_t *time) {
@@ -330,8 +330,7 @@ static uint64_t tree(const char *workload, const struct room *room, uint64_t *ti
         *time = now() - start;
     }
     uint64_t hash = 0;
-    uint32_t at, status = first(&it, &at);
-    for (; status == IC_OK; status = next(&it, at, &at))
+    IC_TREE_FOREACH(at, it.links, members, &it.tree)
         hash = hash * 31 + it.keys[at];
     return hash + checksum;
 }

@@ -29,9 +29,9 @@ static int check_under(const struct sequence *plain, uint32_t *next, uint32_t at
     if (at == IC_NONE)
         return 0;
     expect(at < PLACES && owner[at] != NOBODY && height <= TALLEST, "left a child that is no member, or a tree that is too high");
-    uint32_t left = ic_tree_left(table, at), right = ic_tree_right(table, at);
+    uint32_t left = ic_tree_left(table, PLACES, at), right = ic_tree_right(table, PLACES, at);
     int is_black = (int)(table[at].parent & 1);
-    expect(ic_tree_parent(table, at) == parent, "left another parent");
+    expect(ic_tree_parent(table, PLACES, at) == parent, "left another parent");
     expect(table[at].left == ic_word(left) + 1 && table[at].right == ic_word(right), "left other words of children");
     expect(table[at].parent == ic_word(parent) + (uint64_t)is_black, "left another word of the parent");
     expect(is_black || parent_is_black, "left a red member under a red one, or a red root");
@@ -55,7 +55,7 @@ static void check(int tree) {
 /* The words of all but one tree, and of all places but its members and those that were unlinked or linked, are as they were. */
 static void check_others(int tree, uint32_t in, uint32_t out) {
     for (uint32_t at = 0; at < PLACES; at++) {
-        expect(ic_tree_is_linked(table, at) == (owner[at] != NOBODY), "has marks that read wrong");
+        expect(ic_tree_is_linked(table, PLACES, at) == (owner[at] != NOBODY), "has marks that read wrong");
         if (owner[at] != tree && at != in && at != out)
             expect(!memcmp(&table[at], &table_was[at], sizeof *table), "has changed another link");
     }
@@ -136,7 +136,7 @@ static void step_insert_at(int t, uint32_t i) {
     uint32_t place = to_link(), at = is_left ? member(plain, i) : before(plain, i), named = or_none(at);
     give_key(place, before(plain, i), member(plain, i));
     fault(named == at && at == IC_NONE && plain->count, IC_BROKEN);
-    fault(named == at && at != IC_NONE && (is_left ? ic_tree_left(table, at) : ic_tree_right(table, at)) != IC_NONE, IC_BROKEN);
+    fault(named == at && at != IC_NONE && (is_left ? ic_tree_left : ic_tree_right)(table, PLACES, at) != IC_NONE, IC_BROKEN);
     if (made((is_left ? ic_tree_insert_left : ic_tree_insert_right)(table, PLACES, &trees[t], named, place)))
         link_at(t, i, place);
 }
