@@ -1,0 +1,609 @@
+// Views of the lists and trees of ic.h for C++17: iterators, std::optional, and a status that can't be overlooked.
+//
+//     std::vector<ic_link2> links(100);                 // a hundred unlinked places
+//     ic_list head{};                                   // a list with no members
+//     ic::list_view list{links, head};
+//     ic::status done = list.push_back(7);              // ic::status::ok
+//     for (std::uint32_t place : list)                  // reads the members from the first to the last
+//         std::printf("%u\n", place);
+//     std::optional<std::uint32_t> oldest = list.pop_front();
+//
+// A view has pointers to a table and to a list or tree. Both are yours and have to live as long as the view and its iterators. You can copy
+// a view as you copy a pointer. The comments of ic.h say what each edit does and why it is refused, at the call with the same name. Take
+// ic::const_list_view, ic::const_stack_view, ic::const_xor_view or ic::const_tree_view to read a table and a list or tree that are const.
+//
+// Nothing here allocates or throws, and it compiles with -fno-exceptions and -fno-rtti. As in C, no words of a table make a view read or
+// write outside it. A loop from begin() to end(), or from rbegin() to rend(), has at most as many rounds as the table has places.
+#ifndef IC_HPP
+#define IC_HPP
+
+#include "ic.h"
+
+#include <cstddef>
+#include <cstdint>
+#include <iterator>
+#include <optional>
+#include <type_traits>
+#include <utility>
+
+namespace ic {
+
+/// Names no place.
+inline constexpr std::uint32_t none = IC_NONE;
+
+/// What an edit returns. Anything but `ok` is a refusal, which has changed nothing.
+enum class [[nodiscard]] status : std::uint32_t {
+    ok = IC_OK,
+    out_of_range = IC_OUT_OF_RANGE,
+    linked = IC_LINKED,
+    not_linked = IC_NOT_LINKED,
+    null = IC_NULL,
+    broken = IC_BROKEN
+};
+
+/// The name of a status in C, as "IC_OK".
+[[nodiscard]] inline const char *name(status it) noexcept {
+    return ic_status_name(static_cast<std::uint32_t>(it));
+}
+
+/// A pointer and a length, made of these, or of a vector, an array, or whatever else has both.
+template <class Element>
+class array_view {
+    template <class Container>
+    using element = std::remove_pointer_t<decltype(std::data(std::declval<Container &>()))>;
+
+public:
+    constexpr array_view(Element *data, std::size_t size) noexcept : data_(data), size_(size) {}
+
+    template <class Container, class = std::enable_if_t<std::is_convertible_v<element<Container> (*)[], Element (*)[]>>>
+    constexpr array_view(Container &container) noexcept : data_(std::data(container)), size_(std::size(container)) {}
+
+    [[nodiscard]] constexpr Element *data() const noexcept { return data_; }
+    [[nodiscard]] constexpr std::size_t size() const noexcept { return size_; }
+
+private:
+    Element *data_;
+    std::size_t size_;
+};
+
+namespace detail {
+
+/// A member, and the one from which a walk came to it. At an end either is `none`.
+struct position {
+    std::uint32_t from = none, at = none;
+};
+
+/// A table, and a list or tree in it, that are read.
+template <class Link, class Head>
+struct words {
+    const Link *table = nullptr;
+    std::size_t places = 0;
+    const Head *head = nullptr;
+};
+
+// ---- Kinds: which calls each has, the member at an end, the one beyond a member, and how a member is taken off ----------------------
+
+struct doubly {
+    using link = ic_link2;
+    using head = ic_list;
+    using source = words<link, head>;
+    static constexpr bool is_bidirectional = true, needs_from = false;
+    static constexpr auto push_front = ic_list_push_front, push_back = ic_list_push_back;
+    static constexpr auto pop_front = ic_list_pop_front, pop_back = ic_list_pop_back;
+
+    static bool is_linked(const source &in, std::uint32_t at) noexcept { return ic_list_is_linked(in.table, in.places, at) != 0; }
+    static bool is_empty(const source &in) noexcept { return ic_list_is_empty(in.head) != 0; }
+    static std::uint32_t outermost(const source &in, bool back) noexcept {
+        return back ? ic_list_last(in.head) : ic_list_first(in.head);
+    }
+    static std::uint32_t beyond(const source &in, position it, bool back) noexcept {
+        return (back ? ic_list_prev : ic_list_next)(in.table, in.places, it.at);
+    }
+    static std::uint32_t take(link *table, std::size_t places, head *list, position it) noexcept {
+        return ic_list_remove(table, places, list, it.at);
+    }
+};
+
+struct singly {
+    using link = ic_link1;
+    using head = ic_stack;
+    using source = words<link, head>;
+    static constexpr bool is_bidirectional = false, needs_from = true;
+    static constexpr auto push_front = ic_stack_push_front;
+    static constexpr auto pop_front = ic_stack_pop_front;
+
+    static bool is_linked(const source &in, std::uint32_t at) noexcept { return ic_stack_is_linked(in.table, in.places, at) != 0; }
+    static bool is_empty(const source &in) noexcept { return ic_stack_is_empty(in.head) != 0; }
+    static std::uint32_t outermost(const source &in, bool) noexcept { return ic_stack_first(in.head); }
+    static std::uint32_t beyond(const source &in, position it, bool) noexcept { return ic_stack_next(in.table, in.places, it.at); }
+    static std::uint32_t take(link *table, std::size_t places, head *list, position it) noexcept {
+        std::uint32_t removed = it.from == none ? ic_stack_first(list) : ic_stack_next(table, places, it.from);
+        return removed == it.at ? ic_stack_remove_after(table, places, list, it.from, &removed) : std::uint32_t{IC_BROKEN};
+    }
+};
+
+struct xored {
+    using link = ic_link1;
+    using head = ic_xor_list;
+    using source = words<link, head>;
+    static constexpr bool is_bidirectional = true, needs_from = true;
+    static constexpr auto push_front = ic_xor_push_front, push_back = ic_xor_push_back;
+    static constexpr auto pop_front = ic_xor_pop_front, pop_back = ic_xor_pop_back;
+
+    static bool is_linked(const source &in, std::uint32_t at) noexcept { return ic_xor_is_linked(in.table, in.places, at) != 0; }
+    static bool is_empty(const source &in) noexcept { return ic_xor_is_empty(in.head) != 0; }
+    static std::uint32_t outermost(const source &in, bool back) noexcept { return back ? ic_xor_last(in.head) : ic_xor_first(in.head); }
+    static std::uint32_t beyond(const source &in, position it, bool) noexcept {
+        return ic_xor_step(in.table, in.places, it.from, it.at);
+    }
+    static std::uint32_t take(link *table, std::size_t places, head *list, position it) noexcept {
+        return ic_xor_remove(table, places, list, it.from, it.at);
+    }
+};
+
+struct red_black {
+    using link = ic_link3;
+    using head = ic_tree;
+    using source = words<link, head>;
+    static constexpr bool is_bidirectional = true, needs_from = false;
+
+    static bool is_linked(const source &in, std::uint32_t at) noexcept { return ic_tree_is_linked(in.table, in.places, at) != 0; }
+    static bool is_empty(const source &in) noexcept { return ic_tree_is_empty(in.head) != 0; }
+    static std::uint32_t outermost(const source &in, bool back) noexcept { return beyond(in, {}, back); }
+    static std::uint32_t beyond(const source &in, position it, bool back) noexcept {
+        return (back ? ic_tree_before : ic_tree_behind)(in.table, in.places, in.head, it.at);
+    }
+    static std::uint32_t take(link *table, std::size_t places, head *tree, position it) noexcept {
+        return ic_tree_remove(table, places, tree, it.at);
+    }
+};
+
+// ---- Iterators ---------------------------------------------------------------------------------------------------------------------
+
+/// Goes from member to member, and gives the place of each. It stays valid until its member is taken off. In a singly linked or an XOR list
+/// it also needs the member that it came from: make it anew if that has been taken off.
+///
+/// `Back` is whether it goes from the last member to the first. It counts its steps, and after as many as the table has places it is at the
+/// end.
+template <class Kind, bool Back>
+class iterator {
+public:
+    using iterator_category = std::conditional_t<Kind::is_bidirectional, std::bidirectional_iterator_tag, std::forward_iterator_tag>;
+    using value_type = std::uint32_t;
+    using difference_type = std::ptrdiff_t;
+    using pointer = void;
+    using reference = std::uint32_t;
+
+    iterator() = default;
+
+    /// The iterator at a position, or at the end if no member is there.
+    iterator(typename Kind::source in, position it) noexcept : in_(in), left_(ic_bound(in.places)) { go(it); }
+
+    [[nodiscard]] std::uint32_t operator*() const noexcept { return it_.at; }
+
+    iterator &operator++() noexcept {
+        const std::uint32_t beyond = Kind::beyond(in_, it_, Back);
+        count_step();
+        go({it_.at, beyond});
+        return *this;
+    }
+
+    iterator operator++(int) noexcept {
+        const iterator was = *this;
+        ++*this;
+        return was;
+    }
+
+    iterator &operator--() noexcept {
+        static_assert(Kind::is_bidirectional, "a singly linked list is walked forwards only");
+        position it{none, it_.at == none ? Kind::outermost(in_, !Back) : Kind::needs_from ? it_.from : Kind::beyond(in_, it_, !Back)};
+        if constexpr (Kind::needs_from)
+            it.from = Kind::beyond(in_, {it_.at, it.at}, !Back);
+        left_ += left_ < ic_bound(in_.places);
+        go(it);
+        return *this;
+    }
+
+    iterator operator--(int) noexcept {
+        const iterator was = *this;
+        --*this;
+        return was;
+    }
+
+    [[nodiscard]] friend bool operator==(const iterator &one, const iterator &other) noexcept { return one.it_.at == other.it_.at; }
+    [[nodiscard]] friend bool operator!=(const iterator &one, const iterator &other) noexcept { return !(one == other); }
+
+    /// The member, and the one from which the iterator came to it.
+    [[nodiscard]] position where() const noexcept { return it_; }
+
+    /// The iterator behind this one, as it is after this one's member has been taken off.
+    [[nodiscard]] iterator past() const noexcept {
+        iterator next = *this;
+        ++next;
+        next.it_.from = it_.from;
+        return next;
+    }
+
+private:
+    void count_step() noexcept { left_ -= left_ > 0; }
+
+    void go(position it) noexcept {
+        it_ = it;
+        if (left_ == 0 || !Kind::is_linked(in_, it.at))
+            it_.at = none;
+    }
+
+    typename Kind::source in_;
+    position it_;
+    std::uint32_t left_ = 0;
+};
+
+// ---- What all kinds have -----------------------------------------------------------------------------------------------------------
+
+/// Reads a list or a tree.
+template <class Kind>
+class members {
+public:
+    using kind = Kind;
+    using value_type = std::uint32_t;
+    using iterator = detail::iterator<Kind, false>;
+    using const_iterator = iterator;
+
+    members(array_view<const typename Kind::link> table, const typename Kind::head &head) noexcept
+        : in_{table.data(), table.size(), &head} {}
+    members(array_view<const typename Kind::link> table, const typename Kind::head &&head) = delete;
+
+    [[nodiscard]] iterator begin() const noexcept { return {in_, {none, Kind::outermost(in_, false)}}; }
+    [[nodiscard]] iterator end() const noexcept { return {in_, {}}; }
+
+    [[nodiscard]] bool empty() const noexcept { return Kind::is_empty(in_); }
+
+    /// Whether a place is in this or another list or tree of the table.
+    [[nodiscard]] bool is_linked(std::uint32_t place) const noexcept { return Kind::is_linked(in_, place); }
+
+    /// The first member. std::nullopt: there is none, or it is none of this table.
+    [[nodiscard]] std::optional<std::uint32_t> front() const noexcept { return found(*begin()); }
+
+protected:
+    static std::optional<std::uint32_t> found(std::uint32_t place) noexcept {
+        return place == none ? std::nullopt : std::optional<std::uint32_t>(place);
+    }
+
+    typename Kind::source in_;
+};
+
+/// Reads a list or a tree that is walked both ways.
+template <class Kind>
+class two_way : public members<Kind> {
+public:
+    using reverse_iterator = detail::iterator<Kind, true>;
+    using const_reverse_iterator = reverse_iterator;
+    using members<Kind>::members;
+
+    [[nodiscard]] reverse_iterator rbegin() const noexcept { return {this->in_, {none, Kind::outermost(this->in_, true)}}; }
+    [[nodiscard]] reverse_iterator rend() const noexcept { return {this->in_, {}}; }
+
+    /// The last member. std::nullopt: there is none, or it is none of this table.
+    [[nodiscard]] std::optional<std::uint32_t> back() const noexcept { return this->found(*rbegin()); }
+};
+
+/// Reads a list or a tree whose members tell both of their neighbors.
+template <class Kind>
+class placed : public two_way<Kind> {
+public:
+    using two_way<Kind>::two_way;
+
+    /// The iterator at a member, or end() if the place is `none` or unlinked.
+    [[nodiscard]] typename two_way<Kind>::iterator iterator_to(std::uint32_t place) const noexcept {
+        return {this->in_, {none, place}};
+    }
+};
+
+/// Edits a list or a tree.
+template <class Base>
+class edits : public Base {
+public:
+    using kind = typename Base::kind;
+    using link = typename kind::link;
+    using head = typename kind::head;
+    using iterator = typename Base::iterator;
+
+    edits(array_view<link> table, head &list) noexcept
+        : Base(array_view<const link>(table.data(), table.size()), list), table_(table.data()), head_(&list) {}
+
+    /// Takes the member of an iterator off, and moves the iterator on to the next one.
+    status erase(iterator &at) const noexcept {
+        const iterator next = at.past();
+        const auto done = static_cast<status>(kind::take(table_, this->in_.places, head_, at.where()));
+        if (done == status::ok)
+            at = next;
+        return done;
+    }
+
+    /// Takes off each member of which the predicate is true, and hands it to `then`, which may link it in another list or tree. Neither may
+    /// edit this one. Stops at the first refusal, and returns it.
+    template <class Predicate, class Then>
+    status remove_if(Predicate is_unwanted, Then then) const {
+        for (iterator at = this->begin(); at != this->end();) {
+            const std::uint32_t place = *at;
+            if (!is_unwanted(place)) {
+                ++at;
+                continue;
+            }
+            if (const status done = erase(at); done != status::ok)
+                return done;
+            then(place);
+        }
+        return status::ok;
+    }
+
+    /// Takes off each member of which the predicate is true.
+    template <class Predicate>
+    status remove_if(Predicate is_unwanted) const {
+        return remove_if(std::move(is_unwanted), [](std::uint32_t) {});
+    }
+
+    /// Takes off each member of which the predicate is false.
+    template <class Predicate>
+    status retain(Predicate is_wanted) const {
+        return remove_if([&](std::uint32_t place) { return !is_wanted(place); });
+    }
+
+    /// Takes all members off, one after another. ic::status::broken: some were left.
+    status clear() const noexcept {
+        const status done = remove_if([](std::uint32_t) { return true; });
+        return done == status::ok && !this->empty() ? status::broken : done;
+    }
+
+protected:
+    template <class Call, class... Arguments>
+    status edit(Call call, Arguments... arguments) const noexcept {
+        return static_cast<status>(call(table_, this->in_.places, head_, arguments...));
+    }
+
+    /// An edit that gives the place which it has taken off.
+    template <class Call, class... Arguments>
+    std::optional<std::uint32_t> taken(Call call, Arguments... arguments) const noexcept {
+        std::uint32_t place = none;
+        return call(table_, this->in_.places, head_, arguments..., &place) == IC_OK ? this->found(place) : std::nullopt;
+    }
+
+    /// An edit with a second list, which has to be another one of the same table.
+    template <class Call, class... Arguments>
+    status edit_both(const edits &other, Call call, Arguments... arguments) const noexcept {
+        return other.table_ == table_ && other.head_ != head_ ? edit(call, arguments...) : status::broken;
+    }
+
+    link *table_;
+    head *head_;
+};
+
+/// Edits a list at its front.
+template <class Base>
+class front_edits : public edits<Base> {
+public:
+    using kind = typename Base::kind;
+    using edits<Base>::edits;
+
+    status push_front(std::uint32_t place) const noexcept { return this->edit(kind::push_front, place); }
+
+    /// Takes the first member off. std::nullopt: there is none, or, if the list is not empty(), it is none of this table.
+    [[nodiscard]] std::optional<std::uint32_t> pop_front() const noexcept { return this->taken(kind::pop_front); }
+};
+
+/// Edits a list at both ends.
+template <class Base>
+class end_edits : public front_edits<Base> {
+public:
+    using kind = typename Base::kind;
+    using front_edits<Base>::front_edits;
+
+    status push_back(std::uint32_t place) const noexcept { return this->edit(kind::push_back, place); }
+
+    /// Takes the last member off. std::nullopt: there is none, or, if the list is not empty(), it is none of this table.
+    [[nodiscard]] std::optional<std::uint32_t> pop_back() const noexcept { return this->taken(kind::pop_back); }
+};
+
+} // namespace detail
+
+// ---- Doubly linked lists -----------------------------------------------------------------------------------------------------------
+
+using const_list_view = detail::placed<detail::doubly>;
+
+/// Edits a doubly linked list.
+class list_view : public detail::end_edits<const_list_view> {
+public:
+    using end_edits::end_edits;
+
+    /// Links a place in front of an iterator's member, and at the back if that is end().
+    status insert(iterator at, std::uint32_t place) const noexcept { return insert_before(*at, place); }
+    status insert_after(std::uint32_t at, std::uint32_t place) const noexcept { return edit(ic_list_insert_after, at, place); }
+    status insert_before(std::uint32_t at, std::uint32_t place) const noexcept { return edit(ic_list_insert_before, at, place); }
+    status remove(std::uint32_t at) const noexcept { return edit(ic_list_remove, at); }
+    status replace(std::uint32_t at, std::uint32_t place) const noexcept { return edit(ic_list_replace, at, place); }
+
+    /// Moves all members of `given` in front of an iterator's member, and to the back if that is end(). This and the next four return
+    /// ic::status::broken of this list itself, and of a list of another table.
+    status splice(iterator at, list_view given) const noexcept { return splice_before(*at, given); }
+    status splice_after(std::uint32_t at, list_view given) const noexcept {
+        return edit_both(given, ic_list_splice_after, at, given.head_);
+    }
+    status splice_before(std::uint32_t at, list_view given) const noexcept {
+        return edit_both(given, ic_list_splice_before, at, given.head_);
+    }
+    status split_after(std::uint32_t at, list_view rest) const noexcept { return edit_both(rest, ic_list_split_after, at, rest.head_); }
+    status split_before(std::uint32_t at, list_view rest) const noexcept { return edit_both(rest, ic_list_split_before, at, rest.head_); }
+};
+
+// ---- Singly linked lists -----------------------------------------------------------------------------------------------------------
+
+using const_stack_view = detail::members<detail::singly>;
+
+/// Edits a singly linked list. Its edits in the middle are behind the member `at`, or at the front if that is `none`.
+class stack_view : public detail::front_edits<const_stack_view> {
+public:
+    using front_edits::front_edits;
+
+    status insert_after(std::uint32_t at, std::uint32_t place) const noexcept { return edit(ic_stack_insert_after, at, place); }
+
+    /// Takes the member behind `at` off. std::nullopt: it is refused.
+    [[nodiscard]] std::optional<std::uint32_t> remove_after(std::uint32_t at) const noexcept { return taken(ic_stack_remove_after, at); }
+
+    /// Links a place where the member behind `at` is, and gives that member. std::nullopt: it is refused.
+    [[nodiscard]] std::optional<std::uint32_t> replace_after(std::uint32_t at, std::uint32_t place) const noexcept {
+        return taken(ic_stack_replace_after, at, place);
+    }
+
+    /// This and the next return ic::status::broken of this list itself, and of a list of another table.
+    status splice_after(std::uint32_t at, stack_view given) const noexcept {
+        return edit_both(given, ic_stack_splice_after, at, given.head_);
+    }
+    status split_after(std::uint32_t at, stack_view rest) const noexcept { return edit_both(rest, ic_stack_split_after, at, rest.head_); }
+};
+
+// ---- XOR lists ---------------------------------------------------------------------------------------------------------------------
+
+using const_xor_view = detail::two_way<detail::xored>;
+
+/// Edits an XOR list. Its edits in the middle take the members on both sides, `none` beyond an end, or an iterator.
+class xor_view : public detail::end_edits<const_xor_view> {
+public:
+    using end_edits::end_edits;
+
+    /// Links a place in front of an iterator's member, and at the back if that is end().
+    status insert(iterator at, std::uint32_t place) const noexcept { return insert_between(front_of(at), place, *at); }
+    status insert_between(std::uint32_t before, std::uint32_t place, std::uint32_t behind) const noexcept {
+        return edit(ic_xor_insert_between, before, place, behind);
+    }
+    status remove(std::uint32_t before, std::uint32_t at) const noexcept { return edit(ic_xor_remove, before, at); }
+    status replace(std::uint32_t before, std::uint32_t at, std::uint32_t place) const noexcept {
+        return edit(ic_xor_replace, before, at, place);
+    }
+    void reverse() const noexcept { ic_xor_reverse(head_); }
+
+    /// Moves all members of `given` in front of an iterator's member, and to the back if that is end(). This and the next two return
+    /// ic::status::broken of this list itself, and of a list of another table.
+    status splice(iterator at, xor_view given) const noexcept { return splice_between(front_of(at), given, *at); }
+    status splice_between(std::uint32_t before, xor_view given, std::uint32_t behind) const noexcept {
+        return edit_both(given, ic_xor_splice_between, before, given.head_, behind);
+    }
+    status split_between(std::uint32_t before, std::uint32_t behind, xor_view rest) const noexcept {
+        return edit_both(rest, ic_xor_split_between, before, behind, rest.head_);
+    }
+
+private:
+    std::uint32_t front_of(iterator at) const noexcept { return *at == none ? ic_xor_last(head_) : at.where().from; }
+};
+
+// ---- Red-black trees ---------------------------------------------------------------------------------------------------------------
+
+/// Reads a tree. The keys of a search are one number for each place: a vector, an array, or a pointer and a length.
+class const_tree_view : public detail::placed<detail::red_black> {
+public:
+    using keys_view = array_view<const std::uint64_t>;
+    using placed::placed;
+
+    /// The first member with this key. All searches return std::nullopt if there is no such member, if there are fewer keys than places, or
+    /// if the root is none of this table.
+    [[nodiscard]] std::optional<std::uint32_t> find(keys_view keys, std::uint64_t key) const noexcept {
+        return search(ic_tree_find, keys, key);
+    }
+
+    /// The first member whose key is not less.
+    [[nodiscard]] std::optional<std::uint32_t> lower_bound(keys_view keys, std::uint64_t key) const noexcept {
+        return search(ic_tree_lower_bound, keys, key);
+    }
+
+    /// The first member whose key is greater, as in the standard library. at_most() is the call ic_tree_upper_bound.
+    [[nodiscard]] std::optional<std::uint32_t> upper_bound(keys_view keys, std::uint64_t key) const noexcept {
+        return key < UINT64_MAX ? lower_bound(keys, key + 1) : std::nullopt;
+    }
+
+    /// The last member whose key is not greater.
+    [[nodiscard]] std::optional<std::uint32_t> at_most(keys_view keys, std::uint64_t key) const noexcept {
+        return search(ic_tree_upper_bound, keys, key);
+    }
+
+    /// The members with this key, from the first to behind the last.
+    [[nodiscard]] std::pair<iterator, iterator> equal_range(keys_view keys, std::uint64_t key) const noexcept {
+        return {iterator_to(lower_bound(keys, key).value_or(none)), iterator_to(upper_bound(keys, key).value_or(none))};
+    }
+
+    /// The first member of which the predicate is false. It has to be false of all members behind that one, too.
+    template <class Predicate>
+    [[nodiscard]] std::optional<std::uint32_t> partition_point(Predicate is_in_front) const {
+        std::uint32_t first = none;
+        descend([&](std::uint32_t at) {
+            const bool goes_left = !is_in_front(at);
+            first = goes_left ? at : first;
+            return goes_left;
+        });
+        return found(first);
+    }
+
+protected:
+    /// Where a way down from the root ends: under a member, on one of its sides.
+    struct hole {
+        std::uint32_t under = none;
+        bool is_left = true;
+    };
+
+    /// Goes down to the left of each member of which the predicate is true, and to the right of the others.
+    template <class Predicate>
+    hole descend(Predicate goes_left) const {
+        hole end;
+        std::uint32_t at = ic_tree_root(in_.head);
+        for (std::uint32_t left = ic_bound(in_.places); left > 0 && is_linked(at); --left) {
+            end = {at, goes_left(at)};
+            at = (end.is_left ? ic_tree_left : ic_tree_right)(in_.table, in_.places, at);
+        }
+        return end;
+    }
+
+private:
+    template <class Call>
+    std::optional<std::uint32_t> search(Call call, keys_view keys, std::uint64_t key) const noexcept {
+        std::uint32_t place = none;
+        return call(in_.table, in_.places, keys.data(), keys.size(), in_.head, key, &place) == IC_OK ? found(place) : std::nullopt;
+    }
+};
+
+/// Edits a tree.
+class tree_view : public detail::edits<const_tree_view> {
+public:
+    using edits::edits;
+
+    /// Links a place by its key, behind all members whose keys are not greater.
+    status insert(keys_view keys, std::uint32_t place) const noexcept {
+        return static_cast<status>(ic_tree_insert(table_, in_.places, keys.data(), keys.size(), head_, place));
+    }
+
+    /// Links a place by a comparison of two places, behind all members that are not greater.
+    template <class Less>
+    status insert_by(std::uint32_t place, Less is_less) const {
+        if (place >= ic_bound(in_.places))
+            return status::out_of_range;
+        const hole end = descend([&](std::uint32_t at) { return is_less(place, at); });
+        return end.is_left ? insert_left(end.under, place) : insert_right(end.under, place);
+    }
+
+    status insert_left(std::uint32_t at, std::uint32_t place) const noexcept { return edit(ic_tree_insert_left, at, place); }
+    status insert_right(std::uint32_t at, std::uint32_t place) const noexcept { return edit(ic_tree_insert_right, at, place); }
+    status remove(std::uint32_t at) const noexcept { return edit(ic_tree_remove, at); }
+    status replace(std::uint32_t at, std::uint32_t place) const noexcept { return edit(ic_tree_replace, at, place); }
+
+    /// Takes the first member off. std::nullopt: there is none, or, if the tree is not empty(), its root is none of this table.
+    [[nodiscard]] std::optional<std::uint32_t> pop_front() const noexcept { return popped(*begin()); }
+
+    /// Takes the last member off. std::nullopt as of pop_front().
+    [[nodiscard]] std::optional<std::uint32_t> pop_back() const noexcept { return popped(*rbegin()); }
+
+private:
+    std::optional<std::uint32_t> popped(std::uint32_t place) const noexcept {
+        return remove(place) == status::ok ? found(place) : std::nullopt;
+    }
+};
+
+} // namespace ic
+
+#endif

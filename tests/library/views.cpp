@@ -1,0 +1,403 @@
+// Random edits through the views of ic.hpp beside std::list and std::multimap.
+//
+//     views [EDITS [SEED]]
+//
+// Two lists of each kind are in one table, and two trees. After each edit they have the members of the plain ones, forwards and backwards.
+// In between, loops run over tables of random words: each ends within as many rounds as there are places. Prints how many edits were made,
+// and how many of them were refused.
+#include "ic.hpp"
+#include "common.h"
+#include <algorithm>
+#include <list>
+#include <map>
+#include <vector>
+
+namespace {
+
+constexpr std::uint32_t places = 24;
+std::uint64_t edits, refused;
+
+void expect(bool is_so, const char *wrong) {
+    if (is_so)
+        return;
+    std::printf("after %llu edits: %s\n", static_cast<unsigned long long>(edits), wrong);
+    std::exit(1);
+}
+
+/// Whether an edit was made, which has to return this status.
+bool made(ic::status is, ic::status expected) {
+    edits++;
+    refused += is != ic::status::ok;
+    if (is != expected)
+        std::printf("%s instead of %s\n", ic::name(is), ic::name(expected));
+    expect(is == expected, "an edit returned another status");
+    return is == ic::status::ok;
+}
+
+void expect_taken(std::optional<std::uint32_t> is, std::optional<std::uint32_t> expected) {
+    edits++;
+    refused += !is;
+    expect(is == expected, "an edit gave another member");
+}
+
+/// The status of an edit that links a place which may be linked already.
+template <class View>
+ic::status to_link(const View &view, std::uint32_t place) {
+    return place >= places ? ic::status::out_of_range : view.is_linked(place) ? ic::status::linked : ic::status::ok;
+}
+
+template <class View, class Members>
+void check(const View &view, const Members &members) {
+    expect(std::equal(view.begin(), view.end(), members.begin(), members.end()), "a view has other members");
+    expect(view.empty() == members.empty(), "a view is empty, or is not");
+    expect(view.front() == (members.empty() ? std::nullopt : std::optional(members.front())), "a view has another first member");
+    if constexpr (View::kind::is_bidirectional) {
+        expect(std::equal(view.rbegin(), view.rend(), members.rbegin(), members.rend()), "a view has other members backwards");
+        expect(view.back() == (members.empty() ? std::nullopt : std::optional(members.back())), "a view has another last member");
+        auto at = view.end();
+        for (auto member = members.rbegin(); member != members.rend(); ++member)
+            expect(*--at == *member, "an iterator goes back to another member");
+        expect(at == view.begin(), "an iterator has not gone back to the first member");
+        auto back = std::next(view.rbegin(), static_cast<std::ptrdiff_t>(members.size()));
+        for (const std::uint32_t member : members)
+            expect(*--back == member, "an iterator of the way back goes forwards to another member");
+    }
+}
+
+// ---- Lists ---------------------------------------------------------------------------------------------------------------------------
+
+template <class View>
+struct lists {
+    std::vector<typename View::link> table = std::vector<typename View::link>(places);
+    typename View::head heads[2] = {};
+    std::list<std::uint32_t> plain[2];
+
+    View view(int which) { return {table, heads[which]}; }
+    void check_both() {
+        for (int which : {0, 1})
+            check(view(which), plain[which]);
+    }
+};
+
+std::optional<std::uint32_t> take_front(std::list<std::uint32_t> &members) {
+    if (members.empty())
+        return std::nullopt;
+    const std::uint32_t place = members.front();
+    members.pop_front();
+    return place;
+}
+
+std::optional<std::uint32_t> take_back(std::list<std::uint32_t> &members) {
+    if (members.empty())
+        return std::nullopt;
+    const std::uint32_t place = members.back();
+    members.pop_back();
+    return place;
+}
+
+/// An edit that each kind of list has, at the member with this number.
+template <class View>
+void edit(lists<View> &it, int which, std::uint32_t index, std::uint32_t call) {
+    const View view = it.view(which), other = it.view(1 - which);
+    auto &plain = it.plain[which];
+    const std::uint32_t place = below(places + 1), mask = static_cast<std::uint32_t>(any());
+    const ic::status linking = to_link(view, place);
+    auto at = std::next(view.begin(), index);
+    const auto member = std::next(plain.begin(), index);
+    const auto leaves = [&](std::uint32_t value) { return (mask >> value & 1) != 0; };
+    switch (call) {
+    case 0:
+        if (made(view.push_front(place), linking))
+            plain.push_front(place);
+        break;
+    case 1: expect_taken(view.pop_front(), take_front(plain)); break;
+    case 2:
+        if (at != view.end() && made(view.erase(at), ic::status::ok)) {
+            const auto behind = plain.erase(member);
+            expect(at == std::next(view.begin(), std::distance(plain.begin(), behind)), "erase has not gone on to the next member");
+        }
+        break;
+    case 3:
+        made(view.remove_if(leaves, [&](std::uint32_t value) { made(other.push_front(value), ic::status::ok); }), ic::status::ok);
+        for (const std::uint32_t value : plain)
+            if (leaves(value))
+                it.plain[1 - which].push_front(value);
+        plain.remove_if(leaves);
+        break;
+    case 4:
+        made(view.retain(leaves), ic::status::ok);
+        plain.remove_if([&](std::uint32_t value) { return !leaves(value); });
+        break;
+    default:
+        if (below(8) == 0 && made(view.clear(), ic::status::ok))
+            plain.clear();
+    }
+}
+
+/// An edit that lists have which are walked both ways.
+template <class View>
+void edit_two_way(lists<View> &it, int which, std::uint32_t index, std::uint32_t call) {
+    const View view = it.view(which), other = it.view(1 - which);
+    auto &plain = it.plain[which];
+    const auto at = below(2) ? std::next(view.begin(), index) : std::prev(view.end(), static_cast<int>(plain.size() - index));
+    const std::uint32_t place = below(places + 1);
+    const ic::status linking = to_link(view, place);
+    switch (call) {
+    case 0:
+        if (made(view.push_back(place), linking))
+            plain.push_back(place);
+        break;
+    case 1: expect_taken(view.pop_back(), take_back(plain)); break;
+    case 2:
+        if (made(view.insert(at, place), linking))
+            plain.insert(std::next(plain.begin(), index), place);
+        break;
+    default:
+        made(view.splice(at, view), ic::status::broken);
+        if (below(4) == 0 && made(view.splice(at, other), ic::status::ok))
+            plain.splice(std::next(plain.begin(), index), it.plain[1 - which]);
+    }
+}
+
+void edit_own(lists<ic::list_view> &it, int which, std::uint32_t index) {
+    const ic::list_view view = it.view(which), other = it.view(1 - which);
+    auto &plain = it.plain[which], &others = it.plain[1 - which];
+    const std::uint32_t place = below(places + 1), at = *std::next(view.begin(), index);
+    const std::uint32_t before = index ? *std::next(view.begin(), index - 1) : ic::none;
+    const ic::status linking = to_link(view, place);
+    const auto member = std::next(plain.begin(), index);
+    if (at != ic::none && below(2)) {
+        expect(*view.iterator_to(at) == at, "there is another iterator to a member");
+        if (below(4) == 0 && made(view.remove(at), ic::status::ok))
+            plain.erase(member);
+        else if (view.is_linked(at) && made(view.replace(at, place), linking))
+            *member = place;
+    } else if (below(2)) {
+        if (made(view.insert_after(before, place), linking))
+            plain.insert(member, place);
+    } else if (!others.empty()) {
+        if (below(4) == 0 && made(view.splice_after(before, other), ic::status::ok))
+            plain.splice(member, others);
+    } else if (below(2)) {
+        if (made(view.split_before(at, other), ic::status::ok))
+            others.splice(others.begin(), plain, plain.begin(), member);
+    } else if (made(view.split_after(before, other), ic::status::ok))
+        others.splice(others.begin(), plain, member, plain.end());
+}
+
+void edit_own(lists<ic::stack_view> &it, int which, std::uint32_t index) {
+    const ic::stack_view view = it.view(which), rest = it.view(1 - which);
+    auto &plain = it.plain[which], &other = it.plain[1 - which];
+    const std::uint32_t place = below(places + 1), before = index ? *std::next(view.begin(), index - 1) : ic::none;
+    const ic::status linking = to_link(view, place);
+    const auto member = std::next(plain.begin(), index);
+    const bool is_end = member == plain.end();
+    if (below(2)) {
+        if (made(view.insert_after(before, place), linking))
+            plain.insert(member, place);
+    } else if (below(2)) {
+        expect_taken(view.remove_after(before), is_end ? std::nullopt : std::optional(*member));
+        if (!is_end)
+            plain.erase(member);
+    } else if (other.empty()) {
+        if (made(view.split_after(before, rest), ic::status::ok))
+            other.splice(other.begin(), plain, member, plain.end());
+    } else if (made(view.splice_after(before, rest), ic::status::ok))
+        plain.splice(member, other);
+}
+
+void edit_own(lists<ic::xor_view> &it, int which, std::uint32_t index) {
+    const ic::xor_view view = it.view(which), rest = it.view(1 - which);
+    auto &plain = it.plain[which], &other = it.plain[1 - which];
+    const auto at = std::next(view.begin(), index);
+    const std::uint32_t place = below(places + 1), before = index ? *std::prev(at) : ic::none;
+    const ic::status linking = to_link(view, place);
+    if (below(2)) {
+        view.reverse();
+        plain.reverse();
+    } else if (at != view.end() && below(2)) {
+        if (below(4) == 0 && made(view.remove(before, *at), ic::status::ok))
+            plain.erase(std::next(plain.begin(), index));
+        else if (view.is_linked(*at) && made(view.replace(before, *at, place), linking))
+            *std::next(plain.begin(), index) = place;
+    } else if (other.empty() && made(view.split_between(before, *at, rest), ic::status::ok))
+        other.splice(other.begin(), plain, std::next(plain.begin(), index), plain.end());
+}
+
+template <class View>
+void step(lists<View> &it) {
+    const int which = static_cast<int>(below(2));
+    const std::uint32_t index = below(static_cast<std::uint32_t>(it.plain[which].size()) + 1), call = below(11);
+    if (call < 6)
+        edit(it, which, index, call);
+    else if (call == 6)
+        edit_own(it, which, index);
+    else if constexpr (View::kind::is_bidirectional)
+        edit_two_way(it, which, index, call - 7);
+    it.check_both();
+}
+
+// ---- Trees ---------------------------------------------------------------------------------------------------------------------------
+
+struct trees {
+    std::vector<ic_link3> table = std::vector<ic_link3>(places);
+    std::vector<std::uint64_t> keys = std::vector<std::uint64_t>(places);
+    ic_tree heads[2] = {};
+    std::multimap<std::uint64_t, std::uint32_t> plain[2];
+
+    ic::tree_view view(int which) { return {table, heads[which]}; }
+
+    /// The member at a position of a plain tree.
+    std::optional<std::uint32_t> at(int which, std::multimap<std::uint64_t, std::uint32_t>::iterator member) {
+        return member == plain[which].end() ? std::nullopt : std::optional(member->second);
+    }
+
+    void check_both() {
+        for (int which : {0, 1}) {
+            std::list<std::uint32_t> members;
+            for (const auto &[key, place] : plain[which])
+                members.push_back(place);
+            check(view(which), members);
+        }
+    }
+};
+
+void search(trees &it, int which) {
+    const ic::const_tree_view view = it.view(which);
+    auto &plain = it.plain[which];
+    const std::uint64_t key = below(8) ? below(12) : below(2) ? UINT64_MAX : any();
+    const auto lower = plain.lower_bound(key), upper = plain.upper_bound(key);
+    expect(view.lower_bound(it.keys, key) == it.at(which, lower), "lower_bound finds another member");
+    expect(view.upper_bound(it.keys, key) == it.at(which, upper), "upper_bound finds another member");
+    expect(view.find(it.keys, key) == (lower != upper ? it.at(which, lower) : std::nullopt), "find finds another member");
+    expect(view.at_most(it.keys, key) == (upper != plain.begin() ? it.at(which, std::prev(upper)) : std::nullopt), "at_most is wrong");
+    expect(view.partition_point([&](std::uint32_t at) { return it.keys[at] < key; }) == it.at(which, lower), "partition_point is wrong");
+    const auto [first, last] = view.equal_range(it.keys, key);
+    expect(std::equal(first, last, lower, upper, [](std::uint32_t at, const auto &member) { return at == member.second; }),
+           "equal_range has other members");
+    expect(!view.find({it.keys.data(), places - 1}, key), "find takes fewer keys than places");
+}
+
+void insert(trees &it, int which) {
+    const ic::tree_view view = it.view(which);
+    const std::uint32_t place = below(places + 1);
+    const ic::status linking = to_link(view, place);
+    if (linking == ic::status::ok)
+        it.keys[place] = below(12);
+    const auto is_less = [&](std::uint32_t one, std::uint32_t other) { return it.keys[one] < it.keys[other]; };
+    if (made(below(2) ? view.insert(it.keys, place) : view.insert_by(place, is_less), linking))
+        it.plain[which].emplace(it.keys[place], place);
+}
+
+/// Replaces a member by a place with its key.
+void replace(trees &it, int which, std::multimap<std::uint64_t, std::uint32_t>::iterator member) {
+    const ic::tree_view view = it.view(which);
+    const std::uint32_t place = below(places + 1);
+    const ic::status linking = to_link(view, place);
+    if (member == it.plain[which].end())
+        return;
+    if (linking == ic::status::ok)
+        it.keys[place] = member->first;
+    if (made(view.replace(member->second, place), linking))
+        member->second = place;
+}
+
+/// Takes some members off, and puts those of one tree into the other.
+void sweep(trees &it, int which) {
+    const ic::tree_view view = it.view(which), other = it.view(1 - which);
+    const std::uint32_t mask = static_cast<std::uint32_t>(any());
+    made(view.remove_if([&](std::uint32_t at) { return (mask >> at & 1) != 0; },
+                        [&](std::uint32_t at) { made(other.insert(it.keys, at), ic::status::ok); }), ic::status::ok);
+    for (auto member = it.plain[which].begin(); member != it.plain[which].end();)
+        if (mask >> member->second & 1) {
+            it.plain[1 - which].insert(*member);
+            member = it.plain[which].erase(member);
+        } else
+            ++member;
+}
+
+void step(trees &it) {
+    const int which = static_cast<int>(below(2));
+    const ic::tree_view view = it.view(which);
+    auto &plain = it.plain[which];
+    const std::uint32_t index = below(static_cast<std::uint32_t>(plain.size()) + 1);
+    auto at = std::next(view.begin(), index);
+    const auto member = std::next(plain.begin(), index);
+    switch (below(8)) {
+    case 0:
+        expect_taken(view.pop_front(), it.at(which, plain.begin()));
+        plain.erase(plain.begin(), plain.empty() ? plain.end() : std::next(plain.begin()));
+        break;
+    case 1:
+        expect_taken(view.pop_back(), plain.empty() ? std::nullopt : it.at(which, std::prev(plain.end())));
+        plain.erase(plain.empty() ? plain.end() : std::prev(plain.end()), plain.end());
+        break;
+    case 2:
+        if (made(view.erase(at), member == plain.end() ? ic::status::null : ic::status::ok))
+            expect((at == view.end() ? std::nullopt : std::optional(*at)) == it.at(which, plain.erase(member)), "erase has not gone on");
+        break;
+    case 3:
+        if (below(4) == 0)
+            sweep(it, which);
+        else
+            search(it, which);
+        break;
+    case 4: replace(it, which, member); break;
+    default: insert(it, which);
+    }
+    it.check_both();
+}
+
+// ---- Any words -----------------------------------------------------------------------------------------------------------------------
+
+template <class View>
+void check_any() {
+    const std::uint32_t count = below(7);
+    std::vector<typename View::link> table(count);
+    typename View::head head;
+    const auto spoil = [&](auto *bytes, std::size_t size) {
+        for (std::uint64_t *word = reinterpret_cast<std::uint64_t *>(bytes); size; size -= sizeof *word, word++)
+            *word = below(8) ? ic_word(below(count + 2)) + below(2) : any();
+    };
+    spoil(table.data(), count * sizeof *table.data());
+    spoil(&head, sizeof head);
+    const View view{table, head};
+    std::uint32_t rounds = 0;
+    for (const std::uint32_t place : view)
+        expect(view.is_linked(place) && ++rounds <= count, "a loop over any words gives too many places, or an unlinked one");
+    if constexpr (View::kind::is_bidirectional)
+        expect(std::distance(view.rbegin(), view.rend()) <= count, "a loop backwards over any words gives too many places");
+    if (const auto popped = view.pop_front())
+        expect(*popped < count && !view.is_linked(*popped), "a pop from any words gives a place that is none");
+    rounds = 0;
+    const ic::status done = view.remove_if([&](std::uint32_t) { return ++rounds % 2 == 0; });
+    expect(rounds <= count, "remove_if over any words asks for too many places");
+    expect(done == ic::status::ok || !view.empty(), "remove_if from an empty list is refused");
+}
+
+} // namespace
+
+int main(int count, char **words) {
+    const std::uint64_t wanted = calls_wanted(count, words);
+    lists<ic::list_view> doubly;
+    lists<ic::stack_view> singly;
+    lists<ic::xor_view> both;
+    trees sorted;
+    while (edits < wanted) {
+        step(doubly);
+        step(singly);
+        step(both);
+        step(sorted);
+        check_any<ic::list_view>();
+        check_any<ic::stack_view>();
+        check_any<ic::xor_view>();
+        check_any<ic::tree_view>();
+    }
+    std::printf("edits %llu %llu\n", static_cast<unsigned long long>(edits - refused), static_cast<unsigned long long>(refused));
+}
+
+#if __cplusplus >= 202002L
+static_assert(std::bidirectional_iterator<ic::list_view::iterator> && std::bidirectional_iterator<ic::list_view::reverse_iterator>);
+static_assert(std::bidirectional_iterator<ic::xor_view::iterator> && std::bidirectional_iterator<ic::tree_view::iterator>);
+static_assert(std::forward_iterator<ic::stack_view::iterator>);
+#endif
