@@ -85,14 +85,23 @@ pub struct ic_tree {
 
 /// The number of a place in a word, or 0 for `IC_NONE`.
 #[inline]
+#[must_use]
 pub const fn ic_word(place: u32) -> u64 {
     place.wrapping_add(1) as u64 * 8
 }
 
 /// The place that a word names, or `IC_NONE`.
+///
+/// The bits 3 to 35 of a word are a place's number, which is one more than the place, and 0 for none. The others count for nothing. A number
+/// with the highest of these bits is that of no place in a `u32`, and gives `IC_NONE` too.
 #[inline]
+#[must_use]
 pub const fn ic_place(word: u64) -> u32 {
-    ((word / 8) as u32).wrapping_sub(1)
+    let number = word / 8 % (1 << 33);
+    if number > IC_NONE as u64 {
+        return IC_NONE;
+    }
+    (number as u32).wrapping_sub(1)
 }
 
 extern "C" {

@@ -1,126 +1,195 @@
 //! Doubly linked lists.
 
-use crate::{done, handed_out, number, place, Error, Link2};
-use core::iter::FusedIterator;
+use crate::collection::{
+    bidirectional, collection, from_place, Bidirectional, BidirectionalSplice, Collection, Position, Splice,
+};
+use crate::error::{done, handed_out};
+use crate::link::{is_none, linked, number, place, within, Link};
+use crate::{Cursor, CursorMut, Error, Iter, Link2, View};
+use core::fmt;
 use ic_sys::*;
 
 /// A doubly linked list over a table of [`Link2`].
 ///
-/// Dropping it leaves its members linked. A clone of the list belongs to a clone of the table.
+/// It is good for queues, and for caches, from whose middle objects leave. Here the place that was used last is in front:
+///
+/// ```
+/// use ic::{Error, Link2, List};
+///
+/// let mut links = [Link2::UNLINKED; 4];
+/// let mut recent = List::new();
+/// for used in [3, 1, 2, 3, 1] {
+///     if links[used as usize].is_linked() {
+///         recent.remove(&mut links, used)?;
+///     }
+///     recent.push_front(&mut links, used)?;
+/// }
+/// assert!(recent.iter(&links).eq([1, 3, 2]));
+/// assert_eq!(recent.pop_back(&mut links)?, Some(2));
+///
+/// recent.insert_before(&mut links, Some(3), 0)?;
+/// let mut old = recent.split_after(&mut links, Some(0))?;
+/// assert_eq!(format!("{:?} {:?}", recent.view(&links), old.view(&links)), "[1, 0] [3]");
+/// recent.splice_before(&mut links, Some(1), &mut old)?;
+/// recent.retain(&mut links, |place| place != 1)?;
+/// assert!(recent.iter(&links).rev().eq([0, 3]) && old.is_empty());
+/// # Ok::<(), Error>(())
+/// ```
+///
+/// Dropping the list leaves its members linked. A clone of it belongs to a clone of the table.
 #[repr(transparent)]
-#[derive(Clone, Debug, Default)]
-pub struct List(ic_list);
+#[derive(Clone, Default)]
+pub struct List(pub(crate) ic_list);
 
 // Each call below is sound: a slice is as many links as its length says, mutable references neither dangle nor overlap, and the library
 // requires nothing else.
 impl List {
-    /// A list with no members.
+    /// A list with no members. O(1).
     #[inline]
+    #[must_use]
     pub const fn new() -> List {
         List(ic_list { head: 0, tail: 0 })
     }
 
-    /// Whether it has no members.
+    /// Whether it has no members. O(1).
     #[inline]
+    #[must_use]
     pub fn is_empty(&self) -> bool {
-        self.0.head == 0
+        is_none(self.0.head)
     }
 
-    /// The first member.
+    /// The first member. O(1).
     #[inline]
+    #[must_use]
     pub fn first(&self) -> Option<u32> {
         place(self.0.head)
     }
 
-    /// The last member.
+    /// The last member. O(1).
     #[inline]
+    #[must_use]
     pub fn last(&self) -> Option<u32> {
         place(self.0.tail)
     }
 
-    /// The members, in order. It ends after as many as the table has places, whatever the words say.
-    #[inline]
-    pub fn iter<'a>(&self, table: &'a [Link2]) -> Iter<'a> {
-        Iter { table, front: self.first(), back: self.last(), left: table.len() }
-    }
-
-    /// Hands out all members as a list of their own.
-    #[inline]
-    pub fn take(&mut self) -> List {
-        core::mem::take(self)
-    }
-
-    /// Links a place at the front.
+    /// Links a place at the front. O(1).
+    ///
+    /// # Errors
+    ///
+    /// [`Error::OutOfRange`] or [`Error::Linked`] of `place`. [`Error::Broken`] if the first member is none of this table.
     #[inline]
     pub fn push_front(&mut self, table: &mut [Link2], place: u32) -> Result<(), Error> {
         let (links, places) = Link2::parts(table);
         done(unsafe { ic_list_push_front(links, places, &mut self.0, place) })
     }
 
-    /// Links a place at the back.
+    /// Links a place at the back. O(1).
+    ///
+    /// # Errors
+    ///
+    /// [`Error::OutOfRange`] or [`Error::Linked`] of `place`. [`Error::Broken`] if the last member is none of this table.
     #[inline]
     pub fn push_back(&mut self, table: &mut [Link2], place: u32) -> Result<(), Error> {
         let (links, places) = Link2::parts(table);
         done(unsafe { ic_list_push_back(links, places, &mut self.0, place) })
     }
 
-    /// Takes the first member off.
+    /// Unlinks the first member and returns it, or `None` if there are no members. O(1).
+    ///
+    /// # Errors
+    ///
+    /// [`Error::Broken`], or another one, if the first member is none of this table.
     #[inline]
     pub fn pop_front(&mut self, table: &mut [Link2]) -> Result<Option<u32>, Error> {
         let (links, places) = Link2::parts(table);
         handed_out(|it| unsafe { ic_list_pop_front(links, places, &mut self.0, it) })
     }
 
-    /// Takes the last member off.
+    /// Unlinks the last member and returns it, or `None` if there are no members. O(1).
+    ///
+    /// # Errors
+    ///
+    /// [`Error::Broken`], or another one, if the last member is none of this table.
     #[inline]
     pub fn pop_back(&mut self, table: &mut [Link2]) -> Result<Option<u32>, Error> {
         let (links, places) = Link2::parts(table);
         handed_out(|it| unsafe { ic_list_pop_back(links, places, &mut self.0, it) })
     }
 
-    /// Links a place behind a member, or at the front.
+    /// Links a place behind the member `at`, or at the front if that is `None`. O(1).
+    ///
+    /// # Errors
+    ///
+    /// [`Error::OutOfRange`] of `at` or `place`. [`Error::Linked`] of `place`. [`Error::NotLinked`] of `at`. [`Error::Broken`] if `at` is no
+    /// member.
     #[inline]
     pub fn insert_after(&mut self, table: &mut [Link2], at: Option<u32>, place: u32) -> Result<(), Error> {
         let (links, places) = Link2::parts(table);
         done(unsafe { ic_list_insert_after(links, places, &mut self.0, number(at), place) })
     }
 
-    /// Links a place in front of a member, or at the back.
+    /// Links a place in front of the member `at`, or at the back if that is `None`. O(1).
+    ///
+    /// # Errors
+    ///
+    /// As [`insert_after`](Self::insert_after).
     #[inline]
     pub fn insert_before(&mut self, table: &mut [Link2], at: Option<u32>, place: u32) -> Result<(), Error> {
         let (links, places) = Link2::parts(table);
         done(unsafe { ic_list_insert_before(links, places, &mut self.0, number(at), place) })
     }
 
-    /// Takes a member off.
+    /// Unlinks the member `at`. O(1).
+    ///
+    /// # Errors
+    ///
+    /// [`Error::OutOfRange`] or [`Error::NotLinked`] of `at`. [`Error::Null`] if `at` is `u32::MAX`. [`Error::Broken`] if `at` is no member.
     #[inline]
     pub fn remove(&mut self, table: &mut [Link2], at: u32) -> Result<(), Error> {
         let (links, places) = Link2::parts(table);
         done(unsafe { ic_list_remove(links, places, &mut self.0, at) })
     }
 
-    /// Links a place where a member is, and takes that off.
+    /// Links a place where the member `at` is, which is unlinked. O(1).
+    ///
+    /// # Errors
+    ///
+    /// [`Error::OutOfRange`] of `at` or `place`. [`Error::Linked`] of `place`, also if it is `at`. [`Error::NotLinked`] of `at`.
+    /// [`Error::Null`] if `at` is `u32::MAX`. [`Error::Broken`] if `at` is no member.
     #[inline]
     pub fn replace(&mut self, table: &mut [Link2], at: u32, place: u32) -> Result<(), Error> {
         let (links, places) = Link2::parts(table);
         done(unsafe { ic_list_replace(links, places, &mut self.0, at, place) })
     }
 
-    /// Moves all members of a list behind a member, or to the front.
+    /// Moves all members of `given`, in their order, behind the member `at`, or to the front if that is `None`. O(1). `given` is empty then.
+    ///
+    /// # Errors
+    ///
+    /// [`Error::OutOfRange`] or [`Error::NotLinked`] of `at`. [`Error::Broken`] if `at` is no member, or `given` no list of this table.
     #[inline]
     pub fn splice_after(&mut self, table: &mut [Link2], at: Option<u32>, given: &mut List) -> Result<(), Error> {
         let (links, places) = Link2::parts(table);
         done(unsafe { ic_list_splice_after(links, places, &mut self.0, number(at), &mut given.0) })
     }
 
-    /// Moves all members of a list in front of a member, or to the back.
+    /// Moves all members of `given`, in their order, in front of the member `at`, or to the back if that is `None`. O(1). `given` is empty
+    /// then.
+    ///
+    /// # Errors
+    ///
+    /// As [`splice_after`](Self::splice_after).
     #[inline]
     pub fn splice_before(&mut self, table: &mut [Link2], at: Option<u32>, given: &mut List) -> Result<(), Error> {
         let (links, places) = Link2::parts(table);
         done(unsafe { ic_list_splice_before(links, places, &mut self.0, number(at), &mut given.0) })
     }
 
-    /// Hands out the members behind a member, or all.
+    /// Hands out the members behind the member `at` as a list, or all if that is `None`. O(1).
+    ///
+    /// # Errors
+    ///
+    /// [`Error::OutOfRange`] or [`Error::NotLinked`] of `at`. [`Error::Broken`] if `at` is no member.
     #[inline]
     pub fn split_after(&mut self, table: &mut [Link2], at: Option<u32>) -> Result<List, Error> {
         let ((links, places), mut rest) = (Link2::parts(table), List::new());
@@ -128,7 +197,11 @@ impl List {
         Ok(rest)
     }
 
-    /// Hands out the members in front of a member, or all.
+    /// Hands out the members in front of the member `at` as a list, or all if that is `None`. O(1).
+    ///
+    /// # Errors
+    ///
+    /// As [`split_after`](Self::split_after).
     #[inline]
     pub fn split_before(&mut self, table: &mut [Link2], at: Option<u32>) -> Result<List, Error> {
         let ((links, places), mut rest) = (Link2::parts(table), List::new());
@@ -137,49 +210,92 @@ impl List {
     }
 }
 
-/// The members of a [`List`], from both ends.
-#[derive(Clone, Debug)]
-pub struct Iter<'a> {
-    table: &'a [Link2],
-    front: Option<u32>,
-    back: Option<u32>,
-    left: usize,
-}
+collection!(List, Link2);
+bidirectional!(List, Link2);
+from_place!(List, Link2);
 
-impl Iter<'_> {
-    // Hands out a member, with its link. The last of them ends it.
-    #[inline]
-    fn step(&mut self, end: Option<u32>) -> Option<(u32, Link2)> {
-        let at = end.filter(|_| self.left > 0)?;
-        let link = self.table.get(at as usize)?;
-        self.left = if self.front == self.back { 0 } else { self.left - 1 };
-        Some((at, *link))
+impl fmt::Debug for List {
+    fn fmt(&self, f: &mut fmt::Formatter<'_>) -> fmt::Result {
+        f.debug_struct("List").field("first", &self.first()).field("last", &self.last()).finish()
     }
 }
 
-impl Iterator for Iter<'_> {
-    type Item = u32;
+impl Collection for List {
+    type Link = Link2;
+    type Position = Option<u32>;
 
     #[inline]
-    fn next(&mut self) -> Option<u32> {
-        let (at, link) = self.step(self.front)?;
-        self.front = link.next();
-        Some(at)
+    fn next(&self, table: &[Link2], at: Option<u32>) -> Option<u32> {
+        let next = at.map_or(self.first(), |at| table.get(at as usize).and_then(Link2::next));
+        within(table, next)
     }
 
     #[inline]
-    fn size_hint(&self) -> (usize, Option<usize>) {
-        (0, Some(self.left))
+    fn end(&self, table: &[Link2]) -> Option<u32> {
+        self.prev(table, None)
+    }
+
+    #[inline]
+    fn insert_after(&mut self, table: &mut [Link2], at: Option<u32>, place: u32) -> Result<(), Error> {
+        List::insert_after(self, table, at, place)
+    }
+
+    #[inline]
+    fn remove_next(&mut self, table: &mut [Link2], at: Option<u32>) -> Result<Option<u32>, Error> {
+        let next = self.next(table, at);
+        next.map_or(Ok(()), |next| List::remove(self, table, next))?;
+        Ok(next)
     }
 }
 
-impl DoubleEndedIterator for Iter<'_> {
+impl Bidirectional for List {
     #[inline]
-    fn next_back(&mut self) -> Option<u32> {
-        let (at, link) = self.step(self.back)?;
-        self.back = link.prev();
-        Some(at)
+    fn prev(&self, table: &[Link2], at: Option<u32>) -> Option<u32> {
+        let prev = at.map_or(self.last(), |at| table.get(at as usize).and_then(Link2::prev));
+        within(table, prev)
+    }
+
+    #[inline]
+    fn insert_before(&mut self, table: &mut [Link2], at: Option<u32>, place: u32) -> Result<Option<u32>, Error> {
+        List::insert_before(self, table, at, place)?;
+        Ok(at)
+    }
+
+    #[inline]
+    fn remove(&mut self, table: &mut [Link2], at: Option<u32>) -> Result<Option<u32>, Error> {
+        let next = self.next(table, at);
+        List::remove(self, table, number(at))?;
+        Ok(next)
+    }
+
+    #[inline]
+    fn replace(&mut self, table: &mut [Link2], at: Option<u32>, place: u32) -> Result<Option<u32>, Error> {
+        List::replace(self, table, number(at), place)?;
+        Ok(Some(place))
     }
 }
 
-impl FusedIterator for Iter<'_> {}
+impl Splice for List {
+    #[inline]
+    fn splice_after(&mut self, table: &mut [Link2], at: Option<u32>, given: &mut List) -> Result<(), Error> {
+        List::splice_after(self, table, at, given)
+    }
+
+    #[inline]
+    fn split_after(&mut self, table: &mut [Link2], at: Option<u32>) -> Result<List, Error> {
+        List::split_after(self, table, at)
+    }
+}
+
+impl BidirectionalSplice for List {
+    #[inline]
+    fn splice_before(&mut self, table: &mut [Link2], at: Option<u32>, given: &mut List) -> Result<Option<u32>, Error> {
+        List::splice_before(self, table, at, given)?;
+        Ok(at)
+    }
+
+    #[inline]
+    fn split_before(&mut self, table: &mut [Link2], at: Option<u32>) -> Result<(List, Option<u32>), Error> {
+        Ok((List::split_before(self, table, at)?, at))
+    }
+}

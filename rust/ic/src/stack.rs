@@ -1,78 +1,116 @@
 //! Singly linked lists.
 
-use crate::{done, handed_out, number, place, Error, Link1};
-use core::iter::FusedIterator;
+use crate::collection::{collection, from_place, Collection, Position, Splice};
+use crate::error::{done, handed_out};
+use crate::link::{is_none, linked, number, place, within, Link};
+use crate::{Cursor, CursorMut, Error, Iter, Link1, View};
+use core::fmt;
 use ic_sys::*;
 
 /// A singly linked list over a table of [`Link1`].
 ///
-/// What is edited is behind a member, or at the front where that is `None`. Dropping the list leaves its members linked. A clone of it
-/// belongs to a clone of the table.
+/// It is good for stacks and free lists. What is edited is behind a member, or at the front:
+///
+/// ```
+/// use ic::{Error, Link1, Stack};
+///
+/// let mut links = [Link1::UNLINKED; 5];
+/// let mut free = Stack::new();
+/// for place in (0..4).rev() {
+///     free.push_front(&mut links, place)?;
+/// }
+/// assert_eq!(free.pop_front(&mut links)?, Some(0));
+/// free.insert_after(&mut links, Some(1), 4)?;
+/// assert_eq!(free.remove_after(&mut links, Some(2))?, Some(3));
+/// assert_eq!(format!("{:?}", free.view(&links)), "[1, 4, 2]");
+///
+/// let mut large = free.split_after(&mut links, Some(1))?;
+/// large.splice_after(&mut links, Some(4), &mut free)?;
+/// large.retain(&mut links, |place| place > 1)?;
+/// assert!(large.iter(&links).eq([4, 2]) && free.is_empty());
+/// # Ok::<(), Error>(())
+/// ```
+///
+/// Dropping the list leaves its members linked. A clone of it belongs to a clone of the table.
 #[repr(transparent)]
-#[derive(Clone, Debug, Default)]
-pub struct Stack(ic_stack);
+#[derive(Clone, Default)]
+pub struct Stack(pub(crate) ic_stack);
 
 // Each call below is sound, for the reason that `List` has.
 impl Stack {
-    /// A list with no members.
+    /// A list with no members. O(1).
     #[inline]
+    #[must_use]
     pub const fn new() -> Stack {
         Stack(ic_stack { head: 0 })
     }
 
-    /// Whether it has no members.
+    /// Whether it has no members. O(1).
     #[inline]
+    #[must_use]
     pub fn is_empty(&self) -> bool {
-        self.0.head == 0
+        is_none(self.0.head)
     }
 
-    /// The first member.
+    /// The first member. O(1).
     #[inline]
+    #[must_use]
     pub fn first(&self) -> Option<u32> {
         place(self.0.head)
     }
 
-    /// The members, in order. It ends after as many as the table has places, whatever the words say.
-    #[inline]
-    pub fn iter<'a>(&self, table: &'a [Link1]) -> Iter<'a> {
-        Iter { table, front: self.first(), left: table.len() }
-    }
-
-    /// Hands out all members as a list of their own.
-    #[inline]
-    pub fn take(&mut self) -> Stack {
-        core::mem::take(self)
-    }
-
-    /// Links a place at the front.
+    /// Links a place at the front. O(1).
+    ///
+    /// # Errors
+    ///
+    /// [`Error::OutOfRange`] or [`Error::Linked`] of `place`. [`Error::Broken`] if the first member is none of this table.
     #[inline]
     pub fn push_front(&mut self, table: &mut [Link1], place: u32) -> Result<(), Error> {
         let (links, places) = Link1::parts(table);
         done(unsafe { ic_stack_push_front(links, places, &mut self.0, place) })
     }
 
-    /// Takes the first member off.
+    /// Unlinks the first member and returns it, or `None` if there are no members. O(1).
+    ///
+    /// # Errors
+    ///
+    /// [`Error::Broken`], or another one, if the first member is none of this table.
     #[inline]
     pub fn pop_front(&mut self, table: &mut [Link1]) -> Result<Option<u32>, Error> {
         let (links, places) = Link1::parts(table);
         handed_out(|it| unsafe { ic_stack_pop_front(links, places, &mut self.0, it) })
     }
 
-    /// Links a place behind a member, or at the front.
+    /// Links a place behind the member `at`, or at the front if that is `None`. O(1).
+    ///
+    /// # Errors
+    ///
+    /// [`Error::OutOfRange`] of `at` or `place`. [`Error::Linked`] of `place`. [`Error::NotLinked`] of `at`. [`Error::Broken`] if the member
+    /// behind is none of this table.
     #[inline]
     pub fn insert_after(&mut self, table: &mut [Link1], at: Option<u32>, place: u32) -> Result<(), Error> {
         let (links, places) = Link1::parts(table);
         done(unsafe { ic_stack_insert_after(links, places, &mut self.0, number(at), place) })
     }
 
-    /// Takes the member behind a member off, or the first, if there is one.
+    /// Unlinks the member behind the member `at`, or the first if that is `None`, and returns it, or `None` if there is none. O(1).
+    ///
+    /// # Errors
+    ///
+    /// [`Error::OutOfRange`] or [`Error::NotLinked`] of `at`. [`Error::Broken`] if the member behind is none of this table.
     #[inline]
     pub fn remove_after(&mut self, table: &mut [Link1], at: Option<u32>) -> Result<Option<u32>, Error> {
         let (links, places) = Link1::parts(table);
         handed_out(|it| unsafe { ic_stack_remove_after(links, places, &mut self.0, number(at), it) })
     }
 
-    /// Links a place where the member behind a member is, or the first, and takes that off. Returns [`Error::Null`] if there is none.
+    /// Links a place where the member behind the member `at` is, or the first if that is `None`, and returns that member, which is unlinked.
+    /// O(1).
+    ///
+    /// # Errors
+    ///
+    /// [`Error::Null`] if there is no such member. [`Error::OutOfRange`] of `at` or `place`. [`Error::Linked`] of `place`.
+    /// [`Error::NotLinked`] of `at`. [`Error::Broken`] if the member behind is none of this table.
     #[inline]
     pub fn replace_after(&mut self, table: &mut [Link1], at: Option<u32>, place: u32) -> Result<u32, Error> {
         let (links, places) = Link1::parts(table);
@@ -81,14 +119,23 @@ impl Stack {
         out.ok_or(Error::Null)
     }
 
-    /// Moves all members of a list behind a member, or to the front. O(members of `given`).
+    /// Moves all members of `given`, in their order, behind the member `at`, or to the front if that is `None`. O(members of `given`).
+    /// `given` is empty then.
+    ///
+    /// # Errors
+    ///
+    /// [`Error::OutOfRange`] or [`Error::NotLinked`] of `at`. [`Error::Broken`] if `given` is no list of this table, or has no end.
     #[inline]
     pub fn splice_after(&mut self, table: &mut [Link1], at: Option<u32>, given: &mut Stack) -> Result<(), Error> {
         let (links, places) = Link1::parts(table);
         done(unsafe { ic_stack_splice_after(links, places, &mut self.0, number(at), &mut given.0) })
     }
 
-    /// Hands out the members behind a member, or all.
+    /// Hands out the members behind the member `at` as a list, or all if that is `None`. O(1).
+    ///
+    /// # Errors
+    ///
+    /// [`Error::OutOfRange`] or [`Error::NotLinked`] of `at`. [`Error::Broken`] if the member behind is none of this table.
     #[inline]
     pub fn split_after(&mut self, table: &mut [Link1], at: Option<u32>) -> Result<Stack, Error> {
         let ((links, places), mut rest) = (Link1::parts(table), Stack::new());
@@ -97,29 +144,49 @@ impl Stack {
     }
 }
 
-/// The members of a [`Stack`].
-#[derive(Clone, Debug)]
-pub struct Iter<'a> {
-    table: &'a [Link1],
-    front: Option<u32>,
-    left: usize,
-}
+collection!(Stack, Link1);
+from_place!(Stack, Link1);
 
-impl Iterator for Iter<'_> {
-    type Item = u32;
-
-    #[inline]
-    fn next(&mut self) -> Option<u32> {
-        let at = self.front.filter(|_| self.left > 0)?;
-        self.front = self.table.get(at as usize)?.next();
-        self.left -= 1;
-        Some(at)
-    }
-
-    #[inline]
-    fn size_hint(&self) -> (usize, Option<usize>) {
-        (0, Some(self.left))
+impl fmt::Debug for Stack {
+    fn fmt(&self, f: &mut fmt::Formatter<'_>) -> fmt::Result {
+        f.debug_struct("Stack").field("first", &self.first()).finish()
     }
 }
 
-impl FusedIterator for Iter<'_> {}
+impl Collection for Stack {
+    type Link = Link1;
+    type Position = Option<u32>;
+
+    #[inline]
+    fn next(&self, table: &[Link1], at: Option<u32>) -> Option<u32> {
+        let next = at.map_or(self.first(), |at| table.get(at as usize).and_then(Link1::next));
+        within(table, next)
+    }
+
+    #[inline]
+    fn end(&self, _: &[Link1]) -> Option<u32> {
+        None
+    }
+
+    #[inline]
+    fn insert_after(&mut self, table: &mut [Link1], at: Option<u32>, place: u32) -> Result<(), Error> {
+        Stack::insert_after(self, table, at, place)
+    }
+
+    #[inline]
+    fn remove_next(&mut self, table: &mut [Link1], at: Option<u32>) -> Result<Option<u32>, Error> {
+        self.remove_after(table, at)
+    }
+}
+
+impl Splice for Stack {
+    #[inline]
+    fn splice_after(&mut self, table: &mut [Link1], at: Option<u32>, given: &mut Stack) -> Result<(), Error> {
+        Stack::splice_after(self, table, at, given)
+    }
+
+    #[inline]
+    fn split_after(&mut self, table: &mut [Link1], at: Option<u32>) -> Result<Stack, Error> {
+        Stack::split_after(self, table, at)
+    }
+}

@@ -1,12 +1,16 @@
 //! Red-black trees.
 
-use crate::{done, handed_out, number, place, Error, Link3};
-use core::iter::FusedIterator;
+use crate::collection::{bidirectional, collection, from_place, Bidirectional, Collection, Position};
+use crate::error::{done, handed_out};
+use crate::link::{is_none, linked, number, place, Link};
+use crate::{Cursor, CursorMut, Error, Iter, Link3, View};
+use core::fmt;
 use ic_sys::*;
 
 /// A red-black tree over a table of [`Link3`].
 ///
-/// The members are ordered in one of two ways. By a number each, in a slice of your own, where `keys[place]` is a place's key:
+/// It is good for timers, priorities and indices: objects in order that come and leave anywhere, and are searched for. You order the members
+/// in one of two ways. By a number each, in a slice of your own, where `keys[place]` is a place's key:
 ///
 /// ```
 /// use ic::{Error, Link3, Tree};
@@ -48,59 +52,98 @@ use ic_sys::*;
 /// # Ok::<(), Error>(())
 /// ```
 ///
-/// Each call takes O(log n) with n members. Dropping the tree leaves its members linked. A clone of the tree belongs to a clone of the table.
+/// Members leave by name, at a [cursor](CursorMut), or many at once:
+///
+/// ```
+/// use ic::{Error, Link3, Tree};
+///
+/// let deadlines = [30, 10, 20, 40];
+/// let mut links = [Link3::UNLINKED; 4];
+/// let mut timers = Tree::new();
+/// for timer in 0..4 {
+///     timers.insert(&mut links, &deadlines, timer)?;
+/// }
+/// timers.retain(&mut links, |timer| deadlines[timer as usize] > 15)?;
+/// assert_eq!(format!("{:?}", timers.view(&links)), "[2, 0, 3]");
+/// assert_eq!(timers.front_mut(&mut links).remove()?, Some(2));
+/// timers.remove(&mut links, 0)?;
+/// assert!(timers.iter(&links).eq([3]));
+/// # Ok::<(), Error>(())
+/// ```
+///
+/// n is how many members there are. Dropping the tree leaves its members linked. A clone of the tree belongs to a clone of the table.
 #[repr(transparent)]
-#[derive(Clone, Debug, Default)]
-pub struct Tree(ic_tree);
+#[derive(Clone, Default)]
+pub struct Tree(pub(crate) ic_tree);
 
 // Each call below is sound, for the reason that `List` has. Those that read are handed shared references alone, but for what they return.
 impl Tree {
-    /// A tree with no members.
+    /// A tree with no members. O(1).
     #[inline]
+    #[must_use]
     pub const fn new() -> Tree {
         Tree(ic_tree { root: 0 })
     }
 
-    /// Whether it has no members.
+    /// Whether it has no members. O(1).
     #[inline]
+    #[must_use]
     pub fn is_empty(&self) -> bool {
-        self.0.root == 0
+        is_none(self.0.root)
     }
 
-    /// The root.
+    /// The root. O(1).
     #[inline]
+    #[must_use]
     pub fn root(&self) -> Option<u32> {
         place(self.0.root)
     }
 
-    /// Hands out all members as a tree of their own.
-    #[inline]
-    pub fn take(&mut self) -> Tree {
-        core::mem::take(self)
-    }
-
-    /// Links a place as the left child of a member that has none, so that it is just in front of the member, or as the root of an empty tree.
+    /// Links a place as the left child of the member `at`, which has none, or as the root of an empty tree if that is `None`. O(log n).
+    ///
+    /// The place is just in front of the member.
+    ///
+    /// # Errors
+    ///
+    /// [`Error::OutOfRange`] of `at` or `place`. [`Error::Linked`] of `place`. [`Error::NotLinked`] of `at`. [`Error::Broken`] if `at` has a
+    /// left child, or is `None` and the tree has members, or if the root is none of this table.
     #[inline]
     pub fn insert_left(&mut self, table: &mut [Link3], at: Option<u32>, place: u32) -> Result<(), Error> {
         let (links, places) = Link3::parts(table);
         done(unsafe { ic_tree_insert_left(links, places, &mut self.0, number(at), place) })
     }
 
-    /// Links a place as the right child of a member that has none, so that it is just behind the member, or as the root of an empty tree.
+    /// Links a place as the right child of the member `at`, which has none, or as the root of an empty tree if that is `None`. O(log n).
+    ///
+    /// The place is just behind the member.
+    ///
+    /// # Errors
+    ///
+    /// As [`insert_left`](Self::insert_left), of the right child.
     #[inline]
     pub fn insert_right(&mut self, table: &mut [Link3], at: Option<u32>, place: u32) -> Result<(), Error> {
         let (links, places) = Link3::parts(table);
         done(unsafe { ic_tree_insert_right(links, places, &mut self.0, number(at), place) })
     }
 
-    /// Takes a member off.
+    /// Unlinks the member `at`. O(log n).
+    ///
+    /// # Errors
+    ///
+    /// [`Error::OutOfRange`] or [`Error::NotLinked`] of `at`. [`Error::Null`] if `at` is `u32::MAX`. [`Error::Broken`] if the root is none of
+    /// this table.
     #[inline]
     pub fn remove(&mut self, table: &mut [Link3], at: u32) -> Result<(), Error> {
         let (links, places) = Link3::parts(table);
         done(unsafe { ic_tree_remove(links, places, &mut self.0, at) })
     }
 
-    /// Links a place where a member is, and takes that off. Nothing is compared, so hand in a place that belongs there. O(1).
+    /// Links a place where the member `at` is, which is unlinked. O(1). Nothing is compared, so hand in a place that belongs there.
+    ///
+    /// # Errors
+    ///
+    /// [`Error::OutOfRange`] of `at` or `place`. [`Error::Linked`] of `place`, also if it is `at`. [`Error::NotLinked`] of `at`.
+    /// [`Error::Null`] if `at` is `u32::MAX`. [`Error::Broken`] if the root is none of this table.
     #[inline]
     pub fn replace(&mut self, table: &mut [Link3], at: u32, place: u32) -> Result<(), Error> {
         let (links, places) = Link3::parts(table);
@@ -113,28 +156,45 @@ impl Tree {
 /// A member's key must not change. The searches are for trees whose members are in order by their keys. In others they find some member
 /// or none.
 impl Tree {
-    /// Links a place by its key: behind all members whose keys are not greater.
+    /// Links a place by its key: behind all members whose keys are not greater. O(log n).
+    ///
+    /// # Errors
+    ///
+    /// [`Error::OutOfRange`] of `place`, or if there are fewer keys than places. [`Error::Linked`] of `place`. [`Error::Broken`] if the root
+    /// is none of this table.
     #[inline]
     pub fn insert(&mut self, table: &mut [Link3], keys: &[u64], place: u32) -> Result<(), Error> {
         let (links, places) = Link3::parts(table);
         done(unsafe { ic_tree_insert(links, places, keys.as_ptr(), keys.len(), &mut self.0, place) })
     }
 
-    /// The first member with this key.
+    /// The first member with this key. O(log n).
+    ///
+    /// # Errors
+    ///
+    /// [`Error::OutOfRange`] if there are fewer keys than places. [`Error::Broken`] if the root is none of this table.
     #[inline]
     pub fn find(&self, table: &[Link3], keys: &[u64], key: u64) -> Result<Option<u32>, Error> {
         let (links, places) = Link3::read_parts(table);
         handed_out(|it| unsafe { ic_tree_find(links, places, keys.as_ptr(), keys.len(), &self.0, key, it) })
     }
 
-    /// The first member whose key is not less.
+    /// The first member whose key is not less. O(log n).
+    ///
+    /// # Errors
+    ///
+    /// As [`find`](Self::find).
     #[inline]
     pub fn lower_bound(&self, table: &[Link3], keys: &[u64], key: u64) -> Result<Option<u32>, Error> {
         let (links, places) = Link3::read_parts(table);
         handed_out(|it| unsafe { ic_tree_lower_bound(links, places, keys.as_ptr(), keys.len(), &self.0, key, it) })
     }
 
-    /// The last member whose key is not greater, which is not what the `upper_bound` of C++ finds.
+    /// The last member whose key is not greater, which is not what the `upper_bound` of C++ finds. O(log n).
+    ///
+    /// # Errors
+    ///
+    /// As [`find`](Self::find).
     #[inline]
     pub fn upper_bound(&self, table: &[Link3], keys: &[u64], key: u64) -> Result<Option<u32>, Error> {
         let (links, places) = Link3::read_parts(table);
@@ -144,95 +204,123 @@ impl Tree {
 
 /// Steps through a tree. A walk over all n members takes O(n).
 impl Tree {
-    /// The first member.
+    /// The first member. O(log n).
+    ///
+    /// # Errors
+    ///
+    /// [`Error::Broken`] if the root is none of this table.
     #[inline]
     pub fn first(&self, table: &[Link3]) -> Result<Option<u32>, Error> {
-        next(&self.0, table, None)
+        self.step(table, None, ic_tree_next)
     }
 
-    /// The last member.
+    /// The last member. O(log n).
+    ///
+    /// # Errors
+    ///
+    /// As [`first`](Self::first).
     #[inline]
     pub fn last(&self, table: &[Link3]) -> Result<Option<u32>, Error> {
-        prev(&self.0, table, None)
+        self.step(table, None, ic_tree_prev)
     }
 
-    /// The member behind a member.
+    /// The member behind the member `at`. O(log n).
+    ///
+    /// # Errors
+    ///
+    /// [`Error::OutOfRange`] or [`Error::NotLinked`] of `at`. [`Error::Broken`] if the root is none of this table.
     #[inline]
     pub fn next(&self, table: &[Link3], at: u32) -> Result<Option<u32>, Error> {
-        next(&self.0, table, Some(at))
+        self.step(table, Some(at), ic_tree_next)
     }
 
-    /// The member in front of a member.
+    /// The member in front of the member `at`. O(log n).
+    ///
+    /// # Errors
+    ///
+    /// As [`next`](Self::next).
     #[inline]
     pub fn prev(&self, table: &[Link3], at: u32) -> Result<Option<u32>, Error> {
-        prev(&self.0, table, Some(at))
+        self.step(table, Some(at), ic_tree_prev)
     }
 
-    /// The members, in order. It ends after as many as the table has places, whatever the words say.
+    // The member beside a position. The call is one of the library's, `ic_tree_next` or `ic_tree_prev`.
     #[inline]
-    pub fn iter<'a>(&'a self, table: &'a [Link3]) -> Iter<'a> {
-        let (front, back) = (self.first(table).unwrap_or(None), self.last(table).unwrap_or(None));
-        Iter { tree: &self.0, table, front, back, left: table.len() }
-    }
-}
-
-// The member behind a position, the first one at none.
-#[inline]
-fn next(tree: &ic_tree, table: &[Link3], at: Option<u32>) -> Result<Option<u32>, Error> {
-    let (links, places) = Link3::read_parts(table);
-    handed_out(|it| unsafe { ic_tree_next(links, places, tree, number(at), it) })
-}
-
-// The member in front of a position, the last one at none.
-#[inline]
-fn prev(tree: &ic_tree, table: &[Link3], at: Option<u32>) -> Result<Option<u32>, Error> {
-    let (links, places) = Link3::read_parts(table);
-    handed_out(|it| unsafe { ic_tree_prev(links, places, tree, number(at), it) })
-}
-
-/// The members of a [`Tree`], from both ends.
-#[derive(Clone, Debug)]
-pub struct Iter<'a> {
-    tree: &'a ic_tree,
-    table: &'a [Link3],
-    front: Option<u32>,
-    back: Option<u32>,
-    left: usize,
-}
-
-impl Iter<'_> {
-    // Hands out a member. The last of them ends it.
-    #[inline]
-    fn step(&mut self, end: Option<u32>) -> Option<u32> {
-        let at = end.filter(|_| self.left > 0)?;
-        self.left = if self.front == self.back { 0 } else { self.left - 1 };
-        Some(at)
+    fn step(&self, table: &[Link3], at: Option<u32>, call: Step) -> Result<Option<u32>, Error> {
+        let (links, places) = Link3::read_parts(table);
+        handed_out(|it| unsafe { call(links, places, &self.0, number(at), it) })
     }
 }
 
-impl Iterator for Iter<'_> {
-    type Item = u32;
+// A call that steps.
+type Step = unsafe extern "C" fn(*const ic_link3, usize, *const ic_tree, u32, *mut u32) -> u32;
+
+collection!(Tree, Link3);
+bidirectional!(Tree, Link3);
+from_place!(Tree, Link3);
+
+impl fmt::Debug for Tree {
+    fn fmt(&self, f: &mut fmt::Formatter<'_>) -> fmt::Result {
+        f.debug_struct("Tree").field("root", &self.root()).finish()
+    }
+}
+
+// A place is put in beside a member where that has no child. Where it has one, the member's neighbor on that side has none.
+impl Collection for Tree {
+    type Link = Link3;
+    type Position = Option<u32>;
 
     #[inline]
-    fn next(&mut self) -> Option<u32> {
-        let at = self.step(self.front)?;
-        self.front = next(self.tree, self.table, Some(at)).unwrap_or(None);
-        Some(at)
+    fn next(&self, table: &[Link3], at: Option<u32>) -> Option<u32> {
+        self.step(table, at, ic_tree_next).unwrap_or(None)
     }
 
     #[inline]
-    fn size_hint(&self) -> (usize, Option<usize>) {
-        (0, Some(self.left))
+    fn end(&self, table: &[Link3]) -> Option<u32> {
+        Bidirectional::prev(self, table, None)
     }
-}
 
-impl DoubleEndedIterator for Iter<'_> {
     #[inline]
-    fn next_back(&mut self) -> Option<u32> {
-        let at = self.step(self.back)?;
-        self.back = prev(self.tree, self.table, Some(at)).unwrap_or(None);
-        Some(at)
+    fn insert_after(&mut self, table: &mut [Link3], at: Option<u32>, place: u32) -> Result<(), Error> {
+        match at.and_then(|at| table.get(at as usize)) {
+            Some(link) if link.right().is_none() => self.insert_right(table, at, place),
+            _ => self.insert_left(table, Collection::next(self, table, at), place),
+        }
+    }
+
+    #[inline]
+    fn remove_next(&mut self, table: &mut [Link3], at: Option<u32>) -> Result<Option<u32>, Error> {
+        let next = Collection::next(self, table, at);
+        next.map_or(Ok(()), |next| Tree::remove(self, table, next))?;
+        Ok(next)
     }
 }
 
-impl FusedIterator for Iter<'_> {}
+impl Bidirectional for Tree {
+    #[inline]
+    fn prev(&self, table: &[Link3], at: Option<u32>) -> Option<u32> {
+        self.step(table, at, ic_tree_prev).unwrap_or(None)
+    }
+
+    #[inline]
+    fn insert_before(&mut self, table: &mut [Link3], at: Option<u32>, place: u32) -> Result<Option<u32>, Error> {
+        match at.and_then(|at| table.get(at as usize)) {
+            Some(link) if link.left().is_none() => self.insert_left(table, at, place),
+            _ => self.insert_right(table, Bidirectional::prev(self, table, at), place),
+        }?;
+        Ok(at)
+    }
+
+    #[inline]
+    fn remove(&mut self, table: &mut [Link3], at: Option<u32>) -> Result<Option<u32>, Error> {
+        let next = Collection::next(self, table, at);
+        Tree::remove(self, table, number(at))?;
+        Ok(next)
+    }
+
+    #[inline]
+    fn replace(&mut self, table: &mut [Link3], at: Option<u32>, place: u32) -> Result<Option<u32>, Error> {
+        Tree::replace(self, table, number(at), place)?;
+        Ok(Some(place))
+    }
+}

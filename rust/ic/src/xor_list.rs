@@ -1,84 +1,127 @@
 //! XOR lists.
 
-use crate::{done, handed_out, number, place, Error, Link1};
-use core::iter::FusedIterator;
+use crate::collection::{bidirectional, collection, Bidirectional, BidirectionalSplice, Collection, Position, Splice};
+use crate::error::{done, handed_out};
+use crate::link::{is_none, linked, number, place, within, Link};
+use crate::{Cursor, CursorMut, Error, Iter, Link1, View};
+use core::{fmt, mem};
 use ic_sys::*;
 
 /// An XOR list over a table of [`Link1`].
 ///
-/// A gap is named by both members beside it: `before` is the member in front of it, or `None` at the front, and `behind` is the member behind
-/// it, or `None` at the back. Dropping the list leaves its members linked. A clone of it belongs to a clone of the table.
+/// It is good for lists that are used at both ends and walked both ways, where memory is scarce. A member alone does not tell its neighbors,
+/// so a gap is named by both members beside it: `before` is the member in front of it, or `None` at the front, and `behind` is the member
+/// behind it, or `None` at the back. A [cursor](CursorMut) knows them:
+///
+/// ```
+/// use ic::{Error, Link1, XorList};
+///
+/// let mut links = [Link1::UNLINKED; 5];
+/// let mut list = XorList::new();
+/// list.push_back(&mut links, 0)?;
+/// list.push_back(&mut links, 2)?;
+/// list.insert_between(&mut links, Some(0), 1, Some(2))?;
+/// list.reverse();
+/// assert_eq!(format!("{:?}", list.view(&links)), "[2, 1, 0]");
+///
+/// let mut cursor = list.back_mut(&mut links);
+/// cursor.insert_after(3)?;
+/// cursor.insert_before(4)?;
+/// cursor.move_prev();
+/// cursor.move_prev();
+/// assert_eq!(cursor.remove()?, Some(1));
+/// let front = cursor.split_before()?;
+/// assert!(list.iter(&links).eq([4, 0, 3]) && front.iter(&links).eq([2]));
+/// list.retain(&mut links, |place| place > 0)?;
+/// assert!(list.iter(&links).rev().eq([3, 4]));
+/// # Ok::<(), Error>(())
+/// ```
+///
+/// Dropping the list leaves its members linked. A clone of it belongs to a clone of the table.
 #[repr(transparent)]
-#[derive(Clone, Debug, Default)]
-pub struct XorList(ic_xor_list);
+#[derive(Clone, Default)]
+pub struct XorList(pub(crate) ic_xor_list);
 
 // Each call below is sound, for the reason that `List` has.
 impl XorList {
-    /// A list with no members.
+    /// A list with no members. O(1).
     #[inline]
+    #[must_use]
     pub const fn new() -> XorList {
         XorList(ic_xor_list { head: 0, tail: 0 })
     }
 
-    /// Whether it has no members.
+    /// Whether it has no members. O(1).
     #[inline]
+    #[must_use]
     pub fn is_empty(&self) -> bool {
-        self.0.head == 0
+        is_none(self.0.head)
     }
 
-    /// The first member.
+    /// The first member. O(1).
     #[inline]
+    #[must_use]
     pub fn first(&self) -> Option<u32> {
         place(self.0.head)
     }
 
-    /// The last member.
+    /// The last member. O(1).
     #[inline]
+    #[must_use]
     pub fn last(&self) -> Option<u32> {
         place(self.0.tail)
     }
 
-    /// The members, in order. It ends after as many as the table has places, whatever the words say.
-    #[inline]
-    pub fn iter<'a>(&self, table: &'a [Link1]) -> Iter<'a> {
-        Iter { table, front: (None, self.first()), back: (None, self.last()), left: table.len() }
-    }
-
-    /// Hands out all members as a list of their own.
-    #[inline]
-    pub fn take(&mut self) -> XorList {
-        core::mem::take(self)
-    }
-
-    /// Links a place at the front.
+    /// Links a place at the front. O(1).
+    ///
+    /// # Errors
+    ///
+    /// [`Error::OutOfRange`] or [`Error::Linked`] of `place`. [`Error::Broken`] if the first member is none of this table.
     #[inline]
     pub fn push_front(&mut self, table: &mut [Link1], place: u32) -> Result<(), Error> {
         let (links, places) = Link1::parts(table);
         done(unsafe { ic_xor_push_front(links, places, &mut self.0, place) })
     }
 
-    /// Links a place at the back.
+    /// Links a place at the back. O(1).
+    ///
+    /// # Errors
+    ///
+    /// [`Error::OutOfRange`] or [`Error::Linked`] of `place`. [`Error::Broken`] if the last member is none of this table.
     #[inline]
     pub fn push_back(&mut self, table: &mut [Link1], place: u32) -> Result<(), Error> {
         let (links, places) = Link1::parts(table);
         done(unsafe { ic_xor_push_back(links, places, &mut self.0, place) })
     }
 
-    /// Takes the first member off.
+    /// Unlinks the first member and returns it, or `None` if there are no members. O(1).
+    ///
+    /// # Errors
+    ///
+    /// [`Error::Broken`], or another one, if the first member is none of this table.
     #[inline]
     pub fn pop_front(&mut self, table: &mut [Link1]) -> Result<Option<u32>, Error> {
         let (links, places) = Link1::parts(table);
         handed_out(|it| unsafe { ic_xor_pop_front(links, places, &mut self.0, it) })
     }
 
-    /// Takes the last member off.
+    /// Unlinks the last member and returns it, or `None` if there are no members. O(1).
+    ///
+    /// # Errors
+    ///
+    /// [`Error::Broken`], or another one, if the last member is none of this table.
     #[inline]
     pub fn pop_back(&mut self, table: &mut [Link1]) -> Result<Option<u32>, Error> {
         let (links, places) = Link1::parts(table);
         handed_out(|it| unsafe { ic_xor_pop_back(links, places, &mut self.0, it) })
     }
 
-    /// Links a place in a gap.
+    /// Links a place in the gap between `before` and `behind`. O(1).
+    ///
+    /// # Errors
+    ///
+    /// [`Error::OutOfRange`] of one of the three. [`Error::Linked`] of `place`. [`Error::NotLinked`] of a neighbor. [`Error::Broken`] if there
+    /// is no such gap.
     #[inline]
     pub fn insert_between(
         &mut self,
@@ -91,21 +134,36 @@ impl XorList {
         done(unsafe { ic_xor_insert_between(links, places, &mut self.0, number(before), place, number(behind)) })
     }
 
-    /// Takes a member off, whose neighbor in front is `before`.
+    /// Unlinks the member `at`, whose neighbor in front is `before`. O(1).
+    ///
+    /// # Errors
+    ///
+    /// [`Error::OutOfRange`] or [`Error::NotLinked`] of `before` or `at`. [`Error::Null`] if `at` is `u32::MAX`. [`Error::Broken`] if they are
+    /// no such members.
     #[inline]
     pub fn remove(&mut self, table: &mut [Link1], before: Option<u32>, at: u32) -> Result<(), Error> {
         let (links, places) = Link1::parts(table);
         done(unsafe { ic_xor_remove(links, places, &mut self.0, number(before), at) })
     }
 
-    /// Links a place where a member is, whose neighbor in front is `before`, and takes that off.
+    /// Links a place where the member `at` is, whose neighbor in front is `before`. The member is unlinked. O(1).
+    ///
+    /// # Errors
+    ///
+    /// [`Error::OutOfRange`] of one of the three. [`Error::Linked`] of `place`. [`Error::NotLinked`] of `before` or `at`. [`Error::Null`] if
+    /// `at` is `u32::MAX`. [`Error::Broken`] if they are no such members.
     #[inline]
     pub fn replace(&mut self, table: &mut [Link1], before: Option<u32>, at: u32, place: u32) -> Result<(), Error> {
         let (links, places) = Link1::parts(table);
         done(unsafe { ic_xor_replace(links, places, &mut self.0, number(before), at, place) })
     }
 
-    /// Moves all members of a list into a gap.
+    /// Moves all members of `given`, in their order, into the gap between `before` and `behind`. O(1). `given` is empty then.
+    ///
+    /// # Errors
+    ///
+    /// [`Error::OutOfRange`] or [`Error::NotLinked`] of a neighbor. [`Error::Broken`] if there is no such gap, or `given` is no list of this
+    /// table.
     #[inline]
     pub fn splice_between(
         &mut self,
@@ -118,7 +176,11 @@ impl XorList {
         done(unsafe { ic_xor_splice_between(links, places, &mut self.0, number(before), &mut given.0, number(behind)) })
     }
 
-    /// Hands out the members behind a gap.
+    /// Hands out the members from `behind` on as a list, so that `before` is the last member. O(1).
+    ///
+    /// # Errors
+    ///
+    /// [`Error::OutOfRange`] or [`Error::NotLinked`] of a neighbor. [`Error::Broken`] if there is no such gap.
     #[inline]
     pub fn split_between(
         &mut self,
@@ -131,59 +193,220 @@ impl XorList {
         Ok(rest)
     }
 
-    /// Reverses the list.
+    /// Reverses the list. O(1).
     #[inline]
     pub fn reverse(&mut self) {
         unsafe { ic_xor_reverse(&mut self.0) };
     }
 }
 
-// The member that was handed out last at an end, and the next.
-type End = (Option<u32>, Option<u32>);
+collection!(XorList, Link1);
+bidirectional!(XorList, Link1);
 
-/// The members of an [`XorList`], from both ends.
-#[derive(Clone, Debug)]
-pub struct Iter<'a> {
-    table: &'a [Link1],
-    front: End,
-    back: End,
-    left: usize,
-}
-
-impl Iter<'_> {
-    // Hands out the next member from an end, the last of which ends it.
+/// Cursors on a member that is named with a neighbor.
+impl XorList {
+    /// A cursor on a member, whose neighbor in front is `prev`. O(1). The call cannot tell the members of this list from those of another.
+    ///
+    /// # Errors
+    ///
+    /// [`Error::OutOfRange`] or [`Error::NotLinked`] of `place` or `prev`.
     #[inline]
-    fn step(&mut self, end: End) -> Option<(u32, End)> {
-        let at = end.1.filter(|_| self.left > 0)?;
-        let link = self.table.get(at as usize)?;
-        self.left = if self.front.1 == self.back.1 { 0 } else { self.left - 1 };
-        Some((at, (Some(at), link.step(end.0))))
+    pub fn cursor_from_place_and_prev<'a>(
+        &'a self,
+        table: &'a [Link1],
+        place: u32,
+        prev: Option<u32>,
+    ) -> Result<Cursor<'a, XorList>, Error> {
+        let position = Beside::with_prev(table, place, prev)?;
+        Ok(Cursor::new(self, table, position))
+    }
+
+    /// A cursor on a member, whose neighbor behind is `next`. O(1). The call cannot tell the members of this list from those of another.
+    ///
+    /// # Errors
+    ///
+    /// [`Error::OutOfRange`] or [`Error::NotLinked`] of `place` or `next`.
+    #[inline]
+    pub fn cursor_from_place_and_next<'a>(
+        &'a self,
+        table: &'a [Link1],
+        place: u32,
+        next: Option<u32>,
+    ) -> Result<Cursor<'a, XorList>, Error> {
+        let position = Beside::with_next(table, place, next)?;
+        Ok(Cursor::new(self, table, position))
+    }
+
+    /// A cursor on a member, whose neighbor in front is `prev`, which edits. O(1). The call cannot tell the members of this list from those of
+    /// another.
+    ///
+    /// # Errors
+    ///
+    /// [`Error::OutOfRange`] or [`Error::NotLinked`] of `place` or `prev`.
+    #[inline]
+    pub fn cursor_mut_from_place_and_prev<'a>(
+        &'a mut self,
+        table: &'a mut [Link1],
+        place: u32,
+        prev: Option<u32>,
+    ) -> Result<CursorMut<'a, XorList>, Error> {
+        let position = Beside::with_prev(table, place, prev)?;
+        Ok(CursorMut::new(self, table, position))
+    }
+
+    /// A cursor on a member, whose neighbor behind is `next`, which edits. O(1). The call cannot tell the members of this list from those of
+    /// another.
+    ///
+    /// # Errors
+    ///
+    /// [`Error::OutOfRange`] or [`Error::NotLinked`] of `place` or `next`.
+    #[inline]
+    pub fn cursor_mut_from_place_and_next<'a>(
+        &'a mut self,
+        table: &'a mut [Link1],
+        place: u32,
+        next: Option<u32>,
+    ) -> Result<CursorMut<'a, XorList>, Error> {
+        let position = Beside::with_next(table, place, next)?;
+        Ok(CursorMut::new(self, table, position))
     }
 }
 
-impl Iterator for Iter<'_> {
-    type Item = u32;
-
-    #[inline]
-    fn next(&mut self) -> Option<u32> {
-        let (at, front) = self.step(self.front)?;
-        self.front = front;
-        Some(at)
-    }
-
-    #[inline]
-    fn size_hint(&self) -> (usize, Option<usize>) {
-        (0, Some(self.left))
+impl fmt::Debug for XorList {
+    fn fmt(&self, f: &mut fmt::Formatter<'_>) -> fmt::Result {
+        f.debug_struct("XorList").field("first", &self.first()).field("last", &self.last()).finish()
     }
 }
 
-impl DoubleEndedIterator for Iter<'_> {
+/// A position: the member, and the one in front of it. Both are none at no member.
+#[derive(Clone, Copy)]
+pub struct Beside {
+    before: Option<u32>,
+    at: Option<u32>,
+}
+
+impl Position for Beside {
+    const NULL: Beside = Beside { before: None, at: None };
+
     #[inline]
-    fn next_back(&mut self) -> Option<u32> {
-        let (at, back) = self.step(self.back)?;
-        self.back = back;
-        Some(at)
+    fn place(self) -> Option<u32> {
+        self.at
     }
 }
 
-impl FusedIterator for Iter<'_> {}
+impl Beside {
+    #[inline]
+    fn new(before: Option<u32>, at: Option<u32>) -> Beside {
+        at.map_or(Beside::NULL, |_| Beside { before, at })
+    }
+
+    // On a member whose neighbor in front is named. Both have to be linked.
+    #[inline]
+    fn with_prev(table: &[Link1], at: u32, prev: Option<u32>) -> Result<Beside, Error> {
+        linked(table, at)?;
+        prev.map_or(Ok(()), |prev| linked(table, prev))?;
+        Ok(Beside { before: prev, at: Some(at) })
+    }
+
+    // On a member whose neighbor behind is named. Both have to be linked.
+    #[inline]
+    fn with_next(table: &[Link1], at: u32, next: Option<u32>) -> Result<Beside, Error> {
+        let facing = Beside::with_prev(table, at, next)?;
+        Ok(Beside { before: beyond(table, next, at), ..facing })
+    }
+}
+
+// The neighbor of a member on the other side than `from`.
+#[inline]
+fn beyond(table: &[Link1], from: Option<u32>, at: u32) -> Option<u32> {
+    within(table, table.get(at as usize)?.step(from))
+}
+
+impl Collection for XorList {
+    type Link = Link1;
+    type Position = Beside;
+
+    #[inline]
+    fn next(&self, table: &[Link1], Beside { before, at }: Beside) -> Beside {
+        let behind = at.map_or(within(table, self.first()), |at| beyond(table, before, at));
+        Beside::new(at, behind)
+    }
+
+    #[inline]
+    fn end(&self, table: &[Link1]) -> Beside {
+        self.prev(table, Beside::NULL)
+    }
+
+    #[inline]
+    fn insert_after(&mut self, table: &mut [Link1], position: Beside, place: u32) -> Result<(), Error> {
+        let behind = self.next(table, position).at;
+        self.insert_between(table, position.at, place, behind)
+    }
+
+    #[inline]
+    fn remove_next(&mut self, table: &mut [Link1], position: Beside) -> Result<Option<u32>, Error> {
+        let next = self.next(table, position);
+        next.at.map_or(Ok(()), |at| XorList::remove(self, table, next.before, at))?;
+        Ok(next.at)
+    }
+}
+
+impl Bidirectional for XorList {
+    #[inline]
+    fn prev(&self, table: &[Link1], Beside { before, at }: Beside) -> Beside {
+        let front = if at.is_some() { before } else { within(table, self.last()) };
+        Beside::new(front.and_then(|front| beyond(table, at, front)), front)
+    }
+
+    #[inline]
+    fn insert_before(&mut self, table: &mut [Link1], position: Beside, place: u32) -> Result<Beside, Error> {
+        let before = self.prev(table, position).at;
+        self.insert_between(table, before, place, position.at)?;
+        Ok(Beside::new(Some(place), position.at))
+    }
+
+    #[inline]
+    fn remove(&mut self, table: &mut [Link1], position: Beside) -> Result<Beside, Error> {
+        let behind = self.next(table, position).at;
+        XorList::remove(self, table, position.before, number(position.at))?;
+        Ok(Beside::new(position.before, behind))
+    }
+
+    #[inline]
+    fn replace(&mut self, table: &mut [Link1], position: Beside, place: u32) -> Result<Beside, Error> {
+        XorList::replace(self, table, position.before, number(position.at), place)?;
+        Ok(Beside { at: Some(place), ..position })
+    }
+}
+
+impl Splice for XorList {
+    #[inline]
+    fn splice_after(&mut self, table: &mut [Link1], position: Beside, given: &mut XorList) -> Result<(), Error> {
+        let behind = self.next(table, position).at;
+        self.splice_between(table, position.at, given, behind)
+    }
+
+    #[inline]
+    fn split_after(&mut self, table: &mut [Link1], position: Beside) -> Result<XorList, Error> {
+        let behind = self.next(table, position).at;
+        self.split_between(table, position.at, behind)
+    }
+}
+
+impl BidirectionalSplice for XorList {
+    #[inline]
+    fn splice_before(&mut self, table: &mut [Link1], position: Beside, given: &mut XorList) -> Result<Beside, Error> {
+        let (before, last) = (self.prev(table, position).at, given.last());
+        self.splice_between(table, before, given, position.at)?;
+        Ok(Beside::new(last.or(before), position.at))
+    }
+
+    #[inline]
+    fn split_before(&mut self, table: &mut [Link1], position: Beside) -> Result<(XorList, Beside), Error> {
+        if position.at.is_none() {
+            return Ok((self.split_after(table, position)?, position));
+        }
+        let back = self.split_between(table, position.before, position.at)?;
+        Ok((mem::replace(self, back), Beside::new(None, position.at)))
+    }
+}

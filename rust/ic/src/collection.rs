@@ -1,0 +1,258 @@
+//! What lists and trees of all kinds have in common.
+//!
+//! A kind says how a cursor moves and edits. Views, iterators and cursors are written once, over that, and so is [`retain`].
+
+use crate::link::Link;
+use crate::Error;
+
+/// Where a cursor is: on a member, or on none, which is the position between the last member and the first.
+pub trait Position: Copy {
+    /// The position on no member.
+    const NULL: Self;
+
+    /// The member.
+    fn place(self) -> Option<u32>;
+}
+
+impl Position for Option<u32> {
+    const NULL: Self = None;
+
+    #[inline]
+    fn place(self) -> Option<u32> {
+        self
+    }
+}
+
+/// A kind of list or tree.
+///
+/// Moves read no link outside the table. A word that names a place out of the table counts as none.
+pub trait Collection: Sized {
+    /// What the table has for each place.
+    type Link: Link;
+    /// Where a cursor is.
+    type Position: Position;
+
+    /// The position behind a position.
+    fn next(&self, table: &[Self::Link], at: Self::Position) -> Self::Position;
+
+    /// The position at which a walk in order ends, if the kind knows it beforehand.
+    fn end(&self, table: &[Self::Link]) -> Self::Position;
+
+    /// Links a place behind a position.
+    fn insert_after(&mut self, table: &mut [Self::Link], at: Self::Position, place: u32) -> Result<(), Error>;
+
+    /// Unlinks the member behind a position, if there is one.
+    fn remove_next(&mut self, table: &mut [Self::Link], at: Self::Position) -> Result<Option<u32>, Error>;
+}
+
+/// A kind whose cursors move both ways. Each edit returns where the cursor is then.
+pub trait Bidirectional: Collection {
+    /// The position in front of a position.
+    fn prev(&self, table: &[Self::Link], at: Self::Position) -> Self::Position;
+
+    /// Links a place in front of a position. The cursor stays on its member.
+    fn insert_before(
+        &mut self,
+        table: &mut [Self::Link],
+        at: Self::Position,
+        place: u32,
+    ) -> Result<Self::Position, Error>;
+
+    /// Unlinks the member at a position. The cursor moves to the member behind.
+    fn remove(&mut self, table: &mut [Self::Link], at: Self::Position) -> Result<Self::Position, Error>;
+
+    /// Links a place where the member at a position is, which is unlinked. The cursor is on the place.
+    fn replace(&mut self, table: &mut [Self::Link], at: Self::Position, place: u32) -> Result<Self::Position, Error>;
+}
+
+/// A kind of list, which can be cut and joined.
+pub trait Splice: Collection {
+    /// Moves all members of a list behind a position.
+    fn splice_after(&mut self, table: &mut [Self::Link], at: Self::Position, given: &mut Self) -> Result<(), Error>;
+
+    /// Hands out the members behind a position.
+    fn split_after(&mut self, table: &mut [Self::Link], at: Self::Position) -> Result<Self, Error>;
+}
+
+/// A kind of list whose cursors move both ways. Each edit returns where the cursor is then, which stays on its member.
+pub trait BidirectionalSplice: Bidirectional + Splice {
+    /// Moves all members of a list in front of a position.
+    fn splice_before(
+        &mut self,
+        table: &mut [Self::Link],
+        at: Self::Position,
+        given: &mut Self,
+    ) -> Result<Self::Position, Error>;
+
+    /// Hands out the members in front of a position.
+    fn split_before(&mut self, table: &mut [Self::Link], at: Self::Position) -> Result<(Self, Self::Position), Error>;
+}
+
+/// Unlinks each member that `keep` does not want. A walk over more members than the table has places is one over broken words.
+pub(crate) fn retain<C: Collection>(
+    collection: &mut C,
+    table: &mut [C::Link],
+    mut keep: impl FnMut(u32) -> bool,
+) -> Result<(), Error> {
+    let mut at = C::Position::NULL;
+    for _ in 0..table.len() {
+        let next = collection.next(table, at);
+        let Some(place) = next.place() else { return Ok(()) };
+        if keep(place) {
+            at = next;
+        } else {
+            collection.remove_next(table, at)?;
+        }
+    }
+    collection.next(table, at).place().map_or(Ok(()), |_| Err(Error::Broken))
+}
+
+/// The calls that are alike for all kinds.
+macro_rules! collection {
+    ($Collection:ident, $Link:ident) => {
+        impl $Collection {
+            /// Borrows the members together with their table, to print them and to iterate over them. O(1).
+            #[inline]
+            #[must_use]
+            pub fn view<'a>(&'a self, table: &'a [$Link]) -> View<'a, $Collection> {
+                View::new(self, table)
+            }
+
+            /// Iterates over the members, in order. O(n) for all, and O(1) for each of a list.
+            ///
+            /// Whatever the words say, it ends after as many members as the table has places.
+            #[inline]
+            pub fn iter<'a>(&'a self, table: &'a [$Link]) -> Iter<'a, $Collection> {
+                self.view(table).iter()
+            }
+
+            /// Hands out all members, and leaves none. O(1).
+            #[inline]
+            #[must_use = "the members stay linked"]
+            pub fn take(&mut self) -> $Collection {
+                core::mem::take(self)
+            }
+
+            /// Unlinks each member for which `keep` returns `false`. It asks `keep` once for each member, in order.
+            ///
+            /// O(n), and O(log n) more for each member of a tree that is unlinked.
+            ///
+            /// # Errors
+            ///
+            /// [`Error::Broken`] if the words lead to more members than the table has places, and the error of the removal if one is refused.
+            /// Either tells that the table and its list or tree do not belong together. Unlike other calls, this one has made its edits up
+            /// to there.
+            #[inline]
+            pub fn retain(&mut self, table: &mut [$Link], keep: impl FnMut(u32) -> bool) -> Result<(), Error> {
+                crate::collection::retain(self, table, keep)
+            }
+
+            /// Unlinks all members. O(n) in a list, and O(n log n) in a tree.
+            ///
+            /// # Errors
+            ///
+            /// As [`retain`](Self::retain).
+            #[inline]
+            pub fn clear(&mut self, table: &mut [$Link]) -> Result<(), Error> {
+                self.retain(table, |_| false)
+            }
+
+            /// A cursor on no member. O(1).
+            #[inline]
+            #[must_use]
+            pub fn cursor<'a>(&'a self, table: &'a [$Link]) -> Cursor<'a, $Collection> {
+                Cursor::new(self, table, Position::NULL)
+            }
+
+            /// A cursor on no member, which edits. O(1).
+            #[inline]
+            #[must_use]
+            pub fn cursor_mut<'a>(&'a mut self, table: &'a mut [$Link]) -> CursorMut<'a, $Collection> {
+                CursorMut::new(self, table, Position::NULL)
+            }
+
+            /// A cursor on the first member, or on none if there are no members. O(1) in a list, O(log n) in a tree.
+            #[inline]
+            #[must_use]
+            pub fn front<'a>(&'a self, table: &'a [$Link]) -> Cursor<'a, $Collection> {
+                let mut cursor = self.cursor(table);
+                cursor.move_next();
+                cursor
+            }
+
+            /// A cursor on the first member, which edits, or on none if there are no members. O(1) in a list, O(log n) in a tree.
+            #[inline]
+            #[must_use]
+            pub fn front_mut<'a>(&'a mut self, table: &'a mut [$Link]) -> CursorMut<'a, $Collection> {
+                let mut cursor = self.cursor_mut(table);
+                cursor.move_next();
+                cursor
+            }
+        }
+    };
+}
+
+/// The calls that are alike for the kinds whose cursors move both ways.
+macro_rules! bidirectional {
+    ($Collection:ident, $Link:ident) => {
+        impl $Collection {
+            /// A cursor on the last member, or on none if there are no members. O(1) in a list, O(log n) in a tree.
+            #[inline]
+            #[must_use]
+            pub fn back<'a>(&'a self, table: &'a [$Link]) -> Cursor<'a, $Collection> {
+                let mut cursor = self.cursor(table);
+                cursor.move_prev();
+                cursor
+            }
+
+            /// A cursor on the last member, which edits, or on none if there are no members. O(1) in a list, O(log n) in a tree.
+            #[inline]
+            #[must_use]
+            pub fn back_mut<'a>(&'a mut self, table: &'a mut [$Link]) -> CursorMut<'a, $Collection> {
+                let mut cursor = self.cursor_mut(table);
+                cursor.move_prev();
+                cursor
+            }
+        }
+    };
+}
+
+/// The calls that are alike for the kinds whose cursors are told by a member alone.
+macro_rules! from_place {
+    ($Collection:ident, $Link:ident) => {
+        impl $Collection {
+            /// A cursor on a member. O(1). It has to be a member of this list or tree, which the call cannot tell from those of another.
+            ///
+            /// # Errors
+            ///
+            /// [`Error::OutOfRange`] or [`Error::NotLinked`] of `place`.
+            #[inline]
+            pub fn cursor_from_place<'a>(
+                &'a self,
+                table: &'a [$Link],
+                place: u32,
+            ) -> Result<Cursor<'a, $Collection>, Error> {
+                linked(table, place)?;
+                Ok(Cursor::new(self, table, Some(place)))
+            }
+
+            /// A cursor on a member, which edits. O(1). It has to be a member of this list or tree, which the call cannot tell from those of
+            /// another.
+            ///
+            /// # Errors
+            ///
+            /// [`Error::OutOfRange`] or [`Error::NotLinked`] of `place`.
+            #[inline]
+            pub fn cursor_mut_from_place<'a>(
+                &'a mut self,
+                table: &'a mut [$Link],
+                place: u32,
+            ) -> Result<CursorMut<'a, $Collection>, Error> {
+                linked(table, place)?;
+                Ok(CursorMut::new(self, table, Some(place)))
+            }
+        }
+    };
+}
+
+pub(crate) use {bidirectional, collection, from_place};

@@ -1,0 +1,366 @@
+//! Cursors, which read or edit. Their names are those of the crate `intrusive-collections`.
+
+use crate::collection::{Bidirectional, BidirectionalSplice, Collection, Position, Splice};
+use crate::view::View;
+use crate::{Error, Stack};
+use core::fmt;
+
+/// A cursor on a member of a list or tree, or on none, which reads.
+///
+/// The list or tree is of the type `C`. None is the position between the last member and the first: from there,
+/// [`move_next`](Self::move_next) goes to the first member.
+///
+/// ```
+/// use ic::{Link2, List};
+///
+/// let mut links = [Link2::UNLINKED; 5];
+/// let mut list = List::new();
+/// for place in [4, 0, 2] {
+///     list.push_back(&mut links, place)?;
+/// }
+/// let mut cursor = list.cursor_from_place(&links, 0)?;
+/// assert_eq!((cursor.peek_prev().get(), cursor.peek_next().get()), (Some(4), Some(2)));
+/// cursor.move_next();
+/// cursor.move_next();
+/// assert!(cursor.is_null());
+/// cursor.move_next();
+/// assert_eq!(cursor.get(), Some(4));
+/// # Ok::<(), ic::Error>(())
+/// ```
+pub struct Cursor<'a, C: Collection> {
+    view: View<'a, C>,
+    position: C::Position,
+}
+
+impl<'a, C: Collection> Cursor<'a, C> {
+    #[inline]
+    pub(crate) fn new(collection: &'a C, table: &'a [C::Link], position: C::Position) -> Self {
+        Cursor { view: View::new(collection, table), position }
+    }
+
+    /// Whether the cursor is on no member. O(1).
+    #[inline]
+    #[must_use]
+    pub fn is_null(&self) -> bool {
+        self.get().is_none()
+    }
+
+    /// The member that the cursor is on. O(1).
+    #[inline]
+    #[must_use]
+    #[doc(alias = "current")]
+    pub fn get(&self) -> Option<u32> {
+        self.position.place()
+    }
+
+    /// Borrows all members together with their table, to print them and to iterate over them. O(1).
+    #[inline]
+    #[must_use]
+    pub fn view(&self) -> View<'a, C> {
+        self.view
+    }
+
+    /// Moves to the member behind, from none to the first, and from the last to none. O(1) in a list, O(log n) in a tree.
+    #[inline]
+    pub fn move_next(&mut self) {
+        self.position = self.view.next(self.position);
+    }
+
+    /// A cursor where [`move_next`](Self::move_next) would go. O(1) in a list, O(log n) in a tree.
+    #[inline]
+    #[must_use]
+    pub fn peek_next(&self) -> Self {
+        let mut cursor = *self;
+        cursor.move_next();
+        cursor
+    }
+}
+
+/// What cursors of all but a [`Stack`] have besides.
+impl<C: Bidirectional> Cursor<'_, C> {
+    /// Moves to the member in front, from none to the last, and from the first to none. O(1) in a list, O(log n) in a tree.
+    #[inline]
+    pub fn move_prev(&mut self) {
+        self.position = self.view.prev(self.position);
+    }
+
+    /// A cursor where [`move_prev`](Self::move_prev) would go. O(1) in a list, O(log n) in a tree.
+    #[inline]
+    #[must_use]
+    pub fn peek_prev(&self) -> Self {
+        let mut cursor = *self;
+        cursor.move_prev();
+        cursor
+    }
+}
+
+impl<C: Collection> Clone for Cursor<'_, C> {
+    #[inline]
+    fn clone(&self) -> Self {
+        *self
+    }
+}
+
+impl<C: Collection> Copy for Cursor<'_, C> {}
+
+impl<C: Collection> fmt::Debug for Cursor<'_, C> {
+    fn fmt(&self, f: &mut fmt::Formatter<'_>) -> fmt::Result {
+        f.debug_tuple("Cursor").field(&self.get()).finish()
+    }
+}
+
+/// A cursor on a member of a list or tree, or on none, which edits there.
+///
+/// It borrows the list or tree, whose type is `C`, together with its table. So its calls take neither, and nothing else edits them meanwhile.
+/// An edit that returns an [`Error`] has changed nothing, and the cursor is where it was.
+///
+/// ```
+/// use ic::{Link2, List};
+///
+/// let mut links = [Link2::UNLINKED; 6];
+/// let mut list = List::new();
+/// for place in [4, 0, 2] {
+///     list.push_back(&mut links, place)?;
+/// }
+/// let mut cursor = list.cursor_mut_from_place(&mut links, 0)?;
+/// cursor.insert_before(1)?;
+/// cursor.insert_after(3)?;
+/// assert_eq!(cursor.replace_with(5)?, 0);
+/// assert_eq!((cursor.remove()?, cursor.get()), (Some(5), Some(3)));
+/// assert_eq!(format!("{:?}", cursor.view()), "[4, 1, 3, 2]");
+/// let back = cursor.split_after()?;
+/// assert!(list.iter(&links).eq([4, 1, 3]) && back.iter(&links).eq([2]));
+/// # Ok::<(), ic::Error>(())
+/// ```
+pub struct CursorMut<'a, C: Collection> {
+    collection: &'a mut C,
+    table: &'a mut [C::Link],
+    position: C::Position,
+}
+
+impl<'a, C: Collection> CursorMut<'a, C> {
+    #[inline]
+    pub(crate) fn new(collection: &'a mut C, table: &'a mut [C::Link], position: C::Position) -> Self {
+        CursorMut { collection, table, position }
+    }
+
+    /// Whether the cursor is on no member. O(1).
+    #[inline]
+    #[must_use]
+    pub fn is_null(&self) -> bool {
+        self.get().is_none()
+    }
+
+    /// The member that the cursor is on. O(1).
+    #[inline]
+    #[must_use]
+    #[doc(alias = "current")]
+    pub fn get(&self) -> Option<u32> {
+        self.position.place()
+    }
+
+    /// Borrows all members together with their table, to print them and to iterate over them. O(1).
+    #[inline]
+    #[must_use]
+    pub fn view(&self) -> View<'_, C> {
+        View::new(self.collection, self.table)
+    }
+
+    /// A cursor at the same position, which reads. O(1).
+    #[inline]
+    #[must_use]
+    pub fn as_cursor(&self) -> Cursor<'_, C> {
+        Cursor { view: self.view(), position: self.position }
+    }
+
+    /// Moves to the member behind, from none to the first, and from the last to none. O(1) in a list, O(log n) in a tree.
+    #[inline]
+    pub fn move_next(&mut self) {
+        self.position = self.peek_next().position;
+    }
+
+    /// A cursor where [`move_next`](Self::move_next) would go, which reads. O(1) in a list, O(log n) in a tree.
+    #[inline]
+    #[must_use]
+    pub fn peek_next(&self) -> Cursor<'_, C> {
+        self.as_cursor().peek_next()
+    }
+
+    /// Links a place behind the cursor's member, or at the front if the cursor is on none. O(1) in a list, O(log n) in a tree.
+    ///
+    /// The cursor stays. In a tree nothing is compared, so hand in a place that belongs there.
+    ///
+    /// # Errors
+    ///
+    /// [`Error::OutOfRange`] or [`Error::Linked`] of `place`. [`Error::Broken`] or [`Error::NotLinked`] if the table and its list or tree do
+    /// not belong together.
+    #[inline]
+    pub fn insert_after(&mut self, place: u32) -> Result<(), Error> {
+        self.collection.insert_after(self.table, self.position, place)
+    }
+}
+
+/// What cursors of all but a [`Stack`] have besides.
+impl<C: Bidirectional> CursorMut<'_, C> {
+    /// Moves to the member in front, from none to the last, and from the first to none. O(1) in a list, O(log n) in a tree.
+    #[inline]
+    pub fn move_prev(&mut self) {
+        self.position = self.peek_prev().position;
+    }
+
+    /// A cursor where [`move_prev`](Self::move_prev) would go, which reads. O(1) in a list, O(log n) in a tree.
+    #[inline]
+    #[must_use]
+    pub fn peek_prev(&self) -> Cursor<'_, C> {
+        self.as_cursor().peek_prev()
+    }
+
+    /// Links a place in front of the cursor's member, or at the back if the cursor is on none. O(1) in a list, O(log n) in a tree.
+    ///
+    /// The cursor stays. In a tree nothing is compared, so hand in a place that belongs there.
+    ///
+    /// # Errors
+    ///
+    /// [`Error::OutOfRange`] or [`Error::Linked`] of `place`. [`Error::Broken`] or [`Error::NotLinked`] if the table and its list or tree do
+    /// not belong together.
+    #[inline]
+    pub fn insert_before(&mut self, place: u32) -> Result<(), Error> {
+        self.position = self.collection.insert_before(self.table, self.position, place)?;
+        Ok(())
+    }
+
+    /// Unlinks the cursor's member and returns it, or `None` if the cursor is on none. O(1) in a list, O(log n) in a tree.
+    ///
+    /// The cursor moves to the member behind.
+    ///
+    /// # Errors
+    ///
+    /// [`Error::Broken`] or [`Error::NotLinked`] if the table and its list or tree do not belong together.
+    #[inline]
+    #[doc(alias = "remove_current")]
+    pub fn remove(&mut self) -> Result<Option<u32>, Error> {
+        let member = self.get();
+        if member.is_some() {
+            self.position = self.collection.remove(self.table, self.position)?;
+        }
+        Ok(member)
+    }
+
+    /// Links a place where the cursor's member is, and returns the member, which is unlinked. O(1).
+    ///
+    /// The cursor is on the place then. In a tree nothing is compared, so hand in a place that belongs there.
+    ///
+    /// # Errors
+    ///
+    /// [`Error::Null`] if the cursor is on none. [`Error::OutOfRange`] or [`Error::Linked`] of `place`. [`Error::Broken`] or
+    /// [`Error::NotLinked`] if the table and its list or tree do not belong together.
+    #[inline]
+    #[doc(alias = "replace_current")]
+    pub fn replace_with(&mut self, place: u32) -> Result<u32, Error> {
+        let member = self.get().ok_or(Error::Null)?;
+        self.position = self.collection.replace(self.table, self.position, place)?;
+        Ok(member)
+    }
+}
+
+/// What cursors of lists have besides.
+impl<C: Splice> CursorMut<'_, C> {
+    /// Moves all members of a list of the same table behind the cursor's member, or to the front if the cursor is on none.
+    ///
+    /// O(1), and O(members of `given`) for a [`Stack`]. `given` is empty then. The cursor stays.
+    ///
+    /// # Errors
+    ///
+    /// [`Error::Broken`] if `given` is no list of this table. [`Error::Broken`] or [`Error::NotLinked`] if the table and the cursor's list do
+    /// not belong together.
+    #[inline]
+    pub fn splice_after(&mut self, given: &mut C) -> Result<(), Error> {
+        self.collection.splice_after(self.table, self.position, given)
+    }
+
+    /// Hands out the members behind the cursor's member as a list, or all if the cursor is on none. O(1). The cursor stays.
+    ///
+    /// # Errors
+    ///
+    /// [`Error::Broken`] or [`Error::NotLinked`] if the table and the list do not belong together.
+    #[inline]
+    pub fn split_after(&mut self) -> Result<C, Error> {
+        self.collection.split_after(self.table, self.position)
+    }
+}
+
+/// What cursors of a [`List`](crate::List) and an [`XorList`](crate::XorList) have besides.
+impl<C: BidirectionalSplice> CursorMut<'_, C> {
+    /// Moves all members of a list of the same table in front of the cursor's member, or to the back if the cursor is on none. O(1).
+    ///
+    /// `given` is empty then. The cursor stays.
+    ///
+    /// # Errors
+    ///
+    /// [`Error::Broken`] if `given` is no list of this table. [`Error::Broken`] or [`Error::NotLinked`] if the table and the cursor's list do
+    /// not belong together.
+    #[inline]
+    pub fn splice_before(&mut self, given: &mut C) -> Result<(), Error> {
+        self.position = self.collection.splice_before(self.table, self.position, given)?;
+        Ok(())
+    }
+
+    /// Hands out the members in front of the cursor's member as a list, or all if the cursor is on none. O(1). The cursor stays.
+    ///
+    /// # Errors
+    ///
+    /// [`Error::Broken`] or [`Error::NotLinked`] if the table and the list do not belong together.
+    #[inline]
+    pub fn split_before(&mut self) -> Result<C, Error> {
+        let (front, position) = self.collection.split_before(self.table, self.position)?;
+        self.position = position;
+        Ok(front)
+    }
+}
+
+/// What cursors of a [`Stack`] have besides.
+///
+/// ```
+/// use ic::{Link1, Stack};
+///
+/// let mut links = [Link1::UNLINKED; 5];
+/// let mut stack = Stack::new();
+/// for place in [4, 0, 2] {
+///     stack.push_front(&mut links, place)?;
+/// }
+/// let mut cursor = stack.front_mut(&mut links);
+/// assert_eq!(cursor.replace_next_with(1)?, 0);
+/// cursor.move_next();
+/// assert_eq!(cursor.remove_next()?, Some(4));
+/// assert_eq!(cursor.remove_next()?, None);
+/// assert!(stack.iter(&links).eq([2, 1]));
+/// # Ok::<(), ic::Error>(())
+/// ```
+impl CursorMut<'_, Stack> {
+    /// Unlinks the member behind the cursor and returns it, or `None` if there is none. O(1). The cursor stays.
+    ///
+    /// # Errors
+    ///
+    /// [`Error::Broken`] or [`Error::NotLinked`] if the table and the list do not belong together.
+    #[inline]
+    pub fn remove_next(&mut self) -> Result<Option<u32>, Error> {
+        self.collection.remove_after(self.table, self.position)
+    }
+
+    /// Links a place where the member behind the cursor is, and returns the member, which is unlinked. O(1). The cursor stays.
+    ///
+    /// # Errors
+    ///
+    /// [`Error::Null`] if there is no member behind the cursor. [`Error::OutOfRange`] or [`Error::Linked`] of `place`. [`Error::Broken`] or
+    /// [`Error::NotLinked`] if the table and the list do not belong together.
+    #[inline]
+    pub fn replace_next_with(&mut self, place: u32) -> Result<u32, Error> {
+        self.collection.replace_after(self.table, self.position, place)
+    }
+}
+
+impl<C: Collection> fmt::Debug for CursorMut<'_, C> {
+    fn fmt(&self, f: &mut fmt::Formatter<'_>) -> fmt::Result {
+        f.debug_tuple("CursorMut").field(&self.get()).finish()
+    }
+}

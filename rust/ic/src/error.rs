@@ -1,0 +1,70 @@
+//! Why a call is refused.
+
+use core::fmt;
+use ic_sys::*;
+
+/// Why a call has changed nothing.
+///
+/// ```
+/// use ic::{Error, Link2, List};
+///
+/// let mut links = [Link2::UNLINKED; 3];
+/// let mut list = List::new();
+/// list.push_back(&mut links, 0)?;
+/// assert_eq!(list.push_back(&mut links, 3), Err(Error::OutOfRange));
+/// assert_eq!(list.push_back(&mut links, 0), Err(Error::Linked));
+/// assert_eq!(list.remove(&mut links, 1), Err(Error::NotLinked));
+/// assert_eq!(Error::Linked.to_string(), "the place to insert is in a list or tree of this table");
+/// # Ok::<(), Error>(())
+/// ```
+#[derive(Clone, Copy, Debug, PartialEq, Eq, Hash)]
+pub enum Error {
+    /// A place is not below the table's length, or there are fewer keys than places.
+    OutOfRange,
+    /// The place to insert is in a list or tree of this table.
+    Linked,
+    /// The member that is named is in no list or tree of this table.
+    NotLinked,
+    /// There is no member where the call needs one.
+    Null,
+    /// Table, list or tree, and member do not belong together.
+    Broken,
+}
+
+impl fmt::Display for Error {
+    fn fmt(&self, f: &mut fmt::Formatter<'_>) -> fmt::Result {
+        f.write_str(match self {
+            Error::OutOfRange => "a place is not below the table's length, or there are fewer keys than places",
+            Error::Linked => "the place to insert is in a list or tree of this table",
+            Error::NotLinked => "the member that is named is in no list or tree of this table",
+            Error::Null => "there is no member where the call needs one",
+            Error::Broken => "table, list or tree, and member do not belong together",
+        })
+    }
+}
+
+impl core::error::Error for Error {}
+
+/// What a call returned.
+#[inline]
+pub(crate) fn done(status: u32) -> Result<(), Error> {
+    match status {
+        IC_OK => Ok(()),
+        IC_OUT_OF_RANGE => Err(Error::OutOfRange),
+        IC_LINKED => Err(Error::Linked),
+        IC_NOT_LINKED => Err(Error::NotLinked),
+        IC_NULL => Err(Error::Null),
+        _ => Err(Error::Broken),
+    }
+}
+
+/// What a call returned that hands out a member, if there is one.
+#[inline]
+pub(crate) fn handed_out(call: impl FnOnce(&mut u32) -> u32) -> Result<Option<u32>, Error> {
+    let mut member = IC_NONE;
+    match done(call(&mut member)) {
+        Ok(()) => Ok(Some(member)),
+        Err(Error::Null) => Ok(None),
+        Err(error) => Err(error),
+    }
+}

@@ -1,0 +1,206 @@
+//! Links, and the words that they consist of.
+//!
+//! The bits 3 to 35 of a word are a place's number, which is one more than the place, and 0 for none. The lowest bit is a mark of the link,
+//! and the others count for nothing. Every pattern of bits is a word, and the library reads each as this module does.
+
+use crate::Error;
+use ic_sys::*;
+
+/// The bits of a word that are a place's number.
+const NUMBER: u64 = (1 << 36) - (1 << 3);
+
+/// Whether a word names no place at all, not even one that no table reaches.
+#[inline]
+pub(crate) fn is_none(word: u64) -> bool {
+    word & NUMBER == 0
+}
+
+/// The place that a word names, if it is one that a `u32` can name.
+#[inline]
+pub(crate) fn place(word: u64) -> Option<u32> {
+    let place = ic_place(word);
+    (place != IC_NONE).then_some(place)
+}
+
+/// A place as the calls take it.
+#[inline]
+pub(crate) fn number(place: Option<u32>) -> u32 {
+    place.unwrap_or(IC_NONE)
+}
+
+/// A place, if the table has it.
+#[inline]
+pub(crate) fn within<L>(table: &[L], place: Option<u32>) -> Option<u32> {
+    place.filter(|&place| (place as usize) < table.len())
+}
+
+/// A link of any kind.
+pub trait Link: Sized {
+    /// What the calls have for it. The link is a transparent wrapper of this.
+    type Raw;
+
+    /// Whether the place is linked.
+    fn is_linked(&self) -> bool;
+
+    /// A table as the calls take it that edit.
+    #[inline]
+    fn parts(table: &mut [Self]) -> (*mut Self::Raw, usize) {
+        (table.as_mut_ptr().cast(), table.len())
+    }
+
+    /// A table as the calls take it that read.
+    #[inline]
+    fn read_parts(table: &[Self]) -> (*const Self::Raw, usize) {
+        (table.as_ptr().cast(), table.len())
+    }
+}
+
+/// Refuses a place that is not linked in the table.
+#[inline]
+pub(crate) fn linked<L: Link>(table: &[L], place: u32) -> Result<(), Error> {
+    match table.get(place as usize) {
+        None => Err(Error::OutOfRange),
+        Some(link) if !link.is_linked() => Err(Error::NotLinked),
+        Some(_) => Ok(()),
+    }
+}
+
+/// What links of all kinds have. The first word has the mark that says whether a place is linked.
+macro_rules! link {
+    ($Link:ident, $Raw:ident { $first:ident $(, $word:ident)* }) => {
+        impl Link for $Link {
+            type Raw = $Raw;
+
+            #[inline]
+            fn is_linked(&self) -> bool {
+                self.0.$first & 1 == 1
+            }
+        }
+
+        impl $Link {
+            /// The link of a place that is in no list and no tree.
+            pub const UNLINKED: $Link = $Link($Raw { $first: 0 $(, $word: 0)* });
+
+            /// Whether the place is in a list or tree. O(1).
+            #[inline]
+            #[must_use]
+            pub fn is_linked(&self) -> bool {
+                Link::is_linked(self)
+            }
+        }
+    };
+}
+
+link!(Link1, ic_link1 { next });
+link!(Link2, ic_link2 { next, prev });
+link!(Link3, ic_link3 { left, right, parent });
+
+/// What a table of a [`List`](crate::List) has for each place.
+///
+/// ```
+/// use ic::{Link2, List};
+///
+/// let mut links = [Link2::UNLINKED; 3];
+/// let mut list = List::new();
+/// list.push_back(&mut links, 0)?;
+/// list.push_back(&mut links, 2)?;
+/// assert_eq!((links[0].next(), links[2].prev()), (Some(2), Some(0)));
+/// assert!(links[2].is_linked() && !links[1].is_linked());
+/// # Ok::<(), ic::Error>(())
+/// ```
+#[repr(transparent)]
+#[derive(Clone, Copy, Debug, Default)]
+pub struct Link2(pub(crate) ic_link2);
+
+impl Link2 {
+    /// The member behind, of a member. O(1).
+    #[inline]
+    #[must_use]
+    pub fn next(&self) -> Option<u32> {
+        place(self.0.next)
+    }
+
+    /// The member in front, of a member. O(1).
+    #[inline]
+    #[must_use]
+    pub fn prev(&self) -> Option<u32> {
+        place(self.0.prev)
+    }
+}
+
+/// What a table of a [`Stack`](crate::Stack) or an [`XorList`](crate::XorList) has for each place.
+///
+/// ```
+/// use ic::{Link1, Stack, XorList};
+///
+/// let (mut links, mut stack) = ([Link1::UNLINKED; 3], Stack::new());
+/// stack.push_front(&mut links, 2)?;
+/// stack.push_front(&mut links, 0)?;
+/// assert_eq!(links[0].next(), Some(2));
+///
+/// let (mut links, mut list) = ([Link1::UNLINKED; 3], XorList::new());
+/// for place in 0..3 {
+///     list.push_back(&mut links, place)?;
+/// }
+/// assert_eq!((links[1].step(Some(0)), links[1].step(Some(2))), (Some(2), Some(0)));
+/// # Ok::<(), ic::Error>(())
+/// ```
+#[repr(transparent)]
+#[derive(Clone, Copy, Debug, Default)]
+pub struct Link1(pub(crate) ic_link1);
+
+impl Link1 {
+    /// The member behind, of a member of a [`Stack`](crate::Stack). O(1).
+    #[inline]
+    #[must_use]
+    pub fn next(&self) -> Option<u32> {
+        place(self.0.next)
+    }
+
+    /// The neighbor on the other side than `from`, of a member of an [`XorList`](crate::XorList). `from` is `None` at an end. O(1).
+    #[inline]
+    #[must_use]
+    pub fn step(&self, from: Option<u32>) -> Option<u32> {
+        place(self.0.next ^ ic_word(number(from)))
+    }
+}
+
+/// What a table of a [`Tree`](crate::Tree) has for each place.
+///
+/// ```
+/// use ic::{Link3, Tree};
+///
+/// let mut links = [Link3::UNLINKED; 3];
+/// let mut tree = Tree::new();
+/// tree.insert_left(&mut links, None, 1)?;
+/// tree.insert_right(&mut links, Some(1), 2)?;
+/// assert_eq!((links[1].left(), links[1].right(), links[2].parent()), (None, Some(2), Some(1)));
+/// assert!(links[2].is_linked() && !links[0].is_linked());
+/// # Ok::<(), ic::Error>(())
+/// ```
+#[repr(transparent)]
+#[derive(Clone, Copy, Debug, Default)]
+pub struct Link3(pub(crate) ic_link3);
+
+impl Link3 {
+    /// The left child, of a member. The members under it are in front of the member. O(1).
+    #[inline]
+    #[must_use]
+    pub fn left(&self) -> Option<u32> {
+        place(self.0.left)
+    }
+
+    /// The right child, of a member. The members under it are behind the member. O(1).
+    #[inline]
+    #[must_use]
+    pub fn right(&self) -> Option<u32> {
+        place(self.0.right)
+    }
+
+    /// The parent, of a member. O(1).
+    #[inline]
+    #[must_use]
+    pub fn parent(&self) -> Option<u32> {
+        place(self.0.parent)
+    }
+}
