@@ -23,14 +23,16 @@
  * What every call does, whatever it is handed:
  *   - It returns one of the statuses below.
  *   - It writes to nothing but table[0 .. places - 1], the lists, the tree and the out parameter that it is handed.
- *   - If the status is not IC_OK, it has changed nothing, out parameters included.
+ *   - If the status is not IC_OK, it has changed nothing, out parameters included. The status says what is wrong with the first member
+ *     that is named, else with the next one, else with the place to insert, else that the words do not fit together (IC_BROKEN).
  *   - It takes at most a fixed number of steps, but for ic_stack_splice_after, which takes at most `places` more. A call of a list takes a
  *     few, and a call of a tree O(log n).
  *
  * Where the table holds the list or tree, and the member that you name is one of its members, the call makes the edit that its comment
  * says. Every other list and tree of the table stays as it was. A member of another list of the same table is refused with IC_BROKEN where
- * the words of its neighbors tell, as for an edit beyond the end of a doubly linked or XOR list. In the middle of a list, in singly linked
- * lists and in trees they do not: then the call mixes both up, within the table.
+ * the words of its neighbors tell, as for an edit beyond the end of a doubly linked list. In the middle of a list, in singly linked lists
+ * and in trees they do not: then the call mixes both up, within the table. Nor does the word of an XOR list's member always tell its
+ * neighbors: see there.
  */
 #ifndef IC_H
 #define IC_H
@@ -248,12 +250,12 @@ IC_NODISCARD
 uint32_t ic_list_push_back(struct ic_link2 *table, size_t places, struct ic_list *list, uint32_t place);
 
 /* Takes the first member off, and sets *popped to it.
- * IC_NULL: the list is empty. Any other: its first member is none of this table. */
+ * IC_NULL: the list is empty. IC_BROKEN: its first member is none of this table. */
 IC_NODISCARD
 uint32_t ic_list_pop_front(struct ic_link2 *table, size_t places, struct ic_list *list, uint32_t *popped);
 
 /* Takes the last member off, and sets *popped to it.
- * IC_NULL: the list is empty. Any other: its last member is none of this table. */
+ * IC_NULL: the list is empty. IC_BROKEN: its last member is none of this table. */
 IC_NODISCARD
 uint32_t ic_list_pop_back(struct ic_link2 *table, size_t places, struct ic_list *list, uint32_t *popped);
 
@@ -278,7 +280,8 @@ IC_NODISCARD
 uint32_t ic_list_replace(struct ic_link2 *table, size_t places, struct ic_list *list, uint32_t at, uint32_t place);
 
 /* Moves all members of `given` behind the member `at`, or to the front where `at` is IC_NONE, in their order. `given` is empty then.
- * IC_OUT_OF_RANGE or IC_NOT_LINKED: of `at`. IC_BROKEN: `at` is no member, or `given` is no list of this table. */
+ * IC_OUT_OF_RANGE or IC_NOT_LINKED: of `at`. IC_BROKEN: `at` is no member, or `given` is no list of this table, or begins with the same
+ * member as the list, as the list itself does. */
 IC_NODISCARD
 uint32_t ic_list_splice_after(struct ic_link2 *table, size_t places, struct ic_list *list, uint32_t at, struct ic_list *given);
 
@@ -286,8 +289,8 @@ uint32_t ic_list_splice_after(struct ic_link2 *table, size_t places, struct ic_l
 IC_NODISCARD
 uint32_t ic_list_splice_before(struct ic_link2 *table, size_t places, struct ic_list *list, uint32_t at, struct ic_list *given);
 
-/* Moves the members behind `at` to `rest`, or all of them where `at` is IC_NONE. What `rest` was is lost, so hand in an empty list.
- * IC_OUT_OF_RANGE or IC_NOT_LINKED: of `at`. IC_BROKEN: `at` is no member. */
+/* Moves the members behind `at` to `rest`, or all of them where `at` is IC_NONE. Hand in an empty `rest`.
+ * IC_OUT_OF_RANGE or IC_NOT_LINKED: of `at`. IC_BROKEN: `at` is no member, or `rest` has members. */
 IC_NODISCARD
 uint32_t ic_list_split_after(struct ic_link2 *table, size_t places, struct ic_list *list, uint32_t at, struct ic_list *rest);
 
@@ -351,7 +354,7 @@ IC_NODISCARD
 uint32_t ic_stack_push_front(struct ic_link1 *table, size_t places, struct ic_stack *list, uint32_t place);
 
 /* Takes the first member off, and sets *popped to it.
- * IC_NULL: the list is empty. Any other: its first member is none of this table. */
+ * IC_NULL: the list is empty. IC_BROKEN: its first member is none of this table. */
 IC_NODISCARD
 uint32_t ic_stack_pop_front(struct ic_link1 *table, size_t places, struct ic_stack *list, uint32_t *popped);
 
@@ -373,12 +376,13 @@ IC_NODISCARD
 uint32_t ic_stack_replace_after(struct ic_link1 *table, size_t places, struct ic_stack *list, uint32_t at, uint32_t place, uint32_t *out);
 
 /* Moves all members of `given` behind the member `at`, or to the front, in their order. `given` is empty then. O(members of `given`).
- * IC_OUT_OF_RANGE or IC_NOT_LINKED: of `at`. IC_BROKEN: `given` is no list of this table, or has no end within `places` steps. */
+ * IC_OUT_OF_RANGE or IC_NOT_LINKED: of `at`. IC_BROKEN: `given` is no list of this table, has no end within `places`
+ * steps, or begins with the same member as the list, as the list itself does. */
 IC_NODISCARD
 uint32_t ic_stack_splice_after(struct ic_link1 *table, size_t places, struct ic_stack *list, uint32_t at, struct ic_stack *given);
 
-/* Moves the members behind `at` to `rest`, or all of them where `at` is IC_NONE. What `rest` was is lost, so hand in an empty list.
- * IC_OUT_OF_RANGE or IC_NOT_LINKED: of `at`. IC_BROKEN: the member behind is none of this table. */
+/* Moves the members behind `at` to `rest`, or all of them where `at` is IC_NONE. Hand in an empty `rest`.
+ * IC_OUT_OF_RANGE or IC_NOT_LINKED: of `at`. IC_BROKEN: the member behind is none of this table, or `rest` has members. */
 IC_NODISCARD
 uint32_t ic_stack_split_after(struct ic_link1 *table, size_t places, struct ic_stack *list, uint32_t at, struct ic_stack *rest);
 
@@ -387,6 +391,11 @@ uint32_t ic_stack_split_after(struct ic_link1 *table, size_t places, struct ic_s
  * Good for lists that are used at both ends and walked both ways, where memory is scarce. A member alone does not tell its neighbors, so
  * a gap is named by both members beside it: `before` is the member in front of it, or IC_NONE at the front, and `behind` is the member
  * behind it, or IC_NONE at the back. Both are IC_NONE in an empty list.
+ *
+ * A call at a gap tests that both members are linked, and that their words with each other name linked places beyond them, or none at an
+ * end of the list. So it refuses with IC_BROKEN what is no gap beside IC_NONE, or at an end, and most other pairs of members. But where many
+ * places are linked, a pair that is no gap may pass: of the list of the places 0 to 6, in their order, 1 and 6 do. Then the list is mixed
+ * up, within the table. So name members that you know to be neighbors.
  */
 
 /* Whether a place is in a list of the table. */
@@ -463,12 +472,12 @@ IC_NODISCARD
 uint32_t ic_xor_push_back(struct ic_link1 *table, size_t places, struct ic_xor_list *list, uint32_t place);
 
 /* Takes the first member off, and sets *popped to it.
- * IC_NULL: the list is empty. Any other: its first member is none of this table. */
+ * IC_NULL: the list is empty. IC_BROKEN: its first member is none of this table. */
 IC_NODISCARD
 uint32_t ic_xor_pop_front(struct ic_link1 *table, size_t places, struct ic_xor_list *list, uint32_t *popped);
 
 /* Takes the last member off, and sets *popped to it.
- * IC_NULL: the list is empty. Any other: its last member is none of this table. */
+ * IC_NULL: the list is empty. IC_BROKEN: its last member is none of this table. */
 IC_NODISCARD
 uint32_t ic_xor_pop_back(struct ic_link1 *table, size_t places, struct ic_xor_list *list, uint32_t *popped);
 
@@ -490,14 +499,15 @@ IC_NODISCARD
 uint32_t ic_xor_replace(struct ic_link1 *table, size_t places, struct ic_xor_list *list, uint32_t before, uint32_t at, uint32_t place);
 
 /* Moves all members of `given` into the gap between `before` and `behind`, in their order. `given` is empty then.
- * IC_OUT_OF_RANGE or IC_NOT_LINKED: of a neighbor. IC_BROKEN: there is no such gap, or `given` is no list of this table. */
+ * IC_OUT_OF_RANGE or IC_NOT_LINKED: of a neighbor. IC_BROKEN: there is no such gap, or `given` is no list of this table, or begins with
+ * the same member as the list, as the list itself does. */
 IC_NODISCARD
 uint32_t ic_xor_splice_between(struct ic_link1 *table, size_t places, struct ic_xor_list *list, uint32_t before, struct ic_xor_list *given,
                                uint32_t behind);
 
 /* Moves the members from `behind` on to `rest`, and `before` is the last member then. All move where `before` is IC_NONE, and none where
- * `behind` is. What `rest` was is lost, so hand in an empty list.
- * IC_OUT_OF_RANGE or IC_NOT_LINKED: of a neighbor. IC_BROKEN: there is no such gap. */
+ * `behind` is. Hand in an empty `rest`.
+ * IC_OUT_OF_RANGE or IC_NOT_LINKED: of a neighbor. IC_BROKEN: there is no such gap, or `rest` has members. */
 IC_NODISCARD
 uint32_t ic_xor_split_between(struct ic_link1 *table, size_t places, struct ic_xor_list *list, uint32_t before, uint32_t behind,
                               struct ic_xor_list *rest);

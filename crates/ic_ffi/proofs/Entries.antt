@@ -1,5 +1,5 @@
 -- The words of a table as they are written.
-use Rattle.std.proofs.Common.{◌≡◌, ℕ, List, Bool, true, false, Option, slice_set, slice_index_or, sym, ap, ◌∙◌, arith}
+use Rattle.std.proofs.Common.{◌≡◌, ℕ, List, Bool, true, false, Option, slice_set, slice_index_or, ◌+◌, ◌%◌, nat_eq, eqb-true, eq-eqb, sym, ap, ◌∙◌, arith}
 use Rattle.std.proofs.lemmas.List.{length-set}
 use Rattle.ic_unsafe_ref.specs.declared.place.Place.{Place}
 use Rattle.ic_unsafe_ref.specs.PlaceWords.{IsWord}
@@ -32,6 +32,38 @@ place_kept p =
     let fits = word_fits p in
     let same : number_in (word_of p) ≡ word_of p = omega (arith, fits.0, fits.1) in
     ap place_at same ∙ place_at_word p
+
+-- a word as a call writes it names its place: that of a place alone, and that of what is behind a linked one
+pub named : (v : ℕ) (place : Option Place) → v ≡ word_of place → place_in v ≡ place
+named v place e = ap place_in e ∙ place_kept place
+
+pub named_marked : (v : ℕ) (next : Option Place) → v ≡ word_of next + 1 → (nat_eq (v % 2) 1 ≡ true) × (place_in v ≡ next)
+named_marked v next e =
+    let fits = word_fits next in
+    let number : number_in v ≡ word_of next = omega (arith, e, fits.0, fits.1) in
+    let marked : v % 2 ≡ 1 = omega (arith, e, fits.0, fits.1) in
+    (eq-eqb (v % 2) 1 marked, ap place_at number ∙ place_at_word next)
+
+-- one comparison tells that a word is marked, and which place it names
+pub is_led : (v : ℕ) (next : Option Place) → number_in v + v % 2 ≡ word_of next + 1 → (nat_eq (v % 2) 1 ≡ true) × (place_in v ≡ next)
+is_led v next same =
+    let fits = word_fits next in
+    let marked : v % 2 ≡ 1 = omega (arith, same, fits.0, fits.1) in
+    let number : number_in v ≡ word_of next = omega (arith, same, fits.0, fits.1) in
+    (eq-eqb (v % 2) 1 marked, ap place_at number ∙ place_at_word next)
+
+pub leads : (v : ℕ) (next : Option Place) → nat_eq (v % 2) 1 ≡ true → next ≡ place_in v → number_in v + v % 2 ≡ word_of next + 1
+leads v next marked is =
+    let one : v % 2 ≡ 1 = eqb-true (v % 2) 1 marked in
+    let number : number_in v ≡ word_of next = sym (ap word_of is ∙ number_read v) in
+    omega (arith, one, number)
+
+-- two places with the same word are one
+pub one_word : (a b : Option Place) {v w : ℕ} → v ≡ word_of a → w ≡ word_of b → v ≡ w → a ≡ b
+one_word a b e f k = sym (place_at_word a) ∙ ap place_at (sym e ∙ k ∙ f) ∙ place_at_word b
+
+pub same_word : (a b : Option Place) {v w : ℕ} → v ≡ word_of a → w ≡ word_of b → nat_eq v w ≡ true → a ≡ b
+same_word a b {v} {w} e f k = one_word a b e f (eqb-true v w k)
 
 module _ {E : Type 0} (is_linked : E → Bool) (d : E) (starts : is_linked d ≡ false) where
   -- A WRITE AT A LINKED PLACE CHANGES WHAT THE ENTRY SAYS as it changes what was read there

@@ -1,6 +1,6 @@
 -- Members that searches find.
-use Rattle.std.proofs.Common.{◌≡◌, ℕ, ◌≤◌, Bool, true, false, cond, Option, Some, None, List, length, refl, sym, ◌∙◌, subst, arith}
-use Rattle.std.proofs.lemmas.Bool.{ltb-true}
+use Rattle.std.proofs.Common.{◌≡◌, ℕ, ◌<◌, ◌≤◌, Bool, true, false, cond, Option, Some, None, List, length, refl, sym, ap, ◌∙◌, subst, arith}
+use Rattle.std.proofs.lemmas.Bool.{ltb-true, lt-ltb, le-ltb}
 use Rattle.std.specs.declared.cmp.Ordering.{Ordering}
 use Rattle.ic_unsafe_ref.specs.declared.place.Place.{Place}
 use Rattle.ic_unsafe_ref.specs.Objects.{is_placed, at_indexes}
@@ -19,7 +19,7 @@ use Rattle.ic_ffi.specs.declared.words.RawThree.{RawThree}
 use Rattle.ic_ffi.specs.declared.search.Target.{Target}
 use Rattle.ic_ffi.specs.declared.search.Target.TheVariants.{Equal, AtLeast, AtMost}
 use Rattle.ic_ffi.specs.Gaps.{Stands}
-use Rattle.ic_ffi.specs.Keys.{IsTarget}
+use Rattle.ic_ffi.specs.Keys.{keys_fault, IsTarget}
 use Rattle.ic_ffi.specs.Seen.{seen, seen_node, has_place}
 use Rattle.ic_ffi.specs.Tree.{Shows, IsHole}
 use Rattle.ic_ffi.specs.Words.{is_linked_three}
@@ -28,6 +28,13 @@ use Rattle.ic_ffi.proofs.Trees.{beside_stands, hole_told, seen_shows}
 -- each place of the table has a key
 pub keyed : (t : Table RawThree) (keys : List ℕ) → t.extent.places ≤ length keys → (p : Place) → has_place t p ≡ true → is_placed (at_indexes keys) p ≡ true
 keyed t keys enough p has = let covered = ltb-true (index_of p) t.extent.places has in placed_in_range keys p (omega (arith, covered, enough))
+
+-- there are too few keys, or enough
+pub lacking : (keys : List ℕ) (places : ℕ) → length keys < places → 1 ≡ keys_fault keys places
+lacking keys places few = ap (λ b. cond b 1 0) (sym (lt-ltb (length keys) places few))
+
+pub enough : (keys : List ℕ) (places : ℕ) → places ≤ length keys → 0 ≡ keys_fault keys places
+enough keys places all = ap (λ b. cond b 1 0) (sym (le-ltb (length keys) places all))
 
 -- a place that passes is the one that is tested
 passed : (test : Place → Bool) (o : Option Place) (q : Place) → if_passes test o ≡ Some q → o ≡ Some q

@@ -1,6 +1,7 @@
 pub mod Entries
 pub mod Numbers
 pub mod Gaps
+pub mod Faults
 pub mod Views
 pub mod Lists
 pub mod Doubly

@@ -1,15 +1,21 @@
 -- What calls of a list of whatever kind read of what is shown, and what the calls give that edit it.
-use Rattle.std.proofs.Common.{◌≡◌, ◌≢◌, Bool, true, Option, Some, List, ◌∷◌, ◌++◌, sym, ◌∙◌}
+use Rattle.std.proofs.Common.{◌≡◌, ◌≢◌, Bool, true, Option, Some, List, [], ◌∷◌, ◌++◌, sym, ◌∙◌}
 use Rattle.ic_unsafe_ref.specs.declared.place.Place.{Place}
-use Rattle.ic_link_ops.specs.Sequences.{Cut, join, first, last, IsAbsent, IsAfter, IsBefore}
+use Rattle.ic_link_ops.specs.Sequences.{Cut, join, first, last, IsAbsent, IsDisjoint, IsAfter, IsBefore}
 use Rattle.ic_link_ops.specs.Tables.{Table, ChangesOnly}
 use Rattle.ic_link_ops.specs.Chains.{ListHead, ShowsChain}
 use Rattle.ic_link_ops.specs.Edits.{Inserts, Removes, Replaces}
-use Rattle.ic_link_ops.proofs.SequenceLemmas.{absent_right, absent_with, distinct_middle, gap_not, beside_not}
+use Rattle.ic_link_ops.proofs.SequenceLemmas.{none_not, some_same, absent_right, absent_with, distinct_middle, gap_not, beside_not}
 use Rattle.ic_link_ops.proofs.ShownLists.{shows_kept, shows_beside, gap_linked, gap_behind_linked, free_absent}
 use Rattle.ic_ffi.specs.Gaps.{Stands}
 use Rattle.ic_ffi.specs.Gaps as gaps
 use Rattle.ic_ffi.specs.Tables.{IsFree}
+
+-- lists that share no member begin with different ones
+pub begin_apart : (s t : List Place) {p : Place} → IsDisjoint t s → first t ≡ Some p → first s ≡ Some p → ⊥
+begin_apart s [] {p} d a b = none_not p a
+begin_apart [] (x ∷ t) {p} d a b = none_not p b
+begin_apart (y ∷ s) (x ∷ t) d a b = d.0.0 (some_same a ∙ sym (some_same b))
 
 module _ {E W : Type 0} {between : E → Option Place → Option Place → Type 0} {keep : Option Place → W} where
   -- a sequence stays where no entry changes

@@ -17,7 +17,7 @@ use Rattle.ic_link_ops.specs.RedBlackTree.{IsTree}
 use Rattle.ic_link_ops.specs.RedBlackTree as trees
 use Rattle.ic_link_ops.proofs.SequenceLemmas.{gap_not, none_not, some_same, absent_with}
 use Rattle.ic_link_ops.proofs.Times.{one_at_self}
-use Rattle.ic_link_ops.proofs.ShownTrees.{no_members, holds_linked, holds_once, holds_out, shows_kept}
+use Rattle.ic_link_ops.proofs.ShownTrees.{no_members, root_member, holds_linked, holds_once, holds_out, shows_kept}
 use Rattle.ic_rbtree.specs.Closed.{IsIn, IsClosed}
 use Rattle.ic_rbtree.specs.Insertion as holes
 use Rattle.ic_rbtree.specs.Pieces.{Piece, ArePieces, Shown}
@@ -45,6 +45,10 @@ beside_stands Right cut shown e q is = holds_linked shown.held (λ out. (gap_not
 pub one_beside : (side : Side) (cut : Cut) {a b : Option Place} → IsBeside side cut a → IsBeside side cut b → a ≡ b
 one_beside Left cut x y = x ∙ sym y
 one_beside Right cut x y = x ∙ sym y
+
+-- the root is linked, if there is one
+pub root_stands : {t : Table RawThree} {root : Option Place} {s : List Place} → Shows t root s → Stands is_linked_three t root
+root_stands shown q is = holds_linked shown.held (λ out. root_member shown is out)
 
 -- where a hole is, a member is linked, or the tree has no root
 pub hole_stands : {t : Table RawThree} {root : Option Place} (side : Side) (at : Option Place) (cut : Cut) → Shows t root (join cut) → IsHole side t at cut → Stands is_linked_three t at

@@ -7,7 +7,7 @@ use Rattle.ic_link_ops.specs.PlainTables.{table_of}
 use Rattle.ic_link_ops.specs.Edits.{Inserts, Removes, Replaces, Splices, Splits}
 use Rattle.ic_ffi.specs.Answers.{IsAccepted}
 use Rattle.ic_ffi.specs.Gaps.{before, Stands}
-use Rattle.ic_ffi.specs.Tables.{IsFree}
+use Rattle.ic_ffi.specs.Tables.{IsFree, member_fault, place_fault}
 use Rattle.ic_ffi.specs.Words.{HasNumber}
 
 -- `Shows t head s`: the table shows s for the list with this head. `head_of`: what a list's words say. old and new, list and list': the words
@@ -24,6 +24,13 @@ module _ {W R H : Type 0} (Shows : Table W → H → List Place → Type 0) (lin
   -- an end is none or a linked place of it
   abbrev pub StandsIn : List W → Option Place → Type 0
   StandsIn words at = Stands linked (table_of unlinked words) at
+
+  -- the fault of a member that is named, and of a place that is to go in
+  abbrev pub fault_at : List W → Option Place → ℕ
+  fault_at words = member_fault linked (table_of unlinked words)
+
+  abbrev pub fault_of : List W → Option Place → ℕ
+  fault_of words = place_fault linked (table_of unlinked words)
 
   module _ (old new : List W) (list list' : R) (status : ℕ) where
     -- p, which is free, is inserted

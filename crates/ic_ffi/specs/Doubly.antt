@@ -1,6 +1,7 @@
 -- Doubly linked lists over a caller's words.
-use Rattle.std.specs.Prelude.{ℕ, List, Option, Some, None}
+use Rattle.std.specs.Prelude.{◌≡◌, ℕ, List, [], Option, Some, None}
 use Rattle.ic_unsafe_ref.specs.declared.place.Place.{Place}
+use Rattle.ic_unsafe_ref.specs.Places.{word_of}
 use Rattle.ic_link_ops.specs.Sequences.{Cut}
 use Rattle.ic_link_ops.specs.Tables.{Table}
 use Rattle.ic_link_ops.specs.Chains.{Ends}
@@ -11,8 +12,10 @@ use Rattle.ic_link_ops.specs.PlainTables as plain
 use Rattle.ic_ffi.specs.declared.words.RawTwo.{RawTwo}
 use Rattle.ic_ffi.specs.declared.words.RawEnds.{RawEnds}
 use Rattle.ic_ffi.specs.declared.table.RawTable.{RawTable}
+use Rattle.ic_ffi.specs.declared.gap.Gap.{Gap}
 use Rattle.ic_ffi.specs.declared.gap.Side.{Side}
 use Rattle.ic_ffi.specs.declared.gap.Side.TheVariants.{After, Before}
+use Rattle.ic_ffi.specs.Gaps.{Stands}
 use Rattle.ic_ffi.specs.Words.{place_in, no_words, is_linked_two, next_of_two, prev_of_two}
 use Rattle.ic_ffi.specs.Tables.{raw_table, neighbors_of}
 use Rattle.ic_ffi.specs.Calls as calls
@@ -36,6 +39,10 @@ Shows = doubly.Shows neighbors
 abbrev pub ends_of : RawEnds → Ends
 ends_of l = record { head = place_in l.head; tail = place_in l.tail }
 
+-- the words of a list with these ends, as a call writes them: none is 0
+abbrev pub words_of : Ends → RawEnds
+words_of list = record { head = word_of list.head; tail = word_of list.tail }
+
 -- what stands behind a place, and what before it; the first and the last of the list at none
 abbrev pub next_from : Table RawTwo → Ends → Option Place → Option Place
 next_from t list None = list.head
@@ -44,6 +51,26 @@ next_from t list (Some p) = (neighbors_at neighbors t p).next
 abbrev pub prev_from : Table RawTwo → Ends → Option Place → Option Place
 prev_from t list None = list.tail
 prev_from t list (Some p) = (neighbors_at neighbors t p).prev
+
+-- the gap on this side of a place, by its word
+abbrev pub gap_from : Side → Table RawTwo → Ends → Option Place → Gap
+gap_from After t list at = record { before = at; behind = next_from t list at }
+gap_from Before t list at = record { before = prev_from t list at; behind = at }
+
+-- THE WORDS TELL OF A GAP on this side of a place: what stands there is linked or none, and leads back to it
+abbrev pub TellsGap : Side → Table RawTwo → Ends → Option Place → Type 0
+TellsGap After t list at = Stands is_linked_two t (next_from t list at) × (prev_from t list (next_from t list at) ≡ at)
+TellsGap Before t list at = Stands is_linked_two t (prev_from t list at) × (next_from t list (prev_from t list at) ≡ at)
+
+-- the end of a list at which its outermost gap on this side of none is: the first member, or the last one
+abbrev pub end_on : Side → Ends → Option Place
+end_on After list = list.head
+end_on Before list = list.tail
+
+-- a member between these is at that end
+abbrev pub IsEnd : Side → (front back : List Place) → Type 0
+IsEnd After front back = front ≡ []
+IsEnd Before front back = back ≡ []
 
 -- a list is cut at a gap: what is handed out is on the side of the gap on which the call edits
 abbrev pub SplitsBeside : Side → (old new : Table RawTwo) → (kept handed : Ends) → Cut → Type 0
@@ -59,6 +86,12 @@ FreeIn = calls.FreeIn Shows is_linked_two no_words ends_of
 
 abbrev pub StandsIn : List RawTwo → Option Place → Type 0
 StandsIn = calls.StandsIn Shows is_linked_two no_words ends_of
+
+abbrev pub fault_at : List RawTwo → Option Place → ℕ
+fault_at = calls.fault_at Shows is_linked_two no_words ends_of
+
+abbrev pub fault_of : List RawTwo → Option Place → ℕ
+fault_of = calls.fault_of Shows is_linked_two no_words ends_of
 
 abbrev pub Inserted : (old new : List RawTwo) (list list' : RawEnds) (status : ℕ) → Cut → Place → Type 0
 Inserted = calls.Inserted Shows is_linked_two no_words ends_of

@@ -22,7 +22,7 @@ StandBeside linked t gap = Stands linked t gap.before × Stands linked t gap.beh
 
 -- where a sequence is cut, as a call finds it
 abbrev pub gap_of : Cut → Gap
-gap_of cut = record { status = 0; before = last cut.front; behind = first cut.back }
+gap_of cut = record { before = last cut.front; behind = first cut.back }
 
 -- the gap in front of a member
 abbrev pub before : Place → (front back : List Place) → Cut

@@ -1,5 +1,5 @@
 -- Searches of a tree by keys that stand in an array, one for each place.
-use Rattle.std.specs.Prelude.{ℕ, Option, List, slice_index}
+use Rattle.std.specs.Prelude.{ℕ, Option, List, length, cond, nat_lt, slice_index}
 use Rattle.std.specs.Ordering.{nat_cmp}
 use Rattle.std.specs.declared.cmp.Ordering.{Ordering}
 use Rattle.ic_unsafe_ref.specs.declared.place.Place.{Place}
@@ -19,6 +19,10 @@ use Rattle.ic_ffi.specs.Tree.{Shows, ShowsTree, FreeIn, root_in, table_of}
 -- how a key stands to that of each place: `Less` where it is less
 abbrev pub against : ℕ → List ℕ → Place → Ordering
 against key keys = compared (nat_cmp key) (at_indexes keys)
+
+-- THE FAULT OF KEYS: there are fewer of them than places (1)
+abbrev pub keys_fault : (keys : List ℕ) → (places : ℕ) → ℕ
+keys_fault keys places = cond (nat_lt (length keys) places) 1 0
 
 -- the key of a place
 abbrev pub key_of : List ℕ → Place → ℕ

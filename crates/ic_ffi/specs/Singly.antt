@@ -1,6 +1,7 @@
 -- Singly linked lists over a caller's words.
 use Rattle.std.specs.Prelude.{ℕ, List, Option, Some, None}
 use Rattle.ic_unsafe_ref.specs.declared.place.Place.{Place}
+use Rattle.ic_unsafe_ref.specs.Places.{word_of}
 use Rattle.ic_link_ops.specs.Sequences.{Cut}
 use Rattle.ic_link_ops.specs.Tables.{Table}
 use Rattle.ic_link_ops.specs.SinglyLinkedList as singly
@@ -32,6 +33,10 @@ Shows = singly.Shows successor
 abbrev pub front_of : RawFront → Option Place
 front_of l = place_in l.head
 
+-- and the word of a front, as a call writes it: none is 0
+abbrev pub word_of_front : Option Place → RawFront
+word_of_front first = record { head = word_of first }
+
 -- and the list with that front
 abbrev pub list_of : RawFront → Front
 list_of l = list_from (front_of l)
@@ -50,6 +55,12 @@ FreeIn = calls.FreeIn Shows is_linked_one no_word list_of
 
 abbrev pub StandsIn : List RawOne → Option Place → Type 0
 StandsIn = calls.StandsIn Shows is_linked_one no_word list_of
+
+abbrev pub fault_at : List RawOne → Option Place → ℕ
+fault_at = calls.fault_at Shows is_linked_one no_word list_of
+
+abbrev pub fault_of : List RawOne → Option Place → ℕ
+fault_of = calls.fault_of Shows is_linked_one no_word list_of
 
 abbrev pub Inserted : (old new : List RawOne) (list list' : RawFront) (status : ℕ) → Cut → Place → Type 0
 Inserted = calls.Inserted Shows is_linked_one no_word list_of

@@ -1,7 +1,8 @@
 -- A table over words that a caller lends.
-use Rattle.std.specs.Prelude.{◌≡◌, ◌∷◌, [], List, ℕ, Bool, Option}
+use Rattle.std.specs.Prelude.{◌≡◌, ◌∷◌, [], List, ℕ, Bool, cond, nat_lt, Option, Some, None}
 use Rattle.std.specs.Borrow.{MutBor}
 use Rattle.ic_unsafe_ref.specs.declared.place.Place.{Place}
+use Rattle.ic_unsafe_ref.specs.Places.{index_of}
 use Rattle.ic_link_ops.specs.Tables.{Table, IsCovered, IsUnlinked}
 use Rattle.ic_link_ops.specs.PlainTables.{table_with}
 use Rattle.ic_link_ops.specs.Links.{link_of}
@@ -22,6 +23,16 @@ module _ {W : Type 0} where
   -- as a table: the name of the borrow tells it from other tables that are lent
   abbrev pub raw_table : W → RawTable W → Table W
   raw_table unlinked t = table_with unlinked (t.entries.ghost_name ∷ []) (raw_entries t)
+
+  -- THE FAULT OF A MEMBER that is named: it is not linked (3), or none of the table (1). None has no fault
+  abbrev pub member_fault : (is_linked : W → Bool) → Table W → Option Place → ℕ
+  member_fault is_linked t None = 0
+  member_fault is_linked t (Some p) = cond (is_linked (t.entry p)) 0 (cond (nat_lt (index_of p) t.extent.places) 3 1)
+
+  -- THE FAULT OF A PLACE that is to go in: it is linked (2), or none of the table (1)
+  abbrev pub place_fault : (is_linked : W → Bool) → Table W → Option Place → ℕ
+  place_fault is_linked t None = 1
+  place_fault is_linked t (Some p) = cond (nat_lt (index_of p) t.extent.places) (cond (is_linked (t.entry p)) 2 0) 1
 
   -- the place is one of the table, and not linked
   pub record IsFree (is_linked : W → Bool) (t : Table W) (p : Place) : Type 0 where

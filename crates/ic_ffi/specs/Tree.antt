@@ -1,9 +1,11 @@
 -- Red-black trees over a caller's words.
-use Rattle.std.specs.Prelude.{ℕ, List, Option}
+use Rattle.std.specs.Prelude.{◌≡◌, ℕ, List, Option, Some, None}
 use Rattle.ic_unsafe_ref.specs.declared.place.Place.{Place}
+use Rattle.ic_unsafe_ref.specs.Places.{word_of}
 use Rattle.ic_link_ops.specs.declared.side.Side.{Side}
 use Rattle.ic_link_ops.specs.Sequences.{Cut}
 use Rattle.ic_link_ops.specs.Tables.{Table, IsLinked}
+use Rattle.ic_link_ops.specs.Frames.{child_on}
 use Rattle.ic_link_ops.specs.RedBlackTree as trees
 use Rattle.ic_link_ops.specs.RedBlackTree.{Node}
 use Rattle.ic_link_ops.specs.PlainTables as plain
@@ -34,9 +36,18 @@ Shows = trees.Shows node
 abbrev pub root_in : RawRoot → Option Place
 root_in t = place_in t.root
 
+-- and the word of a root, as a call writes it: none is 0
+abbrev pub word_of_root : Option Place → RawRoot
+word_of_root root = record { root = word_of root }
+
 -- THE HOLE on a side of a member, where it has no child: the gap before it on the left, behind it on the right. At none the tree is empty
 abbrev pub IsHole : Side → Table RawThree → Option Place → Cut → Type 0
 IsHole side t at cut = holes.IsHole node t at side cut
+
+-- THE WORDS TELL OF A HOLE there: the place has no child on this side; at none the tree has no root
+abbrev pub TellsHole : Side → Table RawThree → (root : Option Place) → Option Place → Type 0
+TellsHole side t root None = root ≡ None
+TellsHole side t root (Some p) = child_on side (node (t.entry p)) ≡ None
 
 -- the number is that of a linked place
 abbrev pub NamesLinked : List RawThree → ℕ → Type 0
@@ -51,6 +62,12 @@ FreeIn = calls.FreeIn Shows is_linked_three no_tree_words root_in
 
 abbrev pub StandsIn : List RawThree → Option Place → Type 0
 StandsIn = calls.StandsIn Shows is_linked_three no_tree_words root_in
+
+abbrev pub fault_at : List RawThree → Option Place → ℕ
+fault_at = calls.fault_at Shows is_linked_three no_tree_words root_in
+
+abbrev pub fault_of : List RawThree → Option Place → ℕ
+fault_of = calls.fault_of Shows is_linked_three no_tree_words root_in
 
 abbrev pub Inserted : (old new : List RawThree) (tree tree' : RawRoot) (status : ℕ) → Cut → Place → Type 0
 Inserted = calls.Inserted Shows is_linked_three no_tree_words root_in

@@ -4,8 +4,10 @@
 //! Side::After  // behind a place, in front of all at none
 //! ```
 
-ghost use Rattle.std.specs.Prelude.{◌≡◌};
+ghost use Rattle.std.specs.Prelude.{◌≡◌, ◌≢◌, Some, true, false};
+ghost use Rattle.ic_unsafe_ref.specs.declared.place.Place.{Place};
 
+use ic_chain::{Chain, ListKind};
 use ic_unsafe_ref::Place;
 
 /// On which side of a place a call edits.
@@ -17,24 +19,21 @@ pub enum Side {
     Before,
 }
 
-/// The places on both sides of a gap, or of a member. They count only where the status is [`OK`](crate::OK).
+/// The places on both sides of a gap, or of a member.
 #[derive(Clone, Copy)]
 pub struct Gap {
-    pub(crate) status: u32,
     pub(crate) before: Option<Place>,
     pub(crate) behind: Option<Place>,
 }
 
-impl Gap {
-    /// No gap, and why.
-    #[inline]
-    pub(crate) fn none(status: u32) -> Gap
-        ensures { result.status ≡ status }
-    {
-        Gap {
-            status,
-            before: None,
-            behind: None,
-        }
-    }
+// Whether both lists begin with the same member, as the two names of one list do.
+#[inline]
+pub(crate) fn begin_alike<K: ListKind, T>(list: &Chain<K, T>, given: &Chain<K, T>) -> bool
+    ensures apart { result ≡ false → (p : Place) → given.now.head ≡ Some p → list.now.head ≢ Some p }
+    ensures alike { result ≡ true → (p : Place) × (given.now.head ≡ Some p) × (list.now.head ≡ Some p) }
+{
+    let Some(first) = given.first() else {
+        return false;
+    };
+    Place::to_word(list.first()) == Place::to_word(Some(first))
 }

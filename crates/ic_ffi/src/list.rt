@@ -1,22 +1,22 @@
 //! The doubly linked list: what its calls test, and its edits over a view of the table.
 //!
 //! ```text
-//! let status = insert(&mut links, &mut list, Side::After, at, place);
+//! let made = insert(&mut links, &mut list, Side::After, at, place);
 //! ```
 
-ghost use Rattle.std.specs.Prelude.{◌≡◌, ◌≢◌, ◌++◌, ◌∷◌, List, Option, Some, None, true};
+ghost use Rattle.std.specs.Prelude.{◌≡◌, ◌≢◌, ◌++◌, ◌∷◌, [], List, Option, Some, None, true, false};
 ghost use Rattle.ic_unsafe_ref.specs.declared.place.Place.{Place};
-ghost use Rattle.ic_link_ops.specs.Sequences.{Cut, join, first, last, IsDisjoint};
+ghost use Rattle.ic_link_ops.specs.Sequences.{Cut, join, first, last, at_back, IsDisjoint};
 ghost use Rattle.ic_link_ops.specs.Tables.{IsUnlinked};
 ghost use Rattle.ic_link_ops.specs.Edits.{Inserts, Removes, Replaces, Splices};
-ghost use Rattle.ic_ffi.specs.Answers.{IsStatus, IsAccepted};
+ghost use Rattle.ic_ffi.specs.declared.gap.Gap.{Gap};
+ghost use Rattle.ic_ffi.specs.declared.gap.Side.TheVariants.{After, Before};
 ghost use Rattle.ic_ffi.specs.Gaps.{IsBeside, Stands, StandBeside, before, gap_of};
 ghost use Rattle.ic_ffi.specs.Tables.{IsFree};
 ghost use Rattle.ic_ffi.specs.Words.{is_linked_two};
-ghost use Rattle.ic_ffi.specs.Doubly.{Shows, SplitsBeside, lent_table, next_from, prev_from};
+ghost use Rattle.ic_ffi.specs.Doubly.{Shows, SplitsBeside, TellsGap, gap_from, IsEnd, end_on, lent_table, next_from, prev_from};
 
-use crate::gap::{Gap, Side};
-use crate::status::{BROKEN, NULL, OK, OUT_OF_RANGE};
+use crate::gap::{Gap, Side, begin_alike};
 use crate::table::RawTable;
 use crate::words::RawTwo;
 use ic_link_ops::LinkOps;
@@ -61,13 +61,19 @@ fn leads(
     next: Option<Place>,
 ) -> bool
     ensures stands { result ≡ true → Stands is_linked_two (lent_table links.now) place }
+    ensures next { result ≡ true → next_from (lent_table links.now) list.now place ≡ next }
     ensures leads { Stands is_linked_two (lent_table links.now) place → next ≡ next_from (lent_table links.now) list.now place
         → result ≡ true }
 {
-    if links.standing(place) != OK {
-        return false;
+    match place {
+        None => Place::to_word(list.first()) == Place::to_word(next),
+        Some(place) => {
+            if !links.covers(place) {
+                return false;
+            }
+            links.at(place).leads(next)
+        }
     }
-    Place::to_word(next_of(links, list, place)) == Place::to_word(next)
 }
 
 // Whether `place` is linked, or none, and `prev` stands before it.
@@ -79,83 +85,168 @@ fn follows(
     prev: Option<Place>,
 ) -> bool
     ensures stands { result ≡ true → Stands is_linked_two (lent_table links.now) place }
+    ensures prev { result ≡ true → prev_from (lent_table links.now) list.now place ≡ prev }
     ensures follows { Stands is_linked_two (lent_table links.now) place → prev ≡ prev_from (lent_table links.now) list.now place
         → result ≡ true }
 {
-    if links.standing(place) != OK {
+    if !links.stands(place) {
         return false;
     }
     Place::to_word(prev_of(links, list, place)) == Place::to_word(prev)
 }
 
-// The gap beside a place, at none the outermost one.
+// The gap beside a place, at none the outermost one. None where the words tell of no gap.
 #[inline]
-fn gap_at(links: &RawTable<'_, RawTwo>, list: &List, side: Side, at: Option<Place>) -> Gap
-    ensures at { result.status ≡ 0 → Stands is_linked_two (lent_table links.now) at }
-    ensures stands { result.status ≡ 0 → StandBeside is_linked_two (lent_table links.now) result }
-    ensures shown { (cut : Cut) → Shows (lent_table links.now) list.now (join cut) → IsBeside side cut at → result ≡ gap_of cut }
-    ensures status { IsStatus result.status }
+fn gap_at(links: &RawTable<'_, RawTwo>, list: &List, side: Side, at: Option<Place>) -> Option<Gap>
+    ensures at { (gap : Gap) → result ≡ Some gap → Stands is_linked_two (lent_table links.now) at }
+    ensures stands { (gap : Gap) → result ≡ Some gap → StandBeside is_linked_two (lent_table links.now) gap }
+    ensures told { (gap : Gap) → result ≡ Some gap → TellsGap side (lent_table links.now) list.now at }
+    ensures sides { (gap : Gap) → result ≡ Some gap → gap ≡ gap_from side (lent_table links.now) list.now at }
+    ensures shown { (cut : Cut) → Shows (lent_table links.now) list.now (join cut) → IsBeside side cut at → result ≡ Some (gap_of cut) }
 {
-    let status = links.standing(at);
-    if status != OK {
-        return Gap::none(status);
+    if !links.stands(at) {
+        return None;
     }
     match side {
         Side::After => {
             let behind = next_of(links, list, at);
             if !follows(links, list, behind, at) {
-                return Gap::none(BROKEN);
+                return None;
             }
-            Gap {
-                status,
-                before: at,
-                behind,
-            }
+            Some(Gap { before: at, behind })
         }
         Side::Before => {
             let before = prev_of(links, list, at);
             if !leads(links, list, before, at) {
-                return Gap::none(BROKEN);
+                return None;
             }
-            Gap {
-                status,
-                before,
-                behind: at,
-            }
+            Some(Gap { before, behind: at })
         }
     }
 }
 
-// The places beside a member.
+// The places on both sides of a member, at none the last one and the first. None where the words tell of no such places.
 #[inline]
-fn beside(links: &RawTable<'_, RawTwo>, list: &List, member: Place) -> Gap
-    ensures stands { result.status ≡ 0 → StandBeside is_linked_two (lent_table links.now) result }
-    ensures member { result.status ≡ 0 → Stands is_linked_two (lent_table links.now) (Some member) }
-    ensures shown { (front back : List Place) → Shows (lent_table links.now) list.now (front ++ member ∷ back)
-        → result ≡ gap_of (record { front = front; back = back }) }
-    ensures status { IsStatus result.status }
+fn beside(links: &RawTable<'_, RawTwo>, list: &List, at: Option<Place>) -> Option<Gap>
+    ensures at { (gap : Gap) → result ≡ Some gap → Stands is_linked_two (lent_table links.now) at }
+    ensures stands { (gap : Gap) → result ≡ Some gap → StandBeside is_linked_two (lent_table links.now) gap }
+    ensures before { (gap : Gap) → result ≡ Some gap → TellsGap Before (lent_table links.now) list.now at }
+    ensures behind { (gap : Gap) → result ≡ Some gap → TellsGap After (lent_table links.now) list.now at }
+    ensures member { (front back : List Place) (p : Place) → Shows (lent_table links.now) list.now (front ++ p ∷ back) → at ≡ Some p
+        → result ≡ Some (gap_of (record { front = front; back = back })) }
+    ensures ends { (s : List Place) → Shows (lent_table links.now) list.now s → at ≡ None
+        → result ≡ Some (gap_of (record { front = s; back = s })) }
 {
-    let at = Some(member);
-    let status = links.standing(at);
-    if status != OK {
-        return Gap::none(status);
+    if !links.stands(at) {
+        return None;
     }
-    let before = links.prev(member);
-    let behind = links.next(member);
+    let before = prev_of(links, list, at);
     if !leads(links, list, before, at) {
-        return Gap::none(BROKEN);
+        return None;
     }
+    let behind = next_of(links, list, at);
     if !follows(links, list, behind, at) {
-        return Gap::none(BROKEN);
+        return None;
     }
-    Gap {
-        status,
-        before,
-        behind,
-    }
+    Some(Gap { before, behind })
 }
 
-// Puts the place into the gap beside another one.
+// Puts a place behind the last member, where its words are such as a call writes. Else it changes nothing, and says so.
+#[inline]
+pub(crate) fn push_behind_last(
+    links: &mut RawTable<'_, RawTwo>,
+    list: &mut List,
+    place: Option<Place>,
+) -> bool
+    ensures inserted { (s : List Place) (p : Place) → result ≡ true → Shows (lent_table links.old) list.old (join (at_back s)) → place ≡ Some p
+        → Inserts Shows (lent_table links.old) (lent_table links.new) list.new (at_back s) p }
+    ensures head { (s : List Place) → result ≡ true → Shows (lent_table links.old) list.old (join (at_back s)) → list.new.head ≡ list.old.head }
+    ensures free { result ≡ true → (p : Place) × (place ≡ Some p) × IsFree is_linked_two (lent_table links.old) p }
+    ensures told { result ≡ true → TellsGap Before (lent_table links.old) list.old None }
+    ensures refused { result ≡ false → (links.new ≡ links.old) × (list.new ≡ list.old) }
+    ensures extent { (lent_table links.new).extent ≡ (lent_table links.old).extent }
+{
+    let Some(last) = list.last() else {
+        return false;
+    };
+    if !links.covers(last) || !links.at(last).is_last() {
+        return false;
+    }
+    let Some(place) = links.acquire(place) else {
+        return false;
+    };
+    list.insert_linked(links, Some(last), place, None);
+    true
+}
+
+// Takes the first member off, where its words are such as a call writes, and a second is behind it. Else it changes nothing.
+#[inline]
+pub(crate) fn pop_before_second(links: &mut RawTable<'_, RawTwo>, list: &mut List) -> Option<Place>
+    ensures removed { (p q : Place) (s : List Place) → result ≡ Some q → Shows (lent_table links.old) list.old (p ∷ s)
+        → (q ≡ p) × Removes Shows (lent_table links.old) (lent_table links.new) list.new (before p [] s)
+        × IsUnlinked is_linked_two (lent_table links.new) p }
+    ensures tail { (p q : Place) (s : List Place) → result ≡ Some q → Shows (lent_table links.old) list.old (p ∷ s) → list.new.tail ≡ list.old.tail }
+    ensures first { (q : Place) → result ≡ Some q → list.old.head ≡ Some q }
+    ensures stands { (q : Place) → result ≡ Some q → Stands is_linked_two (lent_table links.old) (Some q) }
+    ensures outer { (q : Place) → result ≡ Some q → TellsGap After (lent_table links.old) list.old None }
+    ensures inner { (q : Place) → result ≡ Some q → TellsGap After (lent_table links.old) list.old (Some q) }
+    ensures refused { result ≡ None → (links.new ≡ links.old) × (list.new ≡ list.old) }
+    ensures extent { (lent_table links.new).extent ≡ (lent_table links.old).extent }
+{
+    let Some(first) = list.first() else {
+        return None;
+    };
+    if !links.covers(first) || !links.at(first).is_first() {
+        return None;
+    }
+    let Some(second) = links.next(first) else {
+        return None;
+    };
+    if !links.covers(second) || !links.at(second).is_behind(first) {
+        return None;
+    }
+    list.bypass(links, None, first, Some(second));
+    links.release_link(first);
+    Some(first)
+}
+
+// Takes a member off that has one on both sides, where their words are such as a call writes. Else it changes nothing, and says so.
+#[inline]
+pub(crate) fn remove_between(
+    links: &mut RawTable<'_, RawTwo>,
+    list: &mut List,
+    member: Place,
+) -> bool
+    ensures removed { (front back : List Place) → result ≡ true → Shows (lent_table links.old) list.old (front ++ member ∷ back)
+        → Removes Shows (lent_table links.old) (lent_table links.new) list.old (before member front back)
+        × IsUnlinked is_linked_two (lent_table links.new) member }
+    ensures stands { result ≡ true → Stands is_linked_two (lent_table links.old) (Some member) }
+    ensures before { result ≡ true → TellsGap Before (lent_table links.old) list.old (Some member) }
+    ensures behind { result ≡ true → TellsGap After (lent_table links.old) list.old (Some member) }
+    ensures refused { result ≡ false → links.new ≡ links.old }
+    ensures extent { (lent_table links.new).extent ≡ (lent_table links.old).extent }
+{
+    if !links.is_linked(member) {
+        return false;
+    }
+    let Some(before) = links.prev(member) else {
+        return false;
+    };
+    let Some(behind) = links.next(member) else {
+        return false;
+    };
+    if !links.covers(before) || !links.at(before).is_before(member) {
+        return false;
+    }
+    if !links.covers(behind) || !links.at(behind).is_behind(member) {
+        return false;
+    }
+    list.bypass(links, Some(before), member, Some(behind));
+    links.release_link(member);
+    true
+}
+
+// Puts the place into the gap beside another one, and says whether it could.
 #[inline]
 pub(crate) fn insert(
     links: &mut RawTable<'_, RawTwo>,
@@ -163,96 +254,151 @@ pub(crate) fn insert(
     side: Side,
     at: Option<Place>,
     place: Option<Place>,
-) -> u32
+) -> bool
     ensures inserted { (cut : Cut) (p : Place) → Shows (lent_table links.old) list.old (join cut) → IsBeside side cut at → place ≡ Some p
         → IsFree is_linked_two (lent_table links.old) p
-        → IsAccepted result (Inserts Shows (lent_table links.old) (lent_table links.new) list.new cut p) }
-    ensures free { (p : Place) → place ≡ Some p → result ≡ 0 → IsFree is_linked_two (lent_table links.old) p }
-    ensures none { place ≡ None → result ≢ 0 }
-    ensures refused { result ≢ 0 → (links.new ≡ links.old) × (list.new ≡ list.old) }
+        → (result ≡ true) × Inserts Shows (lent_table links.old) (lent_table links.new) list.new cut p }
+    ensures free { result ≡ true → (p : Place) × (place ≡ Some p) × IsFree is_linked_two (lent_table links.old) p }
+    ensures stands { result ≡ true → Stands is_linked_two (lent_table links.old) at }
+    ensures told { result ≡ true → TellsGap side (lent_table links.old) list.old at }
+    ensures refused { result ≡ false → (links.new ≡ links.old) × (list.new ≡ list.old) }
     ensures extent { (lent_table links.new).extent ≡ (lent_table links.old).extent }
-    ensures status { IsStatus result }
-    ensures stands { result ≡ 0 → Stands is_linked_two (lent_table links.old) at }
 {
-    let gap = gap_at(&*links, &*list, side, at);
-    if gap.status != OK {
-        return gap.status;
-    }
-    let Some(place) = place else {
-        return OUT_OF_RANGE;
+    let Some(gap) = gap_at(&*links, &*list, side, at) else {
+        return false;
     };
-    let status = links.acquire(place);
-    if status != OK {
-        return status;
-    }
+    let Some(place) = links.acquire(place) else {
+        return false;
+    };
     list.insert_linked(links, gap.before, place, gap.behind);
-    OK
+    true
 }
 
-// Takes the member off.
+// Takes the member off, and says whether it could.
 #[inline]
-pub(crate) fn remove(links: &mut RawTable<'_, RawTwo>, list: &mut List, at: Option<Place>) -> u32
-    ensures removed { (front back : List Place) (p : Place) → Shows (lent_table links.old) list.old (front ++ p ∷ back) → at ≡ Some p
-        → IsAccepted result (Removes Shows (lent_table links.old) (lent_table links.new) list.new (before p front back)
-        × IsUnlinked is_linked_two (lent_table links.new) p) }
-    ensures null { at ≡ None → result ≡ 4 }
-    ensures refused { result ≢ 0 → (links.new ≡ links.old) × (list.new ≡ list.old) }
+pub(crate) fn remove(links: &mut RawTable<'_, RawTwo>, list: &mut List, member: Place) -> bool
+    ensures removed { (front back : List Place) → Shows (lent_table links.old) list.old (front ++ member ∷ back)
+        → (result ≡ true) × Removes Shows (lent_table links.old) (lent_table links.new) list.new (before member front back)
+        × IsUnlinked is_linked_two (lent_table links.new) member }
+    ensures stands { result ≡ true → Stands is_linked_two (lent_table links.old) (Some member) }
+    ensures before { result ≡ true → TellsGap Before (lent_table links.old) list.old (Some member) }
+    ensures behind { result ≡ true → TellsGap After (lent_table links.old) list.old (Some member) }
+    ensures refused { result ≡ false → (links.new ≡ links.old) × (list.new ≡ list.old) }
     ensures extent { (lent_table links.new).extent ≡ (lent_table links.old).extent }
-    ensures status { IsStatus result }
-    ensures stands { result ≡ 0 → Stands is_linked_two (lent_table links.old) at }
 {
-    let Some(member) = at else {
-        return NULL;
+    let Some(gap) = beside(&*links, &*list, Some(member)) else {
+        return false;
     };
-    let gap = beside(&*links, &*list, member);
-    if gap.status != OK {
-        return gap.status;
-    }
     list.bypass(links, gap.before, member, gap.behind);
     links.release_link(member);
-    OK
+    true
 }
 
-// Puts the place where the member is, which is unlinked then.
+// The member at an end, which the outermost gap on this side of none is in front of, and the places on both sides of it. None where
+// the words tell of none.
+#[inline]
+fn end_at(links: &RawTable<'_, RawTwo>, list: &List, side: Side) -> Option<(Place, Gap)>
+    ensures shown { (front back : List Place) (p : Place) → Shows (lent_table links.now) list.now (front ++ p ∷ back)
+        → IsEnd side front back → result ≡ Some (p, gap_of (record { front = front; back = back })) }
+    ensures end { (p : Place) (gap : Gap) → result ≡ Some (p, gap) → end_on side list.now ≡ Some p }
+    ensures stands { (p : Place) (gap : Gap) → result ≡ Some (p, gap) → Stands is_linked_two (lent_table links.now) (Some p) }
+    ensures beside { (p : Place) (gap : Gap) → result ≡ Some (p, gap) → StandBeside is_linked_two (lent_table links.now) gap }
+    ensures outer { (p : Place) (gap : Gap) → result ≡ Some (p, gap) → TellsGap side (lent_table links.now) list.now None }
+    ensures inner { (p : Place) (gap : Gap) → result ≡ Some (p, gap) → TellsGap side (lent_table links.now) list.now (Some p) }
+{
+    match side {
+        Side::After => {
+            let Some(outer) = gap_at(links, list, Side::After, None) else {
+                return None;
+            };
+            let Some(first) = outer.behind else {
+                return None;
+            };
+            let Some(inner) = gap_at(links, list, Side::After, Some(first)) else {
+                return None;
+            };
+            Some((
+                first,
+                Gap {
+                    before: None,
+                    behind: inner.behind,
+                },
+            ))
+        }
+        Side::Before => {
+            let Some(outer) = gap_at(links, list, Side::Before, None) else {
+                return None;
+            };
+            let Some(last) = outer.before else {
+                return None;
+            };
+            let Some(inner) = gap_at(links, list, Side::Before, Some(last)) else {
+                return None;
+            };
+            Some((
+                last,
+                Gap {
+                    before: inner.before,
+                    behind: None,
+                },
+            ))
+        }
+    }
+}
+
+// Takes the member at an end off, and gives it.
+#[inline]
+pub(crate) fn pop(links: &mut RawTable<'_, RawTwo>, list: &mut List, side: Side) -> Option<Place>
+    ensures popped { (front back : List Place) (p : Place) → Shows (lent_table links.old) list.old (front ++ p ∷ back)
+        → IsEnd side front back → (result ≡ Some p)
+        × Removes Shows (lent_table links.old) (lent_table links.new) list.new (before p front back)
+        × IsUnlinked is_linked_two (lent_table links.new) p }
+    ensures end { (p : Place) → result ≡ Some p → end_on side list.old ≡ Some p }
+    ensures stands { (p : Place) → result ≡ Some p → Stands is_linked_two (lent_table links.old) (Some p) }
+    ensures outer { (p : Place) → result ≡ Some p → TellsGap side (lent_table links.old) list.old None }
+    ensures inner { (p : Place) → result ≡ Some p → TellsGap side (lent_table links.old) list.old (Some p) }
+    ensures refused { result ≡ None → (links.new ≡ links.old) × (list.new ≡ list.old) }
+    ensures extent { (lent_table links.new).extent ≡ (lent_table links.old).extent }
+{
+    let Some((member, gap)) = end_at(&*links, &*list, side) else {
+        return None;
+    };
+    list.bypass(links, gap.before, member, gap.behind);
+    links.release_link(member);
+    Some(member)
+}
+
+// Puts the place where the member is, which is unlinked then, and says whether it could.
 #[inline]
 pub(crate) fn replace(
     links: &mut RawTable<'_, RawTwo>,
     list: &mut List,
-    at: Option<Place>,
+    member: Place,
     place: Option<Place>,
-) -> u32
-    ensures replaced { (front back : List Place) (out p : Place) → Shows (lent_table links.old) list.old (front ++ out ∷ back)
-        → at ≡ Some out → place ≡ Some p → IsFree is_linked_two (lent_table links.old) p
-        → IsAccepted result (Replaces Shows (lent_table links.old) (lent_table links.new) list.new (before out front back) p
-        × IsUnlinked is_linked_two (lent_table links.new) out) }
-    ensures free { (p : Place) → place ≡ Some p → result ≡ 0 → IsFree is_linked_two (lent_table links.old) p }
-    ensures none { place ≡ None → result ≢ 0 }
-    ensures null { at ≡ None → result ≡ 4 }
-    ensures refused { result ≢ 0 → (links.new ≡ links.old) × (list.new ≡ list.old) }
+) -> bool
+    ensures replaced { (front back : List Place) (p : Place) → Shows (lent_table links.old) list.old (front ++ member ∷ back)
+        → place ≡ Some p → IsFree is_linked_two (lent_table links.old) p
+        → (result ≡ true) × Replaces Shows (lent_table links.old) (lent_table links.new) list.new (before member front back) p
+        × IsUnlinked is_linked_two (lent_table links.new) member }
+    ensures free { result ≡ true → (p : Place) × (place ≡ Some p) × IsFree is_linked_two (lent_table links.old) p }
+    ensures stands { result ≡ true → Stands is_linked_two (lent_table links.old) (Some member) }
+    ensures before { result ≡ true → TellsGap Before (lent_table links.old) list.old (Some member) }
+    ensures behind { result ≡ true → TellsGap After (lent_table links.old) list.old (Some member) }
+    ensures refused { result ≡ false → (links.new ≡ links.old) × (list.new ≡ list.old) }
     ensures extent { (lent_table links.new).extent ≡ (lent_table links.old).extent }
-    ensures status { IsStatus result }
-    ensures stands { result ≡ 0 → Stands is_linked_two (lent_table links.old) at }
 {
-    let Some(member) = at else {
-        return NULL;
+    let Some(gap) = beside(&*links, &*list, Some(member)) else {
+        return false;
     };
-    let gap = beside(&*links, &*list, member);
-    if gap.status != OK {
-        return gap.status;
-    }
-    let Some(place) = place else {
-        return OUT_OF_RANGE;
+    let Some(place) = links.acquire(place) else {
+        return false;
     };
-    let status = links.acquire(place);
-    if status != OK {
-        return status;
-    }
     list.replace_linked(links, gap.before, member, place, gap.behind);
     links.release_link(member);
-    OK
+    true
 }
 
-// Puts all of the given list into the gap beside a place.
+// Puts all of the given list into the gap beside a place, and says whether it could.
 #[inline]
 pub(crate) fn splice(
     links: &mut RawTable<'_, RawTwo>,
@@ -260,40 +406,29 @@ pub(crate) fn splice(
     side: Side,
     at: Option<Place>,
     given: List,
-) -> u32
+) -> bool
     ensures spliced { (cut : Cut) (t : List Place) → Shows (lent_table links.old) list.old (join cut) → IsBeside side cut at
         → Shows (lent_table links.old) given t → IsDisjoint t (join cut)
-        → IsAccepted result (Splices Shows (lent_table links.old) (lent_table links.new) list.new cut t) }
-    ensures refused { result ≢ 0 → (links.new ≡ links.old) × (list.new ≡ list.old) }
+        → (result ≡ true) × Splices Shows (lent_table links.old) (lent_table links.new) list.new cut t }
+    ensures stands { result ≡ true → Stands is_linked_two (lent_table links.old) at }
+    ensures told { result ≡ true → TellsGap side (lent_table links.old) list.old at }
+    ensures front { result ≡ true → TellsGap After (lent_table links.old) given None }
+    ensures back { result ≡ true → TellsGap Before (lent_table links.old) given None }
+    ensures apart { result ≡ true → (p : Place) → given.head ≡ Some p → list.old.head ≢ Some p }
+    ensures refused { result ≡ false → (links.new ≡ links.old) × (list.new ≡ list.old) }
     ensures extent { (lent_table links.new).extent ≡ (lent_table links.old).extent }
-    ensures status { IsStatus result }
-    ensures stands { result ≡ 0 → Stands is_linked_two (lent_table links.old) at }
 {
-    let gap = gap_at(&*links, &*list, side, at);
-    if gap.status != OK {
-        return gap.status;
-    }
-    if !has_ends(&*links, &given) {
-        return BROKEN;
-    }
-    let end = given.last();
-    list.splice_between(links, gap.before, given, end, gap.behind);
-    OK
-}
-
-// Whether both ends of the list are: linked, with nothing beyond them.
-#[inline]
-fn has_ends(links: &RawTable<'_, RawTwo>, list: &List) -> bool
-    ensures first { result ≡ true → Stands is_linked_two (lent_table links.now) list.now.head }
-    ensures last { result ≡ true → Stands is_linked_two (lent_table links.now) list.now.tail }
-    ensures shown { (s : List Place) → Shows (lent_table links.now) list.now s → result ≡ true }
-{
-    let first = list.first();
-    let last = list.last();
-    if !follows(links, list, first, None) {
+    if begin_alike(&*list, &given) {
         return false;
     }
-    leads(links, list, last, None)
+    let Some(gap) = gap_at(&*links, &*list, side, at) else {
+        return false;
+    };
+    let Some(ends) = beside(&*links, &given, None) else {
+        return false;
+    };
+    list.splice_between(links, gap.before, given, ends.before, gap.behind);
+    true
 }
 
 // Cuts the list at the gap beside a place. It keeps what is in front of the cut, and the rest is handed out.
@@ -304,27 +439,26 @@ pub(crate) fn split(
     side: Side,
     at: Option<Place>,
     rest: &mut List,
-) -> u32
+) -> bool
     ensures split { (cut : Cut) → Shows (lent_table links.old) list.old (join cut) → IsBeside side cut at
-        → IsAccepted result (SplitsBeside side (lent_table links.old) (lent_table links.new) list.new rest.new cut) }
-    ensures refused { result ≢ 0 → (links.new ≡ links.old) × (list.new ≡ list.old) × (rest.new ≡ rest.old) }
+        → (result ≡ true) × SplitsBeside side (lent_table links.old) (lent_table links.new) list.new rest.new cut }
+    ensures stands { result ≡ true → Stands is_linked_two (lent_table links.old) at }
+    ensures told { result ≡ true → TellsGap side (lent_table links.old) list.old at }
+    ensures refused { result ≡ false → (links.new ≡ links.old) × (list.new ≡ list.old) × (rest.new ≡ rest.old) }
     ensures extent { (lent_table links.new).extent ≡ (lent_table links.old).extent }
-    ensures status { IsStatus result }
-    ensures stands { result ≡ 0 → Stands is_linked_two (lent_table links.old) at }
 {
-    let gap = gap_at(&*links, &*list, side, at);
-    if gap.status != OK {
-        return gap.status;
-    }
+    let Some(gap) = gap_at(&*links, &*list, side, at) else {
+        return false;
+    };
     let back = list.split_between(links, gap.before, gap.behind);
     match side {
         Side::After => {
             *rest = back;
-            OK
+            true
         }
         Side::Before => {
             *rest = mem::replace(list, back);
-            OK
+            true
         }
     }
 }

@@ -8,15 +8,15 @@
 //! ic_list_pop_front(links, 64, &list, &first); // IC_OK, and first is 7
 //! ```
 
-ghost use Rattle.std.specs.Prelude.{◌≡◌, ◌≢◌, [], List, Some, None};
+ghost use Rattle.std.specs.Prelude.{◌≡◌, ◌≢◌, ◌↔◌, ◌++◌, ◌∷◌, [], List, Some, None, true, false};
 ghost use Rattle.ic_unsafe_ref.specs.declared.place.Place.{Place};
 ghost use Rattle.ic_link_ops.specs.Sequences.{Cut, at_front, at_back, IsAfter, IsBefore};
 ghost use Rattle.ic_link_ops.specs.Chains.{no_members};
 ghost use Rattle.ic_ffi.specs.declared.gap.Side.TheVariants.{After, Before};
 ghost use Rattle.ic_ffi.specs.Gaps.{IsBeside};
 ghost use Rattle.ic_ffi.specs.Words.{place_of};
-ghost use Rattle.ic_ffi.specs.Doubly.{ShowsList, FreeIn, StandsIn, ends_of, Inserted, Removed, Popped, Replaced, Spliced, Split};
-ghost use Rattle.ic_ffi.specs.Answers.{IsStatus};
+ghost use Rattle.ic_ffi.specs.Doubly.{ShowsList, FreeIn, StandsIn, TellsGap, IsEnd, end_on, table_of, ends_of, words_of, fault_at, fault_of, Inserted, Removed, Popped, Replaced, Spliced, Split};
+ghost use Rattle.ic_ffi.specs.Answers.{IsStatus, refusal};
 
 use crate::gap::Side;
 use crate::list;
@@ -42,51 +42,63 @@ fn insert_at(table: &mut [RawTwo], list: &mut RawEnds, side: Side, at: u32, plac
         → Inserted table.old table.new list.old list.new result cut p }
     ensures free { (p : Place) → place_of place ≡ Some p → result ≡ 0 → FreeIn table.old p }
     ensures none { place_of place ≡ None → result ≢ 0 }
-    ensures refused { result ≢ 0 → (table.new ≡ table.old) × (list.new ≡ list.old) }
-    ensures status { IsStatus result }
     ensures stands { result ≡ 0 → StandsIn table.old (place_of at) }
-{
-    let mut links = RawTable::new(table);
-    let mut edited = list_of(&*list);
-    let status = list::insert(&mut links, &mut edited, side, place_of(at), place_of(place));
-    list.keep(status, edited.first(), edited.last());
-    status
-}
-
-// Takes a member off.
-#[inline]
-fn remove_at(table: &mut [RawTwo], list: &mut RawEnds, at: Option<Place>) -> u32
-    ensures removed { (front back : List Place) (p : Place) → at ≡ Some p
-        → Removed table.old table.new list.old list.new result p front back }
-    ensures null { at ≡ None → result ≡ 4 }
+    ensures told { result ≡ 0 → TellsGap side (table_of table.old) (ends_of list.old) (place_of at) }
+    ensures words { list.old ≡ words_of (ends_of list.old) → list.new ≡ words_of (ends_of list.new) }
     ensures refused { result ≢ 0 → (table.new ≡ table.old) × (list.new ≡ list.old) }
+    ensures why { result ≢ 0 → result ≡ refusal (fault_at table.old (place_of at) ∷ fault_of table.old (place_of place) ∷ []) }
     ensures status { IsStatus result }
-    ensures stands { result ≡ 0 → StandsIn table.old at }
 {
     let mut links = RawTable::new(table);
-    let mut edited = list_of(&*list);
-    let status = list::remove(&mut links, &mut edited, at);
-    list.keep(status, edited.first(), edited.last());
-    status
+    let was = *list;
+    let mut edited = list_of(&was);
+    if !list::insert(&mut links, &mut edited, side, place_of(at), place_of(place)) {
+        return links.refusal(at, place);
+    }
+    list.keep(was, edited.first(), edited.last());
+    OK
 }
 
-// Takes the place at an end off, and hands its number out.
+// Takes the member at an end off, and hands its number out.
 #[inline]
-fn pop(table: &mut [RawTwo], list: &mut RawEnds, end: Option<Place>, popped: &mut u32) -> u32
-    ensures popped { (front back : List Place) (p : Place) → end ≡ Some p
+fn pop(table: &mut [RawTwo], list: &mut RawEnds, side: Side, popped: &mut u32) -> u32
+    ensures popped { (front back : List Place) (p : Place) → IsEnd side front back
         → Popped table.old table.new list.old list.new result popped.new p front back }
-    ensures null { end ≡ None → result ≡ 4 }
+    ensures null { (result ≡ 4) ↔ (end_on side (ends_of list.old) ≡ None) }
+    ensures stands { result ≡ 0 → StandsIn table.old (end_on side (ends_of list.old)) }
+    ensures outer { result ≡ 0 → TellsGap side (table_of table.old) (ends_of list.old) None }
+    ensures inner { result ≡ 0 → TellsGap side (table_of table.old) (ends_of list.old) (end_on side (ends_of list.old)) }
+    ensures words { list.old ≡ words_of (ends_of list.old) → list.new ≡ words_of (ends_of list.new) }
     ensures refused { result ≢ 0 → (table.new ≡ table.old) × (list.new ≡ list.old) × (popped.new ≡ popped.old) }
-    ensures status { IsStatus result }
+    ensures why { result ≢ 0 → result ≢ 4 → result ≡ 5 }
 {
-    let Some(place) = end else {
-        return NULL;
+    let mut links = RawTable::new(table);
+    let was = *list;
+    let mut edited = list_of(&was);
+    let Some(member) = list::pop(&mut links, &mut edited, side) else {
+        return refusal_to_pop(&*list, side);
     };
-    if remove_at(table, list, end) != OK {
-        return BROKEN;
-    }
-    *popped = number_of(place);
+    list.keep(was, edited.first(), edited.last());
+    *popped = number_of(member);
     OK
+}
+
+// Why no member is popped: there is none, or its words tell of none.
+#[cold]
+#[inline(never)]
+fn refusal_to_pop(list: &RawEnds, side: Side) -> u32
+    ensures null { (result ≡ 4) ↔ (end_on side (ends_of list.now) ≡ None) }
+    ensures why { result ≢ 4 → result ≡ 5 }
+    ensures refused { result ≢ 0 }
+{
+    let word = match side {
+        Side::After => list.head,
+        Side::Before => list.tail,
+    };
+    match place_in(word) {
+        None => NULL,
+        Some(_) => BROKEN,
+    }
 }
 
 // Puts all of the given list into the gap beside a place.
@@ -100,23 +112,27 @@ fn splice_at(
 ) -> u32
     ensures spliced { (cut : Cut) (t : List Place) → IsBeside side cut (place_of at)
         → Spliced table.old table.new list.old list.new result given.old cut t }
-    ensures emptied { result ≡ 0 → ends_of given.new ≡ no_members }
-    ensures refused { result ≢ 0 → (table.new ≡ table.old) × (list.new ≡ list.old) × (given.new ≡ given.old) }
-    ensures status { IsStatus result }
+    ensures emptied { result ≡ 0 → given.new ≡ words_of no_members }
     ensures stands { result ≡ 0 → StandsIn table.old (place_of at) }
+    ensures told { result ≡ 0 → TellsGap side (table_of table.old) (ends_of list.old) (place_of at) }
+    ensures front { result ≡ 0 → TellsGap After (table_of table.old) (ends_of given.old) None }
+    ensures back { result ≡ 0 → TellsGap Before (table_of table.old) (ends_of given.old) None }
+    ensures apart { result ≡ 0 → (p : Place) → (ends_of given.old).head ≡ Some p → (ends_of list.old).head ≢ Some p }
+    ensures words { list.old ≡ words_of (ends_of list.old) → list.new ≡ words_of (ends_of list.new) }
+    ensures refused { result ≢ 0 → (table.new ≡ table.old) × (list.new ≡ list.old) × (given.new ≡ given.old) }
+    ensures why { result ≢ 0 → result ≡ refusal (fault_at table.old (place_of at) ∷ []) }
+    ensures status { IsStatus result }
 {
     let mut links = RawTable::new(table);
-    let mut edited = list_of(&*list);
-    let status = list::splice(
-        &mut links,
-        &mut edited,
-        side,
-        place_of(at),
-        list_of(&*given),
-    );
-    list.keep(status, edited.first(), edited.last());
-    given.keep(status, None, None);
-    status
+    let was = *list;
+    let mut edited = list_of(&was);
+    let other = list_of(&*given);
+    if !list::splice(&mut links, &mut edited, side, place_of(at), other) {
+        return links.refusal_at(at);
+    }
+    list.keep(was, edited.first(), edited.last());
+    given.set(None, None);
+    OK
 }
 
 // Cuts the list at the gap beside a place, and hands out the part on that side of it.
@@ -128,19 +144,27 @@ fn split_at(
     at: u32,
     rest: &mut RawEnds,
 ) -> u32
-    ensures split { (cut : Cut) → IsBeside side cut (place_of at)
+    ensures split { (cut : Cut) → IsBeside side cut (place_of at) → ends_of rest.old ≡ no_members
         → Split side table.old table.new list.old list.new result rest.new cut }
-    ensures refused { result ≢ 0 → (table.new ≡ table.old) × (list.new ≡ list.old) × (rest.new ≡ rest.old) }
-    ensures status { IsStatus result }
+    ensures empty { result ≡ 0 → ends_of rest.old ≡ no_members }
     ensures stands { result ≡ 0 → StandsIn table.old (place_of at) }
+    ensures told { result ≡ 0 → TellsGap side (table_of table.old) (ends_of list.old) (place_of at) }
+    ensures words { list.old ≡ words_of (ends_of list.old) → list.new ≡ words_of (ends_of list.new) }
+    ensures rest { result ≡ 0 → rest.new ≡ words_of (ends_of rest.new) }
+    ensures refused { result ≢ 0 → (table.new ≡ table.old) × (list.new ≡ list.old) × (rest.new ≡ rest.old) }
+    ensures why { result ≢ 0 → result ≡ refusal (fault_at table.old (place_of at) ∷ []) }
+    ensures status { IsStatus result }
 {
     let mut links = RawTable::new(table);
-    let mut edited = list_of(&*list);
+    let was = *list;
+    let mut edited = list_of(&was);
     let mut part = LinkedList::new();
-    let status = list::split(&mut links, &mut edited, side, place_of(at), &mut part);
-    list.keep(status, edited.first(), edited.last());
-    rest.keep(status, part.first(), part.last());
-    status
+    if !rest.is_empty() || !list::split(&mut links, &mut edited, side, place_of(at), &mut part) {
+        return links.refusal_at(at);
+    }
+    list.keep(was, edited.first(), edited.last());
+    rest.set(part.first(), part.last());
+    OK
 }
 
 /// Puts a place in front of all members. O(1).
@@ -152,10 +176,50 @@ pub extern "C" fn ic_list_push_front(table: &mut [RawTwo], list: &mut RawEnds, p
         → Inserted table.old table.new list.old list.new result (at_front s) p }
     ensures free { (p : Place) → place_of place ≡ Some p → result ≡ 0 → FreeIn table.old p }
     ensures none { place_of place ≡ None → result ≢ 0 }
+    ensures told { result ≡ 0 → TellsGap After (table_of table.old) (ends_of list.old) None }
+    ensures words { list.old ≡ words_of (ends_of list.old) → list.new ≡ words_of (ends_of list.new) }
     ensures refused { result ≢ 0 → (table.new ≡ table.old) × (list.new ≡ list.old) }
+    ensures why { result ≢ 0 → result ≡ refusal (fault_of table.old (place_of place) ∷ []) }
     ensures status { IsStatus result }
 {
     insert_at(table, list, Side::After, NONE, place)
+}
+
+// Puts a place behind the last member, where its words are such as a call writes. Else it changes nothing, and says so.
+#[inline]
+fn push_behind_last(table: &mut [RawTwo], list: &mut RawEnds, place: u32) -> bool
+    ensures inserted { (s : List Place) (p : Place) → place_of place ≡ Some p → result ≡ true
+        → Inserted table.old table.new list.old list.new 0 (at_back s) p }
+    ensures free { (p : Place) → place_of place ≡ Some p → result ≡ true → FreeIn table.old p }
+    ensures none { place_of place ≡ None → result ≡ false }
+    ensures told { result ≡ true → TellsGap Before (table_of table.old) (ends_of list.old) None }
+    ensures words { list.old ≡ words_of (ends_of list.old) → list.new ≡ words_of (ends_of list.new) }
+    ensures refused { result ≡ false → (table.new ≡ table.old) × (list.new ≡ list.old) }
+{
+    let mut links = RawTable::new(table);
+    let mut edited = list_of(&*list);
+    if !list::push_behind_last(&mut links, &mut edited, place_of(place)) {
+        return false;
+    }
+    list.set_last(edited.last());
+    true
+}
+
+// Puts a place behind all members of any list, or says why not.
+#[cold]
+#[inline(never)]
+fn push_back_any(table: &mut [RawTwo], list: &mut RawEnds, place: u32) -> u32
+    ensures inserted { (s : List Place) (p : Place) → place_of place ≡ Some p
+        → Inserted table.old table.new list.old list.new result (at_back s) p }
+    ensures free { (p : Place) → place_of place ≡ Some p → result ≡ 0 → FreeIn table.old p }
+    ensures none { place_of place ≡ None → result ≢ 0 }
+    ensures told { result ≡ 0 → TellsGap Before (table_of table.old) (ends_of list.old) None }
+    ensures words { list.old ≡ words_of (ends_of list.old) → list.new ≡ words_of (ends_of list.new) }
+    ensures refused { result ≢ 0 → (table.new ≡ table.old) × (list.new ≡ list.old) }
+    ensures why { result ≢ 0 → result ≡ refusal (fault_of table.old (place_of place) ∷ []) }
+    ensures status { IsStatus result }
+{
+    insert_at(table, list, Side::Before, NONE, place)
 }
 
 /// Puts a place behind all members. O(1).
@@ -167,10 +231,34 @@ pub extern "C" fn ic_list_push_back(table: &mut [RawTwo], list: &mut RawEnds, pl
         → Inserted table.old table.new list.old list.new result (at_back s) p }
     ensures free { (p : Place) → place_of place ≡ Some p → result ≡ 0 → FreeIn table.old p }
     ensures none { place_of place ≡ None → result ≢ 0 }
+    ensures told { result ≡ 0 → TellsGap Before (table_of table.old) (ends_of list.old) None }
+    ensures words { list.old ≡ words_of (ends_of list.old) → list.new ≡ words_of (ends_of list.new) }
     ensures refused { result ≢ 0 → (table.new ≡ table.old) × (list.new ≡ list.old) }
+    ensures why { result ≢ 0 → result ≡ refusal (fault_of table.old (place_of place) ∷ []) }
     ensures status { IsStatus result }
 {
-    insert_at(table, list, Side::Before, NONE, place)
+    if push_behind_last(table, list, place) {
+        return OK;
+    }
+    push_back_any(table, list, place)
+}
+
+// Takes the first member off any list, or says why not.
+#[cold]
+#[inline(never)]
+fn pop_front_any(table: &mut [RawTwo], list: &mut RawEnds, popped: &mut u32) -> u32
+    ensures popped { (s : List Place) (p : Place) → Popped table.old table.new list.old list.new result popped.new p [] s }
+    ensures empty { ShowsList table.old list.old [] → result ≡ 4 }
+    ensures null { (result ≡ 4) ↔ ((ends_of list.old).head ≡ None) }
+    ensures stands { result ≡ 0 → StandsIn table.old (ends_of list.old).head }
+    ensures outer { result ≡ 0 → TellsGap After (table_of table.old) (ends_of list.old) None }
+    ensures inner { result ≡ 0 → TellsGap After (table_of table.old) (ends_of list.old) (ends_of list.old).head }
+    ensures words { list.old ≡ words_of (ends_of list.old) → list.new ≡ words_of (ends_of list.new) }
+    ensures refused { result ≢ 0 → (table.new ≡ table.old) × (list.new ≡ list.old) × (popped.new ≡ popped.old) }
+    ensures why { result ≢ 0 → result ≢ 4 → result ≡ 5 }
+    ensures status { IsStatus result }
+{
+    pop(table, list, Side::After, popped)
 }
 
 /// Takes the first member off and hands it out, or returns [`NULL`] where there is none. O(1).
@@ -182,11 +270,24 @@ pub extern "C" fn ic_list_pop_front(
 ) -> u32
     ensures popped { (s : List Place) (p : Place) → Popped table.old table.new list.old list.new result popped.new p [] s }
     ensures empty { ShowsList table.old list.old [] → result ≡ 4 }
+    ensures null { (result ≡ 4) ↔ ((ends_of list.old).head ≡ None) }
+    ensures stands { result ≡ 0 → StandsIn table.old (ends_of list.old).head }
+    ensures outer { result ≡ 0 → TellsGap After (table_of table.old) (ends_of list.old) None }
+    ensures inner { result ≡ 0 → TellsGap After (table_of table.old) (ends_of list.old) (ends_of list.old).head }
+    ensures words { list.old ≡ words_of (ends_of list.old) → list.new ≡ words_of (ends_of list.new) }
     ensures refused { result ≢ 0 → (table.new ≡ table.old) × (list.new ≡ list.old) × (popped.new ≡ popped.old) }
+    ensures why { result ≢ 0 → result ≢ 4 → result ≡ 5 }
     ensures status { IsStatus result }
 {
-    let first = place_in(list.head);
-    pop(table, list, first, popped)
+    let mut links = RawTable::new(table);
+    let was = *list;
+    let mut edited = list_of(&was);
+    if let Some(first) = list::pop_before_second(&mut links, &mut edited) {
+        list.set_first(edited.first());
+        *popped = number_of(first);
+        return OK;
+    }
+    pop_front_any(links.entries, list, popped)
 }
 
 /// Takes the last member off and hands it out, or returns [`NULL`] where there is none. O(1).
@@ -198,11 +299,16 @@ pub extern "C" fn ic_list_pop_back(
 ) -> u32
     ensures popped { (s : List Place) (p : Place) → Popped table.old table.new list.old list.new result popped.new p s [] }
     ensures empty { ShowsList table.old list.old [] → result ≡ 4 }
+    ensures null { (result ≡ 4) ↔ ((ends_of list.old).tail ≡ None) }
+    ensures stands { result ≡ 0 → StandsIn table.old (ends_of list.old).tail }
+    ensures outer { result ≡ 0 → TellsGap Before (table_of table.old) (ends_of list.old) None }
+    ensures inner { result ≡ 0 → TellsGap Before (table_of table.old) (ends_of list.old) (ends_of list.old).tail }
+    ensures words { list.old ≡ words_of (ends_of list.old) → list.new ≡ words_of (ends_of list.new) }
     ensures refused { result ≢ 0 → (table.new ≡ table.old) × (list.new ≡ list.old) × (popped.new ≡ popped.old) }
+    ensures why { result ≢ 0 → result ≢ 4 → result ≡ 5 }
     ensures status { IsStatus result }
 {
-    let last = place_in(list.tail);
-    pop(table, list, last, popped)
+    pop(table, list, Side::Before, popped)
 }
 
 /// Puts a place behind the member `at`, at [`NONE`] in front of all. O(1).
@@ -219,9 +325,12 @@ pub extern "C" fn ic_list_insert_after(
         → Inserted table.old table.new list.old list.new result cut p }
     ensures free { (p : Place) → place_of place ≡ Some p → result ≡ 0 → FreeIn table.old p }
     ensures none { place_of place ≡ None → result ≢ 0 }
-    ensures refused { result ≢ 0 → (table.new ≡ table.old) × (list.new ≡ list.old) }
-    ensures status { IsStatus result }
     ensures stands { result ≡ 0 → StandsIn table.old (place_of at) }
+    ensures told { result ≡ 0 → TellsGap After (table_of table.old) (ends_of list.old) (place_of at) }
+    ensures words { list.old ≡ words_of (ends_of list.old) → list.new ≡ words_of (ends_of list.new) }
+    ensures refused { result ≢ 0 → (table.new ≡ table.old) × (list.new ≡ list.old) }
+    ensures why { result ≢ 0 → result ≡ refusal (fault_at table.old (place_of at) ∷ fault_of table.old (place_of place) ∷ []) }
+    ensures status { IsStatus result }
 {
     insert_at(table, list, Side::After, at, place)
 }
@@ -240,11 +349,42 @@ pub extern "C" fn ic_list_insert_before(
         → Inserted table.old table.new list.old list.new result cut p }
     ensures free { (p : Place) → place_of place ≡ Some p → result ≡ 0 → FreeIn table.old p }
     ensures none { place_of place ≡ None → result ≢ 0 }
-    ensures refused { result ≢ 0 → (table.new ≡ table.old) × (list.new ≡ list.old) }
-    ensures status { IsStatus result }
     ensures stands { result ≡ 0 → StandsIn table.old (place_of at) }
+    ensures told { result ≡ 0 → TellsGap Before (table_of table.old) (ends_of list.old) (place_of at) }
+    ensures words { list.old ≡ words_of (ends_of list.old) → list.new ≡ words_of (ends_of list.new) }
+    ensures refused { result ≢ 0 → (table.new ≡ table.old) × (list.new ≡ list.old) }
+    ensures why { result ≢ 0 → result ≡ refusal (fault_at table.old (place_of at) ∷ fault_of table.old (place_of place) ∷ []) }
+    ensures status { IsStatus result }
 {
     insert_at(table, list, Side::Before, at, place)
+}
+
+// Takes any member off, or says why not.
+#[cold]
+#[inline(never)]
+fn remove_any(table: &mut [RawTwo], list: &mut RawEnds, at: u32) -> u32
+    ensures removed { (front back : List Place) (p : Place) → place_of at ≡ Some p
+        → Removed table.old table.new list.old list.new result p front back }
+    ensures null { (result ≡ 4) ↔ (place_of at ≡ None) }
+    ensures stands { result ≡ 0 → StandsIn table.old (place_of at) }
+    ensures before { result ≡ 0 → TellsGap Before (table_of table.old) (ends_of list.old) (place_of at) }
+    ensures behind { result ≡ 0 → TellsGap After (table_of table.old) (ends_of list.old) (place_of at) }
+    ensures words { list.old ≡ words_of (ends_of list.old) → list.new ≡ words_of (ends_of list.new) }
+    ensures refused { result ≢ 0 → (table.new ≡ table.old) × (list.new ≡ list.old) }
+    ensures why { result ≢ 0 → result ≢ 4 → result ≡ refusal (fault_at table.old (place_of at) ∷ []) }
+    ensures status { IsStatus result }
+{
+    let Some(member) = place_of(at) else {
+        return NULL;
+    };
+    let mut links = RawTable::new(table);
+    let was = *list;
+    let mut edited = list_of(&was);
+    if !list::remove(&mut links, &mut edited, member) {
+        return links.refusal_at(at);
+    }
+    list.keep(was, edited.first(), edited.last());
+    OK
 }
 
 /// Takes the member `at` off, or returns [`NULL`] at [`NONE`]. O(1).
@@ -252,12 +392,23 @@ pub extern "C" fn ic_list_insert_before(
 pub extern "C" fn ic_list_remove(table: &mut [RawTwo], list: &mut RawEnds, at: u32) -> u32
     ensures removed { (front back : List Place) (p : Place) → place_of at ≡ Some p
         → Removed table.old table.new list.old list.new result p front back }
-    ensures null { place_of at ≡ None → result ≡ 4 }
-    ensures refused { result ≢ 0 → (table.new ≡ table.old) × (list.new ≡ list.old) }
-    ensures status { IsStatus result }
+    ensures null { (result ≡ 4) ↔ (place_of at ≡ None) }
     ensures stands { result ≡ 0 → StandsIn table.old (place_of at) }
+    ensures before { result ≡ 0 → TellsGap Before (table_of table.old) (ends_of list.old) (place_of at) }
+    ensures behind { result ≡ 0 → TellsGap After (table_of table.old) (ends_of list.old) (place_of at) }
+    ensures words { list.old ≡ words_of (ends_of list.old) → list.new ≡ words_of (ends_of list.new) }
+    ensures refused { result ≢ 0 → (table.new ≡ table.old) × (list.new ≡ list.old) }
+    ensures why { result ≢ 0 → result ≢ 4 → result ≡ refusal (fault_at table.old (place_of at) ∷ []) }
+    ensures status { IsStatus result }
 {
-    remove_at(table, list, place_of(at))
+    let Some(member) = place_of(at) else {
+        return NULL;
+    };
+    let mut links = RawTable::new(table);
+    if list::remove_between(&mut links, &mut list_of(&*list), member) {
+        return OK;
+    }
+    remove_any(links.entries, list, at)
 }
 
 /// Puts a place where the member `at` is, which is unlinked then, or returns [`NULL`] at [`NONE`]. O(1).
@@ -274,19 +425,31 @@ pub extern "C" fn ic_list_replace(
         → Replaced table.old table.new list.old list.new result out front back p }
     ensures free { (p : Place) → place_of place ≡ Some p → result ≡ 0 → FreeIn table.old p }
     ensures none { place_of place ≡ None → result ≢ 0 }
-    ensures null { place_of at ≡ None → result ≡ 4 }
-    ensures refused { result ≢ 0 → (table.new ≡ table.old) × (list.new ≡ list.old) }
-    ensures status { IsStatus result }
+    ensures null { (result ≡ 4) ↔ (place_of at ≡ None) }
     ensures stands { result ≡ 0 → StandsIn table.old (place_of at) }
+    ensures before { result ≡ 0 → TellsGap Before (table_of table.old) (ends_of list.old) (place_of at) }
+    ensures behind { result ≡ 0 → TellsGap After (table_of table.old) (ends_of list.old) (place_of at) }
+    ensures words { list.old ≡ words_of (ends_of list.old) → list.new ≡ words_of (ends_of list.new) }
+    ensures refused { result ≢ 0 → (table.new ≡ table.old) × (list.new ≡ list.old) }
+    ensures why { result ≢ 0 → result ≢ 4 → result ≡ refusal (fault_at table.old (place_of at) ∷ fault_of table.old (place_of place) ∷ []) }
+    ensures status { IsStatus result }
 {
+    let Some(member) = place_of(at) else {
+        return NULL;
+    };
     let mut links = RawTable::new(table);
-    let mut edited = list_of(&*list);
-    let status = list::replace(&mut links, &mut edited, place_of(at), place_of(place));
-    list.keep(status, edited.first(), edited.last());
-    status
+    let was = *list;
+    let mut edited = list_of(&was);
+    if !list::replace(&mut links, &mut edited, member, place_of(place)) {
+        return links.refusal(at, place);
+    }
+    list.keep(was, edited.first(), edited.last());
+    OK
 }
 
 /// Puts all of the given list behind the member `at`, at [`NONE`] in front of all, and leaves the given one empty. O(1).
+///
+/// A list that begins with the same member, as the list itself, is [`BROKEN`].
 #[unsafe(no_mangle)]
 pub extern "C" fn ic_list_splice_after(
     table: &mut [RawTwo],
@@ -296,15 +459,23 @@ pub extern "C" fn ic_list_splice_after(
 ) -> u32
     ensures spliced { (cut : Cut) (t : List Place) → IsAfter cut (place_of at)
         → Spliced table.old table.new list.old list.new result given.old cut t }
-    ensures emptied { result ≡ 0 → ends_of given.new ≡ no_members }
-    ensures refused { result ≢ 0 → (table.new ≡ table.old) × (list.new ≡ list.old) × (given.new ≡ given.old) }
-    ensures status { IsStatus result }
+    ensures emptied { result ≡ 0 → given.new ≡ words_of no_members }
     ensures stands { result ≡ 0 → StandsIn table.old (place_of at) }
+    ensures told { result ≡ 0 → TellsGap After (table_of table.old) (ends_of list.old) (place_of at) }
+    ensures front { result ≡ 0 → TellsGap After (table_of table.old) (ends_of given.old) None }
+    ensures back { result ≡ 0 → TellsGap Before (table_of table.old) (ends_of given.old) None }
+    ensures apart { result ≡ 0 → (p : Place) → (ends_of given.old).head ≡ Some p → (ends_of list.old).head ≢ Some p }
+    ensures words { list.old ≡ words_of (ends_of list.old) → list.new ≡ words_of (ends_of list.new) }
+    ensures refused { result ≢ 0 → (table.new ≡ table.old) × (list.new ≡ list.old) × (given.new ≡ given.old) }
+    ensures why { result ≢ 0 → result ≡ refusal (fault_at table.old (place_of at) ∷ []) }
+    ensures status { IsStatus result }
 {
     splice_at(table, list, Side::After, at, given)
 }
 
 /// Puts all of the given list in front of the member `at`, at [`NONE`] behind all, and leaves the given one empty. O(1).
+///
+/// A list that begins with the same member, as the list itself, is [`BROKEN`].
 #[unsafe(no_mangle)]
 pub extern "C" fn ic_list_splice_before(
     table: &mut [RawTwo],
@@ -314,15 +485,23 @@ pub extern "C" fn ic_list_splice_before(
 ) -> u32
     ensures spliced { (cut : Cut) (t : List Place) → IsBefore cut (place_of at)
         → Spliced table.old table.new list.old list.new result given.old cut t }
-    ensures emptied { result ≡ 0 → ends_of given.new ≡ no_members }
-    ensures refused { result ≢ 0 → (table.new ≡ table.old) × (list.new ≡ list.old) × (given.new ≡ given.old) }
-    ensures status { IsStatus result }
+    ensures emptied { result ≡ 0 → given.new ≡ words_of no_members }
     ensures stands { result ≡ 0 → StandsIn table.old (place_of at) }
+    ensures told { result ≡ 0 → TellsGap Before (table_of table.old) (ends_of list.old) (place_of at) }
+    ensures front { result ≡ 0 → TellsGap After (table_of table.old) (ends_of given.old) None }
+    ensures back { result ≡ 0 → TellsGap Before (table_of table.old) (ends_of given.old) None }
+    ensures apart { result ≡ 0 → (p : Place) → (ends_of given.old).head ≡ Some p → (ends_of list.old).head ≢ Some p }
+    ensures words { list.old ≡ words_of (ends_of list.old) → list.new ≡ words_of (ends_of list.new) }
+    ensures refused { result ≢ 0 → (table.new ≡ table.old) × (list.new ≡ list.old) × (given.new ≡ given.old) }
+    ensures why { result ≢ 0 → result ≡ refusal (fault_at table.old (place_of at) ∷ []) }
+    ensures status { IsStatus result }
 {
     splice_at(table, list, Side::Before, at, given)
 }
 
 /// Hands out what stands behind the member `at`, at [`NONE`] all of the list. O(1).
+///
+/// Where `rest` is not empty, it returns [`BROKEN`].
 #[unsafe(no_mangle)]
 pub extern "C" fn ic_list_split_after(
     table: &mut [RawTwo],
@@ -330,16 +509,23 @@ pub extern "C" fn ic_list_split_after(
     at: u32,
     rest: &mut RawEnds,
 ) -> u32
-    ensures split { (cut : Cut) → IsAfter cut (place_of at)
+    ensures split { (cut : Cut) → IsAfter cut (place_of at) → ends_of rest.old ≡ no_members
         → Split After table.old table.new list.old list.new result rest.new cut }
-    ensures refused { result ≢ 0 → (table.new ≡ table.old) × (list.new ≡ list.old) × (rest.new ≡ rest.old) }
-    ensures status { IsStatus result }
+    ensures empty { result ≡ 0 → ends_of rest.old ≡ no_members }
     ensures stands { result ≡ 0 → StandsIn table.old (place_of at) }
+    ensures told { result ≡ 0 → TellsGap After (table_of table.old) (ends_of list.old) (place_of at) }
+    ensures words { list.old ≡ words_of (ends_of list.old) → list.new ≡ words_of (ends_of list.new) }
+    ensures rest { result ≡ 0 → rest.new ≡ words_of (ends_of rest.new) }
+    ensures refused { result ≢ 0 → (table.new ≡ table.old) × (list.new ≡ list.old) × (rest.new ≡ rest.old) }
+    ensures why { result ≢ 0 → result ≡ refusal (fault_at table.old (place_of at) ∷ []) }
+    ensures status { IsStatus result }
 {
     split_at(table, list, Side::After, at, rest)
 }
 
 /// Hands out what stands in front of the member `at`, at [`NONE`] all of the list. O(1).
+///
+/// Where `rest` is not empty, it returns [`BROKEN`].
 #[unsafe(no_mangle)]
 pub extern "C" fn ic_list_split_before(
     table: &mut [RawTwo],
@@ -347,11 +533,16 @@ pub extern "C" fn ic_list_split_before(
     at: u32,
     rest: &mut RawEnds,
 ) -> u32
-    ensures split { (cut : Cut) → IsBefore cut (place_of at)
+    ensures split { (cut : Cut) → IsBefore cut (place_of at) → ends_of rest.old ≡ no_members
         → Split Before table.old table.new list.old list.new result rest.new cut }
-    ensures refused { result ≢ 0 → (table.new ≡ table.old) × (list.new ≡ list.old) × (rest.new ≡ rest.old) }
-    ensures status { IsStatus result }
+    ensures empty { result ≡ 0 → ends_of rest.old ≡ no_members }
     ensures stands { result ≡ 0 → StandsIn table.old (place_of at) }
+    ensures told { result ≡ 0 → TellsGap Before (table_of table.old) (ends_of list.old) (place_of at) }
+    ensures words { list.old ≡ words_of (ends_of list.old) → list.new ≡ words_of (ends_of list.new) }
+    ensures rest { result ≡ 0 → rest.new ≡ words_of (ends_of rest.new) }
+    ensures refused { result ≢ 0 → (table.new ≡ table.old) × (list.new ≡ list.old) × (rest.new ≡ rest.old) }
+    ensures why { result ≢ 0 → result ≡ refusal (fault_at table.old (place_of at) ∷ []) }
+    ensures status { IsStatus result }
 {
     split_at(table, list, Side::Before, at, rest)
 }

@@ -7,7 +7,6 @@
 ghost use Rattle.std.specs.Prelude.{◌≡◌};
 ghost use Rattle.ic_ffi.specs.Words.{place_in, place_of, HasNumber};
 
-use crate::status::NONE;
 use ic_unsafe_ref::Place;
 
 /// The place that a word names, whatever its bits are: the three lowest, and those from `2^36` on, count for nothing.
@@ -26,15 +25,11 @@ pub(crate) fn place_of(index: u32) -> Option<Place>
     Place::from_word(8 * u64::from(index.wrapping_add(1)))
 }
 
-/// The index of the place, [`NONE`] where it is too large. No call puts such a place in.
+/// The index of the place, as many of its bits as the number has. No call puts a place in whose index has more.
 #[inline]
 #[tactic(auto, using(crate::proofs::Numbers::index_named))]
 pub(crate) fn number_of(place: Place) -> u32
     ensures { HasNumber place result }
 {
-    let index = place.index();
-    if index >= NONE as usize {
-        return NONE;
-    }
-    index as u32
+    (place.index() % 4_294_967_296) as u32
 }

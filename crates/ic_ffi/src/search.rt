@@ -4,7 +4,7 @@
 //! let member = find(&links, &tree, keys, key, Target::AtLeast);
 //! ```
 
-ghost use Rattle.std.specs.Prelude.{◌≡◌, ◌≢◌, ◌≤◌, List, Option, Some, length, None};
+ghost use Rattle.std.specs.Prelude.{◌≡◌, ◌≢◌, ◌⊎◌, ◌≤◌, ◌∷◌, [], List, Option, Some, length, None, true, false};
 ghost use Rattle.std.specs.Ordering.{nat_cmp};
 ghost use Rattle.ic_unsafe_ref.specs.declared.place.Place.{Place};
 ghost use Rattle.ic_link_ops.specs.Tables.{IsCovered, IsLinked};
@@ -12,15 +12,15 @@ ghost use Rattle.ic_link_ops.specs.RedBlackTree as trees;
 ghost use Rattle.ic_rbtree.specs.Descents.{EndsAt};
 ghost use Rattle.ic_rbtree.specs.Ordered.{InsertsInOrder};
 ghost use Rattle.ic_rbtree.specs.Tree.{root_of};
-ghost use Rattle.ic_ffi.specs.Answers.{IsStatus, IsAccepted, HandsOut};
+ghost use Rattle.ic_ffi.specs.Answers.{HandsOut, refusal};
 ghost use Rattle.ic_ffi.specs.Gaps.{Stands};
-ghost use Rattle.ic_ffi.specs.Keys.{against, key_of, IsTarget};
+ghost use Rattle.ic_ffi.specs.Keys.{against, key_of, keys_fault, IsTarget};
 ghost use Rattle.ic_ffi.specs.Seen.{seen, seen_node};
-ghost use Rattle.ic_ffi.specs.Tables.{IsFree};
+ghost use Rattle.ic_ffi.specs.Tables.{IsFree, place_fault};
 ghost use Rattle.ic_ffi.specs.Tree.{Shows, lent_table};
-ghost use Rattle.ic_ffi.specs.Words.{is_linked_three, HasNumber};
+ghost use Rattle.ic_ffi.specs.Words.{is_linked_three, place_of, HasNumber};
 
-use crate::status::{BROKEN, OK, OUT_OF_RANGE};
+use crate::status::{BROKEN, NONE, OUT_OF_RANGE};
 use crate::table::RawTable;
 use crate::tree::{self, Tree};
 use crate::words::RawThree;
@@ -59,19 +59,45 @@ impl Probe<u64> for Wanted {
     }
 }
 
-// [`OK`] where there is a key for each place, and the root is none or linked. Else why not.
+// Whether there is a key for each place, and the root is none or linked.
 #[inline]
-pub(crate) fn searchable(links: &RawTable<'_, RawThree>, tree: &Tree, keys: &[u64]) -> u32
-    ensures keys { result ≡ 0 → (lent_table links.now).extent.places ≤ length keys.now }
-    ensures root { result ≡ 0 → Stands is_linked_three (lent_table links.now) (root_of tree.now) }
+pub(crate) fn is_searchable(links: &RawTable<'_, RawThree>, tree: &Tree, keys: &[u64]) -> bool
+    ensures keys { result ≡ true → (lent_table links.now).extent.places ≤ length keys.now }
+    ensures root { result ≡ true → Stands is_linked_three (lent_table links.now) (root_of tree.now) }
     ensures shown { (s : List Place) → Shows (lent_table links.now) (root_of tree.now) s
-        → (lent_table links.now).extent.places ≤ length keys.now → result ≡ 0 }
-    ensures status { IsStatus result }
+        → (lent_table links.now).extent.places ≤ length keys.now → result ≡ true }
+{
+    if keys.len() < links.places() {
+        return false;
+    }
+    links.stands(tree.root())
+}
+
+// Why a tree is not searched: by the fault of the keys, or as [`BROKEN`].
+#[cold]
+#[inline(never)]
+fn refusal(links: &RawTable<'_, RawThree>, keys: &[u64]) -> u32
+    ensures refusal { result ≡ refusal (keys_fault keys.now (lent_table links.now).extent.places ∷ []) }
+    ensures refused { (result ≢ 0) × (result ≢ 4) }
 {
     if keys.len() < links.places() {
         return OUT_OF_RANGE;
     }
-    tree::standing(links, tree, None)
+    BROKEN
+}
+
+// Why a place does not go in by its key: by the fault of the keys or of the place, or as [`BROKEN`].
+#[cold]
+#[inline(never)]
+pub(crate) fn refusal_of(links: &RawTable<'_, RawThree>, keys: &[u64], place: u32) -> u32
+    ensures refusal { result ≡ refusal (keys_fault keys.now (lent_table links.now).extent.places
+        ∷ place_fault is_linked_three (lent_table links.now) (place_of place) ∷ []) }
+    ensures refused { (result ≢ 0) × (result ≢ 4) }
+{
+    if keys.len() < links.places() {
+        return OUT_OF_RANGE;
+    }
+    links.refusal(NONE, place)
 }
 
 // Goes down to the gap to which the key sends, past equal ones to this side.
@@ -132,48 +158,44 @@ pub(crate) fn look(
         → (lent_table links.now).extent.places ≤ length keys.now → HandsOut (IsTarget target (against key keys.now) s) result found.new }
     ensures linked { result ≡ 0 → (q : Place) × IsLinked is_linked_three (lent_table links.now) q × HasNumber q found.new }
     ensures refused { result ≢ 0 → found.new ≡ found.old }
-    ensures status { IsStatus result }
+    ensures looked { (result ≡ 0) ⊎ (result ≡ 4) → ((lent_table links.now).extent.places ≤ length keys.now)
+        × Stands is_linked_three (lent_table links.now) (root_of tree.now) }
+    ensures why { result ≢ 0 → result ≢ 4 → result ≡ refusal (keys_fault keys.now (lent_table links.now).extent.places ∷ []) }
 {
-    let status = searchable(links, tree, keys);
-    if status != OK {
-        return status;
+    if !is_searchable(links, tree, keys) {
+        return refusal(links, keys);
     }
     let member = find(links, tree, keys, key, target);
     tree::hand_out(links, member, found)
 }
 
-// Puts the place in behind all members with no greater key than its own.
+// Puts the place in behind all members with no greater key than its own, and says whether it could.
 #[inline]
 pub(crate) fn insert(
     links: &mut RawTable<'_, RawThree>,
     tree: &mut Tree,
     keys: &[u64],
     place: Option<Place>,
-) -> u32
+) -> bool
     ensures inserted { (s : List Place) (p : Place) → Shows (lent_table links.old) (root_of tree.old) s → place ≡ Some p
         → (lent_table links.old).extent.places ≤ length keys.now → IsFree is_linked_three (lent_table links.old) p
-        → IsAccepted result (InsertsInOrder Shows (against (key_of keys.now p) keys.now) (lent_table links.old) (lent_table links.new)
-        (root_of tree.new) s p) }
-    ensures free { (p : Place) → place ≡ Some p → result ≡ 0 → IsFree is_linked_three (lent_table links.old) p }
-    ensures none { place ≡ None → result ≢ 0 }
-    ensures refused { result ≢ 0 → (links.new ≡ links.old) × (tree.new ≡ tree.old) }
+        → (result ≡ true) × InsertsInOrder Shows (against (key_of keys.now p) keys.now) (lent_table links.old) (lent_table links.new)
+        (root_of tree.new) s p }
+    ensures free { result ≡ true → (p : Place) × (place ≡ Some p) × IsFree is_linked_three (lent_table links.old) p }
+    ensures keys { result ≡ true → (lent_table links.old).extent.places ≤ length keys.now }
+    ensures root { result ≡ true → Stands is_linked_three (lent_table links.old) (root_of tree.old) }
+    ensures refused { result ≡ false → (links.new ≡ links.old) × (tree.new ≡ tree.old) }
     ensures extent { (lent_table links.new).extent ≡ (lent_table links.old).extent }
-    ensures status { IsStatus result }
 {
-    let status = searchable(&*links, &*tree, keys);
-    if status != OK {
-        return status;
+    if !is_searchable(&*links, &*tree, keys) {
+        return false;
     }
     let Some(own) = place else {
-        return OUT_OF_RANGE;
+        return false;
     };
     if !links.covers(own) {
-        return OUT_OF_RANGE;
+        return false;
     }
     let descent = descend(&*links, &*tree, keys, keys[own.index()], Side::Right);
-    let parent = descent.parent.get();
-    if links.standing(parent) != OK {
-        return BROKEN;
-    }
-    tree::insert(links, tree, descent.side, parent, place)
+    tree::insert(links, tree, descent.side, descent.parent.get(), place)
 }

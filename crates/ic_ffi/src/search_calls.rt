@@ -10,17 +10,18 @@
 //! ic_tree_lower_bound(links, 64, keys, 64, &tree, 20, &found);  // IC_OK, and found is 7
 //! ```
 
-ghost use Rattle.std.specs.Prelude.{◌≡◌, ◌≢◌, ◌≤◌, List, Some, length, None};
+ghost use Rattle.std.specs.Prelude.{◌≡◌, ◌≢◌, ◌≤◌, ◌⊎◌, ◌∷◌, [], List, Some, length, None};
 ghost use Rattle.ic_unsafe_ref.specs.declared.place.Place.{Place};
 ghost use Rattle.ic_rbtree.specs.Borders.{Finds, IsLowerBorder, IsUpperBorder};
 ghost use Rattle.ic_rbtree.specs.declared.keys.key_adapter.Bound.TheVariants.{Included};
-ghost use Rattle.ic_ffi.specs.Answers.{IsStatus, HandsOut};
-ghost use Rattle.ic_ffi.specs.Keys.{against, IsTarget, InsertedInOrder};
-ghost use Rattle.ic_ffi.specs.Tree.{ShowsTree, FreeIn, NamesLinked};
+ghost use Rattle.ic_ffi.specs.Answers.{IsStatus, HandsOut, refusal};
+ghost use Rattle.ic_ffi.specs.Keys.{against, keys_fault, IsTarget, InsertedInOrder};
+ghost use Rattle.ic_ffi.specs.Tree.{ShowsTree, FreeIn, StandsIn, NamesLinked, root_in, word_of_root, fault_of};
 ghost use Rattle.ic_ffi.specs.Words.{place_of};
 
 use crate::number::place_of;
 use crate::search::{self, Target};
+use crate::status::OK;
 use crate::table::RawTable;
 use crate::tree_calls::tree_of;
 use crate::words::{RawRoot, RawThree};
@@ -39,14 +40,21 @@ pub extern "C" fn ic_tree_insert(
         → InsertedInOrder keys.now table.old table.new tree.old tree.new result s p }
     ensures free { (p : Place) → place_of place ≡ Some p → result ≡ 0 → FreeIn table.old p }
     ensures none { place_of place ≡ None → result ≢ 0 }
+    ensures keys { result ≡ 0 → length table.old ≤ length keys.now }
+    ensures root { result ≡ 0 → StandsIn table.old (root_in tree.old) }
+    ensures words { tree.old ≡ word_of_root (root_in tree.old) → tree.new ≡ word_of_root (root_in tree.new) }
     ensures refused { result ≢ 0 → (table.new ≡ table.old) × (tree.new ≡ tree.old) }
+    ensures why { result ≢ 0 → result ≡ refusal (keys_fault keys.now (length table.old) ∷ fault_of table.old (place_of place) ∷ []) }
     ensures status { IsStatus result }
 {
     let mut links = RawTable::new(table);
-    let mut edited = tree_of(&*tree);
-    let status = search::insert(&mut links, &mut edited, keys, place_of(place));
-    tree.keep(status, edited.root());
-    status
+    let was = *tree;
+    let mut edited = tree_of(&was);
+    if !search::insert(&mut links, &mut edited, keys, place_of(place)) {
+        return search::refusal_of(&links, keys, place);
+    }
+    tree.keep(was, edited.root());
+    OK
 }
 
 // Hands out the member that is searched.
@@ -64,6 +72,8 @@ fn look_for(
     ensures linked { result ≡ 0 → NamesLinked table.old found.new }
     ensures refused { result ≢ 0 → found.new ≡ found.old }
     ensures same { table.new ≡ table.old }
+    ensures looked { (result ≡ 0) ⊎ (result ≡ 4) → (length table.old ≤ length keys.now) × StandsIn table.old (root_in tree.now) }
+    ensures why { result ≢ 0 → result ≢ 4 → result ≡ refusal (keys_fault keys.now (length table.old) ∷ []) }
     ensures status { IsStatus result }
 {
     let links = RawTable::new(table);
@@ -87,6 +97,8 @@ pub extern "C" fn ic_tree_find(
     ensures linked { result ≡ 0 → NamesLinked table.old found.new }
     ensures refused { result ≢ 0 → found.new ≡ found.old }
     ensures same { table.new ≡ table.old }
+    ensures looked { (result ≡ 0) ⊎ (result ≡ 4) → (length table.old ≤ length keys.now) × StandsIn table.old (root_in tree.now) }
+    ensures why { result ≢ 0 → result ≢ 4 → result ≡ refusal (keys_fault keys.now (length table.old) ∷ []) }
     ensures status { IsStatus result }
 {
     look_for(table, keys, tree, key, Target::Equal, found)
@@ -110,6 +122,8 @@ pub extern "C" fn ic_tree_lower_bound(
     ensures linked { result ≡ 0 → NamesLinked table.old found.new }
     ensures refused { result ≢ 0 → found.new ≡ found.old }
     ensures same { table.new ≡ table.old }
+    ensures looked { (result ≡ 0) ⊎ (result ≡ 4) → (length table.old ≤ length keys.now) × StandsIn table.old (root_in tree.now) }
+    ensures why { result ≢ 0 → result ≢ 4 → result ≡ refusal (keys_fault keys.now (length table.old) ∷ []) }
     ensures status { IsStatus result }
 {
     look_for(table, keys, tree, key, Target::AtLeast, found)
@@ -133,6 +147,8 @@ pub extern "C" fn ic_tree_upper_bound(
     ensures linked { result ≡ 0 → NamesLinked table.old found.new }
     ensures refused { result ≢ 0 → found.new ≡ found.old }
     ensures same { table.new ≡ table.old }
+    ensures looked { (result ≡ 0) ⊎ (result ≡ 4) → (length table.old ≤ length keys.now) × StandsIn table.old (root_in tree.now) }
+    ensures why { result ≢ 0 → result ≢ 4 → result ≡ refusal (keys_fault keys.now (length table.old) ∷ []) }
     ensures status { IsStatus result }
 {
     look_for(table, keys, tree, key, Target::AtMost, found)

@@ -1,24 +1,22 @@
 //! The singly linked list: what its calls test, and its edits over a view of the table.
 //!
 //! ```text
-//! let status = insert(&mut links, &mut stack, at, place);
+//! let made = insert(&mut links, &mut stack, at, place);
 //! ```
 
-ghost use Rattle.std.specs.Prelude.{◌≡◌, ◌≢◌, ◌++◌, ◌∷◌, List, Option, Some, None, IfSome};
+ghost use Rattle.std.specs.Prelude.{◌≡◌, ◌≢◌, ◌++◌, ◌∷◌, List, Some, true, false};
 ghost use Rattle.ic_unsafe_ref.specs.declared.place.Place.{Place};
 ghost use Rattle.ic_link_ops.specs.Sequences.{Cut, join, last, IsDisjoint, IsAfter};
 ghost use Rattle.ic_link_ops.specs.Tables.{IsLinked, IsUnlinked};
 ghost use Rattle.ic_link_ops.specs.Edits.{Inserts, Removes, Replaces, Splices, Splits};
 ghost use Rattle.ic_link_ops.specs.SinglyLinkedList.{list_from};
-ghost use Rattle.ic_ffi.specs.Answers.{IsStatus, IsAccepted};
-ghost use Rattle.ic_ffi.specs.Gaps.{Stands, StandBeside, before, gap_of};
+ghost use Rattle.ic_ffi.specs.declared.gap.Gap.{Gap};
+ghost use Rattle.ic_ffi.specs.Gaps.{Stands, before, gap_of};
 ghost use Rattle.ic_ffi.specs.Tables.{IsFree};
-ghost use Rattle.ic_ffi.specs.Words.{is_linked_one, HasNumber};
+ghost use Rattle.ic_ffi.specs.Words.{is_linked_one};
 ghost use Rattle.ic_ffi.specs.Singly.{Shows, lent_table, next_from};
 
-use crate::gap::Gap;
-use crate::number::number_of;
-use crate::status::{BROKEN, NULL, OK, OUT_OF_RANGE};
+use crate::gap::{Gap, begin_alike};
 use crate::table::RawTable;
 use crate::words::RawOne;
 use ic_link_ops::LinkOps;
@@ -41,138 +39,113 @@ fn next_of(links: &RawTable<'_, RawOne>, list: &Stack, place: Option<Place>) -> 
     }
 }
 
-// The gap behind a place, at none the first one.
+// The gap behind a place, at none the first one. None where a side of it is a place that is not linked.
 #[inline]
-fn gap_after(links: &RawTable<'_, RawOne>, list: &Stack, at: Option<Place>) -> Gap
-    ensures at { result.status ≡ 0 → Stands is_linked_one (lent_table links.now) at }
-    ensures stands { result.status ≡ 0 → StandBeside is_linked_one (lent_table links.now) result }
-    ensures shown { (cut : Cut) → Shows (lent_table links.now) list.now (join cut) → IsAfter cut at → result ≡ gap_of cut }
-    ensures status { IsStatus result.status }
+pub(crate) fn gap_after(
+    links: &RawTable<'_, RawOne>,
+    list: &Stack,
+    at: Option<Place>,
+) -> Option<Gap>
+    ensures at { (gap : Gap) → result ≡ Some gap → Stands is_linked_one (lent_table links.now) at }
+    ensures told { (gap : Gap) → result ≡ Some gap
+        → Stands is_linked_one (lent_table links.now) (next_from (lent_table links.now) list.now at) }
+    ensures is { (gap : Gap) → result ≡ Some gap
+        → gap ≡ record { before = at; behind = next_from (lent_table links.now) list.now at } }
+    ensures found { Stands is_linked_one (lent_table links.now) at
+        → Stands is_linked_one (lent_table links.now) (next_from (lent_table links.now) list.now at)
+        → result ≡ Some (record { before = at; behind = next_from (lent_table links.now) list.now at }) }
+    ensures shown { (cut : Cut) → Shows (lent_table links.now) list.now (join cut) → IsAfter cut at → result ≡ Some (gap_of cut) }
 {
-    let status = links.standing(at);
-    if status != OK {
-        return Gap::none(status);
+    if !links.stands(at) {
+        return None;
     }
     let behind = next_of(links, list, at);
-    if links.standing(behind) != OK {
-        return Gap::none(BROKEN);
+    if !links.stands(behind) {
+        return None;
     }
-    Gap {
-        status,
-        before: at,
-        behind,
-    }
+    Some(Gap { before: at, behind })
 }
 
-// Puts the place into the gap behind another one.
+// Puts the place into the gap behind another one, and says whether it could.
 #[inline]
 pub(crate) fn insert(
     links: &mut RawTable<'_, RawOne>,
     list: &mut Stack,
     at: Option<Place>,
     place: Option<Place>,
-) -> u32
+) -> bool
     ensures inserted { (cut : Cut) (p : Place) → Shows (lent_table links.old) list.old (join cut) → IsAfter cut at → place ≡ Some p
         → IsFree is_linked_one (lent_table links.old) p
-        → IsAccepted result (Inserts Shows (lent_table links.old) (lent_table links.new) list.new cut p) }
-    ensures free { (p : Place) → place ≡ Some p → result ≡ 0 → IsFree is_linked_one (lent_table links.old) p }
-    ensures none { place ≡ None → result ≢ 0 }
-    ensures refused { result ≢ 0 → (links.new ≡ links.old) × (list.new ≡ list.old) }
+        → (result ≡ true) × Inserts Shows (lent_table links.old) (lent_table links.new) list.new cut p }
+    ensures free { result ≡ true → (p : Place) × (place ≡ Some p) × IsFree is_linked_one (lent_table links.old) p }
+    ensures stands { result ≡ true → Stands is_linked_one (lent_table links.old) at }
+    ensures told { result ≡ true → Stands is_linked_one (lent_table links.old) (next_from (lent_table links.old) list.old at) }
+    ensures refused { result ≡ false → (links.new ≡ links.old) × (list.new ≡ list.old) }
     ensures extent { (lent_table links.new).extent ≡ (lent_table links.old).extent }
-    ensures status { IsStatus result }
-    ensures stands { result ≡ 0 → Stands is_linked_one (lent_table links.old) at }
 {
-    let gap = gap_after(&*links, &*list, at);
-    if gap.status != OK {
-        return gap.status;
-    }
-    let Some(place) = place else {
-        return OUT_OF_RANGE;
+    let Some(gap) = gap_after(&*links, &*list, at) else {
+        return false;
     };
-    let status = links.acquire(place);
-    if status != OK {
-        return status;
-    }
+    let Some(place) = links.acquire(place) else {
+        return false;
+    };
     list.insert_linked(links, gap.before, place, gap.behind);
-    OK
+    true
 }
 
-// Takes the member behind a place off, at none the first one, and hands its number out.
+// Takes the member behind a place off, at none the first one.
 #[inline]
 pub(crate) fn remove(
     links: &mut RawTable<'_, RawOne>,
     list: &mut Stack,
     at: Option<Place>,
-    removed: &mut u32,
-) -> u32
-    ensures removed { (front back : List Place) (p : Place) → Shows (lent_table links.old) list.old (front ++ p ∷ back) → at ≡ last front
-        → IsAccepted result (Removes Shows (lent_table links.old) (lent_table links.new) list.new (before p front back)
-        × IsUnlinked is_linked_one (lent_table links.new) p × HasNumber p removed.new) }
-    ensures nothing { (s : List Place) → Shows (lent_table links.old) list.old s → at ≡ last s → result ≡ 4 }
-    ensures refused { result ≢ 0 → (links.new ≡ links.old) × (list.new ≡ list.old) × (removed.new ≡ removed.old) }
+    member: Place,
+)
+    requires stands { Stands is_linked_one (lent_table links.old) at }
+    requires member { IsLinked is_linked_one (lent_table links.old) member }
+    ensures removed { (front back : List Place) → Shows (lent_table links.old) list.old (front ++ member ∷ back) → at ≡ last front
+        → Removes Shows (lent_table links.old) (lent_table links.new) list.new (before member front back)
+        × IsUnlinked is_linked_one (lent_table links.new) member }
     ensures extent { (lent_table links.new).extent ≡ (lent_table links.old).extent }
-    ensures status { IsStatus result }
-    ensures stands { result ≡ 0 → Stands is_linked_one (lent_table links.old) at }
 {
-    let gap = gap_after(&*links, &*list, at);
-    if gap.status != OK {
-        return gap.status;
-    }
-    let Some(out) = gap.behind else {
-        return NULL;
-    };
-    let behind = links.next(out);
-    list.bypass(links, gap.before, out, behind);
-    links.release_link(out);
-    *removed = number_of(out);
-    OK
+    let behind = links.next(member);
+    list.bypass(links, at, member, behind);
+    links.release_link(member);
 }
 
-// Puts the place where the member behind another one is, at none where the first is, and hands the number of that member out.
+// Puts the place where the member behind another one is, at none where the first is, and says whether it could. That member is unlinked
+// then.
 #[inline]
 pub(crate) fn replace(
     links: &mut RawTable<'_, RawOne>,
     list: &mut Stack,
     at: Option<Place>,
+    member: Place,
     place: Option<Place>,
-    replaced: &mut u32,
-) -> u32
-    ensures replaced { (front back : List Place) (out p : Place) → Shows (lent_table links.old) list.old (front ++ out ∷ back)
+) -> bool
+    requires stands { Stands is_linked_one (lent_table links.old) at }
+    requires member { IsLinked is_linked_one (lent_table links.old) member }
+    ensures replaced { (front back : List Place) (p : Place) → Shows (lent_table links.old) list.old (front ++ member ∷ back)
         → at ≡ last front → place ≡ Some p → IsFree is_linked_one (lent_table links.old) p
-        → IsAccepted result (Replaces Shows (lent_table links.old) (lent_table links.new) list.new (before out front back) p
-        × IsUnlinked is_linked_one (lent_table links.new) out × HasNumber out replaced.new) }
-    ensures free { (p : Place) → place ≡ Some p → result ≡ 0 → IsFree is_linked_one (lent_table links.old) p }
-    ensures none { place ≡ None → result ≢ 0 }
-    ensures nothing { (s : List Place) → Shows (lent_table links.old) list.old s → at ≡ last s → result ≡ 4 }
-    ensures refused { result ≢ 0 → (links.new ≡ links.old) × (list.new ≡ list.old) × (replaced.new ≡ replaced.old) }
+        → (result ≡ true) × Replaces Shows (lent_table links.old) (lent_table links.new) list.new (before member front back) p
+        × IsUnlinked is_linked_one (lent_table links.new) member }
+    ensures free { result ≡ true → (p : Place) × (place ≡ Some p) × IsFree is_linked_one (lent_table links.old) p }
+    ensures refused { result ≡ false → (links.new ≡ links.old) × (list.new ≡ list.old) }
     ensures extent { (lent_table links.new).extent ≡ (lent_table links.old).extent }
-    ensures status { IsStatus result }
-    ensures stands { result ≡ 0 → Stands is_linked_one (lent_table links.old) at }
 {
-    let gap = gap_after(&*links, &*list, at);
-    if gap.status != OK {
-        return gap.status;
-    }
-    let Some(out) = gap.behind else {
-        return NULL;
+    let behind = links.next(member);
+    let Some(place) = links.acquire(place) else {
+        return false;
     };
-    let Some(place) = place else {
-        return OUT_OF_RANGE;
-    };
-    let behind = links.next(out);
-    let status = links.acquire(place);
-    if status != OK {
-        return status;
-    }
-    list.replace_linked(links, gap.before, out, place, behind);
-    links.release_link(out);
-    *replaced = number_of(out);
-    OK
+    list.replace_linked(links, at, member, place, behind);
+    links.release_link(member);
+    true
 }
 
-// The last member of the list with this front. None where it has no end within as many steps as there are places.
+// The last member of the list with this front, if its places lead to an end within as many steps as the table has places.
 fn last_from(links: &RawTable<'_, RawOne>, front: Place) -> Option<Place>
-    ensures stands { IfSome result (λ p. IsLinked is_linked_one (lent_table links.now) p) }
+    ensures ended { (end : Place) → result ≡ Some end
+        → (s : List Place) × Shows (lent_table links.now) (list_from (Some front)) s × (Some end ≡ last s) }
     ensures shown { (s : List Place) → Shows (lent_table links.now) (list_from (Some front)) s → result ≡ last s }
 {
     let mut at = front;
@@ -190,55 +163,58 @@ fn last_from(links: &RawTable<'_, RawOne>, front: Place) -> Option<Place>
     None
 }
 
-// Puts all of the given list into the gap behind a place.
+// Puts all of the given list into the gap behind a place, and says whether it could.
 #[inline]
 pub(crate) fn splice(
     links: &mut RawTable<'_, RawOne>,
     list: &mut Stack,
     at: Option<Place>,
     given: Stack,
-) -> u32
+) -> bool
     ensures spliced { (cut : Cut) (t : List Place) → Shows (lent_table links.old) list.old (join cut) → IsAfter cut at
         → Shows (lent_table links.old) given t → IsDisjoint t (join cut)
-        → IsAccepted result (Splices Shows (lent_table links.old) (lent_table links.new) list.new cut t) }
-    ensures refused { result ≢ 0 → (links.new ≡ links.old) × (list.new ≡ list.old) }
+        → (result ≡ true) × Splices Shows (lent_table links.old) (lent_table links.new) list.new cut t }
+    ensures stands { result ≡ true → Stands is_linked_one (lent_table links.old) at }
+    ensures told { result ≡ true → Stands is_linked_one (lent_table links.old) (next_from (lent_table links.old) list.old at) }
+    ensures apart { result ≡ true → (p : Place) → given.head ≡ Some p → list.old.head ≢ Some p }
+    ensures ended { result ≡ true → (t : List Place) × Shows (lent_table links.old) given t }
+    ensures refused { result ≡ false → (links.new ≡ links.old) × (list.new ≡ list.old) }
     ensures extent { (lent_table links.new).extent ≡ (lent_table links.old).extent }
-    ensures status { IsStatus result }
-    ensures stands { result ≡ 0 → Stands is_linked_one (lent_table links.old) at }
 {
-    let gap = gap_after(&*links, &*list, at);
-    if gap.status != OK {
-        return gap.status;
+    if begin_alike(&*list, &given) {
+        return false;
     }
+    let Some(gap) = gap_after(&*links, &*list, at) else {
+        return false;
+    };
     let Some(front) = given.first() else {
-        return OK;
+        return true;
     };
     let Some(back) = last_from(&*links, front) else {
-        return BROKEN;
+        return false;
     };
     list.splice_between(links, gap.before, given, Some(back), gap.behind);
-    OK
+    true
 }
 
-// Cuts the list at the gap behind a place. It keeps what is in front of the cut, and the rest is handed out.
+// Cuts the list at the gap behind a place, and says whether it could. It keeps what is in front of the cut, and the rest is handed out.
 #[inline]
 pub(crate) fn split(
     links: &mut RawTable<'_, RawOne>,
     list: &mut Stack,
     at: Option<Place>,
     rest: &mut Stack,
-) -> u32
+) -> bool
     ensures split { (cut : Cut) → Shows (lent_table links.old) list.old (join cut) → IsAfter cut at
-        → IsAccepted result (Splits Shows (lent_table links.old) (lent_table links.new) list.new rest.new cut.front cut.back) }
-    ensures refused { result ≢ 0 → (links.new ≡ links.old) × (list.new ≡ list.old) × (rest.new ≡ rest.old) }
+        → (result ≡ true) × Splits Shows (lent_table links.old) (lent_table links.new) list.new rest.new cut.front cut.back }
+    ensures stands { result ≡ true → Stands is_linked_one (lent_table links.old) at }
+    ensures told { result ≡ true → Stands is_linked_one (lent_table links.old) (next_from (lent_table links.old) list.old at) }
+    ensures refused { result ≡ false → (links.new ≡ links.old) × (list.new ≡ list.old) × (rest.new ≡ rest.old) }
     ensures extent { (lent_table links.new).extent ≡ (lent_table links.old).extent }
-    ensures status { IsStatus result }
-    ensures stands { result ≡ 0 → Stands is_linked_one (lent_table links.old) at }
 {
-    let gap = gap_after(&*links, &*list, at);
-    if gap.status != OK {
-        return gap.status;
-    }
+    let Some(gap) = gap_after(&*links, &*list, at) else {
+        return false;
+    };
     *rest = list.split_between(links, gap.before, gap.behind);
-    OK
+    true
 }

@@ -8,17 +8,17 @@
 //! ic_stack_pop_front(links, 64, &stack, &last);  // IC_OK, and last is 7
 //! ```
 
-ghost use Rattle.std.specs.Prelude.{◌≡◌, ◌≢◌, [], List, Some, None};
+ghost use Rattle.std.specs.Prelude.{◌≡◌, ◌≢◌, ◌↔◌, ◌∷◌, [], List, Some, None};
 ghost use Rattle.ic_unsafe_ref.specs.declared.place.Place.{Place};
 ghost use Rattle.ic_link_ops.specs.Sequences.{Cut, at_front, last, IsAfter};
 ghost use Rattle.ic_link_ops.specs.SinglyLinkedList.{list_from};
 ghost use Rattle.ic_ffi.specs.Words.{place_of};
-ghost use Rattle.ic_ffi.specs.Singly.{ShowsList, FreeIn, StandsIn, front_of, Inserted, Popped, Exchanged, Spliced, Split};
-ghost use Rattle.ic_ffi.specs.Answers.{IsStatus};
+ghost use Rattle.ic_ffi.specs.Singly.{ShowsList, FreeIn, StandsIn, table_of, front_of, word_of_front, list_of, next_from, fault_at, fault_of, Inserted, Popped, Exchanged, Spliced, Split};
+ghost use Rattle.ic_ffi.specs.Answers.{IsStatus, refusal};
 
-use crate::number::{place_in, place_of};
+use crate::number::{number_of, place_in, place_of};
 use crate::stack;
-use crate::status::NONE;
+use crate::status::{NONE, NULL, OK};
 use crate::table::RawTable;
 use crate::words::{RawFront, RawOne};
 use ic_singly_linked_list::SinglyLinkedList;
@@ -33,20 +33,25 @@ fn stack_of(words: &RawFront) -> stack::Stack
 
 /// Puts a place in front of all members. O(1).
 ///
-/// The place has to be one of the table, and not linked.
+/// The place has to be one of the table, and not linked. Where the first member is not linked, it returns [`BROKEN`](crate::BROKEN).
 #[unsafe(no_mangle)]
 pub extern "C" fn ic_stack_push_front(table: &mut [RawOne], list: &mut RawFront, place: u32) -> u32
     ensures inserted { (s : List Place) (p : Place) → place_of place ≡ Some p
         → Inserted table.old table.new list.old list.new result (at_front s) p }
     ensures free { (p : Place) → place_of place ≡ Some p → result ≡ 0 → FreeIn table.old p }
     ensures none { place_of place ≡ None → result ≢ 0 }
+    ensures told { result ≡ 0 → StandsIn table.old (front_of list.old) }
+    ensures words { result ≡ 0 → list.new ≡ word_of_front (front_of list.new) }
     ensures refused { result ≢ 0 → (table.new ≡ table.old) × (list.new ≡ list.old) }
+    ensures why { result ≢ 0 → result ≡ refusal (fault_of table.old (place_of place) ∷ []) }
     ensures status { IsStatus result }
 {
     ic_stack_insert_after(table, list, NONE, place)
 }
 
-/// Takes the first member off and hands it out, or returns [`NULL`](crate::NULL) where there is none. O(1).
+/// Takes the first member off and hands it out, or returns [`NULL`] where there is none. O(1).
+///
+/// Where the first member is not linked, it returns [`BROKEN`](crate::BROKEN).
 #[unsafe(no_mangle)]
 pub extern "C" fn ic_stack_pop_front(
     table: &mut [RawOne],
@@ -55,7 +60,11 @@ pub extern "C" fn ic_stack_pop_front(
 ) -> u32
     ensures popped { (s : List Place) (p : Place) → Popped table.old table.new list.old list.new result popped.new p [] s }
     ensures empty { ShowsList table.old list.old [] → result ≡ 4 }
+    ensures null { (result ≡ 4) ↔ (front_of list.old ≡ None) }
+    ensures stands { result ≡ 0 → StandsIn table.old (front_of list.old) }
+    ensures words { result ≡ 0 → list.new ≡ word_of_front (front_of list.new) }
     ensures refused { result ≢ 0 → (table.new ≡ table.old) × (list.new ≡ list.old) × (popped.new ≡ popped.old) }
+    ensures why { result ≢ 0 → result ≢ 4 → result ≡ 5 }
     ensures status { IsStatus result }
 {
     ic_stack_remove_after(table, list, NONE, popped)
@@ -63,7 +72,8 @@ pub extern "C" fn ic_stack_pop_front(
 
 /// Puts a place behind the member `at`, at [`NONE`] in front of all. O(1).
 ///
-/// The place has to be one of the table, and not linked.
+/// The place has to be one of the table, and not linked. Where what stands behind `at` is not linked, it returns
+/// [`BROKEN`](crate::BROKEN).
 #[unsafe(no_mangle)]
 pub extern "C" fn ic_stack_insert_after(
     table: &mut [RawOne],
@@ -75,19 +85,25 @@ pub extern "C" fn ic_stack_insert_after(
         → Inserted table.old table.new list.old list.new result cut p }
     ensures free { (p : Place) → place_of place ≡ Some p → result ≡ 0 → FreeIn table.old p }
     ensures none { place_of place ≡ None → result ≢ 0 }
-    ensures refused { result ≢ 0 → (table.new ≡ table.old) × (list.new ≡ list.old) }
-    ensures status { IsStatus result }
     ensures stands { result ≡ 0 → StandsIn table.old (place_of at) }
+    ensures told { result ≡ 0 → StandsIn table.old (next_from (table_of table.old) (list_of list.old) (place_of at)) }
+    ensures words { result ≡ 0 → list.new ≡ word_of_front (front_of list.new) }
+    ensures refused { result ≢ 0 → (table.new ≡ table.old) × (list.new ≡ list.old) }
+    ensures why { result ≢ 0 → result ≡ refusal (fault_at table.old (place_of at) ∷ fault_of table.old (place_of place) ∷ []) }
+    ensures status { IsStatus result }
 {
     let mut links = RawTable::new(table);
     let mut edited = stack_of(&*list);
-    let status = stack::insert(&mut links, &mut edited, place_of(at), place_of(place));
-    list.keep(status, edited.first());
-    status
+    if !stack::insert(&mut links, &mut edited, place_of(at), place_of(place)) {
+        return links.refusal(at, place);
+    }
+    list.set(edited.first());
+    OK
 }
 
-/// Takes the member behind `at` off, at [`NONE`] the first one, and hands it out, or returns [`NULL`](crate::NULL) where there is
-/// none. O(1).
+/// Takes the member behind `at` off, at [`NONE`] the first one, and hands it out, or returns [`NULL`] where there is none. O(1).
+///
+/// Where what stands behind `at` is not linked, it returns [`BROKEN`](crate::BROKEN).
 #[unsafe(no_mangle)]
 pub extern "C" fn ic_stack_remove_after(
     table: &mut [RawOne],
@@ -98,21 +114,34 @@ pub extern "C" fn ic_stack_remove_after(
     ensures removed { (front back : List Place) (p : Place) → place_of at ≡ last front
         → Popped table.old table.new list.old list.new result removed.new p front back }
     ensures nothing { (s : List Place) → ShowsList table.old list.old s → place_of at ≡ last s → result ≡ 4 }
-    ensures refused { result ≢ 0 → (table.new ≡ table.old) × (list.new ≡ list.old) × (removed.new ≡ removed.old) }
-    ensures status { IsStatus result }
+    ensures null { (result ≡ 4)
+        ↔ (fault_at table.old (place_of at) ≡ 0) × (next_from (table_of table.old) (list_of list.old) (place_of at) ≡ None) }
     ensures stands { result ≡ 0 → StandsIn table.old (place_of at) }
+    ensures told { result ≡ 0 → StandsIn table.old (next_from (table_of table.old) (list_of list.old) (place_of at)) }
+    ensures words { result ≡ 0 → list.new ≡ word_of_front (front_of list.new) }
+    ensures refused { result ≢ 0 → (table.new ≡ table.old) × (list.new ≡ list.old) × (removed.new ≡ removed.old) }
+    ensures why { result ≢ 0 → result ≢ 4 → result ≡ refusal (fault_at table.old (place_of at) ∷ []) }
+    ensures status { IsStatus result }
 {
     let mut links = RawTable::new(table);
     let mut edited = stack_of(&*list);
-    let status = stack::remove(&mut links, &mut edited, place_of(at), removed);
-    list.keep(status, edited.first());
-    status
+    let Some(gap) = stack::gap_after(&links, &edited, place_of(at)) else {
+        return links.refusal_at(at);
+    };
+    let Some(member) = gap.behind else {
+        return NULL;
+    };
+    stack::remove(&mut links, &mut edited, gap.before, member);
+    list.set(edited.first());
+    *removed = number_of(member);
+    OK
 }
 
 /// Puts a place where the member behind `at` is, at [`NONE`] where the first is, and hands out that member, which is unlinked then.
-/// Returns [`NULL`](crate::NULL) where there is none. O(1).
+/// Returns [`NULL`] where there is none. O(1).
 ///
-/// The place has to be one of the table, and not linked.
+/// The place has to be one of the table, and not linked. Where what stands behind `at` is not linked, it returns
+/// [`BROKEN`](crate::BROKEN).
 #[unsafe(no_mangle)]
 pub extern "C" fn ic_stack_replace_after(
     table: &mut [RawOne],
@@ -126,26 +155,36 @@ pub extern "C" fn ic_stack_replace_after(
     ensures free { (p : Place) → place_of place ≡ Some p → result ≡ 0 → FreeIn table.old p }
     ensures none { place_of place ≡ None → result ≢ 0 }
     ensures nothing { (s : List Place) → ShowsList table.old list.old s → place_of at ≡ last s → result ≡ 4 }
-    ensures refused { result ≢ 0 → (table.new ≡ table.old) × (list.new ≡ list.old) × (replaced.new ≡ replaced.old) }
-    ensures status { IsStatus result }
+    ensures null { (result ≡ 4)
+        ↔ (fault_at table.old (place_of at) ≡ 0) × (next_from (table_of table.old) (list_of list.old) (place_of at) ≡ None) }
     ensures stands { result ≡ 0 → StandsIn table.old (place_of at) }
+    ensures told { result ≡ 0 → StandsIn table.old (next_from (table_of table.old) (list_of list.old) (place_of at)) }
+    ensures words { result ≡ 0 → list.new ≡ word_of_front (front_of list.new) }
+    ensures refused { result ≢ 0 → (table.new ≡ table.old) × (list.new ≡ list.old) × (replaced.new ≡ replaced.old) }
+    ensures why { result ≢ 0 → result ≢ 4
+        → result ≡ refusal (fault_at table.old (place_of at) ∷ fault_of table.old (place_of place) ∷ []) }
+    ensures status { IsStatus result }
 {
     let mut links = RawTable::new(table);
     let mut edited = stack_of(&*list);
-    let status = stack::replace(
-        &mut links,
-        &mut edited,
-        place_of(at),
-        place_of(place),
-        replaced,
-    );
-    list.keep(status, edited.first());
-    status
+    let Some(gap) = stack::gap_after(&links, &edited, place_of(at)) else {
+        return links.refusal(at, place);
+    };
+    let Some(member) = gap.behind else {
+        return NULL;
+    };
+    if !stack::replace(&mut links, &mut edited, gap.before, member, place_of(place)) {
+        return links.refusal(at, place);
+    }
+    list.set(edited.first());
+    *replaced = number_of(member);
+    OK
 }
 
 /// Puts all of the given list behind the member `at`, at [`NONE`] in front of all, and leaves the given one empty.
 ///
-/// One reading for each of its members. A given list with no end within as many steps as there are places is [`BROKEN`](crate::BROKEN).
+/// One reading for each of its members. Where what stands behind `at` is not linked, it returns [`BROKEN`](crate::BROKEN), and so it does
+/// of a given list that begins with the same member, as the list itself, or whose places lead to no end.
 #[unsafe(no_mangle)]
 pub extern "C" fn ic_stack_splice_after(
     table: &mut [RawOne],
@@ -155,20 +194,30 @@ pub extern "C" fn ic_stack_splice_after(
 ) -> u32
     ensures spliced { (cut : Cut) (t : List Place) → IsAfter cut (place_of at)
         → Spliced table.old table.new list.old list.new result given.old cut t }
-    ensures emptied { result ≡ 0 → front_of given.new ≡ None }
-    ensures refused { result ≢ 0 → (table.new ≡ table.old) × (list.new ≡ list.old) × (given.new ≡ given.old) }
-    ensures status { IsStatus result }
+    ensures emptied { result ≡ 0 → given.new ≡ word_of_front None }
     ensures stands { result ≡ 0 → StandsIn table.old (place_of at) }
+    ensures told { result ≡ 0 → StandsIn table.old (next_from (table_of table.old) (list_of list.old) (place_of at)) }
+    ensures apart { result ≡ 0 → (p : Place) → front_of given.old ≡ Some p → front_of list.old ≢ Some p }
+    ensures ended { result ≡ 0 → (t : List Place) × ShowsList table.old given.old t }
+    ensures words { result ≡ 0 → list.new ≡ word_of_front (front_of list.new) }
+    ensures refused { result ≢ 0 → (table.new ≡ table.old) × (list.new ≡ list.old) × (given.new ≡ given.old) }
+    ensures why { result ≢ 0 → result ≡ refusal (fault_at table.old (place_of at) ∷ []) }
+    ensures status { IsStatus result }
 {
     let mut links = RawTable::new(table);
     let mut edited = stack_of(&*list);
-    let status = stack::splice(&mut links, &mut edited, place_of(at), stack_of(&*given));
-    list.keep(status, edited.first());
-    given.keep(status, None);
-    status
+    let other = stack_of(&*given);
+    if !stack::splice(&mut links, &mut edited, place_of(at), other) {
+        return links.refusal_at(at);
+    }
+    list.set(edited.first());
+    given.set(None);
+    OK
 }
 
 /// Hands out what stands behind the member `at`, at [`NONE`] all of the list. O(1).
+///
+/// Where `rest` is not empty, or what stands behind `at` is not linked, it returns [`BROKEN`](crate::BROKEN).
 #[unsafe(no_mangle)]
 pub extern "C" fn ic_stack_split_after(
     table: &mut [RawOne],
@@ -176,17 +225,25 @@ pub extern "C" fn ic_stack_split_after(
     at: u32,
     rest: &mut RawFront,
 ) -> u32
-    ensures split { (cut : Cut) → IsAfter cut (place_of at)
+    ensures split { (cut : Cut) → IsAfter cut (place_of at) → front_of rest.old ≡ None
         → Split table.old table.new list.old list.new result rest.new cut }
-    ensures refused { result ≢ 0 → (table.new ≡ table.old) × (list.new ≡ list.old) × (rest.new ≡ rest.old) }
-    ensures status { IsStatus result }
+    ensures empty { result ≡ 0 → front_of rest.old ≡ None }
     ensures stands { result ≡ 0 → StandsIn table.old (place_of at) }
+    ensures told { result ≡ 0 → StandsIn table.old (next_from (table_of table.old) (list_of list.old) (place_of at)) }
+    ensures words { result ≡ 0 → list.new ≡ word_of_front (front_of list.new) }
+    ensures rest { result ≡ 0 → rest.new ≡ word_of_front (front_of rest.new) }
+    ensures refused { result ≢ 0 → (table.new ≡ table.old) × (list.new ≡ list.old) × (rest.new ≡ rest.old) }
+    ensures why { result ≢ 0 → result ≡ refusal (fault_at table.old (place_of at) ∷ []) }
+    ensures status { IsStatus result }
 {
     let mut links = RawTable::new(table);
     let mut edited = stack_of(&*list);
     let mut part = SinglyLinkedList::new();
-    let status = stack::split(&mut links, &mut edited, place_of(at), &mut part);
-    list.keep(status, edited.first());
-    rest.keep(status, part.first());
-    status
+    let filled = place_in(rest.head).is_some();
+    if filled || !stack::split(&mut links, &mut edited, place_of(at), &mut part) {
+        return links.refusal_at(at);
+    }
+    list.set(edited.first());
+    rest.set(part.first());
+    OK
 }

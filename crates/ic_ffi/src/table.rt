@@ -5,14 +5,16 @@
 //! links.covers(place) // whether there is such a place
 //! ```
 
-ghost use Rattle.std.specs.Prelude.{◌≡◌, ◌↔◌, ◌≢◌, IsTrue};
+ghost use Rattle.std.specs.Prelude.{◌≡◌, ◌≢◌, ◌↔◌, ◌∷◌, [], Some, None, true, IsTrue};
 ghost use Rattle.ic_unsafe_ref.specs.declared.place.Place.{Place};
 ghost use Rattle.ic_link_ops.specs.Tables.{IsCovered, IsLinked, ChangesOnly};
-ghost use Rattle.ic_ffi.specs.Tables.{IsView, IsFree, raw_table};
+ghost use Rattle.ic_ffi.specs.Tables.{IsView, IsFree, raw_table, member_fault, place_fault};
 ghost use Rattle.ic_ffi.specs.Gaps.{Stands};
-ghost use Rattle.ic_ffi.specs.Answers.{IsStatus};
+ghost use Rattle.ic_ffi.specs.Answers.{refusal};
+ghost use Rattle.ic_ffi.specs.Words.{place_of};
 
-use crate::status::{LINKED, NOT_LINKED, OK, OUT_OF_RANGE};
+use crate::number::place_of;
+use crate::status::{BROKEN, LINKED, NOT_LINKED, OK, OUT_OF_RANGE};
 use ic_link_ops::linked_list::LinkedListOps;
 use ic_link_ops::singly_linked_list::SinglyLinkedListOps;
 use ic_link_ops::xor_linked_list::XorLinkedListOps;
@@ -83,42 +85,102 @@ impl<W: Words> RawTable<'_, W> {
         self.at(place).is_linked()
     }
 
-    /// [`OK`] where `place` is none or a linked place of the table, else why not. O(1).
+    /// Whether `place` is none or a linked place of the table. O(1).
     #[inline]
-    pub fn standing(&self, place: Option<Place>) -> u32
-        ensures stands { (result ≡ 0) ↔ Stands W.is_linked (raw_table W.unlinked self.now) place }
-        ensures status { IsStatus result }
+    pub fn stands(&self, place: Option<Place>) -> bool
+        ensures { (result ≡ true) ↔ Stands W.is_linked (raw_table W.unlinked self.now) place }
     {
-        let Some(place) = place else {
+        match place {
+            None => true,
+            Some(place) => self.is_linked(place),
+        }
+    }
+
+    /// Links `place` and gives it, if it is one of the table and not linked. O(1).
+    #[inline]
+    pub fn acquire(&mut self, place: Option<Place>) -> Option<Place>
+        ensures accepted { (p : Place) → place ≡ Some p → IsFree W.is_linked (raw_table W.unlinked self.old) p → result ≡ Some p }
+        ensures same { (p : Place) → result ≡ Some p → place ≡ Some p }
+        ensures free { (p : Place) → result ≡ Some p → IsFree W.is_linked (raw_table W.unlinked self.old) p }
+        ensures linked { (p : Place) → result ≡ Some p → IsLinked W.is_linked (raw_table W.unlinked self.new) p }
+        ensures frame { (p : Place) → result ≡ Some p → ChangesOnly (raw_table W.unlinked self.old) (raw_table W.unlinked self.new) p }
+        ensures refused { result ≡ None → self.new ≡ self.old }
+    {
+        let place = place?;
+        if !self.covers(place) {
+            return None;
+        }
+        if !self.acquire_link(place) {
+            return None;
+        }
+        Some(place)
+    }
+
+    /// [`OK`] where `member` is none or a linked place of the table, else its fault. O(1).
+    #[inline]
+    pub fn member_fault(&self, member: Option<Place>) -> u32
+        ensures fault { result ≡ member_fault W.is_linked (raw_table W.unlinked self.now) member }
+        ensures named { result ≢ 4 }
+    {
+        let Some(member) = member else {
             return OK;
         };
-        if self.is_linked(place) {
+        if self.is_linked(member) {
             return OK;
         }
-        if self.covers(place) {
+        if self.covers(member) {
             NOT_LINKED
         } else {
             OUT_OF_RANGE
         }
     }
 
-    /// Links `place`, and returns [`OK`], or why it can't. O(1).
+    /// [`OK`] where `place` is one of the table and not linked, else its fault. O(1).
     #[inline]
-    pub fn acquire(&mut self, place: Place) -> u32
-        ensures accepted { IsFree W.is_linked (raw_table W.unlinked self.old) place → result ≡ 0 }
-        ensures free { result ≡ 0 → IsFree W.is_linked (raw_table W.unlinked self.old) place }
-        ensures linked { result ≡ 0 → IsLinked W.is_linked (raw_table W.unlinked self.new) place }
-        ensures frame { result ≡ 0 → ChangesOnly (raw_table W.unlinked self.old) (raw_table W.unlinked self.new) place }
-        ensures refused { result ≢ 0 → self.new ≡ self.old }
-        ensures status { IsStatus result }
+    pub fn place_fault(&self, place: Option<Place>) -> u32
+        ensures fault { result ≡ place_fault W.is_linked (raw_table W.unlinked self.now) place }
+        ensures named { result ≢ 4 }
     {
+        let Some(place) = place else {
+            return OUT_OF_RANGE;
+        };
         if !self.covers(place) {
             return OUT_OF_RANGE;
         }
-        if !self.acquire_link(place) {
-            return LINKED;
+        if self.is_linked(place) { LINKED } else { OK }
+    }
+
+    /// Why a call at the member `at` is refused: by its fault, or as [`BROKEN`]. O(1).
+    #[cold]
+    #[inline(never)]
+    pub fn refusal_at(&self, at: u32) -> u32
+        ensures refusal { result ≡ refusal (member_fault W.is_linked (raw_table W.unlinked self.now) (place_of at) ∷ []) }
+        ensures refused { (result ≢ 0) × (result ≢ 4) }
+    {
+        let fault = self.member_fault(place_of(at));
+        if fault != OK {
+            return fault;
         }
-        OK
+        BROKEN
+    }
+
+    /// Why `place` does not go in at the member `at`: by the fault of either, or as [`BROKEN`]. O(1).
+    #[cold]
+    #[inline(never)]
+    pub fn refusal(&self, at: u32, place: u32) -> u32
+        ensures refusal { result ≡ refusal (member_fault W.is_linked (raw_table W.unlinked self.now) (place_of at)
+            ∷ place_fault W.is_linked (raw_table W.unlinked self.now) (place_of place) ∷ []) }
+        ensures refused { (result ≢ 0) × (result ≢ 4) }
+    {
+        let fault = self.member_fault(place_of(at));
+        if fault != OK {
+            return fault;
+        }
+        let fault = self.place_fault(place_of(place));
+        if fault != OK {
+            return fault;
+        }
+        BROKEN
     }
 }
 

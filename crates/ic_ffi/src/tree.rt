@@ -1,10 +1,10 @@
 //! The red-black tree: what its calls test, and its edits over a view of the table.
 //!
 //! ```text
-//! let status = remove(&mut links, &mut tree, at);
+//! let made = remove(&mut links, &mut tree, member);
 //! ```
 
-ghost use Rattle.std.specs.Prelude.{◌≡◌, ◌≢◌, ◌++◌, ◌∷◌, List, Option, Some, None};
+ghost use Rattle.std.specs.Prelude.{◌≡◌, ◌≢◌, ◌↔◌, ◌⊎◌, ◌++◌, ◌∷◌, [], List, Option, Some, None, true, false};
 ghost use Rattle.ic_unsafe_ref.specs.declared.place.Place.{Place};
 ghost use Rattle.ic_link_ops.specs.Sequences.{Cut, join};
 ghost use Rattle.ic_link_ops.specs.Tables.{IsLinked, IsUnlinked};
@@ -13,14 +13,14 @@ ghost use Rattle.ic_link_ops.specs.RedBlackTree.{node_at};
 ghost use Rattle.ic_link_ops.specs.Frames.{across, child_on};
 ghost use Rattle.ic_rbtree.specs.Sides.{IsBeside};
 ghost use Rattle.ic_rbtree.specs.Tree.{root_of};
-ghost use Rattle.ic_ffi.specs.Answers.{IsStatus, IsAccepted, IsFound};
+ghost use Rattle.ic_ffi.specs.Answers.{IsStatus, IsFound, refusal};
 ghost use Rattle.ic_ffi.specs.Gaps.{Stands, before};
-ghost use Rattle.ic_ffi.specs.Tables.{IsFree};
-ghost use Rattle.ic_ffi.specs.Words.{is_linked_three, HasNumber};
-ghost use Rattle.ic_ffi.specs.Tree.{Shows, IsHole, lent_table, node};
+ghost use Rattle.ic_ffi.specs.Tables.{IsFree, member_fault};
+ghost use Rattle.ic_ffi.specs.Words.{is_linked_three, place_of, HasNumber};
+ghost use Rattle.ic_ffi.specs.Tree.{Shows, IsHole, TellsHole, lent_table, node};
 
-use crate::number::{number_of, place_in};
-use crate::status::{BROKEN, NULL, OK, OUT_OF_RANGE};
+use crate::number::{number_of, place_in, place_of};
+use crate::status::{BROKEN, NULL, OK};
 use crate::table::RawTable;
 use crate::words::RawThree;
 use ic_link_ops::{LinkOps, Side};
@@ -30,23 +30,18 @@ use ic_unsafe_ref::Place;
 /// A tree of the caller's.
 pub(crate) type Tree = RBTree<()>;
 
-// [`OK`] where the place is none or linked, and so is the root. Else why not.
+// Whether the place is none or linked, and the root too.
 #[inline]
-pub(crate) fn standing(links: &RawTable<'_, RawThree>, tree: &Tree, at: Option<Place>) -> u32
-    ensures at { result ≡ 0 → Stands is_linked_three (lent_table links.now) at }
-    ensures root { result ≡ 0 → Stands is_linked_three (lent_table links.now) (root_of tree.now) }
+pub(crate) fn stand(links: &RawTable<'_, RawThree>, tree: &Tree, at: Option<Place>) -> bool
+    ensures at { result ≡ true → Stands is_linked_three (lent_table links.now) at }
+    ensures root { result ≡ true → Stands is_linked_three (lent_table links.now) (root_of tree.now) }
     ensures shown { (s : List Place) → Shows (lent_table links.now) (root_of tree.now) s → Stands is_linked_three (lent_table links.now) at
-        → result ≡ 0 }
-    ensures status { IsStatus result }
+        → result ≡ true }
 {
-    let status = links.standing(at);
-    if status != OK {
-        return status;
+    if !links.stands(at) {
+        return false;
     }
-    if links.standing(tree.root()) != OK {
-        return BROKEN;
-    }
-    OK
+    links.stands(tree.root())
 }
 
 // The child of a linked place on this side.
@@ -62,30 +57,25 @@ fn child(links: &RawTable<'_, RawThree>, place: Place, side: Side) -> Option<Pla
     }
 }
 
-// [`OK`] where a place can be put in on this side of `at`: it has no child there, or is none, and the tree empty. Else why not.
+// Whether a place can be put in on this side of `at`: it has no child there, or is none, and the tree empty.
 #[inline]
-fn hole(links: &RawTable<'_, RawThree>, tree: &Tree, side: Side, at: Option<Place>) -> u32
-    ensures at { result ≡ 0 → Stands is_linked_three (lent_table links.now) at }
-    ensures root { result ≡ 0 → Stands is_linked_three (lent_table links.now) (root_of tree.now) }
+fn is_hole(links: &RawTable<'_, RawThree>, tree: &Tree, side: Side, at: Option<Place>) -> bool
+    ensures at { result ≡ true → Stands is_linked_three (lent_table links.now) at }
+    ensures root { result ≡ true → Stands is_linked_three (lent_table links.now) (root_of tree.now) }
+    ensures told { result ≡ true → TellsHole side (lent_table links.now) (root_of tree.now) at }
     ensures shown { (cut : Cut) → Shows (lent_table links.now) (root_of tree.now) (join cut) → IsHole side (lent_table links.now) at cut
-        → result ≡ 0 }
-    ensures status { IsStatus result }
+        → result ≡ true }
 {
-    let status = standing(links, tree, at);
-    if status != OK {
-        return status;
+    if !stand(links, tree, at) {
+        return false;
     }
-    let below = match at {
-        None => tree.root(),
-        Some(at) => child(links, at, side),
-    };
-    if below.is_some() {
-        return BROKEN;
+    match at {
+        None => tree.root().is_none(),
+        Some(at) => child(links, at, side).is_none(),
     }
-    OK
 }
 
-// Puts the place in on this side of a member, at none as the only one.
+// Puts the place in on this side of a member, at none as the only one, and says whether it could.
 #[inline]
 pub(crate) fn insert(
     links: &mut RawTable<'_, RawThree>,
@@ -93,93 +83,73 @@ pub(crate) fn insert(
     side: Side,
     at: Option<Place>,
     place: Option<Place>,
-) -> u32
+) -> bool
     ensures inserted { (cut : Cut) (p : Place) → Shows (lent_table links.old) (root_of tree.old) (join cut)
         → IsHole side (lent_table links.old) at cut → place ≡ Some p → IsFree is_linked_three (lent_table links.old) p
-        → IsAccepted result (Inserts Shows (lent_table links.old) (lent_table links.new) (root_of tree.new) cut p) }
-    ensures free { (p : Place) → place ≡ Some p → result ≡ 0 → IsFree is_linked_three (lent_table links.old) p }
-    ensures none { place ≡ None → result ≢ 0 }
-    ensures refused { result ≢ 0 → (links.new ≡ links.old) × (tree.new ≡ tree.old) }
+        → (result ≡ true) × Inserts Shows (lent_table links.old) (lent_table links.new) (root_of tree.new) cut p }
+    ensures free { result ≡ true → (p : Place) × (place ≡ Some p) × IsFree is_linked_three (lent_table links.old) p }
+    ensures stands { result ≡ true → Stands is_linked_three (lent_table links.old) at }
+    ensures root { result ≡ true → Stands is_linked_three (lent_table links.old) (root_of tree.old) }
+    ensures told { result ≡ true → TellsHole side (lent_table links.old) (root_of tree.old) at }
+    ensures refused { result ≡ false → (links.new ≡ links.old) × (tree.new ≡ tree.old) }
     ensures extent { (lent_table links.new).extent ≡ (lent_table links.old).extent }
-    ensures status { IsStatus result }
-    ensures stands { result ≡ 0 → Stands is_linked_three (lent_table links.old) at }
 {
-    let status = hole(&*links, &*tree, side, at);
-    if status != OK {
-        return status;
+    if !is_hole(&*links, &*tree, side, at) {
+        return false;
     }
-    let Some(place) = place else {
-        return OUT_OF_RANGE;
+    let Some(place) = links.acquire(place) else {
+        return false;
     };
-    let status = links.acquire(place);
-    if status != OK {
-        return status;
-    }
     tree.attach(links, at, side, place);
-    OK
+    true
 }
 
-// Takes the member off.
+// Takes the member off, and says whether it could.
 #[inline]
-pub(crate) fn remove(links: &mut RawTable<'_, RawThree>, tree: &mut Tree, at: Option<Place>) -> u32
-    ensures removed { (front back : List Place) (p : Place) → Shows (lent_table links.old) (root_of tree.old) (front ++ p ∷ back) → at ≡ Some p
-        → IsAccepted result (Removes Shows (lent_table links.old) (lent_table links.new) (root_of tree.new) (before p front back)
-        × IsUnlinked is_linked_three (lent_table links.new) p) }
-    ensures null { at ≡ None → result ≡ 4 }
-    ensures refused { result ≢ 0 → (links.new ≡ links.old) × (tree.new ≡ tree.old) }
+pub(crate) fn remove(links: &mut RawTable<'_, RawThree>, tree: &mut Tree, member: Place) -> bool
+    ensures removed { (front back : List Place) → Shows (lent_table links.old) (root_of tree.old) (front ++ member ∷ back)
+        → (result ≡ true) × Removes Shows (lent_table links.old) (lent_table links.new) (root_of tree.new) (before member front back)
+        × IsUnlinked is_linked_three (lent_table links.new) member }
+    ensures stands { result ≡ true → Stands is_linked_three (lent_table links.old) (Some member) }
+    ensures root { result ≡ true → Stands is_linked_three (lent_table links.old) (root_of tree.old) }
+    ensures refused { result ≡ false → (links.new ≡ links.old) × (tree.new ≡ tree.old) }
     ensures extent { (lent_table links.new).extent ≡ (lent_table links.old).extent }
-    ensures status { IsStatus result }
-    ensures stands { result ≡ 0 → Stands is_linked_three (lent_table links.old) at }
 {
-    let Some(member) = at else {
-        return NULL;
-    };
-    let status = standing(&*links, &*tree, at);
-    if status != OK {
-        return status;
+    if !stand(&*links, &*tree, Some(member)) {
+        return false;
     }
     tree.unlink(links, member);
     links.release_link(member);
-    OK
+    true
 }
 
-// Puts the place where the member is, which is unlinked then.
+// Puts the place where the member is, which is unlinked then, and says whether it could.
 #[inline]
 pub(crate) fn replace(
     links: &mut RawTable<'_, RawThree>,
     tree: &mut Tree,
-    at: Option<Place>,
+    member: Place,
     place: Option<Place>,
-) -> u32
-    ensures replaced { (front back : List Place) (out p : Place) → Shows (lent_table links.old) (root_of tree.old) (front ++ out ∷ back)
-        → at ≡ Some out → place ≡ Some p → IsFree is_linked_three (lent_table links.old) p
-        → IsAccepted result (Replaces Shows (lent_table links.old) (lent_table links.new) (root_of tree.new) (before out front back) p
-        × IsUnlinked is_linked_three (lent_table links.new) out) }
-    ensures free { (p : Place) → place ≡ Some p → result ≡ 0 → IsFree is_linked_three (lent_table links.old) p }
-    ensures none { place ≡ None → result ≢ 0 }
-    ensures null { at ≡ None → result ≡ 4 }
-    ensures refused { result ≢ 0 → (links.new ≡ links.old) × (tree.new ≡ tree.old) }
+) -> bool
+    ensures replaced { (front back : List Place) (p : Place) → Shows (lent_table links.old) (root_of tree.old) (front ++ member ∷ back)
+        → place ≡ Some p → IsFree is_linked_three (lent_table links.old) p
+        → (result ≡ true) × Replaces Shows (lent_table links.old) (lent_table links.new) (root_of tree.new) (before member front back) p
+        × IsUnlinked is_linked_three (lent_table links.new) member }
+    ensures free { result ≡ true → (p : Place) × (place ≡ Some p) × IsFree is_linked_three (lent_table links.old) p }
+    ensures stands { result ≡ true → Stands is_linked_three (lent_table links.old) (Some member) }
+    ensures root { result ≡ true → Stands is_linked_three (lent_table links.old) (root_of tree.old) }
+    ensures refused { result ≡ false → (links.new ≡ links.old) × (tree.new ≡ tree.old) }
     ensures extent { (lent_table links.new).extent ≡ (lent_table links.old).extent }
-    ensures status { IsStatus result }
-    ensures stands { result ≡ 0 → Stands is_linked_three (lent_table links.old) at }
 {
-    let Some(member) = at else {
-        return NULL;
-    };
-    let status = standing(&*links, &*tree, at);
-    if status != OK {
-        return status;
+    if !stand(&*links, &*tree, Some(member)) {
+        return false;
     }
-    let Some(place) = place else {
-        return OUT_OF_RANGE;
+    let Some(place) = links.acquire(place) else {
+        return false;
     };
-    let status = links.acquire(place);
-    if status != OK {
-        return status;
-    }
     tree.take_place(links, member, place);
     links.release_link(member);
-    OK
+    true
 }
 
 // Hands out the number of the member, or says why not: there is none, or the place is not linked.
@@ -192,7 +162,8 @@ pub(crate) fn hand_out(
     ensures found { Stands is_linked_three (lent_table links.now) member → IsFound member result found.new }
     ensures linked { result ≡ 0 → (q : Place) × IsLinked is_linked_three (lent_table links.now) q × HasNumber q found.new }
     ensures refused { result ≢ 0 → found.new ≡ found.old }
-    ensures status { IsStatus result }
+    ensures null { (result ≡ 4) ↔ (member ≡ None) }
+    ensures why { result ≢ 0 → result ≢ 4 → result ≡ 5 }
 {
     let Some(place) = member else {
         return NULL;
@@ -210,20 +181,21 @@ pub(crate) fn step(
     links: &RawTable<'_, RawThree>,
     tree: &Tree,
     side: Side,
-    at: Option<Place>,
+    at: u32,
     found: &mut u32,
 ) -> u32
     ensures found { (cut : Cut) (member : Option Place) → Shows (lent_table links.now) (root_of tree.now) (join cut)
-        → IsBeside side cut at → IsBeside (across side) cut member → IsFound member result found.new }
+        → IsBeside side cut (place_of at) → IsBeside (across side) cut member → IsFound member result found.new }
     ensures linked { result ≡ 0 → (q : Place) × IsLinked is_linked_three (lent_table links.now) q × HasNumber q found.new }
     ensures refused { result ≢ 0 → found.new ≡ found.old }
-    ensures status { IsStatus result }
-    ensures stands { result ≡ 0 → Stands is_linked_three (lent_table links.now) at }
+    ensures looked { (result ≡ 0) ⊎ (result ≡ 4) → Stands is_linked_three (lent_table links.now) (place_of at)
+        × Stands is_linked_three (lent_table links.now) (root_of tree.now) }
+    ensures why { result ≢ 0 → result ≢ 4 → result ≡ refusal (member_fault is_linked_three (lent_table links.now) (place_of at) ∷ []) }
 {
-    let status = standing(links, tree, at);
-    if status != OK {
-        return status;
+    let member = place_of(at);
+    if !stand(links, tree, member) {
+        return links.refusal_at(at);
     }
-    let member = tree.step(links, at, side);
+    let member = tree.step(links, member, side);
     hand_out(links, member, found)
 }

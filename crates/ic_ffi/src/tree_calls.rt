@@ -8,18 +8,19 @@
 //! ic_tree_remove(links, 64, &tree, 7);               // IC_OK
 //! ```
 
-ghost use Rattle.std.specs.Prelude.{◌≡◌, ◌≢◌, List, Option, Some, None};
+ghost use Rattle.std.specs.Prelude.{◌≡◌, ◌≢◌, ◌↔◌, ◌⊎◌, ◌∷◌, [], List, Option, Some, None};
 ghost use Rattle.ic_unsafe_ref.specs.declared.place.Place.{Place};
 ghost use Rattle.ic_link_ops.specs.declared.side.Side.TheVariants.{Left, Right};
 ghost use Rattle.ic_link_ops.specs.Sequences.{Cut, join, first, last, IsAfter, IsBefore};
 ghost use Rattle.ic_link_ops.specs.Frames.{across};
 ghost use Rattle.ic_rbtree.specs.Sides.{IsBeside};
 ghost use Rattle.ic_rbtree.specs.Tree.{root_of};
-ghost use Rattle.ic_ffi.specs.Answers.{IsStatus, IsFound};
+ghost use Rattle.ic_ffi.specs.Answers.{IsStatus, IsFound, refusal};
 ghost use Rattle.ic_ffi.specs.Words.{place_of};
-ghost use Rattle.ic_ffi.specs.Tree.{ShowsTree, IsHole, FreeIn, StandsIn, NamesLinked, root_in, table_of, Inserted, Removed, Replaced};
+ghost use Rattle.ic_ffi.specs.Tree.{ShowsTree, IsHole, TellsHole, FreeIn, StandsIn, NamesLinked, root_in, word_of_root, table_of, fault_at, fault_of, Inserted, Removed, Replaced};
 
 use crate::number::{place_in, place_of};
+use crate::status::{NULL, OK};
 use crate::table::RawTable;
 use crate::tree;
 use crate::words::{RawRoot, RawThree};
@@ -41,15 +42,22 @@ fn insert_at(table: &mut [RawThree], tree: &mut RawRoot, side: Side, at: u32, pl
         → Inserted table.old table.new tree.old tree.new result cut p }
     ensures free { (p : Place) → place_of place ≡ Some p → result ≡ 0 → FreeIn table.old p }
     ensures none { place_of place ≡ None → result ≢ 0 }
-    ensures refused { result ≢ 0 → (table.new ≡ table.old) × (tree.new ≡ tree.old) }
-    ensures status { IsStatus result }
     ensures stands { result ≡ 0 → StandsIn table.old (place_of at) }
+    ensures root { result ≡ 0 → StandsIn table.old (root_in tree.old) }
+    ensures told { result ≡ 0 → TellsHole side (table_of table.old) (root_in tree.old) (place_of at) }
+    ensures words { tree.old ≡ word_of_root (root_in tree.old) → tree.new ≡ word_of_root (root_in tree.new) }
+    ensures refused { result ≢ 0 → (table.new ≡ table.old) × (tree.new ≡ tree.old) }
+    ensures why { result ≢ 0 → result ≡ refusal (fault_at table.old (place_of at) ∷ fault_of table.old (place_of place) ∷ []) }
+    ensures status { IsStatus result }
 {
     let mut links = RawTable::new(table);
-    let mut edited = tree_of(&*tree);
-    let status = tree::insert(&mut links, &mut edited, side, place_of(at), place_of(place));
-    tree.keep(status, edited.root());
-    status
+    let was = *tree;
+    let mut edited = tree_of(&was);
+    if !tree::insert(&mut links, &mut edited, side, place_of(at), place_of(place)) {
+        return links.refusal(at, place);
+    }
+    tree.keep(was, edited.root());
+    OK
 }
 
 /// Puts a place in as the left child of the member `at`, in front of it, at [`NONE`](crate::NONE) as the only member. O(log n).
@@ -67,9 +75,13 @@ pub extern "C" fn ic_tree_insert_left(
         → Inserted table.old table.new tree.old tree.new result cut p }
     ensures free { (p : Place) → place_of place ≡ Some p → result ≡ 0 → FreeIn table.old p }
     ensures none { place_of place ≡ None → result ≢ 0 }
-    ensures refused { result ≢ 0 → (table.new ≡ table.old) × (tree.new ≡ tree.old) }
-    ensures status { IsStatus result }
     ensures stands { result ≡ 0 → StandsIn table.old (place_of at) }
+    ensures root { result ≡ 0 → StandsIn table.old (root_in tree.old) }
+    ensures told { result ≡ 0 → TellsHole Left (table_of table.old) (root_in tree.old) (place_of at) }
+    ensures words { tree.old ≡ word_of_root (root_in tree.old) → tree.new ≡ word_of_root (root_in tree.new) }
+    ensures refused { result ≢ 0 → (table.new ≡ table.old) × (tree.new ≡ tree.old) }
+    ensures why { result ≢ 0 → result ≡ refusal (fault_at table.old (place_of at) ∷ fault_of table.old (place_of place) ∷ []) }
+    ensures status { IsStatus result }
 {
     insert_at(table, tree, Side::Left, at, place)
 }
@@ -89,9 +101,13 @@ pub extern "C" fn ic_tree_insert_right(
         → Inserted table.old table.new tree.old tree.new result cut p }
     ensures free { (p : Place) → place_of place ≡ Some p → result ≡ 0 → FreeIn table.old p }
     ensures none { place_of place ≡ None → result ≢ 0 }
-    ensures refused { result ≢ 0 → (table.new ≡ table.old) × (tree.new ≡ tree.old) }
-    ensures status { IsStatus result }
     ensures stands { result ≡ 0 → StandsIn table.old (place_of at) }
+    ensures root { result ≡ 0 → StandsIn table.old (root_in tree.old) }
+    ensures told { result ≡ 0 → TellsHole Right (table_of table.old) (root_in tree.old) (place_of at) }
+    ensures words { tree.old ≡ word_of_root (root_in tree.old) → tree.new ≡ word_of_root (root_in tree.new) }
+    ensures refused { result ≢ 0 → (table.new ≡ table.old) × (tree.new ≡ tree.old) }
+    ensures why { result ≢ 0 → result ≡ refusal (fault_at table.old (place_of at) ∷ fault_of table.old (place_of place) ∷ []) }
+    ensures status { IsStatus result }
 {
     insert_at(table, tree, Side::Right, at, place)
 }
@@ -101,16 +117,25 @@ pub extern "C" fn ic_tree_insert_right(
 pub extern "C" fn ic_tree_remove(table: &mut [RawThree], tree: &mut RawRoot, at: u32) -> u32
     ensures removed { (front back : List Place) (p : Place) → place_of at ≡ Some p
         → Removed table.old table.new tree.old tree.new result p front back }
-    ensures null { place_of at ≡ None → result ≡ 4 }
-    ensures refused { result ≢ 0 → (table.new ≡ table.old) × (tree.new ≡ tree.old) }
-    ensures status { IsStatus result }
+    ensures null { (result ≡ 4) ↔ (place_of at ≡ None) }
     ensures stands { result ≡ 0 → StandsIn table.old (place_of at) }
+    ensures root { result ≡ 0 → StandsIn table.old (root_in tree.old) }
+    ensures words { tree.old ≡ word_of_root (root_in tree.old) → tree.new ≡ word_of_root (root_in tree.new) }
+    ensures refused { result ≢ 0 → (table.new ≡ table.old) × (tree.new ≡ tree.old) }
+    ensures why { result ≢ 0 → result ≢ 4 → result ≡ refusal (fault_at table.old (place_of at) ∷ []) }
+    ensures status { IsStatus result }
 {
+    let Some(member) = place_of(at) else {
+        return NULL;
+    };
     let mut links = RawTable::new(table);
-    let mut edited = tree_of(&*tree);
-    let status = tree::remove(&mut links, &mut edited, place_of(at));
-    tree.keep(status, edited.root());
-    status
+    let was = *tree;
+    let mut edited = tree_of(&was);
+    if !tree::remove(&mut links, &mut edited, member) {
+        return links.refusal_at(at);
+    }
+    tree.keep(was, edited.root());
+    OK
 }
 
 /// Puts a place where the member `at` is, which is unlinked then, or returns [`NULL`](crate::NULL) at [`NONE`](crate::NONE). O(1).
@@ -127,16 +152,25 @@ pub extern "C" fn ic_tree_replace(
         → Replaced table.old table.new tree.old tree.new result out front back p }
     ensures free { (p : Place) → place_of place ≡ Some p → result ≡ 0 → FreeIn table.old p }
     ensures none { place_of place ≡ None → result ≢ 0 }
-    ensures null { place_of at ≡ None → result ≡ 4 }
-    ensures refused { result ≢ 0 → (table.new ≡ table.old) × (tree.new ≡ tree.old) }
-    ensures status { IsStatus result }
+    ensures null { (result ≡ 4) ↔ (place_of at ≡ None) }
     ensures stands { result ≡ 0 → StandsIn table.old (place_of at) }
+    ensures root { result ≡ 0 → StandsIn table.old (root_in tree.old) }
+    ensures words { tree.old ≡ word_of_root (root_in tree.old) → tree.new ≡ word_of_root (root_in tree.new) }
+    ensures refused { result ≢ 0 → (table.new ≡ table.old) × (tree.new ≡ tree.old) }
+    ensures why { result ≢ 0 → result ≢ 4 → result ≡ refusal (fault_at table.old (place_of at) ∷ fault_of table.old (place_of place) ∷ []) }
+    ensures status { IsStatus result }
 {
+    let Some(member) = place_of(at) else {
+        return NULL;
+    };
     let mut links = RawTable::new(table);
-    let mut edited = tree_of(&*tree);
-    let status = tree::replace(&mut links, &mut edited, place_of(at), place_of(place));
-    tree.keep(status, edited.root());
-    status
+    let was = *tree;
+    let mut edited = tree_of(&was);
+    if !tree::replace(&mut links, &mut edited, member, place_of(place)) {
+        return links.refusal(at, place);
+    }
+    tree.keep(was, edited.root());
+    OK
 }
 
 // Hands out the member on this side of another one, from none the outermost one on the other side.
@@ -147,11 +181,13 @@ fn step_at(table: &mut [RawThree], tree: &RawRoot, side: Side, at: u32, found: &
     ensures linked { result ≡ 0 → NamesLinked table.old found.new }
     ensures refused { result ≢ 0 → found.new ≡ found.old }
     ensures same { table.new ≡ table.old }
-    ensures status { IsStatus result }
+    ensures looked { (result ≡ 0) ⊎ (result ≡ 4) → StandsIn table.old (place_of at) × StandsIn table.old (root_in tree.now) }
     ensures stands { result ≡ 0 → StandsIn table.old (place_of at) }
+    ensures why { result ≢ 0 → result ≢ 4 → result ≡ refusal (fault_at table.old (place_of at) ∷ []) }
+    ensures status { IsStatus result }
 {
     let links = RawTable::new(table);
-    tree::step(&links, &tree_of(tree), side, place_of(at), found)
+    tree::step(&links, &tree_of(tree), side, at, found)
 }
 
 /// Hands out the member behind the member `at`, from [`NONE`](crate::NONE) the first one, or returns [`NULL`](crate::NULL) where
@@ -168,8 +204,10 @@ pub extern "C" fn ic_tree_next(
     ensures linked { result ≡ 0 → NamesLinked table.old found.new }
     ensures refused { result ≢ 0 → found.new ≡ found.old }
     ensures same { table.new ≡ table.old }
-    ensures status { IsStatus result }
+    ensures looked { (result ≡ 0) ⊎ (result ≡ 4) → StandsIn table.old (place_of at) × StandsIn table.old (root_in tree.now) }
     ensures stands { result ≡ 0 → StandsIn table.old (place_of at) }
+    ensures why { result ≢ 0 → result ≢ 4 → result ≡ refusal (fault_at table.old (place_of at) ∷ []) }
+    ensures status { IsStatus result }
 {
     step_at(table, tree, Side::Right, at, found)
 }
@@ -188,8 +226,10 @@ pub extern "C" fn ic_tree_prev(
     ensures linked { result ≡ 0 → NamesLinked table.old found.new }
     ensures refused { result ≢ 0 → found.new ≡ found.old }
     ensures same { table.new ≡ table.old }
-    ensures status { IsStatus result }
+    ensures looked { (result ≡ 0) ⊎ (result ≡ 4) → StandsIn table.old (place_of at) × StandsIn table.old (root_in tree.now) }
     ensures stands { result ≡ 0 → StandsIn table.old (place_of at) }
+    ensures why { result ≢ 0 → result ≢ 4 → result ≡ refusal (fault_at table.old (place_of at) ∷ []) }
+    ensures status { IsStatus result }
 {
     step_at(table, tree, Side::Left, at, found)
 }

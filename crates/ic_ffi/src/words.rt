@@ -10,13 +10,15 @@
 //! struct ic_tree  { uint64_t root; };
 //! ```
 
-ghost use Rattle.std.specs.Prelude.{◌≡◌, ◌≢◌};
-ghost use Rattle.ic_ffi.specs.Doubly.{ends_of};
-ghost use Rattle.ic_ffi.specs.Singly.{front_of};
-ghost use Rattle.ic_ffi.specs.Tree.{root_in};
+ghost use Rattle.std.specs.Prelude.{◌≡◌, ◌↔◌, Some, None, true};
+ghost use Rattle.ic_unsafe_ref.specs.Places.{word_of};
+ghost use Rattle.ic_link_ops.specs.Chains.{no_members};
+ghost use Rattle.ic_ffi.specs.Words.{place_in, is_linked_two};
+ghost use Rattle.ic_ffi.specs.Doubly.{ends_of, words_of};
+ghost use Rattle.ic_ffi.specs.Singly.{front_of, word_of_front};
+ghost use Rattle.ic_ffi.specs.Tree.{root_in, word_of_root};
 
 use crate::number::place_in;
-use crate::status::OK;
 use ic_link_ops::{NextWord, PrevPlace, Word, Words};
 use ic_unsafe_ref::Place;
 
@@ -191,6 +193,58 @@ impl PrevPlace for RawTwo {
     ghost keeps_prev = { λ old new h. h };
 }
 
+impl RawTwo {
+    // Whether these are the words of a linked place, with `next` behind it. One comparison tells both.
+    #[inline]
+    #[tactic(auto, using(crate::proofs::Entries::is_led))]
+    pub(crate) fn leads(&self, next: Option<Place>) -> bool
+        ensures linked { result ≡ true → is_linked_two self.now ≡ true }
+        ensures next { result ≡ true → place_in self.now.next ≡ next }
+        ensures leads { is_linked_two self.now ≡ true → next ≡ place_in self.now.next → result ≡ true }
+    {
+        self.next / 8 % 8_589_934_592 * 8 + self.next % 2 == Place::to_word(next) + 1
+    }
+}
+
+// What a call writes, by one comparison of a word. Other bits are looked at more closely, by the calls that take any words.
+impl RawTwo {
+    // Whether these are the words of a linked place with none behind it.
+    #[inline]
+    pub(crate) fn is_last(&self) -> bool
+        ensures linked { result ≡ true → is_linked_two self.now ≡ true }
+        ensures next { result ≡ true → place_in self.now.next ≡ None }
+    {
+        self.next == 1
+    }
+
+    // Whether these are the words of a linked place with none before it.
+    #[inline]
+    pub(crate) fn is_first(&self) -> bool
+        ensures linked { result ≡ true → is_linked_two self.now ≡ true }
+        ensures prev { result ≡ true → place_in self.now.prev ≡ None }
+    {
+        self.prev == 0 && self.next % 2 == 1
+    }
+
+    // Whether these are the words of a linked place, with `next` behind it.
+    #[inline]
+    pub(crate) fn is_before(&self, next: Place) -> bool
+        ensures linked { result ≡ true → is_linked_two self.now ≡ true }
+        ensures next { result ≡ true → place_in self.now.next ≡ Some next }
+    {
+        self.next == Place::to_word(Some(next)) + 1
+    }
+
+    // Whether these are the words of a linked place, with `prev` before it.
+    #[inline]
+    pub(crate) fn is_behind(&self, prev: Place) -> bool
+        ensures linked { result ≡ true → is_linked_two self.now ≡ true }
+        ensures prev { result ≡ true → place_in self.now.prev ≡ Some prev }
+    {
+        self.prev == Place::to_word(Some(prev)) && self.next % 2 == 1
+    }
+}
+
 impl Words for RawThree {
     ghost use Rattle.ic_ffi.specs.Words.{no_tree_words, is_linked_three};
     ghost use Rattle.std.specs.Prelude.{refl};
@@ -227,47 +281,91 @@ impl Words for RawThree {
 }
 
 impl RawFront {
-    // Keeps this front, if the status is that of a call that was accepted.
+    // Writes this front.
     #[inline]
     #[tactic(auto, using(crate::proofs::Entries::place_kept))]
-    pub(crate) fn keep(&mut self, status: u32, first: Option<Place>)
-        ensures kept { status ≡ 0 → front_of self.new ≡ first }
-        ensures refused { status ≢ 0 → self.new ≡ self.old }
+    pub(crate) fn set(&mut self, first: Option<Place>)
+        ensures set { front_of self.new ≡ first }
+        ensures words { self.new ≡ word_of_front (front_of self.new) }
     {
-        if status != OK {
-            return;
-        }
         self.head = Place::to_word(first);
     }
 }
 
 impl RawEnds {
-    // Keeps these ends, if the status is that of a call that was accepted.
+    // Keeps these ends, and writes those that are others than in the words of before.
+    #[inline]
+    pub(crate) fn keep(&mut self, was: RawEnds, first: Option<Place>, last: Option<Place>)
+        requires { was ≡ self.old }
+        ensures kept { ends_of self.new ≡ record { head = first; tail = last } }
+        ensures words { self.old ≡ words_of (ends_of self.old) → self.new ≡ words_of (ends_of self.new) }
+    {
+        keep(&mut self.head, was.head, first);
+        keep(&mut self.tail, was.tail, last);
+    }
+
+    // Writes this last place, and leaves the first as it is.
     #[inline]
     #[tactic(auto, using(crate::proofs::Entries::place_kept))]
-    pub(crate) fn keep(&mut self, status: u32, first: Option<Place>, last: Option<Place>)
-        ensures kept { status ≡ 0 → ends_of self.new ≡ record { head = first; tail = last } }
-        ensures refused { status ≢ 0 → self.new ≡ self.old }
+    pub(crate) fn set_last(&mut self, last: Option<Place>)
+        ensures set { ends_of self.new ≡ record { head = (ends_of self.old).head; tail = last } }
+        ensures words { self.old ≡ words_of (ends_of self.old) → self.new ≡ words_of (ends_of self.new) }
     {
-        if status != OK {
-            return;
-        }
+        self.tail = Place::to_word(last);
+    }
+
+    // Writes this first place, and leaves the last as it is.
+    #[inline]
+    #[tactic(auto, using(crate::proofs::Entries::place_kept))]
+    pub(crate) fn set_first(&mut self, first: Option<Place>)
+        ensures set { ends_of self.new ≡ record { head = first; tail = (ends_of self.old).tail } }
+        ensures words { self.old ≡ words_of (ends_of self.old) → self.new ≡ words_of (ends_of self.new) }
+    {
+        self.head = Place::to_word(first);
+    }
+
+    // Writes these ends.
+    #[inline]
+    #[tactic(auto, using(crate::proofs::Entries::place_kept))]
+    pub(crate) fn set(&mut self, first: Option<Place>, last: Option<Place>)
+        ensures set { ends_of self.new ≡ record { head = first; tail = last } }
+        ensures words { self.new ≡ words_of (ends_of self.new) }
+    {
         self.head = Place::to_word(first);
         self.tail = Place::to_word(last);
+    }
+
+    // Whether these are the ends of a list with no members.
+    #[inline]
+    pub(crate) fn is_empty(&self) -> bool
+        ensures { (result ≡ true) ↔ (ends_of self.now ≡ no_members) }
+    {
+        place_in(self.head).is_none() && place_in(self.tail).is_none()
     }
 }
 
 impl RawRoot {
-    // Keeps this root, if the status is that of a call that was accepted.
+    // Keeps this root, and writes it where it is another one than in the word of before.
     #[inline]
-    #[tactic(auto, using(crate::proofs::Entries::place_kept))]
-    pub(crate) fn keep(&mut self, status: u32, root: Option<Place>)
-        ensures kept { status ≡ 0 → root_in self.new ≡ root }
-        ensures refused { status ≢ 0 → self.new ≡ self.old }
+    pub(crate) fn keep(&mut self, was: RawRoot, root: Option<Place>)
+        requires { was ≡ self.old }
+        ensures kept { root_in self.new ≡ root }
+        ensures words { self.old ≡ word_of_root (root_in self.old) → self.new ≡ word_of_root (root_in self.new) }
     {
-        if status != OK {
-            return;
-        }
-        self.root = Place::to_word(root);
+        keep(&mut self.root, was.root, root);
     }
+}
+
+// Lets the word, which is that of before, name this place. It is written where it names another one.
+#[inline]
+#[tactic(auto, using(crate::proofs::Entries::place_kept))]
+fn keep(word: &mut u64, was: u64, place: Option<Place>)
+    requires { was ≡ word.old }
+    ensures kept { place_in word.new ≡ place }
+    ensures word { word.old ≡ word_of (place_in word.old) → word.new ≡ word_of (place_in word.new) }
+{
+    if Place::to_word(place_in(was)) == Place::to_word(place) {
+        return;
+    }
+    *word = Place::to_word(place);
 }

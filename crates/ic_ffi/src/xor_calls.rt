@@ -8,19 +8,21 @@
 //! ic_xor_insert_between(links, 64, &list, 7, 8, 9); // IC_OK: 7, 8, 9
 //! ```
 
-ghost use Rattle.std.specs.Prelude.{◌≡◌, ◌≢◌, [], List, reverse, Option, Some, None};
+ghost use Rattle.std.specs.Prelude.{◌≡◌, ◌≢◌, ◌↔◌, ◌++◌, ◌∷◌, [], List, reverse, Option, Some, None, true, false};
 ghost use Rattle.ic_unsafe_ref.specs.declared.place.Place.{Place};
-ghost use Rattle.ic_link_ops.specs.Sequences.{Cut, at_front, at_back, first, last, IsAfter, IsBefore};
+ghost use Rattle.ic_link_ops.specs.Sequences.{Cut, join, at_front, at_back, first, last, IsAfter, IsBefore};
 ghost use Rattle.ic_link_ops.specs.Tables.{Table};
 ghost use Rattle.ic_link_ops.specs.Chains.{no_members};
 ghost use Rattle.ic_ffi.specs.declared.words.RawOne.{RawOne};
-ghost use Rattle.ic_ffi.specs.Words.{place_of};
-ghost use Rattle.ic_ffi.specs.Doubly.{ends_of};
-ghost use Rattle.ic_ffi.specs.Xor.{Shows, ShowsList, FreeIn, StandsIn, Inserted, Removed, Popped, Replaced, Spliced, Split};
-ghost use Rattle.ic_ffi.specs.Answers.{IsStatus};
+ghost use Rattle.ic_ffi.specs.Words.{place_of, is_linked_one};
+ghost use Rattle.ic_ffi.specs.Tables.{member_fault, place_fault};
+ghost use Rattle.ic_ffi.specs.Doubly.{ends_of, words_of};
+ghost use Rattle.ic_ffi.specs.Singly.{table_of, lent_table};
+ghost use Rattle.ic_ffi.specs.Xor.{Shows, ShowsList, FreeIn, StandsIn, TellsGap, TellsMemberBehind, TellsMemberBefore, TellsEnds, fault_at, fault_of, Inserted, Removed, Popped, Replaced, Spliced, Split};
+ghost use Rattle.ic_ffi.specs.Answers.{IsStatus, refusal};
 
 use crate::number::{number_of, place_in, place_of};
-use crate::status::{BROKEN, NULL, OK};
+use crate::status::{BROKEN, NONE, NULL, OK};
 use crate::table::RawTable;
 use crate::words::{RawEnds, RawOne};
 use crate::xor_list;
@@ -36,99 +38,153 @@ fn list_of(words: &RawEnds) -> xor_list::List
     XorLinkedList::from_ends(place_in(words.head), place_in(words.tail))
 }
 
-// Puts the place with that number between an end and none.
-#[inline]
-fn put_at(
+// Why a call at two members is refused: by the first fault of the two, or as [`BROKEN`].
+#[cold]
+#[inline(never)]
+fn refusal_at_both(links: &RawTable<'_, RawOne>, one: u32, other: u32) -> u32
+    ensures refusal { result ≡ refusal (member_fault is_linked_one (lent_table links.now) (place_of one)
+        ∷ member_fault is_linked_one (lent_table links.now) (place_of other) ∷ []) }
+    ensures refused { (result ≢ 0) × (result ≢ 4) }
+    ensures status { IsStatus result }
+{
+    let fault = links.member_fault(place_of(one));
+    if fault != OK {
+        return fault;
+    }
+    links.refusal_at(other)
+}
+
+// Why a place does not go in at two members: by the first fault of the three, or as [`BROKEN`].
+#[cold]
+#[inline(never)]
+fn refusal_with_both(links: &RawTable<'_, RawOne>, one: u32, other: u32, place: u32) -> u32
+    ensures refusal { result ≡ refusal (member_fault is_linked_one (lent_table links.now) (place_of one)
+        ∷ member_fault is_linked_one (lent_table links.now) (place_of other)
+        ∷ place_fault is_linked_one (lent_table links.now) (place_of place) ∷ []) }
+    ensures refused { (result ≢ 0) × (result ≢ 4) }
+    ensures status { IsStatus result }
+{
+    let fault = links.member_fault(place_of(one));
+    if fault != OK {
+        return fault;
+    }
+    links.refusal(other, place)
+}
+
+// Puts the place between two neighbors, and says whether it could. Always inlined, as the edit itself is.
+#[inline(always)]
+fn put(
     table: &mut [RawOne],
     list: &mut RawEnds,
     before: Option<Place>,
-    place: u32,
+    place: Option<Place>,
     behind: Option<Place>,
-) -> u32
-    ensures inserted { (cut : Cut) (p : Place) → IsAfter cut before → IsBefore cut behind → place_of place ≡ Some p
-        → Inserted table.old table.new list.old list.new result cut p }
-    ensures free { (p : Place) → place_of place ≡ Some p → result ≡ 0 → FreeIn table.old p }
-    ensures none { place_of place ≡ None → result ≢ 0 }
-    ensures refused { result ≢ 0 → (table.new ≡ table.old) × (list.new ≡ list.old) }
-    ensures status { IsStatus result }
+) -> bool
+    ensures inserted { (cut : Cut) (p : Place) → IsAfter cut before → IsBefore cut behind → place ≡ Some p
+        → ShowsList table.old list.old (join cut) → FreeIn table.old p
+        → (result ≡ true) × Inserted table.old table.new list.old list.new 0 cut p }
+    ensures free { result ≡ true → (p : Place) × (place ≡ Some p) × FreeIn table.old p }
+    ensures told { result ≡ true → TellsGap (table_of table.old) (ends_of list.old) before behind }
+    ensures before { result ≡ true → StandsIn table.old before }
+    ensures behind { result ≡ true → StandsIn table.old behind }
+    ensures words { result ≡ true → list.new ≡ words_of (ends_of list.new) }
+    ensures refused { result ≡ false → (table.new ≡ table.old) × (list.new ≡ list.old) }
 {
     let mut links = RawTable::new(table);
     let mut edited = list_of(&*list);
-    let status = xor_list::put(&mut links, &mut edited, before, place_of(place), behind);
-    list.keep(status, edited.first(), edited.last());
-    status
+    if !xor_list::insert(&mut links, &mut edited, before, place, behind) {
+        return false;
+    }
+    list.set(edited.first(), edited.last());
+    true
 }
 
 /// Puts a place in front of all members. O(1).
 ///
-/// The place has to be one of the table, and not linked.
+/// The place has to be one of the table, and not linked. Where the first member is none of the table, it returns [`BROKEN`].
 #[unsafe(no_mangle)]
 pub extern "C" fn ic_xor_push_front(table: &mut [RawOne], list: &mut RawEnds, place: u32) -> u32
     ensures inserted { (s : List Place) (p : Place) → place_of place ≡ Some p
         → Inserted table.old table.new list.old list.new result (at_front s) p }
     ensures free { (p : Place) → place_of place ≡ Some p → result ≡ 0 → FreeIn table.old p }
     ensures none { place_of place ≡ None → result ≢ 0 }
+    ensures told { result ≡ 0 → TellsGap (table_of table.old) (ends_of list.old) None (ends_of list.old).head }
+    ensures words { result ≡ 0 → list.new ≡ words_of (ends_of list.new) }
     ensures refused { result ≢ 0 → (table.new ≡ table.old) × (list.new ≡ list.old) }
+    ensures why { result ≢ 0 → result ≡ refusal (fault_of table.old (place_of place) ∷ []) }
     ensures status { IsStatus result }
 {
     let first = place_in(list.head);
-    put_at(table, list, None, place, first)
+    if !put(table, list, None, place_of(place), first) {
+        return RawTable::new(table).refusal(NONE, place);
+    }
+    OK
 }
 
 /// Puts a place behind all members. O(1).
 ///
-/// The place has to be one of the table, and not linked.
+/// The place has to be one of the table, and not linked. Where the last member is none of the table, it returns [`BROKEN`].
 #[unsafe(no_mangle)]
 pub extern "C" fn ic_xor_push_back(table: &mut [RawOne], list: &mut RawEnds, place: u32) -> u32
     ensures inserted { (s : List Place) (p : Place) → place_of place ≡ Some p
         → Inserted table.old table.new list.old list.new result (at_back s) p }
     ensures free { (p : Place) → place_of place ≡ Some p → result ≡ 0 → FreeIn table.old p }
     ensures none { place_of place ≡ None → result ≢ 0 }
+    ensures told { result ≡ 0 → TellsGap (table_of table.old) (ends_of list.old) (ends_of list.old).tail None }
+    ensures words { result ≡ 0 → list.new ≡ words_of (ends_of list.new) }
     ensures refused { result ≢ 0 → (table.new ≡ table.old) × (list.new ≡ list.old) }
+    ensures why { result ≢ 0 → result ≡ refusal (fault_of table.old (place_of place) ∷ []) }
     ensures status { IsStatus result }
 {
     let last = place_in(list.tail);
-    put_at(table, list, last, place, None)
+    if !put(table, list, last, place_of(place), None) {
+        return RawTable::new(table).refusal(NONE, place);
+    }
+    OK
 }
 
-// Takes the member behind `before` off.
+// Takes the member behind `before` off, and says whether it could.
 #[inline]
-fn remove_at(
-    table: &mut [RawOne],
-    list: &mut RawEnds,
-    before: Option<Place>,
-    at: Option<Place>,
-) -> u32
-    ensures removed { (front back : List Place) (p : Place) → before ≡ last front → at ≡ Some p
-        → Removed table.old table.new list.old list.new result p front back }
-    ensures null { at ≡ None → result ≡ 4 }
-    ensures refused { result ≢ 0 → (table.new ≡ table.old) × (list.new ≡ list.old) }
-    ensures status { IsStatus result }
-    ensures stands { result ≡ 0 → StandsIn table.old at }
-    ensures before { result ≡ 0 → StandsIn table.old before }
+fn take(table: &mut [RawOne], list: &mut RawEnds, before: Option<Place>, member: Place) -> bool
+    ensures removed { (front back : List Place) → before ≡ last front → ShowsList table.old list.old (front ++ member ∷ back)
+        → (result ≡ true) × Removed table.old table.new list.old list.new 0 member front back }
+    ensures stands { result ≡ true → StandsIn table.old (Some member) }
+    ensures before { result ≡ true → StandsIn table.old before }
+    ensures told { result ≡ true → TellsMemberBehind (table_of table.old) (ends_of list.old) before (Some member) }
+    ensures words { result ≡ true → list.new ≡ words_of (ends_of list.new) }
+    ensures refused { result ≡ false → (table.new ≡ table.old) × (list.new ≡ list.old) }
 {
     let mut links = RawTable::new(table);
     let mut edited = list_of(&*list);
-    let status = xor_list::remove(&mut links, &mut edited, before, at);
-    list.keep(status, edited.first(), edited.last());
-    status
+    if !xor_list::remove(&mut links, &mut edited, before, member) {
+        return false;
+    }
+    list.set(edited.first(), edited.last());
+    true
 }
 
-// Takes the last member off.
+// Takes the last member off, and says whether it could.
 #[inline]
-fn remove_last_at(table: &mut [RawOne], list: &mut RawEnds, member: Place) -> u32
-    ensures removed { (front : List Place) → Removed table.old table.new list.old list.new result member front [] }
-    ensures refused { result ≢ 0 → (table.new ≡ table.old) × (list.new ≡ list.old) }
-    ensures status { IsStatus result }
+fn take_last(table: &mut [RawOne], list: &mut RawEnds, member: Place) -> bool
+    ensures removed { (front : List Place) → ShowsList table.old list.old (front ++ member ∷ [])
+        → (result ≡ true) × Removed table.old table.new list.old list.new 0 member front [] }
+    ensures stands { result ≡ true → StandsIn table.old (Some member) }
+    ensures told { result ≡ true → TellsMemberBefore (table_of table.old) (ends_of list.old) None (Some member) }
+    ensures words { result ≡ true → list.new ≡ words_of (ends_of list.new) }
+    ensures refused { result ≡ false → (table.new ≡ table.old) × (list.new ≡ list.old) }
 {
     let mut links = RawTable::new(table);
     let mut edited = list_of(&*list);
-    let status = xor_list::remove_last(&mut links, &mut edited, member);
-    list.keep(status, edited.first(), edited.last());
-    status
+    if !xor_list::remove_last(&mut links, &mut edited, member) {
+        return false;
+    }
+    list.set(edited.first(), edited.last());
+    true
 }
 
 /// Takes the first member off and hands it out, or returns [`NULL`] where there is none. O(1).
+///
+/// Where the words tell of no such member, it returns [`BROKEN`].
 #[unsafe(no_mangle)]
 pub extern "C" fn ic_xor_pop_front(
     table: &mut [RawOne],
@@ -137,41 +193,52 @@ pub extern "C" fn ic_xor_pop_front(
 ) -> u32
     ensures popped { (s : List Place) (p : Place) → Popped table.old table.new list.old list.new result popped.new p [] s }
     ensures empty { ShowsList table.old list.old [] → result ≡ 4 }
+    ensures null { (result ≡ 4) ↔ ((ends_of list.old).head ≡ None) }
+    ensures stands { result ≡ 0 → StandsIn table.old (ends_of list.old).head }
+    ensures told { result ≡ 0 → TellsMemberBehind (table_of table.old) (ends_of list.old) None (ends_of list.old).head }
+    ensures words { result ≡ 0 → list.new ≡ words_of (ends_of list.new) }
     ensures refused { result ≢ 0 → (table.new ≡ table.old) × (list.new ≡ list.old) × (popped.new ≡ popped.old) }
+    ensures why { result ≢ 0 → result ≢ 4 → result ≡ 5 }
     ensures status { IsStatus result }
 {
-    let first = place_in(list.head);
-    let Some(place) = first else {
+    let Some(member) = place_in(list.head) else {
         return NULL;
     };
-    if remove_at(table, list, None, first) != OK {
+    if !take(table, list, None, member) {
         return BROKEN;
     }
-    *popped = number_of(place);
+    *popped = number_of(member);
     OK
 }
 
 /// Takes the last member off and hands it out, or returns [`NULL`] where there is none. O(1).
+///
+/// Where the words tell of no such member, it returns [`BROKEN`].
 #[unsafe(no_mangle)]
 pub extern "C" fn ic_xor_pop_back(table: &mut [RawOne], list: &mut RawEnds, popped: &mut u32) -> u32
     ensures popped { (s : List Place) (p : Place) → Popped table.old table.new list.old list.new result popped.new p s [] }
     ensures empty { ShowsList table.old list.old [] → result ≡ 4 }
+    ensures null { (result ≡ 4) ↔ ((ends_of list.old).tail ≡ None) }
+    ensures stands { result ≡ 0 → StandsIn table.old (ends_of list.old).tail }
+    ensures told { result ≡ 0 → TellsMemberBefore (table_of table.old) (ends_of list.old) None (ends_of list.old).tail }
+    ensures words { result ≡ 0 → list.new ≡ words_of (ends_of list.new) }
     ensures refused { result ≢ 0 → (table.new ≡ table.old) × (list.new ≡ list.old) × (popped.new ≡ popped.old) }
+    ensures why { result ≢ 0 → result ≢ 4 → result ≡ 5 }
     ensures status { IsStatus result }
 {
-    let Some(place) = place_in(list.tail) else {
+    let Some(member) = place_in(list.tail) else {
         return NULL;
     };
-    if remove_last_at(table, list, place) != OK {
+    if !take_last(table, list, member) {
         return BROKEN;
     }
-    *popped = number_of(place);
+    *popped = number_of(member);
     OK
 }
 
-/// Puts a place between the neighbors `before` and `behind`, which are [`NONE`](crate::NONE) beyond an end. O(1).
+/// Puts a place between the neighbors `before` and `behind`, which are [`NONE`] beyond an end. O(1).
 ///
-/// The place has to be one of the table, and not linked.
+/// The place has to be one of the table, and not linked. Where the words tell of no gap between the two, it returns [`BROKEN`].
 #[unsafe(no_mangle)]
 pub extern "C" fn ic_xor_insert_between(
     table: &mut [RawOne],
@@ -184,25 +251,25 @@ pub extern "C" fn ic_xor_insert_between(
         → Inserted table.old table.new list.old list.new result cut p }
     ensures free { (p : Place) → place_of place ≡ Some p → result ≡ 0 → FreeIn table.old p }
     ensures none { place_of place ≡ None → result ≢ 0 }
-    ensures refused { result ≢ 0 → (table.new ≡ table.old) × (list.new ≡ list.old) }
-    ensures status { IsStatus result }
     ensures before { result ≡ 0 → StandsIn table.old (place_of before) }
     ensures behind { result ≡ 0 → StandsIn table.old (place_of behind) }
+    ensures told { result ≡ 0 → TellsGap (table_of table.old) (ends_of list.old) (place_of before) (place_of behind) }
+    ensures words { result ≡ 0 → list.new ≡ words_of (ends_of list.new) }
+    ensures refused { result ≢ 0 → (table.new ≡ table.old) × (list.new ≡ list.old) }
+    ensures why { result ≢ 0 → result ≡ refusal (fault_at table.old (place_of before) ∷ fault_at table.old (place_of behind)
+        ∷ fault_of table.old (place_of place) ∷ []) }
+    ensures status { IsStatus result }
 {
-    let mut links = RawTable::new(table);
-    let mut edited = list_of(&*list);
-    let status = xor_list::insert(
-        &mut links,
-        &mut edited,
-        place_of(before),
-        place_of(place),
-        place_of(behind),
-    );
-    list.keep(status, edited.first(), edited.last());
-    status
+    let (front, new, back) = (place_of(before), place_of(place), place_of(behind));
+    if !put(table, list, front, new, back) {
+        return refusal_with_both(&RawTable::new(table), before, behind, place);
+    }
+    OK
 }
 
-/// Takes the member `at` off, in front of which `before` stands, or returns [`NULL`] at [`NONE`](crate::NONE). O(1).
+/// Takes the member `at` off, in front of which `before` stands, or returns [`NULL`] at [`NONE`]. O(1).
+///
+/// Where the words tell of no such member, it returns [`BROKEN`].
 #[unsafe(no_mangle)]
 pub extern "C" fn ic_xor_remove(
     table: &mut [RawOne],
@@ -212,19 +279,29 @@ pub extern "C" fn ic_xor_remove(
 ) -> u32
     ensures removed { (front back : List Place) (p : Place) → place_of before ≡ last front → place_of at ≡ Some p
         → Removed table.old table.new list.old list.new result p front back }
-    ensures null { place_of at ≡ None → result ≡ 4 }
-    ensures refused { result ≢ 0 → (table.new ≡ table.old) × (list.new ≡ list.old) }
-    ensures status { IsStatus result }
+    ensures null { (result ≡ 4) ↔ (place_of at ≡ None) }
     ensures stands { result ≡ 0 → StandsIn table.old (place_of at) }
     ensures before { result ≡ 0 → StandsIn table.old (place_of before) }
+    ensures told { result ≡ 0 → TellsMemberBehind (table_of table.old) (ends_of list.old) (place_of before) (place_of at) }
+    ensures words { result ≡ 0 → list.new ≡ words_of (ends_of list.new) }
+    ensures refused { result ≢ 0 → (table.new ≡ table.old) × (list.new ≡ list.old) }
+    ensures why { result ≢ 0 → result ≢ 4
+        → result ≡ refusal (fault_at table.old (place_of at) ∷ fault_at table.old (place_of before) ∷ []) }
+    ensures status { IsStatus result }
 {
-    remove_at(table, list, place_of(before), place_of(at))
+    let Some(member) = place_of(at) else {
+        return NULL;
+    };
+    if !take(table, list, place_of(before), member) {
+        return refusal_at_both(&RawTable::new(table), at, before);
+    }
+    OK
 }
 
-/// Puts a place where the member `at` is, in front of which `before` stands, or returns [`NULL`] at [`NONE`](crate::NONE). The member is
+/// Puts a place where the member `at` is, in front of which `before` stands, or returns [`NULL`] at [`NONE`]. The member is
 /// unlinked then. O(1).
 ///
-/// The place has to be one of the table, and not linked.
+/// The place has to be one of the table, and not linked. Where the words tell of no such member, it returns [`BROKEN`].
 #[unsafe(no_mangle)]
 pub extern "C" fn ic_xor_replace(
     table: &mut [RawOne],
@@ -237,26 +314,33 @@ pub extern "C" fn ic_xor_replace(
         → place_of place ≡ Some p → Replaced table.old table.new list.old list.new result out front back p }
     ensures free { (p : Place) → place_of place ≡ Some p → result ≡ 0 → FreeIn table.old p }
     ensures none { place_of place ≡ None → result ≢ 0 }
-    ensures null { place_of at ≡ None → result ≡ 4 }
-    ensures refused { result ≢ 0 → (table.new ≡ table.old) × (list.new ≡ list.old) }
-    ensures status { IsStatus result }
+    ensures null { (result ≡ 4) ↔ (place_of at ≡ None) }
     ensures stands { result ≡ 0 → StandsIn table.old (place_of at) }
     ensures before { result ≡ 0 → StandsIn table.old (place_of before) }
+    ensures told { result ≡ 0 → TellsMemberBehind (table_of table.old) (ends_of list.old) (place_of before) (place_of at) }
+    ensures words { result ≡ 0 → list.new ≡ words_of (ends_of list.new) }
+    ensures refused { result ≢ 0 → (table.new ≡ table.old) × (list.new ≡ list.old) }
+    ensures why { result ≢ 0 → result ≢ 4 → result ≡ refusal (fault_at table.old (place_of at) ∷ fault_at table.old (place_of before)
+        ∷ fault_of table.old (place_of place) ∷ []) }
+    ensures status { IsStatus result }
 {
+    let Some(member) = place_of(at) else {
+        return NULL;
+    };
     let mut links = RawTable::new(table);
     let mut edited = list_of(&*list);
-    let status = xor_list::replace(
-        &mut links,
-        &mut edited,
-        place_of(before),
-        place_of(at),
-        place_of(place),
-    );
-    list.keep(status, edited.first(), edited.last());
-    status
+    let (neighbor, new) = (place_of(before), place_of(place));
+    if !xor_list::replace(&mut links, &mut edited, neighbor, member, new) {
+        return refusal_with_both(&links, at, before, place);
+    }
+    list.set(edited.first(), edited.last());
+    OK
 }
 
 /// Puts all of the given list between the neighbors `before` and `behind`, and leaves the given one empty. O(1).
+///
+/// Where the words tell of no gap between the two or of no list that is given, and where both lists begin with the same member, it
+/// returns [`BROKEN`].
 #[unsafe(no_mangle)]
 pub extern "C" fn ic_xor_splice_between(
     table: &mut [RawOne],
@@ -267,27 +351,31 @@ pub extern "C" fn ic_xor_splice_between(
 ) -> u32
     ensures spliced { (cut : Cut) (t : List Place) → IsAfter cut (place_of before) → IsBefore cut (place_of behind)
         → Spliced table.old table.new list.old list.new result given.old cut t }
-    ensures emptied { result ≡ 0 → ends_of given.new ≡ no_members }
-    ensures refused { result ≢ 0 → (table.new ≡ table.old) × (list.new ≡ list.old) × (given.new ≡ given.old) }
-    ensures status { IsStatus result }
+    ensures emptied { result ≡ 0 → given.new ≡ words_of no_members }
     ensures before { result ≡ 0 → StandsIn table.old (place_of before) }
     ensures behind { result ≡ 0 → StandsIn table.old (place_of behind) }
+    ensures told { result ≡ 0 → TellsGap (table_of table.old) (ends_of list.old) (place_of before) (place_of behind) }
+    ensures ends { result ≡ 0 → TellsEnds (table_of table.old) (ends_of given.old) }
+    ensures apart { result ≡ 0 → (p : Place) → (ends_of given.old).head ≡ Some p → (ends_of list.old).head ≢ Some p }
+    ensures words { result ≡ 0 → list.new ≡ words_of (ends_of list.new) }
+    ensures refused { result ≢ 0 → (table.new ≡ table.old) × (list.new ≡ list.old) × (given.new ≡ given.old) }
+    ensures why { result ≢ 0 → result ≡ refusal (fault_at table.old (place_of before) ∷ fault_at table.old (place_of behind) ∷ []) }
+    ensures status { IsStatus result }
 {
     let mut links = RawTable::new(table);
     let mut edited = list_of(&*list);
-    let status = xor_list::splice(
-        &mut links,
-        &mut edited,
-        place_of(before),
-        list_of(&*given),
-        place_of(behind),
-    );
-    list.keep(status, edited.first(), edited.last());
-    given.keep(status, None, None);
-    status
+    let (front, back) = (place_of(before), place_of(behind));
+    if !xor_list::splice(&mut links, &mut edited, front, list_of(&*given), back) {
+        return refusal_at_both(&links, before, behind);
+    }
+    list.set(edited.first(), edited.last());
+    given.set(None, None);
+    OK
 }
 
 /// Cuts the list between the neighbors `before` and `behind`, and hands out what stands behind the cut. O(1).
+///
+/// Where the words tell of no gap between the two, and where `rest` is not empty, it returns [`BROKEN`].
 #[unsafe(no_mangle)]
 pub extern "C" fn ic_xor_split_between(
     table: &mut [RawOne],
@@ -296,26 +384,28 @@ pub extern "C" fn ic_xor_split_between(
     behind: u32,
     rest: &mut RawEnds,
 ) -> u32
-    ensures split { (cut : Cut) → IsAfter cut (place_of before) → IsBefore cut (place_of behind)
+    ensures split { (cut : Cut) → IsAfter cut (place_of before) → IsBefore cut (place_of behind) → ends_of rest.old ≡ no_members
         → Split table.old table.new list.old list.new result rest.new cut }
-    ensures refused { result ≢ 0 → (table.new ≡ table.old) × (list.new ≡ list.old) × (rest.new ≡ rest.old) }
-    ensures status { IsStatus result }
+    ensures empty { result ≡ 0 → ends_of rest.old ≡ no_members }
     ensures before { result ≡ 0 → StandsIn table.old (place_of before) }
     ensures behind { result ≡ 0 → StandsIn table.old (place_of behind) }
+    ensures told { result ≡ 0 → TellsGap (table_of table.old) (ends_of list.old) (place_of before) (place_of behind) }
+    ensures words { result ≡ 0 → list.new ≡ words_of (ends_of list.new) }
+    ensures rest { result ≡ 0 → rest.new ≡ words_of (ends_of rest.new) }
+    ensures refused { result ≢ 0 → (table.new ≡ table.old) × (list.new ≡ list.old) × (rest.new ≡ rest.old) }
+    ensures why { result ≢ 0 → result ≡ refusal (fault_at table.old (place_of before) ∷ fault_at table.old (place_of behind) ∷ []) }
+    ensures status { IsStatus result }
 {
     let mut links = RawTable::new(table);
     let mut edited = list_of(&*list);
     let mut part = XorLinkedList::new();
-    let status = xor_list::split(
-        &mut links,
-        &mut edited,
-        place_of(before),
-        place_of(behind),
-        &mut part,
-    );
-    list.keep(status, edited.first(), edited.last());
-    rest.keep(status, part.first(), part.last());
-    status
+    let (front, back) = (place_of(before), place_of(behind));
+    if !rest.is_empty() || !xor_list::split(&mut links, &mut edited, front, back, &mut part) {
+        return refusal_at_both(&links, before, behind);
+    }
+    list.set(edited.first(), edited.last());
+    rest.set(part.first(), part.last());
+    OK
 }
 
 /// Turns the list round. O(1): it reads no table, and always returns [`OK`].
@@ -323,6 +413,7 @@ pub extern "C" fn ic_xor_split_between(
 pub extern "C" fn ic_xor_reverse(list: &mut RawEnds) -> u32
     ensures ok { result ≡ 0 }
     ensures reversed { (t : Table RawOne) (s : List Place) → Shows t (ends_of list.old) s → Shows t (ends_of list.new) (reverse s) }
+    ensures words { list.new ≡ record { head = list.old.tail; tail = list.old.head } }
 {
     mem::swap(&mut list.head, &mut list.tail);
     OK

@@ -5,9 +5,9 @@ use Rattle.ic_ffi.proofs.Doubly.{law, beside_stands, next_shown, prev_shown}
 use Rattle.ic_ffi.proofs.Lists.{before_stands, behind_stands}
 use Rattle.ic_ffi.proofs.list.gap_at.Goals as goal
 
-pub returns-then-status-ne-OK-clause-shown : goal.returns-then-status-ne-OK-clause-shown
-returns-then-status-ne-OK-clause-shown c cut shown beside =
-    absurd (c.if-status-ne-OK.true (c.standing-status.ensures.stands.1 (beside_stands c.args.side cut shown beside)))
+pub returns-then-not-stands-clause-shown : goal.returns-then-not-stands-clause-shown
+returns-then-not-stands-clause-shown c cut shown beside =
+    absurd (never c.if-not-stands.true (c.stands.ensures.1 (beside_stands c.args.side cut shown beside)))
 
 pub returns-then-not-follows-clause-shown : goal.returns-then-not-follows-clause-shown
 returns-then-not-follows-clause-shown c cut shown beside =
@@ -26,9 +26,9 @@ returns-then-not-leads-clause-shown c cut shown beside =
 pub returns-else-not-follows-clause-shown : goal.returns-else-not-follows-clause-shown
 returns-else-not-follows-clause-shown c cut shown beside =
     let at : c.args.at ≡ last cut.front = rw c.in-After.is at beside in
-    gap_is cut c.if-status-ne-OK.false at (c.next_of-behind.ensures ∙ next_shown cut.front cut.back shown c.args.at at)
+    gap_is cut at (c.next_of-behind.ensures ∙ next_shown cut.front cut.back shown c.args.at at)
 
 pub returns-else-not-leads-clause-shown : goal.returns-else-not-leads-clause-shown
 returns-else-not-leads-clause-shown c cut shown beside =
     let at : c.args.at ≡ first cut.back = rw c.in-Before.is at beside in
-    gap_is cut c.if-status-ne-OK.false (c.prev_of-before.ensures ∙ prev_shown cut.front cut.back shown c.args.at at) at
+    gap_is cut (c.prev_of-before.ensures ∙ prev_shown cut.front cut.back shown c.args.at at) at

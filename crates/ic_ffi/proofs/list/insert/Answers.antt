@@ -6,12 +6,15 @@ use Rattle.ic_ffi.proofs.list.insert.Goals as goal
 
 pub returns-clause-inserted : goal.returns-clause-inserted
 returns-clause-inserted c cut p shown beside is free' =
-    let one : p ≡ c.in-Some.place = some_same (sym is ∙ c.in-Some.is) in
-    let gap = c.gap_at-gap.ensures.shown cut shown beside in
-    let free = c.acquire-status.ensures.free c.if-status-ne-OK.false in
+    let taken = c.in-Some-acquire.is in
+    let one : p ≡ c.in-Some-acquire.place = some_same (sym is ∙ c.acquire.ensures.same _ taken) in
+    let gap = some_same (sym c.in-Some.is ∙ c.gap_at.ensures.shown cut shown beside) in
     let put = c.insert_linked.ensures in
-    rw one (record {
-      accepted = refl;
-      done = inserted law cut (ap (λ g. g.before) gap) (ap (λ g. g.behind) gap) shown free (c.acquire-status.ensures.frame c.if-status-ne-OK.false) put.shows put.extent
-          put.others;
-    })
+    rw one (
+      refl,
+      inserted law cut (ap (λ g. g.before) gap) (ap (λ g. g.behind) gap) shown (c.acquire.ensures.free _ taken) (c.acquire.ensures.frame _ taken) put.shows put.extent put.others,
+    )
+
+pub returns-clause-free : goal.returns-clause-free
+returns-clause-free c made =
+    let taken = c.in-Some-acquire.is in (c.in-Some-acquire.place, c.acquire.ensures.same _ taken, c.acquire.ensures.free _ taken)

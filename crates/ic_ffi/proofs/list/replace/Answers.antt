@@ -5,19 +5,19 @@ use Rattle.ic_ffi.proofs.Lists.{replaced}
 use Rattle.ic_ffi.proofs.list.replace.Goals as goal
 
 pub returns-clause-replaced : goal.returns-clause-replaced
-returns-clause-replaced c front back out p shown' at is free' =
-    let one : p ≡ c.in-Some-place.place = some_same (sym is ∙ c.in-Some-place.is) in
-    let other : out ≡ c.in-Some.member = some_same (sym at ∙ c.in-Some.is) in
-    let shown = rw other at shown' in
-    let gap = c.beside-gap.ensures.shown front back shown in
-    let free = c.acquire-status.ensures.free c.if-status-ne-OK.false in
+returns-clause-replaced c front back p shown is free' =
+    let taken = c.in-Some-acquire.is in
+    let one : p ≡ c.in-Some-acquire.place = some_same (sym is ∙ c.acquire.ensures.same _ taken) in
+    let gap = some_same (sym c.in-Some.is ∙ c.beside.ensures.member front back c.args.member shown refl) in
     let put = c.replace_linked.ensures in
     let released = c.release_link.ensures in
-    rw (one, other) (record {
-      accepted = refl;
-      done = (
-        replaced law front c.in-Some.member back (ap (λ g. g.before) gap) (ap (λ g. g.behind) gap) shown free
-            (c.acquire-status.ensures.frame c.if-status-ne-OK.false) put.shows put.extent put.others released.frame,
-        released.released.is,
-      );
-    })
+    rw one (
+      refl,
+      replaced law front c.args.member back (ap (λ g. g.before) gap) (ap (λ g. g.behind) gap) shown (c.acquire.ensures.free _ taken) (c.acquire.ensures.frame _ taken) put.shows
+          put.extent put.others released.frame,
+      released.released.is,
+    )
+
+pub returns-clause-free : goal.returns-clause-free
+returns-clause-free c made =
+    let taken = c.in-Some-acquire.is in (c.in-Some-acquire.place, c.acquire.ensures.same _ taken, c.acquire.ensures.free _ taken)

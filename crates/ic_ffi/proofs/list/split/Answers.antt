@@ -1,17 +1,16 @@
-use Rattle.std.proofs.Common.{refl, ap}
-use Rattle.ic_link_ops.proofs.SequenceLemmas.{absent_turned}
+use Rattle.std.proofs.Common.{refl, sym, ap, ◌∙◌}
+use Rattle.ic_link_ops.proofs.SequenceLemmas.{some_same, absent_turned}
 use Rattle.ic_ffi.proofs.list.split.Goals as goal
 
 pub returns-in-Before-clause-split : goal.returns-in-Before-clause-split
 returns-in-Before-clause-split c cut shown beside =
-    let gap = c.gap_at-gap.ensures.shown cut shown beside in
+    let gap = some_same (sym c.in-Some.is ∙ c.gap_at.ensures.shown cut shown beside) in
     let split = c.split_between-back.ensures.split cut shown (ap (λ g. g.before) gap) (ap (λ g. g.behind) gap) in
-    rw c.in-Before.is
-    (record {
-      accepted = refl;
-      done = record {
+    rw c.in-Before.is (
+      refl,
+      record {
         keeps = rw c.replace.ensures.after split.hands_out;
         hands_out = rw c.replace.ensures.value split.keeps;
         frame = record { extent = split.frame.extent; others = λ q out. split.frame.others q (absent_turned q cut.front cut.back out) };
-      };
-    })
+      },
+    )

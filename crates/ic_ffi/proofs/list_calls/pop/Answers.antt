@@ -1,9 +1,13 @@
-use Rattle.std.proofs.Common.{◌≡◌, refl, sym, ◌∙◌}
-use Rattle.ic_link_ops.proofs.SequenceLemmas.{some_same}
+use Rattle.std.proofs.Common.{sym, ap, ◌∙◌, subst}
+use Rattle.ic_ffi.specs.Doubly.{TellsGap, end_on, table_of, ends_of}
+use Rattle.ic_ffi.proofs.Doubly.{told_back}
 use Rattle.ic_ffi.proofs.list_calls.pop.Goals as goal
 
-pub returns-clause-popped : goal.returns-clause-popped
-returns-clause-popped c front back p is shown =
-    let one : p ≡ c.in-Some.place = some_same (sym is ∙ c.in-Some.is) in
-    let removed = (c.remove_at.ensures.removed front back p (sym c.in-Some.is ∙ is) shown).done in
-    record { accepted = refl; done = (removed.0, removed.1, rw one c.number_of.ensures) }
+pub returns-clause-inner : goal.returns-clause-inner
+returns-clause-inner c made =
+    let side = c.args.side in
+    let list = ends_of c.args.list.now in
+    let end = sym (ap (λ l. end_on side l) c.list_of-edited.ensures) ∙ c.pop.ensures.end _ c.in-Some.is in
+    let told = c.pop.ensures.inner _ c.in-Some.is in
+    subst (λ at. TellsGap side (table_of c.args.table.now) list at) (sym end)
+    (told_back side c.new-links.result list _ c.new-links.ensures.1 (rw (← c.list_of-edited.ensures) told))

@@ -1,11 +1,18 @@
+use Rattle.std.proofs.Common.{[], refl, ◌∙◌}
 use Rattle.ic_ffi.specs.Keys.{against}
-use Rattle.ic_ffi.proofs.Keys.{target_stands}
+use Rattle.ic_ffi.proofs.Gaps.{never}
+use Rattle.ic_ffi.proofs.Faults.{by_others}
+use Rattle.ic_ffi.proofs.Keys.{target_stands, enough}
 use Rattle.ic_ffi.proofs.search.look.Goals as goal
 
-pub returns-then-status-ne-OK-clause-found : goal.returns-then-status-ne-OK-clause-found
-returns-then-status-ne-OK-clause-found c s shown enough = absurd (c.if-status-ne-OK.true (c.searchable-status.ensures.shown s shown enough))
+pub returns-then-not-is_searchable-clause-found : goal.returns-then-not-is_searchable-clause-found
+returns-then-not-is_searchable-clause-found c s shown enough = absurd (never c.if-not-is_searchable.true (c.is_searchable.ensures.shown s shown enough))
 
 pub returns-clause-found : goal.returns-clause-found
 returns-clause-found c s shown enough =
     let is = c.find-member.ensures s shown in
     (c.find-member.result, is, c.hand_out.ensures.found (target_stands c.args.target (against c.args.key c.args.keys.now) shown is))
+
+pub returns-clause-why : goal.returns-clause-why
+returns-clause-why c made found =
+    c.hand_out.ensures.why made found ∙ by_others [] (enough c.args.keys.now _ (c.is_searchable.ensures.keys c.if-not-is_searchable.false)) refl

@@ -1,4 +1,4 @@
-use Rattle.std.proofs.Common.{[]}
+use Rattle.std.proofs.Common.{[], refl}
 use Rattle.ic_ffi.proofs.Numbers.{none_named}
 use Rattle.ic_ffi.proofs.stack_calls.ic_stack_pop_front.Goals as goal
 
@@ -7,3 +7,12 @@ returns-clause-popped c s p shown = c.ic_stack_remove_after.ensures.removed [] s
 
 pub returns-clause-empty : goal.returns-clause-empty
 returns-clause-empty c shown = c.ic_stack_remove_after.ensures.nothing [] shown none_named
+
+pub returns-clause-null : goal.returns-clause-null
+returns-clause-null c = let null = rw none_named at c.ic_stack_remove_after.ensures.null in ((λ e. (null.0 e).1), (λ e. null.1 (refl, e)))
+
+pub returns-clause-stands : goal.returns-clause-stands
+returns-clause-stands c made = rw none_named at (c.ic_stack_remove_after.ensures.told made)
+
+pub returns-clause-why : goal.returns-clause-why
+returns-clause-why c refused other = rw none_named at (c.ic_stack_remove_after.ensures.why refused other)

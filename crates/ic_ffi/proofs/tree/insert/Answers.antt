@@ -15,34 +15,40 @@ use Rattle.ic_ffi.proofs.tree.insert.Goals as goal
 pub attach-requires : goal.attach-requires
 attach-requires c =
     let old = lent_table c.args.links.now in
-    let mid = lent_table c.acquire-status.new.self in
+    let mid = lent_table c.acquire.new.self in
     let law = in_range c.args.links.now in
-    let ok = c.if-status-ne-OK.false in
-    let extent = (c.acquire-status.ensures.frame c.if-status-ne-OK-2.false).extent in (
+    let ok = c.if-not-is_hole.false in
+    let taken = c.in-Some.is in
+    let extent = (c.acquire.ensures.frame _ taken).extent in (
       has_place mid,
-      weaker seen_node (closed mid _ (in_kept old mid _ extent (end_in old law _ (c.hole-status.ensures.root ok)))) (Some c.in-Some.place),
-      (has mid (in_range c.acquire-status.new.self) c.in-Some.place (c.acquire-status.ensures.linked c.if-status-ne-OK-2.false), (in_kept old mid c.args.at extent (end_in old law _ (c.hole-status.ensures.at ok)), tt)),
+      weaker seen_node (closed mid _ (in_kept old mid _ extent (end_in old law _ (c.is_hole.ensures.root ok)))) (Some c.in-Some.place),
+      (has mid (in_range c.acquire.new.self) c.in-Some.place (c.acquire.ensures.linked _ taken), (in_kept old mid c.args.at extent (end_in old law _ (c.is_hole.ensures.at ok)), tt)),
     )
 
 pub returns-clause-inserted : goal.returns-clause-inserted
 returns-clause-inserted c cut p shown at is free =
     let place = c.in-Some.place in
-    let one : p ≡ place = some_same (sym is ∙ c.in-Some.is) in
+    let taken = c.in-Some.is in
+    let one : p ≡ place = some_same (sym is ∙ c.acquire.ensures.same _ taken) in
     let old = lent_table c.args.links.now in
-    let mid = lent_table c.acquire-status.new.self in
+    let mid = lent_table c.acquire.new.self in
     let new = lent_table c.attach.new.nodes in
     let root = c.args.tree.now.root in
-    let was = (c.acquire-status.ensures.free c.if-status-ne-OK-2.false).unlinked in
-    let on = c.acquire-status.ensures.linked c.if-status-ne-OK-2.false in
-    let only = c.acquire-status.ensures.frame c.if-status-ne-OK-2.false in
+    let was = (c.acquire.ensures.free _ taken).unlinked in
+    let on = c.acquire.ensures.linked _ taken in
+    let only = c.acquire.ensures.frame _ taken in
     let beside = acquired_shown node is_linked_three (λ e. refl) old mid root (join cut) place shown was on only in
-    let before = seen_shown mid (in_range c.acquire-status.new.self) (loose place ∷ []) beside (has mid (in_range c.acquire-status.new.self) place on, tt) in
+    let before = seen_shown mid (in_range c.acquire.new.self) (loose place ∷ []) beside (has mid (in_range c.acquire.new.self) place on, tt) in
     let there = hole_kept node is_linked_three (λ e. refl) old mid root c.args.at c.args.side cut place shown was only at in
     let after = c.attach.ensures.attached (seen mid) cut [] before (seen_hole mid c.args.side c.args.at cut there) in
-    rw one (record {
-      accepted = refl;
-      done = record {
+    rw one (
+      refl,
+      record {
         shows = told new (shows_of seen_node after) (λ q m. c.attach.ensures.quiet.marks q ∙ linked_with cut.front place cut.back (shows_of node beside) on (λ z out. out) q m);
         frame = frame_told (inserts seen_node (seen old) (seen mid) (seen new) root _ place cut (seen_changes old mid place only) after).frame;
-      };
-    })
+      },
+    )
+
+pub returns-clause-free : goal.returns-clause-free
+returns-clause-free c made =
+    let taken = c.in-Some.is in (c.in-Some.place, c.acquire.ensures.same _ taken, c.acquire.ensures.free _ taken)

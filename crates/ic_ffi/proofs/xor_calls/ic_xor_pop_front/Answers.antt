@@ -1,15 +1,16 @@
 use Rattle.std.proofs.Common.{◌≡◌, [], refl, sym, ◌∙◌}
 use Rattle.ic_link_ops.proofs.SequenceLemmas.{some_same}
+use Rattle.ic_ffi.proofs.Gaps.{never}
 use Rattle.ic_ffi.proofs.xor_calls.ic_xor_pop_front.Goals as goal
 
-pub returns-then-remove_at-ne-OK-clause-popped : goal.returns-then-remove_at-ne-OK-clause-popped
-returns-then-remove_at-ne-OK-clause-popped c s p shown =
-    let at = sym c.in-Some.is ∙ c.place_in-first.ensures ∙ shown.head in
-    absurd (c.if-remove_at-ne-OK.true (c.remove_at.ensures.removed [] s p refl at shown).accepted)
+pub returns-then-not-take-clause-popped : goal.returns-then-not-take-clause-popped
+returns-then-not-take-clause-popped c s p shown =
+    let one : c.in-Some.member ≡ p = some_same (sym c.in-Some.is ∙ c.place_in.ensures ∙ shown.head) in
+    absurd (never c.if-not-take.true (c.take.ensures.removed [] s refl (rw one shown)).0)
 
 pub returns-clause-popped : goal.returns-clause-popped
 returns-clause-popped c s p shown =
-    let at = sym c.in-Some.is ∙ c.place_in-first.ensures ∙ shown.head in
-    let one : p ≡ c.in-Some.place = some_same (sym at) in
-    let removed = (c.remove_at.ensures.removed [] s p refl at shown).done in
-    record { accepted = refl; done = (removed.0, removed.1, rw one c.number_of.ensures) }
+    let one : p ≡ c.in-Some.member = some_same (sym (c.place_in.ensures ∙ shown.head) ∙ c.in-Some.is) in
+    let same = rw one at shown in
+    let removed = ((c.take.ensures.removed [] s refl same).1 same).done in
+    rw one (record { accepted = refl; done = (removed.0, removed.1, c.number_of.ensures) })

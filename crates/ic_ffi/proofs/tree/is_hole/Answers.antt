@@ -1,0 +1,15 @@
+use Rattle.std.proofs.Common.{is_some, sym, ap, subst, ◌∙◌}
+use Rattle.ic_ffi.specs.Tree.{IsHole, lent_table}
+use Rattle.ic_ffi.proofs.Gaps.{never, not_is}
+use Rattle.ic_ffi.proofs.Trees.{hole_stands, hole_empty}
+use Rattle.ic_ffi.proofs.tree.is_hole.Goals as goal
+
+pub returns-then-not-stand-clause-shown : goal.returns-then-not-stand-clause-shown
+returns-then-not-stand-clause-shown c cut shown at = absurd (never c.if-not-stand.true (c.stand.ensures.shown _ shown (hole_stands c.args.side c.args.at cut shown at)))
+
+pub returns-in-None-clause-shown : goal.returns-in-None-clause-shown
+returns-in-None-clause-shown c cut shown at =
+    let side = c.args.side in
+    let t = lent_table c.args.links.now in
+    let none = c.root.ensures ∙ hole_empty side cut shown (subst (λ o. IsHole side t o cut) c.in-None.is at) in
+    not_is c.is_none.result (sym (ap is_some none) ∙ c.is_none.ensures)
