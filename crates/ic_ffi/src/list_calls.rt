@@ -44,18 +44,17 @@ fn insert_at(table: &mut [RawTwo], list: &mut RawEnds, side: Side, at: u32, plac
     ensures none { place_of place ≡ None → result ≢ 0 }
     ensures stands { result ≡ 0 → StandsIn table.old (place_of at) }
     ensures told { result ≡ 0 → TellsGap side (table_of table.old) (ends_of list.old) (place_of at) }
-    ensures words { list.old ≡ words_of (ends_of list.old) → list.new ≡ words_of (ends_of list.new) }
+    ensures words { result ≡ 0 → list.new ≡ words_of (ends_of list.new) }
     ensures refused { result ≢ 0 → (table.new ≡ table.old) × (list.new ≡ list.old) }
     ensures why { result ≢ 0 → result ≡ refusal (fault_at table.old (place_of at) ∷ fault_of table.old (place_of place) ∷ []) }
     ensures status { IsStatus result }
 {
     let mut links = RawTable::new(table);
-    let was = *list;
-    let mut edited = list_of(&was);
+    let mut edited = list_of(&*list);
     if !list::insert(&mut links, &mut edited, side, place_of(at), place_of(place)) {
         return links.refusal(at, place);
     }
-    list.keep(was, edited.first(), edited.last());
+    list.set(edited.first(), edited.last());
     OK
 }
 
@@ -68,17 +67,16 @@ fn pop(table: &mut [RawTwo], list: &mut RawEnds, side: Side, popped: &mut u32) -
     ensures stands { result ≡ 0 → StandsIn table.old (end_on side (ends_of list.old)) }
     ensures outer { result ≡ 0 → TellsGap side (table_of table.old) (ends_of list.old) None }
     ensures inner { result ≡ 0 → TellsGap side (table_of table.old) (ends_of list.old) (end_on side (ends_of list.old)) }
-    ensures words { list.old ≡ words_of (ends_of list.old) → list.new ≡ words_of (ends_of list.new) }
+    ensures words { result ≡ 0 → list.new ≡ words_of (ends_of list.new) }
     ensures refused { result ≢ 0 → (table.new ≡ table.old) × (list.new ≡ list.old) × (popped.new ≡ popped.old) }
     ensures why { result ≢ 0 → result ≢ 4 → result ≡ 5 }
 {
     let mut links = RawTable::new(table);
-    let was = *list;
-    let mut edited = list_of(&was);
+    let mut edited = list_of(&*list);
     let Some(member) = list::pop(&mut links, &mut edited, side) else {
         return refusal_to_pop(&*list, side);
     };
-    list.keep(was, edited.first(), edited.last());
+    list.set(edited.first(), edited.last());
     *popped = number_of(member);
     OK
 }
@@ -118,19 +116,18 @@ fn splice_at(
     ensures front { result ≡ 0 → TellsGap After (table_of table.old) (ends_of given.old) None }
     ensures back { result ≡ 0 → TellsGap Before (table_of table.old) (ends_of given.old) None }
     ensures apart { result ≡ 0 → (p : Place) → (ends_of given.old).head ≡ Some p → (ends_of list.old).head ≢ Some p }
-    ensures words { list.old ≡ words_of (ends_of list.old) → list.new ≡ words_of (ends_of list.new) }
+    ensures words { result ≡ 0 → list.new ≡ words_of (ends_of list.new) }
     ensures refused { result ≢ 0 → (table.new ≡ table.old) × (list.new ≡ list.old) × (given.new ≡ given.old) }
     ensures why { result ≢ 0 → result ≡ refusal (fault_at table.old (place_of at) ∷ []) }
     ensures status { IsStatus result }
 {
     let mut links = RawTable::new(table);
-    let was = *list;
-    let mut edited = list_of(&was);
+    let mut edited = list_of(&*list);
     let other = list_of(&*given);
     if !list::splice(&mut links, &mut edited, side, place_of(at), other) {
         return links.refusal_at(at);
     }
-    list.keep(was, edited.first(), edited.last());
+    list.set(edited.first(), edited.last());
     given.set(None, None);
     OK
 }
@@ -149,20 +146,19 @@ fn split_at(
     ensures empty { result ≡ 0 → ends_of rest.old ≡ no_members }
     ensures stands { result ≡ 0 → StandsIn table.old (place_of at) }
     ensures told { result ≡ 0 → TellsGap side (table_of table.old) (ends_of list.old) (place_of at) }
-    ensures words { list.old ≡ words_of (ends_of list.old) → list.new ≡ words_of (ends_of list.new) }
+    ensures words { result ≡ 0 → list.new ≡ words_of (ends_of list.new) }
     ensures rest { result ≡ 0 → rest.new ≡ words_of (ends_of rest.new) }
     ensures refused { result ≢ 0 → (table.new ≡ table.old) × (list.new ≡ list.old) × (rest.new ≡ rest.old) }
     ensures why { result ≢ 0 → result ≡ refusal (fault_at table.old (place_of at) ∷ []) }
     ensures status { IsStatus result }
 {
     let mut links = RawTable::new(table);
-    let was = *list;
-    let mut edited = list_of(&was);
+    let mut edited = list_of(&*list);
     let mut part = LinkedList::new();
     if !rest.is_empty() || !list::split(&mut links, &mut edited, side, place_of(at), &mut part) {
         return links.refusal_at(at);
     }
-    list.keep(was, edited.first(), edited.last());
+    list.set(edited.first(), edited.last());
     rest.set(part.first(), part.last());
     OK
 }
@@ -177,7 +173,7 @@ pub extern "C" fn ic_list_push_front(table: &mut [RawTwo], list: &mut RawEnds, p
     ensures free { (p : Place) → place_of place ≡ Some p → result ≡ 0 → FreeIn table.old p }
     ensures none { place_of place ≡ None → result ≢ 0 }
     ensures told { result ≡ 0 → TellsGap After (table_of table.old) (ends_of list.old) None }
-    ensures words { list.old ≡ words_of (ends_of list.old) → list.new ≡ words_of (ends_of list.new) }
+    ensures words { result ≡ 0 → list.new ≡ words_of (ends_of list.new) }
     ensures refused { result ≢ 0 → (table.new ≡ table.old) × (list.new ≡ list.old) }
     ensures why { result ≢ 0 → result ≡ refusal (fault_of table.old (place_of place) ∷ []) }
     ensures status { IsStatus result }
@@ -214,7 +210,7 @@ fn push_back_any(table: &mut [RawTwo], list: &mut RawEnds, place: u32) -> u32
     ensures free { (p : Place) → place_of place ≡ Some p → result ≡ 0 → FreeIn table.old p }
     ensures none { place_of place ≡ None → result ≢ 0 }
     ensures told { result ≡ 0 → TellsGap Before (table_of table.old) (ends_of list.old) None }
-    ensures words { list.old ≡ words_of (ends_of list.old) → list.new ≡ words_of (ends_of list.new) }
+    ensures words { result ≡ 0 → list.new ≡ words_of (ends_of list.new) }
     ensures refused { result ≢ 0 → (table.new ≡ table.old) × (list.new ≡ list.old) }
     ensures why { result ≢ 0 → result ≡ refusal (fault_of table.old (place_of place) ∷ []) }
     ensures status { IsStatus result }
@@ -253,7 +249,7 @@ fn pop_front_any(table: &mut [RawTwo], list: &mut RawEnds, popped: &mut u32) -> 
     ensures stands { result ≡ 0 → StandsIn table.old (ends_of list.old).head }
     ensures outer { result ≡ 0 → TellsGap After (table_of table.old) (ends_of list.old) None }
     ensures inner { result ≡ 0 → TellsGap After (table_of table.old) (ends_of list.old) (ends_of list.old).head }
-    ensures words { list.old ≡ words_of (ends_of list.old) → list.new ≡ words_of (ends_of list.new) }
+    ensures words { result ≡ 0 → list.new ≡ words_of (ends_of list.new) }
     ensures refused { result ≢ 0 → (table.new ≡ table.old) × (list.new ≡ list.old) × (popped.new ≡ popped.old) }
     ensures why { result ≢ 0 → result ≢ 4 → result ≡ 5 }
     ensures status { IsStatus result }
@@ -280,8 +276,7 @@ pub extern "C" fn ic_list_pop_front(
     ensures status { IsStatus result }
 {
     let mut links = RawTable::new(table);
-    let was = *list;
-    let mut edited = list_of(&was);
+    let mut edited = list_of(&*list);
     if let Some(first) = list::pop_before_second(&mut links, &mut edited) {
         list.set_first(edited.first());
         *popped = number_of(first);
@@ -303,7 +298,7 @@ pub extern "C" fn ic_list_pop_back(
     ensures stands { result ≡ 0 → StandsIn table.old (ends_of list.old).tail }
     ensures outer { result ≡ 0 → TellsGap Before (table_of table.old) (ends_of list.old) None }
     ensures inner { result ≡ 0 → TellsGap Before (table_of table.old) (ends_of list.old) (ends_of list.old).tail }
-    ensures words { list.old ≡ words_of (ends_of list.old) → list.new ≡ words_of (ends_of list.new) }
+    ensures words { result ≡ 0 → list.new ≡ words_of (ends_of list.new) }
     ensures refused { result ≢ 0 → (table.new ≡ table.old) × (list.new ≡ list.old) × (popped.new ≡ popped.old) }
     ensures why { result ≢ 0 → result ≢ 4 → result ≡ 5 }
     ensures status { IsStatus result }
@@ -327,7 +322,7 @@ pub extern "C" fn ic_list_insert_after(
     ensures none { place_of place ≡ None → result ≢ 0 }
     ensures stands { result ≡ 0 → StandsIn table.old (place_of at) }
     ensures told { result ≡ 0 → TellsGap After (table_of table.old) (ends_of list.old) (place_of at) }
-    ensures words { list.old ≡ words_of (ends_of list.old) → list.new ≡ words_of (ends_of list.new) }
+    ensures words { result ≡ 0 → list.new ≡ words_of (ends_of list.new) }
     ensures refused { result ≢ 0 → (table.new ≡ table.old) × (list.new ≡ list.old) }
     ensures why { result ≢ 0 → result ≡ refusal (fault_at table.old (place_of at) ∷ fault_of table.old (place_of place) ∷ []) }
     ensures status { IsStatus result }
@@ -351,7 +346,7 @@ pub extern "C" fn ic_list_insert_before(
     ensures none { place_of place ≡ None → result ≢ 0 }
     ensures stands { result ≡ 0 → StandsIn table.old (place_of at) }
     ensures told { result ≡ 0 → TellsGap Before (table_of table.old) (ends_of list.old) (place_of at) }
-    ensures words { list.old ≡ words_of (ends_of list.old) → list.new ≡ words_of (ends_of list.new) }
+    ensures words { result ≡ 0 → list.new ≡ words_of (ends_of list.new) }
     ensures refused { result ≢ 0 → (table.new ≡ table.old) × (list.new ≡ list.old) }
     ensures why { result ≢ 0 → result ≡ refusal (fault_at table.old (place_of at) ∷ fault_of table.old (place_of place) ∷ []) }
     ensures status { IsStatus result }
@@ -369,7 +364,7 @@ fn remove_any(table: &mut [RawTwo], list: &mut RawEnds, at: u32) -> u32
     ensures stands { result ≡ 0 → StandsIn table.old (place_of at) }
     ensures before { result ≡ 0 → TellsGap Before (table_of table.old) (ends_of list.old) (place_of at) }
     ensures behind { result ≡ 0 → TellsGap After (table_of table.old) (ends_of list.old) (place_of at) }
-    ensures words { list.old ≡ words_of (ends_of list.old) → list.new ≡ words_of (ends_of list.new) }
+    ensures words { result ≡ 0 → list.new ≡ words_of (ends_of list.new) }
     ensures refused { result ≢ 0 → (table.new ≡ table.old) × (list.new ≡ list.old) }
     ensures why { result ≢ 0 → result ≢ 4 → result ≡ refusal (fault_at table.old (place_of at) ∷ []) }
     ensures status { IsStatus result }
@@ -378,12 +373,11 @@ fn remove_any(table: &mut [RawTwo], list: &mut RawEnds, at: u32) -> u32
         return NULL;
     };
     let mut links = RawTable::new(table);
-    let was = *list;
-    let mut edited = list_of(&was);
+    let mut edited = list_of(&*list);
     if !list::remove(&mut links, &mut edited, member) {
         return links.refusal_at(at);
     }
-    list.keep(was, edited.first(), edited.last());
+    list.set(edited.first(), edited.last());
     OK
 }
 
@@ -429,7 +423,7 @@ pub extern "C" fn ic_list_replace(
     ensures stands { result ≡ 0 → StandsIn table.old (place_of at) }
     ensures before { result ≡ 0 → TellsGap Before (table_of table.old) (ends_of list.old) (place_of at) }
     ensures behind { result ≡ 0 → TellsGap After (table_of table.old) (ends_of list.old) (place_of at) }
-    ensures words { list.old ≡ words_of (ends_of list.old) → list.new ≡ words_of (ends_of list.new) }
+    ensures words { result ≡ 0 → list.new ≡ words_of (ends_of list.new) }
     ensures refused { result ≢ 0 → (table.new ≡ table.old) × (list.new ≡ list.old) }
     ensures why { result ≢ 0 → result ≢ 4 → result ≡ refusal (fault_at table.old (place_of at) ∷ fault_of table.old (place_of place) ∷ []) }
     ensures status { IsStatus result }
@@ -438,12 +432,11 @@ pub extern "C" fn ic_list_replace(
         return NULL;
     };
     let mut links = RawTable::new(table);
-    let was = *list;
-    let mut edited = list_of(&was);
+    let mut edited = list_of(&*list);
     if !list::replace(&mut links, &mut edited, member, place_of(place)) {
         return links.refusal(at, place);
     }
-    list.keep(was, edited.first(), edited.last());
+    list.set(edited.first(), edited.last());
     OK
 }
 
@@ -465,7 +458,7 @@ pub extern "C" fn ic_list_splice_after(
     ensures front { result ≡ 0 → TellsGap After (table_of table.old) (ends_of given.old) None }
     ensures back { result ≡ 0 → TellsGap Before (table_of table.old) (ends_of given.old) None }
     ensures apart { result ≡ 0 → (p : Place) → (ends_of given.old).head ≡ Some p → (ends_of list.old).head ≢ Some p }
-    ensures words { list.old ≡ words_of (ends_of list.old) → list.new ≡ words_of (ends_of list.new) }
+    ensures words { result ≡ 0 → list.new ≡ words_of (ends_of list.new) }
     ensures refused { result ≢ 0 → (table.new ≡ table.old) × (list.new ≡ list.old) × (given.new ≡ given.old) }
     ensures why { result ≢ 0 → result ≡ refusal (fault_at table.old (place_of at) ∷ []) }
     ensures status { IsStatus result }
@@ -491,7 +484,7 @@ pub extern "C" fn ic_list_splice_before(
     ensures front { result ≡ 0 → TellsGap After (table_of table.old) (ends_of given.old) None }
     ensures back { result ≡ 0 → TellsGap Before (table_of table.old) (ends_of given.old) None }
     ensures apart { result ≡ 0 → (p : Place) → (ends_of given.old).head ≡ Some p → (ends_of list.old).head ≢ Some p }
-    ensures words { list.old ≡ words_of (ends_of list.old) → list.new ≡ words_of (ends_of list.new) }
+    ensures words { result ≡ 0 → list.new ≡ words_of (ends_of list.new) }
     ensures refused { result ≢ 0 → (table.new ≡ table.old) × (list.new ≡ list.old) × (given.new ≡ given.old) }
     ensures why { result ≢ 0 → result ≡ refusal (fault_at table.old (place_of at) ∷ []) }
     ensures status { IsStatus result }
@@ -514,7 +507,7 @@ pub extern "C" fn ic_list_split_after(
     ensures empty { result ≡ 0 → ends_of rest.old ≡ no_members }
     ensures stands { result ≡ 0 → StandsIn table.old (place_of at) }
     ensures told { result ≡ 0 → TellsGap After (table_of table.old) (ends_of list.old) (place_of at) }
-    ensures words { list.old ≡ words_of (ends_of list.old) → list.new ≡ words_of (ends_of list.new) }
+    ensures words { result ≡ 0 → list.new ≡ words_of (ends_of list.new) }
     ensures rest { result ≡ 0 → rest.new ≡ words_of (ends_of rest.new) }
     ensures refused { result ≢ 0 → (table.new ≡ table.old) × (list.new ≡ list.old) × (rest.new ≡ rest.old) }
     ensures why { result ≢ 0 → result ≡ refusal (fault_at table.old (place_of at) ∷ []) }
@@ -538,7 +531,7 @@ pub extern "C" fn ic_list_split_before(
     ensures empty { result ≡ 0 → ends_of rest.old ≡ no_members }
     ensures stands { result ≡ 0 → StandsIn table.old (place_of at) }
     ensures told { result ≡ 0 → TellsGap Before (table_of table.old) (ends_of list.old) (place_of at) }
-    ensures words { list.old ≡ words_of (ends_of list.old) → list.new ≡ words_of (ends_of list.new) }
+    ensures words { result ≡ 0 → list.new ≡ words_of (ends_of list.new) }
     ensures rest { result ≡ 0 → rest.new ≡ words_of (ends_of rest.new) }
     ensures refused { result ≢ 0 → (table.new ≡ table.old) × (list.new ≡ list.old) × (rest.new ≡ rest.old) }
     ensures why { result ≢ 0 → result ≡ refusal (fault_at table.old (place_of at) ∷ []) }

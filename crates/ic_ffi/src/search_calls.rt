@@ -42,18 +42,17 @@ pub extern "C" fn ic_tree_insert(
     ensures none { place_of place ≡ None → result ≢ 0 }
     ensures keys { result ≡ 0 → length table.old ≤ length keys.now }
     ensures root { result ≡ 0 → StandsIn table.old (root_in tree.old) }
-    ensures words { tree.old ≡ word_of_root (root_in tree.old) → tree.new ≡ word_of_root (root_in tree.new) }
+    ensures words { result ≡ 0 → tree.new ≡ word_of_root (root_in tree.new) }
     ensures refused { result ≢ 0 → (table.new ≡ table.old) × (tree.new ≡ tree.old) }
     ensures why { result ≢ 0 → result ≡ refusal (keys_fault keys.now (length table.old) ∷ fault_of table.old (place_of place) ∷ []) }
     ensures status { IsStatus result }
 {
     let mut links = RawTable::new(table);
-    let was = *tree;
-    let mut edited = tree_of(&was);
+    let mut edited = tree_of(&*tree);
     if !search::insert(&mut links, &mut edited, keys, place_of(place)) {
         return search::refusal_of(&links, keys, place);
     }
-    tree.keep(was, edited.root());
+    tree.set(edited.root());
     OK
 }
 

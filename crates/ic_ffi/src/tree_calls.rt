@@ -45,18 +45,17 @@ fn insert_at(table: &mut [RawThree], tree: &mut RawRoot, side: Side, at: u32, pl
     ensures stands { result ≡ 0 → StandsIn table.old (place_of at) }
     ensures root { result ≡ 0 → StandsIn table.old (root_in tree.old) }
     ensures told { result ≡ 0 → TellsHole side (table_of table.old) (root_in tree.old) (place_of at) }
-    ensures words { tree.old ≡ word_of_root (root_in tree.old) → tree.new ≡ word_of_root (root_in tree.new) }
+    ensures words { result ≡ 0 → tree.new ≡ word_of_root (root_in tree.new) }
     ensures refused { result ≢ 0 → (table.new ≡ table.old) × (tree.new ≡ tree.old) }
     ensures why { result ≢ 0 → result ≡ refusal (fault_at table.old (place_of at) ∷ fault_of table.old (place_of place) ∷ []) }
     ensures status { IsStatus result }
 {
     let mut links = RawTable::new(table);
-    let was = *tree;
-    let mut edited = tree_of(&was);
+    let mut edited = tree_of(&*tree);
     if !tree::insert(&mut links, &mut edited, side, place_of(at), place_of(place)) {
         return links.refusal(at, place);
     }
-    tree.keep(was, edited.root());
+    tree.set(edited.root());
     OK
 }
 
@@ -78,7 +77,7 @@ pub extern "C" fn ic_tree_insert_left(
     ensures stands { result ≡ 0 → StandsIn table.old (place_of at) }
     ensures root { result ≡ 0 → StandsIn table.old (root_in tree.old) }
     ensures told { result ≡ 0 → TellsHole Left (table_of table.old) (root_in tree.old) (place_of at) }
-    ensures words { tree.old ≡ word_of_root (root_in tree.old) → tree.new ≡ word_of_root (root_in tree.new) }
+    ensures words { result ≡ 0 → tree.new ≡ word_of_root (root_in tree.new) }
     ensures refused { result ≢ 0 → (table.new ≡ table.old) × (tree.new ≡ tree.old) }
     ensures why { result ≢ 0 → result ≡ refusal (fault_at table.old (place_of at) ∷ fault_of table.old (place_of place) ∷ []) }
     ensures status { IsStatus result }
@@ -104,7 +103,7 @@ pub extern "C" fn ic_tree_insert_right(
     ensures stands { result ≡ 0 → StandsIn table.old (place_of at) }
     ensures root { result ≡ 0 → StandsIn table.old (root_in tree.old) }
     ensures told { result ≡ 0 → TellsHole Right (table_of table.old) (root_in tree.old) (place_of at) }
-    ensures words { tree.old ≡ word_of_root (root_in tree.old) → tree.new ≡ word_of_root (root_in tree.new) }
+    ensures words { result ≡ 0 → tree.new ≡ word_of_root (root_in tree.new) }
     ensures refused { result ≢ 0 → (table.new ≡ table.old) × (tree.new ≡ tree.old) }
     ensures why { result ≢ 0 → result ≡ refusal (fault_at table.old (place_of at) ∷ fault_of table.old (place_of place) ∷ []) }
     ensures status { IsStatus result }
@@ -120,7 +119,7 @@ pub extern "C" fn ic_tree_remove(table: &mut [RawThree], tree: &mut RawRoot, at:
     ensures null { (result ≡ 4) ↔ (place_of at ≡ None) }
     ensures stands { result ≡ 0 → StandsIn table.old (place_of at) }
     ensures root { result ≡ 0 → StandsIn table.old (root_in tree.old) }
-    ensures words { tree.old ≡ word_of_root (root_in tree.old) → tree.new ≡ word_of_root (root_in tree.new) }
+    ensures words { result ≡ 0 → tree.new ≡ word_of_root (root_in tree.new) }
     ensures refused { result ≢ 0 → (table.new ≡ table.old) × (tree.new ≡ tree.old) }
     ensures why { result ≢ 0 → result ≢ 4 → result ≡ refusal (fault_at table.old (place_of at) ∷ []) }
     ensures status { IsStatus result }
@@ -129,12 +128,11 @@ pub extern "C" fn ic_tree_remove(table: &mut [RawThree], tree: &mut RawRoot, at:
         return NULL;
     };
     let mut links = RawTable::new(table);
-    let was = *tree;
-    let mut edited = tree_of(&was);
+    let mut edited = tree_of(&*tree);
     if !tree::remove(&mut links, &mut edited, member) {
         return links.refusal_at(at);
     }
-    tree.keep(was, edited.root());
+    tree.set(edited.root());
     OK
 }
 
@@ -155,7 +153,7 @@ pub extern "C" fn ic_tree_replace(
     ensures null { (result ≡ 4) ↔ (place_of at ≡ None) }
     ensures stands { result ≡ 0 → StandsIn table.old (place_of at) }
     ensures root { result ≡ 0 → StandsIn table.old (root_in tree.old) }
-    ensures words { tree.old ≡ word_of_root (root_in tree.old) → tree.new ≡ word_of_root (root_in tree.new) }
+    ensures words { result ≡ 0 → tree.new ≡ word_of_root (root_in tree.new) }
     ensures refused { result ≢ 0 → (table.new ≡ table.old) × (tree.new ≡ tree.old) }
     ensures why { result ≢ 0 → result ≢ 4 → result ≡ refusal (fault_at table.old (place_of at) ∷ fault_of table.old (place_of place) ∷ []) }
     ensures status { IsStatus result }
@@ -164,12 +162,11 @@ pub extern "C" fn ic_tree_replace(
         return NULL;
     };
     let mut links = RawTable::new(table);
-    let was = *tree;
-    let mut edited = tree_of(&was);
+    let mut edited = tree_of(&*tree);
     if !tree::replace(&mut links, &mut edited, member, place_of(place)) {
         return links.refusal(at, place);
     }
-    tree.keep(was, edited.root());
+    tree.set(edited.root());
     OK
 }
 

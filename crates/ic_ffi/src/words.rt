@@ -293,17 +293,6 @@ impl RawFront {
 }
 
 impl RawEnds {
-    // Keeps these ends, and writes those that are others than in the words of before.
-    #[inline]
-    pub(crate) fn keep(&mut self, was: RawEnds, first: Option<Place>, last: Option<Place>)
-        requires { was ≡ self.old }
-        ensures kept { ends_of self.new ≡ record { head = first; tail = last } }
-        ensures words { self.old ≡ words_of (ends_of self.old) → self.new ≡ words_of (ends_of self.new) }
-    {
-        keep(&mut self.head, was.head, first);
-        keep(&mut self.tail, was.tail, last);
-    }
-
     // Writes this last place, and leaves the first as it is.
     #[inline]
     #[tactic(auto, using(crate::proofs::Entries::place_kept))]
@@ -331,8 +320,10 @@ impl RawEnds {
         ensures set { ends_of self.new ≡ record { head = first; tail = last } }
         ensures words { self.new ≡ words_of (ends_of self.new) }
     {
-        self.head = Place::to_word(first);
-        self.tail = Place::to_word(last);
+        *self = RawEnds {
+            head: Place::to_word(first),
+            tail: Place::to_word(last),
+        };
     }
 
     // Whether these are the ends of a list with no members.
@@ -345,27 +336,13 @@ impl RawEnds {
 }
 
 impl RawRoot {
-    // Keeps this root, and writes it where it is another one than in the word of before.
+    // Writes this root.
     #[inline]
-    pub(crate) fn keep(&mut self, was: RawRoot, root: Option<Place>)
-        requires { was ≡ self.old }
-        ensures kept { root_in self.new ≡ root }
-        ensures words { self.old ≡ word_of_root (root_in self.old) → self.new ≡ word_of_root (root_in self.new) }
+    #[tactic(auto, using(crate::proofs::Entries::place_kept))]
+    pub(crate) fn set(&mut self, root: Option<Place>)
+        ensures set { root_in self.new ≡ root }
+        ensures words { self.new ≡ word_of_root (root_in self.new) }
     {
-        keep(&mut self.root, was.root, root);
+        self.root = Place::to_word(root);
     }
-}
-
-// Lets the word, which is that of before, name this place. It is written where it names another one.
-#[inline]
-#[tactic(auto, using(crate::proofs::Entries::place_kept))]
-fn keep(word: &mut u64, was: u64, place: Option<Place>)
-    requires { was ≡ word.old }
-    ensures kept { place_in word.new ≡ place }
-    ensures word { word.old ≡ word_of (place_in word.old) → word.new ≡ word_of (place_in word.new) }
-{
-    if Place::to_word(place_in(was)) == Place::to_word(place) {
-        return;
-    }
-    *word = Place::to_word(place);
 }

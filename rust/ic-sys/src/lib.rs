@@ -1,4 +1,4 @@
-//! The library for C as `include/ic.h` declares it, with its machine code, which is assembly text in `asm`. The header says what each call
+//! The library for C as `include/ic.h` declares it, with its machine code, which is assembly text. The header says what each call
 //! does; the crate `ic` has safe types.
 //!
 //! A call requires that `table` points to `places` links, `keys` to `key_count` keys, and each other pointer to one value of its type, that
