@@ -100,7 +100,7 @@ fn refusal_to_pop(list: &RawEnds, side: Side) -> u32
 }
 
 // Puts all of the given list into the gap beside a place.
-#[inline]
+#[inline(always)]
 fn splice_at(
     table: &mut [RawTwo],
     list: &mut RawEnds,

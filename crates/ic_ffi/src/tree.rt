@@ -76,7 +76,7 @@ fn is_hole(links: &RawTable<'_, RawThree>, tree: &Tree, side: Side, at: Option<P
 }
 
 // Puts the place in on this side of a member, at none as the only one, and says whether it could.
-#[inline]
+#[inline(always)]
 pub(crate) fn insert(
     links: &mut RawTable<'_, RawThree>,
     tree: &mut Tree,
@@ -176,7 +176,7 @@ pub(crate) fn hand_out(
 }
 
 // Hands out the member on this side of another one, from none the outermost one on the other side.
-#[inline]
+#[inline(always)]
 pub(crate) fn step(
     links: &RawTable<'_, RawThree>,
     tree: &Tree,

@@ -171,7 +171,7 @@ pub extern "C" fn ic_tree_replace(
 }
 
 // Hands out the member on this side of another one, from none the outermost one on the other side.
-#[inline]
+#[inline(always)]
 fn step_at(table: &mut [RawThree], tree: &RawRoot, side: Side, at: u32, found: &mut u32) -> u32
     ensures found { (cut : Cut) (member : Option Place) → IsBeside side cut (place_of at) → IsBeside (across side) cut member
         → ShowsTree table.old tree.now (join cut) → IsFound member result found.new }
