@@ -7,6 +7,8 @@ import subprocess
 
 ROOT = pathlib.Path(__file__).resolve().parent.parent
 TESTS = ROOT / "tests/library"
+# The examples that need POSIX and robust locks, which tell that their holder has died.
+POSIX = {"shared.c"}
 WARNINGS = ["-Wall", "-Wextra", "-Wpedantic", "-Wshadow", "-Wconversion", "-Werror"]
 
 
@@ -44,7 +46,8 @@ def compilers():
 
 def build(compiler, source, target, code, include=ROOT / "include"):
     """What is wrong with building the program with the library's code. The compiler is a list of words."""
-    return run([*compiler, "-std=c11", "-O2", *WARNINGS, f"-I{include}", source, code, "-o", target])[1]
+    threads = ["-pthread"] if source.name in POSIX else []
+    return run([*compiler, "-std=c11", "-O2", *WARNINGS, *threads, f"-I{include}", source, code, "-o", target])[1]
 
 
 def runs(program, source, runner=()):
@@ -53,5 +56,6 @@ def runs(program, source, runner=()):
     return wrong or (printed.replace("\r\n", "\n") != source.with_suffix(".stdout").read_text() and f"printed\n{printed}")
 
 
-def examples():
-    return sorted((ROOT / "examples").glob("*.c"))
+def examples(posix=True):
+    """The examples in C, with those that need POSIX or without them."""
+    return [source for source in sorted((ROOT / "examples").glob("*.c")) if posix or source.name not in POSIX]
