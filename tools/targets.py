@@ -22,13 +22,13 @@ HEADER = ROOT / "include/ic.h"
 Target = collections.namedtuple("Target", "triple module attributes flags words comment")
 BRANCHES = ("cf-protection-branch", "cf-protection-return")
 TARGETS = {
-    "x86_64-linux": Target("x86_64-unknown-linux-gnu", None, "noredzone uwtable", BRANCHES, (), "#"),
-    "aarch64-linux": Target("aarch64-unknown-linux-gnu", None, 'uwtable "branch-target-enforcement"', ("branch-target-enforcement",),
-                            ("-ffixed-x18",), "//"),
+    "x86_64-linux": Target("x86_64-unknown-linux-gnu", None, "noredzone noimplicitfloat uwtable", BRANCHES, (), "#"),
+    "aarch64-linux": Target("aarch64-unknown-linux-gnu", None, 'noimplicitfloat uwtable "branch-target-enforcement"',
+                            ("branch-target-enforcement",), ("-ffixed-x18",), "//"),
     "wasm64": Target("wasm64-unknown-unknown", None, "", (), (), "#"),
-    "x86_64-macos": Target("x86_64-apple-macos11", "x86_64-linux", "noredzone uwtable", (), (), "##"),
-    "aarch64-macos": Target("arm64-apple-macos11", "aarch64-linux", "uwtable", (), (), ";"),
-    "x86_64-windows": Target("x86_64-pc-windows-gnu", "x86_64-linux", "noredzone", (), (), "#"),
+    "x86_64-macos": Target("x86_64-apple-macos11", "x86_64-linux", "noredzone noimplicitfloat uwtable", (), (), "##"),
+    "aarch64-macos": Target("arm64-apple-macos11", "aarch64-linux", "noimplicitfloat uwtable", (), (), ";"),
+    "x86_64-windows": Target("x86_64-pc-windows-gnu", "x86_64-linux", "noredzone noimplicitfloat", (), (), "#"),
     # The module of wasm64 reads its stack pointer as 64 bits.
     "wasm32": Target("wasm32-unknown-unknown", "x86_64-linux", "", (), (), "#"),
 }
