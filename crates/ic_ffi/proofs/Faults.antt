@@ -1,11 +1,15 @@
 -- Why a call is refused, as it tests one place after another.
-use Rattle.std.proofs.Common.{◌≡◌, ◌≢◌, ℕ, zero, suc, Bool, cond, nat_lt, List, ◌∷◌, Option, Some, None, refl, sym, ap, ◌∙◌}
+use Rattle.std.proofs.Common.{◌≡◌, ◌≢◌, ℕ, zero, suc, Bool, cond, nat_lt, List, [], ◌∷◌, Option, Some, None, refl, sym, ap, subst, ◌∙◌}
 use Rattle.ic_unsafe_ref.specs.declared.place.Place.{Place}
 use Rattle.ic_unsafe_ref.specs.Places.{index_of}
+use Rattle.ic_link_ops.specs.PlainTables.{table_of}
 use Rattle.ic_link_ops.specs.Tables.{Table}
+use Rattle.ic_ffi.specs.declared.table.RawTable.{RawTable}
 use Rattle.ic_ffi.specs.Answers.{refusal}
 use Rattle.ic_ffi.specs.Gaps.{Stands}
-use Rattle.ic_ffi.specs.Tables.{member_fault}
+use Rattle.ic_ffi.specs.Tables.{raw_table, member_fault, place_fault}
+use Rattle.ic_ffi.specs.Words.{place_of}
+use Rattle.ic_ffi.proofs.Numbers.{none_named}
 
 -- by the first fault,
 pub by_first : {n m : ℕ} (faults : List ℕ) → n ≡ m → n ≢ 0 → n ≡ refusal (m ∷ faults)
@@ -20,3 +24,16 @@ by_others {n} {m} faults e none = ap (λ k. refusal (k ∷ faults)) (sym none �
 pub faultless : {W : Type 0} (is_linked : W → Bool) (t : Table W) (at : Option Place) → Stands is_linked t at → member_fault is_linked t at ≡ 0
 faultless is_linked t None stands = refl
 faultless is_linked t (Some p) stands = ap (λ b. cond b 0 (cond (nat_lt (index_of p) t.extent.places) 3 1)) (stands p refl)
+
+-- at an end a place has no fault but its own: that of the view is that of the words that were lent
+module _ {W : Type 0} (is_linked : W → Bool) (unlinked : W) (t : RawTable W) where
+  place_fault_back : (place : Option Place) → place_fault is_linked (raw_table unlinked t) place ≡ place_fault is_linked (table_of unlinked t.entries.now) place
+  place_fault_back None = refl
+  place_fault_back (Some p) = refl
+
+  pub end_fault : {es : List W} (place : Option Place) {n : ℕ} → t.entries.now ≡ es
+      → n ≡ refusal (member_fault is_linked (raw_table unlinked t) (place_of 4294967295) ∷ place_fault is_linked (raw_table unlinked t) place ∷ [])
+      → n ≡ refusal (place_fault is_linked (table_of unlinked es) place ∷ [])
+  end_fault place {n} e why =
+      let alone = subst (λ at. n ≡ refusal (member_fault is_linked (raw_table unlinked t) at ∷ place_fault is_linked (raw_table unlinked t) place ∷ [])) none_named why in
+      rw (← e) (alone ∙ ap (λ m. refusal (m ∷ [])) (place_fault_back place))

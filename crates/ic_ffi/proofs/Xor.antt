@@ -1,5 +1,5 @@
 -- What calls of an XOR list read of what is shown.
-use Rattle.std.proofs.Common.{◌≡◌, ℕ, nat_eq, true, Option, Some, None, List, [], ◌∷◌, ◌++◌, drop, reverse, refl, sym, ap, subst, ◌∙◌, append_assoc, append-nil}
+use Rattle.std.proofs.Common.{◌≡◌, ℕ, nat_eq, true, Option, Some, None, List, [], ◌∷◌, ◌++◌, drop, reverse, refl, sym, ap, ◌∙◌, append_assoc, append-nil}
 use Rattle.std.proofs.lemmas.Bool.{eq-eqb}
 use Rattle.ic_unsafe_ref.specs.declared.place.Place.{Place}
 use Rattle.ic_unsafe_ref.specs.Places.{word_of}
@@ -11,31 +11,15 @@ use Rattle.ic_link_ops.proofs.SequenceLemmas.{first_of_back, last_of_front, last
 use Rattle.ic_link_ops.proofs.ShownLists.{shows_middle, shows_reversed, before_gap, behind_gap, gap_linked, gap_behind_linked}
 use Rattle.ic_link_ops.proofs.XorLists.{joined_linked, joined_symmetric}
 use Rattle.ic_ffi.specs.declared.words.RawOne.{RawOne}
-use Rattle.ic_ffi.specs.declared.table.RawTable.{RawTable}
-use Rattle.ic_ffi.specs.Words.{is_linked_one, next_of_one, place_of}
-use Rattle.ic_ffi.specs.Answers.{refusal}
+use Rattle.ic_ffi.specs.Words.{is_linked_one, next_of_one}
 use Rattle.ic_ffi.specs.Gaps.{Stands}
-use Rattle.ic_ffi.specs.Tables.{member_fault, place_fault}
-use Rattle.ic_ffi.specs.Singly.{lent_table}
-use Rattle.ic_ffi.specs.Xor.{Shows, Joins, GoesOn, Faces, TellsGap, TellsMember, TellsEnds, fault_of, other}
+use Rattle.ic_ffi.specs.Xor.{Shows, Joins, GoesOn, Faces, TellsGap, TellsMember, TellsEnds, other}
 use Rattle.ic_ffi.proofs.Entries.{same_word}
-use Rattle.ic_ffi.proofs.Numbers.{none_named}
 use Rattle.ic_ffi.proofs.Lists.{before_stands, behind_stands}
 
 -- two words are the same exactly if their places are
 pub words_tell : {a b : Option Place} {v w : ℕ} → v ≡ word_of a → w ≡ word_of b → (nat_eq v w ≡ true → a ≡ b) × (a ≡ b → nat_eq v w ≡ true)
 words_tell {a} {b} {v} {w} e f = (same_word a b e f, λ same. eq-eqb v w (e ∙ ap word_of same ∙ sym f))
-
--- at an end of a list a place has no fault but its own: that of the view is that of the words that were lent
-place_fault_back : (t : RawTable RawOne) (place : Option Place) → place_fault is_linked_one (lent_table t) place ≡ fault_of t.entries.now place
-place_fault_back t None = refl
-place_fault_back t (Some p) = refl
-
-pub end_fault : (t : RawTable RawOne) {es : List RawOne} (place : Option Place) {n : ℕ} → t.entries.now ≡ es
-    → n ≡ refusal (member_fault is_linked_one (lent_table t) (place_of 4294967295) ∷ place_fault is_linked_one (lent_table t) place ∷ []) → n ≡ refusal (fault_of es place ∷ [])
-end_fault t place {n} e why =
-    let alone = subst (λ at. n ≡ refusal (member_fault is_linked_one (lent_table t) at ∷ place_fault is_linked_one (lent_table t) place ∷ [])) none_named why in
-    rw (← e) (alone ∙ ap (λ m. refusal (m ∷ [])) (place_fault_back t place))
 
 -- either neighbor tells the other
 other_behind : (e : RawOne) (a b : Option Place) → Joins e a b → other e a ≡ b

@@ -19,7 +19,7 @@ ghost use Rattle.ic_ffi.specs.Answers.{IsStatus, refusal};
 use crate::number::{number_of, place_in, place_of};
 use crate::stack;
 use crate::status::{NONE, NULL, OK};
-use crate::table::RawTable;
+use crate::table::{RawTable, refusal_at_end};
 use crate::words::{RawFront, RawOne};
 use ic_singly_linked_list::SinglyLinkedList;
 
@@ -46,7 +46,29 @@ pub extern "C" fn ic_stack_push_front(table: &mut [RawOne], list: &mut RawFront,
     ensures why { result ≢ 0 → result ≡ refusal (fault_of table.old (place_of place) ∷ []) }
     ensures status { IsStatus result }
 {
-    ic_stack_insert_after(table, list, NONE, place)
+    let mut links = RawTable::new(table);
+    let mut edited = stack_of(&*list);
+    if !stack::insert(&mut links, &mut edited, None, place_of(place)) {
+        return refusal_at_end(links.entries, place);
+    }
+    list.set(edited.first());
+    OK
+}
+
+// Takes the first member off any list, or says why not.
+#[cold]
+#[inline(never)]
+fn pop_front_any(table: &mut [RawOne], list: &mut RawFront, popped: &mut u32) -> u32
+    ensures popped { (s : List Place) (p : Place) → Popped table.old table.new list.old list.new result popped.new p [] s }
+    ensures empty { ShowsList table.old list.old [] → result ≡ 4 }
+    ensures null { (result ≡ 4) ↔ (front_of list.old ≡ None) }
+    ensures stands { result ≡ 0 → StandsIn table.old (front_of list.old) }
+    ensures words { result ≡ 0 → list.new ≡ word_of_front (front_of list.new) }
+    ensures refused { result ≢ 0 → (table.new ≡ table.old) × (list.new ≡ list.old) × (popped.new ≡ popped.old) }
+    ensures why { result ≢ 0 → result ≢ 4 → result ≡ 5 }
+    ensures status { IsStatus result }
+{
+    ic_stack_remove_after(table, list, NONE, popped)
 }
 
 /// Takes the first member off and hands it out, or returns [`NULL`] where there is none. O(1).
@@ -67,7 +89,17 @@ pub extern "C" fn ic_stack_pop_front(
     ensures why { result ≢ 0 → result ≢ 4 → result ≡ 5 }
     ensures status { IsStatus result }
 {
-    ic_stack_remove_after(table, list, NONE, popped)
+    let mut links = RawTable::new(table);
+    let mut edited = stack_of(&*list);
+    if let Some(member) = edited.first() {
+        if links.is_linked(member) {
+            stack::remove(&mut links, &mut edited, None, member);
+            list.set(edited.first());
+            *popped = number_of(member);
+            return OK;
+        }
+    }
+    pop_front_any(links.entries, list, popped)
 }
 
 /// Puts a place behind the member `at`, at [`NONE`] in front of all. O(1).

@@ -7,6 +7,7 @@
 
 ghost use Rattle.std.specs.Prelude.{◌≡◌, ◌≢◌, ◌↔◌, ◌∷◌, [], Some, None, true, IsTrue};
 ghost use Rattle.ic_unsafe_ref.specs.declared.place.Place.{Place};
+ghost use Rattle.ic_link_ops.specs.PlainTables.{table_of};
 ghost use Rattle.ic_link_ops.specs.Tables.{IsCovered, IsLinked, ChangesOnly};
 ghost use Rattle.ic_ffi.specs.Tables.{IsView, IsFree, raw_table, member_fault, place_fault};
 ghost use Rattle.ic_ffi.specs.Gaps.{Stands};
@@ -14,7 +15,7 @@ ghost use Rattle.ic_ffi.specs.Answers.{refusal};
 ghost use Rattle.ic_ffi.specs.Words.{place_of};
 
 use crate::number::place_of;
-use crate::status::{BROKEN, LINKED, NOT_LINKED, OK, OUT_OF_RANGE};
+use crate::status::{BROKEN, LINKED, NONE, NOT_LINKED, OK, OUT_OF_RANGE};
 use ic_link_ops::linked_list::LinkedListOps;
 use ic_link_ops::singly_linked_list::SinglyLinkedListOps;
 use ic_link_ops::xor_linked_list::XorLinkedListOps;
@@ -61,7 +62,8 @@ impl<W: Words> RawTable<'_, W> {
     pub fn covers(&self, place: Place) -> bool
         ensures { IsTrue result ↔ IsCovered (raw_table W.unlinked self.now) place }
     {
-        place.index() < self.places()
+        // An index counts from 0, a word from 1: so stated, the test takes an instruction less.
+        place.index() + 1 <= self.places()
     }
 
     // The words of `place`.
@@ -182,6 +184,19 @@ impl<W: Words> RawTable<'_, W> {
         }
         BROKEN
     }
+}
+
+/// Why `place` does not go in at an end: by its fault, or as [`BROKEN`]. O(1).
+///
+/// It takes the words, which stay as they are, and not the view, so that the call that is refused keeps no view in memory.
+#[cold]
+#[inline(never)]
+pub(crate) fn refusal_at_end<W: Words>(words: &mut [W], place: u32) -> u32
+    ensures refusal { result ≡ refusal (place_fault W.is_linked (table_of W.unlinked words.old) (place_of place) ∷ []) }
+    ensures refused { (result ≢ 0) × (result ≢ 4) }
+    ensures kept { words.new ≡ words.old }
+{
+    RawTable::new(words).refusal(NONE, place)
 }
 
 impl<W: Words> LinkOps for RawTable<'_, W> {

@@ -14,7 +14,7 @@ ghost use Rattle.ic_link_ops.specs.Sequences.{Cut, join, at_front, at_back, firs
 ghost use Rattle.ic_link_ops.specs.Tables.{Table};
 ghost use Rattle.ic_link_ops.specs.Chains.{no_members};
 ghost use Rattle.ic_ffi.specs.declared.words.RawOne.{RawOne};
-ghost use Rattle.ic_ffi.specs.Words.{place_of, is_linked_one};
+ghost use Rattle.ic_ffi.specs.Words.{place_in, place_of, is_linked_one};
 ghost use Rattle.ic_ffi.specs.Tables.{member_fault, place_fault};
 ghost use Rattle.ic_ffi.specs.Doubly.{ends_of, words_of};
 ghost use Rattle.ic_ffi.specs.Singly.{table_of, lent_table};
@@ -22,10 +22,11 @@ ghost use Rattle.ic_ffi.specs.Xor.{Shows, ShowsList, FreeIn, StandsIn, TellsGap,
 ghost use Rattle.ic_ffi.specs.Answers.{IsStatus, refusal};
 
 use crate::number::{number_of, place_in, place_of};
-use crate::status::{BROKEN, NONE, NULL, OK};
-use crate::table::RawTable;
+use crate::status::{BROKEN, NULL, OK};
+use crate::table::{RawTable, refusal_at_end};
 use crate::words::{RawEnds, RawOne};
 use crate::xor_list;
+use ic_link_ops::xor_linked_list::XorLinkedListOps;
 use ic_unsafe_ref::Place;
 use ic_xor_linked_list::XorLinkedList;
 use std::mem;
@@ -99,6 +100,51 @@ fn put(
     true
 }
 
+// Whether `end` is a linked place with a linked neighbor, as both ends of a list of two members or more are. Where calls know that, what they
+// test and write besides is little. What they do rests on their own tests.
+#[inline(always)]
+fn has_neighbor(table: &mut [RawOne], end: Option<Place>) -> bool
+    ensures kept { table.new ≡ table.old }
+{
+    let Some(end) = end else {
+        return false;
+    };
+    let links = RawTable::new(table);
+    if !links.is_linked(end) {
+        return false;
+    }
+    let Some(neighbor) = links.next(end, None) else {
+        return false;
+    };
+    links.is_linked(neighbor)
+}
+
+// Puts a place between the two neighbors that these words name, one of which is none, or says why not.
+#[cold]
+#[inline(never)]
+fn put_any(table: &mut [RawOne], list: &mut RawEnds, place: u32, before: u64, behind: u64) -> u32
+    ensures inserted { (cut : Cut) (p : Place) → IsAfter cut (place_in before) → IsBefore cut (place_in behind) → place_of place ≡ Some p
+        → Inserted table.old table.new list.old list.new result cut p }
+    ensures free { (p : Place) → place_of place ≡ Some p → result ≡ 0 → FreeIn table.old p }
+    ensures none { place_of place ≡ None → result ≢ 0 }
+    ensures told { result ≡ 0 → TellsGap (table_of table.old) (ends_of list.old) (place_in before) (place_in behind) }
+    ensures words { result ≡ 0 → list.new ≡ words_of (ends_of list.new) }
+    ensures refused { result ≢ 0 → (table.new ≡ table.old) × (list.new ≡ list.old) }
+    ensures why { result ≢ 0 → result ≡ refusal (fault_of table.old (place_of place) ∷ []) }
+    ensures status { IsStatus result }
+{
+    if !put(
+        table,
+        list,
+        place_in(before),
+        place_of(place),
+        place_in(behind),
+    ) {
+        return refusal_at_end(table, place);
+    }
+    OK
+}
+
 /// Puts a place in front of all members. O(1).
 ///
 /// The place has to be one of the table, and not linked. Where the first member is none of the table, it returns [`BROKEN`].
@@ -114,11 +160,12 @@ pub extern "C" fn ic_xor_push_front(table: &mut [RawOne], list: &mut RawEnds, pl
     ensures why { result ≢ 0 → result ≡ refusal (fault_of table.old (place_of place) ∷ []) }
     ensures status { IsStatus result }
 {
-    let first = place_in(list.head);
-    if !put(table, list, None, place_of(place), first) {
-        return RawTable::new(table).refusal(NONE, place);
+    let word = list.head;
+    let first = place_in(word);
+    if has_neighbor(table, first) && put(table, list, None, place_of(place), first) {
+        return OK;
     }
-    OK
+    put_any(table, list, place, 0, word)
 }
 
 /// Puts a place behind all members. O(1).
@@ -136,11 +183,12 @@ pub extern "C" fn ic_xor_push_back(table: &mut [RawOne], list: &mut RawEnds, pla
     ensures why { result ≢ 0 → result ≡ refusal (fault_of table.old (place_of place) ∷ []) }
     ensures status { IsStatus result }
 {
-    let last = place_in(list.tail);
-    if !put(table, list, last, place_of(place), None) {
-        return RawTable::new(table).refusal(NONE, place);
+    let word = list.tail;
+    let last = place_in(word);
+    if has_neighbor(table, last) && put(table, list, last, place_of(place), None) {
+        return OK;
     }
-    OK
+    put_any(table, list, place, word, 0)
 }
 
 // Takes the member behind `before` off, and says whether it could.
@@ -182,15 +230,10 @@ fn take_last(table: &mut [RawOne], list: &mut RawEnds, member: Place) -> bool
     true
 }
 
-/// Takes the first member off and hands it out, or returns [`NULL`] where there is none. O(1).
-///
-/// Where the words tell of no such member, it returns [`BROKEN`].
-#[unsafe(no_mangle)]
-pub extern "C" fn ic_xor_pop_front(
-    table: &mut [RawOne],
-    list: &mut RawEnds,
-    popped: &mut u32,
-) -> u32
+// Takes the first member off any list, or says why not.
+#[cold]
+#[inline(never)]
+fn pop_front_any(table: &mut [RawOne], list: &mut RawEnds, popped: &mut u32) -> u32
     ensures popped { (s : List Place) (p : Place) → Popped table.old table.new list.old list.new result popped.new p [] s }
     ensures empty { ShowsList table.old list.old [] → result ≡ 4 }
     ensures null { (result ≡ 4) ↔ ((ends_of list.old).head ≡ None) }
@@ -209,6 +252,35 @@ pub extern "C" fn ic_xor_pop_front(
     }
     *popped = number_of(member);
     OK
+}
+
+/// Takes the first member off and hands it out, or returns [`NULL`] where there is none. O(1).
+///
+/// Where the words tell of no such member, it returns [`BROKEN`].
+#[unsafe(no_mangle)]
+pub extern "C" fn ic_xor_pop_front(
+    table: &mut [RawOne],
+    list: &mut RawEnds,
+    popped: &mut u32,
+) -> u32
+    ensures popped { (s : List Place) (p : Place) → Popped table.old table.new list.old list.new result popped.new p [] s }
+    ensures empty { ShowsList table.old list.old [] → result ≡ 4 }
+    ensures null { (result ≡ 4) ↔ ((ends_of list.old).head ≡ None) }
+    ensures stands { result ≡ 0 → StandsIn table.old (ends_of list.old).head }
+    ensures told { result ≡ 0 → TellsMemberBehind (table_of table.old) (ends_of list.old) None (ends_of list.old).head }
+    ensures words { list.old ≡ words_of (ends_of list.old) → list.new ≡ words_of (ends_of list.new) }
+    ensures refused { result ≢ 0 → (table.new ≡ table.old) × (list.new ≡ list.old) × (popped.new ≡ popped.old) }
+    ensures why { result ≢ 0 → result ≢ 4 → result ≡ 5 }
+    ensures status { IsStatus result }
+{
+    let mut links = RawTable::new(table);
+    let mut edited = list_of(&*list);
+    if let Some(first) = xor_list::pop_before_others(&mut links, &mut edited) {
+        list.set_first(edited.first());
+        *popped = number_of(first);
+        return OK;
+    }
+    pop_front_any(links.entries, list, popped)
 }
 
 /// Takes the last member off and hands it out, or returns [`NULL`] where there is none. O(1).

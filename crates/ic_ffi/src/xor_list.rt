@@ -181,6 +181,42 @@ pub(crate) fn remove(
     take_out(links, list, before, member, behind)
 }
 
+// Takes the first member off, where two are behind it. Else it changes nothing.
+#[inline]
+pub(crate) fn pop_before_others(links: &mut RawTable<'_, RawOne>, list: &mut List) -> Option<Place>
+    ensures removed { (p q : Place) (s : List Place) → result ≡ Some q → Shows (lent_table links.old) list.old (p ∷ s)
+        → (q ≡ p) × Removes Shows (lent_table links.old) (lent_table links.new) list.new (gaps.before p [] s)
+        × IsUnlinked is_linked_one (lent_table links.new) p }
+    ensures tail { (p q : Place) (s : List Place) → result ≡ Some q → Shows (lent_table links.old) list.old (p ∷ s) → list.new.tail ≡ list.old.tail }
+    ensures first { (q : Place) → result ≡ Some q → list.old.head ≡ Some q }
+    ensures stands { (q : Place) → result ≡ Some q → Stands is_linked_one (lent_table links.old) (Some q) }
+    ensures told { (q : Place) → result ≡ Some q → TellsMemberBehind (lent_table links.old) list.old None (Some q) }
+    ensures refused { result ≡ None → (links.new ≡ links.old) × (list.new ≡ list.old) }
+    ensures extent { (lent_table links.new).extent ≡ (lent_table links.old).extent }
+{
+    let Some(first) = list.first() else {
+        return None;
+    };
+    if !links.is_linked(first) {
+        return None;
+    }
+    let Some(second) = links.next(first, None) else {
+        return None;
+    };
+    if !links.is_linked(second) {
+        return None;
+    }
+    let Some(third) = links.next(second, Some(first)) else {
+        return None;
+    };
+    if !links.is_linked(third) {
+        return None;
+    }
+    list.bypass(links, None, first, Some(second));
+    links.release_link(first);
+    Some(first)
+}
+
 // Takes the last member off, and says whether it could.
 #[inline]
 pub(crate) fn remove_last(links: &mut RawTable<'_, RawOne>, list: &mut List, member: Place) -> bool

@@ -1,18 +1,23 @@
-use Rattle.std.proofs.Common.{[], refl}
-use Rattle.ic_ffi.proofs.Numbers.{none_named}
+use Rattle.std.proofs.Common.{◌≡◌, [], ◌∷◌, refl, sym, ◌∙◌, rules}
+use Rattle.ic_link_ops.proofs.SequenceLemmas.{some_same}
+use Rattle.ic_ffi.specs.Words.{no_word, is_linked_one}
+use Rattle.ic_ffi.specs.Singly.{Shows, lent_table}
+use Rattle.ic_ffi.proofs.Views.{viewed, removed_back, unlinked_back}
+use Rattle.ic_ffi.proofs.Lists.{kept}
 use Rattle.ic_ffi.proofs.stack_calls.ic_stack_pop_front.Goals as goal
 
-pub returns-clause-popped : goal.returns-clause-popped
-returns-clause-popped c s p shown = c.ic_stack_remove_after.ensures.removed [] s p none_named shown
-
-pub returns-clause-empty : goal.returns-clause-empty
-returns-clause-empty c shown = c.ic_stack_remove_after.ensures.nothing [] shown none_named
-
-pub returns-clause-null : goal.returns-clause-null
-returns-clause-null c = let null = rw none_named at c.ic_stack_remove_after.ensures.null in ((λ e. (null.0 e).1), (λ e. null.1 (refl, e)))
-
-pub returns-clause-stands : goal.returns-clause-stands
-returns-clause-stands c made = rw none_named at (c.ic_stack_remove_after.ensures.told made)
-
-pub returns-clause-why : goal.returns-clause-why
-returns-clause-why c refused other = rw none_named at (c.ic_stack_remove_after.ensures.why refused other)
+pub returns-then-is_linked-clause-popped : goal.returns-then-is_linked-clause-popped
+returns-then-is_linked-clause-popped c s p shown =
+    let view = c.new-links.ensures.1 in
+    let seen : Shows (lent_table c.new-links.result) c.stack_of-edited.result (p ∷ s) =
+    rw c.stack_of-edited.ensures (viewed no_word kept c.new-links.result view shown) in
+    let one : p ≡ c.in-Some.member = some_same (sym (c.first.ensures ∙ seen.head) ∙ c.in-Some.is) in
+    let off = c.remove.ensures.removed [] s (rw one at seen) refl in
+    rw one (record {
+      accepted = refl;
+      done = (
+        removed_back no_word kept c.new-links.result c.remove.new.links view (search rules) (search rules) off.0,
+        unlinked_back no_word is_linked_one c.remove.new.links _ (search rules) off.1,
+        c.number_of.ensures,
+      );
+    })

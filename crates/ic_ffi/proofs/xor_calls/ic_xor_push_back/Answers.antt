@@ -1,20 +1,29 @@
-use Rattle.std.proofs.Common.{refl, ◌∙◌, ap, append-nil}
+use Rattle.std.proofs.Common.{◌≡◌, None, refl, ◌∙◌, ap, append-nil}
 use Rattle.ic_link_ops.specs.Sequences.{at_back, last}
-use Rattle.ic_ffi.specs.Words.{place_of}
-use Rattle.ic_ffi.proofs.Gaps.{never}
-use Rattle.ic_ffi.proofs.Xor.{end_fault}
+use Rattle.ic_ffi.specs.Words.{place_in}
+use Rattle.ic_ffi.proofs.Entries.{named}
 use Rattle.ic_ffi.proofs.xor_calls.ic_xor_push_back.Goals as goal
+use Rattle.ic_ffi.proofs.xor_calls.ic_xor_push_back.Goals.{else-has_neighbor-via-then-has_neighbor+else-put, else-has_neighbor-via-else-has_neighbor}
 
-pub returns-then-not-put-clause-inserted : goal.returns-then-not-put-clause-inserted
-returns-then-not-put-clause-inserted c s p is shown free =
-    let last_is = c.place_in-last.ensures ∙ shown.tail ∙ ap last (append-nil s) in
-    absurd (never c.if-not-put.true (c.put.ensures.inserted (at_back s) p last_is refl (c.place_of.ensures ∙ is) shown free).0)
+pub returns-then-put-clause-inserted : goal.returns-then-put-clause-inserted
+returns-then-put-clause-inserted c = rw (← c.has_neighbor.ensures.kept) (λ s p is shown free.
+    (c.put.ensures.inserted (at_back s) p (c.place_in-last.ensures ∙ shown.tail ∙ ap last (append-nil s)) refl (c.place_of.ensures ∙ is) shown free).1 shown free)
 
 pub returns-clause-inserted : goal.returns-clause-inserted
 returns-clause-inserted c s p is shown free =
-    let last_is = c.place_in-last.ensures ∙ shown.tail ∙ ap last (append-nil s) in
-    (c.put.ensures.inserted (at_back s) p last_is refl (c.place_of.ensures ∙ is) shown free).1 shown free
+    let kept = c.has_neighbor.ensures.kept in
+    let same : (c.else-has_neighbor.table ≡ c.args.table.now) × (c.else-has_neighbor.list ≡ c.args.list.now) = elim c.else-has_neighbor.branch [
+      | else-has_neighbor-via-then-has_neighbor+else-put w ↦ (w.table-is ∙ (w.put.ensures.refused w.if-put.false).0 ∙ kept, w.list-is ∙ (w.put.ensures.refused w.if-put.false).1)
+      | else-has_neighbor-via-else-has_neighbor w ↦ (w.table-is ∙ kept, w.list-is)
+    ] in
+    rw (← same.0) (c.put_any.ensures.inserted (at_back s) p (shown.tail ∙ ap last (append-nil s)) (named 0 None refl) is (rw (same.0, same.1) shown) (rw same.0 free))
 
-pub returns-then-not-put-clause-why : goal.returns-then-not-put-clause-why
-returns-then-not-put-clause-why c refused =
-    end_fault c.new.result (place_of c.args.place) (c.new.ensures.1 ∙ (c.put.ensures.refused c.if-not-put.true).0) c.refusal.ensures.refusal
+pub returns-clause-told : goal.returns-clause-told
+returns-clause-told c made =
+    let none : place_in 0 ≡ None = named 0 None refl in
+    let kept = c.has_neighbor.ensures.kept in
+    let same : (c.else-has_neighbor.table ≡ c.args.table.now) × (c.else-has_neighbor.list ≡ c.args.list.now) = elim c.else-has_neighbor.branch [
+      | else-has_neighbor-via-then-has_neighbor+else-put w ↦ (w.table-is ∙ (w.put.ensures.refused w.if-put.false).0 ∙ kept, w.list-is ∙ (w.put.ensures.refused w.if-put.false).1)
+      | else-has_neighbor-via-else-has_neighbor w ↦ (w.table-is ∙ kept, w.list-is)
+    ] in
+    rw (same.0, same.1, none) at (c.put_any.ensures.told made)
