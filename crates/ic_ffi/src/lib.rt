@@ -11,8 +11,8 @@
 //! ```
 //!
 //! No call requires anything of its arguments. Each tests what it reads and writes by, returns a status, and leaves all as it was
-//! where the status is not [`OK`]. It is that of the first fault: of the members that are named, in their order, of the place to insert,
-//! of the keys, or else [`BROKEN`]. [`NULL`] says that no place was named where one is needed, or that a call has looked and found none.
+//! where the status is not [`OK`]. It is that of the first fault: of the members that are named, in their order, of the keys, of the
+//! place to insert, or else [`BROKEN`]. [`NULL`] says that no place was named where one is needed, or that a call has looked and found none.
 #![tactic(auto)]
 
 mod gap;
