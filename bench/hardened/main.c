@@ -1,0 +1,214 @@
+/* The workloads on a doubly linked list that tests as Linux's does where it is built with CONFIG_LIST_HARDENED.
+ *
+ * It is a model of that list: a ring of addresses with its head in it, of which an insert and a removal test the neighbors' words, and a
+ * removal leaves addresses that no object has. The tests are those of Linux 6.6, include/linux/list.h: `__list_add_valid` and
+ * `__list_del_entry_valid`. Linux tests nothing in a cut or a splice.
+ *
+ * `peer WORKLOAD MEMBERS OPERATIONS` prints the nanoseconds of all operations and a checksum. bench/README.md says what each workload
+ * does. The functions timed_* are what is timed, and what callgrind counts. */
+
+#include <inttypes.h>
+#include <stdbool.h>
+#include <stdio.h>
+#include <stdlib.h>
+#include <string.h>
+#include <time.h>
+
+struct links {
+    struct links *next, *prev;
+};
+
+/* An object: its links stand in front, so both have one address. */
+struct object {
+    struct links links;
+    uint64_t value;
+};
+
+/* What a removal leaves in the links of what it has removed. */
+#define POISON_NEXT ((struct links *)0x100)
+#define POISON_PREV ((struct links *)0x122)
+
+/* The program ends where links are found damaged. The kernel warns and leaves the list as it is, or stops. */
+static __attribute__((cold, noinline)) void damaged(void) { exit(1); }
+
+static inline bool may_add(const struct links *added, const struct links *prev, const struct links *next) {
+    return next->prev == prev && prev->next == next && added != prev && added != next;
+}
+
+static inline bool may_remove(const struct links *member) {
+    return member->prev->next == member && member->next->prev == member;
+}
+
+static inline void add_between(struct links *added, struct links *prev, struct links *next) {
+    if (!may_add(added, prev, next)) {
+        damaged();
+        return;
+    }
+    next->prev = added;
+    added->next = next;
+    added->prev = prev;
+    prev->next = added;
+}
+
+static inline void push_back(struct links *list, struct links *added) { add_between(added, list->prev, list); }
+
+static inline void take(struct links *member) {
+    if (!may_remove(member)) {
+        damaged();
+        return;
+    }
+    member->next->prev = member->prev;
+    member->prev->next = member->next;
+    member->next = POISON_NEXT;
+    member->prev = POISON_PREV;
+}
+
+static inline bool is_empty(const struct links *list) { return list->next == list; }
+
+static inline void make_empty(struct links *list) { list->next = list->prev = list; }
+
+/* Puts all members in front of those of the list. */
+static inline void splice_front(struct links *list, struct links *given) {
+    if (is_empty(given))
+        return;
+    struct links *first = given->next, *last = given->prev, *second = list->next;
+    first->prev = list;
+    list->next = first;
+    last->next = second;
+    second->prev = last;
+    make_empty(given);
+}
+
+/* Moves the members behind `at` to `rest`, which is overwritten. */
+static inline void split_after(struct links *list, struct links *at, struct links *rest) {
+    if (at->next == list) {
+        make_empty(rest);
+        return;
+    }
+    rest->next = at->next;
+    rest->next->prev = rest;
+    rest->prev = list->prev;
+    rest->prev->next = rest;
+    at->next = list;
+    list->prev = at;
+}
+
+/* What a workload is called with: how much to do, and two random orders of the members. The first is the order of the values too. */
+struct room {
+    uint64_t members, operations, *values, *order;
+};
+
+/* The generator that all programs share. */
+static uint64_t below(uint64_t *state, uint64_t bound) {
+    *state = *state * 6364136223846793005u + 1442695040888963407u;
+    return ((*state >> 32) * bound) >> 32;
+}
+
+static void *room_for(uint64_t count, size_t size) {
+    void *memory = calloc(count, size);
+    if (!memory)
+        exit(1);
+    return memory;
+}
+
+/* The numbers below `count`, in a random order. */
+static uint64_t *shuffled(uint64_t *state, uint64_t count) {
+    uint64_t *numbers = room_for(count, sizeof *numbers);
+    for (uint64_t index = 0; index < count; index++)
+        numbers[index] = index;
+    for (uint64_t last = count - 1; last > 0; last--) {
+        uint64_t other = below(state, last + 1), number = numbers[last];
+        numbers[last] = numbers[other];
+        numbers[other] = number;
+    }
+    return numbers;
+}
+
+static uint64_t now(void) {
+    struct timespec time;
+    clock_gettime(CLOCK_MONOTONIC, &time);
+    return (uint64_t)time.tv_sec * 1000000000u + (uint64_t)time.tv_nsec;
+}
+
+#define TIMED static __attribute__((noinline)) uint64_t
+
+TIMED timed_pair(struct links *list, uint64_t operations) {
+    while (operations--) {
+        struct links *member = list->next;
+        take(member);
+        push_back(list, member);
+    }
+    return 0;
+}
+
+TIMED timed_touch(struct links *list, struct object **order, uint64_t members, uint64_t operations) {
+    uint64_t random = 1;
+    while (operations--) {
+        struct links *member = &order[below(&random, members)]->links;
+        take(member);
+        push_back(list, member);
+    }
+    return 0;
+}
+
+TIMED timed_splice(struct links *list, struct object **order, uint64_t members, uint64_t operations) {
+    uint64_t random = 1;
+    while (operations--) {
+        struct links rest;
+        split_after(list, &order[below(&random, members)]->links, &rest);
+        splice_front(list, &rest);
+    }
+    return 0;
+}
+
+TIMED timed_step(struct links *list, uint64_t operations) {
+    struct links *at = list->next;
+    while (operations--)
+        at = at->next;
+    return at == list ? 0 : ((struct object *)at)->value;
+}
+
+TIMED timed_iter(struct links *list, uint64_t rounds) {
+    uint64_t sum = 0;
+    while (rounds--)
+        for (struct links *at = list->next; at != list; at = at->next)
+            sum += ((struct object *)at)->value;
+    return sum;
+}
+
+static uint64_t work(const char *workload, const struct room *room, uint64_t *time) {
+    struct links list;
+    struct object *objects = room_for(room->members, sizeof *objects), **order = room_for(room->members, sizeof *order);
+    for (uint64_t index = 0; index < room->members; index++)
+        objects[index].value = 2 * room->values[index];
+    make_empty(&list);
+    for (uint64_t index = 0; index < room->members; index++) {
+        order[index] = &objects[room->order[index]];
+        push_back(&list, &order[index]->links);
+    }
+    uint64_t start = now();
+    uint64_t checksum = !strcmp(workload, "pair")     ? timed_pair(&list, room->operations)
+                        : !strcmp(workload, "touch")  ? timed_touch(&list, order, room->members, room->operations)
+                        : !strcmp(workload, "splice") ? timed_splice(&list, order, room->members, room->operations)
+                        : !strcmp(workload, "step")   ? timed_step(&list, room->operations)
+                                                      : timed_iter(&list, room->operations / room->members);
+    *time = now() - start;
+    uint64_t hash = 0;
+    for (struct links *at = list.next; at != &list; at = at->next)
+        hash = hash * 31 + ((struct object *)at)->value;
+    return hash + checksum;
+}
+
+int main(int count, char **words) {
+    if (count != 4) {
+        fputs("peer WORKLOAD MEMBERS OPERATIONS\n", stderr);
+        return 2;
+    }
+    uint64_t random = 1, time = 0, members = strtoull(words[2], NULL, 10);
+    struct room room = {.members = members, .operations = strtoull(words[3], NULL, 10)};
+    room.values = shuffled(&random, members);
+    room.order = shuffled(&random, members);
+    uint64_t checksum = work(words[1], &room, &time);
+    printf("%" PRIu64 " %" PRIu64 "\n", time, checksum);
+    return 0;
+}
