@@ -103,5 +103,10 @@ impl<M: Allocator> RBTreeOps for TreeTable<M> {
         self.0.set_color(place, color);
     }
 
+    #[inline]
+    fn set_parent_and_color(&mut self, place: Place, parent: Option<Place>, color: Color) {
+        self.0.set_parent_and_color(place, parent, color);
+    }
+
     ghost linked_alike = { λ e. refl };
 }

@@ -57,5 +57,10 @@ impl<L: PlainLinkOps + RBTreeOps, A: Allocator> RBTreeOps for crate::AtomicLinkO
         self.links.set_color(place, color);
     }
 
+    #[inline]
+    fn set_parent_and_color(&mut self, place: Place, parent: Option<Place>, color: Color) {
+        self.links.set_parent_and_color(place, parent, color);
+    }
+
     ghost linked_alike = { L.RBTreeOps.linked_alike };
 }

@@ -82,6 +82,16 @@ module _ (p : Place) (places : ℕ) (w : RawThree) where
         let mark = mark_beside o n w.parent is in
         λ k. record (says w p places) { parent = above k; color = cond (mark k) Black Red }
 
+    pub parent_and_color_set : (c : Color) (b : ℕ) → b ≡ one_if_black c → says (record w { parent = n + b }) p places ≡ record (says w p places) { parent = o; color = c }
+    parent_and_color_set c b eb =
+        let fits = word_fits o in
+        let digit = one_digit c in
+        let same : number_in (n + b) ≡ word_of o = omega (arith, is, eb, digit, fits.0, fits.1) in
+        let mark : (n + b) % 2 ≡ one_if_black c = omega (arith, is, eb, digit, fits.1) in
+        let above = named (ap place_at same ∙ place_at_word o) in
+        let color = ap (λ m. cond (nat_eq m 1) Black Red) mark ∙ color_kept c in
+        λ k. record (says w p places) { parent = above k; color = color k }
+
   pub color_set : (c : Color) (b : ℕ) → b ≡ one_if_black c → says (record w { parent = w.parent / 2 * 2 + b }) p places ≡ record (says w p places) { color = c }
   color_set c b is =
       let digit = one_digit c in

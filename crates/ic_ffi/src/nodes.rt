@@ -106,6 +106,16 @@ impl Nodes for RawTable<'_, RawThree> {
         words.parent = words.parent / 2 * 2 + black;
     }
 
+    #[inline]
+    fn set_parent_and_color(&mut self, place: Place, parent: Option<Place>, color: Color) {
+        let black = match color {
+            Color::Red => 0,
+            Color::Black => 1,
+        };
+        let words = &mut self.entries[place.index()];
+        words.parent = Place::to_word(parent) + black;
+    }
+
     ghost quiet_still = { λ t. record { extent = refl; marks = λ q. refl } };
 
     ghost quiet_on = { λ a b c x y. record { extent = y.extent ∙ x.extent; marks = λ q. y.marks q ∙ x.marks q } };

@@ -5,7 +5,7 @@ use Rattle.ic_unsafe_ref.specs.Places.{place_at, word_of}
 use Rattle.ic_unsafe_ref.proofs.PlaceLemmas.{place_at_word, word_at, word_fits}
 use Rattle.ic_link_ops.specs.declared.color.Color.{Color}
 use Rattle.ic_link_ops.specs.declared.color.Color.TheVariants.{Red, Black}
-use Rattle.ic_link_ops.specs.TreeWords.{unlinked, linked, one_if, one_if_black, number_of, parts_at}
+use Rattle.ic_link_ops.specs.TreeWords.{unlinked, linked, linked_below, one_if, one_if_black, number_of, parts_at}
 
 -- the words 0 and 3
 pub parts_at_0 : parts_at 0 ≡ unlinked
@@ -36,6 +36,23 @@ color_set n Black =
     let names : (n / 2 * 2 + 1) / 8 * 8 ≡ n / 8 * 8 = omega arith in
     let colors : (n / 2 * 2 + 1) % 2 ≡ 1 = omega arith in
     λ k. record { linked = nat_eq (links k) 1; parent = place_at (names k); color = cond (nat_eq (colors k) 0) Red Black }
+
+-- with a parent and a color, linked
+pub parts_below : (parent : Option Place) (color : Color) → parts_at (word_of parent + 2 + one_if_black color) ≡ linked_below parent color
+parts_below parent Red =
+    let fits = (word_fits parent).1 in
+    let links : (word_of parent + 2 + 0) / 2 % 2 ≡ 1 = omega (arith, fits) in
+    let names : (word_of parent + 2 + 0) / 8 * 8 ≡ word_of parent = omega (arith, fits) in
+    let colors : (word_of parent + 2 + 0) % 2 ≡ 0 = omega (arith, fits) in
+    let at : place_at ((word_of parent + 2 + 0) / 8 * 8) ≡ parent = ap place_at names ∙ place_at_word parent in
+    λ k. record { linked = nat_eq (links k) 1; parent = at k; color = cond (nat_eq (colors k) 0) Red Black }
+parts_below parent Black =
+    let fits = (word_fits parent).1 in
+    let links : (word_of parent + 2 + 1) / 2 % 2 ≡ 1 = omega (arith, fits) in
+    let names : (word_of parent + 2 + 1) / 8 * 8 ≡ word_of parent = omega (arith, fits) in
+    let colors : (word_of parent + 2 + 1) % 2 ≡ 1 = omega (arith, fits) in
+    let at : place_at ((word_of parent + 2 + 1) / 8 * 8) ≡ parent = ap place_at names ∙ place_at_word parent in
+    λ k. record { linked = nat_eq (links k) 1; parent = at k; color = cond (nat_eq (colors k) 0) Red Black }
 
 -- a digit is 1 exactly if it says so
 one_if_one : (x : ℕ) → x < 2 → one_if (nat_eq x 1) ≡ x

@@ -18,6 +18,10 @@ unlinked = record { linked = false; parent = None; color = Red }
 abbrev pub linked : Parts
 linked = record { linked = true; parent = None; color = Black }
 
+-- a linked place below this parent, in this color
+abbrev pub linked_below : Option Place → Color → Parts
+linked_below parent color = record { linked = true; parent = parent; color = color }
+
 -- 1 for true, and for black
 abbrev pub one_if : Bool → ℕ
 one_if true = 1

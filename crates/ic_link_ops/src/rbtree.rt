@@ -82,6 +82,14 @@ pub trait RBTreeOps: link_ops::LinkOps {
         ensures frame { ChangesOnly (Self.table self.old) (Self.table self.new) place }
         ensures no_step { Self.Does self.old self.new [] };
 
+    /// Sets the parent and the color of `place`, at once. It asks that the place is linked. O(1).
+    fn set_parent_and_color(&mut self, place: Place, parent: Option<Place>, color: Color)
+        requires linked { IsLinked Self.linked (Self.table self.old) place }
+        ensures set { node_at node (Self.table self.new) place
+            ≡ record (node_at node (Self.table self.old) place) { parent = parent; color = color } }
+        ensures frame { ChangesOnly (Self.table self.old) (Self.table self.new) place }
+        ensures no_step { Self.Does self.old self.new [] };
+
     // The law: both traits say alike whether a place is linked.
     ghost linked_alike: { (e : Self.Entry) → (node e).linked ≡ Self.linked e };
 }
@@ -248,6 +256,12 @@ impl<A: Allocator, V: LinkValue> RBTreeOps for PlainTable<ThreeWords, A, V> {
         entry.words.third.set_color(color);
     }
 
+    #[inline]
+    fn set_parent_and_color(&mut self, place: Place, parent: Option<Place>, color: Color) {
+        let entry = &mut self.entries[place.index()];
+        entry.words.third = TreeWord::below(parent, color);
+    }
+
     ghost linked_alike = { λ e. refl };
 }
 
@@ -299,6 +313,12 @@ impl<V: LinkValue> RBTreeOps for LentTable<'_, ThreeWords, V> {
     fn set_color(&mut self, place: Place, color: Color) {
         let link = &mut self.entries[place.index()];
         link.words.third.set_color(color);
+    }
+
+    #[inline]
+    fn set_parent_and_color(&mut self, place: Place, parent: Option<Place>, color: Color) {
+        let link = &mut self.entries[place.index()];
+        link.words.third = TreeWord::below(parent, color);
     }
 
     ghost linked_alike = { λ e. refl };

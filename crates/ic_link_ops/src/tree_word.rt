@@ -8,7 +8,7 @@
 ghost use Rattle.std.specs.Prelude.{◌≡◌, Option};
 ghost use Rattle.ic_unsafe_ref.specs.declared.place.Place.{Place};
 ghost use Rattle.ic_link_ops.specs.declared.color.Color.{Color};
-ghost use Rattle.ic_link_ops.specs.TreeWords.{unlinked, linked, number_of};
+ghost use Rattle.ic_link_ops.specs.TreeWords.{unlinked, linked, linked_below, number_of};
 
 use crate::color::Color;
 use ic_unsafe_ref::Place;
@@ -51,6 +51,20 @@ impl TreeWord {
         ensures { result ≡ linked }
     {
         TreeWord { bits: 3 }
+    }
+
+    /// The word of a linked place with this parent and this color.
+    #[inline]
+    pub fn below(parent: Option<Place>, color: Color) -> TreeWord
+        ensures { result ≡ linked_below parent color }
+    {
+        let black = match color {
+            Color::Red => 0,
+            Color::Black => 1,
+        };
+        TreeWord {
+            bits: Place::to_word(parent) + 2 + black,
+        }
     }
 
     /// Whether the place is linked: the second bit.

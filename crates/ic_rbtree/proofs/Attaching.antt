@@ -23,11 +23,11 @@ use Rattle.ic_link_ops.proofs.Trees.{leaf_is}
 use Rattle.ic_rbtree.specs.Pieces.{Piece, cell, loose, below, around, Held, Stands, Shown}
 use Rattle.ic_rbtree.specs.Insertion.{RedAt, IsHole}
 use Rattle.ic_rbtree.proofs.Branches.{side_loose, side_linked, top_leaf}
-use Rattle.ic_rbtree.proofs.Pieces.{regroup, set_near, set_far, set_up, set_tint}
-use Rattle.ic_rbtree.proofs.Turning.{relinks_side, close_below}
+use Rattle.ic_rbtree.proofs.Pieces.{regroup, set_near, set_far, set_parent_and_color}
+use Rattle.ic_rbtree.proofs.Rotations.{changes_child_side, close_below}
 use Rattle.ic_rbtree.proofs.Zipper.{go_down}
-use Rattle.ic_rbtree.proofs.Shapes.{red_not_black}
-use Rattle.ic_rbtree.proofs.Shortening.{shape_open}
+use Rattle.ic_rbtree.proofs.InsertionShapes.{red_not_black}
+use Rattle.ic_rbtree.proofs.RemovalShapes.{shape_open}
 use Rattle.ic_rbtree.proofs.Removing.{spot, shown_of, shows_of}
 
 begins : (s : List Place) (p : Place) → first s ≡ Some p → (rest : List Place) × (s ≡ p ∷ rest)
@@ -86,17 +86,16 @@ module _ {E : Type 0} (n : E → Node) where
         }
 
   -- THE WRITES at the new member
-  module _ {base v v1 v2 v3 v4 : Table E} (p : Place) (parent : Option Place) (x : Color) {ps : List Piece}
+  module _ {base v v1 v2 v3 : Table E} (p : Place) (parent : Option Place) (x : Color) {ps : List Piece}
       (set1 : n (v1.entry p) ≡ with_child Left (n (v.entry p)) None) (only1 : ChangesOnly v v1 p) (set2 : n (v2.entry p) ≡ with_child Right (n (v1.entry p)) None) (only2 : ChangesOnly v1 v2 p)
-      (set3 : n (v3.entry p) ≡ record (n (v2.entry p)) { parent = parent }) (only3 : ChangesOnly v2 v3 p) (set4 : n (v4.entry p) ≡ record (n (v3.entry p)) { color = x }) (only4 : ChangesOnly v3 v4 p) where
-    pub leaf_written : Held n base v (loose p ∷ ps) → Held n base v4 (cell Left p x None None parent ∷ ps)
+      (set3 : n (v3.entry p) ≡ record (n (v2.entry p)) { parent = parent; color = x }) (only3 : ChangesOnly v2 v3 p) where
+    pub leaf_written : Held n base v (loose p ∷ ps) → Held n base v3 (cell Left p x None None parent ∷ ps)
     leaf_written h =
         let e : Node = n (v.entry p) in
         let h0 = regroup n (cell Left p e.color e.left e.right e.parent ∷ ps) h (λ q. refl) (side_loose n v.entry p h.are.0, h.are.1) in
         let h1 = set_near n Left p e.color e.left e.right e.parent ps h0 p Left None None refl refl refl set1 only1 in
         let h2 = set_far n Left p e.color None e.right e.parent ps h1 p Right None None refl refl refl set2 only2 in
-        let h3 = set_up n Left p e.color None None e.parent ps h2 p parent parent refl refl set3 only3 in
-        set_tint n Left p e.color None None parent ps h3 p x x refl refl set4 only4
+        set_parent_and_color n Left p e.color None None e.parent ps h2 p parent parent x refl refl set3 only3
 
   -- the only member
   pub attached_first : {base v v4 : Table E} {root : Option Place} (parent : Option Place) (d : Side) (gap : Cut) (p : Place) {ps : List Piece}
@@ -127,7 +126,7 @@ module _ {E : Type 0} (n : E → Node) where
       let h0 = regroup n (loose p ∷ around root gs None ∷ ps) x.stands (λ r. omega arith) (x.stands.are.1.1.0, (x.stands.are.0, x.stands.are.1.1.1)) in
       let h1 = subst (λ (o : Option Place). Held n base v4 (cell Left p Red None None o ∷ around root gs None ∷ ps)) is (writes (around root gs None ∷ ps) h0) in
       let h2 = regroup n (around root gs None ∷ cell Left p Red None None (Some q) ∷ ps) h1 (λ r. omega arith) (h1.are.1.0, (h1.are.0, h1.are.1.1)) in
-      let h3 = relinks_side n root q None (Some p) (Some p) d x.c q x.b x.fs (cell Left p Red None None (Some q) ∷ ps) refl refl set only h2 in
+      let h3 = changes_child_side n root q None (Some p) (Some p) d x.c q x.b x.fs (cell Left p Red None None (Some q) ∷ ps) refl refl set only h2 in
       let h4 = regroup n (cell Left p Red None None (Some q) ∷ below (Some p) leaf ∷ below (Some p) leaf ∷ around root gs (Some p) ∷ ps) h3 (λ r. omega arith) (h3.are.1.0, (tt, (tt, (h3.are.0, h3.are.1.1)))) in
       let h5 = close_below n (Some q) None None Left Red leaf p leaf (around root gs (Some p) ∷ ps) refl refl h4 in
       let o = shape_open gs leaf x.right in

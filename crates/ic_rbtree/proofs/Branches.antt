@@ -6,7 +6,7 @@ use Rattle.ic_link_ops.specs.declared.side.Side.{Side}
 use Rattle.ic_link_ops.specs.declared.side.Side.TheVariants.{Left, Right}
 use Rattle.ic_link_ops.specs.Trees.{Tree, leaf, fork, top, in_order}
 use Rattle.ic_link_ops.specs.Shape.{top_color}
-use Rattle.ic_link_ops.specs.RedBlackTree.{Node, IsTree}
+use Rattle.ic_link_ops.specs.RedBlackTree.{Node, IsAt, IsTree}
 use Rattle.ic_link_ops.specs.Frames.{Frame, frame, branch, plug, IsAtSide, across, child_on}
 use Rattle.ic_link_ops.proofs.Trees.{at_parent, at_color, at_loose}
 use Rattle.ic_link_ops.proofs.SequenceLemmas.{none_not, some_same}
@@ -61,6 +61,16 @@ module _ {E : Type 0} (n : E → Node) where
   side_of_across entry Left p c near far up h = h
   side_of_across entry Right p c near far up h = h
 
+  at_upper : (old new : Place → E) (p : Place) (c : Color) (a b up x : Option Place) (k : Color)
+      → n (new p) ≡ record (n (old p)) { parent = x; color = k } → IsAt n old p c a b up → IsAt n new p k a b x
+  at_upper old new p c a b up x k set h = record {
+    linked = ap (λ (e : Node). e.linked) set ∙ h.linked;
+    left = ap (λ (e : Node). e.left) set ∙ h.left;
+    right = ap (λ (e : Node). e.right) set ∙ h.right;
+    parent = ap (λ (e : Node). e.parent) set;
+    color = ap (λ (e : Node). e.color) set;
+  }
+
   pub side_parent : (old new : Place → E) (d : Side) (p : Place) (c : Color) (near far up x : Option Place)
       → n (new p) ≡ record (n (old p)) { parent = x } → IsAtSide n old d p c near far up → IsAtSide n new d p c near far x
   side_parent old new Left p c near far up x set h = at_parent x set h
@@ -70,6 +80,11 @@ module _ {E : Type 0} (n : E → Node) where
       → n (new p) ≡ record (n (old p)) { color = x } → IsAtSide n old d p c near far up → IsAtSide n new d p x near far up
   side_color old new Left p c near far up x set h = at_color x set h
   side_color old new Right p c near far up x set h = at_color x set h
+
+  pub side_upper : (old new : Place → E) (d : Side) (p : Place) (c : Color) (near far up x : Option Place) (k : Color)
+      → n (new p) ≡ record (n (old p)) { parent = x; color = k } → IsAtSide n old d p c near far up → IsAtSide n new d p k near far x
+  side_upper old new Left p c near far up x k set h = at_upper old new p c near far up x k set h
+  side_upper old new Right p c near far up x k set h = at_upper old new p c far near up x k set h
 
   -- the readings on a side
   pub side_linked : (entry : Place → E) (d : Side) (p : Place) (c : Color) (near far up : Option Place)

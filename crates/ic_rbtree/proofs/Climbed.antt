@@ -20,7 +20,7 @@ use Rattle.ic_rbtree.specs.Height.{height}
 use Rattle.ic_rbtree.specs.Members.{HasChild}
 use Rattle.ic_rbtree.specs.Pieces.{Stands}
 use Rattle.ic_rbtree.proofs.Heights.{looks_few, exponent_small}
-use Rattle.ic_rbtree.proofs.Descending.{framed}
+use Rattle.ic_rbtree.proofs.Outermost.{framed}
 use Rattle.ic_rbtree.proofs.Branches.{top_branch}
 use Rattle.ic_rbtree.proofs.Removing.{spot, shown_of, order_around}
 

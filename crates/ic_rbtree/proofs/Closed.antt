@@ -10,7 +10,7 @@ use Rattle.ic_link_ops.specs.RedBlackTree.{Node}
 use Rattle.ic_link_ops.specs.Frames.{child_on, with_child}
 use Rattle.ic_link_ops.proofs.SequenceLemmas.{none_not, some_same}
 use Rattle.ic_rbtree.specs.Removal.{AreRead}
-use Rattle.ic_rbtree.specs.Taking.{or_else, both_of}
+use Rattle.ic_rbtree.specs.Transplants.{or_else, both_of}
 use Rattle.ic_rbtree.specs.Closed.{IsIn, IsNode, IsNamed, IsClosedBut, IsClosed}
 
 -- an end that is there is in the set
@@ -65,6 +65,9 @@ module _ {E : Type 0} (n : E → Node) where
 
       pub parent_written : {to : Option Place} → n (w.entry p) ≡ record (n (v.entry p)) { parent = to } → IsIn S to → IsClosedBut n w root but S
       parent_written set k = written (ap (λ (x : Node). x.linked) set) (same (λ x. x.left) set refl) (same (λ x. x.right) set refl) (λ i. put (λ x. x.parent) set refl k)
+
+      pub upper_written : {to : Option Place} {c : Color} → n (w.entry p) ≡ record (n (v.entry p)) { parent = to; color = c } → IsIn S to → IsClosedBut n w root but S
+      upper_written set k = written (ap (λ (x : Node). x.linked) set) (same (λ x. x.left) set refl) (same (λ x. x.right) set refl) (λ i. put (λ x. x.parent) set refl k)
 
       pub color_written : {c : Color} → n (w.entry p) ≡ record (n (v.entry p)) { color = c } → IsClosedBut n w root but S
       color_written set = written (ap (λ (x : Node). x.linked) set) (same (λ x. x.left) set refl) (same (λ x. x.right) set refl) (same (λ x. x.parent) set refl)
@@ -132,12 +135,12 @@ module _ {E : Type 0} (n : E → Node) where
     ]
 
   -- THE WRITES at a place that comes in
-  pub node_written : {v v1 v2 v3 v4 : Table E} {root : Option Place} {p : Place} {S : Place → Bool} {a b up : Option Place} {c : Color} → IsClosedBut n v root (Some p) S
+  pub node_written : {v v1 v2 v3 : Table E} {root : Option Place} {p : Place} {S : Place → Bool} {a b up : Option Place} {c : Color} → IsClosedBut n v root (Some p) S
       → n (v1.entry p) ≡ with_child Left (n (v.entry p)) a → ChangesOnly v v1 p → n (v2.entry p) ≡ with_child Right (n (v1.entry p)) b → ChangesOnly v1 v2 p
-      → n (v3.entry p) ≡ record (n (v2.entry p)) { parent = up } → ChangesOnly v2 v3 p → n (v4.entry p) ≡ record (n (v3.entry p)) { color = c } → ChangesOnly v3 v4 p
-      → IsIn S a → IsIn S b → IsIn S up → IsClosed n v4 root S
-  node_written {v} {v1} {v2} {v3} {v4} {root} {p} {S} {a} {b} {up} {c} h set1 only1 set2 only2 set3 only3 set4 only4 ia ib iu =
-      all_closed (color_written (parent_written (right_written (left_written h only1 set1 ia) only2 set2 ib) only3 set3 iu) only4 set4)
-      (read_in S ia (ap (λ (x : Node). x.left) set4 ∙ (ap (λ (x : Node). x.left) set3 ∙ (ap (λ (x : Node). x.left) set2 ∙ ap (λ (x : Node). x.left) set1))))
-      (read_in S ib (ap (λ (x : Node). x.right) set4 ∙ (ap (λ (x : Node). x.right) set3 ∙ ap (λ (x : Node). x.right) set2)))
-      (read_in S iu (ap (λ (x : Node). x.parent) set4 ∙ ap (λ (x : Node). x.parent) set3))
+      → n (v3.entry p) ≡ record (n (v2.entry p)) { parent = up; color = c } → ChangesOnly v2 v3 p
+      → IsIn S a → IsIn S b → IsIn S up → IsClosed n v3 root S
+  node_written {v} {v1} {v2} {v3} {root} {p} {S} {a} {b} {up} {c} h set1 only1 set2 only2 set3 only3 ia ib iu =
+      all_closed (upper_written (right_written (left_written h only1 set1 ia) only2 set2 ib) only3 set3 iu)
+      (read_in S ia (ap (λ (x : Node). x.left) set3 ∙ (ap (λ (x : Node). x.left) set2 ∙ ap (λ (x : Node). x.left) set1)))
+      (read_in S ib (ap (λ (x : Node). x.right) set3 ∙ ap (λ (x : Node). x.right) set2))
+      (read_in S iu (ap (λ (x : Node). x.parent) set3))

@@ -26,7 +26,7 @@ use Rattle.ic_rbtree.proofs.Members.{stands_of}
 use Rattle.ic_rbtree.proofs.Nearest.{nearest_or, nearest_there, nearest_plain, nearest_frame, beyond_nothing, nearest_nothing, nothing_both}
 use Rattle.ic_rbtree.proofs.Pieces.{regroup}
 use Rattle.ic_rbtree.proofs.Removing.{go_into}
-use Rattle.ic_rbtree.proofs.Turning.{open_at, below_linked, around_linked, relinks_side}
+use Rattle.ic_rbtree.proofs.Rotations.{open_at, below_linked, around_linked, changes_child_side}
 use Rattle.ic_rbtree.proofs.Zipper.{go_top}
 
 -- with nothing beyond on this side, the lowest frame is one to this side,
@@ -85,7 +85,7 @@ module _ {E : Type 0} (n : E → Node) where
   hangs_some v w q parent to d is set only base root (frame k c p b ∷ fs) was x ps e on ex h =
       let set' : n (w.entry q) ≡ with_child k (n (v.entry q)) to = subst (λ (z : Side). n (w.entry q) ≡ with_child z (n (v.entry q)) to) on set in
       subst (λ (r : Option Place). Held n base w (around r (frame k c p b ∷ fs) x ∷ ps)) h.are.0.1
-      (relinks_side n root q was to x k c p b fs ps (some_same (sym is ∙ e)) ex set' only h)
+      (changes_child_side n root q was to x k c p b fs ps (some_same (sym is ∙ e)) ex set' only h)
 
   pub hangs_none : (v : Table E) (parent to : Option Place) (d : Side) → parent ≡ None → Hangs n v v parent d to
   hangs_none v parent to d is base root [] was x ps e on ex h = regroup n (around x [] x ∷ ps) h (λ q. refl) ((tt, refl), h.are.1)

@@ -12,7 +12,7 @@ use Rattle.ic_link_ops.proofs.Trees.{leaf_is}
 use Rattle.ic_rbtree.specs.Members.{some_or, tree_below, top_above, members, members_around}
 use Rattle.ic_rbtree.specs.Pieces.{Stands}
 use Rattle.ic_rbtree.proofs.Branches.{side_up}
-use Rattle.ic_rbtree.proofs.Climbing.{length_frames}
+use Rattle.ic_rbtree.proofs.ParentClimbs.{length_frames}
 use Rattle.ic_rbtree.proofs.Removing.{go_into}
 
 topmost_some : (fs : List Frame) (q p : Place) → some_or (Some p) (topmost fs (Some q)) ≡ topmost fs (Some q)

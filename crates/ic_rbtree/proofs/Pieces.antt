@@ -11,7 +11,7 @@ use Rattle.ic_link_ops.specs.Times.{one_at}
 use Rattle.ic_link_ops.proofs.Times.{one_at_self, apart}
 use Rattle.ic_link_ops.proofs.Frames.{side_same, side_set, tree_apart, around_apart}
 use Rattle.ic_rbtree.specs.Pieces.{Piece, cell, loose, below, around, times_piece, times_all, IsPiece, ArePieces, Held}
-use Rattle.ic_rbtree.proofs.Branches.{side_across, side_of_across, side_parent, side_color, side_linked}
+use Rattle.ic_rbtree.proofs.Branches.{side_across, side_of_across, side_parent, side_color, side_upper, side_linked}
 
 module _ {E : Type 0} (n : E → Node) where
   -- pieces stay where a place alone changes that does not stand there
@@ -99,6 +99,14 @@ module _ {E : Type 0} (n : E → Node) where
             subst (λ (z : Option Place). n (w.entry p) ≡ record (n (v.entry p)) { parent = z }) ey
             (subst (λ (z : Place). n (w.entry z) ≡ record (n (v.entry z)) { parent = y }) eq set) in
             cell_written c near far x (subst (λ (z : Place). ChangesOnly v w z) eq only) (side_parent n v.entry w.entry d p c near far up x set' h.are.0)
+
+        pub set_parent_and_color : (q : Place) (y x : Option Place) (k : Color) → q ≡ p → y ≡ x
+            → n (w.entry q) ≡ record (n (v.entry q)) { parent = y; color = k } → ChangesOnly v w q → Held n base w (cell d p k near far x ∷ ps)
+        set_parent_and_color q y x k eq ey set only =
+            let set' : n (w.entry p) ≡ record (n (v.entry p)) { parent = x; color = k } =
+            subst (λ (z : Option Place). n (w.entry p) ≡ record (n (v.entry p)) { parent = z; color = k }) ey
+            (subst (λ (z : Place). n (w.entry z) ≡ record (n (v.entry z)) { parent = y; color = k }) eq set) in
+            cell_written k near far x (subst (λ (z : Place). ChangesOnly v w z) eq only) (side_upper n v.entry w.entry d p c near far up x k set' h.are.0)
 
         pub set_tint : (q : Place) (y x : Color) → q ≡ p → y ≡ x
             → n (w.entry q) ≡ record (n (v.entry q)) { color = y } → ChangesOnly v w q → Held n base w (cell d p x near far up ∷ ps)

@@ -19,12 +19,12 @@ use Rattle.ic_link_ops.proofs.ShownTrees.{holds_once}
 use Rattle.ic_link_ops.proofs.ShownTrees.{shows_beside}
 use Rattle.ic_rbtree.specs.Pieces.{Piece, loose, Stands, Shown}
 use Rattle.ic_rbtree.specs.Sides.{IsOutermostWithin}
-use Rattle.ic_rbtree.specs.Taking.{Parts, only, IsLone, both_of, TakesOut, TakesPlace}
+use Rattle.ic_rbtree.specs.Transplants.{Parts, only, IsLone, both_of, SplicesOut, TakesPlace}
 use Rattle.ic_rbtree.proofs.Zipper.{go_down, go_top}
-use Rattle.ic_rbtree.proofs.Shapes.{right_plug}
-use Rattle.ic_rbtree.proofs.Shortening.{shape_open}
+use Rattle.ic_rbtree.proofs.InsertionShapes.{right_plug}
+use Rattle.ic_rbtree.proofs.RemovalShapes.{shape_open}
 use Rattle.ic_rbtree.proofs.Low.{shown_low}
-use Rattle.ic_rbtree.proofs.Taking.{order_only}
+use Rattle.ic_rbtree.proofs.Transplants.{order_only}
 
 -- the sequence of a tree around one of its members
 pub order_around : (fs : List Frame) (c : Color) (a : Tree) (p : Place) (b : Tree) (front back : List Place) → before fs ++ in_order a ≡ front → in_order b ++ after fs ≡ back
@@ -100,7 +100,7 @@ module _ {E : Type 0} (n : E → Node) where
         pick (fork c a q b) (fork k l r m) e = absurd (none_not r (sym e))
 
     pub lone_taken : {w : Table E} {new_root : Option Place} (o : Option Place) → o ≡ both_of (n (v.entry p)).left (n (v.entry p)).right → o ≡ None
-        → TakesOut n v w root new_root p → Shown n base w new_root (front ++ back) (loose p ∷ ps)
+        → SplicesOut n v w root new_root p → Shown n base w new_root (front ++ back) (loose p ∷ ps)
     lone_taken {w} {new_root} o eo none taken =
         let one = lone o eo none in
         subst (λ (s : List Place). Shown n base w new_root s (loose p ∷ ps)) (joined x.fs x.a x.b one x.front_is x.back_is) (taken base x.fs (parts x.c x.a x.b) ps x.stands one x.right)
@@ -156,11 +156,11 @@ module _ {E : Type 0} (n : E → Node) where
               order = glued rest;
             }
 
-        pub next_out : {w : Table E} {new_root : Option Place} → TakesOut n v w root new_root z → Shown n base w new_root (front ++ p ∷ (in_order next.m ++ after next.gs)) (loose z ∷ ps)
+        pub next_out : {w : Table E} {new_root : Option Place} → SplicesOut n v w root new_root z → Shown n base w new_root (front ++ p ∷ (in_order next.m ++ after next.gs)) (loose z ∷ ps)
         next_out {w} {new_root} taken =
             subst (λ (s : List Place). Shown n base w new_root s (loose z ∷ ps)) next.order (taken base next.gs (parts next.k leaf next.m) ps next.stands (inl refl) next.right)
 
-        pub place_taken : {w u : Table E} {root1 root2 : Option Place} → TakesOut n v w root root1 z → TakesPlace n w u root1 root2 p z → Shown n base u root2 (front ++ back) (loose p ∷ ps)
+        pub place_taken : {w u : Table E} {root1 root2 : Option Place} → SplicesOut n v w root root1 z → TakesPlace n w u root1 root2 p z → Shown n base u root2 (front ++ back) (loose p ∷ ps)
         place_taken {w} {u} {root1} {root2} taken swapped =
             let y = spot front p (in_order next.m ++ after next.gs) (next_out taken) in
             subst (λ (s : List Place). Shown n base u root2 (front ++ s) (loose p ∷ ps)) (sym next.behind) (placed z y swapped)

@@ -9,7 +9,7 @@ use Rattle.ic_link_ops.specs.Times.{one_at, times, times_in}
 use Rattle.ic_link_ops.proofs.Times.{one_at_other, apart, times_order, absent_times, times_append}
 use Rattle.ic_link_ops.proofs.ShownTrees.{shows_beside}
 use Rattle.ic_rbtree.specs.Pieces.{loose, Shown}
-use Rattle.ic_rbtree.specs.Taking.{TakesPlace}
+use Rattle.ic_rbtree.specs.Transplants.{TakesPlace}
 use Rattle.ic_rbtree.proofs.Removing.{placed, Spot, shows_of, loose_absent, front_shown}
 use Rattle.ic_rbtree.proofs.Attaching.{acquired_shown}
 

@@ -25,7 +25,7 @@ use Rattle.ic_rbtree.specs.declared.keys.key_adapter.Bound.{Bound}
 use Rattle.ic_rbtree.specs.declared.keys.key_adapter.Bound.TheVariants.{Included, Excluded, Unbounded}
 use Rattle.ic_rbtree.specs.Borders.{IsBorder, equal_at, at_most_at, if_passes, Finds, IsLowerBorder, IsUpperBorder}
 use Rattle.ic_rbtree.specs.Closed.{IsIn}
-use Rattle.ic_rbtree.specs.Comparing.{Looks, goes_left, meets_lower, is_beyond, order_of}
+use Rattle.ic_rbtree.specs.Comparing.{Looks, compared, goes_left, meets_lower, is_beyond, order_of}
 use Rattle.ic_rbtree.specs.Descents.{side_of, gap_in, SendsPast, passed, at_root, last_equal, is_last, is_equal, equal_there, EndsAt}
 use Rattle.ic_rbtree.specs.declared.keys.entry.InsertCursor.{InsertCursor}
 use Rattle.ic_rbtree.specs.Entry.{IsVacantFor}
@@ -36,7 +36,7 @@ use Rattle.ic_rbtree.specs.Removal.{IsOn}
 use Rattle.ic_rbtree.specs.Sides.{IsBeside}
 use Rattle.ic_rbtree.proofs.Branches.{side_near, top_leaf}
 use Rattle.ic_rbtree.proofs.Climbed.{path_few, is_end_there}
-use Rattle.ic_rbtree.proofs.Descending.{opened}
+use Rattle.ic_rbtree.proofs.Outermost.{opened}
 use Rattle.ic_rbtree.proofs.Gaps.{gap_join, gap_border, gap_same, gap_all, gap_none}
 use Rattle.ic_rbtree.proofs.Heights.{looks_few}
 use Rattle.ic_rbtree.proofs.Nearest.{nearest_frame}
@@ -292,6 +292,33 @@ module _ {E : Type 0} (n : E → Node) where
     few = record { few = sent_few x h refl; some = sent_some x none h refl };
     order_is = same;
   }
+
+  -- ON THE WAY of a probe: it compares as at the root, where it was `old`
+  pub record Comes {P V : Type 0} (order : P → V → Ordering) (count : P → ℕ) (objects : Objects V) (v : Table E) (root : Option Place) (equals : Side) (old now : P) (here : Option Place) (d : Descent) : Type 0 where
+    pub each : (s : List Place) (h : Shows n v root s) → Sent v root (compared (order old) objects) equals h.tree here d (count old) (count now)
+    pub same : order now ≡ order old
+
+  module _ {P V : Type 0} (order : P → V → Ordering) (count : P → ℕ) (objects : Objects V) {v : Table E} {root : Option Place} {equals : Side} {old : P} where
+    pub comes_first : {d : Descent} → d ≡ at_root → Comes order count objects v root equals old old root d
+    comes_first is = record { each = λ s h. sent_first is (count old) h; same = refl }
+
+    -- the same, as it is called elsewhere
+    pub comes_as : {now now' : P} {here here' : Option Place} {d d' : Descent} → now' ≡ now → d' ≡ d → here' ≡ here
+        → Comes order count objects v root equals old now here d → Comes order count objects v root equals old now' here' d'
+    comes_as {now} {now'} {here} {here'} {d} {d'} en ed eh x =
+        subst (λ z. Comes order count objects v root equals old z here' d') (sym en)
+        (subst (λ z. Comes order count objects v root equals old now here' z) (sym ed)
+        (subst (λ z. Comes order count objects v root equals old now z d) (sym eh) x))
+
+    -- one look further
+    pub comes_on : {now more : P} {here next : Option Place} {d d' : Descent} {p : Place} → Comes order count objects v root equals old now here d → here ≡ Some p → (left : Bool)
+        → d' ≡ passed d p left (is_eq (compared (order now) objects p)) → left ≡ goes_left equals (compared (order now) objects p)
+        → next ≡ child_on (side_of left) (n (v.entry p)) → count more ≡ count now + 1 → order more ≡ order now
+        → Comes order count objects v root equals old more next d'
+    comes_on {p = p} x is left is_passed goes next_is counted same = record {
+      each = λ s h. sent_on (x.each s h) is left is_passed (ap (λ o. compared o objects p) x.same) goes refl next_is counted;
+      same = same ∙ x.same;
+    }
 
 -- THE ANSWERS of searches, by where a descent ends
 equal_kept : (at : Place → Ordering) (o : Option Place) (x : Bool) → x ≡ equal_there at o → (result : Option Place) → result ≡ cond x o None → result ≡ if_passes (equal_at at) o

@@ -10,7 +10,7 @@ use Rattle.ic_link_ops.specs.Frames.{Frame, frame, branch, plug, above, across}
 use Rattle.ic_rbtree.specs.Pieces.{Piece, cell, below, around, Stands}
 use Rattle.ic_rbtree.proofs.Branches.{branch_across}
 use Rattle.ic_rbtree.proofs.Pieces.{regroup, set_tint}
-use Rattle.ic_rbtree.proofs.Turning.{open_at, close_at}
+use Rattle.ic_rbtree.proofs.Rotations.{open_at, close_at}
 
 module _ {E : Type 0} (n : E → Node) where
   -- up: the lowest frame joins the tree

@@ -21,5 +21,5 @@ module _ {E : Type 0} (n : E → Node) where
   IsInFocus v root k = Stands n k.base v root k.frames k.subtree k.pieces
 
   -- all is right: a tree of the right shape with that sequence stands there
-  abbrev pub IsMended : Table E → Option Place → Focus E → Type 0
-  IsMended v root k = Shown n k.base v root k.sequence k.pieces
+  abbrev pub IsRestored : Table E → Option Place → Focus E → Type 0
+  IsRestored v root k = Shown n k.base v root k.sequence k.pieces

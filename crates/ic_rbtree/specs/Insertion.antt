@@ -14,7 +14,7 @@ use Rattle.ic_rbtree.specs.Height.{turns}
 use Rattle.ic_rbtree.specs.Sides.{IsBeside}
 use Rattle.ic_rbtree.specs.Pieces.{Piece, loose, Stands, Shown}
 use Rattle.ic_rbtree.specs.Shortage.{wanted, IsNearlyRight}
-use Rattle.ic_rbtree.specs.Focus.{Focus, IsInFocus, IsMended}
+use Rattle.ic_rbtree.specs.Focus.{Focus, IsInFocus, IsRestored}
 
 -- red below a parent, and black at the root
 abbrev pub color_below : Option Place → Color
@@ -53,42 +53,46 @@ module _ {E : Type 0} (n : E → Node) where
     pub order : in_order (plug k.frames k.subtree) ≡ k.sequence
 
   -- all is right, or the same stands further up, below fewer than m frames
-  abbrev pub Eased : Table E → Option Place → Focus E → ℕ → Option Place → Type 0
-  Eased w root k m None = IsMended n w root k
-  Eased w root k m (Some g) = (fs : List Frame) × (t : Tree) × RedAt w root g (record k { frames = fs; subtree = t }) × (length fs < m)
+  abbrev pub IsFixedOrHigher : Table E → Option Place → Focus E → ℕ → Option Place → Type 0
+  IsFixedOrHigher w root k m None = IsRestored n w root k
+  IsFixedOrHigher w root k m (Some g) = (fs : List Frame) × (t : Tree) × RedAt w root g (record k { frames = fs; subtree = t }) × (length fs < m)
 
-  abbrev pub Eases : Table E → Table E → Option Place → Option Place → Place → Option Place → Type 0
-  Eases v w root new_root x result = (k : Focus E) → RedAt v root x k → Eased w new_root k (length k.frames) result
+  abbrev pub FixesRedParent : Table E → Table E → Option Place → Option Place → Place → Option Place → Type 0
+  FixesRedParent v w root new_root x result = (k : Focus E) → RedAt v root x k → IsFixedOrHigher w new_root k (length k.frames) result
 
-  abbrev pub Repairs : Table E → Table E → Option Place → Option Place → Place → Type 0
-  Repairs v w root new_root x = (k : Focus E) → RedAt v root x k → length k.frames < turns → IsMended n w new_root k
+  abbrev pub FixesInsertion : Table E → Table E → Option Place → Option Place → Place → Type 0
+  FixesInsertion v w root new_root x = (k : Focus E) → RedAt v root x k → length k.frames < turns → IsRestored n w new_root k
 
   -- the red parent q of x, and its parent g, on side i of which q stands; the frames are those above g
   pub record PairAt (v : Table E) (root : Option Place) (x q g : Place) (i : Side) (m : RedPair) (k : Focus E) : Type 0 where
     pub red : RedAt v root x (record k { frames = above_pair q g i m k.frames })
 
-  abbrev pub EasesPair : Table E → Table E → Option Place → Option Place → Place → Place → Place → Option Place → Type 0
-  EasesPair v w root new_root x q g result =
-      (i : Side) (m : RedPair) (k : Focus E) → PairAt v root x q g i m k → Eased w new_root k (length k.frames + 2) result
+  abbrev pub FixesRedPairOn : Table E → Table E → Option Place → Option Place → Place → Place → Place → Side → Option Place → Type 0
+  FixesRedPairOn v w root new_root x q g i result = (m : RedPair) (k : Focus E) → PairAt v root x q g i m k → IsFixedOrHigher w new_root k (length k.frames + 2) result
 
-  -- both children of g turn black, and g red, unless it is the root
+  abbrev pub FixesRedPair : Table E → Table E → Option Place → Option Place → Place → Place → Place → Option Place → Type 0
+  FixesRedPair v w root new_root x q g result = (i : Side) → FixesRedPairOn v w root new_root x q g i result
+
+  -- CASE 1, a red uncle: both children of g turn black, and g red, unless it is the root
   abbrev pub Recolors : Table E → Table E → Place → Place → Place → Type 0
   Recolors v w q y g =
       (root : Option Place) (i : Side) (m : RedPair) (k : Focus E) → top m.uncle ≡ Some y
       → Stands n k.base v root (above_pair q g i m k.frames) k.subtree k.pieces
       → Stands n k.base w root k.frames (branch i (wanted k.frames) (branch m.low Black k.subtree q m.sibling) g (blackened m.uncle)) k.pieces
 
-  -- a straight pair below g: `upper` and what is red below it stand on the same side
-  abbrev pub IsStraight : Table E → Option Place → Place → Place → Side → RedPair → Focus E → Type 0
-  IsStraight w root upper g i m k =
+  -- a red child of `upper` is an outer grandchild of g: it stands on the side on which `upper` does
+  abbrev pub HasOuterGrandchild : Table E → Option Place → Place → Place → Side → RedPair → Focus E → Type 0
+  HasOuterGrandchild w root upper g i m k =
       (x : Place) × (b : Tree) × (t : Tree) × PairAt w root x upper g i (record m { low = i; sibling = b }) (record k { subtree = t })
 
-  abbrev pub Straightens : Table E → Table E → Option Place → Option Place → Place → Place → Side → Place → Type 0
-  Straightens v w root new_root x q i upper =
-      (g : Place) (m : RedPair) (k : Focus E) → PairAt v root x q g i m k → IsStraight w new_root upper g i m k
+  -- CASE 2, an inner grandchild: it comes up above its parent
+  abbrev pub RotatesInnerGrandchild : Table E → Table E → Option Place → Option Place → Place → Place → Side → Place → Type 0
+  RotatesInnerGrandchild v w root new_root x q i upper =
+      (g : Place) (m : RedPair) (k : Focus E) → PairAt v root x q g i m k → HasOuterGrandchild w new_root upper g i m k
 
-  abbrev pub Lifts : Table E → Table E → Option Place → Option Place → Place → Place → Side → Type 0
-  Lifts v w root new_root upper g i =
+  -- CASE 3, an outer grandchild: its parent comes up above g, black, and g goes down, red
+  abbrev pub RotatesGrandparent : Table E → Table E → Option Place → Option Place → Place → Place → Side → Type 0
+  RotatesGrandparent v w root new_root upper g i =
       (m : RedPair) (k : Focus E) → Stands n k.base v root (above_pair upper g i (record m { low = i }) k.frames) k.subtree k.pieces
       → Stands n k.base w new_root k.frames (branch i Black k.subtree upper (branch i Red m.sibling g m.uncle)) k.pieces
 

@@ -5,6 +5,7 @@ use Rattle.ic_rbtree.specs.declared.keys.key_adapter.Bound.TheVariants.{Included
 use Rattle.std.specs.declared.cmp.Ordering.{Ordering}
 use Rattle.ic_rbtree.specs.Comparing.{order_of}
 use Rattle.ic_rbtree.specs.declared.keys.probe.KeyProbe.{KeyProbe}
+use Rattle.ic_rbtree.specs.declared.keys.probe.KeyFirst.{KeyFirst}
 
 module _ {A V K : Type 0} where
   -- the adapter by which it finds keys
@@ -18,6 +19,10 @@ module _ {A V K : Type 0} where
   -- how many looks it has made
   abbrev pub looks_of : KeyProbe A V K → ℕ
   looks_of p = p.looks
+
+  -- what an insert searches
+  abbrev pub probe_of : KeyFirst A V K → KeyProbe A V K
+  probe_of p = p.probe
 
   -- how it compares
   abbrev pub key_order : (K → K → Ordering) → (A → V → K) → KeyProbe A V K → V → Ordering

@@ -1,5 +1,5 @@
 -- Trees over the table with a number beside each link, the key of its place.
-use Rattle.std.specs.Prelude.{ℕ, Option, List}
+use Rattle.std.specs.Prelude.{ℕ, Option}
 use Rattle.ic_unsafe_ref.specs.declared.place.Place.{Place}
 use Rattle.ic_unsafe_ref.specs.Objects.{Objects, at_indexes}
 use Rattle.ic_link_ops.specs.declared.link.Link.{Link}

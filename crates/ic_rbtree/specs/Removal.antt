@@ -12,7 +12,7 @@ use Rattle.ic_link_ops.specs.Frames.{Frame, frame, branch, plug, above}
 use Rattle.ic_rbtree.specs.Height.{turns}
 use Rattle.ic_rbtree.specs.Pieces.{Stands}
 use Rattle.ic_rbtree.specs.Shortage.{IsShort}
-use Rattle.ic_rbtree.specs.Focus.{Focus, IsInFocus, IsMended}
+use Rattle.ic_rbtree.specs.Focus.{Focus, IsInFocus, IsRestored}
 
 abbrev pub is_red : Color → Bool
 is_red Red = true
@@ -47,8 +47,8 @@ module _ {E : Type 0} (n : E → Node) where
     pub short : IsShort k.frames k.subtree
     pub order : in_order (plug k.frames k.subtree) ≡ k.sequence
 
-  abbrev pub Mends : Table E → Table E → Option Place → Option Place → Option Place → Side → Type 0
-  Mends v w root new_root parent d = (k : Focus E) → Short v root parent d k → length k.frames < turns → IsMended n w new_root k
+  abbrev pub FixesDeletion : Table E → Table E → Option Place → Option Place → Option Place → Side → Type 0
+  FixesDeletion v w root new_root parent d = (k : Focus E) → Short v root parent d k → length k.frames < turns → IsRestored n w new_root k
 
   -- the same below a member q with the color c and another subtree; the frames are those above q
   pub record ShortAt (v : Table E) (root : Option Place) (q : Place) (d : Side) (c : Color) (sibling : Tree) (k : Focus E) : Type 0 where
@@ -63,16 +63,17 @@ module _ {E : Type 0} (n : E → Node) where
     pub black : top_color sibling ≡ Black
 
   -- the other child is y and black now: where the old one was red, it stands above, and q is red
-  pub record Raised (v : Table E) (root : Option Place) (q : Place) (d : Side) (y : Place) (k : Focus E) : Type 0 where
+  pub record HasBlackSibling (v : Table E) (root : Option Place) (q : Place) (d : Side) (y : Place) (k : Focus E) : Type 0 where
     pub color : Color
     pub sibling : Tree
     pub frames : List Frame
     pub beside : Beside v root q d y color sibling (record k { frames = frames })
     pub red_or_same : (color ≡ Red) ⊎ (frames ≡ k.frames)
 
-  abbrev pub Raises : Table E → Table E → Option Place → Option Place → Place → Side → Option Place → Type 0
-  Raises v w root new_root q d result =
-      (c : Color) (sibling : Tree) (k : Focus E) → ShortAt v root q d c sibling k → Has result (λ y. Raised w new_root q d y k)
+  -- CASE 1, a red sibling: it comes up, and there is a black one then
+  abbrev pub BlackensSibling : Table E → Table E → Option Place → Option Place → Place → Side → Option Place → Type 0
+  BlackensSibling v w root new_root q d result =
+      (c : Color) (sibling : Tree) (k : Focus E) → ShortAt v root q d c sibling k → Has result (λ y. HasBlackSibling w new_root q d y k)
 
   -- whether y has a red child
   abbrev pub red_below : Table E → Place → Bool
@@ -85,21 +86,23 @@ module _ {E : Type 0} (n : E → Node) where
     pub right : (q : Place) → (n (v.entry y)).right ≡ Some q → (n (v.entry q)).linked ≡ true
 
   -- the other child of q is `upper`, black, and its far child is red
-  pub record Leant (v : Table E) (root : Option Place) (q : Place) (d : Side) (upper : Place) (c : Color) (k : Focus E) : Type 0 where
+  pub record HasRedFarNephew (v : Table E) (root : Option Place) (q : Place) (d : Side) (upper : Place) (c : Color) (k : Focus E) : Type 0 where
     pub near : Tree
     pub left : Tree
     pub far : Place
     pub right : Tree
     pub at : ShortAt v root q d c (branch d Black near upper (fork Red left far right)) k
 
-  abbrev pub Leans : Table E → Table E → Option Place → Option Place → Side → Place → Option Place → Type 0
-  Leans v w root new_root d y result =
+  -- CASE 3, a red near nephew and a black far one: the near one comes up above the sibling
+  abbrev pub RotatesNearNephew : Table E → Table E → Option Place → Option Place → Side → Place → Option Place → Type 0
+  RotatesNearNephew v w root new_root d y result =
       (q : Place) (c : Color) (sibling : Tree) (k : Focus E) → Beside v root q d y c sibling k → red_child sibling ≡ true
-      → Has result (λ upper. Leant w new_root q d upper c k)
+      → Has result (λ upper. HasRedFarNephew w new_root q d upper c k)
 
-  abbrev pub Settles : Table E → Table E → Option Place → Option Place → Place → Side → Place → Type 0
-  Settles v w root new_root q d y =
-      (c : Color) (sibling : Tree) (k : Focus E) → Beside v root q d y c sibling k → red_child sibling ≡ true → IsMended n w new_root k
+  -- CASE 4, a red far nephew, after case 3 where it is needed: the sibling comes up above q
+  abbrev pub RotatesFarNephew : Table E → Table E → Option Place → Option Place → Place → Side → Place → Type 0
+  RotatesFarNephew v w root new_root q d y =
+      (c : Color) (sibling : Tree) (k : Focus E) → Beside v root q d y c sibling k → red_child sibling ≡ true → IsRestored n w new_root k
 
   -- the subtree has the root q and is one black short
   pub record Rises (w : Table E) (root : Option Place) (q : Place) (k : Focus E) : Type 0 where
@@ -108,14 +111,14 @@ module _ {E : Type 0} (n : E → Node) where
     pub short : IsShort k.frames k.subtree
     pub order : in_order (plug k.frames k.subtree) ≡ k.sequence
 
-  -- y turns red. A red q turns black, and all is right; else the shortage rises
-  abbrev pub Fades : Table E → Table E → Place → Place → Bool → Type 0
-  Fades v w q y done =
+  -- CASE 2, black nephews: y turns red. A red q turns black, and all is right; else the shortage rises
+  abbrev pub ReddensSibling : Table E → Table E → Place → Place → Bool → Type 0
+  ReddensSibling v w q y done =
       (root : Option Place) (d : Side) (c : Color) (sibling : Tree) (k : Focus E) → Beside v root q d y c sibling k → red_child sibling ≡ false
-      → (done ≡ is_red c) × (done ≡ true → IsMended n w root k) × (done ≡ false → (t : Tree) × Rises w root q (record k { subtree = t }))
+      → (done ≡ is_red c) × (done ≡ true → IsRestored n w root k) × (done ≡ false → (t : Tree) × Rises w root q (record k { subtree = t }))
 
   -- one step of the loop
-  abbrev pub Steps : Table E → Table E → Option Place → Option Place → Place → Side → Bool → Type 0
-  Steps v w root new_root q d done =
+  abbrev pub FixesDeletionStep : Table E → Table E → Option Place → Option Place → Place → Side → Bool → Type 0
+  FixesDeletionStep v w root new_root q d done =
       (c : Color) (sibling : Tree) (k : Focus E) → ShortAt v root q d c sibling k
-      → (done ≡ true → IsMended n w new_root k) × (done ≡ false → (t : Tree) × Rises w new_root q (record k { subtree = t }))
+      → (done ≡ true → IsRestored n w new_root k) × (done ≡ false → (t : Tree) × Rises w new_root q (record k { subtree = t }))

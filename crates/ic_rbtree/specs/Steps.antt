@@ -45,12 +45,13 @@ module _ {E : Type 0} (n : E → Node) where
       → Held n base v (below up t ∷ ps) → Held n base w (below x t ∷ ps)
 
   -- `to` hangs where `was` hung below `parent`
-  abbrev pub Relinks : Table E → Table E → Option Place → Option Place → Option Place → Place → Option Place → Type 0
-  Relinks v w old_root new_root parent was to =
+  abbrev pub ChangesChild : Table E → Table E → Option Place → Option Place → Option Place → Place → Option Place → Type 0
+  ChangesChild v w old_root new_root parent was to =
       (base : Table E) (fs : List Frame) (x : Option Place) (ps : List Piece) → parent ≡ above fs → to ≡ x
       → times_around was fs ≡ 0 → Held n base v (around old_root fs (Some was) ∷ ps) → Held n base w (around new_root fs x ∷ ps)
 
-  -- the place goes down on this side, and its child on the other side comes up
-  abbrev pub Rotates : Table E → Table E → Option Place → Option Place → Place → Side → Type 0
-  Rotates v w old_root new_root p d =
-      (base : Table E) (fs : List Frame) (x : Turn) (ps : List Piece) → Stands n base v old_root fs (unturned d p x) ps → Stands n base w new_root fs (turned d p x) ps
+  -- the place goes down on this side, `upper`, its child on the other side, comes up, and they get these colors
+  abbrev pub Rotates : Table E → Table E → Option Place → Option Place → Place → Place → Side → Color → Color → Type 0
+  Rotates v w old_root new_root p upper d low high =
+      (base : Table E) (fs : List Frame) (x : Turn) (ps : List Piece) → x.upper ≡ upper → Stands n base v old_root fs (unturned d p x) ps
+      → Stands n base w new_root fs (turned d p (record x { color = low; upper_color = high })) ps

@@ -1,8 +1,8 @@
 //! A place that is linked and put in, a member that is taken off and unlinked, and one for the other.
 //!
 //! The repair follows Cormen, Leiserson, Rivest and Stein, Introduction to Algorithms, chapter 13, with these departures:
-//! mirrored cases are one, by sides; a missing child is no node of its own; a member with two children is replaced by
-//! the next one only when that one is out of the tree and the colors are right.
+//! mirrored cases are written once, by sides, and compiled for each side; a missing child is no node of its own; a member with two
+//! children is replaced by the next one only when that one is out of the tree and the colors are right.
 
 ghost use Rattle.std.specs.Prelude.{◌≡◌, Some, List, [], ◌∷◌};
 ghost use Rattle.std.specs.Bool.{OnTrue, OnFalse};

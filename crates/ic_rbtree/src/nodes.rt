@@ -80,6 +80,14 @@ pub trait Nodes {
         ensures frame { ChangesOnly (table self.old) (table self.new) place }
         ensures quiet { Quiet self.old self.new };
 
+    /// Sets the parent and the color of `place`, at once. It asks that the place is linked, and what it names too. O(1).
+    fn set_parent_and_color(&mut self, place: Place, parent: Option<Place>, color: Color)
+        requires linked { IsNode node (table self.old) place }
+        requires named { IsNamed node (table self.old) parent }
+        ensures set { node_at node (table self.new) place ≡ record (node_at node (table self.old) place) { parent = parent; color = color } }
+        ensures frame { ChangesOnly (table self.old) (table self.new) place }
+        ensures quiet { Quiet self.old self.new };
+
     // The laws: what stays is quiet, and quiet changes are quiet together.
     ghost quiet_still: { (t : Self) → Quiet t t };
 
@@ -135,6 +143,11 @@ impl<L: RBTreeOps> Nodes for L {
     #[inline]
     fn set_color(&mut self, place: Place, color: Color) {
         RBTreeOps::set_color(self, place, color);
+    }
+
+    #[inline]
+    fn set_parent_and_color(&mut self, place: Place, parent: Option<Place>, color: Color) {
+        RBTreeOps::set_parent_and_color(self, place, parent, color);
     }
 
     ghost quiet_still = { λ t start s d. d };

@@ -6,7 +6,7 @@ ghost use Rattle.ic_link_ops.specs.Walk.{is_end};
 ghost use Rattle.ic_link_ops.specs.RedBlackTree.{node_at};
 ghost use Rattle.ic_link_ops.specs.Frames.{across, child_on};
 ghost use Rattle.ic_rbtree.specs.Removal.{red_at, red_below, AreRead};
-ghost use Rattle.ic_rbtree.specs.Taking.{or_else, IsSideBelow, both_of};
+ghost use Rattle.ic_rbtree.specs.Transplants.{or_else, IsSideBelow, both_of};
 ghost use Rattle.ic_rbtree.specs.Insertion.{color_below, are_across};
 ghost use Rattle.ic_rbtree.specs.Steps.{IsSideOf};
 ghost use Rattle.ic_rbtree.specs.Closed.{IsNode};

@@ -15,7 +15,7 @@ ghost use Rattle.ic_rbtree.specs.Comparing.{compared, HasRoom, Looks};
 ghost use Rattle.ic_rbtree.specs.Descents.{EndsAt};
 ghost use Rattle.ic_rbtree.specs.Insertion.{Attaches};
 ghost use Rattle.ic_rbtree.specs.Sides.{IsBeside};
-ghost use Rattle.ic_rbtree.specs.Taking.{TakesAway, TakesPlace};
+ghost use Rattle.ic_rbtree.specs.Transplants.{TakesAway, TakesPlace};
 ghost use Rattle.ic_rbtree.specs.Tree.{root_of, adapter_of};
 
 use crate::Probe;

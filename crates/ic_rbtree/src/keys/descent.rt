@@ -126,7 +126,8 @@ impl Descent {
 /// How a descent comes to the next member.
 #[derive(Drop)]
 pub(crate) enum Turn {
-    /// By a branch, which a processor guesses, and loads ahead. Right guesses are fastest: keys that come in order have them.
+    /// By branches, which a processor guesses and loads ahead, as long as it goes right, and from then on as `Picked`. Keys that come in
+    /// order go right at each member.
     Guessed,
     /// By both children, of which it picks one. No guess is wrong, as every second one is for keys at random.
     Picked,
@@ -156,10 +157,8 @@ fn are_some(left: Option<Place>, right: Option<Place>) -> bool
 // Goes down from the root to a gap: left of the members that are greater than what is searched, right of those that are
 // less, and past equal ones to the side `equals`.
 //
-// Where the turn is guessed, each side tests its own child, so that the two loads are two branches. One load from an address that is
-// picked would wait for each comparison, in a tree that memory keeps for twice as long. Where it is picked, a test of both children behind
-// the loop, which never holds, keeps both loads: the compiler would else make them one, from a picked address. The left child is read
-// before the comparison in both, so that where the table's entries stand is read once.
+// Where the turn is picked, a test of both children behind the loop, which never holds, keeps both loads: the compiler would else make
+// them one, from a picked address. The left child is read before the comparison, so that where the table's entries stand is read once.
 #[inline]
 pub(crate) fn descend<L: RBTreeOps, V, P: Probe<V>, O: Values<V>>(
     links: &L,
@@ -178,29 +177,27 @@ pub(crate) fn descend<L: RBTreeOps, V, P: Probe<V>, O: Values<V>>(
 {
     let mut descent = Descent::new();
     let mut at = root;
+    if let Turn::Guessed = turn {
+        while let Some(place) = at {
+            let left = links.left(place);
+            if descent.look(objects, probe, place, equals) {
+                at = left;
+                break;
+            }
+            at = links.right(place);
+        }
+    }
     while let Some(place) = at {
         let left = links.left(place);
-        if let Turn::Picked = turn {
-            let right = links.right(place);
-            let goes_left = descent.look(objects, probe, place, equals);
-            let Some(next) = pick(goes_left, left, right) else {
-                if are_some(left, right) {
-                    return Descent::new();
-                }
-                return descent;
-            };
-            at = Some(next);
-        } else if descent.look(objects, probe, place, equals) {
-            let Some(next) = left else {
-                return descent;
-            };
-            at = Some(next);
-        } else {
-            let Some(next) = links.right(place) else {
-                return descent;
-            };
-            at = Some(next);
-        }
+        let right = links.right(place);
+        let goes_left = descent.look(objects, probe, place, equals);
+        let Some(next) = pick(goes_left, left, right) else {
+            if are_some(left, right) {
+                return Descent::new();
+            }
+            return descent;
+        };
+        at = Some(next);
     }
     descent
 }

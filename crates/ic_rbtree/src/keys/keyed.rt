@@ -17,8 +17,9 @@ ghost use Rattle.ic_rbtree.specs.Ordered.{InsertsInOrder};
 ghost use Rattle.ic_rbtree.specs.Tree.{root_of, adapter_of};
 
 use crate::keys::descent::{Turn, descend};
+use crate::keys::probe::KeyFirst;
 use crate::repair::insertion::attach;
-use crate::{KeyAdapter, KeyProbe, RBTree};
+use crate::{KeyAdapter, RBTree};
 use ic_link_ops::rbtree::RBTreeOps;
 use ic_link_ops::{AlreadyLinked, LinkOps, LinkValues, Side};
 use ic_unsafe_ref::{UnsafeRef, Values};
@@ -53,7 +54,7 @@ impl<A: KeyAdapter> RBTree<A> {
             return Err(AlreadyLinked(object));
         }
         let own = &*links;
-        let mut probe = KeyProbe::new(self.adapter, self.adapter.get_key(own.value(place)));
+        let mut probe = KeyFirst::new(self.adapter, self.adapter.get_key(own.value(place)));
         let from = self.root.get();
         let hole = descend(own, from, own, &mut probe, Side::Right, Turn::Guessed);
         attach(links, &mut self.root, hole.parent.get(), hole.side, place);

@@ -15,8 +15,9 @@ ghost use Rattle.ic_rbtree.specs.Comparing.{compared, own_order, HasRoom, Looks}
 ghost use Rattle.ic_rbtree.specs.Ordered.{InsertsInOrder};
 ghost use Rattle.ic_rbtree.specs.Tree.{root_of, adapter_of};
 
+use crate::keys::probe::KeyFirst;
 use crate::linking::insert_in_order;
-use crate::{KeyAdapter, KeyProbe, Probe, RBTree};
+use crate::{KeyAdapter, Probe, RBTree};
 use ic_cursors::Ordered;
 use ic_link_ops::rbtree::RBTreeOps;
 use ic_link_ops::{AlreadyLinked, LinkOps, PlaceWord};
@@ -36,7 +37,7 @@ impl<A: KeyAdapter, L: RBTreeOps> Ordered<L> for RBTree<A> {
     ) -> bool {
         let _ = at;
         let value = objects.value(object);
-        let mut probe = KeyProbe::new(self.adapter, self.adapter.get_key(value));
+        let mut probe = KeyFirst::new(self.adapter, self.adapter.get_key(value));
         insert_in_order(links, &mut self.root, objects, &mut probe, object)
     }
 }
@@ -98,7 +99,7 @@ impl<A: KeyAdapter> RBTree<A> {
         ensures unchanged { IfErr result (λ refused. (refused.0 ≡ object) × (self.new ≡ self.old)) }
     {
         let value = objects.value(object.place());
-        let mut probe = KeyProbe::new(self.adapter, self.adapter.get_key(value));
+        let mut probe = KeyFirst::new(self.adapter, self.adapter.get_key(value));
         self.insert_by(links, objects, &mut probe, object)
     }
 }

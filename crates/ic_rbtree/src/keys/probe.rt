@@ -10,7 +10,7 @@ ghost use Rattle.std.specs.Prelude.{◌≡◌, ℕ, ◌+◌, ◌<◌};
 ghost use Rattle.std.specs.declared.cmp.Ordering.{Ordering};
 ghost use Rattle.ic_unsafe_ref.specs.Objects.{Objects};
 ghost use Rattle.ic_rbtree.specs.Comparing.{order_there, compared_within, HasRoomWithin};
-ghost use Rattle.ic_rbtree.specs.KeyProbe.{adapter_of, key_of_probe, key_order, looks_of, HasAdapter};
+ghost use Rattle.ic_rbtree.specs.KeyProbe.{adapter_of, key_of_probe, key_order, looks_of, probe_of, HasAdapter};
 
 use crate::{Bound, KeyAdapter};
 use std::cmp::Ordering;
@@ -80,6 +80,40 @@ impl<A: KeyAdapter> Probe<A::Value> for KeyProbe<'_, A> {
         self.looks += 1;
         // The value's key stands in front, so that a search picks its way by one flag of the processor: `v < k`, and not `k > v`.
         self.adapter.get_key(value).cmp(self.key).reverse()
+    }
+}
+
+/// The same search, for an insert: it goes left where its key is less, so the key stands in front, and one flag tells: `k < v`.
+#[derive(Drop)]
+pub(crate) struct KeyFirst<'k, A: KeyAdapter>
+where
+    A::Key: 'k,
+{
+    probe: KeyProbe<'k, A>,
+}
+
+impl<'k, A: KeyAdapter> KeyFirst<'k, A> {
+    #[inline]
+    pub(crate) fn new(adapter: A, key: &'k A::Key) -> KeyFirst<'k, A>
+        ensures adapter { adapter_of (probe_of result) ≡ adapter }
+        ensures key { key_of_probe (probe_of result) ≡ key.now }
+        ensures none { looks_of (probe_of result) ≡ 0 }
+    {
+        KeyFirst {
+            probe: KeyProbe::new(adapter, key),
+        }
+    }
+}
+
+impl<A: KeyAdapter> Probe<A::Value> for KeyFirst<'_, A> {
+    ghost order = { λ p. key_order A.Key.cmp A.key_of (probe_of p) };
+
+    ghost count = { λ p. looks_of (probe_of p) };
+
+    #[inline]
+    fn compare(&mut self, value: &A::Value) -> Ordering {
+        self.probe.looks += 1;
+        self.probe.key.cmp(self.probe.adapter.get_key(value))
     }
 }
 

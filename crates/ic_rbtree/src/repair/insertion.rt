@@ -1,18 +1,19 @@
-//! How a place is put into a tree, and the colors are repaired.
+//! How a place is put into a tree, and the colors are repaired: the cases are numbered as in RB-INSERT-FIXUP of Cormen,
+//! Leiserson, Rivest and Stein.
 
 ghost use Rattle.std.specs.Prelude.{Option, Some, [], ◌∷◌};
 ghost use Rattle.ic_unsafe_ref.specs.declared.place.Place.{Place};
 ghost use Rattle.ic_rbtree.specs.Closed.{IsNode, KeepsNodes, IsSafe, IsSafeBut, StaysClosed, StaysClosedBut, ClosesAt};
-ghost use Rattle.ic_rbtree.specs.Insertion.{Eases, Repairs, EasesPair, Recolors, Straightens, Lifts, Attaches};
+ghost use Rattle.ic_rbtree.specs.Insertion.{FixesRedParent, FixesInsertion, FixesRedPair, FixesRedPairOn, Recolors, RotatesInnerGrandchild, RotatesGrandparent, Attaches};
 
 use crate::nodes::Nodes;
 use crate::readings::{child, color_here, is_across, is_red, other, side_of};
 use crate::repair::TURNS;
-use crate::repair::writers::{rotate, set_child, set_color, set_parent};
+use crate::repair::writers::{rotate, set_child, set_color, set_parent_and_color};
 use ic_link_ops::{Color, PlaceWord, Side};
 use ic_unsafe_ref::Place;
 
-// The red children of `grand` turn black, and it turns red unless it is the root.
+// Case 1, the uncle is red: the children of `grand` turn black, and it turns red unless it is the root.
 pub(crate) fn recolor<N: Nodes>(links: &mut N, parent: Place, uncle: Place, grand: Place)
     requires parent { IsNode N.node (N.table links.old) parent }
     requires uncle { IsNode N.node (N.table links.old) uncle }
@@ -28,8 +29,10 @@ pub(crate) fn recolor<N: Nodes>(links: &mut N, parent: Place, uncle: Place, gran
     set_color(links, grand, color);
 }
 
-// Makes a red pair straight, and says which is the upper one then.
-pub(crate) fn straighten<N: Nodes>(
+// Case 2, the place is an inner grandchild: it comes up above its parent, so that its parent is an outer one. Which of the two
+// is the upper one then is the answer.
+#[inline(always)]
+pub(crate) fn rotate_inner_grandchild<N: Nodes>(
     links: &mut N,
     root: &mut PlaceWord,
     place: Place,
@@ -37,7 +40,7 @@ pub(crate) fn straighten<N: Nodes>(
     side: Side,
 ) -> Place
     requires { IsSafe N.node (N.table links.old) root.old (Some place ∷ Some parent ∷ []) }
-    ensures straight { Straightens N.node (N.table links.old) (N.table links.new) root.old root.new place parent side result }
+    ensures outer_grandchild { RotatesInnerGrandchild N.node (N.table links.old) (N.table links.new) root.old root.new place parent side result }
     ensures linked { KeepsNodes N.node (N.table links.old) (N.table links.new) }
     ensures safe { StaysClosed N.node (N.table links.old) (N.table links.new) root.old root.new (Some place ∷ Some parent ∷ []) (Some result ∷ []) }
     ensures quiet { N.Quiet links.old links.new }
@@ -46,12 +49,13 @@ pub(crate) fn straighten<N: Nodes>(
     if !is_across(low, side) {
         return parent;
     }
-    rotate(links, root, parent, side);
+    rotate(links, root, parent, place, side, Color::Red, Color::Red);
     place
 }
 
-// The upper one of a straight red pair comes up, above `grand`.
-pub(crate) fn lift<N: Nodes>(
+// Case 3, the red child of `upper` is an outer grandchild: `upper` comes up above `grand`.
+#[inline(always)]
+pub(crate) fn rotate_grandparent<N: Nodes>(
     links: &mut N,
     root: &mut PlaceWord,
     upper: Place,
@@ -59,17 +63,51 @@ pub(crate) fn lift<N: Nodes>(
     side: Side,
 )
     requires { IsSafe N.node (N.table links.old) root.old (Some upper ∷ Some grand ∷ []) }
-    ensures lifted { Lifts N.node (N.table links.old) (N.table links.new) root.old root.new upper grand side }
+    ensures rotated { RotatesGrandparent N.node (N.table links.old) (N.table links.new) root.old root.new upper grand side }
     ensures linked { KeepsNodes N.node (N.table links.old) (N.table links.new) }
     ensures safe { StaysClosed N.node (N.table links.old) (N.table links.new) root.old root.new (Some upper ∷ Some grand ∷ []) [] }
     ensures quiet { N.Quiet links.old links.new }
 {
-    set_color(links, upper, Color::Black);
-    set_color(links, grand, Color::Red);
-    rotate(links, root, grand, other(side));
+    rotate(
+        links,
+        root,
+        grand,
+        upper,
+        other(side),
+        Color::Red,
+        Color::Black,
+    );
 }
 
-pub(crate) fn ease_pair<N: Nodes>(
+// One step where `parent` stands on this side of `grand`: where the next one stands, if it was not the last.
+#[inline(always)]
+pub(crate) fn fix_red_pair_on<N: Nodes>(
+    links: &mut N,
+    root: &mut PlaceWord,
+    place: Place,
+    parent: Place,
+    grand: Place,
+    side: Side,
+) -> Option<Place>
+    requires { IsSafe N.node (N.table links.old) root.old (Some place ∷ Some parent ∷ Some grand ∷ []) }
+    ensures fixed { FixesRedPairOn N.node (N.table links.old) (N.table links.new) root.old root.new place parent grand side result }
+    ensures linked { KeepsNodes N.node (N.table links.old) (N.table links.new) }
+    ensures safe { StaysClosed N.node (N.table links.old) (N.table links.new) root.old root.new (Some place ∷ Some parent ∷ Some grand ∷ []) (result ∷ []) }
+    ensures quiet { N.Quiet links.old links.new }
+{
+    let uncle = child(&*links, grand, other(side));
+    if is_red(&*links, uncle) {
+        let red = uncle?;
+        recolor(links, parent, red, grand);
+        return Some(grand);
+    }
+    let upper = rotate_inner_grandchild(links, root, place, parent, side);
+    rotate_grandparent(links, root, upper, grand, side);
+    None
+}
+
+// The same on the side on which `parent` stands. Each side has code of its own, in which no side is asked for again.
+pub(crate) fn fix_red_pair<N: Nodes>(
     links: &mut N,
     root: &mut PlaceWord,
     place: Place,
@@ -77,27 +115,25 @@ pub(crate) fn ease_pair<N: Nodes>(
     grand: Place,
 ) -> Option<Place>
     requires { IsSafe N.node (N.table links.old) root.old (Some place ∷ Some parent ∷ Some grand ∷ []) }
-    ensures eased { EasesPair N.node (N.table links.old) (N.table links.new) root.old root.new place parent grand result }
+    ensures fixed { FixesRedPair N.node (N.table links.old) (N.table links.new) root.old root.new place parent grand result }
     ensures linked { KeepsNodes N.node (N.table links.old) (N.table links.new) }
     ensures safe { StaysClosed N.node (N.table links.old) (N.table links.new) root.old root.new (Some place ∷ Some parent ∷ Some grand ∷ []) (result ∷ []) }
     ensures quiet { N.Quiet links.old links.new }
 {
-    let side = side_of(&*links, parent, grand);
-    let uncle = child(&*links, grand, other(side));
-    if is_red(&*links, uncle) {
-        let red = uncle?;
-        recolor(links, parent, red, grand);
-        return Some(grand);
+    match side_of(&*links, parent, grand) {
+        Side::Left => fix_red_pair_on(links, root, place, parent, grand, Side::Left),
+        Side::Right => fix_red_pair_on(links, root, place, parent, grand, Side::Right),
     }
-    let upper = straighten(links, root, place, parent, side);
-    lift(links, root, upper, grand, side);
-    None
 }
 
-// One step of the repair: where the next one stands, if it was not the last.
-pub(crate) fn ease<N: Nodes>(links: &mut N, root: &mut PlaceWord, place: Place) -> Option<Place>
+// One step of the repair, where the parent may be black: where the next one stands, if it was not the last.
+pub(crate) fn fix_red_parent<N: Nodes>(
+    links: &mut N,
+    root: &mut PlaceWord,
+    place: Place,
+) -> Option<Place>
     requires { IsSafe N.node (N.table links.old) root.old (Some place ∷ []) }
-    ensures eased { Eases N.node (N.table links.old) (N.table links.new) root.old root.new place result }
+    ensures fixed { FixesRedParent N.node (N.table links.old) (N.table links.new) root.old root.new place result }
     ensures linked { KeepsNodes N.node (N.table links.old) (N.table links.new) }
     ensures safe { StaysClosed N.node (N.table links.old) (N.table links.new) root.old root.new (Some place ∷ []) (result ∷ []) }
     ensures quiet { N.Quiet links.old links.new }
@@ -107,20 +143,20 @@ pub(crate) fn ease<N: Nodes>(links: &mut N, root: &mut PlaceWord, place: Place) 
         return None;
     }
     let grand = links.parent(parent)?;
-    ease_pair(links, root, place, parent, grand)
+    fix_red_pair(links, root, place, parent, grand)
 }
 
-/// Repairs the colors above a member that was put in red.
-pub(crate) fn repair_red<N: Nodes>(links: &mut N, root: &mut PlaceWord, place: Place)
+/// Repairs the colors above a member that was put in red, in O(log n): RB-INSERT-FIXUP.
+pub(crate) fn insert_fixup<N: Nodes>(links: &mut N, root: &mut PlaceWord, place: Place)
     requires { IsSafe N.node (N.table links.old) root.old (Some place ∷ []) }
-    ensures repaired { Repairs N.node (N.table links.old) (N.table links.new) root.old root.new place }
+    ensures restored { FixesInsertion N.node (N.table links.old) (N.table links.new) root.old root.new place }
     ensures linked { KeepsNodes N.node (N.table links.old) (N.table links.new) }
     ensures safe { StaysClosed N.node (N.table links.old) (N.table links.new) root.old root.new (Some place ∷ []) [] }
     ensures quiet { N.Quiet links.old links.new }
 {
     let mut place = place;
     for _ in 0..TURNS {
-        let Some(upper) = ease(links, root, place) else {
+        let Some(upper) = fix_red_parent(links, root, place) else {
             return;
         };
         place = upper;
@@ -143,16 +179,15 @@ pub(crate) fn attach<N: Nodes>(
 {
     set_child(links, place, Side::Left, None);
     set_child(links, place, Side::Right, None);
-    set_parent(links, place, parent);
     match parent {
         None => {
-            set_color(links, place, Color::Black);
+            set_parent_and_color(links, place, parent, Color::Black);
             *root = PlaceWord::of(Some(place));
         }
-        Some(parent) => {
-            set_color(links, place, Color::Red);
-            set_child(links, parent, side, Some(place));
-            repair_red(links, root, place);
+        Some(above) => {
+            set_parent_and_color(links, place, parent, Color::Red);
+            set_child(links, above, side, Some(place));
+            insert_fixup(links, root, place);
         }
     }
 }

@@ -1,30 +1,32 @@
-//! How a member is taken out of a tree, and the colors are repaired.
+//! How a member is taken out of a tree, and the colors are repaired: the cases are numbered as in RB-DELETE-FIXUP of Cormen,
+//! Leiserson, Rivest and Stein. The short subtree's sibling has two children, its nephews: the near one stands on the short side.
 
 ghost use Rattle.std.specs.Prelude.{Option, Some, [], ◌∷◌};
 ghost use Rattle.ic_unsafe_ref.specs.declared.place.Place.{Place};
 ghost use Rattle.ic_rbtree.specs.Closed.{IsNode, KeepsNodes, IsSafe, StaysClosed, StaysClosedBut};
-ghost use Rattle.ic_rbtree.specs.Removal.{Mends, Raises, Leans, Settles, Fades, Steps};
-ghost use Rattle.ic_rbtree.specs.Taking.{Closes, TakesOut, TakesAway};
+ghost use Rattle.ic_rbtree.specs.Removal.{FixesDeletion, BlackensSibling, RotatesNearNephew, RotatesFarNephew, ReddensSibling, FixesDeletionStep};
+ghost use Rattle.ic_rbtree.specs.Transplants.{Closes, SplicesOut, TakesAway};
 
 use crate::nodes::Nodes;
 use crate::readings::{
     child, has_red_child, is_at, is_red, only_child, other, second_child, side_below,
 };
 use crate::repair::TURNS;
-use crate::repair::writers::{adopt, relink, rotate, set_color, take_place};
+use crate::repair::writers::{adopt, change_child, rotate, set_color, take_place};
 use crate::within::outermost_within;
 use ic_link_ops::{Color, PlaceWord, Side};
 use ic_unsafe_ref::Place;
 
-// The black sibling of a short subtree: a red one comes up first.
-pub(crate) fn raise<N: Nodes>(
+// Case 1, the sibling is red: it comes up, and one of its children is the sibling then. Answers the sibling, which is black.
+#[inline(always)]
+pub(crate) fn blacken_sibling<N: Nodes>(
     links: &mut N,
     root: &mut PlaceWord,
     place: Place,
     side: Side,
 ) -> Option<Place>
     requires { IsSafe N.node (N.table links.old) root.old (Some place ∷ []) }
-    ensures raised { Raises N.node (N.table links.old) (N.table links.new) root.old root.new place side result }
+    ensures black_sibling { BlackensSibling N.node (N.table links.old) (N.table links.new) root.old root.new place side result }
     ensures linked { KeepsNodes N.node (N.table links.old) (N.table links.new) }
     ensures safe { StaysClosed N.node (N.table links.old) (N.table links.new) root.old root.new (Some place ∷ []) (result ∷ []) }
     ensures quiet { N.Quiet links.old links.new }
@@ -34,21 +36,21 @@ pub(crate) fn raise<N: Nodes>(
     if !is_red(&*links, Some(sibling)) {
         return Some(sibling);
     }
-    set_color(links, sibling, Color::Black);
-    set_color(links, place, Color::Red);
-    rotate(links, root, place, side);
+    rotate(links, root, place, sibling, side, Color::Red, Color::Black);
     child(&*links, place, far)
 }
 
-// The far child of a black sibling with a red child turns red, if it is not: the near one comes up.
-pub(crate) fn lean<N: Nodes>(
+// Case 3, the far nephew is black and the near one red: the near one comes up above the sibling. Answers the sibling, whose far
+// child is red.
+#[inline(always)]
+pub(crate) fn rotate_near_nephew<N: Nodes>(
     links: &mut N,
     root: &mut PlaceWord,
     sibling: Place,
     side: Side,
 ) -> Option<Place>
     requires { IsSafe N.node (N.table links.old) root.old (Some sibling ∷ []) }
-    ensures leant { Leans N.node (N.table links.old) (N.table links.new) root.old root.new side sibling result }
+    ensures red_far_nephew { RotatesNearNephew N.node (N.table links.old) (N.table links.new) root.old root.new side sibling result }
     ensures linked { KeepsNodes N.node (N.table links.old) (N.table links.new) }
     ensures safe { StaysClosed N.node (N.table links.old) (N.table links.new) root.old root.new (Some sibling ∷ []) (result ∷ []) }
     ensures quiet { N.Quiet links.old links.new }
@@ -59,14 +61,13 @@ pub(crate) fn lean<N: Nodes>(
         return Some(sibling);
     }
     let near = child(&*links, sibling, side)?;
-    set_color(links, near, Color::Black);
-    set_color(links, sibling, Color::Red);
-    rotate(links, root, sibling, far);
+    rotate(links, root, sibling, near, far, Color::Red, Color::Black);
     Some(near)
 }
 
-// The sibling comes up with the parent's color, and all is right.
-pub(crate) fn settle<N: Nodes>(
+// Case 4, the far nephew is red, after case 3 where it is not: the sibling comes up with the parent's color, and all is right.
+#[inline(always)]
+pub(crate) fn rotate_far_nephew<N: Nodes>(
     links: &mut N,
     root: &mut PlaceWord,
     place: Place,
@@ -74,12 +75,12 @@ pub(crate) fn settle<N: Nodes>(
     side: Side,
 )
     requires { IsSafe N.node (N.table links.old) root.old (Some place ∷ Some sibling ∷ []) }
-    ensures settled { Settles N.node (N.table links.old) (N.table links.new) root.old root.new place side sibling }
+    ensures restored { RotatesFarNephew N.node (N.table links.old) (N.table links.new) root.old root.new place side sibling }
     ensures linked { KeepsNodes N.node (N.table links.old) (N.table links.new) }
     ensures safe { StaysClosed N.node (N.table links.old) (N.table links.new) root.old root.new (Some place ∷ Some sibling ∷ []) [] }
     ensures quiet { N.Quiet links.old links.new }
 {
-    let Some(upper) = lean(links, root, sibling, side) else {
+    let Some(upper) = rotate_near_nephew(links, root, sibling, side) else {
         return;
     };
     let far = other(side);
@@ -87,17 +88,15 @@ pub(crate) fn settle<N: Nodes>(
         return;
     };
     let color = links.color(place);
-    set_color(links, upper, color);
-    set_color(links, place, Color::Black);
     set_color(links, outer, Color::Black);
-    rotate(links, root, place, side);
+    rotate(links, root, place, upper, side, Color::Black, color);
 }
 
-// The sibling turns red. A red parent turns black, and then all is right.
-pub(crate) fn fade<N: Nodes>(links: &mut N, place: Place, sibling: Place) -> bool
+// Case 2, both nephews are black: the sibling turns red. A red parent turns black, and then all is right. Answers whether it was red.
+pub(crate) fn redden_sibling<N: Nodes>(links: &mut N, place: Place, sibling: Place) -> bool
     requires place { IsNode N.node (N.table links.old) place }
     requires sibling { IsNode N.node (N.table links.old) sibling }
-    ensures faded { Fades N.node (N.table links.old) (N.table links.new) place sibling result }
+    ensures reddened { ReddensSibling N.node (N.table links.old) (N.table links.new) place sibling result }
     ensures linked { KeepsNodes N.node (N.table links.old) (N.table links.new) }
     ensures safe { (root : Option Place) → StaysClosedBut N.node (N.table links.old) (N.table links.new) root root [] }
     ensures quiet { N.Quiet links.old links.new }
@@ -110,33 +109,59 @@ pub(crate) fn fade<N: Nodes>(links: &mut N, place: Place, sibling: Place) -> boo
     false
 }
 
-// One step of the repair, which says whether it was the last.
-pub(crate) fn mend<N: Nodes>(links: &mut N, root: &mut PlaceWord, place: Place, side: Side) -> bool
+// One step of the repair on this side of the place, which says whether it was the last.
+#[inline(always)]
+pub(crate) fn delete_fixup_on<N: Nodes>(
+    links: &mut N,
+    root: &mut PlaceWord,
+    place: Place,
+    side: Side,
+) -> bool
     requires { IsSafe N.node (N.table links.old) root.old (Some place ∷ []) }
-    ensures mended { Steps N.node (N.table links.old) (N.table links.new) root.old root.new place side result }
+    ensures restored { FixesDeletionStep N.node (N.table links.old) (N.table links.new) root.old root.new place side result }
     ensures linked { KeepsNodes N.node (N.table links.old) (N.table links.new) }
     ensures safe { StaysClosed N.node (N.table links.old) (N.table links.new) root.old root.new (Some place ∷ []) [] }
     ensures quiet { N.Quiet links.old links.new }
 {
-    let Some(sibling) = raise(links, root, place, side) else {
+    let Some(sibling) = blacken_sibling(links, root, place, side) else {
         return true;
     };
     if has_red_child(&*links, sibling) {
-        settle(links, root, place, sibling, side);
+        rotate_far_nephew(links, root, place, sibling, side);
         return true;
     }
-    fade(links, place, sibling)
+    redden_sibling(links, place, sibling)
 }
 
-/// Repairs a tree that is one black short on this side of `parent`.
-pub(crate) fn repair_short<N: Nodes>(
+// The same, where each side has code of its own.
+pub(crate) fn delete_fixup_step<N: Nodes>(
+    links: &mut N,
+    root: &mut PlaceWord,
+    place: Place,
+    side: Side,
+) -> bool
+    requires { IsSafe N.node (N.table links.old) root.old (Some place ∷ []) }
+    ensures restored { FixesDeletionStep N.node (N.table links.old) (N.table links.new) root.old root.new place side result }
+    ensures linked { KeepsNodes N.node (N.table links.old) (N.table links.new) }
+    ensures safe { StaysClosed N.node (N.table links.old) (N.table links.new) root.old root.new (Some place ∷ []) [] }
+    ensures quiet { N.Quiet links.old links.new }
+{
+    match side {
+        Side::Left => delete_fixup_on(links, root, place, Side::Left),
+        Side::Right => delete_fixup_on(links, root, place, Side::Right),
+    }
+}
+
+/// Repairs a tree that is one black short on this side of `parent`, in O(log n): RB-DELETE-FIXUP.
+#[inline(never)]
+pub(crate) fn delete_fixup<N: Nodes>(
     links: &mut N,
     root: &mut PlaceWord,
     parent: Option<Place>,
     side: Side,
 )
     requires { IsSafe N.node (N.table links.old) root.old (parent ∷ []) }
-    ensures mended { Mends N.node (N.table links.old) (N.table links.new) root.old root.new parent side }
+    ensures restored { FixesDeletion N.node (N.table links.old) (N.table links.new) root.old root.new parent side }
     ensures linked { KeepsNodes N.node (N.table links.old) (N.table links.new) }
     ensures safe { StaysClosed N.node (N.table links.old) (N.table links.new) root.old root.new (parent ∷ []) [] }
     ensures quiet { N.Quiet links.old links.new }
@@ -147,7 +172,7 @@ pub(crate) fn repair_short<N: Nodes>(
         let Some(place) = parent else {
             return;
         };
-        if mend(links, root, place, side) {
+        if delete_fixup_step(links, root, place, side) {
             return;
         }
         parent = links.parent(place);
@@ -175,14 +200,15 @@ pub(crate) fn close_gap<N: Nodes>(
     }
     match child {
         Some(child) => set_color(links, child, Color::Black),
-        None => repair_short(links, root, parent, side),
+        None => delete_fixup(links, root, parent, side),
     }
 }
 
-// Takes out a member that has one child at most.
-pub(crate) fn take_out<N: Nodes>(links: &mut N, root: &mut PlaceWord, place: Place)
+// Takes out a member that has one child at most, which comes up in its place.
+#[inline(always)]
+pub(crate) fn splice_out<N: Nodes>(links: &mut N, root: &mut PlaceWord, place: Place)
     requires { IsSafe N.node (N.table links.old) root.old (Some place ∷ []) }
-    ensures taken { TakesOut N.node (N.table links.old) (N.table links.new) root.old root.new place }
+    ensures taken { SplicesOut N.node (N.table links.old) (N.table links.new) root.old root.new place }
     ensures linked { KeepsNodes N.node (N.table links.old) (N.table links.new) }
     ensures safe { StaysClosed N.node (N.table links.old) (N.table links.new) root.old root.new (Some place ∷ []) [] }
     ensures quiet { N.Quiet links.old links.new }
@@ -191,7 +217,7 @@ pub(crate) fn take_out<N: Nodes>(links: &mut N, root: &mut PlaceWord, place: Pla
     let parent = links.parent(place);
     let color = links.color(place);
     let side = side_below(&*links, place, parent);
-    relink(links, root, parent, place, child);
+    change_child(links, root, parent, place, child);
     adopt(links, child, parent);
     close_gap(links, root, color, child, parent, side);
 }
@@ -204,12 +230,13 @@ pub(crate) fn unlink<N: Nodes>(links: &mut N, root: &mut PlaceWord, place: Place
     ensures safe { StaysClosed N.node (N.table links.old) (N.table links.new) root.old root.new (Some place ∷ []) [] }
     ensures quiet { N.Quiet links.old links.new }
 {
-    let out = match second_child(&*links, place) {
-        Some(right) => outermost_within(&*links, right, Side::Left),
-        None => place,
+    let Some(right) = second_child(&*links, place) else {
+        splice_out(links, root, place);
+        return;
     };
-    take_out(links, root, out);
-    if !is_at(Some(out), place) {
-        take_place(links, root, place, out);
+    let next = outermost_within(&*links, right, Side::Left);
+    splice_out(links, root, next);
+    if !is_at(Some(next), place) {
+        take_place(links, root, place, next);
     }
 }

@@ -6,8 +6,8 @@ ghost use Rattle.ic_link_ops.specs.Tables.{ChangesOnly};
 ghost use Rattle.ic_link_ops.specs.RedBlackTree.{node_at};
 ghost use Rattle.ic_link_ops.specs.Frames.{with_child};
 ghost use Rattle.ic_rbtree.specs.Closed.{IsNode, IsNamed, KeepsNodes, IsSafe, IsSafeBut, StaysClosed, StaysClosedBut, ClosesAt};
-ghost use Rattle.ic_rbtree.specs.Taking.{TakesPlace};
-ghost use Rattle.ic_rbtree.specs.Steps.{Adopts, Relinks, Rotates};
+ghost use Rattle.ic_rbtree.specs.Transplants.{TakesPlace};
+ghost use Rattle.ic_rbtree.specs.Steps.{Adopts, ChangesChild, Rotates};
 
 use crate::nodes::Nodes;
 use crate::readings::{child, other, side_of};
@@ -55,6 +55,25 @@ pub(crate) fn set_color<N: Nodes>(links: &mut N, place: Place, color: Color)
     links.set_color(place, color);
 }
 
+// The parent and the color, in one write.
+pub(crate) fn set_parent_and_color<N: Nodes>(
+    links: &mut N,
+    place: Place,
+    parent: Option<Place>,
+    color: Color,
+)
+    requires linked { IsNode N.node (N.table links.old) place }
+    requires named { IsNamed N.node (N.table links.old) parent }
+    ensures set { node_at N.node (N.table links.new) place
+        ≡ record (node_at N.node (N.table links.old) place) { parent = parent; color = color } }
+    ensures frame { ChangesOnly (N.table links.old) (N.table links.new) place }
+    ensures linked { KeepsNodes N.node (N.table links.old) (N.table links.new) }
+    ensures safe { (root : Option Place) → StaysClosedBut N.node (N.table links.old) (N.table links.new) root root (parent ∷ []) }
+    ensures quiet { N.Quiet links.old links.new }
+{
+    links.set_parent_and_color(place, parent, color);
+}
+
 // A subtree gets another parent.
 pub(crate) fn adopt<N: Nodes>(links: &mut N, child: Option<Place>, parent: Option<Place>)
     requires child { IsNamed N.node (N.table links.old) child }
@@ -69,8 +88,8 @@ pub(crate) fn adopt<N: Nodes>(links: &mut N, child: Option<Place>, parent: Optio
     }
 }
 
-// Another subtree hangs where `was` hung.
-pub(crate) fn relink<N: Nodes>(
+// Another subtree hangs below the parent, or as the root, where `was` hung.
+pub(crate) fn change_child<N: Nodes>(
     links: &mut N,
     root: &mut PlaceWord,
     parent: Option<Place>,
@@ -79,7 +98,7 @@ pub(crate) fn relink<N: Nodes>(
 )
     requires parent { IsNamed N.node (N.table links.old) parent }
     requires named { IsNamed N.node (N.table links.old) to }
-    ensures moved { Relinks N.node (N.table links.old) (N.table links.new) root.old root.new parent was to }
+    ensures moved { ChangesChild N.node (N.table links.old) (N.table links.new) root.old root.new parent was to }
     ensures linked { KeepsNodes N.node (N.table links.old) (N.table links.new) }
     ensures safe { StaysClosedBut N.node (N.table links.old) (N.table links.new) root.old root.new (to ∷ []) }
     ensures quiet { N.Quiet links.old links.new }
@@ -92,26 +111,31 @@ pub(crate) fn relink<N: Nodes>(
     }
 }
 
-/// The place goes down on this side, and its child on the other side comes up.
-pub(crate) fn rotate<N: Nodes>(links: &mut N, root: &mut PlaceWord, place: Place, side: Side)
-    requires { IsSafe N.node (N.table links.old) root.old (Some place ∷ []) }
-    ensures rotated { Rotates N.node (N.table links.old) (N.table links.new) root.old root.new place side }
+/// The place goes down on this side, and its child on the other side, `upper`, comes up. They get the colors `low` and `high`.
+#[inline(always)]
+pub(crate) fn rotate<N: Nodes>(
+    links: &mut N,
+    root: &mut PlaceWord,
+    place: Place,
+    upper: Place,
+    side: Side,
+    low: Color,
+    high: Color,
+)
+    requires { IsSafe N.node (N.table links.old) root.old (Some place ∷ Some upper ∷ []) }
+    ensures rotated { Rotates N.node (N.table links.old) (N.table links.new) root.old root.new place upper side low high }
     ensures linked { KeepsNodes N.node (N.table links.old) (N.table links.new) }
-    ensures safe { StaysClosed N.node (N.table links.old) (N.table links.new) root.old root.new (Some place ∷ []) [] }
+    ensures safe { StaysClosed N.node (N.table links.old) (N.table links.new) root.old root.new (Some place ∷ Some upper ∷ []) [] }
     ensures quiet { N.Quiet links.old links.new }
 {
-    let far = other(side);
-    let Some(upper) = child(&*links, place, far) else {
-        return;
-    };
     let inner = child(&*links, upper, side);
     let parent = links.parent(place);
-    set_child(links, place, far, inner);
+    set_child(links, place, other(side), inner);
     adopt(links, inner, Some(place));
-    set_parent(links, upper, parent);
-    relink(links, root, parent, place, Some(upper));
+    set_parent_and_color(links, upper, parent, high);
+    change_child(links, root, parent, place, Some(upper));
     set_child(links, upper, side, Some(place));
-    set_parent(links, place, Some(upper));
+    set_parent_and_color(links, place, Some(upper), low);
 }
 
 /// In place of a member stands another place, which is on its own before.
@@ -127,11 +151,10 @@ pub(crate) fn take_place<N: Nodes>(links: &mut N, root: &mut PlaceWord, place: P
     let left = links.left(place);
     let right = links.right(place);
     let color = links.color(place);
-    relink(links, root, parent, place, Some(new));
+    change_child(links, root, parent, place, Some(new));
     adopt(links, left, Some(new));
     adopt(links, right, Some(new));
     set_child(links, new, Side::Left, left);
     set_child(links, new, Side::Right, right);
-    set_parent(links, new, parent);
-    set_color(links, new, color);
+    set_parent_and_color(links, new, parent, color);
 }

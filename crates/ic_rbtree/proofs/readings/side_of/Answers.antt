@@ -1,5 +1,5 @@
 use Rattle.std.proofs.Common.{◌∙◌, sym}
-use Rattle.ic_rbtree.proofs.Turning.{end_is, end_not}
+use Rattle.ic_rbtree.proofs.Rotations.{end_is, end_not}
 use Rattle.ic_rbtree.proofs.readings.side_of.Goals as goal
 
 pub returns-then-is_at : goal.returns-then-is_at

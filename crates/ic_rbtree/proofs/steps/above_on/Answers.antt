@@ -1,6 +1,6 @@
 use Rattle.std.proofs.Common.{sym, ◌∙◌}
 use Rattle.ic_link_ops.proofs.Walks.{is_end_yes, is_end_no}
-use Rattle.ic_rbtree.proofs.Descending.{opened, framed, up_starts, up_ends, step_up, up_falls, no_more_up}
+use Rattle.ic_rbtree.proofs.Outermost.{opened, framed, up_starts, up_ends, step_up, up_falls, no_more_up}
 use Rattle.ic_rbtree.proofs.steps.above_on.Goals as goal
 
 pub parent-parent-requires : goal.parent-parent-requires

@@ -1,5 +1,5 @@
 use Rattle.std.proofs.Common.{sym, ◌∙◌}
-use Rattle.ic_rbtree.proofs.Descending.{opened, down_starts, step_down, down_falls, down_ends}
+use Rattle.ic_rbtree.proofs.Outermost.{opened, down_starts, step_down, down_falls, down_ends}
 use Rattle.ic_rbtree.proofs.steps.outermost.Goals as goal
 
 pub child-requires : goal.child-requires

@@ -6,7 +6,7 @@ use Rattle.ic_link_ops.specs.Frames.{Frame}
 use Rattle.ic_rbtree.specs.Climb.{depth}
 use Rattle.ic_rbtree.specs.Pieces.{Piece, Stands}
 use Rattle.ic_rbtree.specs.Sides.{StandsAt}
-use Rattle.ic_rbtree.proofs.Descending.{Down}
+use Rattle.ic_rbtree.proofs.Outermost.{Down}
 use Rattle.ic_rbtree.proofs.steps.outermost.Given as goal
 
 abbrev pub invariant-loop-below : goal.invariant-loop-below

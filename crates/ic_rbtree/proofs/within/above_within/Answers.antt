@@ -1,7 +1,7 @@
 use Rattle.std.proofs.Common.{sym, ◌∙◌, arith}
 use Rattle.ic_link_ops.proofs.Walks.{is_end_yes, is_end_no}
 use Rattle.ic_rbtree.proofs.Closed.{in_there, in_parent}
-use Rattle.ic_rbtree.proofs.Descending.{up_starts, up_ends, step_up, no_more_up}
+use Rattle.ic_rbtree.proofs.Outermost.{up_starts, up_ends, step_up, no_more_up}
 use Rattle.ic_rbtree.proofs.Heights.{length_frames_height}
 use Rattle.ic_rbtree.proofs.within.above_within.Goals as goal
 

@@ -5,7 +5,7 @@ use Rattle.ic_link_ops.specs.Trees.{Tree, top}
 use Rattle.ic_link_ops.specs.Frames.{Frame}
 use Rattle.ic_rbtree.specs.Closed.{IsClosed}
 use Rattle.ic_rbtree.specs.Pieces.{Piece, Stands}
-use Rattle.ic_rbtree.proofs.Descending.{Up}
+use Rattle.ic_rbtree.proofs.Outermost.{Up}
 use Rattle.ic_rbtree.proofs.within.above_within.Given as goal
 
 abbrev pub invariant-loop : goal.invariant-loop

@@ -1,7 +1,7 @@
 use Rattle.std.proofs.Common.{sym, ap, ◌∙◌, arith}
 use Rattle.ic_rbtree.specs.Height.{height}
 use Rattle.ic_rbtree.proofs.Closed.{in_there, in_child}
-use Rattle.ic_rbtree.proofs.Descending.{down_starts, step_down, down_ends}
+use Rattle.ic_rbtree.proofs.Outermost.{down_starts, step_down, down_ends}
 use Rattle.ic_rbtree.proofs.Heights.{length_frames_height}
 use Rattle.ic_rbtree.proofs.within.outermost_within.Goals as goal
 

@@ -5,7 +5,7 @@ use Rattle.ic_link_ops.specs.Trees.{Tree, top}
 use Rattle.ic_link_ops.specs.Frames.{Frame}
 use Rattle.ic_rbtree.specs.Closed.{IsClosed}
 use Rattle.ic_rbtree.specs.Pieces.{Piece, Stands}
-use Rattle.ic_rbtree.proofs.Descending.{Down}
+use Rattle.ic_rbtree.proofs.Outermost.{Down}
 use Rattle.ic_rbtree.proofs.within.outermost_within.Given as goal
 
 abbrev pub invariant-loop : goal.invariant-loop

@@ -1,6 +1,6 @@
 use Rattle.std.proofs.Common.{[], ◌∷◌, sym, ◌∙◌}
 use Rattle.ic_link_ops.proofs.StepLemmas.{releases_append}
-use Rattle.ic_rbtree.proofs.Finishing.{finish_starts, finish_more, finish_all, finish_falls}
+use Rattle.ic_rbtree.proofs.RemainingMembers.{finish_starts, finish_more, finish_all, finish_falls}
 use Rattle.ic_rbtree.proofs.Members.{nodes_covered}
 use Rattle.ic_rbtree.proofs.into_iter.IntoIter.finish.Goals as goal
 

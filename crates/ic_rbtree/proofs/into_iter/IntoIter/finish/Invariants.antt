@@ -3,7 +3,7 @@ use Rattle.ic_unsafe_ref.specs.declared.place.Place.{Place}
 use Rattle.ic_link_ops.specs.LinkSteps.{releases_each}
 use Rattle.ic_link_ops.specs.RedBlackTree.{ShowsEnds}
 use Rattle.ic_rbtree.specs.Members.{members_around}
-use Rattle.ic_rbtree.proofs.Finishing.{Finishes}
+use Rattle.ic_rbtree.proofs.RemainingMembers.{Finishes}
 use Rattle.ic_rbtree.proofs.into_iter.IntoIter.finish.Given as goal
 
 abbrev pub invariant-loop : goal.invariant-loop

@@ -1,18 +1,17 @@
-use Rattle.std.proofs.Common.{◌≡◌, ◌-◌, List}
-use Rattle.ic_unsafe_ref.specs.declared.place.Place.{Place}
-use Rattle.ic_link_ops.specs.RedBlackTree.{Shows}
-use Rattle.ic_rbtree.specs.Comparing.{compared}
-use Rattle.ic_rbtree.proofs.Sending.{Sent}
+use Rattle.std.proofs.Common.{◌-◌}
+use Rattle.ic_rbtree.proofs.Sending.{Comes}
 use Rattle.ic_rbtree.proofs.keys.descent.descend.Given as goal
 
 abbrev pub invariant-loop-at : goal.invariant-loop-at
 invariant-loop-at g l =
-    let n = g.L.RBTreeOps.node in
-    let v = g.L.LinkOps.table l.links in
-    record {
-      each : (s : List Place) (h : Shows n v l.fn.root s) → Sent n v l.fn.root (compared (g.P.Probe.order l.fn.probe) (g.O.Values.values l.objects)) l.equals h.tree l.at l.descent (g.P.Probe.count l.fn.probe) (g.P.Probe.count l.probe);
-      same : g.P.Probe.order l.probe ≡ g.P.Probe.order l.fn.probe;
-    }
+    Comes g.L.RBTreeOps.node g.P.Probe.order g.P.Probe.count (g.O.Values.values l.objects) (g.L.LinkOps.table l.links) l.fn.root l.equals l.fn.probe l.probe l.at l.descent
 
 abbrev pub decreases-loop-at : goal.decreases-loop-at
 decreases-loop-at g l = 18446744073709551616 - g.P.Probe.count l.probe
+
+abbrev pub invariant-loop-at-2 : goal.invariant-loop-at-2
+invariant-loop-at-2 g l =
+    Comes g.L.RBTreeOps.node g.P.Probe.order g.P.Probe.count (g.O.Values.values l.objects) (g.L.LinkOps.table l.links) l.fn.root l.equals l.fn.probe l.probe l.at l.descent
+
+abbrev pub decreases-loop-at-2 : goal.decreases-loop-at-2
+decreases-loop-at-2 g l = 18446744073709551616 - g.P.Probe.count l.probe

@@ -1,4 +1,4 @@
-use Rattle.ic_rbtree.proofs.Stepping.{no_step_more}
+use Rattle.ic_rbtree.proofs.NoSteps.{no_step_more}
 use Rattle.ic_rbtree.proofs.nodes.AnyNodes.set_parent.Goals as goal
 
 pub returns-clause-quiet : goal.returns-clause-quiet

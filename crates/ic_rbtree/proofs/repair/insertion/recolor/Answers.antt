@@ -1,4 +1,4 @@
-use Rattle.ic_rbtree.proofs.Easing.{recolors}
+use Rattle.ic_rbtree.proofs.RedPairs.{recolors}
 use Rattle.ic_rbtree.proofs.repair.insertion.recolor.Goals as goal
 
 pub returns-clause-recolored : goal.returns-clause-recolored

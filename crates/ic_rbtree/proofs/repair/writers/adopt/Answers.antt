@@ -1,4 +1,4 @@
-use Rattle.ic_rbtree.proofs.Turning.{adopts_some}
+use Rattle.ic_rbtree.proofs.Rotations.{adopts_some}
 use Rattle.ic_rbtree.proofs.repair.writers.adopt.Goals as goal
 
 pub set_parent-requires : goal.set_parent-requires

@@ -1,75 +1,72 @@
 use Rattle.std.proofs.Common.{None, ◌∙◌}
-use Rattle.ic_rbtree.proofs.Closed.{in_there, in_child, in_parent, in_linked}
-use Rattle.ic_rbtree.proofs.Turning.{rotates}
+use Rattle.ic_rbtree.proofs.Closed.{in_child, in_parent, in_linked}
+use Rattle.ic_rbtree.proofs.Rotations.{rotates}
 use Rattle.ic_rbtree.proofs.repair.writers.rotate.Goals as goal
 
 pub set_child-requires : goal.set_child-requires
 set_child-requires g c =
     let n = g.N.Nodes.node in
     let r = c.requires in
-    let up = in_there r.0 (in_child n r.1 _ c.args.place r.2.0 c.child.ensures) c.in-Some.is in
-    record { linked = r.1.linked c.args.place r.2.0; named = in_linked n r.1 (in_child n r.1 _ c.in-Some.upper up c.child-inner.ensures) }
+    record { linked = r.1.linked c.args.place r.2.0; named = in_linked n r.1 (in_child n r.1 _ c.args.upper r.2.1.0 c.child-inner.ensures) }
 
 pub adopt-requires : goal.adopt-requires
 adopt-requires g c =
     let n = g.N.Nodes.node in
     let r = c.requires in
-    let up = in_there r.0 (in_child n r.1 _ c.args.place r.2.0 c.child.ensures) c.in-Some.is in
     record {
-      child = λ q e. c.set_child.ensures.linked q ∙ in_linked n r.1 (in_child n r.1 _ c.in-Some.upper up c.child-inner.ensures) q e;
+      child = λ q e. c.set_child.ensures.linked q ∙ in_linked n r.1 (in_child n r.1 _ c.args.upper r.2.1.0 c.child-inner.ensures) q e;
       parent = λ q e. c.set_child.ensures.linked q ∙ in_linked n r.1 r.2.0 q e;
     }
 
-pub set_parent-requires : goal.set_parent-requires
-set_parent-requires g c =
+pub set_parent_and_color-requires : goal.set_parent_and_color-requires
+set_parent_and_color-requires g c =
     let n = g.N.Nodes.node in
     let r = c.requires in
-    let up = in_there r.0 (in_child n r.1 _ c.args.place r.2.0 c.child.ensures) c.in-Some.is in
-    record { linked = c.adopt.ensures.linked c.in-Some.upper ∙ (c.set_child.ensures.linked c.in-Some.upper ∙ r.1.linked c.in-Some.upper up); named = λ q e. c.adopt.ensures.linked q ∙ (c.set_child.ensures.linked q ∙ in_linked n r.1 (in_parent n r.1 c.args.place r.2.0 c.parent-parent.ensures) q e) }
+    let up = c.args.upper in
+    record { linked = c.adopt.ensures.linked up ∙ (c.set_child.ensures.linked up ∙ r.1.linked up r.2.1.0); named = λ q e. c.adopt.ensures.linked q ∙ (c.set_child.ensures.linked q ∙ in_linked n r.1 (in_parent n r.1 c.args.place r.2.0 c.parent-parent.ensures) q e) }
 
-pub relink-requires : goal.relink-requires
-relink-requires g c =
+pub change_child-requires : goal.change_child-requires
+change_child-requires g c =
     let n = g.N.Nodes.node in
     let r = c.requires in
-    let up = in_there r.0 (in_child n r.1 _ c.args.place r.2.0 c.child.ensures) c.in-Some.is in
     record {
-      parent = λ q e. c.set_parent.ensures.linked q ∙ (c.adopt.ensures.linked q ∙ (c.set_child.ensures.linked q ∙ in_linked n r.1 (in_parent n r.1 c.args.place r.2.0 c.parent-parent.ensures) q e));
-      named = λ q e. c.set_parent.ensures.linked q ∙ (c.adopt.ensures.linked q ∙ (c.set_child.ensures.linked q ∙ in_linked n r.1 up q e));
+      parent = λ q e. c.set_parent_and_color.ensures.linked q ∙ (c.adopt.ensures.linked q ∙ (c.set_child.ensures.linked q ∙ in_linked n r.1 (in_parent n r.1 c.args.place r.2.0 c.parent-parent.ensures) q e));
+      named = λ q e. c.set_parent_and_color.ensures.linked q ∙ (c.adopt.ensures.linked q ∙ (c.set_child.ensures.linked q ∙ in_linked n r.1 r.2.1.0 q e));
     }
 
 pub set_child-requires-2 : goal.set_child-requires-2
 set_child-requires-2 g c =
     let n = g.N.Nodes.node in
     let r = c.requires in
-    let up = in_there r.0 (in_child n r.1 _ c.args.place r.2.0 c.child.ensures) c.in-Some.is in
-    record { linked = c.relink.ensures.linked c.in-Some.upper ∙ (c.set_parent.ensures.linked c.in-Some.upper ∙ (c.adopt.ensures.linked c.in-Some.upper ∙ (c.set_child.ensures.linked c.in-Some.upper ∙ r.1.linked c.in-Some.upper up))); named = λ q e. c.relink.ensures.linked q ∙ (c.set_parent.ensures.linked q ∙ (c.adopt.ensures.linked q ∙ (c.set_child.ensures.linked q ∙ in_linked n r.1 r.2.0 q e))) }
+    let up = c.args.upper in
+    record { linked = c.change_child.ensures.linked up ∙ (c.set_parent_and_color.ensures.linked up ∙ (c.adopt.ensures.linked up ∙ (c.set_child.ensures.linked up ∙ r.1.linked up r.2.1.0))); named = λ q e. c.change_child.ensures.linked q ∙ (c.set_parent_and_color.ensures.linked q ∙ (c.adopt.ensures.linked q ∙ (c.set_child.ensures.linked q ∙ in_linked n r.1 r.2.0 q e))) }
 
-pub set_parent-requires-2 : goal.set_parent-requires-2
-set_parent-requires-2 g c =
+pub set_parent_and_color-requires-2 : goal.set_parent_and_color-requires-2
+set_parent_and_color-requires-2 g c =
     let n = g.N.Nodes.node in
     let r = c.requires in
-    let up = in_there r.0 (in_child n r.1 _ c.args.place r.2.0 c.child.ensures) c.in-Some.is in
-    record { linked = c.set_child-2.ensures.linked c.args.place ∙ (c.relink.ensures.linked c.args.place ∙ (c.set_parent.ensures.linked c.args.place ∙ (c.adopt.ensures.linked c.args.place ∙ (c.set_child.ensures.linked c.args.place ∙ r.1.linked c.args.place r.2.0)))); named = λ q e. c.set_child-2.ensures.linked q ∙ (c.relink.ensures.linked q ∙ (c.set_parent.ensures.linked q ∙ (c.adopt.ensures.linked q ∙ (c.set_child.ensures.linked q ∙ in_linked n r.1 up q e)))) }
+    let p = c.args.place in
+    record { linked = c.set_child-2.ensures.linked p ∙ (c.change_child.ensures.linked p ∙ (c.set_parent_and_color.ensures.linked p ∙ (c.adopt.ensures.linked p ∙ (c.set_child.ensures.linked p ∙ r.1.linked p r.2.0)))); named = λ q e. c.set_child-2.ensures.linked q ∙ (c.change_child.ensures.linked q ∙ (c.set_parent_and_color.ensures.linked q ∙ (c.adopt.ensures.linked q ∙ (c.set_child.ensures.linked q ∙ in_linked n r.1 r.2.1.0 q e)))) }
 
 pub returns-clause-rotated : goal.returns-clause-rotated
 returns-clause-rotated g c =
-    rotates _ _ _ _ _ _ _ _ _ _ c.child.result _ _ c.in-Some.upper _ _ c.other-far.result c.other-far.ensures c.in-Some.is c.child.ensures c.child-inner.ensures c.parent-parent.ensures
-    c.set_child.ensures.set c.set_child.ensures.frame c.adopt.ensures.moved c.set_parent.ensures.set c.set_parent.ensures.frame c.relink.ensures.moved
-    c.set_child-2.ensures.set c.set_child-2.ensures.frame c.set_parent-2.ensures.set c.set_parent-2.ensures.frame
+    rotates _ _ _ _ _ _ _ _ _ _ _ _ c.args.upper _ _ c.other.result _ _ c.other.ensures c.child-inner.ensures c.parent-parent.ensures
+    c.set_child.ensures.set c.set_child.ensures.frame c.adopt.ensures.moved c.set_parent_and_color.ensures.set c.set_parent_and_color.ensures.frame c.change_child.ensures.moved
+    c.set_child-2.ensures.set c.set_child-2.ensures.frame c.set_parent_and_color-2.ensures.set c.set_parent_and_color-2.ensures.frame
 
 pub returns-clause-safe : goal.returns-clause-safe
 returns-clause-safe g c S h i =
     let n = g.N.Nodes.node in
     let root = c.args.root.now in
-    let up = in_there S (in_child n h _ c.args.place i.0 c.child.ensures) c.in-Some.is in
-    let h1 = c.set_child.ensures.safe root None S h (in_child n h _ c.in-Some.upper up c.child-inner.ensures, tt) in
+    let up = i.1.0 in
+    let h1 = c.set_child.ensures.safe root None S h (in_child n h _ c.args.upper up c.child-inner.ensures, tt) in
     let h2 = c.adopt.ensures.safe root None S h1 (i.0, tt) in
-    let h3 = c.set_parent.ensures.safe root None S h2 (in_parent n h c.args.place i.0 c.parent-parent.ensures, tt) in
-    let h4 = c.relink.ensures.safe None S h3 (up, tt) in
-    let h5 = c.set_child-2.ensures.safe c.relink.new.root None S h4 (i.0, tt) in
-    (c.set_parent-2.ensures.safe c.relink.new.root None S h5 (up, tt), tt)
+    let h3 = c.set_parent_and_color.ensures.safe root None S h2 (in_parent n h c.args.place i.0 c.parent-parent.ensures, tt) in
+    let h4 = c.change_child.ensures.safe None S h3 (up, tt) in
+    let h5 = c.set_child-2.ensures.safe c.change_child.new.root None S h4 (i.0, tt) in
+    (c.set_parent_and_color-2.ensures.safe c.change_child.new.root None S h5 (up, tt), tt)
 
 pub returns-clause-quiet : goal.returns-clause-quiet
 returns-clause-quiet g c =
     let on = g.met.N.Nodes.quiet_on in
-    on _ _ _ c.set_child.ensures.quiet (on _ _ _ c.adopt.ensures.quiet (on _ _ _ c.set_parent.ensures.quiet (on _ _ _ c.relink.ensures.quiet (on _ _ _ c.set_child-2.ensures.quiet c.set_parent-2.ensures.quiet))))
+    on _ _ _ c.set_child.ensures.quiet (on _ _ _ c.adopt.ensures.quiet (on _ _ _ c.set_parent_and_color.ensures.quiet (on _ _ _ c.change_child.ensures.quiet (on _ _ _ c.set_child-2.ensures.quiet c.set_parent_and_color-2.ensures.quiet))))

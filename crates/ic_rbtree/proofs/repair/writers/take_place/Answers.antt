@@ -1,11 +1,11 @@
 use Rattle.std.proofs.Common.{◌≡◌, Some, sym, ◌∙◌}
 use Rattle.ic_link_ops.proofs.SequenceLemmas.{some_same}
 use Rattle.ic_rbtree.proofs.Closed.{read_in, in_linked, node_written}
-use Rattle.ic_rbtree.proofs.Taking.{taken_place}
+use Rattle.ic_rbtree.proofs.Transplants.{taken_place}
 use Rattle.ic_rbtree.proofs.repair.writers.take_place.Goals as goal
 
-pub relink-requires : goal.relink-requires
-relink-requires g c =
+pub change_child-requires : goal.change_child-requires
+change_child-requires g c =
     let n = g.N.Nodes.node in
     let r = c.requires.safe in
     let up = read_in r.0 (r.1.parent c.args.place r.2.0 (λ s. c.requires.apart (sym (some_same s)))) c.parent-parent.ensures in
@@ -16,54 +16,54 @@ adopt-requires g c =
     let n = g.N.Nodes.node in
     let r = c.requires.safe in
     let below = read_in r.0 (r.1.left c.args.place r.2.0 (λ s. c.requires.apart (sym (some_same s)))) c.left-left.ensures in
-    record { child = λ q e. c.relink.ensures.linked q ∙ in_linked n r.1 below q e; parent = λ q e. c.relink.ensures.linked q ∙ in_linked n r.1 r.2.1.0 q e }
+    record { child = λ q e. c.change_child.ensures.linked q ∙ in_linked n r.1 below q e; parent = λ q e. c.change_child.ensures.linked q ∙ in_linked n r.1 r.2.1.0 q e }
 
 pub adopt-requires-2 : goal.adopt-requires-2
 adopt-requires-2 g c =
     let n = g.N.Nodes.node in
     let r = c.requires.safe in
     let below = read_in r.0 (r.1.right c.args.place r.2.0 (λ s. c.requires.apart (sym (some_same s)))) c.right-right.ensures in
-    record { child = λ q e. c.adopt.ensures.linked q ∙ (c.relink.ensures.linked q ∙ in_linked n r.1 below q e); parent = λ q e. c.adopt.ensures.linked q ∙ (c.relink.ensures.linked q ∙ in_linked n r.1 r.2.1.0 q e) }
+    record { child = λ q e. c.adopt.ensures.linked q ∙ (c.change_child.ensures.linked q ∙ in_linked n r.1 below q e); parent = λ q e. c.adopt.ensures.linked q ∙ (c.change_child.ensures.linked q ∙ in_linked n r.1 r.2.1.0 q e) }
 
 pub set_child-requires : goal.set_child-requires
 set_child-requires g c =
     let n = g.N.Nodes.node in
     let r = c.requires.safe in
     let below = read_in r.0 (r.1.left c.args.place r.2.0 (λ s. c.requires.apart (sym (some_same s)))) c.left-left.ensures in
-    record { linked = c.adopt-2.ensures.linked c.args.new ∙ (c.adopt.ensures.linked c.args.new ∙ (c.relink.ensures.linked c.args.new ∙ r.1.linked c.args.new r.2.1.0)); named = λ q e. c.adopt-2.ensures.linked q ∙ (c.adopt.ensures.linked q ∙ (c.relink.ensures.linked q ∙ in_linked n r.1 below q e)) }
+    record { linked = c.adopt-2.ensures.linked c.args.new ∙ (c.adopt.ensures.linked c.args.new ∙ (c.change_child.ensures.linked c.args.new ∙ r.1.linked c.args.new r.2.1.0)); named = λ q e. c.adopt-2.ensures.linked q ∙ (c.adopt.ensures.linked q ∙ (c.change_child.ensures.linked q ∙ in_linked n r.1 below q e)) }
 
 pub set_child-requires-2 : goal.set_child-requires-2
 set_child-requires-2 g c =
     let n = g.N.Nodes.node in
     let r = c.requires.safe in
     let below = read_in r.0 (r.1.right c.args.place r.2.0 (λ s. c.requires.apart (sym (some_same s)))) c.right-right.ensures in
-    record { linked = c.set_child.ensures.linked c.args.new ∙ (c.adopt-2.ensures.linked c.args.new ∙ (c.adopt.ensures.linked c.args.new ∙ (c.relink.ensures.linked c.args.new ∙ r.1.linked c.args.new r.2.1.0))); named = λ q e. c.set_child.ensures.linked q ∙ (c.adopt-2.ensures.linked q ∙ (c.adopt.ensures.linked q ∙ (c.relink.ensures.linked q ∙ in_linked n r.1 below q e))) }
+    record { linked = c.set_child.ensures.linked c.args.new ∙ (c.adopt-2.ensures.linked c.args.new ∙ (c.adopt.ensures.linked c.args.new ∙ (c.change_child.ensures.linked c.args.new ∙ r.1.linked c.args.new r.2.1.0))); named = λ q e. c.set_child.ensures.linked q ∙ (c.adopt-2.ensures.linked q ∙ (c.adopt.ensures.linked q ∙ (c.change_child.ensures.linked q ∙ in_linked n r.1 below q e))) }
 
-pub set_parent-requires : goal.set_parent-requires
-set_parent-requires g c =
+pub set_parent_and_color-requires : goal.set_parent_and_color-requires
+set_parent_and_color-requires g c =
     let n = g.N.Nodes.node in
     let r = c.requires.safe in
     let up = read_in r.0 (r.1.parent c.args.place r.2.0 (λ s. c.requires.apart (sym (some_same s)))) c.parent-parent.ensures in
-    record { linked = c.set_child-2.ensures.linked c.args.new ∙ (c.set_child.ensures.linked c.args.new ∙ (c.adopt-2.ensures.linked c.args.new ∙ (c.adopt.ensures.linked c.args.new ∙ (c.relink.ensures.linked c.args.new ∙ r.1.linked c.args.new r.2.1.0)))); named = λ q e. c.set_child-2.ensures.linked q ∙ (c.set_child.ensures.linked q ∙ (c.adopt-2.ensures.linked q ∙ (c.adopt.ensures.linked q ∙ (c.relink.ensures.linked q ∙ in_linked n r.1 up q e)))) }
+    record { linked = c.set_child-2.ensures.linked c.args.new ∙ (c.set_child.ensures.linked c.args.new ∙ (c.adopt-2.ensures.linked c.args.new ∙ (c.adopt.ensures.linked c.args.new ∙ (c.change_child.ensures.linked c.args.new ∙ r.1.linked c.args.new r.2.1.0)))); named = λ q e. c.set_child-2.ensures.linked q ∙ (c.set_child.ensures.linked q ∙ (c.adopt-2.ensures.linked q ∙ (c.adopt.ensures.linked q ∙ (c.change_child.ensures.linked q ∙ in_linked n r.1 up q e)))) }
 
 pub returns-clause-taken : goal.returns-clause-taken
 returns-clause-taken g c =
-    taken_place g.N.Nodes.node _ _ _ _ _ _ _ _ _ _ _ _ _ _ _ _ c.parent-parent.ensures c.left-left.ensures c.right-right.ensures c.color-color.ensures
-    c.relink.ensures.moved c.adopt.ensures.moved c.adopt-2.ensures.moved c.set_child.ensures.set c.set_child.ensures.frame c.set_child-2.ensures.set c.set_child-2.ensures.frame
-    c.set_parent.ensures.set c.set_parent.ensures.frame c.set_color.ensures.set c.set_color.ensures.frame
+    taken_place g.N.Nodes.node _ _ _ _ _ _ _ _ _ _ _ _ _ _ _ c.parent-parent.ensures c.left-left.ensures c.right-right.ensures c.color-color.ensures
+    c.change_child.ensures.moved c.adopt.ensures.moved c.adopt-2.ensures.moved c.set_child.ensures.set c.set_child.ensures.frame c.set_child-2.ensures.set c.set_child-2.ensures.frame
+    c.set_parent_and_color.ensures.set c.set_parent_and_color.ensures.frame
 
 pub returns-clause-safe : goal.returns-clause-safe
 returns-clause-safe g c S h i =
     let out : Some c.args.new ≡ Some c.args.place → ⊥ = λ s. c.requires.apart (sym (some_same s)) in
-    let h1 = c.relink.ensures.safe (Some c.args.new) S h (i.1.0, tt) in
-    let h2 = c.adopt.ensures.safe c.relink.new.root (Some c.args.new) S h1 (i.1.0, tt) in
-    let h3 = c.adopt-2.ensures.safe c.relink.new.root (Some c.args.new) S h2 (i.1.0, tt) in
+    let h1 = c.change_child.ensures.safe (Some c.args.new) S h (i.1.0, tt) in
+    let h2 = c.adopt.ensures.safe c.change_child.new.root (Some c.args.new) S h1 (i.1.0, tt) in
+    let h3 = c.adopt-2.ensures.safe c.change_child.new.root (Some c.args.new) S h2 (i.1.0, tt) in
     node_written g.N.Nodes.node h3 c.set_child.ensures.set c.set_child.ensures.frame c.set_child-2.ensures.set c.set_child-2.ensures.frame
-    c.set_parent.ensures.set c.set_parent.ensures.frame c.set_color.ensures.set c.set_color.ensures.frame
+    c.set_parent_and_color.ensures.set c.set_parent_and_color.ensures.frame
     (read_in S (h.left c.args.place i.0 out) c.left-left.ensures) (read_in S (h.right c.args.place i.0 out) c.right-right.ensures) (read_in S (h.parent c.args.place i.0 out) c.parent-parent.ensures)
 
 pub returns-clause-quiet : goal.returns-clause-quiet
 returns-clause-quiet g c =
     let on = g.met.N.Nodes.quiet_on in
-    on _ _ _ c.relink.ensures.quiet (on _ _ _ c.adopt.ensures.quiet (on _ _ _ c.adopt-2.ensures.quiet
-    (on _ _ _ c.set_child.ensures.quiet (on _ _ _ c.set_child-2.ensures.quiet (on _ _ _ c.set_parent.ensures.quiet c.set_color.ensures.quiet)))))
+    on _ _ _ c.change_child.ensures.quiet (on _ _ _ c.adopt.ensures.quiet (on _ _ _ c.adopt-2.ensures.quiet
+    (on _ _ _ c.set_child.ensures.quiet (on _ _ _ c.set_child-2.ensures.quiet c.set_parent_and_color.ensures.quiet))))

@@ -1,0 +1,126 @@
+-- The cases of a repair after an insert, on trees alone.
+use Rattle.std.proofs.Common.{◌≡◌, ℕ, ◌+◌, List, [], ◌∷◌, refl, sym, ap, ◌∙◌, subst, arith}
+use Rattle.ic_unsafe_ref.specs.declared.place.Place.{Place}
+use Rattle.ic_link_ops.specs.declared.color.Color.{Color}
+use Rattle.ic_link_ops.specs.declared.color.Color.TheVariants.{Red, Black}
+use Rattle.ic_link_ops.specs.declared.side.Side.{Side}
+use Rattle.ic_link_ops.specs.declared.side.Side.TheVariants.{Left, Right}
+use Rattle.ic_link_ops.specs.Trees.{Tree, fork}
+use Rattle.ic_link_ops.specs.Shape.{top_color, weight, blacks, IsEven, NoRedPair, IsRight}
+use Rattle.ic_link_ops.specs.Frames.{Frame, frame, branch, plug, across}
+use Rattle.ic_rbtree.specs.Shortage.{color_above, EvenAround, PairsAround, wanted, IsNearlyRight}
+
+pub top_color_branch : (d : Side) (c : Color) (a : Tree) (p : Place) (b : Tree) → top_color (branch d c a p b) ≡ c
+top_color_branch Left c a p b = refl
+top_color_branch Right c a p b = refl
+
+pub blacks_branch : (d : Side) (c : Color) (a : Tree) (p : Place) (b : Tree) → blacks a ≡ blacks b → blacks (branch d c a p b) ≡ weight c + blacks a
+blacks_branch Left c a p b e = refl
+blacks_branch Right c a p b e = ap (λ n. weight c + n) (sym e)
+
+pub even_branch : (d : Side) (c : Color) (a : Tree) (p : Place) (b : Tree) → blacks a ≡ blacks b → IsEven a → IsEven b → IsEven (branch d c a p b)
+even_branch Left c a p b e ea eb = (e, ea, eb)
+even_branch Right c a p b e ea eb = (sym e, eb, ea)
+
+pub pairs_branch : (d : Side) (c : Color) (a : Tree) (p : Place) (b : Tree) → (c ≡ Red → top_color a ≡ Black) → (c ≡ Red → top_color b ≡ Black) → NoRedPair a → NoRedPair b → NoRedPair (branch d c a p b)
+pairs_branch Left c a p b ha hb na nb = (λ r. (ha r, hb r), na, nb)
+pairs_branch Right c a p b ha hb na nb = (λ r. (hb r, ha r), nb, na)
+
+pub of_pairs : (d : Side) (c : Color) (a : Tree) (p : Place) (b : Tree) → NoRedPair (branch d c a p b) → (c ≡ Red → (top_color a ≡ Black) × (top_color b ≡ Black)) × NoRedPair a × NoRedPair b
+of_pairs Left c a p b h = h
+of_pairs Right c a p b h = (λ r. ((h.0 r).1, (h.0 r).0), h.2, h.1)
+
+pub of_even : (d : Side) (c : Color) (a : Tree) (p : Place) (b : Tree) → IsEven (branch d c a p b) → (blacks a ≡ blacks b) × IsEven a × IsEven b
+of_even Left c a p b h = h
+of_even Right c a p b h = (sym h.0, h.2, h.1)
+
+-- the colors fit at the place between the frames and the tree
+pub right_plug : (fs : List Frame) (t : Tree) → NoRedPair t → IsEven t → PairsAround fs → EvenAround fs (blacks t) → (color_above fs ≡ Red → top_color t ≡ Black) → IsRight (plug fs t)
+right_plug [] t n e pa ea fits = record { black_root = fits refl; no_red_pair = n; even = e }
+right_plug (frame d c p b ∷ fs) t n e pa ea fits =
+    right_plug fs (branch d c t p b)
+    (pairs_branch d c t p b fits pa.0 n pa.2)
+    (even_branch d c t p b (sym ea.0) e ea.1)
+    pa.3
+    (subst (λ (k : ℕ). EvenAround fs k) (sym (blacks_branch d c t p b (sym ea.0))) ea.2)
+    (λ r. top_color_branch d c t p b ∙ pa.1 r)
+
+pub not_red : (c : Color) → (c ≡ Red → Red ≡ Black) → c ≡ Black
+not_red Red h = h refl
+not_red Black h = refl
+
+pub red_not_black : {A : Type 0} → Black ≡ Red → A
+red_not_black h = cc
+
+-- at a root the count of black members does not matter
+pub even_wanted : (fs : List Frame) (m n : ℕ) → (wanted fs ≡ Red → m ≡ n) → EvenAround fs m → EvenAround fs n
+even_wanted [] m n e h = tt
+even_wanted (f ∷ fs) m n e h = subst (λ (k : ℕ). EvenAround (f ∷ fs) k) (e refl) h
+
+-- both children of the grandparent are red: they turn black
+pub recolored : (fs : List Frame) (d : Side) (q : Place) (b : Tree) (k : Side) (c : Color) (g : Place) (ua : Tree) (u : Place) (ub : Tree) (t : Tree) →
+    IsNearlyRight (frame d Red q b ∷ frame k c g (fork Red ua u ub) ∷ fs) t →
+    IsNearlyRight fs (branch k (wanted fs) (branch d Black t q b) g (fork Black ua u ub))
+recolored fs d q b k c g ua u ub t n =
+    let pa = n.pairs_around in
+    let ea = n.even_around in
+    let black : c ≡ Black = not_red c pa.1 in
+    let heavy : weight c ≡ 1 = ap weight black in
+    let uncle : Tree = fork Black ua u ub in
+    let low : Tree = branch d Black t q b in
+    let low_even : blacks t ≡ blacks b = sym ea.0 in
+    let low_blacks : blacks low ≡ 1 + blacks t = blacks_branch d Black t q b low_even in
+    let same : blacks low ≡ blacks uncle = omega (arith, low_blacks, ea.2.0) in
+    record {
+      painted = top_color_branch k (wanted fs) low g uncle;
+      pairs = pairs_branch k (wanted fs) low g uncle
+          (λ r. top_color_branch d Black t q b) (λ r. refl)
+          (pairs_branch d Black t q b red_not_black red_not_black n.pairs pa.2)
+          (red_not_black, pa.3.2.1, pa.3.2.2);
+      even = even_branch k (wanted fs) low g uncle same (even_branch d Black t q b low_even n.even ea.1) ea.2.1;
+      pairs_around = pa.3.3;
+      even_around = even_wanted fs (weight c + (0 + blacks t)) (blacks (branch k (wanted fs) low g uncle))
+          (λ r. omega (arith, heavy, low_blacks, blacks_branch k (wanted fs) low g uncle same, ap weight r))
+          ea.2.2;
+    }
+
+-- the uncle is black and the lower one of the red pair an outer grandchild: the parent comes up
+pub restored : (fs : List Frame) (d : Side) (q : Place) (b : Tree) (c : Color) (g : Place) (u t : Tree) →
+    IsNearlyRight (frame d Red q b ∷ frame d c g u ∷ fs) t → top_color u ≡ Black →
+    IsRight (plug fs (branch d Black t q (branch d Red b g u)))
+restored fs d q b c g u t n uncle =
+    let pa = n.pairs_around in
+    let ea = n.even_around in
+    let heavy : weight c ≡ 1 = ap weight (not_red c pa.1) in
+    let low : Tree = branch d Red b g u in
+    let low_even : blacks b ≡ blacks u = omega (arith, ea.0, ea.2.0) in
+    let low_blacks : blacks low ≡ 0 + blacks b = blacks_branch d Red b g u low_even in
+    let same : blacks t ≡ blacks low = omega (arith, low_blacks, ea.0) in
+    let all : blacks (branch d Black t q low) ≡ 1 + blacks t = blacks_branch d Black t q low same in
+    right_plug fs (branch d Black t q low)
+    (pairs_branch d Black t q low red_not_black red_not_black n.pairs (pairs_branch d Red b g u (λ r. pa.0 refl) (λ r. uncle) pa.2 pa.3.2))
+    (even_branch d Black t q low same n.even (even_branch d Red b g u low_even ea.1 ea.2.1))
+    pa.3.3
+    (let e : weight c + (0 + blacks t) ≡ blacks (branch d Black t q low) = omega (arith, heavy, all) in subst (λ (k : ℕ). EvenAround fs k) e ea.2.2)
+    (λ r. top_color_branch d Black t q low)
+
+-- the lower one of the red pair is an inner grandchild: a rotation makes it the parent of an outer one
+pub inner_rotated : (fs : List Frame) (d : Side) (q : Place) (b : Tree) (f : Frame) (ta : Tree) (x : Place) (tb : Tree) →
+    IsNearlyRight (frame (across d) Red q b ∷ f ∷ fs) (branch d Red ta x tb) →
+    IsNearlyRight (frame d Red x tb ∷ f ∷ fs) (branch d Red b q ta)
+inner_rotated fs d q b f ta x tb n =
+    let pa = n.pairs_around in
+    let ea = n.even_around in
+    let tp = of_pairs d Red ta x tb n.pairs in
+    let te = of_even d Red ta x tb n.even in
+    let all : blacks (branch d Red ta x tb) ≡ 0 + blacks ta = blacks_branch d Red ta x tb te.0 in
+    let same : blacks b ≡ blacks ta = omega (arith, all, ea.0) in
+    let new : blacks (branch d Red b q ta) ≡ 0 + blacks b = blacks_branch d Red b q ta same in
+    let e : 0 + blacks (branch d Red ta x tb) ≡ 0 + blacks (branch d Red b q ta) = omega (arith, all, new, same) in
+    record {
+      painted = top_color_branch d Red b q ta;
+      pairs = pairs_branch d Red b q ta (λ r. pa.0 refl) (λ r. (tp.0 refl).0) pa.2 tp.1;
+      even = even_branch d Red b q ta same ea.1 te.1;
+      pairs_around = (λ r. (tp.0 refl).1, pa.1, tp.2, pa.3);
+      even_around = (omega (arith, all, new, same, te.0), te.2, subst (λ (k : ℕ). EvenAround (f ∷ fs) k) e ea.2);
+    }

@@ -1,0 +1,209 @@
+-- A member is spliced out, and a place takes another's.
+use Rattle.std.proofs.Common.{◌≡◌, ℕ, ◌+◌, inl, inr, true, Option, Some, None, List, [], ◌∷◌, ◌++◌, refl, sym, ap, ◌∙◌, subst, arith, append-nil}
+use Rattle.ic_unsafe_ref.specs.declared.place.Place.{Place}
+use Rattle.ic_link_ops.specs.declared.color.Color.{Color}
+use Rattle.ic_link_ops.specs.declared.color.Color.TheVariants.{Red, Black}
+use Rattle.ic_link_ops.specs.declared.side.Side.{Side}
+use Rattle.ic_link_ops.specs.declared.side.Side.TheVariants.{Left, Right}
+use Rattle.ic_link_ops.specs.Tables.{Table, ChangesOnly}
+use Rattle.ic_link_ops.specs.Trees.{Tree, leaf, fork, top, in_order}
+use Rattle.ic_link_ops.specs.Shape.{top_color, weight, blacks, IsEven, NoRedPair, IsRight}
+use Rattle.ic_link_ops.specs.RedBlackTree.{Node, IsTree}
+use Rattle.ic_link_ops.specs.Frames.{Frame, frame, with_child, plug, above, before, after}
+use Rattle.ic_link_ops.proofs.SequenceLemmas.{none_not, some_same}
+use Rattle.ic_link_ops.proofs.Frames.{in_order_parts}
+use Rattle.ic_link_ops.specs.Times.{times, times_around}
+use Rattle.ic_link_ops.proofs.Times.{one_at_self}
+use Rattle.ic_rbtree.specs.Pieces.{Piece, cell, loose, below, around, Stands}
+use Rattle.ic_rbtree.specs.Focus.{Focus, IsRestored}
+use Rattle.ic_rbtree.specs.Steps.{Adopts, ChangesChild}
+use Rattle.ic_rbtree.specs.Shortage.{EvenAround, PairsAround}
+use Rattle.ic_rbtree.specs.Removal.{IsOn, Short}
+use Rattle.ic_rbtree.specs.Transplants.{or_else, Parts, member, only, IsLone, IsGap, Gap, IsSideBelow, TakesPlace}
+use Rattle.ic_rbtree.proofs.Branches.{order_plug, side_loose}
+use Rattle.ic_rbtree.proofs.Pieces.{regroup, set_near, set_far, set_parent_and_color}
+use Rattle.ic_rbtree.proofs.Rotations.{open_at, close_at, below_linked, around_linked}
+use Rattle.ic_rbtree.proofs.Zipper.{go_top, painted_top}
+use Rattle.ic_rbtree.proofs.InsertionShapes.{right_plug, red_not_black}
+use Rattle.ic_rbtree.proofs.RemovalShapes.{shape_open}
+use Rattle.ic_rbtree.proofs.ParentClimbs.{side_found}
+
+pub top_only : (a b : Tree) → or_else (top a) (top b) ≡ top (only a b)
+top_only leaf b = refl
+top_only (fork c a p b) r = refl
+
+pub order_only : (a b : Tree) → IsLone a b → in_order (only a b) ≡ in_order a ++ in_order b
+order_only leaf b h = refl
+order_only (fork c a p b) r (inl e) = cc
+order_only (fork c a p b) r (inr e) = sym (append-nil (in_order (fork c a p b))) ∙ ap (λ (x : Tree). in_order (fork c a p b) ++ in_order x) (sym e)
+
+pub not_red_black : (c : Color) → (c ≡ Red → ⊥) → c ≡ Black
+not_red_black Red h = absurd (h refl)
+not_red_black Black h = refl
+
+-- what is missing where a member is spliced out
+pub gap_open : (c : Color) (fs : List Frame) (a : Tree) (p : Place) (b : Tree) → IsLone a b → IsRight (plug fs (fork c a p b)) → IsGap c fs (only a b)
+gap_open c fs a p b h r = let o = shape_open fs (fork c a p b) r in open_gap a b h o.0 o.1 o.2 o.3 where
+  open_gap : (a b : Tree) → IsLone a b → NoRedPair (fork c a p b) → IsEven (fork c a p b) → PairsAround fs → EvenAround fs (weight c + blacks a) → IsGap c fs (only a b)
+  open_gap leaf b h pairs even pa ea = record {
+    pairs = pairs.2;
+    even = even.2;
+    pairs_around = pa;
+    even_around = subst (λ (k : ℕ). EvenAround fs (weight c + k)) even.0 ea;
+    red = λ e. (pairs.0 e).1;
+    none = sym even.0;
+  }
+  open_gap (fork k l q m) b (inl e) pairs even pa ea = cc
+  open_gap (fork k l q m) b (inr e) pairs even pa ea = record {
+    pairs = pairs.1;
+    even = even.1;
+    pairs_around = pa;
+    even_around = ea;
+    red = λ i. (pairs.0 i).0;
+    none = even.0 ∙ ap blacks e;
+  }
+
+module _ {E : Type 0} (n : E → Node) where
+  side_on : (v : Table E) (base : Table E) (root : Option Place) (fs : List Frame) (t : Tree) (ps : List Piece) (q : Place) (parent : Option Place) (d : Side)
+      → Stands n base v root fs t ps → top t ≡ Some q → parent ≡ above fs → IsSideBelow n v q parent d → IsOn d fs
+  side_on v base root [] t ps q parent d h e up is = tt
+  side_on v base root (frame k c p b ∷ fs) t ps q parent d h e up is = side_found n v base root k c p b fs t ps q d h e (is p up)
+
+  -- the ways in which a gap is closed
+  module _ {v : Table E} {root child parent : Option Place} {d : Side} {c : Color} {k : Focus E} (h : Gap n v root c child parent d k) where
+    pub close_red : c ≡ Red → IsRestored n v root k
+    close_red e = record {
+      tree = plug k.frames k.subtree;
+      stands = go_top n h.stands;
+      order = h.order;
+      shape = right_plug k.frames k.subtree h.gap.pairs h.gap.even h.gap.pairs_around (let level : weight c + blacks k.subtree ≡ blacks k.subtree = omega (arith, ap weight e) in subst (λ (m : ℕ). EvenAround k.frames m) level h.gap.even_around) (λ i. h.gap.red e);
+    }
+
+    pub close_short : c ≡ Black → child ≡ None → Short n v root parent d k
+    close_short e i = record {
+      stands = h.stands;
+      parent_is = h.parent_is;
+      side_is = h.side_is;
+      short = record {
+        black = no_top k.subtree (sym h.child_is ∙ i);
+        pairs = h.gap.pairs;
+        even = h.gap.even;
+        pairs_around = h.gap.pairs_around;
+        even_around = subst (λ (i : Color). EvenAround k.frames (weight i + blacks k.subtree)) e h.gap.even_around;
+      };
+      order = h.order;
+    } where
+      no_top : (t : Tree) → top t ≡ None → top_color t ≡ Black
+      no_top leaf e = refl
+      no_top (fork i a p b) e = absurd (none_not p (sym e))
+
+    pub close_black : {w : Table E} → c ≡ Black → (q : Place) → child ≡ Some q → n (w.entry q) ≡ record (n (v.entry q)) { color = Black } → ChangesOnly v w q → IsRestored n w root k
+    close_black {w} e q is set only = at k.subtree h where
+      at : (t : Tree) → Gap n v root c child parent d (record k { subtree = t }) → IsRestored n w root k
+      at leaf h = absurd (none_not q (sym h.child_is ∙ is))
+      at (fork i a p b) h =
+          let all : Tree = fork Black a p b in
+          let none : blacks a ≡ 0 = omega (arith, h.gap.none) in
+          let old : blacks (fork i a p b) ≡ 0 = h.gap.none in
+          let level : weight c + blacks (fork i a p b) ≡ blacks all = omega (arith, ap weight e, none, old) in
+          record {
+            tree = plug k.frames all;
+            stands = go_top n (painted_top n Left i a p b (some_same (sym is ∙ h.child_is)) refl set only h.stands);
+            order = order_plug k.frames all (fork i a p b) refl ∙ h.order;
+            shape = right_plug k.frames all (red_not_black, h.gap.pairs.1, h.gap.pairs.2) h.gap.even h.gap.pairs_around (subst (λ (m : ℕ). EvenAround k.frames m) level h.gap.even_around) (λ r. refl);
+          }
+
+  -- the tree without the member
+  abbrev pub without : Table E → List Frame → Parts → List Piece → Focus E
+  without base fs x ps = record { base = base; sequence = before fs ++ (in_order (only x.left x.right) ++ after fs); frames = fs; subtree = only x.left x.right; pieces = ps }
+
+  -- THE WRITES OF TAKING OUT
+  pub taken_out : {base v v1 v2 : Table E} (root new_root child parent : Option Place) (k : Color) (d : Side) (fs : List Frame) (y : Parts) (p : Place) (ps : List Piece)
+      → child ≡ or_else (n (v.entry p)).left (n (v.entry p)).right → parent ≡ (n (v.entry p)).parent → k ≡ (n (v.entry p)).color → IsSideBelow n v p parent d
+      → ChangesChild n v v1 root new_root parent p child → Adopts n v1 v2 child parent
+      → Stands n base v root fs (member p y) ps → IsLone y.left y.right → IsRight (plug fs (member p y)) → Gap n v2 new_root k child parent d (without base fs y (loose p ∷ ps))
+  taken_out {base} {v} {v1} {v2} root new_root child parent k d fs y p ps ec ep ek side f1 f2 s lone right =
+      let record { color = c; left = a; right = b } = y in
+      let h0 = open_at n root fs Left c a p b ps s in
+      let at = h0.are.0 in
+      let child_is : child ≡ top (only a b) = ec ∙ (ap (λ (x : Option Place). or_else x (n (v.entry p)).right) at.left ∙ (ap (λ (x : Option Place). or_else (top a) x) at.right ∙ top_only a b)) in
+      let up : parent ≡ above fs = ep ∙ at.parent in
+      let x : Tree = only a b in
+      let parts = lone_tree a b lone (λ (t : Tree). IsTree n v.entry (Some p) t) h0.are.1.0 h0.are.1.1.0 in
+      let h1 = regroup n (around root fs (Some p) ∷ below (Some p) x ∷ loose p ∷ ps) h0 (λ q. omega (arith, lone_times q a b lone))
+      (h0.are.1.1.1.0, (parts, (at.linked, h0.are.1.1.1.1))) in
+      let out : times_around p fs ≡ 0 = omega (arith, h1.once p, one_at_self p) in
+      let h2 = f1 base fs (top x) (below (Some p) x ∷ loose p ∷ ps) up child_is out h1 in
+      let h3 = regroup n (below (Some p) x ∷ around new_root fs (top x) ∷ loose p ∷ ps) h2 (λ q. omega arith) (h2.are.1.0, (h2.are.0, h2.are.1.1)) in
+      let h4 = f2 base (Some p) (above fs) x (around new_root fs (top x) ∷ loose p ∷ ps) child_is up h3 in
+      record {
+        stands = regroup n (around new_root fs (top x) ∷ below (above fs) x ∷ loose p ∷ ps) h4 (λ q. omega arith) (h4.are.1.0, (h4.are.0, h4.are.1.1));
+        child_is = child_is;
+        parent_is = up;
+        side_is = side_on v base root fs (fork c a p b) ps p parent d s refl up side;
+        gap = subst (λ (i : Color). IsGap i fs x) (sym (ek ∙ at.color)) (gap_open c fs a p b lone right);
+        order = in_order_parts fs x;
+      }
+    where
+      lone_tree : (a b : Tree) → IsLone a b → (P : Tree → Type 0) → P a → P b → P (only a b)
+      lone_tree leaf b h P pa pb = pb
+      lone_tree (fork c a p b) r h P pa pb = pa
+
+      lone_times : (q : Place) (a b : Tree) → IsLone a b → times q (only a b) ≡ times q a + times q b
+      lone_times q leaf b h = omega arith
+      lone_times q (fork c a p b) r (inl e) = cc
+      lone_times q (fork c a p b) r (inr e) = omega (arith, ap (λ (t : Tree). times q t) e)
+
+  -- what is read where a member stands
+  pub record Reads (v : Table E) (p : Place) : Type 0 where
+    pub here : (n (v.entry p)).linked ≡ true
+    pub left : (q : Place) → (n (v.entry p)).left ≡ Some q → (n (v.entry q)).linked ≡ true
+    pub right : (q : Place) → (n (v.entry p)).right ≡ Some q → (n (v.entry q)).linked ≡ true
+    pub parent : (q : Place) → (n (v.entry p)).parent ≡ Some q → (n (v.entry q)).linked ≡ true
+
+  pub reads : {base v : Table E} (root : Option Place) (fs : List Frame) (x : Parts) (p : Place) (ps : List Piece) → Stands n base v root fs (member p x) ps → Reads v p
+  reads {base} {v} root fs x p ps h =
+      let at = h.are.1.0.0 in
+      record {
+        here = at.linked;
+        left = λ q e. below_linked n v.entry (Some p) x.left q h.are.1.0.1 (sym at.left ∙ e);
+        right = λ q e. below_linked n v.entry (Some p) x.right q h.are.1.0.2 (sym at.right ∙ e);
+        parent = λ q e. around_linked n v.entry fs (Some p) q h.are.0.0 (sym at.parent ∙ e);
+      }
+
+  -- THE WRITES OF TAKING A PLACE
+  pub taken_place : (v v1 v2 v3 v4 v5 w : Table E) (root new_root left right parent : Option Place) (color : Color) (p new : Place)
+      → parent ≡ (n (v.entry p)).parent → left ≡ (n (v.entry p)).left → right ≡ (n (v.entry p)).right → color ≡ (n (v.entry p)).color
+      → ChangesChild n v v1 root new_root parent p (Some new) → Adopts n v1 v2 left (Some new) → Adopts n v2 v3 right (Some new)
+      → n (v4.entry new) ≡ with_child Left (n (v3.entry new)) left → ChangesOnly v3 v4 new
+      → n (v5.entry new) ≡ with_child Right (n (v4.entry new)) right → ChangesOnly v4 v5 new
+      → n (w.entry new) ≡ record (n (v5.entry new)) { parent = parent; color = color } → ChangesOnly v5 w new
+      → TakesPlace n v w root new_root p new
+  taken_place v v1 v2 v3 v4 v5 w root new_root left right parent color p new up el er ec f1 f2 f3 set4 only4 set5 only5 set6 only6 base fs x ps s =
+      let record { color = c; left = a; right = b } = x in
+      let h0 = open_at n root fs Left c a p b (loose new ∷ ps) s in
+      let at = h0.are.0 in
+      let eu : parent ≡ above fs = up ∙ at.parent in
+      let ea : left ≡ top a = el ∙ at.left in
+      let eb : right ≡ top b = er ∙ at.right in
+      let et : color ≡ c = ec ∙ at.color in
+      let h1' = regroup n (around root fs (Some p) ∷ below (Some p) a ∷ below (Some p) b ∷ loose p ∷ loose new ∷ ps) h0 (λ q. omega arith)
+      (h0.are.1.1.1.0, (h0.are.1.0, (h0.are.1.1.0, (at.linked, h0.are.1.1.1.1)))) in
+      let out : times_around p fs ≡ 0 = omega (arith, h1'.once p, one_at_self p) in
+      let h1 = f1 base fs (Some new) (below (Some p) a ∷ below (Some p) b ∷ loose p ∷ loose new ∷ ps) eu refl out h1' in
+      let R : Piece = around new_root fs (Some new) in
+      let h2' = regroup n (below (Some p) a ∷ R ∷ below (Some p) b ∷ loose p ∷ loose new ∷ ps) h1 (λ q. omega arith) (h1.are.1.0, (h1.are.0, h1.are.1.1)) in
+      let h2 = f2 base (Some p) (Some new) a (R ∷ below (Some p) b ∷ loose p ∷ loose new ∷ ps) ea refl h2' in
+      let A : Piece = below (Some new) a in
+      let h3' = regroup n (below (Some p) b ∷ A ∷ R ∷ loose p ∷ loose new ∷ ps) h2 (λ q. omega arith) (h2.are.1.1.0, (h2.are.0, (h2.are.1.0, h2.are.1.1.1))) in
+      let h3 = f3 base (Some p) (Some new) b (A ∷ R ∷ loose p ∷ loose new ∷ ps) eb refl h3' in
+      let B : Piece = below (Some new) b in
+      let rest : List Piece = A ∷ B ∷ R ∷ loose p ∷ ps in
+      let e : Node = n (v3.entry new) in
+      let h4' = regroup n (cell Left new e.color e.left e.right e.parent ∷ rest) h3 (λ q. omega arith)
+      (side_loose n v3.entry new h3.are.1.1.1.1.0, (h3.are.1.0, (h3.are.0, (h3.are.1.1.0, (h3.are.1.1.1.0, h3.are.1.1.1.1.1))))) in
+      let h4 = set_near n Left new e.color e.left e.right e.parent rest h4' new Left left (top a) refl refl ea set4 only4 in
+      let h5 = set_far n Left new e.color (top a) e.right e.parent rest h4 new Right right (top b) refl refl eb set5 only5 in
+      let h6 = set_parent_and_color n Left new e.color (top a) (top b) e.parent rest h5 new parent (above fs) c refl eu
+      (subst (λ (k : Color). n (w.entry new) ≡ record (n (v5.entry new)) { parent = parent; color = k }) et set6) only6 in
+      close_at n new_root (top a) (top b) fs Left c a new b (loose p ∷ ps) refl refl h6

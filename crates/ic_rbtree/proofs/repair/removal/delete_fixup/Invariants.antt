@@ -1,0 +1,22 @@
+use Rattle.std.proofs.Common.{◌-◌, ◌<◌, Bool, List, length}
+use Rattle.ic_unsafe_ref.specs.declared.place.Place.{Place}
+use Rattle.ic_link_ops.specs.Trees.{Tree}
+use Rattle.ic_link_ops.specs.Frames.{Frame}
+use Rattle.ic_rbtree.specs.Height.{turns}
+use Rattle.ic_rbtree.specs.Closed.{IsIn, IsClosed, KeepsNodes}
+use Rattle.ic_rbtree.specs.Focus.{Focus}
+use Rattle.ic_rbtree.specs.Removal.{Short}
+use Rattle.ic_rbtree.proofs.repair.removal.delete_fixup.Given as goal
+
+abbrev pub invariant-loop : goal.invariant-loop
+invariant-loop g l =
+    let n = g.N.Nodes.node in
+    let old = g.N.Nodes.table l.fn.links in
+    let now = g.N.Nodes.table l.links in
+    record {
+      each : (k : Focus g.row.N-Entry.Denot) → Short n old l.fn.root l.fn.parent l.fn.side k → length k.frames < turns
+          → (gs : List Frame) × (u : Tree) × Short n now l.root l.parent l.side (record k { frames = gs; subtree = u }) × (length gs < turns - l.counter);
+      safe : (S : Place → Bool) → IsClosed n old l.fn.root S → IsIn S l.fn.parent → IsClosed n now l.root S × IsIn S l.parent;
+      linked : KeepsNodes n old now;
+      quiet : g.N.Nodes.Quiet l.fn.links l.links;
+    }
