@@ -18,7 +18,7 @@ use Rattle.ic_rbtree.specs.Focus.{Focus, IsRestored}
 use Rattle.ic_rbtree.specs.Steps.{Rotates, IsSideOf}
 use Rattle.ic_rbtree.specs.Shortage.{wanted, color_above, IsNearlyRight}
 use Rattle.ic_rbtree.specs.Removal.{is_red, red_at}
-use Rattle.ic_rbtree.specs.Insertion.{color_below, are_across, RedPair, above_pair, blackened, RedAt, IsFixedOrHigher, PairAt, Recolors, HasOuterGrandchild, RotatesGrandparent}
+use Rattle.ic_rbtree.specs.Insertion.{color_below, are_across, RedPair, above_pair, blackened, RedAt, IsFixedOrHigher, PairAt, Recolors, HasOuterGrandchild}
 use Rattle.ic_rbtree.proofs.Branches.{branch_across, top_branch, as_branch, order_plug, order_branch, order_rotated, side_far, side_tint, side_up}
 use Rattle.ic_rbtree.proofs.Rotations.{turn}
 use Rattle.ic_rbtree.proofs.Zipper.{go_up, go_down, go_across, go_top, painted_top, painted_above}
@@ -188,14 +188,32 @@ module _ {E : Type 0} (n : E → Node) where
             },
           )
 
+  -- CASE 3, an outer grandchild: its parent comes up above g, black, and g goes down, red
+  module _ (v : Table E) (root : Option Place) (upper g : Place) (i j : Side) (ej : j ≡ across i) (m : RedPair) (k : Focus E)
+      (h : Stands n k.base v root (above_pair upper g i (record m { low = i }) k.frames) k.subtree k.pieces) where
+    grandparent_ready : Stands n k.base v root k.frames (branch (across i) m.color m.uncle g (branch (across i) Red m.sibling upper k.subtree)) k.pieces
+    grandparent_ready =
+        let low : Tree = branch i Red k.subtree upper m.sibling in
+        subst (λ (z : Tree). Stands n k.base v root k.frames z k.pieces)
+        (sym (branch_across i m.color low g m.uncle) ∙ ap (λ (z : Tree). branch (across i) m.color m.uncle g z) (sym (branch_across i Red k.subtree upper m.sibling))) (go_up n (go_up n h))
+
+    pub rotates_grandparent : (w : Table E) (new_root : Option Place) → Rotates n v w root new_root g upper j Red Black
+        → Stands n k.base w new_root k.frames (branch i Black k.subtree upper (branch i Red m.sibling g m.uncle)) k.pieces
+    rotates_grandparent w new_root rot' =
+        let rot : Rotates n v w root new_root g upper (across i) Red Black = subst (λ (z : Side). Rotates n v w root new_root g upper z Red Black) ej rot' in
+        subst (λ (z : Tree). Stands n k.base w new_root k.frames z k.pieces)
+        (branch_across i Black k.subtree upper (branch (across i) Red m.uncle g m.sibling) ∙ ap (λ (z : Tree). branch i Black k.subtree upper z) (branch_across i Red m.sibling g m.uncle))
+        (rot k.base k.frames (turn m.color m.uncle Red m.sibling upper k.subtree) k.pieces refl grandparent_ready)
+
   -- all is right after the grandparent's rotation
   pub fixed_here : {v w : Table E} {root new_root : Option Place} (upper g : Place) (i : Side) (m : RedPair) (k : Focus E)
-      → HasOuterGrandchild n v root upper g i m k → is_red (top_color m.uncle) ≡ false → RotatesGrandparent n v w root new_root upper g i → IsRestored n w new_root k
-  fixed_here {v} {w} {root} {new_root} upper g i m k (x, b, t, h) black rotates_grandparent =
+      → HasOuterGrandchild n v root upper g i m k → is_red (top_color m.uncle) ≡ false
+      → (j : Side) → j ≡ across i → Rotates n v w root new_root g upper j Red Black → IsRestored n w new_root k
+  fixed_here {v} {w} {root} {new_root} upper g i m k (x, b, t, h) black j ej rotated =
       let all : Tree = branch i Black t upper (branch i Red b g m.uncle) in
       record {
         tree = plug k.frames all;
-        stands = go_top n (rotates_grandparent (record m { sibling = b }) (record k { subtree = t }) h.red.stands);
+        stands = go_top n (rotates_grandparent v root upper g i j ej (record m { sibling = b }) (record k { subtree = t }) h.red.stands w new_root rotated);
         order = order_plug k.frames all (branch i m.color (branch i Red t upper b) g m.uncle) (order_rotated i Black Red Red m.color t upper b g m.uncle) ∙ h.red.order;
         shape = restored k.frames i upper b m.color g m.uncle t h.red.nearly (black_is (top_color m.uncle) black);
       }
@@ -220,22 +238,6 @@ module _ {E : Type 0} (n : E → Node) where
         let h4 = go_up n h3 in
         let h5 = subst (λ (t : Tree). Stands n k.base v2 root k.frames t k.pieces) (branch_across i m.color low g U') h4 in
         painted_top n i m.color low g U' refl tint set3 only3 h5
-
-  module _ (v : Table E) (root : Option Place) (upper g : Place) (i j : Side) (ej : j ≡ across i) (m : RedPair) (k : Focus E)
-      (h : Stands n k.base v root (above_pair upper g i (record m { low = i }) k.frames) k.subtree k.pieces) where
-    grandparent_ready : Stands n k.base v root k.frames (branch (across i) m.color m.uncle g (branch (across i) Red m.sibling upper k.subtree)) k.pieces
-    grandparent_ready =
-        let low : Tree = branch i Red k.subtree upper m.sibling in
-        subst (λ (z : Tree). Stands n k.base v root k.frames z k.pieces)
-        (sym (branch_across i m.color low g m.uncle) ∙ ap (λ (z : Tree). branch (across i) m.color m.uncle g z) (sym (branch_across i Red k.subtree upper m.sibling))) (go_up n (go_up n h))
-
-    pub rotates_grandparent : (w : Table E) (new_root : Option Place) → Rotates n v w root new_root g upper j Red Black
-        → Stands n k.base w new_root k.frames (branch i Black k.subtree upper (branch i Red m.sibling g m.uncle)) k.pieces
-    rotates_grandparent w new_root rot' =
-        let rot : Rotates n v w root new_root g upper (across i) Red Black = subst (λ (z : Side). Rotates n v w root new_root g upper z Red Black) ej rot' in
-        subst (λ (z : Tree). Stands n k.base w new_root k.frames z k.pieces)
-        (branch_across i Black k.subtree upper (branch (across i) Red m.uncle g m.sibling) ∙ ap (λ (z : Tree). branch i Black k.subtree upper z) (branch_across i Red m.sibling g m.uncle))
-        (rot k.base k.frames (turn m.color m.uncle Red m.sibling upper k.subtree) k.pieces refl grandparent_ready)
 
   -- a step's answer, from the pair's to the whole
   pub fixed_below : (w : Table E) (root : Option Place) (k : Focus E) (fs : List Frame) (o : Option Place) → length k.frames ≡ length fs + 2

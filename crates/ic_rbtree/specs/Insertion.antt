@@ -90,12 +90,6 @@ module _ {E : Type 0} (n : E → Node) where
   RotatesInnerGrandchild v w root new_root x q i upper =
       (g : Place) (m : RedPair) (k : Focus E) → PairAt v root x q g i m k → HasOuterGrandchild w new_root upper g i m k
 
-  -- CASE 3, an outer grandchild: its parent comes up above g, black, and g goes down, red
-  abbrev pub RotatesGrandparent : Table E → Table E → Option Place → Option Place → Place → Place → Side → Type 0
-  RotatesGrandparent v w root new_root upper g i =
-      (m : RedPair) (k : Focus E) → Stands n k.base v root (above_pair upper g i (record m { low = i }) k.frames) k.subtree k.pieces
-      → Stands n k.base w new_root k.frames (branch i Black k.subtree upper (branch i Red m.sibling g m.uncle)) k.pieces
-
   -- THE HOLE: on side d of q, which has no child there, is this gap; without q the tree is empty
   abbrev pub IsHole : Table E → Option Place → Side → Cut → Type 0
   IsHole v None d gap = (gap.front ≡ []) × (gap.back ≡ [])

@@ -4,7 +4,7 @@
 ghost use Rattle.std.specs.Prelude.{Option, Some, [], ◌∷◌};
 ghost use Rattle.ic_unsafe_ref.specs.declared.place.Place.{Place};
 ghost use Rattle.ic_rbtree.specs.Closed.{IsNode, KeepsNodes, IsSafe, IsSafeBut, StaysClosed, StaysClosedBut, ClosesAt};
-ghost use Rattle.ic_rbtree.specs.Insertion.{FixesRedParent, FixesInsertion, FixesRedPair, FixesRedPairOn, Recolors, RotatesInnerGrandchild, RotatesGrandparent, Attaches};
+ghost use Rattle.ic_rbtree.specs.Insertion.{FixesRedParent, FixesInsertion, FixesRedPair, FixesRedPairOn, Recolors, RotatesInnerGrandchild, Attaches};
 
 use crate::nodes::Nodes;
 use crate::readings::{child, color_here, is_across, is_red, other, side_of};
@@ -53,33 +53,8 @@ pub(crate) fn rotate_inner_grandchild<N: Nodes>(
     place
 }
 
-// Case 3, the red child of `upper` is an outer grandchild: `upper` comes up above `grand`.
-#[inline(always)]
-pub(crate) fn rotate_grandparent<N: Nodes>(
-    links: &mut N,
-    root: &mut PlaceWord,
-    upper: Place,
-    grand: Place,
-    side: Side,
-)
-    requires { IsSafe N.node (N.table links.old) root.old (Some upper ∷ Some grand ∷ []) }
-    ensures rotated { RotatesGrandparent N.node (N.table links.old) (N.table links.new) root.old root.new upper grand side }
-    ensures linked { KeepsNodes N.node (N.table links.old) (N.table links.new) }
-    ensures safe { StaysClosed N.node (N.table links.old) (N.table links.new) root.old root.new (Some upper ∷ Some grand ∷ []) [] }
-    ensures quiet { N.Quiet links.old links.new }
-{
-    rotate(
-        links,
-        root,
-        grand,
-        upper,
-        other(side),
-        Color::Red,
-        Color::Black,
-    );
-}
-
-// One step where `parent` stands on this side of `grand`: where the next one stands, if it was not the last.
+// One step where `parent` stands on this side of `grand`: where the next one stands, if it was not the last. Case 3, the red
+// child of `upper` is an outer grandchild: `upper` comes up above `grand`.
 #[inline(always)]
 pub(crate) fn fix_red_pair_on<N: Nodes>(
     links: &mut N,
@@ -95,14 +70,15 @@ pub(crate) fn fix_red_pair_on<N: Nodes>(
     ensures safe { StaysClosed N.node (N.table links.old) (N.table links.new) root.old root.new (Some place ∷ Some parent ∷ Some grand ∷ []) (result ∷ []) }
     ensures quiet { N.Quiet links.old links.new }
 {
-    let uncle = child(&*links, grand, other(side));
+    let far = other(side);
+    let uncle = child(&*links, grand, far);
     if is_red(&*links, uncle) {
         let red = uncle?;
         recolor(links, parent, red, grand);
         return Some(grand);
     }
     let upper = rotate_inner_grandchild(links, root, place, parent, side);
-    rotate_grandparent(links, root, upper, grand, side);
+    rotate(links, root, grand, upper, far, Color::Red, Color::Black);
     None
 }
 

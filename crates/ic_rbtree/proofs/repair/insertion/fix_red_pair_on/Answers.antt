@@ -19,13 +19,13 @@ recolor-requires-clause-uncle g c =
 pub returns-in_err-red-clause-fixed : goal.returns-in_err-red-clause-fixed
 returns-in_err-red-clause-fixed g c m k h =
     let n = g.N.Nodes.node in
-    let is = uncle_is n h c.other.result c.child-uncle.result c.other.ensures c.child-uncle.ensures in
+    let is = uncle_is n h c.other-far.result c.child-uncle.result c.other-far.ensures c.child-uncle.ensures in
     absurd (not_none c.child-uncle.result (uncle_some n h (sym (uncle_red n h c.child-uncle.result is c.is_red.result c.is_red.ensures) ∙ c.if-is_red.true) c.child-uncle.result is) c.in_err-red.was)
 
 pub returns-then-is_red-clause-fixed : goal.returns-then-is_red-clause-fixed
 returns-then-is_red-clause-fixed g c m k h =
     let n = g.N.Nodes.node in
-    let is = uncle_is n h c.other.result c.child-uncle.result c.other.ensures c.child-uncle.ensures in
+    let is = uncle_is n h c.other-far.result c.child-uncle.result c.other-far.ensures c.child-uncle.ensures in
     fixed_higher n h c.in_ok-red.red (sym is ∙ c.in_ok-red.was) (sym (uncle_red n h c.child-uncle.result is c.is_red.result c.is_red.ensures) ∙ c.if-is_red.true) c.recolor.ensures.recolored
 
 pub returns-then-is_red-clause-safe : goal.returns-then-is_red-clause-safe
@@ -34,21 +34,21 @@ returns-then-is_red-clause-safe g c S h i = (c.recolor.ensures.safe c.args.root.
 pub rotate_inner_grandchild-upper-requires : goal.rotate_inner_grandchild-upper-requires
 rotate_inner_grandchild-upper-requires g c = let r = c.requires in (r.0, r.1, (r.2.0, (r.2.1.0, tt)))
 
-pub rotate_grandparent-requires : goal.rotate_grandparent-requires
-rotate_grandparent-requires g c =
+pub rotate-requires : goal.rotate-requires
+rotate-requires g c =
     let r = c.requires in
     let k = c.rotate_inner_grandchild-upper.ensures.safe r.0 r.1 (r.2.0, (r.2.1.0, tt)) in
-    (r.0, k.0, (k.1.0, r.2.1.1))
+    (r.0, k.0, (r.2.1.1.0, (k.1.0, tt)))
 
 pub returns-clause-fixed : goal.returns-clause-fixed
 returns-clause-fixed g c m k h =
     let n = g.N.Nodes.node in
-    let is = uncle_is n h c.other.result c.child-uncle.result c.other.ensures c.child-uncle.ensures in
+    let is = uncle_is n h c.other-far.result c.child-uncle.result c.other-far.ensures c.child-uncle.ensures in
     fixed_here n c.rotate_inner_grandchild-upper.result c.args.grand c.args.side m k
     (c.rotate_inner_grandchild-upper.ensures.outer_grandchild c.args.grand m k h)
-    (sym (uncle_red n h c.child-uncle.result is c.is_red.result c.is_red.ensures) ∙ c.if-is_red.false) c.rotate_grandparent.ensures.rotated
+    (sym (uncle_red n h c.child-uncle.result is c.is_red.result c.is_red.ensures) ∙ c.if-is_red.false) c.other-far.result c.other-far.ensures c.rotate.ensures.rotated
 
 pub returns-clause-safe : goal.returns-clause-safe
 returns-clause-safe g c S h i =
     let k = c.rotate_inner_grandchild-upper.ensures.safe S h (i.0, (i.1.0, tt)) in
-    ((c.rotate_grandparent.ensures.safe S k.0 (k.1.0, i.1.1)).0, (tt, tt))
+    ((c.rotate.ensures.safe S k.0 (i.1.1.0, (k.1.0, tt))).0, (tt, tt))
