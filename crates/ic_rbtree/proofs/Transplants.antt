@@ -14,16 +14,16 @@ use Rattle.ic_link_ops.proofs.SequenceLemmas.{none_not, some_same}
 use Rattle.ic_link_ops.proofs.Frames.{in_order_parts}
 use Rattle.ic_link_ops.specs.Times.{times, times_around}
 use Rattle.ic_link_ops.proofs.Times.{one_at_self}
-use Rattle.ic_rbtree.specs.Pieces.{Piece, cell, loose, below, around, Stands}
-use Rattle.ic_rbtree.specs.Focus.{Focus, IsRestored}
+use Rattle.ic_rbtree.specs.Pieces.{Piece, cell, loose, below, around, Held, Stands}
+use Rattle.ic_rbtree.specs.Focus.{Focus, IsInFocus, IsRestored}
 use Rattle.ic_rbtree.specs.Steps.{Adopts, ChangesChild}
 use Rattle.ic_rbtree.specs.Shortage.{EvenAround, PairsAround}
 use Rattle.ic_rbtree.specs.Removal.{IsOn, Short}
 use Rattle.ic_rbtree.specs.Transplants.{or_else, Parts, member, only, IsLone, IsGap, Gap, IsSideBelow, TakesPlace}
 use Rattle.ic_rbtree.proofs.Branches.{order_plug, side_loose}
 use Rattle.ic_rbtree.proofs.Pieces.{regroup, set_near, set_far, set_parent_and_color}
-use Rattle.ic_rbtree.proofs.Rotations.{open_at, close_at, below_linked, around_linked}
-use Rattle.ic_rbtree.proofs.Zipper.{go_top, painted_top}
+use Rattle.ic_rbtree.proofs.Rotations.{open_below, open_at, close_at, below_linked, around_linked}
+use Rattle.ic_rbtree.proofs.Zipper.{go_top}
 use Rattle.ic_rbtree.proofs.InsertionShapes.{right_plug, red_not_black}
 use Rattle.ic_rbtree.proofs.RemovalShapes.{shape_open}
 use Rattle.ic_rbtree.proofs.ParentClimbs.{side_found}
@@ -71,44 +71,54 @@ module _ {E : Type 0} (n : E → Node) where
 
   -- the ways in which a gap is closed
   module _ {v : Table E} {root child parent : Option Place} {d : Side} {c : Color} {k : Focus E} (h : Gap n v root c child parent d k) where
-    pub close_red : c ≡ Red → IsRestored n v root k
-    close_red e = record {
+    -- a missing child names no parent
+    bare : child ≡ None → IsInFocus n v root k × (top_color k.subtree ≡ Black)
+    bare none = at k.subtree h.stands (sym h.child_is ∙ none) where
+      at : (t : Tree) → Held n k.base v (around root k.frames (top t) ∷ below h.named t ∷ k.pieces) → top t ≡ None
+          → IsInFocus n v root (record k { subtree = t }) × (top_color t ≡ Black)
+      at leaf s e = (regroup n (around root k.frames None ∷ below (above k.frames) leaf ∷ k.pieces) s (λ q. omega arith) (s.are.0, (tt, s.are.1.1)), refl)
+      at (fork i a p b) s e = absurd (none_not p (sym e))
+
+    pub close_red : c ≡ Red → child ≡ None → IsRestored n v root k
+    close_red e none = record {
       tree = plug k.frames k.subtree;
-      stands = go_top n h.stands;
+      stands = go_top n (bare none).0;
       order = h.order;
       shape = right_plug k.frames k.subtree h.gap.pairs h.gap.even h.gap.pairs_around (let level : weight c + blacks k.subtree ≡ blacks k.subtree = omega (arith, ap weight e) in subst (λ (m : ℕ). EvenAround k.frames m) level h.gap.even_around) (λ i. h.gap.red e);
     }
 
     pub close_short : c ≡ Black → child ≡ None → Short n v root parent d k
-    close_short e i = record {
-      stands = h.stands;
+    close_short e none = record {
+      stands = (bare none).0;
       parent_is = h.parent_is;
       side_is = h.side_is;
       short = record {
-        black = no_top k.subtree (sym h.child_is ∙ i);
+        black = (bare none).1;
         pairs = h.gap.pairs;
         even = h.gap.even;
         pairs_around = h.gap.pairs_around;
         even_around = subst (λ (i : Color). EvenAround k.frames (weight i + blacks k.subtree)) e h.gap.even_around;
       };
       order = h.order;
-    } where
-      no_top : (t : Tree) → top t ≡ None → top_color t ≡ Black
-      no_top leaf e = refl
-      no_top (fork i a p b) e = absurd (none_not p (sym e))
+    }
 
-    pub close_black : {w : Table E} → c ≡ Black → (q : Place) → child ≡ Some q → n (w.entry q) ≡ record (n (v.entry q)) { color = Black } → ChangesOnly v w q → IsRestored n w root k
-    close_black {w} e q is set only = at k.subtree h where
+    -- a lone child is red, and so the member was black
+    pub close_lone : {w : Table E} (q : Place) → child ≡ Some q → n (w.entry q) ≡ record (n (v.entry q)) { parent = parent; color = Black } → ChangesOnly v w q → IsRestored n w root k
+    close_lone {w} q is set only = at k.subtree h where
       at : (t : Tree) → Gap n v root c child parent d (record k { subtree = t }) → IsRestored n w root k
       at leaf h = absurd (none_not q (sym h.child_is ∙ is))
       at (fork i a p b) h =
           let all : Tree = fork Black a p b in
-          let none : blacks a ≡ 0 = omega (arith, h.gap.none) in
-          let old : blacks (fork i a p b) ≡ 0 = h.gap.none in
-          let level : weight c + blacks (fork i a p b) ≡ blacks all = omega (arith, ap weight e, none, old) in
+          let rest : List Piece = around root k.frames (Some p) ∷ k.pieces in
+          let h0 = regroup n (below h.named (fork i a p b) ∷ rest) h.stands (λ q. omega arith) (h.stands.are.1.0, (h.stands.are.0, h.stands.are.1.1)) in
+          let h1 = set_parent_and_color n Left p i (top a) (top b) h.named (below (Some p) a ∷ below (Some p) b ∷ rest) (open_below n h.named Left i a p b rest h0)
+          q parent (above k.frames) Black (some_same (sym is ∙ h.child_is)) h.parent_is set only in
+          let none : weight i + blacks a ≡ 0 = h.gap.none in
+          let black : c ≡ Black = not_red_black c (λ r. let one : weight i ≡ 1 = ap weight (h.gap.red r) in omega (arith, one, none)) in
+          let level : weight c + blacks (fork i a p b) ≡ blacks all = omega (arith, ap weight black, none) in
           record {
             tree = plug k.frames all;
-            stands = go_top n (painted_top n Left i a p b (some_same (sym is ∙ h.child_is)) refl set only h.stands);
+            stands = go_top n (close_at n root (top a) (top b) k.frames Left Black a p b k.pieces refl refl h1);
             order = order_plug k.frames all (fork i a p b) refl ∙ h.order;
             shape = right_plug k.frames all (red_not_black, h.gap.pairs.1, h.gap.pairs.2) h.gap.even h.gap.pairs_around (subst (λ (m : ℕ). EvenAround k.frames m) level h.gap.even_around) (λ r. refl);
           }
@@ -118,11 +128,11 @@ module _ {E : Type 0} (n : E → Node) where
   without base fs x ps = record { base = base; sequence = before fs ++ (in_order (only x.left x.right) ++ after fs); frames = fs; subtree = only x.left x.right; pieces = ps }
 
   -- THE WRITES OF TAKING OUT
-  pub taken_out : {base v v1 v2 : Table E} (root new_root child parent : Option Place) (k : Color) (d : Side) (fs : List Frame) (y : Parts) (p : Place) (ps : List Piece)
+  pub taken_out : {base v v1 : Table E} (root new_root child parent : Option Place) (k : Color) (d : Side) (fs : List Frame) (y : Parts) (p : Place) (ps : List Piece)
       → child ≡ or_else (n (v.entry p)).left (n (v.entry p)).right → parent ≡ (n (v.entry p)).parent → k ≡ (n (v.entry p)).color → IsSideBelow n v p parent d
-      → ChangesChild n v v1 root new_root parent p child → Adopts n v1 v2 child parent
-      → Stands n base v root fs (member p y) ps → IsLone y.left y.right → IsRight (plug fs (member p y)) → Gap n v2 new_root k child parent d (without base fs y (loose p ∷ ps))
-  taken_out {base} {v} {v1} {v2} root new_root child parent k d fs y p ps ec ep ek side f1 f2 s lone right =
+      → ChangesChild n v v1 root new_root parent p child
+      → Stands n base v root fs (member p y) ps → IsLone y.left y.right → IsRight (plug fs (member p y)) → Gap n v1 new_root k child parent d (without base fs y (loose p ∷ ps))
+  taken_out {base} {v} {v1} root new_root child parent k d fs y p ps ec ep ek side f1 s lone right =
       let record { color = c; left = a; right = b } = y in
       let h0 = open_at n root fs Left c a p b ps s in
       let at = h0.are.0 in
@@ -133,11 +143,9 @@ module _ {E : Type 0} (n : E → Node) where
       let h1 = regroup n (around root fs (Some p) ∷ below (Some p) x ∷ loose p ∷ ps) h0 (λ q. omega (arith, lone_times q a b lone))
       (h0.are.1.1.1.0, (parts, (at.linked, h0.are.1.1.1.1))) in
       let out : times_around p fs ≡ 0 = omega (arith, h1.once p, one_at_self p) in
-      let h2 = f1 base fs (top x) (below (Some p) x ∷ loose p ∷ ps) up child_is out h1 in
-      let h3 = regroup n (below (Some p) x ∷ around new_root fs (top x) ∷ loose p ∷ ps) h2 (λ q. omega arith) (h2.are.1.0, (h2.are.0, h2.are.1.1)) in
-      let h4 = f2 base (Some p) (above fs) x (around new_root fs (top x) ∷ loose p ∷ ps) child_is up h3 in
       record {
-        stands = regroup n (around new_root fs (top x) ∷ below (above fs) x ∷ loose p ∷ ps) h4 (λ q. omega arith) (h4.are.1.0, (h4.are.0, h4.are.1.1));
+        named = Some p;
+        stands = f1 base fs (top x) (below (Some p) x ∷ loose p ∷ ps) up child_is out h1;
         child_is = child_is;
         parent_is = up;
         side_is = side_on v base root fs (fork c a p b) ps p parent d s refl up side;

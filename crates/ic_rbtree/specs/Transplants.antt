@@ -10,8 +10,8 @@ use Rattle.ic_link_ops.specs.Shape.{top_color, weight, blacks, IsEven, NoRedPair
 use Rattle.ic_link_ops.specs.RedBlackTree.{Node}
 use Rattle.ic_link_ops.specs.Frames.{Frame, plug, above, before, after}
 use Rattle.ic_rbtree.specs.Height.{turns}
-use Rattle.ic_rbtree.specs.Pieces.{Piece, loose, Stands, Shown}
-use Rattle.ic_rbtree.specs.Focus.{Focus, IsInFocus, IsRestored}
+use Rattle.ic_rbtree.specs.Pieces.{Piece, below, around, loose, Held, Stands, Shown}
+use Rattle.ic_rbtree.specs.Focus.{Focus, IsRestored}
 use Rattle.ic_rbtree.specs.Shortage.{EvenAround, PairsAround}
 use Rattle.ic_rbtree.specs.Removal.{IsOn}
 use Rattle.ic_rbtree.specs.Steps.{IsSideOf}
@@ -51,9 +51,10 @@ module _ {E : Type 0} (n : E → Node) where
   abbrev pub IsSideBelow : Table E → Place → Option Place → Side → Type 0
   IsSideBelow v p parent d = (q : Place) → parent ≡ Some q → IsSideOf n v p q d
 
-  -- such a gap: `child`, the root of the subtree, hangs in the member's place on side d of `parent`
+  -- such a gap: `child`, the root of the subtree, hangs in the member's place on side d of `parent`, but names another parent yet
   pub record Gap (v : Table E) (root : Option Place) (c : Color) (child parent : Option Place) (d : Side) (k : Focus E) : Type 0 where
-    pub stands : IsInFocus n v root k
+    pub named : Option Place
+    pub stands : Held n k.base v (around root k.frames (top k.subtree) ∷ below named k.subtree ∷ k.pieces)
     pub child_is : child ≡ top k.subtree
     pub parent_is : parent ≡ above k.frames
     pub side_is : IsOn d k.frames

@@ -12,7 +12,7 @@ use crate::readings::{
     child, has_red_child, is_at, is_red, only_child, other, second_child, side_below,
 };
 use crate::repair::TURNS;
-use crate::repair::writers::{adopt, change_child, rotate, set_color, take_place};
+use crate::repair::writers::{change_child, rotate, set_color, set_parent_and_color, take_place};
 use crate::within::outermost_within;
 use ic_link_ops::{Color, PlaceWord, Side};
 use ic_unsafe_ref::Place;
@@ -180,7 +180,7 @@ pub(crate) fn delete_fixup<N: Nodes>(
     }
 }
 
-// Repairs the colors where a member of this color was taken out, and its child hangs in its place.
+// Repairs the colors where a member of this color was taken out, and its child hangs in its place, which gets its parent here.
 pub(crate) fn close_gap<N: Nodes>(
     links: &mut N,
     root: &mut PlaceWord,
@@ -195,12 +195,14 @@ pub(crate) fn close_gap<N: Nodes>(
     ensures safe { StaysClosed N.node (N.table links.old) (N.table links.new) root.old root.new (child ∷ parent ∷ []) [] }
     ensures quiet { N.Quiet links.old links.new }
 {
-    if let Color::Red = color {
+    if let Some(child) = child {
+        // A lone child is red, and so the member was black.
+        set_parent_and_color(links, child, parent, Color::Black);
         return;
     }
-    match child {
-        Some(child) => set_color(links, child, Color::Black),
-        None => delete_fixup(links, root, parent, side),
+    match color {
+        Color::Red => {}
+        Color::Black => delete_fixup(links, root, parent, side),
     }
 }
 
@@ -218,7 +220,6 @@ pub(crate) fn splice_out<N: Nodes>(links: &mut N, root: &mut PlaceWord, place: P
     let color = links.color(place);
     let side = side_below(&*links, place, parent);
     change_child(links, root, parent, place, child);
-    adopt(links, child, parent);
     close_gap(links, root, color, child, parent, side);
 }
 
