@@ -1,6 +1,9 @@
 -- What takes no step.
-use Rattle.std.proofs.Common.{List, [], ◌++◌, append-nil, subst}
+use Rattle.std.proofs.Common.{◌≡◌, Bool, List, [], ◌++◌, append-nil, subst, sym, ◌∙◌}
+use Rattle.ic_link_ops.specs.Tables.{Table, KeepsLinked}
 use Rattle.ic_link_ops.specs.LinkSteps.{LinkStep}
+use Rattle.ic_link_ops.specs.RedBlackTree.{Node}
+use Rattle.ic_rbtree.specs.Closed.{KeepsNodes}
 use Rattle.ic_rbtree.specs.Steps.{TakesNoStep}
 
 -- where none is the list of the steps, those that led there before are all
@@ -8,3 +11,7 @@ pub no_step_more : {L : Type 0} (Does : L → L → List LinkStep → Type 0) �
     → {old new : L} → Does old new [] → TakesNoStep Does old new
 no_step_more Does on {old} {new} none start s led =
     subst (λ (t : List LinkStep). Does start new t) (append-nil s) (on start old new s [] led none)
+
+-- and then the same places are linked, as their nodes say
+pub same_nodes : {E : Type 0} (n : E → Node) {linked : E → Bool} → ((e : E) → (n e).linked ≡ linked e) → (old new : Table E) → KeepsLinked linked old new → KeepsNodes n old new
+same_nodes n alike old new same q = alike (new.entry q) ∙ (same q ∙ sym (alike (old.entry q)))

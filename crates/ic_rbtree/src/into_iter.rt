@@ -13,7 +13,7 @@ ghost use Rattle.ic_unsafe_ref.specs.declared.place.Place.{Place};
 ghost use Rattle.ic_link_ops.specs.Tables.{KeepsBeside};
 ghost use Rattle.ic_link_ops.specs.LinkSteps.{releases, releases_each};
 ghost use Rattle.ic_link_ops.specs.RedBlackTree.{Shows, ShowsSome};
-ghost use Rattle.ic_rbtree.specs.Closed.{IsNamed, KeepsNodes};
+ghost use Rattle.ic_rbtree.specs.Closed.{IsNamed};
 ghost use Rattle.ic_rbtree.specs.Ends.{end_on, others_on, ShowsFrom, Hangs, CanDescend, IsOuter};
 ghost use Rattle.ic_rbtree.specs.Steps.{TakesNoStep};
 ghost use Rattle.ic_rbtree.specs.Tree.{root_of};
@@ -175,7 +175,6 @@ fn hang<L: RBTreeOps>(links: &mut L, parent: Option<Place>, side: Side, to: Opti
     requires parent { IsNamed L.node (L.table links.old) parent }
     requires named { IsNamed L.node (L.table links.old) to }
     ensures moved { Hangs L.node (L.table links.old) (L.table links.new) parent side to }
-    ensures linked { KeepsNodes L.node (L.table links.old) (L.table links.new) }
     ensures no_step { TakesNoStep L.Does links.old links.new }
 {
     if let Some(parent) = parent {

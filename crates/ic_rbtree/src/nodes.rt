@@ -4,10 +4,10 @@
 //! attach(nodes, root, parent, side, place); // of any table, or of words that a caller keeps
 //! ```
 
-ghost use Rattle.std.specs.Prelude.{◌≡◌};
+ghost use Rattle.std.specs.Prelude.{◌≡◌, []};
 ghost use Rattle.ic_link_ops.specs.Tables.{Table, ChangesOnly};
 ghost use Rattle.ic_link_ops.specs.RedBlackTree.{Node, node_at};
-ghost use Rattle.ic_rbtree.specs.Closed.{IsNode, IsNamed};
+ghost use Rattle.ic_rbtree.specs.Closed.{IsNode, IsNamed, KeepsNodes};
 
 use ic_link_ops::Color;
 use ic_link_ops::rbtree::RBTreeOps;
@@ -88,14 +88,17 @@ pub trait Nodes {
         ensures frame { ChangesOnly (table self.old) (table self.new) place }
         ensures quiet { Quiet self.old self.new };
 
-    // The laws: what stays is quiet, and quiet changes are quiet together.
+    // The laws: what stays is quiet, quiet changes are quiet together, and they link and unlink no place.
     ghost quiet_still: { (t : Self) → Quiet t t };
 
     ghost quiet_on: { (a b c : Self) → Quiet a b → Quiet b c → Quiet a c };
+
+    ghost quiet_keeps: { (old new : Self) → Quiet old new → KeepsNodes node (table old) (table new) };
 }
 
 impl<L: RBTreeOps> Nodes for L {
     ghost use Rattle.ic_rbtree.specs.Steps.{TakesNoStep};
+    ghost use Rattle.std.proofs.Common.{sym, ◌∙◌};
 
     type Entry = L::Entry;
 
@@ -153,4 +156,7 @@ impl<L: RBTreeOps> Nodes for L {
     ghost quiet_still = { λ t start s d. d };
 
     ghost quiet_on = { λ a b c x y start s d. y start s (x start s d) };
+
+    ghost quiet_keeps = { λ old new same q. L.linked_alike ((L.table new).entry q)
+        ∙ (L.does_replay old new [] (same old [] (L.does_nothing old)) q ∙ sym (L.linked_alike ((L.table old).entry q))) };
 }

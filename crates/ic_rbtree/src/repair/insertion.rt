@@ -3,7 +3,7 @@
 
 ghost use Rattle.std.specs.Prelude.{Option, Some, [], ◌∷◌};
 ghost use Rattle.ic_unsafe_ref.specs.declared.place.Place.{Place};
-ghost use Rattle.ic_rbtree.specs.Closed.{IsNode, KeepsNodes, IsSafe, IsSafeBut, StaysClosed, StaysClosedBut, ClosesAt};
+ghost use Rattle.ic_rbtree.specs.Closed.{IsNode, IsSafe, IsSafeBut, StaysClosed, StaysClosedBut, ClosesAt};
 ghost use Rattle.ic_rbtree.specs.Insertion.{FixesRedParent, FixesInsertion, FixesRedPair, FixesRedPairOn, Recolors, RotatesInnerGrandchild, Attaches};
 
 use crate::nodes::Nodes;
@@ -19,7 +19,6 @@ pub(crate) fn recolor<N: Nodes>(links: &mut N, parent: Place, uncle: Place, gran
     requires uncle { IsNode N.node (N.table links.old) uncle }
     requires grand { IsNode N.node (N.table links.old) grand }
     ensures recolored { Recolors N.node (N.table links.old) (N.table links.new) parent uncle grand }
-    ensures linked { KeepsNodes N.node (N.table links.old) (N.table links.new) }
     ensures safe { (root : Option Place) → StaysClosedBut N.node (N.table links.old) (N.table links.new) root root [] }
     ensures quiet { N.Quiet links.old links.new }
 {
@@ -41,7 +40,6 @@ pub(crate) fn rotate_inner_grandchild<N: Nodes>(
 ) -> Place
     requires { IsSafe N.node (N.table links.old) root.old (Some place ∷ Some parent ∷ []) }
     ensures outer_grandchild { RotatesInnerGrandchild N.node (N.table links.old) (N.table links.new) root.old root.new place parent side result }
-    ensures linked { KeepsNodes N.node (N.table links.old) (N.table links.new) }
     ensures safe { StaysClosed N.node (N.table links.old) (N.table links.new) root.old root.new (Some place ∷ Some parent ∷ []) (Some result ∷ []) }
     ensures quiet { N.Quiet links.old links.new }
 {
@@ -66,7 +64,6 @@ pub(crate) fn fix_red_pair_on<N: Nodes>(
 ) -> Option<Place>
     requires { IsSafe N.node (N.table links.old) root.old (Some place ∷ Some parent ∷ Some grand ∷ []) }
     ensures fixed { FixesRedPairOn N.node (N.table links.old) (N.table links.new) root.old root.new place parent grand side result }
-    ensures linked { KeepsNodes N.node (N.table links.old) (N.table links.new) }
     ensures safe { StaysClosed N.node (N.table links.old) (N.table links.new) root.old root.new (Some place ∷ Some parent ∷ Some grand ∷ []) (result ∷ []) }
     ensures quiet { N.Quiet links.old links.new }
 {
@@ -92,7 +89,6 @@ pub(crate) fn fix_red_pair<N: Nodes>(
 ) -> Option<Place>
     requires { IsSafe N.node (N.table links.old) root.old (Some place ∷ Some parent ∷ Some grand ∷ []) }
     ensures fixed { FixesRedPair N.node (N.table links.old) (N.table links.new) root.old root.new place parent grand result }
-    ensures linked { KeepsNodes N.node (N.table links.old) (N.table links.new) }
     ensures safe { StaysClosed N.node (N.table links.old) (N.table links.new) root.old root.new (Some place ∷ Some parent ∷ Some grand ∷ []) (result ∷ []) }
     ensures quiet { N.Quiet links.old links.new }
 {
@@ -110,7 +106,6 @@ pub(crate) fn fix_red_parent<N: Nodes>(
 ) -> Option<Place>
     requires { IsSafe N.node (N.table links.old) root.old (Some place ∷ []) }
     ensures fixed { FixesRedParent N.node (N.table links.old) (N.table links.new) root.old root.new place result }
-    ensures linked { KeepsNodes N.node (N.table links.old) (N.table links.new) }
     ensures safe { StaysClosed N.node (N.table links.old) (N.table links.new) root.old root.new (Some place ∷ []) (result ∷ []) }
     ensures quiet { N.Quiet links.old links.new }
 {
@@ -126,7 +121,6 @@ pub(crate) fn fix_red_parent<N: Nodes>(
 pub(crate) fn insert_fixup<N: Nodes>(links: &mut N, root: &mut PlaceWord, place: Place)
     requires { IsSafe N.node (N.table links.old) root.old (Some place ∷ []) }
     ensures restored { FixesInsertion N.node (N.table links.old) (N.table links.new) root.old root.new place }
-    ensures linked { KeepsNodes N.node (N.table links.old) (N.table links.new) }
     ensures safe { StaysClosed N.node (N.table links.old) (N.table links.new) root.old root.new (Some place ∷ []) [] }
     ensures quiet { N.Quiet links.old links.new }
 {
@@ -149,7 +143,6 @@ pub(crate) fn attach<N: Nodes>(
 )
     requires { IsSafeBut N.node (N.table links.old) root.old place (Some place ∷ parent ∷ []) }
     ensures attached { Attaches N.node (N.table links.old) (N.table links.new) root.old root.new parent side place }
-    ensures linked { KeepsNodes N.node (N.table links.old) (N.table links.new) }
     ensures safe { ClosesAt N.node (N.table links.old) (N.table links.new) root.old root.new place (Some place ∷ parent ∷ []) }
     ensures quiet { N.Quiet links.old links.new }
 {

@@ -3,7 +3,7 @@
 
 ghost use Rattle.std.specs.Prelude.{Option, Some, [], ◌∷◌};
 ghost use Rattle.ic_unsafe_ref.specs.declared.place.Place.{Place};
-ghost use Rattle.ic_rbtree.specs.Closed.{IsNode, KeepsNodes, IsSafe, StaysClosed, StaysClosedBut};
+ghost use Rattle.ic_rbtree.specs.Closed.{IsNode, IsSafe, StaysClosed, StaysClosedBut};
 ghost use Rattle.ic_rbtree.specs.Removal.{FixesDeletion, BlackensSibling, RotatesNearNephew, RotatesFarNephew, ReddensSibling, FixesDeletionStep};
 ghost use Rattle.ic_rbtree.specs.Transplants.{Closes, SplicesOut, TakesAway};
 
@@ -27,7 +27,6 @@ pub(crate) fn blacken_sibling<N: Nodes>(
 ) -> Option<Place>
     requires { IsSafe N.node (N.table links.old) root.old (Some place ∷ []) }
     ensures black_sibling { BlackensSibling N.node (N.table links.old) (N.table links.new) root.old root.new place side result }
-    ensures linked { KeepsNodes N.node (N.table links.old) (N.table links.new) }
     ensures safe { StaysClosed N.node (N.table links.old) (N.table links.new) root.old root.new (Some place ∷ []) (result ∷ []) }
     ensures quiet { N.Quiet links.old links.new }
 {
@@ -51,7 +50,6 @@ pub(crate) fn rotate_near_nephew<N: Nodes>(
 ) -> Option<Place>
     requires { IsSafe N.node (N.table links.old) root.old (Some sibling ∷ []) }
     ensures red_far_nephew { RotatesNearNephew N.node (N.table links.old) (N.table links.new) root.old root.new side sibling result }
-    ensures linked { KeepsNodes N.node (N.table links.old) (N.table links.new) }
     ensures safe { StaysClosed N.node (N.table links.old) (N.table links.new) root.old root.new (Some sibling ∷ []) (result ∷ []) }
     ensures quiet { N.Quiet links.old links.new }
 {
@@ -76,7 +74,6 @@ pub(crate) fn rotate_far_nephew<N: Nodes>(
 )
     requires { IsSafe N.node (N.table links.old) root.old (Some place ∷ Some sibling ∷ []) }
     ensures restored { RotatesFarNephew N.node (N.table links.old) (N.table links.new) root.old root.new place side sibling }
-    ensures linked { KeepsNodes N.node (N.table links.old) (N.table links.new) }
     ensures safe { StaysClosed N.node (N.table links.old) (N.table links.new) root.old root.new (Some place ∷ Some sibling ∷ []) [] }
     ensures quiet { N.Quiet links.old links.new }
 {
@@ -97,7 +94,6 @@ pub(crate) fn redden_sibling<N: Nodes>(links: &mut N, place: Place, sibling: Pla
     requires place { IsNode N.node (N.table links.old) place }
     requires sibling { IsNode N.node (N.table links.old) sibling }
     ensures reddened { ReddensSibling N.node (N.table links.old) (N.table links.new) place sibling result }
-    ensures linked { KeepsNodes N.node (N.table links.old) (N.table links.new) }
     ensures safe { (root : Option Place) → StaysClosedBut N.node (N.table links.old) (N.table links.new) root root [] }
     ensures quiet { N.Quiet links.old links.new }
 {
@@ -119,7 +115,6 @@ pub(crate) fn delete_fixup_on<N: Nodes>(
 ) -> bool
     requires { IsSafe N.node (N.table links.old) root.old (Some place ∷ []) }
     ensures restored { FixesDeletionStep N.node (N.table links.old) (N.table links.new) root.old root.new place side result }
-    ensures linked { KeepsNodes N.node (N.table links.old) (N.table links.new) }
     ensures safe { StaysClosed N.node (N.table links.old) (N.table links.new) root.old root.new (Some place ∷ []) [] }
     ensures quiet { N.Quiet links.old links.new }
 {
@@ -142,7 +137,6 @@ pub(crate) fn delete_fixup_step<N: Nodes>(
 ) -> bool
     requires { IsSafe N.node (N.table links.old) root.old (Some place ∷ []) }
     ensures restored { FixesDeletionStep N.node (N.table links.old) (N.table links.new) root.old root.new place side result }
-    ensures linked { KeepsNodes N.node (N.table links.old) (N.table links.new) }
     ensures safe { StaysClosed N.node (N.table links.old) (N.table links.new) root.old root.new (Some place ∷ []) [] }
     ensures quiet { N.Quiet links.old links.new }
 {
@@ -162,7 +156,6 @@ pub(crate) fn delete_fixup<N: Nodes>(
 )
     requires { IsSafe N.node (N.table links.old) root.old (parent ∷ []) }
     ensures restored { FixesDeletion N.node (N.table links.old) (N.table links.new) root.old root.new parent side }
-    ensures linked { KeepsNodes N.node (N.table links.old) (N.table links.new) }
     ensures safe { StaysClosed N.node (N.table links.old) (N.table links.new) root.old root.new (parent ∷ []) [] }
     ensures quiet { N.Quiet links.old links.new }
 {
@@ -191,7 +184,6 @@ pub(crate) fn close_gap<N: Nodes>(
 )
     requires { IsSafe N.node (N.table links.old) root.old (child ∷ parent ∷ []) }
     ensures closed { Closes N.node (N.table links.old) (N.table links.new) root.old root.new color child parent side }
-    ensures linked { KeepsNodes N.node (N.table links.old) (N.table links.new) }
     ensures safe { StaysClosed N.node (N.table links.old) (N.table links.new) root.old root.new (child ∷ parent ∷ []) [] }
     ensures quiet { N.Quiet links.old links.new }
 {
@@ -211,7 +203,6 @@ pub(crate) fn close_gap<N: Nodes>(
 pub(crate) fn splice_out<N: Nodes>(links: &mut N, root: &mut PlaceWord, place: Place)
     requires { IsSafe N.node (N.table links.old) root.old (Some place ∷ []) }
     ensures taken { SplicesOut N.node (N.table links.old) (N.table links.new) root.old root.new place }
-    ensures linked { KeepsNodes N.node (N.table links.old) (N.table links.new) }
     ensures safe { StaysClosed N.node (N.table links.old) (N.table links.new) root.old root.new (Some place ∷ []) [] }
     ensures quiet { N.Quiet links.old links.new }
 {
@@ -227,7 +218,6 @@ pub(crate) fn splice_out<N: Nodes>(links: &mut N, root: &mut PlaceWord, place: P
 pub(crate) fn unlink<N: Nodes>(links: &mut N, root: &mut PlaceWord, place: Place)
     requires { IsSafe N.node (N.table links.old) root.old (Some place ∷ []) }
     ensures taken { TakesAway N.node (N.table links.old) (N.table links.new) root.old root.new place }
-    ensures linked { KeepsNodes N.node (N.table links.old) (N.table links.new) }
     ensures safe { StaysClosed N.node (N.table links.old) (N.table links.new) root.old root.new (Some place ∷ []) [] }
     ensures quiet { N.Quiet links.old links.new }
 {

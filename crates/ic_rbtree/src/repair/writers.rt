@@ -5,7 +5,7 @@ ghost use Rattle.ic_unsafe_ref.specs.declared.place.Place.{Place};
 ghost use Rattle.ic_link_ops.specs.Tables.{ChangesOnly};
 ghost use Rattle.ic_link_ops.specs.RedBlackTree.{node_at};
 ghost use Rattle.ic_link_ops.specs.Frames.{with_child};
-ghost use Rattle.ic_rbtree.specs.Closed.{IsNode, IsNamed, KeepsNodes, IsSafe, IsSafeBut, StaysClosed, StaysClosedBut, ClosesAt};
+ghost use Rattle.ic_rbtree.specs.Closed.{IsNode, IsNamed, IsSafe, IsSafeBut, StaysClosed, StaysClosedBut, ClosesAt};
 ghost use Rattle.ic_rbtree.specs.Transplants.{TakesPlace};
 ghost use Rattle.ic_rbtree.specs.Steps.{Adopts, ChangesChild, Rotates};
 
@@ -20,7 +20,6 @@ pub(crate) fn set_child<N: Nodes>(links: &mut N, place: Place, side: Side, to: O
     ensures set { node_at N.node (N.table links.new) place
         ≡ with_child side (node_at N.node (N.table links.old) place) to }
     ensures frame { ChangesOnly (N.table links.old) (N.table links.new) place }
-    ensures linked { KeepsNodes N.node (N.table links.old) (N.table links.new) }
     ensures safe { (root : Option Place) → StaysClosedBut N.node (N.table links.old) (N.table links.new) root root (to ∷ []) }
     ensures quiet { N.Quiet links.old links.new }
 {
@@ -36,7 +35,6 @@ pub(crate) fn set_parent<N: Nodes>(links: &mut N, place: Place, parent: Option<P
     ensures set { node_at N.node (N.table links.new) place
         ≡ record (node_at N.node (N.table links.old) place) { parent = parent } }
     ensures frame { ChangesOnly (N.table links.old) (N.table links.new) place }
-    ensures linked { KeepsNodes N.node (N.table links.old) (N.table links.new) }
     ensures safe { (root : Option Place) → StaysClosedBut N.node (N.table links.old) (N.table links.new) root root (parent ∷ []) }
     ensures quiet { N.Quiet links.old links.new }
 {
@@ -48,7 +46,6 @@ pub(crate) fn set_color<N: Nodes>(links: &mut N, place: Place, color: Color)
     ensures set { node_at N.node (N.table links.new) place
         ≡ record (node_at N.node (N.table links.old) place) { color = color } }
     ensures frame { ChangesOnly (N.table links.old) (N.table links.new) place }
-    ensures linked { KeepsNodes N.node (N.table links.old) (N.table links.new) }
     ensures safe { (root : Option Place) → StaysClosedBut N.node (N.table links.old) (N.table links.new) root root [] }
     ensures quiet { N.Quiet links.old links.new }
 {
@@ -67,7 +64,6 @@ pub(crate) fn set_parent_and_color<N: Nodes>(
     ensures set { node_at N.node (N.table links.new) place
         ≡ record (node_at N.node (N.table links.old) place) { parent = parent; color = color } }
     ensures frame { ChangesOnly (N.table links.old) (N.table links.new) place }
-    ensures linked { KeepsNodes N.node (N.table links.old) (N.table links.new) }
     ensures safe { (root : Option Place) → StaysClosedBut N.node (N.table links.old) (N.table links.new) root root (parent ∷ []) }
     ensures quiet { N.Quiet links.old links.new }
 {
@@ -79,7 +75,6 @@ pub(crate) fn adopt<N: Nodes>(links: &mut N, child: Option<Place>, parent: Optio
     requires child { IsNamed N.node (N.table links.old) child }
     requires parent { IsNamed N.node (N.table links.old) parent }
     ensures moved { Adopts N.node (N.table links.old) (N.table links.new) child parent }
-    ensures linked { KeepsNodes N.node (N.table links.old) (N.table links.new) }
     ensures safe { (root : Option Place) → StaysClosedBut N.node (N.table links.old) (N.table links.new) root root (parent ∷ []) }
     ensures quiet { N.Quiet links.old links.new }
 {
@@ -99,7 +94,6 @@ pub(crate) fn change_child<N: Nodes>(
     requires parent { IsNamed N.node (N.table links.old) parent }
     requires named { IsNamed N.node (N.table links.old) to }
     ensures moved { ChangesChild N.node (N.table links.old) (N.table links.new) root.old root.new parent was to }
-    ensures linked { KeepsNodes N.node (N.table links.old) (N.table links.new) }
     ensures safe { StaysClosedBut N.node (N.table links.old) (N.table links.new) root.old root.new (to ∷ []) }
     ensures quiet { N.Quiet links.old links.new }
 {
@@ -124,7 +118,6 @@ pub(crate) fn rotate<N: Nodes>(
 )
     requires { IsSafe N.node (N.table links.old) root.old (Some place ∷ Some upper ∷ []) }
     ensures rotated { Rotates N.node (N.table links.old) (N.table links.new) root.old root.new place upper side low high }
-    ensures linked { KeepsNodes N.node (N.table links.old) (N.table links.new) }
     ensures safe { StaysClosed N.node (N.table links.old) (N.table links.new) root.old root.new (Some place ∷ Some upper ∷ []) [] }
     ensures quiet { N.Quiet links.old links.new }
 {
@@ -143,7 +136,6 @@ pub(crate) fn take_place<N: Nodes>(links: &mut N, root: &mut PlaceWord, place: P
     requires safe { IsSafeBut N.node (N.table links.old) root.old new (Some place ∷ Some new ∷ []) }
     requires apart { place ≢ new }
     ensures taken { TakesPlace N.node (N.table links.old) (N.table links.new) root.old root.new place new }
-    ensures linked { KeepsNodes N.node (N.table links.old) (N.table links.new) }
     ensures safe { ClosesAt N.node (N.table links.old) (N.table links.new) root.old root.new new (Some place ∷ Some new ∷ []) }
     ensures quiet { N.Quiet links.old links.new }
 {

@@ -2,6 +2,7 @@ use Rattle.std.proofs.Common.{[], sym, ap, ◌∙◌}
 use Rattle.std.specs.Option.{option_and}
 use Rattle.ic_link_ops.specs.Frames.{plug}
 use Rattle.ic_rbtree.proofs.Ends.{at_end, none_left, end_linked, end_child, end_parent, child_linked, parent_linked, off_can, off_next, off_holds, off_frame, taken_off}
+use Rattle.ic_rbtree.proofs.NoSteps.{same_nodes}
 use Rattle.ic_rbtree.proofs.into_iter.take_end.Goals as goal
 
 pub returns-in_err-place-clause-removed : goal.returns-in_err-place-clause-removed
@@ -38,7 +39,8 @@ hang-requires g c =
     let x = at_end n (g.L.LinkOps.table c.args.links.now) c.args.side c.args.near.now c.args.far.now c.in_ok-place.place s.0 (sym c.get.ensures ∙ c.in_ok-place.was) s.1 in
     let child = child_linked n x c.child-below.result (end_child n x c.other.result c.child-below.result c.other.ensures c.child-below.ensures) in
     let parent = parent_linked n x c.parent-parent.result (end_parent n x c.parent-parent.result c.parent-parent.ensures) in
-    record { parent = λ q e. c.adopt.ensures.linked q ∙ parent q e; named = λ q e. c.adopt.ensures.linked q ∙ child q e }
+    let same = same_nodes n g.met.L.RBTreeOps.linked_alike (g.L.LinkOps.table c.args.links.now) (g.L.LinkOps.table c.adopt.new.links) (g.met.L.LinkOps.does_replay _ _ [] (c.adopt.ensures.quiet _ [] (g.met.L.LinkOps.does_nothing _))) in
+    record { parent = λ q e. same q ∙ parent q e; named = λ q e. same q ∙ child q e }
 
 pub outer-next-requires : goal.outer-next-requires
 outer-next-requires g c =
@@ -53,7 +55,8 @@ release_link-requires g c =
     let n = g.L.RBTreeOps.node in
     let s = c.requires.shown in
     let x = at_end n (g.L.LinkOps.table c.args.links.now) c.args.side c.args.near.now c.args.far.now c.in_ok-place.place s.0 (sym c.get.ensures ∙ c.in_ok-place.was) s.1 in
-    record { linked = sym (g.met.L.RBTreeOps.linked_alike _) ∙ (c.hang.ensures.linked c.in_ok-place.place ∙ (c.adopt.ensures.linked c.in_ok-place.place ∙ end_linked n x)) }
+    let none = c.hang.ensures.no_step _ [] (c.adopt.ensures.quiet _ [] (g.met.L.LinkOps.does_nothing _)) in
+    record { linked = g.met.L.LinkOps.does_replay _ _ [] none c.in_ok-place.place ∙ (sym (g.met.L.RBTreeOps.linked_alike _) ∙ end_linked n x) }
 
 pub returns-clause-removed : goal.returns-clause-removed
 returns-clause-removed g c w shown =

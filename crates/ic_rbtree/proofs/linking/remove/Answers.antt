@@ -14,7 +14,7 @@ release_link-requires g c =
     let n = g.L.RBTreeOps.node in
     let r = c.requires.member in
     let f = front_shown n r.0 c.args.place r.1 (sym r.2) in
-    record { linked = sym (g.met.L.RBTreeOps.linked_alike _) ∙ (c.unlink.ensures.linked c.args.place ∙ spot_linked n (spot n r.0.front c.args.place f.0 f.2)) }
+    record { linked = g.met.L.LinkOps.does_replay _ _ [] (c.unlink.ensures.quiet _ [] (g.met.L.LinkOps.does_nothing _)) c.args.place ∙ (sym (g.met.L.RBTreeOps.linked_alike _) ∙ spot_linked n (spot n r.0.front c.args.place f.0 f.2)) }
 
 pub returns-clause-removed : goal.returns-clause-removed
 returns-clause-removed g c gap shown is =

@@ -1,4 +1,4 @@
-use Rattle.std.proofs.Common.{◌++◌, ◌∷◌, sym, ◌∙◌}
+use Rattle.std.proofs.Common.{[], ◌++◌, ◌∷◌, sym, ◌∙◌}
 use Rattle.ic_rbtree.proofs.Removing.{spot, spot_linked}
 use Rattle.ic_rbtree.proofs.Replacing.{member_shown, replaces}
 use Rattle.ic_rbtree.proofs.ShownClosed.{with_place, among_there, shown_closed_but, with_itself, with_member, member_apart}
@@ -26,7 +26,7 @@ release_link-requires g c =
     let r = c.requires.member in
     let l = g.met.L.LinkOps.does_replay _ _ _ c.if-not-acquire_link.ensures.acquired in
     let m = member_shown n g.L.LinkOps.linked g.met.L.RBTreeOps.linked_alike _ (g.L.LinkOps.table c.acquire_link.new.self) c.args.root.now r.0 c.args.place c.args.new r.1 (sym r.2) l.was l.is c.acquire_link.ensures.frame in
-    record { linked = sym (g.met.L.RBTreeOps.linked_alike _) ∙ (c.take_place.ensures.linked c.args.place ∙ spot_linked n (spot n r.0.front c.args.place m.0 m.2)) }
+    record { linked = g.met.L.LinkOps.does_replay _ _ [] (c.take_place.ensures.quiet _ [] (g.met.L.LinkOps.does_nothing _)) c.args.place ∙ (sym (g.met.L.RBTreeOps.linked_alike _) ∙ spot_linked n (spot n r.0.front c.args.place m.0 m.2)) }
 
 pub returns-clause-replaced : goal.returns-clause-replaced
 returns-clause-replaced g c gap shown is =

@@ -13,26 +13,26 @@ pub set_child-requires : goal.set_child-requires
 set_child-requires g c = record { linked = c.requires.1.linked c.args.place c.requires.2.0; named = λ q e. absurd (none_not q e) }
 
 pub set_child-requires-2 : goal.set_child-requires-2
-set_child-requires-2 g c = record { linked = c.set_child.ensures.linked c.args.place ∙ c.requires.1.linked c.args.place c.requires.2.0; named = λ q e. absurd (none_not q e) }
+set_child-requires-2 g c = record { linked = g.met.N.Nodes.quiet_keeps _ _ c.set_child.ensures.quiet c.args.place ∙ c.requires.1.linked c.args.place c.requires.2.0; named = λ q e. absurd (none_not q e) }
 
 pub set_parent_and_color-requires : goal.set_parent_and_color-requires
 set_parent_and_color-requires g c =
-    let n = g.N.Nodes.node in
     let r = c.requires in
-    record { linked = c.set_child-2.ensures.linked c.args.place ∙ (c.set_child.ensures.linked c.args.place ∙ r.1.linked c.args.place r.2.0); named = λ q e. c.set_child-2.ensures.linked q ∙ (c.set_child.ensures.linked q ∙ in_linked n r.1 r.2.1.0 q e) }
+    let same = g.met.N.Nodes.quiet_keeps _ _ (g.met.N.Nodes.quiet_on _ _ _ c.set_child.ensures.quiet c.set_child-2.ensures.quiet) in
+    record { linked = same c.args.place ∙ r.1.linked c.args.place r.2.0; named = λ q e. same q ∙ in_linked g.N.Nodes.node r.1 r.2.1.0 q e }
 
 pub set_parent_and_color-requires-in-Some : goal.set_parent_and_color-requires-in-Some
 set_parent_and_color-requires-in-Some g c =
-    let n = g.N.Nodes.node in
     let r = c.requires in
-    record { linked = c.set_child-2.ensures.linked c.args.place ∙ (c.set_child.ensures.linked c.args.place ∙ r.1.linked c.args.place r.2.0); named = λ q e. c.set_child-2.ensures.linked q ∙ (c.set_child.ensures.linked q ∙ in_linked n r.1 r.2.1.0 q (c.in-Some.is ∙ e)) }
+    let same = g.met.N.Nodes.quiet_keeps _ _ (g.met.N.Nodes.quiet_on _ _ _ c.set_child.ensures.quiet c.set_child-2.ensures.quiet) in
+    record { linked = same c.args.place ∙ r.1.linked c.args.place r.2.0; named = λ q e. same q ∙ in_linked g.N.Nodes.node r.1 r.2.1.0 q (c.in-Some.is ∙ e) }
 
 pub set_child-requires-in-Some : goal.set_child-requires-in-Some
 set_child-requires-in-Some g c =
-    let n = g.N.Nodes.node in
     let r = c.requires in
-    let q = c.in-Some.above in
-    record { linked = c.set_parent_and_color-in-Some.ensures.linked q ∙ (c.set_child-2.ensures.linked q ∙ (c.set_child.ensures.linked q ∙ r.1.linked q (in_there r.0 r.2.1.0 c.in-Some.is))); named = λ q e. c.set_parent_and_color-in-Some.ensures.linked q ∙ (c.set_child-2.ensures.linked q ∙ (c.set_child.ensures.linked q ∙ in_linked n r.1 r.2.0 q e)) }
+    let on = g.met.N.Nodes.quiet_on in
+    let same = g.met.N.Nodes.quiet_keeps _ _ (on _ _ _ c.set_child.ensures.quiet (on _ _ _ c.set_child-2.ensures.quiet c.set_parent_and_color-in-Some.ensures.quiet)) in
+    record { linked = same c.in-Some.above ∙ r.1.linked c.in-Some.above (in_there r.0 r.2.1.0 c.in-Some.is); named = λ q e. same q ∙ in_linked g.N.Nodes.node r.1 r.2.0 q e }
 
 pub insert_fixup-requires : goal.insert_fixup-requires
 insert_fixup-requires g c =

@@ -1,8 +1,8 @@
-use Rattle.std.proofs.Common.{refl, ◌∙◌, arith}
+use Rattle.std.proofs.Common.{arith}
 use Rattle.ic_rbtree.proofs.repair.insertion.insert_fixup.Goals as goal
 
 pub loop-init : goal.loop-init
-loop-init g c = record { each = λ k h few. (k.frames, k.subtree, h, few); safe = λ S h i. (h, i); linked = λ q. refl; quiet = g.met.N.Nodes.quiet_still _ }
+loop-init g c = record { each = λ k h few. (k.frames, k.subtree, h, few); safe = λ S h i. (h, i); quiet = g.met.N.Nodes.quiet_still _ }
 
 pub fix_red_parent-requires : goal.fix_red_parent-requires
 fix_red_parent-requires g c = let r = c.requires in let k = c.loop.invariant.safe r.0 r.1 r.2.0 in (r.0, k.0, (k.1, tt))
@@ -14,7 +14,6 @@ loop-preserved g c = record {
       let r = c.in-Some.ensures.fixed (record k { frames = i.0; subtree = i.1 }) i.2 in
       (r.0, r.1, r.2, omega (arith, i.3, r.3));
   safe = λ S h i. let k = c.loop.invariant.safe S h i in let e = c.in-Some.ensures.safe S k.0 (k.1, tt) in (e.0, e.1.0);
-  linked = λ q. c.fix_red_parent.ensures.linked q ∙ c.loop.invariant.linked q;
   quiet = g.met.N.Nodes.quiet_on _ _ _ c.loop.invariant.quiet c.fix_red_parent.ensures.quiet;
 }
 

@@ -1,10 +1,10 @@
-use Rattle.std.proofs.Common.{refl, ◌∙◌, arith}
+use Rattle.std.proofs.Common.{arith}
 use Rattle.ic_rbtree.proofs.ParentClimbs.{short_at, short_ended, next_each}
 use Rattle.ic_rbtree.proofs.Closed.{in_there, in_parent, in_linked}
 use Rattle.ic_rbtree.proofs.repair.removal.delete_fixup.Goals as goal
 
 pub loop-init : goal.loop-init
-loop-init g c = record { each = λ k h few. (k.frames, k.subtree, h, few); safe = λ S h i. (h, i); linked = λ q. refl; quiet = g.met.N.Nodes.quiet_still _ }
+loop-init g c = record { each = λ k h few. (k.frames, k.subtree, h, few); safe = λ S h i. (h, i); quiet = g.met.N.Nodes.quiet_still _ }
 
 pub delete_fixup_step-requires : goal.delete_fixup_step-requires
 delete_fixup_step-requires g c =
@@ -40,7 +40,6 @@ loop-preserved g c = record {
       let there = in_there S k.1 c.in-Some.is in
       let e = c.delete_fixup_step.ensures.safe S k.0 (there, tt) in
       (e.0, in_parent g.N.Nodes.node e.0 c.in-Some.place there c.parent-parent.ensures);
-  linked = λ q. c.delete_fixup_step.ensures.linked q ∙ c.loop.invariant.linked q;
   quiet = g.met.N.Nodes.quiet_on _ _ _ c.loop.invariant.quiet c.delete_fixup_step.ensures.quiet;
 }
 

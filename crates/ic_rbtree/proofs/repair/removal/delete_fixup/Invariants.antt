@@ -3,7 +3,7 @@ use Rattle.ic_unsafe_ref.specs.declared.place.Place.{Place}
 use Rattle.ic_link_ops.specs.Trees.{Tree}
 use Rattle.ic_link_ops.specs.Frames.{Frame}
 use Rattle.ic_rbtree.specs.Height.{turns}
-use Rattle.ic_rbtree.specs.Closed.{IsIn, IsClosed, KeepsNodes}
+use Rattle.ic_rbtree.specs.Closed.{IsIn, IsClosed}
 use Rattle.ic_rbtree.specs.Focus.{Focus}
 use Rattle.ic_rbtree.specs.Removal.{Short}
 use Rattle.ic_rbtree.proofs.repair.removal.delete_fixup.Given as goal
@@ -17,6 +17,5 @@ invariant-loop g l =
       each : (k : Focus g.row.N-Entry.Denot) → Short n old l.fn.root l.fn.parent l.fn.side k → length k.frames < turns
           → (gs : List Frame) × (u : Tree) × Short n now l.root l.parent l.side (record k { frames = gs; subtree = u }) × (length gs < turns - l.counter);
       safe : (S : Place → Bool) → IsClosed n old l.fn.root S → IsIn S l.fn.parent → IsClosed n now l.root S × IsIn S l.parent;
-      linked : KeepsNodes n old now;
       quiet : g.N.Nodes.Quiet l.fn.links l.links;
     }

@@ -13,40 +13,37 @@ pub adopt-requires : goal.adopt-requires
 adopt-requires g c =
     let n = g.N.Nodes.node in
     let r = c.requires in
-    record {
-      child = λ q e. c.set_child.ensures.linked q ∙ in_linked n r.1 (in_child n r.1 _ c.args.upper r.2.1.0 c.child-inner.ensures) q e;
-      parent = λ q e. c.set_child.ensures.linked q ∙ in_linked n r.1 r.2.0 q e;
-    }
+    let same = g.met.N.Nodes.quiet_keeps _ _ c.set_child.ensures.quiet in
+    record { child = λ q e. same q ∙ in_linked n r.1 (in_child n r.1 _ c.args.upper r.2.1.0 c.child-inner.ensures) q e; parent = λ q e. same q ∙ in_linked n r.1 r.2.0 q e }
 
 pub set_parent_and_color-requires : goal.set_parent_and_color-requires
 set_parent_and_color-requires g c =
     let n = g.N.Nodes.node in
     let r = c.requires in
-    let up = c.args.upper in
-    record { linked = c.adopt.ensures.linked up ∙ (c.set_child.ensures.linked up ∙ r.1.linked up r.2.1.0); named = λ q e. c.adopt.ensures.linked q ∙ (c.set_child.ensures.linked q ∙ in_linked n r.1 (in_parent n r.1 c.args.place r.2.0 c.parent-parent.ensures) q e) }
+    let same = g.met.N.Nodes.quiet_keeps _ _ (g.met.N.Nodes.quiet_on _ _ _ c.set_child.ensures.quiet c.adopt.ensures.quiet) in
+    record { linked = same c.args.upper ∙ r.1.linked c.args.upper r.2.1.0; named = λ q e. same q ∙ in_linked n r.1 (in_parent n r.1 c.args.place r.2.0 c.parent-parent.ensures) q e }
 
 pub change_child-requires : goal.change_child-requires
 change_child-requires g c =
     let n = g.N.Nodes.node in
     let r = c.requires in
-    record {
-      parent = λ q e. c.set_parent_and_color.ensures.linked q ∙ (c.adopt.ensures.linked q ∙ (c.set_child.ensures.linked q ∙ in_linked n r.1 (in_parent n r.1 c.args.place r.2.0 c.parent-parent.ensures) q e));
-      named = λ q e. c.set_parent_and_color.ensures.linked q ∙ (c.adopt.ensures.linked q ∙ (c.set_child.ensures.linked q ∙ in_linked n r.1 r.2.1.0 q e));
-    }
+    let on = g.met.N.Nodes.quiet_on in
+    let same = g.met.N.Nodes.quiet_keeps _ _ (on _ _ _ c.set_child.ensures.quiet (on _ _ _ c.adopt.ensures.quiet c.set_parent_and_color.ensures.quiet)) in
+    record { parent = λ q e. same q ∙ in_linked n r.1 (in_parent n r.1 c.args.place r.2.0 c.parent-parent.ensures) q e; named = λ q e. same q ∙ in_linked n r.1 r.2.1.0 q e }
 
 pub set_child-requires-2 : goal.set_child-requires-2
 set_child-requires-2 g c =
-    let n = g.N.Nodes.node in
     let r = c.requires in
-    let up = c.args.upper in
-    record { linked = c.change_child.ensures.linked up ∙ (c.set_parent_and_color.ensures.linked up ∙ (c.adopt.ensures.linked up ∙ (c.set_child.ensures.linked up ∙ r.1.linked up r.2.1.0))); named = λ q e. c.change_child.ensures.linked q ∙ (c.set_parent_and_color.ensures.linked q ∙ (c.adopt.ensures.linked q ∙ (c.set_child.ensures.linked q ∙ in_linked n r.1 r.2.0 q e))) }
+    let on = g.met.N.Nodes.quiet_on in
+    let same = g.met.N.Nodes.quiet_keeps _ _ (on _ _ _ c.set_child.ensures.quiet (on _ _ _ c.adopt.ensures.quiet (on _ _ _ c.set_parent_and_color.ensures.quiet c.change_child.ensures.quiet))) in
+    record { linked = same c.args.upper ∙ r.1.linked c.args.upper r.2.1.0; named = λ q e. same q ∙ in_linked g.N.Nodes.node r.1 r.2.0 q e }
 
 pub set_parent_and_color-requires-2 : goal.set_parent_and_color-requires-2
 set_parent_and_color-requires-2 g c =
-    let n = g.N.Nodes.node in
     let r = c.requires in
-    let p = c.args.place in
-    record { linked = c.set_child-2.ensures.linked p ∙ (c.change_child.ensures.linked p ∙ (c.set_parent_and_color.ensures.linked p ∙ (c.adopt.ensures.linked p ∙ (c.set_child.ensures.linked p ∙ r.1.linked p r.2.0)))); named = λ q e. c.set_child-2.ensures.linked q ∙ (c.change_child.ensures.linked q ∙ (c.set_parent_and_color.ensures.linked q ∙ (c.adopt.ensures.linked q ∙ (c.set_child.ensures.linked q ∙ in_linked n r.1 r.2.1.0 q e)))) }
+    let on = g.met.N.Nodes.quiet_on in
+    let same = g.met.N.Nodes.quiet_keeps _ _ (on _ _ _ c.set_child.ensures.quiet (on _ _ _ c.adopt.ensures.quiet (on _ _ _ c.set_parent_and_color.ensures.quiet (on _ _ _ c.change_child.ensures.quiet c.set_child-2.ensures.quiet)))) in
+    record { linked = same c.args.place ∙ r.1.linked c.args.place r.2.0; named = λ q e. same q ∙ in_linked g.N.Nodes.node r.1 r.2.1.0 q e }
 
 pub returns-clause-rotated : goal.returns-clause-rotated
 returns-clause-rotated g c =

@@ -15,36 +15,45 @@ pub adopt-requires : goal.adopt-requires
 adopt-requires g c =
     let n = g.N.Nodes.node in
     let r = c.requires.safe in
-    let below = read_in r.0 (r.1.left c.args.place r.2.0 (λ s. c.requires.apart (sym (some_same s)))) c.left-left.ensures in
-    record { child = λ q e. c.change_child.ensures.linked q ∙ in_linked n r.1 below q e; parent = λ q e. c.change_child.ensures.linked q ∙ in_linked n r.1 r.2.1.0 q e }
+    let there = read_in r.0 (r.1.left c.args.place r.2.0 (λ s. c.requires.apart (sym (some_same s)))) c.left-left.ensures in
+    let same = g.met.N.Nodes.quiet_keeps _ _ c.change_child.ensures.quiet in
+    record { child = λ q e. same q ∙ in_linked n r.1 there q e; parent = λ q e. same q ∙ in_linked n r.1 r.2.1.0 q e }
 
 pub adopt-requires-2 : goal.adopt-requires-2
 adopt-requires-2 g c =
     let n = g.N.Nodes.node in
     let r = c.requires.safe in
-    let below = read_in r.0 (r.1.right c.args.place r.2.0 (λ s. c.requires.apart (sym (some_same s)))) c.right-right.ensures in
-    record { child = λ q e. c.adopt.ensures.linked q ∙ (c.change_child.ensures.linked q ∙ in_linked n r.1 below q e); parent = λ q e. c.adopt.ensures.linked q ∙ (c.change_child.ensures.linked q ∙ in_linked n r.1 r.2.1.0 q e) }
+    let there = read_in r.0 (r.1.right c.args.place r.2.0 (λ s. c.requires.apart (sym (some_same s)))) c.right-right.ensures in
+    let on = g.met.N.Nodes.quiet_on in
+    let same = g.met.N.Nodes.quiet_keeps _ _ (on _ _ _ c.change_child.ensures.quiet (c.adopt.ensures.quiet)) in
+    record { child = λ q e. same q ∙ in_linked n r.1 there q e; parent = λ q e. same q ∙ in_linked n r.1 r.2.1.0 q e }
 
 pub set_child-requires : goal.set_child-requires
 set_child-requires g c =
     let n = g.N.Nodes.node in
     let r = c.requires.safe in
-    let below = read_in r.0 (r.1.left c.args.place r.2.0 (λ s. c.requires.apart (sym (some_same s)))) c.left-left.ensures in
-    record { linked = c.adopt-2.ensures.linked c.args.new ∙ (c.adopt.ensures.linked c.args.new ∙ (c.change_child.ensures.linked c.args.new ∙ r.1.linked c.args.new r.2.1.0)); named = λ q e. c.adopt-2.ensures.linked q ∙ (c.adopt.ensures.linked q ∙ (c.change_child.ensures.linked q ∙ in_linked n r.1 below q e)) }
+    let there = read_in r.0 (r.1.left c.args.place r.2.0 (λ s. c.requires.apart (sym (some_same s)))) c.left-left.ensures in
+    let on = g.met.N.Nodes.quiet_on in
+    let same = g.met.N.Nodes.quiet_keeps _ _ (on _ _ _ c.change_child.ensures.quiet (on _ _ _ c.adopt.ensures.quiet (c.adopt-2.ensures.quiet))) in
+    record { linked = same c.args.new ∙ r.1.linked c.args.new r.2.1.0; named = λ q e. same q ∙ in_linked n r.1 there q e }
 
 pub set_child-requires-2 : goal.set_child-requires-2
 set_child-requires-2 g c =
     let n = g.N.Nodes.node in
     let r = c.requires.safe in
-    let below = read_in r.0 (r.1.right c.args.place r.2.0 (λ s. c.requires.apart (sym (some_same s)))) c.right-right.ensures in
-    record { linked = c.set_child.ensures.linked c.args.new ∙ (c.adopt-2.ensures.linked c.args.new ∙ (c.adopt.ensures.linked c.args.new ∙ (c.change_child.ensures.linked c.args.new ∙ r.1.linked c.args.new r.2.1.0))); named = λ q e. c.set_child.ensures.linked q ∙ (c.adopt-2.ensures.linked q ∙ (c.adopt.ensures.linked q ∙ (c.change_child.ensures.linked q ∙ in_linked n r.1 below q e))) }
+    let there = read_in r.0 (r.1.right c.args.place r.2.0 (λ s. c.requires.apart (sym (some_same s)))) c.right-right.ensures in
+    let on = g.met.N.Nodes.quiet_on in
+    let same = g.met.N.Nodes.quiet_keeps _ _ (on _ _ _ c.change_child.ensures.quiet (on _ _ _ c.adopt.ensures.quiet (on _ _ _ c.adopt-2.ensures.quiet (c.set_child.ensures.quiet)))) in
+    record { linked = same c.args.new ∙ r.1.linked c.args.new r.2.1.0; named = λ q e. same q ∙ in_linked n r.1 there q e }
 
 pub set_parent_and_color-requires : goal.set_parent_and_color-requires
 set_parent_and_color-requires g c =
     let n = g.N.Nodes.node in
     let r = c.requires.safe in
-    let up = read_in r.0 (r.1.parent c.args.place r.2.0 (λ s. c.requires.apart (sym (some_same s)))) c.parent-parent.ensures in
-    record { linked = c.set_child-2.ensures.linked c.args.new ∙ (c.set_child.ensures.linked c.args.new ∙ (c.adopt-2.ensures.linked c.args.new ∙ (c.adopt.ensures.linked c.args.new ∙ (c.change_child.ensures.linked c.args.new ∙ r.1.linked c.args.new r.2.1.0)))); named = λ q e. c.set_child-2.ensures.linked q ∙ (c.set_child.ensures.linked q ∙ (c.adopt-2.ensures.linked q ∙ (c.adopt.ensures.linked q ∙ (c.change_child.ensures.linked q ∙ in_linked n r.1 up q e)))) }
+    let there = read_in r.0 (r.1.parent c.args.place r.2.0 (λ s. c.requires.apart (sym (some_same s)))) c.parent-parent.ensures in
+    let on = g.met.N.Nodes.quiet_on in
+    let same = g.met.N.Nodes.quiet_keeps _ _ (on _ _ _ c.change_child.ensures.quiet (on _ _ _ c.adopt.ensures.quiet (on _ _ _ c.adopt-2.ensures.quiet (on _ _ _ c.set_child.ensures.quiet (c.set_child-2.ensures.quiet))))) in
+    record { linked = same c.args.new ∙ r.1.linked c.args.new r.2.1.0; named = λ q e. same q ∙ in_linked n r.1 there q e }
 
 pub returns-clause-taken : goal.returns-clause-taken
 returns-clause-taken g c =
