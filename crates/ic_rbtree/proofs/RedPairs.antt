@@ -52,9 +52,9 @@ module _ {E : Type 0} (n : E → Node) where
     pub at : PairAt n v root x q g side around (record k { frames = fs })
     pub fewer : length k.frames ≡ length fs + 2
 
-  module _ {v : Table E} {root : Option Place} {x : Place} {k : Focus E} (h : RedAt n v root x k) (o : Option Place) (eo : o ≡ (n (v.entry x)).parent) where
-    red_parent : o ≡ above k.frames
-    red_parent = eo ∙ top_parent n v.entry (above k.frames) k.subtree x h.stands.are.1.0 h.top_is
+  module _ {v : Table E} {root : Option Place} {x : Place} {k : Focus E} (h : RedAt n v root x k) (o : Option Place) where
+    pub red_parent : o ≡ (n (v.entry x)).parent → o ≡ above k.frames
+    red_parent eo = eo ∙ top_parent n v.entry (above k.frames) k.subtree x h.stands.are.1.0 h.top_is
 
     done_at : (color_above k.frames ≡ Red → top_color k.subtree ≡ Black) → IsRestored n v root k
     done_at fits = record {
@@ -64,9 +64,9 @@ module _ {E : Type 0} (n : E → Node) where
       shape = right_plug k.frames k.subtree h.nearly.pairs h.nearly.even h.nearly.pairs_around h.nearly.even_around fits;
     }
 
-    module _ (q : Place) (is : o ≡ Some q) (r : Bool) (er : r ≡ red_at n v (Some q)) where
+    module _ (up : o ≡ above k.frames) (q : Place) (is : o ≡ Some q) (r : Bool) (er : r ≡ red_at n v (Some q)) where
       above_is : above k.frames ≡ Some q
-      above_is = sym red_parent ∙ is
+      above_is = sym up ∙ is
 
       -- the color of the lowest frame
       tint : (d : Side) (c : Color) (p : Place) (b : Tree) (fs : List Frame) → RedAt n v root x (record k { frames = frame d c p b ∷ fs }) → p ≡ q → is_red c ≡ r

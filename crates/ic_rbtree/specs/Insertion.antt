@@ -9,7 +9,7 @@ use Rattle.ic_link_ops.specs.Sequences.{Cut}
 use Rattle.ic_link_ops.specs.Tables.{Table}
 use Rattle.ic_link_ops.specs.Trees.{Tree, leaf, fork, top, in_order}
 use Rattle.ic_link_ops.specs.RedBlackTree.{Node}
-use Rattle.ic_link_ops.specs.Frames.{Frame, frame, branch, plug, child_on}
+use Rattle.ic_link_ops.specs.Frames.{Frame, frame, branch, plug, above, child_on}
 use Rattle.ic_rbtree.specs.Height.{turns}
 use Rattle.ic_rbtree.specs.Sides.{IsBeside}
 use Rattle.ic_rbtree.specs.Pieces.{Piece, loose, Stands, Shown}
@@ -57,11 +57,11 @@ module _ {E : Type 0} (n : E → Node) where
   IsFixedOrHigher w root k m None = IsRestored n w root k
   IsFixedOrHigher w root k m (Some g) = (fs : List Frame) × (t : Tree) × RedAt w root g (record k { frames = fs; subtree = t }) × (length fs < m)
 
-  abbrev pub FixesRedParent : Table E → Table E → Option Place → Option Place → Place → Option Place → Type 0
-  FixesRedParent v w root new_root x result = (k : Focus E) → RedAt v root x k → IsFixedOrHigher w new_root k (length k.frames) result
+  abbrev pub FixesRedParent : Table E → Table E → Option Place → Option Place → Place → Option Place → Option Place → Type 0
+  FixesRedParent v w root new_root x parent result = (k : Focus E) → RedAt v root x k → parent ≡ above k.frames → IsFixedOrHigher w new_root k (length k.frames) result
 
-  abbrev pub FixesInsertion : Table E → Table E → Option Place → Option Place → Place → Type 0
-  FixesInsertion v w root new_root x = (k : Focus E) → RedAt v root x k → length k.frames < turns → IsRestored n w new_root k
+  abbrev pub FixesInsertion : Table E → Table E → Option Place → Option Place → Place → Option Place → Type 0
+  FixesInsertion v w root new_root x parent = (k : Focus E) → RedAt v root x k → parent ≡ above k.frames → length k.frames < turns → IsRestored n w new_root k
 
   -- the red parent q of x, and its parent g, on side i of which q stands; the frames are those above g
   pub record PairAt (v : Table E) (root : Option Place) (x q g : Place) (i : Side) (m : RedPair) (k : Focus E) : Type 0 where

@@ -98,18 +98,19 @@ pub(crate) fn fix_red_pair<N: Nodes>(
     }
 }
 
-// One step of the repair, where the parent may be black: where the next one stands, if it was not the last.
+// One step of the repair at a red place below this parent, which may be black: where the next one stands, if it was not the last.
 pub(crate) fn fix_red_parent<N: Nodes>(
     links: &mut N,
     root: &mut PlaceWord,
     place: Place,
+    parent: Option<Place>,
 ) -> Option<Place>
-    requires { IsSafe N.node (N.table links.old) root.old (Some place ∷ []) }
-    ensures fixed { FixesRedParent N.node (N.table links.old) (N.table links.new) root.old root.new place result }
-    ensures safe { StaysClosed N.node (N.table links.old) (N.table links.new) root.old root.new (Some place ∷ []) (result ∷ []) }
+    requires { IsSafe N.node (N.table links.old) root.old (Some place ∷ parent ∷ []) }
+    ensures fixed { FixesRedParent N.node (N.table links.old) (N.table links.new) root.old root.new place parent result }
+    ensures safe { StaysClosed N.node (N.table links.old) (N.table links.new) root.old root.new (Some place ∷ parent ∷ []) (result ∷ []) }
     ensures quiet { N.Quiet links.old links.new }
 {
-    let parent = links.parent(place)?;
+    let parent = parent?;
     if !is_red(&*links, Some(parent)) {
         return None;
     }
@@ -117,19 +118,26 @@ pub(crate) fn fix_red_parent<N: Nodes>(
     fix_red_pair(links, root, place, parent, grand)
 }
 
-/// Repairs the colors above a member that was put in red, in O(log n): RB-INSERT-FIXUP.
-pub(crate) fn insert_fixup<N: Nodes>(links: &mut N, root: &mut PlaceWord, place: Place)
-    requires { IsSafe N.node (N.table links.old) root.old (Some place ∷ []) }
-    ensures restored { FixesInsertion N.node (N.table links.old) (N.table links.new) root.old root.new place }
-    ensures safe { StaysClosed N.node (N.table links.old) (N.table links.new) root.old root.new (Some place ∷ []) [] }
+/// Repairs the colors above a member that was put in red below this parent, in O(log n): RB-INSERT-FIXUP.
+pub(crate) fn insert_fixup<N: Nodes>(
+    links: &mut N,
+    root: &mut PlaceWord,
+    place: Place,
+    parent: Option<Place>,
+)
+    requires { IsSafe N.node (N.table links.old) root.old (Some place ∷ parent ∷ []) }
+    ensures restored { FixesInsertion N.node (N.table links.old) (N.table links.new) root.old root.new place parent }
+    ensures safe { StaysClosed N.node (N.table links.old) (N.table links.new) root.old root.new (Some place ∷ parent ∷ []) [] }
     ensures quiet { N.Quiet links.old links.new }
 {
     let mut place = place;
+    let mut parent = parent;
     for _ in 0..TURNS {
-        let Some(upper) = fix_red_parent(links, root, place) else {
+        let Some(upper) = fix_red_parent(links, root, place, parent) else {
             return;
         };
         place = upper;
+        parent = links.parent(place);
     }
 }
 
@@ -156,7 +164,7 @@ pub(crate) fn attach<N: Nodes>(
         Some(above) => {
             set_parent_and_color(links, place, parent, Color::Red);
             set_child(links, above, side, Some(place));
-            insert_fixup(links, root, place);
+            insert_fixup(links, root, place, parent);
         }
     }
 }

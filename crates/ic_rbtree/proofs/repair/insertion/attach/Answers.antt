@@ -39,7 +39,7 @@ insert_fixup-requires g c =
     let r = c.requires in
     let h = node_written g.N.Nodes.node r.1 c.set_child.ensures.set c.set_child.ensures.frame c.set_child-2.ensures.set c.set_child-2.ensures.frame
     c.set_parent_and_color-in-Some.ensures.set c.set_parent_and_color-in-Some.ensures.frame tt tt (in_there r.0 r.2.1.0 c.in-Some.is) in
-    (r.0, c.set_child-in-Some.ensures.safe c.args.root.now None r.0 h (r.2.0, tt), (r.2.0, tt))
+    (r.0, c.set_child-in-Some.ensures.safe c.args.root.now None r.0 h (r.2.0, tt), (r.2.0, (in_there r.0 r.2.1.0 c.in-Some.is, tt)))
 
 pub returns-in-None-clause-attached : goal.returns-in-None-clause-attached
 returns-in-None-clause-attached g c base gap ps shown at =
@@ -70,13 +70,14 @@ returns-in-Some-clause-attached g c base gap ps shown at =
     (attached_red n (Some q) q c.args.side gap.front gap.back p
     (λ qs h. leaf_written n p (Some q) Red c.set_child.ensures.set c.set_child.ensures.frame c.set_child-2.ensures.set c.set_child-2.ensures.frame c.set_parent_and_color-in-Some.ensures.set c.set_parent_and_color-in-Some.ensures.frame h)
     refl c.set_child-in-Some.ensures.set c.set_child-in-Some.ensures.frame x)
+    refl
     (frames_low n x.stands x.right)
 
 pub returns-in-Some-clause-safe : goal.returns-in-Some-clause-safe
 returns-in-Some-clause-safe g c S h i =
     let w = node_written g.N.Nodes.node h c.set_child.ensures.set c.set_child.ensures.frame c.set_child-2.ensures.set c.set_child-2.ensures.frame
     c.set_parent_and_color-in-Some.ensures.set c.set_parent_and_color-in-Some.ensures.frame tt tt (in_there S i.1.0 c.in-Some.is) in
-    (c.insert_fixup.ensures.safe S (c.set_child-in-Some.ensures.safe c.args.root.now None S w (i.0, tt)) (i.0, tt)).0
+    (c.insert_fixup.ensures.safe S (c.set_child-in-Some.ensures.safe c.args.root.now None S w (i.0, tt)) (i.0, (in_there S i.1.0 c.in-Some.is, tt))).0
 
 pub returns-in-Some-clause-quiet : goal.returns-in-Some-clause-quiet
 returns-in-Some-clause-quiet g c =

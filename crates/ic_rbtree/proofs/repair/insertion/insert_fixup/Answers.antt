@@ -1,28 +1,40 @@
 use Rattle.std.proofs.Common.{arith}
+use Rattle.ic_rbtree.proofs.Closed.{in_parent}
+use Rattle.ic_rbtree.proofs.RedPairs.{red_parent}
 use Rattle.ic_rbtree.proofs.repair.insertion.insert_fixup.Goals as goal
 
 pub loop-init : goal.loop-init
-loop-init g c = record { each = λ k h few. (k.frames, k.subtree, h, few); safe = λ S h i. (h, i); quiet = g.met.N.Nodes.quiet_still _ }
+loop-init g c = record { each = λ k h up few. (k.frames, k.subtree, h, up, few); safe = λ S h i. (h, i); quiet = g.met.N.Nodes.quiet_still _ }
 
 pub fix_red_parent-requires : goal.fix_red_parent-requires
-fix_red_parent-requires g c = let r = c.requires in let k = c.loop.invariant.safe r.0 r.1 r.2.0 in (r.0, k.0, (k.1, tt))
+fix_red_parent-requires g c = let r = c.requires in let k = c.loop.invariant.safe r.0 r.1 r.2 in (r.0, k.0, k.1)
+
+pub parent-parent-requires : goal.parent-parent-requires
+parent-parent-requires g c =
+    let r = c.requires in
+    let k = c.loop.invariant.safe r.0 r.1 r.2 in
+    let e = c.in-Some.ensures.safe r.0 k.0 k.1 in
+    record { linked = e.0.linked c.in-Some.upper e.1.0 }
 
 pub loop-preserved : goal.loop-preserved
 loop-preserved g c = record {
-  each = λ k h few.
-      let i = c.loop.invariant.each k h few in
-      let r = c.in-Some.ensures.fixed (record k { frames = i.0; subtree = i.1 }) i.2 in
-      (r.0, r.1, r.2, omega (arith, i.3, r.3));
-  safe = λ S h i. let k = c.loop.invariant.safe S h i in let e = c.in-Some.ensures.safe S k.0 (k.1, tt) in (e.0, e.1.0);
+  each = λ k h up few.
+      let i = c.loop.invariant.each k h up few in
+      let r = c.in-Some.ensures.fixed (record k { frames = i.0; subtree = i.1 }) i.2 i.3 in
+      (r.0, r.1, r.2, red_parent g.N.Nodes.node r.2 _ c.parent-parent.ensures, omega (arith, i.4, r.3));
+  safe = λ S h i.
+      let k = c.loop.invariant.safe S h i in
+      let e = c.in-Some.ensures.safe S k.0 k.1 in
+      (e.0, (e.1.0, (in_parent g.N.Nodes.node e.0 c.in-Some.upper e.1.0 c.parent-parent.ensures, tt)));
   quiet = g.met.N.Nodes.quiet_on _ _ _ c.loop.invariant.quiet c.fix_red_parent.ensures.quiet;
 }
 
 pub returns-in_default-clause-restored : goal.returns-in_default-clause-restored
-returns-in_default-clause-restored g c k h few =
-    let i = c.loop.invariant.each k h few in c.in_default.ensures.fixed (record k { frames = i.0; subtree = i.1 }) i.2
+returns-in_default-clause-restored g c k h up few =
+    let i = c.loop.invariant.each k h up few in c.in_default.ensures.fixed (record k { frames = i.0; subtree = i.1 }) i.2 i.3
 
 pub returns-in_default-clause-safe : goal.returns-in_default-clause-safe
-returns-in_default-clause-safe g c S h i = let k = c.loop.invariant.safe S h i.0 in ((c.fix_red_parent.ensures.safe S k.0 (k.1, tt)).0, tt)
+returns-in_default-clause-safe g c S h i = let k = c.loop.invariant.safe S h i in ((c.fix_red_parent.ensures.safe S k.0 k.1).0, tt)
 
 pub returns-clause-safe : goal.returns-clause-safe
-returns-clause-safe g c S h i = ((c.loop.invariant.safe S h i.0).0, tt)
+returns-clause-safe g c S h i = ((c.loop.invariant.safe S h i).0, tt)

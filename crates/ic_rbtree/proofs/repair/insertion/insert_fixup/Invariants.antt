@@ -1,9 +1,8 @@
-use Rattle.std.proofs.Common.{◌≡◌, ◌-◌, ◌<◌, Bool, true, List, length}
-use Rattle.ic_unsafe_ref.specs.declared.place.Place.{Place}
+use Rattle.std.proofs.Common.{◌≡◌, ◌-◌, ◌<◌, Some, List, [], ◌∷◌, length}
 use Rattle.ic_link_ops.specs.Trees.{Tree}
-use Rattle.ic_link_ops.specs.Frames.{Frame}
+use Rattle.ic_link_ops.specs.Frames.{Frame, above}
 use Rattle.ic_rbtree.specs.Height.{turns}
-use Rattle.ic_rbtree.specs.Closed.{IsClosed}
+use Rattle.ic_rbtree.specs.Closed.{StaysClosed}
 use Rattle.ic_rbtree.specs.Focus.{Focus}
 use Rattle.ic_rbtree.specs.Insertion.{RedAt}
 use Rattle.ic_rbtree.proofs.repair.insertion.insert_fixup.Given as goal
@@ -14,8 +13,8 @@ invariant-loop g l =
     let old = g.N.Nodes.table l.fn.links in
     let now = g.N.Nodes.table l.links in
     record {
-      each : (k : Focus g.row.N-Entry.Denot) → RedAt n old l.fn.root l.fn.place k → length k.frames < turns
-          → (gs : List Frame) × (u : Tree) × RedAt n now l.root l.place (record k { frames = gs; subtree = u }) × (length gs < turns - l.counter);
-      safe : (S : Place → Bool) → IsClosed n old l.fn.root S → S l.fn.place ≡ true → IsClosed n now l.root S × (S l.place ≡ true);
+      each : (k : Focus g.row.N-Entry.Denot) → RedAt n old l.fn.root l.fn.place k → l.fn.parent ≡ above k.frames → length k.frames < turns
+          → (gs : List Frame) × (u : Tree) × RedAt n now l.root l.place (record k { frames = gs; subtree = u }) × (l.parent ≡ above gs) × (length gs < turns - l.counter);
+      safe : StaysClosed n old now l.fn.root l.root (Some l.fn.place ∷ l.fn.parent ∷ []) (Some l.place ∷ l.parent ∷ []);
       quiet : g.N.Nodes.Quiet l.fn.links l.links;
     }
