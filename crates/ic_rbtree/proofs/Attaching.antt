@@ -20,10 +20,10 @@ use Rattle.ic_link_ops.proofs.Times.{one_at_self, one_at_other, times_order, abs
 use Rattle.ic_link_ops.proofs.ShownTrees.{holds_once, holds_out}
 use Rattle.ic_link_ops.proofs.ShownTrees.{free_absent, shows_beside}
 use Rattle.ic_link_ops.proofs.Trees.{leaf_is}
-use Rattle.ic_rbtree.specs.Pieces.{Piece, cell, loose, below, around, Held, Stands, Shown}
+use Rattle.ic_rbtree.specs.Pieces.{Piece, cell, loose, below, around, Stands, Shown}
 use Rattle.ic_rbtree.specs.Insertion.{RedAt, IsHole}
-use Rattle.ic_rbtree.proofs.Branches.{side_loose, side_linked, top_leaf}
-use Rattle.ic_rbtree.proofs.Pieces.{regroup, set_near, set_far, set_parent_and_color}
+use Rattle.ic_rbtree.proofs.Branches.{side_linked, top_leaf}
+use Rattle.ic_rbtree.proofs.Pieces.{regroup, node_set}
 use Rattle.ic_rbtree.proofs.Rotations.{changes_child_side, close_below}
 use Rattle.ic_rbtree.proofs.Zipper.{go_down}
 use Rattle.ic_rbtree.proofs.InsertionShapes.{red_not_black}
@@ -85,28 +85,16 @@ module _ {E : Type 0} (n : E → Node) where
           back_is = ap (λ (t : Tree). in_order t ++ after x.fs) (sym none) ∙ x.back_is;
         }
 
-  -- THE WRITES at the new member
-  module _ {base v v1 v2 v3 : Table E} (p : Place) (parent : Option Place) (x : Color) {ps : List Piece}
-      (set1 : n (v1.entry p) ≡ with_child Left (n (v.entry p)) None) (only1 : ChangesOnly v v1 p) (set2 : n (v2.entry p) ≡ with_child Right (n (v1.entry p)) None) (only2 : ChangesOnly v1 v2 p)
-      (set3 : n (v3.entry p) ≡ record (n (v2.entry p)) { parent = parent; color = x }) (only3 : ChangesOnly v2 v3 p) where
-    pub leaf_written : Held n base v (loose p ∷ ps) → Held n base v3 (cell Left p x None None parent ∷ ps)
-    leaf_written h =
-        let e : Node = n (v.entry p) in
-        let h0 = regroup n (cell Left p e.color e.left e.right e.parent ∷ ps) h (λ q. refl) (side_loose n v.entry p h.are.0, h.are.1) in
-        let h1 = set_near n Left p e.color e.left e.right e.parent ps h0 p Left None None refl refl refl set1 only1 in
-        let h2 = set_far n Left p e.color None e.right e.parent ps h1 p Right None None refl refl refl set2 only2 in
-        set_parent_and_color n Left p e.color None None e.parent ps h2 p parent parent x refl refl set3 only3
-
   -- the only member
   pub attached_first : {base v v4 : Table E} {root : Option Place} (parent : Option Place) (d : Side) (gap : Cut) (p : Place) {ps : List Piece}
-      → (((qs : List Piece) → Held n base v (loose p ∷ qs) → Held n base v4 (cell Left p Black None None parent ∷ qs)))
+      → n (v4.entry p) ≡ record (n (v.entry p)) { left = None; right = None; parent = None; color = Black } → ChangesOnly v v4 p
       → parent ≡ None → Shown n base v root (gap.front ++ gap.back) (loose p ∷ ps) → IsHole n v parent d gap → Shown n base v4 (Some p) (gap.front ++ p ∷ gap.back) ps
-  attached_first {base} {v} {v4} {root} parent d gap p {ps} writes is h at' =
+  attached_first {base} {v} {v4} {root} parent d gap p {ps} set4 only4 is h at' =
       let at = subst (λ (o : Option Place). IsHole n v o d gap) is at' in
       let none : h.tree ≡ leaf = leaf_is h.tree (h.order ∙ (ap (λ (s : List Place). s ++ gap.back) at.0 ∙ at.1)) in
       let st = subst (λ (t : Tree). Stands n base v root [] t (loose p ∷ ps)) none h.stands in
       let h0 = regroup n (loose p ∷ ps) st (λ q. omega arith) (st.are.1.1.0, st.are.1.1.1) in
-      let h1 = subst (λ (o : Option Place). Held n base v4 (cell Left p Black None None o ∷ ps)) is (writes ps h0) in
+      let h1 = node_set n set4 only4 h0 in
       let h2 = regroup n (cell Left p Black None None None ∷ below (Some p) leaf ∷ below (Some p) leaf ∷ ps) h1 (λ q. omega arith) (h1.are.0, (tt, (tt, h1.are.1))) in
       let h3 = close_below n None None None Left Black leaf p leaf ps refl refl h2 in
       record {
@@ -117,14 +105,13 @@ module _ {E : Type 0} (n : E → Node) where
       }
 
   -- below a parent, in red
-  pub attached_red : {base v v4 v5 : Table E} {root : Option Place} (parent : Option Place) (q : Place) (d : Side) (front back : List Place) (p : Place) {ps : List Piece}
-      → ((qs : List Piece) → Held n base v (loose p ∷ qs) → Held n base v4 (cell Left p Red None None parent ∷ qs))
-      → parent ≡ Some q → n (v5.entry q) ≡ with_child d (n (v4.entry q)) (Some p) → ChangesOnly v4 v5 q
+  pub attached_red : {base v v4 v5 : Table E} {root : Option Place} (q : Place) (d : Side) (front back : List Place) (p : Place) {ps : List Piece}
+      → n (v4.entry p) ≡ record (n (v.entry p)) { left = None; right = None; parent = Some q; color = Red } → ChangesOnly v v4 p → n (v5.entry q) ≡ with_child d (n (v4.entry q)) (Some p) → ChangesOnly v4 v5 q
       → (x : Hole base v root d q front back (loose p ∷ ps)) → RedAt n v5 root p (record { base = base; sequence = front ++ p ∷ back; frames = frame d x.c q x.b ∷ x.fs; subtree = fork Red leaf p leaf; pieces = ps })
-  attached_red {base} {v} {v4} {v5} {root} parent q d front back p {ps} writes is set only x =
+  attached_red {base} {v} {v4} {v5} {root} q d front back p {ps} set4 only4 set only x =
       let gs : List Frame = frame d x.c q x.b ∷ x.fs in
       let h0 = regroup n (loose p ∷ around root gs None ∷ ps) x.stands (λ r. omega arith) (x.stands.are.1.1.0, (x.stands.are.0, x.stands.are.1.1.1)) in
-      let h1 = subst (λ (o : Option Place). Held n base v4 (cell Left p Red None None o ∷ around root gs None ∷ ps)) is (writes (around root gs None ∷ ps) h0) in
+      let h1 = node_set n set4 only4 h0 in
       let h2 = regroup n (around root gs None ∷ cell Left p Red None None (Some q) ∷ ps) h1 (λ r. omega arith) (h1.are.1.0, (h1.are.0, h1.are.1.1)) in
       let h3 = changes_child_side n root q None (Some p) (Some p) d x.c q x.b x.fs (cell Left p Red None None (Some q) ∷ ps) refl refl set only h2 in
       let h4 = regroup n (cell Left p Red None None (Some q) ∷ below (Some p) leaf ∷ below (Some p) leaf ∷ around root gs (Some p) ∷ ps) h3 (λ r. omega arith) (h3.are.1.0, (tt, (tt, (h3.are.0, h3.are.1.1)))) in

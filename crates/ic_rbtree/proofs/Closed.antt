@@ -7,7 +7,7 @@ use Rattle.ic_link_ops.specs.declared.side.Side.{Side}
 use Rattle.ic_link_ops.specs.declared.side.Side.TheVariants.{Left, Right}
 use Rattle.ic_link_ops.specs.Tables.{Table, ChangesOnly}
 use Rattle.ic_link_ops.specs.RedBlackTree.{Node}
-use Rattle.ic_link_ops.specs.Frames.{child_on, with_child}
+use Rattle.ic_link_ops.specs.Frames.{child_on}
 use Rattle.ic_link_ops.proofs.SequenceLemmas.{none_not, some_same}
 use Rattle.ic_rbtree.specs.Removal.{AreRead}
 use Rattle.ic_rbtree.specs.Transplants.{or_else, both_of}
@@ -134,13 +134,12 @@ module _ {E : Type 0} (n : E → Node) where
       | inr k ↦ old q m (λ s. k (sym (some_same s)))
     ]
 
-  -- THE WRITES at a place that comes in
-  pub node_written : {v v1 v2 v3 : Table E} {root : Option Place} {p : Place} {S : Place → Bool} {a b up : Option Place} {c : Color} → IsClosedBut n v root (Some p) S
-      → n (v1.entry p) ≡ with_child Left (n (v.entry p)) a → ChangesOnly v v1 p → n (v2.entry p) ≡ with_child Right (n (v1.entry p)) b → ChangesOnly v1 v2 p
-      → n (v3.entry p) ≡ record (n (v2.entry p)) { parent = up; color = c } → ChangesOnly v2 v3 p
-      → IsIn S a → IsIn S b → IsIn S up → IsClosed n v3 root S
-  node_written {v} {v1} {v2} {v3} {root} {p} {S} {a} {b} {up} {c} h set1 only1 set2 only2 set3 only3 ia ib iu =
-      all_closed (upper_written (right_written (left_written h only1 set1 ia) only2 set2 ib) only3 set3 iu)
-      (read_in S ia (ap (λ (x : Node). x.left) set3 ∙ (ap (λ (x : Node). x.left) set2 ∙ ap (λ (x : Node). x.left) set1)))
-      (read_in S ib (ap (λ (x : Node). x.right) set3 ∙ ap (λ (x : Node). x.right) set2))
-      (read_in S iu (ap (λ (x : Node). x.parent) set3))
+  -- ALL OF A NODE IS WRITTEN, at a place that comes in
+  pub node_written : {v w : Table E} {root : Option Place} {p : Place} {S : Place → Bool} {a b up : Option Place} {c : Color}
+      → n (w.entry p) ≡ record (n (v.entry p)) { left = a; right = b; parent = up; color = c } → ChangesOnly v w p
+      → IsClosedBut n v root (Some p) S → IsIn S a → IsIn S b → IsIn S up → IsClosed n w root S
+  node_written {S = S} set only h ia ib iu =
+      let left = read_in S ia (ap (λ (x : Node). x.left) set) in
+      let right = read_in S ib (ap (λ (x : Node). x.right) set) in
+      let parent = read_in S iu (ap (λ (x : Node). x.parent) set) in
+      all_closed (written h only (ap (λ (x : Node). x.linked) set) (λ i. left) (λ i. right) (λ i. parent)) left right parent

@@ -4,6 +4,7 @@ use Rattle.ic_unsafe_ref.specs.declared.place.Place.{Place}
 use Rattle.ic_unsafe_ref.proofs.PlaceLemmas.{same_or_not}
 use Rattle.ic_link_ops.specs.declared.color.Color.{Color}
 use Rattle.ic_link_ops.specs.declared.side.Side.{Side}
+use Rattle.ic_link_ops.specs.declared.side.Side.TheVariants.{Left}
 use Rattle.ic_link_ops.specs.Tables.{Table, ChangesOnly}
 use Rattle.ic_link_ops.specs.RedBlackTree.{Node}
 use Rattle.ic_link_ops.specs.Frames.{with_child, IsAtSide, across}
@@ -63,6 +64,19 @@ module _ {E : Type 0} (n : E → Node) where
             | inl e ↦ subst (λ (z : Place). (n (w.entry z)).linked ≡ (n (base.entry z)).linked) (sym e) (is ∙ (sym was ∙ h.linked p))
             | inr k ↦ ap (λ (x : E). (n x).linked) (only.others q k) ∙ h.linked q
           ]
+
+      -- A PLACE ON ITS OWN becomes the root of two subtrees
+      pub node_set : {p : Place} {a b up : Option Place} {c : Color} {ps : List Piece} → n (w.entry p) ≡ record (n (v.entry p)) { left = a; right = b; parent = up; color = c }
+          → ChangesOnly v w p → Held n base v (loose p ∷ ps) → Held n base w (cell Left p c a b up ∷ ps)
+      node_set {p} {a} {b} {up} {c} {ps} set only h =
+          let is : (n (w.entry p)).linked ≡ true = ap (λ (x : Node). x.linked) set ∙ h.are.0 in
+          written p (loose p) (cell Left p c a b up) ps (λ q. refl) (λ q. refl) h only h.are.0 is (record {
+            linked = is;
+            left = ap (λ (x : Node). x.left) set;
+            right = ap (λ (x : Node). x.right) set;
+            parent = ap (λ (x : Node). x.parent) set;
+            color = ap (λ (x : Node). x.color) set;
+          })
 
       module _ (d : Side) (p : Place) (c : Color) (near far up : Option Place) (ps : List Piece) (h : Held n base v (cell d p c near far up ∷ ps)) where
         cell_written : (c' : Color) (near' far' up' : Option Place) → ChangesOnly v w p → IsAtSide n w.entry d p c' near' far' up'

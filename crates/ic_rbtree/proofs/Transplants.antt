@@ -4,24 +4,24 @@ use Rattle.ic_unsafe_ref.specs.declared.place.Place.{Place}
 use Rattle.ic_link_ops.specs.declared.color.Color.{Color}
 use Rattle.ic_link_ops.specs.declared.color.Color.TheVariants.{Red, Black}
 use Rattle.ic_link_ops.specs.declared.side.Side.{Side}
-use Rattle.ic_link_ops.specs.declared.side.Side.TheVariants.{Left, Right}
+use Rattle.ic_link_ops.specs.declared.side.Side.TheVariants.{Left}
 use Rattle.ic_link_ops.specs.Tables.{Table, ChangesOnly}
 use Rattle.ic_link_ops.specs.Trees.{Tree, leaf, fork, top, in_order}
 use Rattle.ic_link_ops.specs.Shape.{top_color, weight, blacks, IsEven, NoRedPair, IsRight}
 use Rattle.ic_link_ops.specs.RedBlackTree.{Node, IsTree}
-use Rattle.ic_link_ops.specs.Frames.{Frame, frame, with_child, plug, above, before, after}
+use Rattle.ic_link_ops.specs.Frames.{Frame, frame, plug, above, before, after}
 use Rattle.ic_link_ops.proofs.SequenceLemmas.{none_not, some_same}
 use Rattle.ic_link_ops.proofs.Frames.{in_order_parts}
 use Rattle.ic_link_ops.specs.Times.{times, times_around}
 use Rattle.ic_link_ops.proofs.Times.{one_at_self}
-use Rattle.ic_rbtree.specs.Pieces.{Piece, cell, loose, below, around, Held, Stands}
+use Rattle.ic_rbtree.specs.Pieces.{Piece, loose, below, around, Held, Stands}
 use Rattle.ic_rbtree.specs.Focus.{Focus, IsInFocus, IsRestored}
 use Rattle.ic_rbtree.specs.Steps.{Adopts, ChangesChild}
 use Rattle.ic_rbtree.specs.Shortage.{EvenAround, PairsAround}
 use Rattle.ic_rbtree.specs.Removal.{IsOn, Short}
 use Rattle.ic_rbtree.specs.Transplants.{or_else, Parts, member, only, IsLone, IsGap, Gap, IsSideBelow, TakesPlace}
-use Rattle.ic_rbtree.proofs.Branches.{order_plug, side_loose}
-use Rattle.ic_rbtree.proofs.Pieces.{regroup, set_near, set_far, set_parent_and_color}
+use Rattle.ic_rbtree.proofs.Branches.{order_plug}
+use Rattle.ic_rbtree.proofs.Pieces.{regroup, set_parent_and_color, node_set}
 use Rattle.ic_rbtree.proofs.Rotations.{open_below, open_at, close_at, below_linked, around_linked}
 use Rattle.ic_rbtree.proofs.Zipper.{go_top}
 use Rattle.ic_rbtree.proofs.InsertionShapes.{right_plug, red_not_black}
@@ -180,14 +180,12 @@ module _ {E : Type 0} (n : E → Node) where
       }
 
   -- THE WRITES OF TAKING A PLACE
-  pub taken_place : (v v1 v2 v3 v4 v5 w : Table E) (root new_root left right parent : Option Place) (color : Color) (p new : Place)
+  pub taken_place : (v v1 v2 v3 w : Table E) (root new_root left right parent : Option Place) (color : Color) (p new : Place)
       → parent ≡ (n (v.entry p)).parent → left ≡ (n (v.entry p)).left → right ≡ (n (v.entry p)).right → color ≡ (n (v.entry p)).color
       → ChangesChild n v v1 root new_root parent p (Some new) → Adopts n v1 v2 left (Some new) → Adopts n v2 v3 right (Some new)
-      → n (v4.entry new) ≡ with_child Left (n (v3.entry new)) left → ChangesOnly v3 v4 new
-      → n (v5.entry new) ≡ with_child Right (n (v4.entry new)) right → ChangesOnly v4 v5 new
-      → n (w.entry new) ≡ record (n (v5.entry new)) { parent = parent; color = color } → ChangesOnly v5 w new
+      → n (w.entry new) ≡ record (n (v3.entry new)) { left = left; right = right; parent = parent; color = color } → ChangesOnly v3 w new
       → TakesPlace n v w root new_root p new
-  taken_place v v1 v2 v3 v4 v5 w root new_root left right parent color p new up el er ec f1 f2 f3 set4 only4 set5 only5 set6 only6 base fs x ps s =
+  taken_place v v1 v2 v3 w root new_root left right parent color p new up el er ec f1 f2 f3 set only base fs x ps s =
       let record { color = c; left = a; right = b } = x in
       let h0 = open_at n root fs Left c a p b (loose new ∷ ps) s in
       let at = h0.are.0 in
@@ -206,12 +204,7 @@ module _ {E : Type 0} (n : E → Node) where
       let h3' = regroup n (below (Some p) b ∷ A ∷ R ∷ loose p ∷ loose new ∷ ps) h2 (λ q. omega arith) (h2.are.1.1.0, (h2.are.0, (h2.are.1.0, h2.are.1.1.1))) in
       let h3 = f3 base (Some p) (Some new) b (A ∷ R ∷ loose p ∷ loose new ∷ ps) eb refl h3' in
       let B : Piece = below (Some new) b in
-      let rest : List Piece = A ∷ B ∷ R ∷ loose p ∷ ps in
-      let e : Node = n (v3.entry new) in
-      let h4' = regroup n (cell Left new e.color e.left e.right e.parent ∷ rest) h3 (λ q. omega arith)
-      (side_loose n v3.entry new h3.are.1.1.1.1.0, (h3.are.1.0, (h3.are.0, (h3.are.1.1.0, (h3.are.1.1.1.0, h3.are.1.1.1.1.1))))) in
-      let h4 = set_near n Left new e.color e.left e.right e.parent rest h4' new Left left (top a) refl refl ea set4 only4 in
-      let h5 = set_far n Left new e.color (top a) e.right e.parent rest h4 new Right right (top b) refl refl eb set5 only5 in
-      let h6 = set_parent_and_color n Left new e.color (top a) (top b) e.parent rest h5 new parent (above fs) c refl eu
-      (subst (λ (k : Color). n (w.entry new) ≡ record (n (v5.entry new)) { parent = parent; color = k }) et set6) only6 in
-      close_at n new_root (top a) (top b) fs Left c a new b (loose p ∷ ps) refl refl h6
+      let h4 = regroup n (loose new ∷ A ∷ B ∷ R ∷ loose p ∷ ps) h3 (λ q. omega arith) (h3.are.1.1.1.1.0, (h3.are.1.0, (h3.are.0, (h3.are.1.1.0, (h3.are.1.1.1.0, h3.are.1.1.1.1.1))))) in
+      let set' : n (w.entry new) ≡ record (n (v3.entry new)) { left = left; right = right; parent = above fs; color = c } =
+      set ∙ λ i. record (n (v3.entry new)) { left = left; right = right; parent = eu i; color = et i } in
+      close_at n new_root left right fs Left c a new b (loose p ∷ ps) ea eb (node_set n set' only h4)

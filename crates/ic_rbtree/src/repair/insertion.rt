@@ -9,7 +9,7 @@ ghost use Rattle.ic_rbtree.specs.Insertion.{FixesRedParent, FixesInsertion, Fixe
 use crate::nodes::Nodes;
 use crate::readings::{child, color_here, is_across, is_red, other, side_of};
 use crate::repair::TURNS;
-use crate::repair::writers::{rotate, set_child, set_color, set_parent_and_color};
+use crate::repair::writers::{rotate, set_child, set_color, set_node};
 use ic_link_ops::{Color, PlaceWord, Side};
 use ic_unsafe_ref::Place;
 
@@ -154,15 +154,13 @@ pub(crate) fn attach<N: Nodes>(
     ensures safe { ClosesAt N.node (N.table links.old) (N.table links.new) root.old root.new place (Some place ∷ parent ∷ []) }
     ensures quiet { N.Quiet links.old links.new }
 {
-    set_child(links, place, Side::Left, None);
-    set_child(links, place, Side::Right, None);
     match parent {
         None => {
-            set_parent_and_color(links, place, parent, Color::Black);
+            set_node(links, place, None, None, None, Color::Black);
             *root = PlaceWord::of(Some(place));
         }
         Some(above) => {
-            set_parent_and_color(links, place, parent, Color::Red);
+            set_node(links, place, None, None, parent, Color::Red);
             set_child(links, above, side, Some(place));
             insert_fixup(links, root, place, parent);
         }

@@ -70,6 +70,31 @@ pub(crate) fn set_parent_and_color<N: Nodes>(
     links.set_parent_and_color(place, parent, color);
 }
 
+// Both children, the parent and the color, of a place to which nothing leads yet.
+#[inline]
+pub(crate) fn set_node<N: Nodes>(
+    links: &mut N,
+    place: Place,
+    left: Option<Place>,
+    right: Option<Place>,
+    parent: Option<Place>,
+    color: Color,
+)
+    requires linked { IsNode N.node (N.table links.old) place }
+    requires left { IsNamed N.node (N.table links.old) left }
+    requires right { IsNamed N.node (N.table links.old) right }
+    requires parent { IsNamed N.node (N.table links.old) parent }
+    ensures set { node_at N.node (N.table links.new) place
+        ≡ record (node_at N.node (N.table links.old) place) { left = left; right = right; parent = parent; color = color } }
+    ensures frame { ChangesOnly (N.table links.old) (N.table links.new) place }
+    ensures safe { (root : Option Place) → ClosesAt N.node (N.table links.old) (N.table links.new) root root place (left ∷ right ∷ parent ∷ []) }
+    ensures quiet { N.Quiet links.old links.new }
+{
+    links.set_left(place, left);
+    links.set_right(place, right);
+    set_parent_and_color(links, place, parent, color);
+}
+
 // A subtree gets another parent.
 pub(crate) fn adopt<N: Nodes>(links: &mut N, child: Option<Place>, parent: Option<Place>)
     requires child { IsNamed N.node (N.table links.old) child }
@@ -146,7 +171,5 @@ pub(crate) fn take_place<N: Nodes>(links: &mut N, root: &mut PlaceWord, place: P
     change_child(links, root, parent, place, Some(new));
     adopt(links, left, Some(new));
     adopt(links, right, Some(new));
-    set_child(links, new, Side::Left, left);
-    set_child(links, new, Side::Right, right);
-    set_parent_and_color(links, new, parent, color);
+    set_node(links, new, left, right, parent, color);
 }

@@ -1,6 +1,6 @@
 use Rattle.std.proofs.Common.{◌≡◌, Some, sym, ◌∙◌}
 use Rattle.ic_link_ops.proofs.SequenceLemmas.{some_same}
-use Rattle.ic_rbtree.proofs.Closed.{read_in, in_linked, node_written}
+use Rattle.ic_rbtree.proofs.Closed.{read_in, in_linked}
 use Rattle.ic_rbtree.proofs.Transplants.{taken_place}
 use Rattle.ic_rbtree.proofs.repair.writers.take_place.Goals as goal
 
@@ -28,51 +28,35 @@ adopt-requires-2 g c =
     let same = g.met.N.Nodes.quiet_keeps _ _ (on _ _ _ c.change_child.ensures.quiet (c.adopt.ensures.quiet)) in
     record { child = λ q e. same q ∙ in_linked n r.1 there q e; parent = λ q e. same q ∙ in_linked n r.1 r.2.1.0 q e }
 
-pub set_child-requires : goal.set_child-requires
-set_child-requires g c =
+pub set_node-requires : goal.set_node-requires
+set_node-requires g c =
     let n = g.N.Nodes.node in
     let r = c.requires.safe in
-    let there = read_in r.0 (r.1.left c.args.place r.2.0 (λ s. c.requires.apart (sym (some_same s)))) c.left-left.ensures in
+    let out : Some c.args.new ≡ Some c.args.place → ⊥ = λ s. c.requires.apart (sym (some_same s)) in
     let on = g.met.N.Nodes.quiet_on in
-    let same = g.met.N.Nodes.quiet_keeps _ _ (on _ _ _ c.change_child.ensures.quiet (on _ _ _ c.adopt.ensures.quiet (c.adopt-2.ensures.quiet))) in
-    record { linked = same c.args.new ∙ r.1.linked c.args.new r.2.1.0; named = λ q e. same q ∙ in_linked n r.1 there q e }
-
-pub set_child-requires-2 : goal.set_child-requires-2
-set_child-requires-2 g c =
-    let n = g.N.Nodes.node in
-    let r = c.requires.safe in
-    let there = read_in r.0 (r.1.right c.args.place r.2.0 (λ s. c.requires.apart (sym (some_same s)))) c.right-right.ensures in
-    let on = g.met.N.Nodes.quiet_on in
-    let same = g.met.N.Nodes.quiet_keeps _ _ (on _ _ _ c.change_child.ensures.quiet (on _ _ _ c.adopt.ensures.quiet (on _ _ _ c.adopt-2.ensures.quiet (c.set_child.ensures.quiet)))) in
-    record { linked = same c.args.new ∙ r.1.linked c.args.new r.2.1.0; named = λ q e. same q ∙ in_linked n r.1 there q e }
-
-pub set_parent_and_color-requires : goal.set_parent_and_color-requires
-set_parent_and_color-requires g c =
-    let n = g.N.Nodes.node in
-    let r = c.requires.safe in
-    let there = read_in r.0 (r.1.parent c.args.place r.2.0 (λ s. c.requires.apart (sym (some_same s)))) c.parent-parent.ensures in
-    let on = g.met.N.Nodes.quiet_on in
-    let same = g.met.N.Nodes.quiet_keeps _ _ (on _ _ _ c.change_child.ensures.quiet (on _ _ _ c.adopt.ensures.quiet (on _ _ _ c.adopt-2.ensures.quiet (on _ _ _ c.set_child.ensures.quiet (c.set_child-2.ensures.quiet))))) in
-    record { linked = same c.args.new ∙ r.1.linked c.args.new r.2.1.0; named = λ q e. same q ∙ in_linked n r.1 there q e }
+    let same = g.met.N.Nodes.quiet_keeps _ _ (on _ _ _ c.change_child.ensures.quiet (on _ _ _ c.adopt.ensures.quiet c.adopt-2.ensures.quiet)) in
+    record {
+      linked = same c.args.new ∙ r.1.linked c.args.new r.2.1.0;
+      left = λ q e. same q ∙ in_linked n r.1 (read_in r.0 (r.1.left c.args.place r.2.0 out) c.left-left.ensures) q e;
+      right = λ q e. same q ∙ in_linked n r.1 (read_in r.0 (r.1.right c.args.place r.2.0 out) c.right-right.ensures) q e;
+      parent = λ q e. same q ∙ in_linked n r.1 (read_in r.0 (r.1.parent c.args.place r.2.0 out) c.parent-parent.ensures) q e;
+    }
 
 pub returns-clause-taken : goal.returns-clause-taken
 returns-clause-taken g c =
-    taken_place g.N.Nodes.node _ _ _ _ _ _ _ _ _ _ _ _ _ _ _ c.parent-parent.ensures c.left-left.ensures c.right-right.ensures c.color-color.ensures
-    c.change_child.ensures.moved c.adopt.ensures.moved c.adopt-2.ensures.moved c.set_child.ensures.set c.set_child.ensures.frame c.set_child-2.ensures.set c.set_child-2.ensures.frame
-    c.set_parent_and_color.ensures.set c.set_parent_and_color.ensures.frame
+    taken_place g.N.Nodes.node _ _ _ _ _ _ _ _ _ _ _ _ _ c.parent-parent.ensures c.left-left.ensures c.right-right.ensures c.color-color.ensures
+    c.change_child.ensures.moved c.adopt.ensures.moved c.adopt-2.ensures.moved c.set_node.ensures.set c.set_node.ensures.frame
 
 pub returns-clause-safe : goal.returns-clause-safe
 returns-clause-safe g c S h i =
     let out : Some c.args.new ≡ Some c.args.place → ⊥ = λ s. c.requires.apart (sym (some_same s)) in
+    let root = c.change_child.new.root in
     let h1 = c.change_child.ensures.safe (Some c.args.new) S h (i.1.0, tt) in
-    let h2 = c.adopt.ensures.safe c.change_child.new.root (Some c.args.new) S h1 (i.1.0, tt) in
-    let h3 = c.adopt-2.ensures.safe c.change_child.new.root (Some c.args.new) S h2 (i.1.0, tt) in
-    node_written g.N.Nodes.node h3 c.set_child.ensures.set c.set_child.ensures.frame c.set_child-2.ensures.set c.set_child-2.ensures.frame
-    c.set_parent_and_color.ensures.set c.set_parent_and_color.ensures.frame
-    (read_in S (h.left c.args.place i.0 out) c.left-left.ensures) (read_in S (h.right c.args.place i.0 out) c.right-right.ensures) (read_in S (h.parent c.args.place i.0 out) c.parent-parent.ensures)
+    let h3 = c.adopt-2.ensures.safe root (Some c.args.new) S (c.adopt.ensures.safe root (Some c.args.new) S h1 (i.1.0, tt)) (i.1.0, tt) in
+    c.set_node.ensures.safe root S h3
+    (read_in S (h.left c.args.place i.0 out) c.left-left.ensures, (read_in S (h.right c.args.place i.0 out) c.right-right.ensures, (read_in S (h.parent c.args.place i.0 out) c.parent-parent.ensures, tt)))
 
 pub returns-clause-quiet : goal.returns-clause-quiet
 returns-clause-quiet g c =
     let on = g.met.N.Nodes.quiet_on in
-    on _ _ _ c.change_child.ensures.quiet (on _ _ _ c.adopt.ensures.quiet (on _ _ _ c.adopt-2.ensures.quiet
-    (on _ _ _ c.set_child.ensures.quiet (on _ _ _ c.set_child-2.ensures.quiet c.set_parent_and_color.ensures.quiet))))
+    on _ _ _ c.change_child.ensures.quiet (on _ _ _ c.adopt.ensures.quiet (on _ _ _ c.adopt-2.ensures.quiet c.set_node.ensures.quiet))
