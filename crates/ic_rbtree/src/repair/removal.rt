@@ -89,7 +89,8 @@ pub(crate) fn rotate_far_nephew<N: Nodes>(
     rotate(links, root, place, upper, side, Color::Black, color);
 }
 
-// Case 2, both nephews are black: the sibling turns red. A red parent turns black, and then all is right. Answers whether it was red.
+// Case 2, both nephews are black: the sibling turns red. A red parent turns black, and then all is right. Answers whether it was
+// red.
 pub(crate) fn redden_sibling<N: Nodes>(links: &mut N, place: Place, sibling: Place) -> bool
     requires place { IsNode N.node (N.table links.old) place }
     requires sibling { IsNode N.node (N.table links.old) sibling }

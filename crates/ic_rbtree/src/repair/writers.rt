@@ -70,7 +70,7 @@ pub(crate) fn set_parent_and_color<N: Nodes>(
     links.set_parent_and_color(place, parent, color);
 }
 
-// Both children, the parent and the color, of a place to which nothing leads yet.
+// Both children, the parent and the color of a place that comes into a tree.
 #[inline]
 pub(crate) fn set_node<N: Nodes>(
     links: &mut N,
