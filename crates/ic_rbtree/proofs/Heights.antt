@@ -1,6 +1,6 @@
 -- A TREE OF THE RIGHT SHAPE IS LOW, and so a descent in it short.
-use Rattle.std.proofs.Common.{◌≡◌, ℕ, suc, ◌+◌, ◌*◌, ◌^◌, ◌≤◌, ◌<◌, List, [], ◌∷◌, length, refl, sym, ap, ◌∙◌, subst, arith, length-append, inl, inr}
-use Rattle.std.proofs.Math.Nat.{pow-le-pow_left, max-le, le-max_left, le-max_right, pow-le-pow_right, pow-suc, pow-zero, one-mul, mul-le-mul}
+use Rattle.std.proofs.Common.{◌≡◌, ℕ, suc, max, ◌+◌, ◌*◌, ◌^◌, ◌≤◌, ◌<◌, List, [], ◌∷◌, ◌++◌, length, refl, sym, ap, ◌∙◌, subst, arith, length-append, inl, inr}
+use Rattle.std.proofs.Math.Nat.{pow-le-pow_left, max-le, le-max_left, le-max_right, pow-le-pow_right, pow-suc, pow-zero, one-mul, mul-le-mul, mul-add, add-mul}
 use Rattle.std.proofs.lemmas.Nat.{pow-add, pow_below}
 use Rattle.std.proofs.lemmas.Bool.{cases_lt}
 use Rattle.ic_unsafe_ref.specs.declared.place.Place.{Place}
@@ -56,6 +56,83 @@ height_few t r =
     let b = mul-le-mul few few in
     omega (arith, a, b, pow-add 2 (blacks t) (blacks t), square (length (in_order t) + 1))
 
+-- a red root stands on two trees with as many black members as it has
+red_many : (t : Tree) → IsEven t → top_color t ≡ Red → 2 ^ blacks t + 2 ^ blacks t ≤ length (in_order t) + 1
+red_many leaf e r = cc
+red_many (fork Black a p b) e r = cc
+red_many (fork Red a p b) e r =
+    let left = blacks_few a e.1 in
+    let right : 2 ^ blacks a ≤ length (in_order b) + 1 = subst (λ (n : ℕ). 2 ^ n ≤ length (in_order b) + 1) (sym e.0) (blacks_few b e.2) in
+    omega (arith, left, right, ap (λ n. 2 ^ n) zero_left, length-append (in_order a) (p ∷ in_order b))
+  where
+    zero_left : 0 + blacks a ≡ blacks a
+    zero_left = omega arith
+
+-- with three times as many members as 2 ^ b, less one, 2 b + 3 is few
+thrice_few : (h b m : ℕ) → h ≤ b + b + 3 → 2 ^ b + (2 ^ b + 2 ^ b) ≤ m → 2 ^ h ≤ m ^ 2
+thrice_few h b m low many =
+    let x : ℕ = 2 ^ b in
+    let a : 2 ^ h ≤ 2 ^ (b + b + 3) = pow-le-pow_right (omega arith) low in
+    let e : 2 ^ (b + b + 3) ≡ 2 ^ b * 2 ^ b * 8 = pow-add 2 (b + b) 3 ∙ ap (λ y. y * 8) (pow-add 2 b b) in
+    let wide : (2 ^ b + (2 ^ b + 2 ^ b)) * (2 ^ b + (2 ^ b + 2 ^ b)) ≤ m * m = mul-le-mul many many in
+    omega (
+      arith,
+      a,
+      e,
+      wide,
+      square m,
+      add-mul (2 ^ b) (2 ^ b + 2 ^ b) (2 ^ b + (2 ^ b + 2 ^ b)),
+      add-mul (2 ^ b) (2 ^ b) (2 ^ b + (2 ^ b + 2 ^ b)),
+      mul-add (2 ^ b) (2 ^ b) (2 ^ b + 2 ^ b),
+      mul-add (2 ^ b) (2 ^ b) (2 ^ b),
+    )
+
+twice_few : (h b m : ℕ) → h ≤ b + b + 2 → 2 ^ b + 2 ^ b ≤ m → 2 ^ h ≤ m ^ 2
+twice_few h b m low many =
+    let a : 2 ^ h ≤ 2 ^ (b + b + 2) = pow-le-pow_right (omega arith) low in
+    let e : 2 ^ (b + b + 2) ≡ 2 ^ b * 2 ^ b * 4 = pow-add 2 (b + b) 2 ∙ ap (λ y. y * 4) (pow-add 2 b b) in
+    let wide : (2 ^ b + 2 ^ b) * (2 ^ b + 2 ^ b) ≤ m * m = mul-le-mul many many in
+    omega (arith, a, e, wide, square m, add-mul (2 ^ b) (2 ^ b) (2 ^ b + 2 ^ b), mul-add (2 ^ b) (2 ^ b) (2 ^ b))
+
+-- ONE LOOK MORE than a longest path has members is few as well: where a path below the root may have two members for each black one, there are
+-- half as many members again
+pub height_fewer : (t : Tree) → IsRight t → 1 ≤ length (in_order t) → 2 ^ (height t + 1) ≤ (length (in_order t) + 1) ^ 2
+height_fewer leaf r some = absurd (omega (arith, some))
+height_fewer (fork Red a p b) r some = let k = r.black_root in cc
+height_fewer (fork Black a p b) r some = by (top_color a) (top_color b) refl refl where
+  m : ℕ
+  m = length (in_order a ++ p ∷ in_order b) + 1
+
+  all : m ≡ (length (in_order a) + 1) + (length (in_order b) + 1)
+  all = omega (arith, length-append (in_order a) (p ∷ in_order b))
+
+  left : 2 ^ blacks a ≤ length (in_order a) + 1
+  left = blacks_few a r.even.1
+
+  right : 2 ^ blacks a ≤ length (in_order b) + 1
+  right = subst (λ (n : ℕ). 2 ^ n ≤ length (in_order b) + 1) (sym r.even.0) (blacks_few b r.even.2)
+
+  left_high : height a ≤ 2 * blacks a + slack (top_color a)
+  left_high = height_low a r.even.1 r.no_red_pair.1
+
+  right_high : height b ≤ 2 * blacks a + slack (top_color b)
+  right_high = omega (arith, height_low b r.even.2 r.no_red_pair.2, r.even.0)
+
+  high : max (height a) (height b) ≤ 2 * blacks a + 1
+  high = max-le (omega (arith, left_high, slack_low (top_color a))) (omega (arith, right_high, slack_low (top_color b)))
+
+  by : (c d : Color) → top_color a ≡ c → top_color b ≡ d → 2 ^ (1 + max (height a) (height b) + 1) ≤ m ^ 2
+  by Red d e f =
+      thrice_few (1 + max (height a) (height b) + 1) (blacks a) m (omega (arith, high)) (omega (arith, all, red_many a r.even.1 e, right))
+  by Black Red e f =
+      let more : 2 ^ blacks a + 2 ^ blacks a ≤ length (in_order b) + 1 =
+      subst (λ (n : ℕ). 2 ^ n + 2 ^ n ≤ length (in_order b) + 1) (sym r.even.0) (red_many b r.even.2 f) in
+      thrice_few (1 + max (height a) (height b) + 1) (blacks a) m (omega (arith, high)) (omega (arith, all, more, left))
+  by Black Black e f =
+      let low : max (height a) (height b) ≤ 2 * blacks a =
+      max-le (omega (arith, left_high, ap slack e)) (omega (arith, right_high, ap slack f)) in
+      twice_few (1 + max (height a) (height b) + 1) (blacks a) m (omega (arith, low)) (omega (arith, all, left, right))
+
 pub height_branch : (d : Side) (c : Color) (a : Tree) (p : Place) (b : Tree) → suc (height a) ≤ height (branch d c a p b)
 height_branch Left c a p b = omega (arith, le-max_left (height a) (height b))
 height_branch Right c a p b = omega (arith, le-max_right (height b) (height a))
@@ -70,6 +147,13 @@ looks_few fs t looks r h =
     let low : looks ≤ height (plug fs t) = omega (arith, h, length_frames_height fs t) in
     let a : 2 ^ looks ≤ 2 ^ height (plug fs t) = pow-le-pow_right (omega arith) low in
     omega (arith, a, height_few (plug fs t) r)
+
+pub looks_fewer : (fs : List Frame) (t : Tree) (looks : ℕ) → IsRight (plug fs t) → looks ≤ length fs + height t → 1 ≤ length (in_order (plug fs t))
+    → 2 ^ (looks + 1) ≤ (length (in_order (plug fs t)) + 1) ^ 2
+looks_fewer fs t looks r h some =
+    let low : looks + 1 ≤ height (plug fs t) + 1 = omega (arith, h, length_frames_height fs t) in
+    let a : 2 ^ (looks + 1) ≤ 2 ^ (height (plug fs t) + 1) = pow-le-pow_right (omega arith) low in
+    omega (arith, a, height_fewer (plug fs t) r some)
 
 -- what is at most the square of 2 ^ 33 as a power of 2 has a small exponent
 pub exponent_small : (v m : ℕ) → m ≤ 8589934592 → 2 ^ v ≤ m ^ 2 → v ≤ 66

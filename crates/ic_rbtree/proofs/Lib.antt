@@ -20,6 +20,9 @@ pub mod RedPairs
 pub mod Attaching
 pub mod Replacing
 pub mod ShownClosed
+pub mod Graft
+pub mod Spine
+pub mod Pairs
 pub mod Heights
 pub mod Climbed
 pub mod Laws

@@ -38,7 +38,7 @@ use Rattle.ic_rbtree.proofs.Branches.{side_near, top_leaf}
 use Rattle.ic_rbtree.proofs.Climbed.{path_few, is_end_there}
 use Rattle.ic_rbtree.proofs.Outermost.{opened}
 use Rattle.ic_rbtree.proofs.Gaps.{gap_join, gap_border, gap_same, gap_all, gap_none}
-use Rattle.ic_rbtree.proofs.Heights.{looks_few}
+use Rattle.ic_rbtree.proofs.Heights.{looks_few, looks_fewer}
 use Rattle.ic_rbtree.proofs.Nearest.{nearest_frame}
 use Rattle.ic_rbtree.proofs.Removing.{order_around, stands_of}
 
@@ -283,6 +283,12 @@ module _ {E : Type 0} (n : E → Node) where
           subst (λ z. 2 ^ length x.fs ≤ (length z + 1) ^ 2) (ap in_order (x.same ∙ sym same) ∙ h.held.order)
           (looks_few x.fs x.t (length x.fs) (subst IsRight (sym (x.same ∙ sym same)) h.shape) (omega arith))
 
+      -- and one more would be few, too
+      pub sent_fewer : {s : List Place} (h : Shows n v root s) → h.tree ≡ tree → 1 ≤ length s → 2 ^ (length x.fs + 1) ≤ (length s + 1) ^ 2
+      sent_fewer {s} h same =
+          subst (λ z. 1 ≤ length z → 2 ^ (length x.fs + 1) ≤ (length z + 1) ^ 2) (ap in_order (x.same ∙ sym same) ∙ h.held.order)
+          (looks_fewer x.fs x.t (length x.fs) (subst IsRight (sym (x.same ∙ sym same)) h.shape) (omega arith))
+
   -- THE LOOKS of a descent that has ended
   pub sent_looks : {P V : Type 0} (order : P → V → Ordering) (count : P → ℕ) {old new : P} {v : Table E} {root : Option Place} {at : Place → Ordering} {equals : Side} {s : List Place} (h : Shows n v root s)
       {here : Option Place} {d : Descent} → Sent v root at equals h.tree here d (count old) (count new) → here ≡ None → order new ≡ order old → Looks order count old new s
@@ -290,6 +296,7 @@ module _ {E : Type 0} (n : E → Node) where
     looks = length x.fs;
     counted = x.counted;
     few = record { few = sent_few x h refl; some = sent_some x none h refl };
+    fewer = sent_fewer x h refl;
     order_is = same;
   }
 

@@ -12,7 +12,7 @@ use Rattle.ic_link_ops.specs.RedBlackTree.{Node, IsTree}
 use Rattle.ic_link_ops.proofs.SequenceLemmas.{none_not, some_same, absent_right}
 use Rattle.ic_rbtree.specs.Closed.{IsIn, IsNode, IsClosedBut, IsClosed}
 use Rattle.ic_rbtree.specs.Insertion.{IsHole}
-use Rattle.ic_rbtree.specs.Pieces.{Piece, loose, Shown}
+use Rattle.ic_rbtree.specs.Pieces.{Piece, loose, Stands, Shown}
 use Rattle.ic_rbtree.proofs.Closed.{read_in}
 use Rattle.ic_rbtree.proofs.Removing.{loose_absent}
 
@@ -110,19 +110,23 @@ module _ {E : Type 0} (n : E → Node) where
       ]
 
   module _ {base v : Table E} {root : Option Place} {s : List Place} where
-    -- SHOWN, AND SO CLOSED
-    pub shown_closed : {ps : List Piece} → Shown n base v root s ps → IsClosed n v root (λ q. among q s)
-    shown_closed {ps} h =
-        let all : (q : Place) → among q (in_order h.tree) ≡ true → among q s ≡ true = λ q m. subst (λ (x : List Place). among q x ≡ true) h.order m in
+    -- the members of a tree that stands there, whatever its shape
+    pub stands_closed : {ps : List Piece} (tree : Tree) → in_order tree ≡ s → Stands n base v root [] tree ps → IsClosed n v root (λ q. among q s)
+    stands_closed {ps} tree order stands =
+        let all : (q : Place) → among q (in_order tree) ≡ true → among q s ≡ true = λ q m. subst (λ (x : List Place). among q x ≡ true) order m in
         let at : (q : Place) → among q s ≡ true → LeadsInto v (λ x. among x s) q =
-        λ q m. leads v (λ x. among x s) None h.tree h.stands.are.1.0 tt all q (subst (λ (x : List Place). among q x ≡ true) (sym h.order) m) in
+        λ q m. leads v (λ x. among x s) None tree stands.are.1.0 tt all q (subst (λ (x : List Place). among q x ≡ true) (sym order) m) in
         record {
           linked = λ q m. (at q m).linked;
           left = λ q m out. (at q m).left;
           right = λ q m out. (at q m).right;
           parent = λ q m out. (at q m).parent;
-          starts = read_in (λ x. among x s) (top_in (λ x. among x s) h.tree all) h.stands.are.0.1;
+          starts = read_in (λ x. among x s) (top_in (λ x. among x s) tree all) stands.are.0.1;
         }
+
+    -- SHOWN, AND SO CLOSED
+    pub shown_closed : {ps : List Piece} → Shown n base v root s ps → IsClosed n v root (λ q. among q s)
+    shown_closed {ps} h = stands_closed h.tree h.order h.stands
 
     -- with a place on its own, closed but there
     module _ {p : Place} {ps : List Piece} (h : Shown n base v root s (loose p ∷ ps)) where

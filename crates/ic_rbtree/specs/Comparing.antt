@@ -78,11 +78,12 @@ pub record FewLooks (looks : ℕ) (s : List Place) : Type 0 where
   pub some : 1 ≤ length s → 1 ≤ looks
 
 module _ {P V : Type 0} (order : P → V → Ordering) (count : P → ℕ) where
-  -- THE LOOKS OF ONE DESCENT in a tree with the members s. The probe compares as before
+  -- THE LOOKS OF ONE DESCENT in a tree with the members s: one look more would be few, too. The probe compares as before
   pub record Looks (old new : P) (s : List Place) : Type 0 where
     pub looks : ℕ
     pub counted : count new ≡ count old + looks
     pub few : FewLooks looks s
+    pub fewer : 1 ≤ length s → 2 ^ (looks + 1) ≤ (length s + 1) ^ 2
     pub order_is : order new ≡ order old
 
   -- the same of the probe in a bound. Without a bound there is none, and no look

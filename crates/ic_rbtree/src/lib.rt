@@ -24,6 +24,7 @@ mod cursors;
 mod edits;
 mod into_iter;
 mod iter;
+mod join;
 mod keys;
 mod linking;
 mod nodes;

@@ -1,0 +1,199 @@
+-- Two trees and a place between them.
+use Rattle.std.proofs.Common.{◌≡◌, Bool, ℕ, ◌+◌, ◌≤◌, ◌<◌, Option, Some, None, List, [], ◌∷◌, ◌++◌, refl, sym, ap, ◌∙◌, subst, arith, append-nil, append_assoc, drop}
+use Rattle.ic_unsafe_ref.specs.declared.place.Place.{Place}
+use Rattle.ic_link_ops.specs.declared.color.Color.TheVariants.{Red, Black}
+use Rattle.ic_link_ops.specs.declared.side.Side.{Side}
+use Rattle.ic_link_ops.specs.declared.side.Side.TheVariants.{Left, Right}
+use Rattle.ic_link_ops.specs.Tables.{Table, ChangesOnly, IsLinked, IsUnlinked}
+use Rattle.ic_link_ops.specs.Times.{one_at, times, times_in}
+use Rattle.ic_link_ops.proofs.Times.{times_order, absent_times, distinct_times, times_append}
+use Rattle.ic_rbtree.proofs.Removing.{shows_of}
+use Rattle.ic_link_ops.specs.Trees.{Tree, top, in_order}
+use Rattle.ic_link_ops.specs.Shape.{top_color, IsRight}
+use Rattle.ic_link_ops.specs.RedBlackTree.{Node, Shows}
+use Rattle.ic_link_ops.specs.Frames.{Frame, branch, plug, above, before, after}
+use Rattle.ic_link_ops.proofs.Frames.{in_order_parts}
+use Rattle.ic_rbtree.specs.Height.{height, turns}
+use Rattle.ic_rbtree.specs.Join.{IsGraft, IsRootOf, IsSpine, Pair, ArePair, AreHigh, CanJoin, ShowsParts, Appends}
+use Rattle.ic_rbtree.specs.Pieces.{loose, below, around, Stands, Shown}
+use Rattle.ic_rbtree.specs.Sides.{beyond, IsBeside}
+use Rattle.ic_link_ops.specs.Sequences.{Cut, join, insert, at_front}
+use Rattle.ic_link_ops.proofs.SequenceLemmas.{first_is, nothing_first, absent_both, distinct_insert}
+use Rattle.ic_link_ops.proofs.ShownTrees.{free_absent, shows_beside}
+use Rattle.ic_link_ops.proofs.Trees.{leaf_is}
+use Rattle.ic_rbtree.proofs.Low.{shown_low}
+use Rattle.ic_rbtree.proofs.Pieces.{regroup}
+
+-- the sequence of the taller tree, and then the place and the other
+pub order_joined : (d : Side) (gs : List Frame) (u one two : Tree) (p : Place) → beyond d gs ≡ [] → plug gs u ≡ one → in_order (plug gs (branch d Red two p u)) ≡ in_order (branch d Red two p one)
+order_joined Right gs u one two p nothing same =
+    in_order_parts gs (branch Right Red two p u)
+    ∙ ap (λ (s : List Place). before gs ++ ((in_order u ++ p ∷ in_order two) ++ s)) nothing
+    ∙ ap (λ (s : List Place). before gs ++ s) (append-nil (in_order u ++ p ∷ in_order two))
+    ∙ sym (append_assoc (before gs) (in_order u) (p ∷ in_order two))
+    ∙ ap (λ (s : List Place). s ++ p ∷ in_order two) (ap (λ (s : List Place). before gs ++ s) (sym (append-nil (in_order u))) ∙ ap (λ (s : List Place). before gs ++ (in_order u ++ s)) (sym nothing) ∙ sym (in_order_parts gs u) ∙ ap in_order same)
+order_joined Left gs u one two p nothing same =
+    in_order_parts gs (branch Left Red two p u)
+    ∙ ap (λ (s : List Place). s ++ ((in_order two ++ p ∷ in_order u) ++ after gs)) nothing
+    ∙ append_assoc (in_order two) (p ∷ in_order u) (after gs)
+    ∙ ap (λ (s : List Place). in_order two ++ p ∷ s) (ap (λ (s : List Place). s ++ (in_order u ++ after gs)) (sym nothing) ∙ sym (in_order_parts gs u) ∙ ap in_order same)
+
+-- the same pair, the other one first
+abbrev pub swapped : {E : Type 0} → Pair E → Pair E
+swapped k = record { base = k.base; one = k.two; two = k.one; pieces = k.pieces }
+
+module _ {E : Type 0} (n : E → Node) {v : Table E} {one : Option Place} {p : Place} {two : Option Place} {k : Pair E} where
+  module _ (x : ArePair n v one p two k) where
+    pub pair_stands : Stands n k.base v one [] k.one (loose p ∷ below None k.two ∷ k.pieces)
+    pair_stands =
+        regroup n (around one [] (top k.one) ∷ below None k.one ∷ loose p ∷ below None k.two ∷ k.pieces) x.held (λ q. omega arith)
+        ((tt, x.one_is), (x.held.are.1.0, (x.held.are.0, x.held.are.1.1)))
+
+    pub pair_swapped : ArePair n v two p one (swapped k)
+    pair_swapped = record {
+      held = regroup n (loose p ∷ below None k.two ∷ below None k.one ∷ k.pieces) x.held (λ q. omega arith) (x.held.are.0, (x.held.are.1.1.0, (x.held.are.1.0, x.held.are.1.1.1)));
+      one_is = x.two_is;
+      two_is = x.one_is;
+      one_right = x.two_right;
+      two_right = x.one_right;
+    }
+
+    pub pair_root : IsRootOf n v one k.one
+    pair_root = (None, x.held.are.1.0, x.one_is)
+
+    pub pair_low : height k.one < turns
+    pair_low = shown_low n pair_stands x.one_right
+
+  -- where the other tree comes in
+  pub pair_graft : {root near parent : Option Place} {d : Side} {high low : ℕ} (x : AreHigh n v one p two high low k) (gs : List Frame) (u : Tree) → root ≡ one
+      → IsSpine n k.base v one d k.one (loose p ∷ below None k.two ∷ k.pieces) near parent low gs u → top_color u ≡ Black
+      → IsGraft n v root parent d near p two (record { base = k.base; frames = gs; near = u; far = k.two; pieces = k.pieces })
+  pair_graft {root} x gs u is s black = record {
+    held = regroup n (loose p ∷ around root gs (top u) ∷ below (above gs) u ∷ below None k.two ∷ k.pieces) s.stands (λ q. omega arith)
+        (s.stands.are.1.1.0, ((s.stands.are.0.0, is ∙ s.stands.are.0.1), (s.stands.are.1.0, s.stands.are.1.1.1)));
+    parent_is = s.parent_is;
+    near_is = s.near_is;
+    far_is = x.pair.two_is;
+    side_is = s.side_is;
+    same = s.blacks_are ∙ x.low_is;
+    black = black;
+    right = subst IsRight (sym s.same) x.pair.one_right;
+    far_right = x.pair.two_right;
+  }
+
+module _ {E : Type 0} (n : E → Node) {v : Table E} {left : Option Place} {p : Place} {right : Option Place} {gap : Cut} where
+  -- FROM THE SEQUENCES into the pieces,
+  module _ (x : CanJoin n v left p right gap) where
+    abbrev pub joinable : Pair E
+    joinable = record { base = v; one = x.front.tree; two = x.back.tree; pieces = [] }
+
+    joinable_once : (q : Place) → one_at q p + (times q x.front.tree + (times q x.back.tree + 0)) ≤ 1
+    joinable_once q =
+        let a : times q x.front.tree ≡ times_in q gap.front = sym (times_order q x.front.tree) ∙ ap (λ z. times_in q z) x.front.held.order in
+        let b : times q x.back.tree ≡ times_in q gap.back = sym (times_order q x.back.tree) ∙ ap (λ z. times_in q z) x.back.held.order in
+        omega (arith, a, b, distinct_times (insert gap p) x.distinct q, times_append q gap.front (p ∷ gap.back))
+
+    pub joinable_pair : {one two : Option Place} → one ≡ left → two ≡ right → ArePair n v one p two joinable
+    joinable_pair e f = record {
+      held = record {
+        are = (x.linked, (x.front.held.entries, (x.back.held.entries, tt)));
+        once = joinable_once;
+        beside = λ q none. refl;
+        linked = λ q. refl;
+        extent = refl;
+      };
+      one_is = e ∙ x.front.starts;
+      two_is = f ∙ x.back.starts;
+      one_right = x.front.shape;
+      two_right = x.back.shape;
+    }
+
+    -- and out of them
+    pub joined : {w : Table E} {root : Option Place} → Shown n v w root (in_order x.front.tree ++ p ∷ in_order x.back.tree) [] → Shown n v w root (insert gap p) []
+    joined {w} {root} h =
+        let same : in_order x.front.tree ++ p ∷ in_order x.back.tree ≡ insert gap p =
+        ap (λ (z : List Place). z ++ p ∷ in_order x.back.tree) x.front.held.order ∙ ap (λ (z : List Place). gap.front ++ p ∷ z) x.back.held.order in
+        subst (λ z. Shown n v w root z []) same h
+
+  -- A PLACE THAT HAS JUST BEEN LINKED can stand between them
+  pub can_join : {old : Table E} (linked : E → Bool) → ((e : E) → (n e).linked ≡ linked e) → IsUnlinked linked old p → IsLinked linked v p → ChangesOnly old v p
+      → ShowsParts n old left right gap → CanJoin n v left p right gap
+  can_join {old} linked alike was is only h =
+      let free = alike (old.entry p) ∙ was in
+      let out = free_absent h.front free in
+      let out_back = free_absent h.back free in
+      record {
+        front = shows_beside h.front out only.others;
+        back = shows_beside h.back out_back only.others;
+        linked = alike (v.entry p) ∙ is;
+        distinct = distinct_insert gap.front gap.back p h.distinct (absent_both p gap.front gap.back out out_back);
+      }
+
+module _ {E : Type 0} (n : E → Node) {v : Table E} {left right : Option Place} {gap : Cut} (x : ShowsParts n v left right gap) where
+  -- the second tree beside the first,
+  pub beside_shown : Shown n v v right gap.back (below None x.front.tree ∷ [])
+  beside_shown = record {
+    tree = x.back.tree;
+    stands = record {
+      are = ((tt, x.back.starts), (x.back.held.entries, (x.front.held.entries, tt)));
+      once = once;
+      beside = λ q none. refl;
+      linked = λ q. refl;
+      extent = refl;
+    };
+    order = x.back.held.order;
+    shape = x.back.shape;
+  } where
+    once : (q : Place) → 0 + (times q x.back.tree + (times q x.front.tree + 0)) ≤ 1
+    once q =
+        let a : times q x.front.tree ≡ times_in q gap.front = sym (times_order q x.front.tree) ∙ ap (λ z. times_in q z) x.front.held.order in
+        let b : times q x.back.tree ≡ times_in q gap.back = sym (times_order q x.back.tree) ∙ ap (λ z. times_in q z) x.back.held.order in
+        omega (arith, a, b, distinct_times (join gap) x.distinct q, times_append q gap.front gap.back)
+
+  -- with its first member
+  pub first_there : {o : Option Place} {p : Place} → ((g : Cut) → Shows n v right (join g) → IsBeside Right g None → IsBeside Left g o) → o ≡ Some p → gap.back ≡ p ∷ drop 1 gap.back
+  first_there {o} {p} leads is = first_is gap.back (sym is ∙ leads (at_front gap.back) x.back refl)
+
+  pub none_there : {o : Option Place} → ((g : Cut) → Shows n v right (join g) → IsBeside Right g None → IsBeside Left g o) → o ≡ None → gap.back ≡ []
+  none_there {o} leads is = nothing_first gap.back (sym is ∙ leads (at_front gap.back) x.back refl)
+
+  pub first_shown : {p : Place} → gap.back ≡ p ∷ drop 1 gap.back → Shown n v v right (p ∷ drop 1 gap.back) (below None x.front.tree ∷ [])
+  first_shown {p} is = subst (λ z. Shown n v v right z (below None x.front.tree ∷ [])) is beside_shown
+
+  -- WITHOUT THAT, a pair
+  module _ {w : Table E} {new_right : Option Place} {p : Place} (h : Shown n v w new_right (drop 1 gap.back) (loose p ∷ below None x.front.tree ∷ [])) where
+    abbrev pub rest_joinable : Pair E
+    rest_joinable = record { base = v; one = x.front.tree; two = h.tree; pieces = [] }
+
+    pub rest_pair : {one two : Option Place} → one ≡ left → two ≡ new_right → ArePair n w one p two rest_joinable
+    rest_pair e f = record {
+      held = regroup n (loose p ∷ below None x.front.tree ∷ below None h.tree ∷ []) h.stands (λ q. omega arith) (h.stands.are.1.1.0, (h.stands.are.1.1.1.0, (h.stands.are.1.0, tt)));
+      one_is = e ∙ x.front.starts;
+      two_is = f ∙ h.stands.are.0.1;
+      one_right = x.front.shape;
+      two_right = h.shape;
+    }
+
+    -- and all together
+    pub appends : {u : Table E} {root : Option Place} → gap.back ≡ p ∷ drop 1 gap.back → Shown n v u root (in_order x.front.tree ++ p ∷ in_order h.tree) [] → Appends n v u root gap
+    appends {u} {root} is k =
+        let same : in_order x.front.tree ++ p ∷ in_order h.tree ≡ join gap =
+        ap (λ (z : List Place). z ++ p ∷ in_order h.tree) x.front.held.order ∙ ap (λ (z : List Place). gap.front ++ p ∷ z) h.order ∙ ap (λ (z : List Place). gap.front ++ z) (sym is) in
+        record {
+          shows = subst (λ z. Shows n u root z) same (shows_of n k);
+          frame = record {
+            extent = k.stands.extent;
+            others = λ q out.
+                let none : times q k.tree ≡ 0 = sym (times_order q k.tree) ∙ (ap (λ z. times_in q z) (k.order ∙ same) ∙ absent_times q (join gap) out) in
+                k.stands.beside q (omega (arith, none));
+          };
+        }
+
+  pub no_root_there : gap.back ≡ [] → right ≡ None
+  no_root_there none = x.back.starts ∙ ap top (leaf_is x.back.tree (x.back.held.order ∙ none))
+
+  -- nothing is appended
+  pub appends_none : gap.back ≡ [] → Appends n v v left gap
+  appends_none none =
+      let same : gap.front ≡ join gap = sym (append-nil gap.front) ∙ ap (λ (z : List Place). gap.front ++ z) (sym none) in
+      record { shows = subst (λ z. Shows n v left z) same x.front; frame = record { extent = refl; others = λ q out. refl } }

@@ -1,0 +1,103 @@
+-- A place comes into a tree, with another tree below it.
+use Rattle.std.specs.Prelude.{◌≡◌, ℕ, ◌≤◌, true, Option, None, List, [], ◌∷◌}
+use Rattle.ic_unsafe_ref.specs.declared.place.Place.{Place}
+use Rattle.ic_link_ops.specs.declared.color.Color.TheVariants.{Red, Black}
+use Rattle.ic_link_ops.specs.declared.side.Side.{Side}
+use Rattle.ic_link_ops.specs.Sequences.{Cut, join, insert, IsDistinct}
+use Rattle.ic_link_ops.specs.Tables.{Table, KeepsBeside}
+use Rattle.ic_link_ops.specs.Trees.{Tree, top, in_order}
+use Rattle.ic_link_ops.specs.Shape.{top_color, blacks, IsRight}
+use Rattle.ic_link_ops.specs.RedBlackTree.{Node, IsTree, Shows}
+use Rattle.ic_link_ops.specs.Frames.{Frame, branch, plug, above}
+use Rattle.ic_rbtree.specs.Pieces.{Piece, loose, below, around, Held, Stands, Shown}
+use Rattle.ic_rbtree.specs.Removal.{IsOn}
+use Rattle.ic_rbtree.specs.Sides.{beyond}
+
+-- what the table was, the frames of the taller tree above its subtree `near`, and the other tree, `far`, which is as high in black members
+pub record Graft (E : Type 0) : Type 0 where
+  pub base : Table E
+  pub frames : List Frame
+  pub near : Tree
+  pub far : Tree
+  pub pieces : List Piece
+
+module _ {E : Type 0} (n : E → Node) where
+  pub record IsGraft (v : Table E) (root parent : Option Place) (d : Side) (near : Option Place) (p : Place) (far : Option Place) (k : Graft E) : Type 0 where
+    pub held : Held n k.base v (loose p ∷ around root k.frames (top k.near) ∷ below (above k.frames) k.near ∷ below None k.far ∷ k.pieces)
+    pub parent_is : parent ≡ above k.frames
+    pub near_is : near ≡ top k.near
+    pub far_is : far ≡ top k.far
+    pub side_is : IsOn d k.frames
+    pub same : blacks k.near ≡ blacks k.far
+    pub black : top_color k.near ≡ Black
+    pub right : IsRight (plug k.frames k.near)
+    pub far_right : IsRight k.far
+
+  -- p has come in between both
+  abbrev pub Grafts : Table E → Table E → Option Place → Option Place → Option Place → Side → Option Place → Place → Option Place → Type 0
+  Grafts v w root new_root parent d near p far =
+      (k : Graft E) → IsGraft v root parent d near p far k → Shown n k.base w new_root (in_order (plug k.frames (branch d Red k.far p k.near))) k.pieces
+
+  -- the place is the root of a tree; and this is how many black members it has on a way down
+  abbrev pub IsRootOf : Table E → Option Place → Tree → Type 0
+  IsRootOf v o t = (up : Option Place) × IsTree n v.entry up t × (o ≡ top t)
+
+  -- DOWN A SIDE of the tree t: `near` stands below `parent`, nothing is beyond it on that side, and it has so many black members
+  pub record IsSpine (base v : Table E) (root : Option Place) (d : Side) (t : Tree) (ps : List Piece) (near parent : Option Place) (count : ℕ) (gs : List Frame) (u : Tree) : Type 0 where
+    pub stands : Stands n base v root gs u ps
+    pub same : plug gs u ≡ t
+    pub near_is : near ≡ top u
+    pub parent_is : parent ≡ above gs
+    pub side_is : IsOn d gs
+    pub nothing : beyond d gs ≡ []
+    pub blacks_are : blacks u ≡ count
+
+  -- with a black top
+  abbrev pub EndsBlack : Table E → Table E → Option Place → Side → Tree → List Piece → Option Place → Option Place → ℕ → Type 0
+  EndsBlack base v root d t ps near parent count =
+      (gs : List Frame) × (u : Tree) × IsSpine base v root d t ps near parent count gs u × (top_color u ≡ Black)
+
+-- two trees
+pub record Pair (E : Type 0) : Type 0 where
+  pub base : Table E
+  pub one : Tree
+  pub two : Tree
+  pub pieces : List Piece
+
+module _ {E : Type 0} (n : E → Node) where
+  -- TWO TREES of the right shape, and a linked place on its own
+  pub record ArePair (v : Table E) (one : Option Place) (p : Place) (two : Option Place) (k : Pair E) : Type 0 where
+    pub held : Held n k.base v (loose p ∷ below None k.one ∷ below None k.two ∷ k.pieces)
+    pub one_is : one ≡ top k.one
+    pub two_is : two ≡ top k.two
+    pub one_right : IsRight k.one
+    pub two_right : IsRight k.two
+
+  -- the first of them is at least as high as the other, in black members
+  pub record AreHigh (v : Table E) (one : Option Place) (p : Place) (two : Option Place) (high low : ℕ) (k : Pair E) : Type 0 where
+    pub pair : ArePair v one p two k
+    pub high_is : high ≡ blacks k.one
+    pub low_is : low ≡ blacks k.two
+    pub lower : low ≤ high
+
+  -- TWO TREES CAN BE JOINED with p between them: p is linked, and no place stands twice in all
+  pub record CanJoin (v : Table E) (left : Option Place) (p : Place) (right : Option Place) (gap : Cut) : Type 0 where
+    pub front : Shows n v left gap.front
+    pub back : Shows n v right gap.back
+    pub linked : (n (v.entry p)).linked ≡ true
+    pub distinct : IsDistinct (insert gap p)
+
+  -- THE TABLE SHOWS TWO PARTS: the front for the one tree and the back for the other, and no place stands in both
+  pub record ShowsParts (v : Table E) (left right : Option Place) (gap : Cut) : Type 0 where
+    pub front : Shows n v left gap.front
+    pub back : Shows n v right gap.back
+    pub distinct : IsDistinct (join gap)
+
+  -- it shows some for them
+  abbrev pub ShowsPartsSome : Table E → Option Place → Option Place → Type 0
+  ShowsPartsSome v left right = (gap : Cut) × ShowsParts v left right gap
+
+  -- THE PARTS ARE ONE TREE, and nothing but entries of their members is changed
+  pub record Appends (v w : Table E) (root : Option Place) (gap : Cut) : Type 0 where
+    pub shows : Shows n w root (join gap)
+    pub frame : KeepsBeside v w (join gap)

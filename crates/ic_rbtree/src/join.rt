@@ -1,0 +1,84 @@
+//! Two trees become one.
+//!
+//! ```text
+//! early.append(&mut links, &mut late);            // all of `late` behind all of `early`; `late` is empty now
+//! early.join(&mut links, object, &mut later)?;    // the object behind them, and then all of `later`
+//! ```
+
+ghost use Rattle.std.specs.Prelude.{◌≡◌, None, OnOk, OnErr, IfErr, [], ◌∷◌};
+ghost use Rattle.ic_link_ops.specs.Edits.{Inserts};
+ghost use Rattle.ic_link_ops.specs.LinkSteps.{acquires};
+ghost use Rattle.ic_link_ops.specs.RedBlackTree.{Shows};
+ghost use Rattle.ic_link_ops.specs.Sequences.{Cut};
+ghost use Rattle.ic_link_ops.specs.Tables.{IsCovered};
+ghost use Rattle.ic_rbtree.specs.Closed.{KeepsNodes};
+ghost use Rattle.ic_rbtree.specs.Join.{ShowsParts, ShowsPartsSome, Appends};
+ghost use Rattle.ic_rbtree.specs.Tree.{root_of, adapter_of};
+
+pub(crate) mod roots;
+
+use crate::join::roots::join;
+use crate::nodes::Nodes;
+use crate::{KeyAdapter, RBTree};
+use ic_link_ops::rbtree::RBTreeOps;
+use ic_link_ops::{AlreadyLinked, LinkOps, PlaceWord, Side};
+use ic_unsafe_ref::UnsafeRef;
+
+impl<A> RBTree<A> {
+    /// Moves all members of `other` behind those of this tree, in their order, and leaves `other` empty. It looks at no key.
+    ///
+    /// It requires that the two trees share no member. Trees that share none with either stay, and no link is acquired or released. It
+    /// appends as `LinkedList::append` of std does; `BTreeMap::append` puts each entry where its key belongs. O(log n).
+    pub fn append<N: Nodes>(&mut self, nodes: &mut N, other: &mut RBTree<A>)
+        requires shown { ShowsPartsSome N.node (N.table nodes.old) (root_of self.old) (root_of other.old) }
+        ensures appended { (gap : Cut) → ShowsParts N.node (N.table nodes.old) (root_of self.old) (root_of other.old) gap
+            → Appends N.node (N.table nodes.old) (N.table nodes.new) (root_of self.new) gap }
+        ensures emptied { root_of other.new ≡ None }
+        ensures linked { KeepsNodes N.node (N.table nodes.old) (N.table nodes.new) }
+        ensures quiet { N.Quiet nodes.old nodes.new }
+        ensures adapter { adapter_of self.new ≡ adapter_of self.old }
+        ensures other_adapter { adapter_of other.new ≡ adapter_of other.old }
+    {
+        let Some(place) = other.step(&*nodes, None, Side::Right) else {
+            return;
+        };
+        other.unlink(nodes, place);
+        let root = join(nodes, self.root.get(), place, other.root.get());
+        self.root = PlaceWord::of(root);
+        other.root = PlaceWord::of(None);
+    }
+}
+
+impl<A: KeyAdapter> RBTree<A> {
+    /// Puts the object behind all members of this tree and moves all of `other` behind it, unless the object's link is refused. `other`
+    /// is empty then. It looks at no key.
+    ///
+    /// It requires that the object's place is covered, and that the two trees share no member. A refused object comes back, and both
+    /// trees and their links are as they were. O(log n).
+    pub fn join<L: RBTreeOps>(
+        &mut self,
+        links: &mut L,
+        object: UnsafeRef<A::Value>,
+        other: &mut RBTree<A>,
+    ) -> Result<(), AlreadyLinked<A::Value>>
+        requires covered { IsCovered (L.table links.old) object }
+        requires shown { ShowsPartsSome L.node (L.table links.old) (root_of self.old) (root_of other.old) }
+        ensures joined { (gap : Cut) → ShowsParts L.node (L.table links.old) (root_of self.old) (root_of other.old) gap → OnOk result
+            (Inserts (Shows L.node) (L.table links.old) (L.table links.new) (root_of self.new) gap object) }
+        ensures emptied { OnOk result (root_of other.new ≡ None) }
+        ensures acquired { OnOk result (L.Does links.old links.new (acquires object ∷ [])) }
+        ensures adapter { adapter_of self.new ≡ adapter_of self.old }
+        ensures other_adapter { adapter_of other.new ≡ adapter_of other.old }
+        ensures refused { OnErr result (L.Refused links.old links.new object) }
+        ensures unchanged { IfErr result (λ refused. (refused.0 ≡ object) × (self.new ≡ self.old) × (other.new ≡ other.old)) }
+    {
+        let place = object.place();
+        if !links.acquire_link(place) {
+            return Err(AlreadyLinked(object));
+        }
+        let root = join(links, self.root.get(), place, other.root.get());
+        self.root = PlaceWord::of(root);
+        other.root = PlaceWord::of(None);
+        Ok(())
+    }
+}

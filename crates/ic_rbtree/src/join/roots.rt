@@ -1,0 +1,164 @@
+//! Trees by their roots: two of them and a linked place between them become one.
+//!
+//! ```text
+//! let root = join(nodes, left, place, right); // O(log n), and no look at a key
+//! ```
+
+ghost use Rattle.std.specs.Prelude.{◌≡◌, ◌≤◌, ◌<◌, ◌++◌, ◌∷◌, [], List, Option, Some};
+ghost use Rattle.ic_unsafe_ref.specs.declared.place.Place.{Place};
+ghost use Rattle.ic_rbtree.specs.Closed.{IsNode, KeepsNodes};
+ghost use Rattle.ic_link_ops.specs.Frames.{branch};
+ghost use Rattle.ic_link_ops.specs.RedBlackTree.{node_at};
+ghost use Rattle.ic_link_ops.specs.Shape.{weight, blacks, IsRight};
+ghost use Rattle.ic_link_ops.specs.Tables.{Table};
+ghost use Rattle.ic_link_ops.specs.Trees.{Tree, in_order};
+ghost use Rattle.ic_link_ops.specs.declared.color.Color.TheVariants.{Red};
+ghost use Rattle.ic_rbtree.specs.Height.{height, turns};
+ghost use Rattle.ic_rbtree.specs.Join.{Graft, IsGraft, Grafts, IsRootOf, EndsBlack, Pair, ArePair, AreHigh};
+ghost use Rattle.ic_rbtree.specs.Pieces.{Piece, Stands, Shown};
+
+use crate::nodes::Nodes;
+use crate::readings::{child, other};
+use crate::repair::TURNS;
+use crate::repair::insertion::insert_fixup;
+use crate::repair::writers::{adopt, set_child, set_color, set_parent};
+use ic_link_ops::{Color, PlaceWord, Side};
+use ic_unsafe_ref::Place;
+
+// The linked place comes in where `near` stands on this side of `parent`, with `near` below it and `far`, a tree of its own, on this side
+// of it. The colors are repaired.
+pub(crate) fn graft<N: Nodes>(
+    links: &mut N,
+    root: &mut PlaceWord,
+    parent: Option<Place>,
+    side: Side,
+    near: Option<Place>,
+    place: Place,
+    far: Option<Place>,
+)
+    requires { (k : Graft N.Entry) × IsGraft N.node (N.table links.old) root.old parent side near place far k }
+    ensures grafted { Grafts N.node (N.table links.old) (N.table links.new) root.old root.new parent side near place far }
+    ensures linked { KeepsNodes N.node (N.table links.old) (N.table links.new) }
+    ensures quiet { N.Quiet links.old links.new }
+{
+    set_child(links, place, side, far);
+    set_child(links, place, other(side), near);
+    set_parent(links, place, parent);
+    adopt(links, near, Some(place));
+    adopt(links, far, Some(place));
+    match parent {
+        None => {
+            set_color(links, place, Color::Black);
+            *root = PlaceWord::of(Some(place));
+        }
+        Some(parent) => {
+            set_color(links, place, Color::Red);
+            set_child(links, parent, side, Some(place));
+            insert_fixup(links, root, place);
+        }
+    }
+}
+
+// 1 for a black member.
+fn weight_of<N: Nodes>(links: &N, place: Place) -> u32
+    requires { IsNode N.node (N.table links.now) place }
+    ensures { result ≡ weight (node_at N.node (N.table links.now) place).color }
+{
+    match links.color(place) {
+        Color::Red => 0,
+        Color::Black => 1,
+    }
+}
+
+// How many black members stand on a way down.
+pub(crate) fn black_height<N: Nodes>(links: &N, root: Option<Place>) -> u32
+    requires { (t : Tree) × IsRootOf N.node (N.table links.now) root t × (height t < turns) }
+    ensures { (t : Tree) → IsRootOf N.node (N.table links.now) root t → height t < turns → result ≡ blacks t }
+{
+    let mut at = root;
+    let mut count = 0;
+    for _ in 0..TURNS {
+        let Some(place) = at else {
+            return count;
+        };
+        count += weight_of(links, place);
+        at = links.left(place);
+    }
+    count
+}
+
+// Goes down on this side to the first black subtree, or missing child, with `want` black members on a way down, of `count` from the root,
+// and says what stands there, and below which member.
+pub(crate) fn descend_spine<N: Nodes>(
+    links: &N,
+    root: Option<Place>,
+    side: Side,
+    count: u32,
+    want: u32,
+) -> (Option<Place>, Option<Place>)
+    requires { (base : Table N.Entry) × (t : Tree) × (ps : List Piece) × Stands N.node base (N.table links.now) root [] t ps × IsRight t
+        × (count ≡ blacks t) × (want ≤ count) }
+    ensures { (base : Table N.Entry) (t : Tree) (ps : List Piece) → Stands N.node base (N.table links.now) root [] t ps → IsRight t
+        → count ≡ blacks t → want ≤ count → EndsBlack N.node base (N.table links.now) root side t ps result.0 result.1 want }
+{
+    let mut at = root;
+    let mut above = None;
+    let mut count = count;
+    for _ in 0..TURNS {
+        let Some(place) = at else {
+            return (at, above);
+        };
+        let weight = weight_of(links, place);
+        if weight == 1 && count == want {
+            return (at, above);
+        }
+        above = at;
+        count -= weight;
+        at = child(links, place, side);
+    }
+    (at, above)
+}
+
+// Joins two trees, of which the first is at least as high, with a linked place between them: the first stands on the other side of it.
+pub(crate) fn join_higher<N: Nodes>(
+    links: &mut N,
+    tall: Option<Place>,
+    high: u32,
+    side: Side,
+    place: Place,
+    low: Option<Place>,
+    height: u32,
+) -> Option<Place>
+    requires { (k : Pair N.Entry) × AreHigh N.node (N.table links.old) tall place low high height k }
+    ensures joined { (k : Pair N.Entry) → AreHigh N.node (N.table links.old) tall place low high height k
+        → Shown N.node k.base (N.table links.new) result (in_order (branch side Red k.two place k.one)) k.pieces }
+    ensures linked { KeepsNodes N.node (N.table links.old) (N.table links.new) }
+    ensures quiet { N.Quiet links.old links.new }
+{
+    let (near, parent) = descend_spine(&*links, tall, side, high, height);
+    let mut root = PlaceWord::of(tall);
+    graft(links, &mut root, parent, side, near, place, low);
+    root.get()
+}
+
+// Joins two trees with a linked place between them.
+pub(crate) fn join<N: Nodes>(
+    links: &mut N,
+    left: Option<Place>,
+    place: Place,
+    right: Option<Place>,
+) -> Option<Place>
+    requires { (k : Pair N.Entry) × ArePair N.node (N.table links.old) left place right k }
+    ensures joined { (k : Pair N.Entry) → ArePair N.node (N.table links.old) left place right k
+        → Shown N.node k.base (N.table links.new) result (in_order k.one ++ place ∷ in_order k.two) k.pieces }
+    ensures linked { KeepsNodes N.node (N.table links.old) (N.table links.new) }
+    ensures quiet { N.Quiet links.old links.new }
+{
+    let high = black_height(&*links, left);
+    let low = black_height(&*links, right);
+    if low <= high {
+        join_higher(links, left, high, Side::Right, place, right, low)
+    } else {
+        join_higher(links, right, low, Side::Left, place, left, high)
+    }
+}
