@@ -23,6 +23,7 @@ pub mod ShownClosed
 pub mod Graft
 pub mod Spine
 pub mod Pairs
+pub mod Cuts
 pub mod Heights
 pub mod Climbed
 pub mod Laws

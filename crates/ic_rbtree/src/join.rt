@@ -1,13 +1,16 @@
-//! Two trees become one.
+//! Two trees become one, and one becomes two.
 //!
 //! ```text
 //! early.append(&mut links, &mut late);            // all of `late` behind all of `early`; `late` is empty now
 //! early.join(&mut links, object, &mut later)?;    // the object behind them, and then all of `later`
+//! let later = early.split_off(&mut links, &object); // the object, and all behind it
 //! ```
 
-ghost use Rattle.std.specs.Prelude.{◌≡◌, None, OnOk, OnErr, IfErr, [], ◌∷◌};
-ghost use Rattle.ic_link_ops.specs.Edits.{Inserts};
+ghost use Rattle.std.specs.Prelude.{◌≡◌, None, OnOk, OnErr, IfErr, List, [], ◌∷◌, ◌++◌};
+ghost use Rattle.ic_unsafe_ref.specs.declared.place.Place.{Place};
+ghost use Rattle.ic_link_ops.specs.Edits.{Inserts, Splits};
 ghost use Rattle.ic_link_ops.specs.LinkSteps.{acquires};
+ghost use Rattle.ic_link_ops.specs.Positions.{HasMember};
 ghost use Rattle.ic_link_ops.specs.RedBlackTree.{Shows};
 ghost use Rattle.ic_link_ops.specs.Sequences.{Cut};
 ghost use Rattle.ic_link_ops.specs.Tables.{IsCovered};
@@ -15,10 +18,13 @@ ghost use Rattle.ic_rbtree.specs.Closed.{KeepsNodes};
 ghost use Rattle.ic_rbtree.specs.Join.{ShowsParts, ShowsPartsSome, Appends};
 ghost use Rattle.ic_rbtree.specs.Tree.{root_of, adapter_of};
 
+pub(crate) mod cut;
 pub(crate) mod roots;
 
+use crate::join::cut::cut_at;
 use crate::join::roots::join;
 use crate::nodes::Nodes;
+use crate::steps::hole_beside;
 use crate::{KeyAdapter, RBTree};
 use ic_link_ops::rbtree::RBTreeOps;
 use ic_link_ops::{AlreadyLinked, LinkOps, PlaceWord, Side};
@@ -80,5 +86,29 @@ impl<A: KeyAdapter> RBTree<A> {
         self.root = PlaceWord::of(root);
         other.root = PlaceWord::of(None);
         Ok(())
+    }
+
+    /// Keeps the members in front of the object, which has to be a member, and hands out the object and all behind it, as a tree with
+    /// the same adapter. It looks at no key, and no link is acquired or released.
+    ///
+    /// Trees that share no member with this one stay. O(log n * log n): it joins O(log n) subtrees, and counts the black members of a way
+    /// down each.
+    pub fn split_off<L: RBTreeOps>(
+        &mut self,
+        links: &mut L,
+        object: &UnsafeRef<A::Value>,
+    ) -> RBTree<A>
+        requires member { HasMember (Shows L.node (L.table links.old) (root_of self.old)) object.now }
+        ensures split { (front back : List Place) → Shows L.node (L.table links.old) (root_of self.old) (front ++ object.now ∷ back)
+            → Splits (Shows L.node) (L.table links.old) (L.table links.new) (root_of self.new) (root_of result) front (object.now ∷ back) }
+        ensures no_step { L.Does links.old links.new [] }
+        ensures adapter { adapter_of self.new ≡ adapter_of self.old }
+        ensures rest_adapter { adapter_of result ≡ adapter_of self.old }
+    {
+        let at = Some(object.place());
+        let (parent, side) = hole_beside(&*links, self.root.get(), at, Side::Left);
+        let (front, back) = cut_at(links, parent, side);
+        self.root = PlaceWord::of(front);
+        RBTree::from_root(self.adapter, back)
     }
 }

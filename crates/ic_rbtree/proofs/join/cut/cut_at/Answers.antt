@@ -1,0 +1,56 @@
+use Rattle.std.proofs.Common.{Some, length, sym, ap, ◌∙◌, arith}
+use Rattle.ic_rbtree.proofs.Cuts.{lowest, lowest_node, upper_node, next_parent, next_side, begins, ends}
+use Rattle.ic_rbtree.proofs.join.cut.cut_at.Goals as goal
+
+pub loop-init : goal.loop-init
+loop-init g c = record { each = λ base root gap ps h at. begins g.N.Nodes.node c.args.parent h at; quiet = g.met.N.Nodes.quiet_still _ }
+
+pub returns-in_default-clause-cut : goal.returns-in_default-clause-cut
+returns-in_default-clause-cut g c base root gap ps h at = let i = c.loop.invariant.each base root gap ps h at in ends g.N.Nodes.node c.in_default.is i.5
+
+pub parent-at-requires : goal.parent-at-requires
+parent-at-requires g c =
+    let r = c.requires in
+    let i = c.loop.invariant.each r.0 r.1 r.2 r.3 r.4 r.5 in
+    let low = lowest i.0 c.loop.side c.in-Some.place (sym c.in-Some.is ∙ i.5.parent_is) i.5.side_is in
+    record { linked = lowest_node g.N.Nodes.node i.5.cut c.loop.side low.0 c.in-Some.place low.1 low.2 low.3 }
+
+pub side_below-above-requires : goal.side_below-above-requires
+side_below-above-requires g c =
+    let n = g.N.Nodes.node in
+    let r = c.requires in
+    let i = c.loop.invariant.each r.0 r.1 r.2 r.3 r.4 r.5 in
+    let low = lowest i.0 c.loop.side c.in-Some.place (sym c.in-Some.is ∙ i.5.parent_is) i.5.side_is in
+    upper_node n i.5.cut c.loop.side low.0 c.in-Some.place low.1 low.2 low.3 (next_parent n i.5.cut c.loop.side low.0 c.in-Some.place low.1 low.2 low.3 c.parent-at.ensures)
+
+pub cut_off-parts-requires : goal.cut_off-parts-requires
+cut_off-parts-requires g c =
+    let r = c.requires in
+    let i = c.loop.invariant.each r.0 r.1 r.2 r.3 r.4 r.5 in
+    (r.1, _, record { cut = i.5.cut; parent_is = sym c.in-Some.is ∙ i.5.parent_is; side_is = i.5.side_is })
+
+pub loop-preserved : goal.loop-preserved
+loop-preserved g c = record {
+  each = λ base root gap ps h at.
+      let n = g.N.Nodes.node in
+      let i = c.loop.invariant.each base root gap ps h at in
+      let low = lowest i.0 c.loop.side c.in-Some.place (sym c.in-Some.is ∙ i.5.parent_is) i.5.side_is in
+      let cut = c.cut_off-parts.ensures.cut root _ low.0 low.1 low.2 low.3 i.5.cut in
+      let up = next_parent n i.5.cut c.loop.side low.0 c.in-Some.place low.1 low.2 low.3 c.parent-at.ensures in (
+        low.2,
+        Some c.in-Some.place,
+        _,
+        cut.0,
+        cut.1,
+        record {
+          cut = cut.2;
+          parent_is = up;
+          side_is = next_side n i.5.cut c.loop.side low.0 c.in-Some.place low.1 low.2 low.3 c.side_below-above.result (λ q e. c.side_below-above.ensures q (up ∙ e));
+        },
+        omega (arith, i.6, ap length low.3),
+      );
+  quiet = g.met.N.Nodes.quiet_on _ _ _ c.loop.invariant.quiet c.cut_off-parts.ensures.quiet;
+}
+
+pub returns-clause-cut : goal.returns-clause-cut
+returns-clause-cut g c base root gap ps h at = let i = c.loop.invariant.each base root gap ps h at in absurd (omega (arith, i.6))
