@@ -1,0 +1,2 @@
+pub mod EndsKept
+pub mod HoleFits

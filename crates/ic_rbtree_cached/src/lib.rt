@@ -1,0 +1,18 @@
+//! A red-black tree that keeps its first and its last member beside its root.
+//!
+//! ```text
+//! let mut timers = RBTreeCached::new(ByDeadline);
+//! timers.insert(&mut links, &objects, timer)?; // one look where it goes behind all others
+//! let due = timers.pop_front(&mut links);      // no descent
+//! ```
+//!
+//! It stands over the tables of [`ic_rbtree`]. A search, a walk or a cursor that reads is one of the tree without ends, which
+//! [`RBTreeCached::tree`] lends.
+#![tactic(auto)]
+
+mod ends;
+mod hole;
+mod insert;
+mod tree;
+
+pub use tree::RBTreeCached;
