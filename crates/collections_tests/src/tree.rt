@@ -1,5 +1,6 @@
 //! The red-black tree.
 
+mod cached;
 mod cursors;
 mod keys;
 pub(crate) mod trees;

@@ -1,5 +1,5 @@
 -- A place comes into a tree with another tree below it, write by write.
-use Rattle.std.proofs.Common.{◌≡◌, ◌+◌, Option, Some, None, List, [], ◌∷◌, ◌++◌, refl, sym, ◌∙◌, subst, arith}
+use Rattle.std.proofs.Common.{◌≡◌, ◌+◌, Bool, true, Option, Some, None, List, [], ◌∷◌, ◌++◌, refl, sym, ◌∙◌, subst, arith}
 use Rattle.ic_unsafe_ref.specs.declared.place.Place.{Place}
 use Rattle.ic_link_ops.specs.declared.color.Color.{Color}
 use Rattle.ic_link_ops.specs.declared.color.Color.TheVariants.{Red, Black}
@@ -11,6 +11,7 @@ use Rattle.ic_link_ops.specs.Shape.{blacks, IsRight}
 use Rattle.ic_link_ops.specs.RedBlackTree.{Node}
 use Rattle.ic_link_ops.specs.Frames.{Frame, frame, with_child, branch, plug, above, before, after, across, child_on}
 use Rattle.ic_link_ops.proofs.SequenceLemmas.{none_not, some_same}
+use Rattle.ic_link_ops.proofs.Trees.{top_parent}
 use Rattle.ic_rbtree.specs.Closed.{IsNode, IsNamed, IsSafe}
 use Rattle.ic_rbtree.specs.Insertion.{RedAt}
 use Rattle.ic_rbtree.specs.Join.{Graft, IsGraft}
@@ -19,6 +20,7 @@ use Rattle.ic_rbtree.specs.Removal.{IsOn}
 use Rattle.ic_rbtree.specs.Shortage.{EvenAround}
 use Rattle.ic_rbtree.specs.Steps.{Adopts}
 use Rattle.ic_rbtree.proofs.Branches.{top_branch, side_loose}
+use Rattle.ic_rbtree.proofs.Closed.{read_in}
 use Rattle.ic_rbtree.proofs.Pieces.{regroup, set_near, set_far, set_up, set_tint}
 use Rattle.ic_rbtree.proofs.Removing.{order_around}
 use Rattle.ic_rbtree.proofs.InsertionShapes.{top_color_branch, blacks_branch, even_branch, pairs_branch, red_not_black}
@@ -135,13 +137,16 @@ module _ {E : Type 0} (n : E → Node) where
               order = refl;
             }
 
-  -- A RED MEMBER is in a closed set
-  pub red_safe : {v : Table E} {root : Option Place} {base : Table E} {s : List Place} {ps : List Piece} (fs : List Frame) (d : Side) (a : Tree) (p : Place) (b : Tree)
-      → RedAt n v root p (record { base = base; sequence = s; frames = fs; subtree = branch d Red a p b; pieces = ps }) → IsSafe n v root (Some p ∷ [])
-  red_safe {v} {root} {base} {s} {ps} fs d a p b h =
+  -- A RED MEMBER and its parent are in a closed set
+  pub red_safe : {v : Table E} {root parent : Option Place} {base : Table E} {s : List Place} {ps : List Piece} (fs : List Frame) (d : Side) (a : Tree) (p : Place) (b : Tree)
+      → RedAt n v root p (record { base = base; sequence = s; frames = fs; subtree = branch d Red a p b; pieces = ps }) → parent ≡ above fs → IsSafe n v root (Some p ∷ parent ∷ [])
+  red_safe {v} {root} {parent} {base} {s} {ps} fs d a p b h is =
       let order = by d in
+      let S : Place → Bool = λ q. among q (order.0 ++ p ∷ order.1) in
       let whole = stands_closed n (plug fs (branch d Red a p b)) order.2 (go_top n h.stands) in
-      ((λ q. among q (order.0 ++ p ∷ order.1)), whole, (among_there p order.0 order.1, tt))
+      let here : S p ≡ true = among_there p order.0 order.1 in
+      let up : (n (v.entry p)).parent ≡ above fs = top_parent n v.entry (above fs) (branch d Red a p b) p h.stands.are.1.0 h.top_is in
+      (S, whole, (here, (read_in S (whole.parent p here (λ e. none_not p e)) (is ∙ sym up), tt)))
     where
       by : (d : Side) → (front : List Place) × (back : List Place) × (in_order (plug fs (branch d Red a p b)) ≡ front ++ p ∷ back)
       by Left = (before fs ++ in_order a, in_order b ++ after fs, order_around fs Red a p b (before fs ++ in_order a) (in_order b ++ after fs) refl refl)

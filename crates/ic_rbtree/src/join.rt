@@ -14,7 +14,6 @@ ghost use Rattle.ic_link_ops.specs.Positions.{HasMember};
 ghost use Rattle.ic_link_ops.specs.RedBlackTree.{Shows};
 ghost use Rattle.ic_link_ops.specs.Sequences.{Cut};
 ghost use Rattle.ic_link_ops.specs.Tables.{IsCovered};
-ghost use Rattle.ic_rbtree.specs.Closed.{KeepsNodes};
 ghost use Rattle.ic_rbtree.specs.Join.{ShowsParts, ShowsPartsSome, Appends};
 ghost use Rattle.ic_rbtree.specs.Tree.{root_of, adapter_of};
 
@@ -40,7 +39,6 @@ impl<A> RBTree<A> {
         ensures appended { (gap : Cut) → ShowsParts N.node (N.table nodes.old) (root_of self.old) (root_of other.old) gap
             → Appends N.node (N.table nodes.old) (N.table nodes.new) (root_of self.new) gap }
         ensures emptied { root_of other.new ≡ None }
-        ensures linked { KeepsNodes N.node (N.table nodes.old) (N.table nodes.new) }
         ensures quiet { N.Quiet nodes.old nodes.new }
         ensures adapter { adapter_of self.new ≡ adapter_of self.old }
         ensures other_adapter { adapter_of other.new ≡ adapter_of other.old }

@@ -6,7 +6,7 @@
 
 ghost use Rattle.std.specs.Prelude.{◌≡◌, ◌≤◌, ◌<◌, ◌++◌, ◌∷◌, [], List, Option, Some};
 ghost use Rattle.ic_unsafe_ref.specs.declared.place.Place.{Place};
-ghost use Rattle.ic_rbtree.specs.Closed.{IsNode, KeepsNodes};
+ghost use Rattle.ic_rbtree.specs.Closed.{IsNode};
 ghost use Rattle.ic_link_ops.specs.Frames.{branch};
 ghost use Rattle.ic_link_ops.specs.RedBlackTree.{node_at};
 ghost use Rattle.ic_link_ops.specs.Shape.{weight, blacks, IsRight};
@@ -38,7 +38,6 @@ pub(crate) fn graft<N: Nodes>(
 )
     requires { (k : Graft N.Entry) × IsGraft N.node (N.table links.old) root.old parent side near place far k }
     ensures grafted { Grafts N.node (N.table links.old) (N.table links.new) root.old root.new parent side near place far }
-    ensures linked { KeepsNodes N.node (N.table links.old) (N.table links.new) }
     ensures quiet { N.Quiet links.old links.new }
 {
     set_child(links, place, side, far);
@@ -51,10 +50,10 @@ pub(crate) fn graft<N: Nodes>(
             set_color(links, place, Color::Black);
             *root = PlaceWord::of(Some(place));
         }
-        Some(parent) => {
+        Some(above) => {
             set_color(links, place, Color::Red);
-            set_child(links, parent, side, Some(place));
-            insert_fixup(links, root, place);
+            set_child(links, above, side, Some(place));
+            insert_fixup(links, root, place, parent);
         }
     }
 }
@@ -132,7 +131,6 @@ pub(crate) fn join_higher<N: Nodes>(
     requires { (k : Pair N.Entry) × AreHigh N.node (N.table links.old) tall place low high height k }
     ensures joined { (k : Pair N.Entry) → AreHigh N.node (N.table links.old) tall place low high height k
         → Shown N.node k.base (N.table links.new) result (in_order (branch side Red k.two place k.one)) k.pieces }
-    ensures linked { KeepsNodes N.node (N.table links.old) (N.table links.new) }
     ensures quiet { N.Quiet links.old links.new }
 {
     let (near, parent) = descend_spine(&*links, tall, side, high, height);
@@ -151,7 +149,6 @@ pub(crate) fn join<N: Nodes>(
     requires { (k : Pair N.Entry) × ArePair N.node (N.table links.old) left place right k }
     ensures joined { (k : Pair N.Entry) → ArePair N.node (N.table links.old) left place right k
         → Shown N.node k.base (N.table links.new) result (in_order k.one ++ place ∷ in_order k.two) k.pieces }
-    ensures linked { KeepsNodes N.node (N.table links.old) (N.table links.new) }
     ensures quiet { N.Quiet links.old links.new }
 {
     let high = black_height(&*links, left);

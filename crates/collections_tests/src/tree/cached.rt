@@ -1,0 +1,59 @@
+//! A tree that keeps its ends, as a queue.
+
+ghost use Rattle.std.specs.Prelude.{◌≡◌, true};
+ghost use Rattle.ic_unsafe_ref.specs.Objects.{is_placed};
+ghost use Rattle.ic_link_ops.specs.PlacedObjects.{ShowsPlaced};
+ghost use Rattle.ic_link_ops.specs.Tables.{IsCovered};
+ghost use Rattle.ic_rbtree_cached.specs.Ends.{ShowsCached, ShowsCachedSome};
+ghost use Rattle.ic_rbtree_cached.specs.Tree.{ends_of};
+
+use crate::fixtures::{eight_objects, reference};
+use crate::notes::{same, write_object, write_places};
+use crate::tree::trees::OwnKey;
+use ic_link_ops::LinkOps;
+use ic_link_ops::rbtree::RBTreeOps;
+use ic_rbtree_cached::RBTreeCached;
+use ic_test_support::notes::Text;
+use ic_unsafe_ref::{Objects, UnsafeRef};
+
+// Puts the object in where its key belongs, and notes the first member and the last one.
+fn write_inserted<L: RBTreeOps>(
+    notes: &mut Text,
+    tree: &mut RBTreeCached<OwnKey>,
+    links: &mut L,
+    objects: &Objects<u64>,
+    object: UnsafeRef<u64>,
+)
+    requires covered { IsCovered (L.table links.old) object }
+    requires object { is_placed objects.now object ≡ true }
+    requires placed { ShowsPlaced (ShowsCached L.node (L.table links.old) (ends_of tree.old)) objects.now }
+    ensures placed { ShowsPlaced (ShowsCached L.node (L.table links.new) (ends_of tree.new)) objects.now }
+    ensures extent { (L.table links.new).extent ≡ (L.table links.old).extent }
+{
+    let _ = tree.insert(links, objects, object);
+    write_places(notes, &[tree.first(), tree.last()]);
+}
+
+// Takes the first object off and the last one, and notes them and the ends that are left.
+fn write_taken<L: RBTreeOps>(notes: &mut Text, tree: &mut RBTreeCached<OwnKey>, links: &mut L)
+    requires shown { ShowsCachedSome L.node (L.table links.old) (ends_of tree.old) }
+{
+    let first = tree.pop_front(links);
+    let last = tree.pop_back(links);
+    write_object(notes, first);
+    write_object(notes, last);
+    write_places(notes, &[tree.front(links).get_ptr(), tree.back(links).get_ptr()]);
+}
+
+#[test]
+fn ends(rt: HostRuntime) {
+    let alloc = rt.alloc();
+    let mut notes = Text::new(alloc);
+    let (objects, mut links) = eight_objects(&rt, alloc);
+    let mut tree = RBTreeCached::new(OwnKey);
+    write_inserted(&mut notes, &mut tree, &mut links, &objects, reference(2));
+    write_inserted(&mut notes, &mut tree, &mut links, &objects, reference(4));
+    write_inserted(&mut notes, &mut tree, &mut links, &objects, reference(1));
+    write_taken(&mut notes, &mut tree, &mut links);
+    same(&rt, alloc, &notes, "2 2 2 4 1 4  1 4 2 2");
+}
