@@ -117,7 +117,7 @@ module _ {E : Type 0} (n : E → Node) {v : Table E} {left : Option Place} {p : 
 
   -- A PLACE THAT HAS JUST BEEN LINKED can stand between them
   pub can_join : {old : Table E} (linked : E → Bool) → ((e : E) → (n e).linked ≡ linked e) → IsUnlinked linked old p → IsLinked linked v p → ChangesOnly old v p
-      → ShowsParts n old left right gap → CanJoin n v left p right gap
+      → ShowsParts (Shows n) old left right gap → CanJoin n v left p right gap
   can_join {old} linked alike was is only h =
       let free = alike (old.entry p) ∙ was in
       let out = free_absent h.front free in
@@ -129,7 +129,7 @@ module _ {E : Type 0} (n : E → Node) {v : Table E} {left : Option Place} {p : 
         distinct = distinct_insert gap.front gap.back p h.distinct (absent_both p gap.front gap.back out out_back);
       }
 
-module _ {E : Type 0} (n : E → Node) {v : Table E} {left right : Option Place} {gap : Cut} (x : ShowsParts n v left right gap) where
+module _ {E : Type 0} (n : E → Node) {v : Table E} {left right : Option Place} {gap : Cut} (x : ShowsParts (Shows n) v left right gap) where
   -- the second tree beside the first,
   pub beside_shown : Shown n v v right gap.back (below None x.front.tree ∷ [])
   beside_shown = record {
@@ -175,7 +175,7 @@ module _ {E : Type 0} (n : E → Node) {v : Table E} {left right : Option Place}
     }
 
     -- and all together
-    pub appends : {u : Table E} {root : Option Place} → gap.back ≡ p ∷ drop 1 gap.back → Shown n v u root (in_order x.front.tree ++ p ∷ in_order h.tree) [] → Appends n v u root gap
+    pub appends : {u : Table E} {root : Option Place} → gap.back ≡ p ∷ drop 1 gap.back → Shown n v u root (in_order x.front.tree ++ p ∷ in_order h.tree) [] → Appends (Shows n) v u root gap
     appends {u} {root} is k =
         let same : in_order x.front.tree ++ p ∷ in_order h.tree ≡ join gap =
         ap (λ (z : List Place). z ++ p ∷ in_order h.tree) x.front.held.order ∙ ap (λ (z : List Place). gap.front ++ p ∷ z) h.order ∙ ap (λ (z : List Place). gap.front ++ z) (sym is) in
@@ -193,7 +193,7 @@ module _ {E : Type 0} (n : E → Node) {v : Table E} {left right : Option Place}
   no_root_there none = x.back.starts ∙ ap top (leaf_is x.back.tree (x.back.held.order ∙ none))
 
   -- nothing is appended
-  pub appends_none : gap.back ≡ [] → Appends n v v left gap
+  pub appends_none : gap.back ≡ [] → Appends (Shows n) v v left gap
   appends_none none =
       let same : gap.front ≡ join gap = sym (append-nil gap.front) ∙ ap (λ (z : List Place). gap.front ++ z) (sym none) in
       record { shows = subst (λ z. Shows n v left z) same x.front; frame = record { extent = refl; others = λ q out. refl } }

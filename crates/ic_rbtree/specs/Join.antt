@@ -87,17 +87,19 @@ module _ {E : Type 0} (n : E → Node) where
     pub linked : (n (v.entry p)).linked ≡ true
     pub distinct : IsDistinct (insert gap p)
 
+-- `Shows t head s`: the table shows s for the tree with this head
+module _ {E H : Type 0} (Shows : Table E → H → List Place → Type 0) where
   -- THE TABLE SHOWS TWO PARTS: the front for the one tree and the back for the other, and no place stands in both
-  pub record ShowsParts (v : Table E) (left right : Option Place) (gap : Cut) : Type 0 where
-    pub front : Shows n v left gap.front
-    pub back : Shows n v right gap.back
+  pub record ShowsParts (v : Table E) (left right : H) (gap : Cut) : Type 0 where
+    pub front : Shows v left gap.front
+    pub back : Shows v right gap.back
     pub distinct : IsDistinct (join gap)
 
   -- it shows some for them
-  abbrev pub ShowsPartsSome : Table E → Option Place → Option Place → Type 0
+  abbrev pub ShowsPartsSome : Table E → H → H → Type 0
   ShowsPartsSome v left right = (gap : Cut) × ShowsParts v left right gap
 
   -- THE PARTS ARE ONE TREE, and nothing but entries of their members is changed
-  pub record Appends (v w : Table E) (root : Option Place) (gap : Cut) : Type 0 where
-    pub shows : Shows n w root (join gap)
+  pub record Appends (v w : Table E) (head : H) (gap : Cut) : Type 0 where
+    pub shows : Shows w head (join gap)
     pub frame : KeepsBeside v w (join gap)

@@ -35,9 +35,9 @@ impl<A> RBTree<A> {
     /// It requires that the two trees share no member. Trees that share none with either stay, and no link is acquired or released. It
     /// appends as `LinkedList::append` of std does; `BTreeMap::append` puts each entry where its key belongs. O(log n).
     pub fn append<N: Nodes>(&mut self, nodes: &mut N, other: &mut RBTree<A>)
-        requires shown { ShowsPartsSome N.node (N.table nodes.old) (root_of self.old) (root_of other.old) }
-        ensures appended { (gap : Cut) → ShowsParts N.node (N.table nodes.old) (root_of self.old) (root_of other.old) gap
-            → Appends N.node (N.table nodes.old) (N.table nodes.new) (root_of self.new) gap }
+        requires shown { ShowsPartsSome (Shows N.node) (N.table nodes.old) (root_of self.old) (root_of other.old) }
+        ensures appended { (gap : Cut) → ShowsParts (Shows N.node) (N.table nodes.old) (root_of self.old) (root_of other.old) gap
+            → Appends (Shows N.node) (N.table nodes.old) (N.table nodes.new) (root_of self.new) gap }
         ensures emptied { root_of other.new ≡ None }
         ensures quiet { N.Quiet nodes.old nodes.new }
         ensures adapter { adapter_of self.new ≡ adapter_of self.old }
@@ -66,8 +66,8 @@ impl<A: KeyAdapter> RBTree<A> {
         other: &mut RBTree<A>,
     ) -> Result<(), AlreadyLinked<A::Value>>
         requires covered { IsCovered (L.table links.old) object }
-        requires shown { ShowsPartsSome L.node (L.table links.old) (root_of self.old) (root_of other.old) }
-        ensures joined { (gap : Cut) → ShowsParts L.node (L.table links.old) (root_of self.old) (root_of other.old) gap → OnOk result
+        requires shown { ShowsPartsSome (Shows L.node) (L.table links.old) (root_of self.old) (root_of other.old) }
+        ensures joined { (gap : Cut) → ShowsParts (Shows L.node) (L.table links.old) (root_of self.old) (root_of other.old) gap → OnOk result
             (Inserts (Shows L.node) (L.table links.old) (L.table links.new) (root_of self.new) gap object) }
         ensures emptied { OnOk result (root_of other.new ≡ None) }
         ensures acquired { OnOk result (L.Does links.old links.new (acquires object ∷ [])) }

@@ -1,4 +1,5 @@
 use Rattle.std.proofs.Common.{[], ◌∷◌, drop, sym, subst}
+use Rattle.ic_link_ops.specs.RedBlackTree.{Shows}
 use Rattle.ic_rbtree.specs.Join.{Appends}
 use Rattle.ic_rbtree.proofs.Pairs.{first_there, first_shown, none_there, beside_shown, rest_joinable, rest_pair, appends, appends_none, no_root_there}
 use Rattle.ic_rbtree.proofs.ShownClosed.{among, among_there, shown_closed}
@@ -28,7 +29,7 @@ returns-clause-appended g c gap x =
     let n = g.N.Nodes.node in
     let is = first_there n x c.step.ensures c.in-Some.is in
     let h = c.unlink.ensures.taken (g.N.Nodes.table c.args.nodes.now) [] (drop 1 gap.back) _ (first_shown n x is) in
-    subst (λ o. Appends n (g.N.Nodes.table c.args.nodes.now) (g.N.Nodes.table c.join-root.new.links) o gap) (sym c.of-self.ensures)
+    subst (λ o. Appends (Shows n) (g.N.Nodes.table c.args.nodes.now) (g.N.Nodes.table c.join-root.new.links) o gap) (sym c.of-self.ensures)
     (appends n x h is (c.join-root.ensures.joined (rest_joinable n x h) (rest_pair n x h c.get.ensures c.get-2.ensures)))
 
 pub returns-in_default-clause-appended : goal.returns-in_default-clause-appended
