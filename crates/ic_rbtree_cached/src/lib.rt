@@ -13,6 +13,7 @@
 mod ends;
 mod hole;
 mod insert;
+mod join;
 mod tree;
 
 pub use tree::RBTreeCached;
