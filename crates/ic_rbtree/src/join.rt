@@ -82,7 +82,7 @@ impl<A: KeyAdapter> RBTree<A> {
         }
         let root = join(links, self.root.get(), place, other.root.get());
         self.root = PlaceWord::of(root);
-        other.root = PlaceWord::of(None);
+        other.fast_clear();
         Ok(())
     }
 
