@@ -1,2 +1,3 @@
 pub mod EndsKept
 pub mod HoleFits
+pub mod PositionEnds

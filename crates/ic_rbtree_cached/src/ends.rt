@@ -12,7 +12,7 @@ ghost use Rattle.ic_link_ops.specs.RedBlackTree.{Shows};
 ghost use Rattle.ic_link_ops.specs.Walk.{is_end};
 ghost use Rattle.ic_rbtree.specs.Ends.{end_on};
 ghost use Rattle.ic_rbtree.specs.Tree.{root_of};
-ghost use Rattle.ic_rbtree_cached.specs.Ends.{end_beside};
+ghost use Rattle.ic_rbtree_cached.specs.Ends.{end_beside, end_exchanged};
 
 use ic_link_ops::Side;
 use ic_link_ops::rbtree::RBTreeOps;
@@ -56,4 +56,12 @@ pub(crate) fn end_with(end: Option<Place>, beside: Option<Place>, place: Place) 
         None => Some(place),
         Some(_) => end,
     }
+}
+
+// The end of a tree once an object stands in the place of the member `out`: the object, where that was the end.
+#[inline]
+pub(crate) fn end_for(end: Option<Place>, out: Place, object: Place) -> Option<Place>
+    ensures { result ≡ end_exchanged (is_end end out) object end }
+{
+    if is_at(end, out) { Some(object) } else { end }
 }

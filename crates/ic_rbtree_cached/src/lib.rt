@@ -10,10 +10,13 @@
 //! [`RBTreeCached::tree`] lends.
 #![tactic(auto)]
 
+mod cursors;
+mod edits;
 mod ends;
 mod hole;
 mod insert;
 mod join;
 mod tree;
 
+pub use cursors::{CursorMut, CursorOwning};
 pub use tree::RBTreeCached;
