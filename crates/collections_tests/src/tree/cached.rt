@@ -45,6 +45,20 @@ fn write_taken<L: RBTreeOps>(notes: &mut Text, tree: &mut RBTreeCached<OwnKey>, 
     write_places(notes, &[tree.front(links).get_ptr(), tree.back(links).get_ptr()]);
 }
 
+// Splits the tree in front of its last member, and appends the rest again, and notes the ends of both parts and of the whole.
+fn write_split<L: RBTreeOps>(notes: &mut Text, tree: &mut RBTreeCached<OwnKey>, links: &mut L)
+    requires shown { ShowsCachedSome L.node (L.table links.old) (ends_of tree.old) }
+    ensures shown { ShowsCachedSome L.node (L.table links.new) (ends_of tree.new) }
+{
+    let Some(last) = tree.last() else {
+        return;
+    };
+    let mut rest = tree.split_off(links, &UnsafeRef::new(last));
+    write_places(notes, &[tree.first(), tree.last(), rest.first(), rest.last()]);
+    tree.append(links, &mut rest);
+    write_places(notes, &[tree.first(), tree.last(), rest.first()]);
+}
+
 #[test]
 fn ends(rt: HostRuntime) {
     let alloc = rt.alloc();
@@ -54,6 +68,7 @@ fn ends(rt: HostRuntime) {
     write_inserted(&mut notes, &mut tree, &mut links, &objects, reference(2));
     write_inserted(&mut notes, &mut tree, &mut links, &objects, reference(4));
     write_inserted(&mut notes, &mut tree, &mut links, &objects, reference(1));
+    write_split(&mut notes, &mut tree, &mut links);
     write_taken(&mut notes, &mut tree, &mut links);
-    same(&rt, alloc, &notes, "2 2 2 4 1 4  1 4 2 2");
+    same(&rt, alloc, &notes, "2 2 2 4 1 4  1 2 4 4 1 4 none  1 4 2 2");
 }
