@@ -24,17 +24,6 @@ use ic_rbtree::KeyAdapter;
 use ic_unsafe_ref::UnsafeRef;
 
 impl<A: KeyAdapter> RBTreeCached<A> {
-    // Keeps no ends, of a tree that has no members.
-    #[inline]
-    fn forget_ends(&mut self)
-        ensures ends { (ends_of self.new).front ≡ None }
-        ensures back { (ends_of self.new).back ≡ None }
-        ensures tree { tree_of self.new ≡ tree_of self.old }
-    {
-        self.front = PlaceWord::of(None);
-        self.back = PlaceWord::of(None);
-    }
-
     /// Moves all members of `other` behind those of this tree, in their order, and leaves `other` empty. It looks at no key.
     ///
     /// It requires that the two trees share no member. Trees that share none with either stay, and no link is acquired or released.

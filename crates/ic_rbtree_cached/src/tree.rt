@@ -8,9 +8,10 @@
 
 ghost use Rattle.std.specs.Prelude.{◌≡◌, ◌↔◌, ◌++◌, ◌∷◌, List, [], None, IsTrue, IfSome, IfNone};
 ghost use Rattle.ic_unsafe_ref.specs.declared.place.Place.{Place};
-ghost use Rattle.ic_link_ops.specs.LinkSteps.{releases};
+ghost use Rattle.ic_link_ops.specs.LinkSteps.{releases, releases_each};
 ghost use Rattle.ic_link_ops.specs.PlacedObjects.{ShowsPlaced, values_at};
 ghost use Rattle.ic_link_ops.specs.Positions.{HasMember};
+ghost use Rattle.ic_link_ops.specs.RedBlackTree.{Shows, ShowsSome};
 ghost use Rattle.ic_link_ops.specs.Sequences.{first, last, at_front, remove, but_last};
 ghost use Rattle.ic_link_ops.specs.Tables.{KeepsBeside};
 ghost use Rattle.ic_rbtree.specs.Cursor as reading;
@@ -91,6 +92,57 @@ impl<A> RBTreeCached<A> {
 }
 
 impl<A: KeyAdapter> RBTreeCached<A> {
+    // Keeps no ends, of a tree that has no members.
+    #[inline]
+    pub(crate) fn forget_ends(&mut self)
+        ensures ends { (ends_of self.new).front ≡ None }
+        ensures back { (ends_of self.new).back ≡ None }
+        ensures tree { tree_of self.new ≡ tree_of self.old }
+    {
+        self.front = PlaceWord::of(None);
+        self.back = PlaceWord::of(None);
+    }
+
+    /// The tree with its ends, which are read from the table. It requires that the tree is shown. O(log n).
+    pub fn from_tree<L: RBTreeOps>(tree: RBTree<A>, links: &L) -> RBTreeCached<A>
+        requires shown { ShowsSome L.node (L.table links.now) (root_of tree) }
+        ensures tree { tree_of result ≡ tree }
+        ensures ends { (s : List Place) → Shows L.node (L.table links.now) (root_of tree) s → ShowsCached L.node (L.table links.now) (ends_of result) s }
+    {
+        let front = PlaceWord::of(tree.first(links));
+        let back = PlaceWord::of(tree.last(links));
+        RBTreeCached { tree, front, back }
+    }
+
+    /// The tree without its ends, for a walk that takes the members off, and whatever else this one has not. O(1).
+    #[inline]
+    pub fn into_tree(self) -> RBTree<A>
+        ensures { result ≡ tree_of self }
+    {
+        let RBTreeCached {
+            tree: plain,
+            front: _,
+            back: _,
+        } = self;
+        plain
+    }
+
+    /// Takes all objects off the tree: each member is unlinked, in order, and the tree is empty.
+    ///
+    /// One step for each member, and no memory. Trees that share no member with this one stay.
+    pub fn clear<L: RBTreeOps>(&mut self, links: &mut L)
+        requires shown { ShowsCachedSome L.node (L.table links.old) (ends_of self.old) }
+        ensures empty { ends_of self.new ≡ ends None None None }
+        ensures adapter { adapter_of (tree_of self.new) ≡ adapter_of (tree_of self.old) }
+        ensures released { (s : List Place) → ShowsCached L.node (L.table links.old) (ends_of self.old) s
+            → L.Does links.old links.new (releases_each s) }
+        ensures frame { (s : List Place) → ShowsCached L.node (L.table links.old) (ends_of self.old) s
+            → KeepsBeside (L.table links.old) (L.table links.new) s }
+    {
+        self.tree.clear(links);
+        self.forget_ends();
+    }
+
     /// A cursor that reads, on the first member, null in an empty tree. O(1).
     #[inline]
     pub fn front<'a, L: RBTreeOps>(&'a self, links: &'a L) -> Cursor<'a, A, L>
