@@ -42,7 +42,10 @@ fn write_taken<L: RBTreeOps>(notes: &mut Text, tree: &mut RBTreeCached<OwnKey>, 
     let last = tree.pop_back(links);
     write_object(notes, first);
     write_object(notes, last);
-    write_places(notes, &[tree.front(links).get_ptr(), tree.back(links).get_ptr()]);
+    write_places(
+        notes,
+        &[tree.front(links).get_ptr(), tree.back(links).get_ptr()],
+    );
 }
 
 // Splits the tree in front of its last member, and appends the rest again, and notes the ends of both parts and of the whole.
@@ -54,7 +57,10 @@ fn write_split<L: RBTreeOps>(notes: &mut Text, tree: &mut RBTreeCached<OwnKey>, 
         return;
     };
     let mut rest = tree.split_off(links, &UnsafeRef::new(last));
-    write_places(notes, &[tree.first(), tree.last(), rest.first(), rest.last()]);
+    write_places(
+        notes,
+        &[tree.first(), tree.last(), rest.first(), rest.last()],
+    );
     tree.append(links, &mut rest);
     write_places(notes, &[tree.first(), tree.last(), rest.first()]);
 }
