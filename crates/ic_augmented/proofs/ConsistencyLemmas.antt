@@ -1,0 +1,329 @@
+-- Summaries that are right where they are fresh, kept by each write; and stale ones written anew.
+use Rattle.std.proofs.Common.{◌≡◌, ◌≢◌, ◌≤◌, ◌+◌, ℕ, suc, zero, ◌-◌, true, false, Option, Some, None, List, refl, sym, ap, ◌∙◌, subst, arith, inl, inr, ◌⊎◌}
+use Rattle.std.proofs.Math.Nat.{le-max_left, le-max_right}
+use Rattle.ic_unsafe_ref.specs.declared.place.Place.{Place}
+use Rattle.ic_unsafe_ref.proofs.PlaceLemmas.{same_or_not}
+use Rattle.ic_link_ops.specs.declared.color.Color.{Color}
+use Rattle.ic_link_ops.specs.Tables.{Table, ChangesOnly}
+use Rattle.ic_link_ops.specs.Trees.{Tree, leaf, fork, top}
+use Rattle.ic_link_ops.specs.RedBlackTree.{Node, IsTree}
+use Rattle.ic_link_ops.specs.Times.{one_at, times, times_in}
+use Rattle.ic_link_ops.proofs.SequenceLemmas.{none_not, some_same}
+use Rattle.ic_link_ops.proofs.Times.{one_at_self, one_at_other, apart}
+use Rattle.ic_rbtree.specs.Height.{height}
+use Rattle.ic_augmented.specs.Sums.{Sums, is_fresh, seen, total, IsSummed, Invalidates, Writes}
+use Rattle.ic_augmented.specs.Consistent.{IsUnder, IsJoined, IsSameAt, IsConsistentTree, IsConsistentBelow, Refreshes, IsConsistentBut, IsConsistent}
+
+pub times_top : (p : Place) (t : Tree) → top t ≡ Some p → 1 ≤ times p t
+times_top p leaf e = absurd (none_not p e)
+times_top p (fork c a q b) e = let h : one_at p q ≡ 1 = rw (some_same e) (one_at_self p) in omega arith
+
+-- p stands at the root alone
+apart_left : (q p : Place) (c : Color) (a b : Tree) → ((x : Place) → times x (fork c a p b) ≤ 1) → 1 ≤ times q a → q ≢ p
+apart_left q p c a b once m e = let k : one_at q p ≡ 1 = rw e (one_at_self p) in omega (arith, k, m, once q)
+
+apart_right : (q p : Place) (c : Color) (a b : Tree) → ((x : Place) → times x (fork c a p b) ≤ 1) → 1 ≤ times q b → q ≢ p
+apart_right q p c a b once m e = let k : one_at q p ≡ 1 = rw e (one_at_self p) in omega (arith, k, m, once q)
+
+where_is : (i k : ℕ) → 1 ≤ i + k → (1 ≤ i) ⊎ (1 ≤ k)
+where_is zero k m = inr (omega (arith, m))
+where_is (suc i) k m = inl (omega arith)
+
+module _ {S : Type 0} where
+  pub fresh_some : (o : Option S) → is_fresh o ≡ true → (x : S) × (o ≡ Some x)
+  fresh_some None e = let k : false ≡ true = e in cc
+  fresh_some (Some x) e = (x, refl)
+
+  -- what is fresh is not where a stale one is
+  pub not_stale : (z : Sums S) (p q : Place) (x : S) → z.fresh p ≡ None → z.fresh q ≡ Some x → q ≢ p
+  not_stale z p q x none some e = none_not x (sym none ∙ (ap z.fresh (sym e) ∙ some))
+
+  seen_same : (z w : Sums S) (o : Option Place) → ((c : Place) → o ≡ Some c → IsSameAt z w c) → seen w o ≡ seen z o
+  seen_same z w None k = refl
+  seen_same z w (Some c) k = (k c refl).fresh
+
+  under_same : (z w : Sums S) (q : Place) (o : Option Place) → IsUnder z q o → ((c : Place) → o ≡ Some c → IsSameAt z w c) → IsUnder w q o
+  under_same z w q None h k = tt
+  under_same z w q (Some c) h k = (ap is_fresh (k c refl).fresh ∙ h.0, (k c refl).upper ∙ h.1)
+
+  pub under_upper : (z : Sums S) (q : Place) (o : Option Place) (c : Place) → IsUnder z q o → o ≡ Some c → z.upper c ≡ Some q
+  under_upper z q None c h e = absurd (none_not c e)
+  under_upper z q (Some b) c h e = ap z.upper (sym (some_same e)) ∙ h.1
+
+  under_fresh : (z : Sums S) (q : Place) (o : Option Place) (c : Place) → IsUnder z q o → o ≡ Some c → is_fresh (z.fresh c) ≡ true
+  under_fresh z q None c h e = absurd (none_not c e)
+  under_fresh z q (Some b) c h e = ap (λ (y : Place). is_fresh (z.fresh y)) (sym (some_same e)) ∙ h.0
+
+  pub joined_at : (z w : Sums S) (q : Place) (l r : Option Place) (x : S) → IsJoined z q l r x → w.join q ≡ z.join q
+      → ((c : Place) → l ≡ Some c → IsSameAt z w c) → ((c : Place) → r ≡ Some c → IsSameAt z w c) → IsJoined w q l r x
+  joined_at z w q l r x h ej kl kr = record {
+    joined = h.joined ∙ (ap (λ (f : Option S → Option S → S). f (seen z l) (seen z r)) (sym ej)
+        ∙ (ap (λ (o : Option S). w.join q o (seen z r)) (sym (seen_same z w l kl)) ∙ ap (λ (o : Option S). w.join q (seen w l) o) (sym (seen_same z w r kr))));
+    left_is = under_same z w q l h.left_is kl;
+    right_is = under_same z w q r h.right_is kr;
+  }
+
+  pub joined_same : (z w : Sums S) (q : Place) (l r : Option Place) (x : S) → IsJoined z q l r x → w.join ≡ z.join
+      → ((c : Place) → l ≡ Some c → IsSameAt z w c) → ((c : Place) → r ≡ Some c → IsSameAt z w c) → IsJoined w q l r x
+  joined_same z w q l r x h ej kl kr = joined_at z w q l r x h (ap (λ (f : Place → Option S → Option S → S). f q) ej) kl kr
+
+  -- A TREE depends on what is kept at its members alone
+  pub consistent_kept : (z w : Sums S) (t : Tree) → w.join ≡ z.join → ((q : Place) → 1 ≤ times q t → IsSameAt z w q) → IsConsistentTree z t → IsConsistentTree w t
+  consistent_kept z w leaf ej k h = tt
+  consistent_kept z w (fork c a p b) ej k h = (
+    (λ x e. joined_same z w p (top a) (top b) x (h.0 x (sym (k p (omega (arith, one_at_self p))).fresh ∙ e)) ej
+        (λ y i. k y (omega (arith, times_top y a i))) (λ y i. k y (omega (arith, times_top y b i)))),
+    consistent_kept z w a ej (λ q m. k q (omega (arith, m))) h.1,
+    consistent_kept z w b ej (λ q m. k q (omega (arith, m))) h.2,
+  )
+
+  pub total_same : (z w : Sums S) (t : Tree) → w.join ≡ z.join → total w t ≡ total z t
+  total_same z w leaf ej = refl
+  total_same z w (fork c a p b) ej =
+      ap Some (ap (λ (o : Option S). w.join p o (total w b)) (total_same z w a ej)
+      ∙ (ap (λ (o : Option S). w.join p (total z a) o) (total_same z w b ej) ∙ ap (λ (f : Place → Option S → Option S → S). f p (total z a) (total z b)) ej))
+
+  pub summed_kept : (z w : Sums S) (up : Option Place) (t : Tree) → w.join ≡ z.join → ((q : Place) → 1 ≤ times q t → IsSameAt z w q) → IsSummed z up t → IsSummed w up t
+  summed_kept z w up leaf ej k h = tt
+  summed_kept z w up (fork c a p b) ej k h =
+      let here = k p (omega (arith, one_at_self p)) in (
+        here.fresh ∙ (h.0 ∙ sym (total_same z w (fork c a p b) ej)),
+        here.upper ∙ h.1,
+        summed_kept z w (Some p) a ej (λ q m. k q (omega (arith, m))) h.2,
+        summed_kept z w (Some p) b ej (λ q m. k q (omega (arith, m))) h.3,
+      )
+
+  -- what stands at the root of a summed tree is its summary
+  pub summed_seen : (z : Sums S) (up : Option Place) (t : Tree) → IsSummed z up t → seen z (top t) ≡ total z t
+  summed_seen z up leaf h = refl
+  summed_seen z up (fork c a p b) h = h.0
+
+  join_seen : (z : Sums S) (p : Place) (up : Option Place) (a b : Tree) → IsSummed z up a → IsSummed z up b → z.join p (seen z (top a)) (seen z (top b)) ≡ z.join p (total z a) (total z b)
+  join_seen z p up a b ha hb = ap (λ (o : Option S). z.join p o (seen z (top b))) (summed_seen z up a ha) ∙ ap (λ (o : Option S). z.join p (total z a) o) (summed_seen z up b hb)
+
+  under_here : (z : Sums S) (p : Place) (t : Tree) → IsSummed z (Some p) t → IsUnder z p (top t)
+  under_here z p leaf h = tt
+  under_here z p (fork c a q b) h = (ap is_fresh h.0, h.1)
+
+  -- A SUMMED TREE is consistent
+  pub summed_consistent_tree : (z : Sums S) (up : Option Place) (t : Tree) → IsSummed z up t → IsConsistentTree z t
+  summed_consistent_tree z up leaf h = tt
+  summed_consistent_tree z up (fork c a p b) h = (
+    (λ x e. record { joined = some_same (sym e ∙ h.0) ∙ sym (join_seen z p (Some p) a b h.2 h.3); left_is = under_here z p a h.2; right_is = under_here z p b h.3 }),
+    summed_consistent_tree z (Some p) a h.2,
+    summed_consistent_tree z (Some p) b h.3,
+  )
+
+  -- A FRESH ROOT of a consistent tree: all below is fresh, and right
+  pub under_summed : (z : Sums S) (p : Place) (t : Tree) → IsUnder z p (top t) → IsConsistentTree z t → IsSummed z (Some p) t
+  under_summed z p leaf u h = tt
+  under_summed z p (fork c a q b) u h =
+      let f = fresh_some (z.fresh q) u.0 in
+      let j = h.0 f.0 f.1 in
+      let left = under_summed z q a j.left_is h.1 in
+      let right = under_summed z q b j.right_is h.2 in
+      (f.1 ∙ ap Some (j.joined ∙ join_seen z q (Some q) a b left right), u.1, left, right)
+
+  -- A REFRESH, by cases
+  same_still : (z : Sums S) (q : Place) → IsSameAt z z q
+  same_still z q = record { fresh = refl; upper = refl }
+
+  same_on : (x y z : Sums S) (q : Place) → IsSameAt x y q → IsSameAt y z q → IsSameAt x z q
+  same_on x y z q h k = record { fresh = k.fresh ∙ h.fresh; upper = k.upper ∙ h.upper }
+
+  pub writes_same : (z w : Sums S) (p : Place) (x : Option S) (up : Option Place) (q : Place) → Writes z w p x up → q ≢ p → IsSameAt z w q
+  writes_same z w p x up q h n = record { fresh = h.others q n; upper = h.uppers q n }
+
+  pub refreshes_none : (z : Sums S) (up o : Option Place) (t : Tree) (fuel : ℕ) → o ≡ None → o ≡ top t → Refreshes IsConsistentTree z z up t fuel
+  refreshes_none z up o leaf fuel none e = record { frame = λ q m. same_still z q; join = refl; summed = λ once h low. tt }
+  refreshes_none z up o (fork c a p b) fuel none e = absurd (none_not p (sym none ∙ e))
+
+  pub refreshes_spent : (z : Sums S) (up : Option Place) (p : Place) (t : Tree) (fuel : ℕ) → Some p ≡ top t → fuel ≡ 0 → Refreshes IsConsistentBelow z z up t fuel
+  refreshes_spent z up q leaf fuel e none = absurd (none_not q (sym e))
+  refreshes_spent z up q (fork c a p b) fuel e none = record { frame = λ q m. same_still z q; join = refl; summed = λ once h low. absurd (omega (arith, low, none)) }
+
+  fresh_at : (z w : Sums S) (up : Option Place) (p : Place) (c : Color) (a b : Tree) → is_fresh (z.fresh p) ≡ true → Writes z w p (z.fresh p) up
+      → ((q : Place) → times q (fork c a p b) ≤ 1) → IsConsistentTree z (fork c a p b) → IsSummed w up (fork c a p b)
+  fresh_at z w up p c a b f k once h =
+      let s = fresh_some (z.fresh p) f in
+      let j = h.0 s.0 s.1 in
+      let left = under_summed z p a j.left_is h.1 in
+      let right = under_summed z p b j.right_is h.2 in (
+        k.fresh ∙ (s.1 ∙ (ap Some (j.joined ∙ join_seen z p (Some p) a b left right) ∙ sym (total_same z w (fork c a p b) k.join))),
+        k.upper,
+        summed_kept z w (Some p) a k.join (λ q m. writes_same z w p (z.fresh p) up q k (apart_left q p c a b once m)) left,
+        summed_kept z w (Some p) b k.join (λ q m. writes_same z w p (z.fresh p) up q k (apart_right q p c a b once m)) right,
+      )
+
+  pub refreshes_fresh : (z w : Sums S) (up : Option Place) (p : Place) (t : Tree) (fuel : ℕ) → Some p ≡ top t → is_fresh (z.fresh p) ≡ true → Writes z w p (z.fresh p) up
+      → Refreshes IsConsistentTree z w up t fuel
+  refreshes_fresh z w up q leaf fuel e f k = absurd (none_not q (sym e))
+  refreshes_fresh z w up q (fork c a p b) fuel e f k =
+      let same : p ≡ q = sym (some_same e) in
+      let g : is_fresh (z.fresh p) ≡ true = ap (λ (y : Place). is_fresh (z.fresh y)) same ∙ f in
+      let l : Writes z w p (z.fresh p) up = subst (λ (y : Place). Writes z w y (z.fresh y) up) (sym same) k in
+      record {
+        frame = λ x m. writes_same z w p (z.fresh p) up x l (apart x p (omega (arith, m)));
+        join = k.join;
+        summed = λ once h low. fresh_at z w up p c a b g l once h;
+      }
+
+  -- both subtrees are summed, and then the place is written
+  pub summed_written : (z w : Sums S) (up : Option Place) (p : Place) (c : Color) (a b : Tree) → IsSummed z (Some p) a → IsSummed z (Some p) b
+      → Writes z w p (Some (z.join p (seen z (top a)) (seen z (top b)))) up → ((q : Place) → times q (fork c a p b) ≤ 1) → IsSummed w up (fork c a p b)
+  summed_written z w up p c a b ha hb k once = (
+    k.fresh ∙ (ap Some (join_seen z p (Some p) a b ha hb) ∙ sym (total_same z w (fork c a p b) k.join)),
+    k.upper,
+    summed_kept z w (Some p) a k.join (λ q m. writes_same z w p _ up q k (apart_left q p c a b once m)) ha,
+    summed_kept z w (Some p) b k.join (λ q m. writes_same z w p _ up q k (apart_right q p c a b once m)) hb,
+  )
+
+  -- what was renewed below its root was so if the root was right too
+  pub refreshes_below : (z w : Sums S) (up : Option Place) (t : Tree) (fuel : ℕ) → Refreshes IsConsistentBelow z w up t fuel → Refreshes IsConsistentTree z w up t fuel
+  refreshes_below z w up leaf fuel r = record { frame = r.frame; join = r.join; summed = λ once h low. r.summed once tt low }
+  refreshes_below z w up (fork c a p b) fuel r = record { frame = r.frame; join = r.join; summed = λ once h low. r.summed once (h.1, h.2) low }
+
+  joins_at : (z0 z1 z2 z3 : Sums S) (up : Option Place) (p : Place) (c : Color) (a b : Tree) (fuel : ℕ)
+      → Refreshes IsConsistentTree z0 z1 (Some p) a fuel → Refreshes IsConsistentTree z1 z2 (Some p) b fuel → Writes z2 z3 p (Some (z2.join p (seen z2 (top a)) (seen z2 (top b)))) up
+      → ((q : Place) → times q (fork c a p b) ≤ 1) → IsConsistentBelow z0 (fork c a p b) → height (fork c a p b) ≤ suc fuel → IsSummed z3 up (fork c a p b)
+  joins_at z0 z1 z2 z3 up p c a b fuel fa fb k once h low =
+      let la : height a ≤ fuel = omega (arith, low, le-max_left (height a) (height b)) in
+      let lb : height b ≤ fuel = omega (arith, low, le-max_right (height a) (height b)) in
+      let a1 : IsSummed z1 (Some p) a = fa.summed (λ q. omega (arith, once q)) h.0 la in
+      let b1 : IsConsistentTree z1 b = consistent_kept z0 z1 b fa.join (λ q m. fa.frame q (omega (arith, m, once q))) h.1 in
+      let b2 : IsSummed z2 (Some p) b = fb.summed (λ q. omega (arith, once q)) b1 lb in
+      let a2 : IsSummed z2 (Some p) a = summed_kept z1 z2 (Some p) a fb.join (λ q m. fb.frame q (omega (arith, m, once q))) a1 in
+      summed_written z2 z3 up p c a b a2 b2 k once
+
+  -- the first place is stale from the first turn on
+  pub stale_on : (z w : Sums S) (p q : Place) (o : Option Place) → Invalidates z w q → o ≡ Some q → (o ≡ Some p) ⊎ (z.fresh p ≡ None) → w.fresh p ≡ None
+  stale_on z w p q o k is h = elim h [
+    | inl e ↦ ap w.fresh (some_same (sym e ∙ is)) ∙ k.stale
+    | inr none ↦ elim (same_or_not p q) [
+      | inl e ↦ ap w.fresh e ∙ k.stale
+      | inr other ↦ k.others p other ∙ none
+    ]
+  ]
+
+  stale_none : (o : Option S) → is_fresh o ≡ false → o ≡ None
+  stale_none None e = refl
+  stale_none (Some x) e = let k : true ≡ false = e in cc
+
+  pub stale_ends : (z : Sums S) (p q : Place) (o : Option Place) → o ≡ Some q → is_fresh (z.fresh q) ≡ false → (o ≡ Some p) ⊎ (z.fresh p ≡ None) → z.fresh p ≡ None
+  stale_ends z p q o is f h = elim h [
+    | inl e ↦ ap z.fresh (some_same (sym e ∙ is)) ∙ stale_none (z.fresh q) f
+    | inr none ↦ none
+  ]
+
+  pub stale_none_left : (z : Sums S) (p : Place) (o : Option Place) → o ≡ None → (o ≡ Some p) ⊎ (z.fresh p ≡ None) → z.fresh p ≡ None
+  stale_none_left z p o is h = elim h [
+    | inl e ↦ absurd (none_not p (sym is ∙ e))
+    | inr none ↦ none
+  ]
+
+module _ {E S : Type 0} (n : E → Node) where
+  -- THE CLIMB: a summary made stale, and that of the place above may be wrong now
+  pub invalidated_on : (v : Table E) (z w : Sums S) (s : List Place) (p : Place) → Invalidates z w p → IsConsistentBut n v z s (Some p) → IsConsistentBut n v w s (w.upper p)
+  invalidated_on v z w s p k h q m but x e =
+      let other : q ≢ p = not_stale w p q x k.stale e in
+      let j = h q m (λ i. other (sym (some_same i))) x (sym (k.others q other) ∙ e) in
+      let same : (c : Place) → z.upper c ≡ Some q → IsSameAt z w c = λ c u. record {
+        fresh = k.others c (λ (i : c ≡ p). but (k.upper p ∙ (ap z.upper (sym i) ∙ u)));
+        upper = k.upper c;
+      } in
+      joined_same z w q _ _ x j k.join
+      (λ c i. same c (under_upper z q _ c j.left_is i)) (λ c i. same c (under_upper z q _ c j.right_is i))
+
+  -- it ends at a stale one, or above the root
+  pub invalidated_stale : (v : Table E) (z : Sums S) (s : List Place) (p : Place) (o : Option Place) → o ≡ Some p → is_fresh (z.fresh p) ≡ false → IsConsistentBut n v z s o → IsConsistent n v z s
+  invalidated_stale v z s p o is f h q m but x e =
+      h q m (λ i. let k : is_fresh (z.fresh p) ≡ true = ap (λ (y : Place). is_fresh (z.fresh y)) (some_same (sym is ∙ i)) ∙ ap is_fresh e in let l : true ≡ false = sym k ∙ f in cc) x e
+
+  pub invalidated_none : (v : Table E) (z : Sums S) (s : List Place) (o : Option Place) → o ≡ None → IsConsistentBut n v z s o → IsConsistent n v z s
+  invalidated_none v z s o is h q m but x e = h q m (λ i. none_not q (sym is ∙ i)) x e
+
+  pub invalidated_starts : (v : Table E) (z : Sums S) (s : List Place) (o : Option Place) → IsConsistent n v z s → IsConsistentBut n v z s o
+  invalidated_starts v z s o h q m but x e = h q m (none_not q) x e
+
+  -- A WRITE at a place whose summary is stale
+  pub written_stale : (v w : Table E) (z : Sums S) (s : List Place) (p : Place) → z.fresh p ≡ None → ChangesOnly v w p → IsConsistent n v z s → IsConsistent n w z s
+  written_stale v w z s p none only h q m but x e =
+      subst (λ (k : E). IsJoined z q (n k).left (n k).right x) (sym (only.others q (not_stale z p q x none e))) (h q m but x e)
+
+  -- a write that keeps the children
+  pub written_beside : (v w : Table E) (z : Sums S) (s : List Place) (p : Place) → (n (w.entry p)).left ≡ (n (v.entry p)).left → (n (w.entry p)).right ≡ (n (v.entry p)).right
+      → ChangesOnly v w p → IsConsistent n v z s → IsConsistent n w z s
+  written_beside v w z s p el er only h q m but x e = elim (same_or_not q p) [
+    | inl i ↦
+        let l : (n (w.entry q)).left ≡ (n (v.entry q)).left = subst (λ (y : Place). (n (w.entry y)).left ≡ (n (v.entry y)).left) (sym i) el in
+        let r : (n (w.entry q)).right ≡ (n (v.entry q)).right = subst (λ (y : Place). (n (w.entry y)).right ≡ (n (v.entry y)).right) (sym i) er in
+        subst (λ (y : Option Place). IsJoined z q y (n (w.entry q)).right x) (sym l) (subst (λ (y : Option Place). IsJoined z q (n (v.entry q)).left y x) (sym r) (h q m but x e))
+    | inr other ↦ subst (λ (k : E). IsJoined z q (n k).left (n k).right x) (sym (only.others q other)) (h q m but x e)
+  ]
+
+  -- a tree that the table holds
+  pub consistent_tree : (v : Table E) (z : Sums S) (s : List Place) (up : Option Place) (t : Tree) → IsConsistent n v z s → IsTree n v.entry up t → ((q : Place) → times q t ≤ times_in q s) → IsConsistentTree z t
+  consistent_tree v z s up leaf h t m = tt
+  consistent_tree v z s up (fork c a p b) h t m = (
+    (λ x e. subst (λ (y : Option Place). IsJoined z p y (top b) x) t.0.left (subst (λ (y : Option Place). IsJoined z p (n (v.entry p)).left y x) t.0.right
+        (h p (omega (arith, m p, one_at_self p)) (none_not p) x e))),
+    consistent_tree v z s (Some p) a h t.1 (λ q. omega (arith, m q)),
+    consistent_tree v z s (Some p) b h t.2 (λ q. omega (arith, m q)),
+  )
+
+  -- a summed tree is right everywhere
+  pub summed_consistent : (v : Table E) (z : Sums S) (up : Option Place) (t : Tree) → IsSummed z up t → IsTree n v.entry up t → (q : Place) → 1 ≤ times q t → (x : S) → z.fresh q ≡ Some x
+      → IsJoined z q (n (v.entry q)).left (n (v.entry q)).right x
+  summed_consistent v z up leaf h t q m x e = absurd (omega (arith, m))
+  summed_consistent v z up (fork c a p b) h t q m x e = elim (same_or_not q p) [
+    | inl i ↦
+        let j : IsJoined z p (top a) (top b) x = record {
+          joined = some_same (sym e ∙ (ap z.fresh i ∙ h.0)) ∙ sym (join_seen z p (Some p) a b h.2 h.3);
+          left_is = under_here z p a h.2;
+          right_is = under_here z p b h.3;
+        } in
+        let k : IsJoined z p (n (v.entry p)).left (n (v.entry p)).right x =
+        subst (λ (y : Option Place). IsJoined z p y (n (v.entry p)).right x) (sym t.0.left) (subst (λ (y : Option Place). IsJoined z p (top a) y x) (sym t.0.right) j) in
+        subst (λ (y : Place). IsJoined z y (n (v.entry y)).left (n (v.entry y)).right x) (sym i) k
+    | inr other ↦ elim (where_is (times q a) (times q b) (omega (arith, m, one_at_other q p other))) [
+      | inl l ↦ summed_consistent v z (Some p) a h.2 t.1 q l x e
+      | inr r ↦ summed_consistent v z (Some p) b h.3 t.2 q r x e
+    ]
+  ]
+
+  -- both subtrees are refreshed, and then the root is written
+  joined_here : (v : Table E) (z0 z1 z2 z3 : Sums S) (up u : Option Place) (p : Place) (c : Color) (a b : Tree) (l r : Option Place) (fuel : ℕ)
+      → IsTree n v.entry u (fork c a p b) → l ≡ top a → r ≡ top b
+      → Refreshes IsConsistentTree z0 z1 (Some p) a (fuel - 1) → Refreshes IsConsistentTree z1 z2 (Some p) b (fuel - 1)
+      → Writes z2 z3 p (Some (z2.join p (seen z2 l) (seen z2 r))) up → Refreshes IsConsistentBelow z0 z3 up (fork c a p b) fuel
+  joined_here v z0 z1 z2 z3 up u p c a b l r fuel tree el er fa fb k =
+      let k2 : Writes z2 z3 p (Some (z2.join p (seen z2 (top a)) (seen z2 (top b)))) up =
+      subst (λ (o : Option Place). Writes z2 z3 p (Some (z2.join p (seen z2 (top a)) (seen z2 o))) up) er
+      (subst (λ (o : Option Place). Writes z2 z3 p (Some (z2.join p (seen z2 o) (seen z2 r))) up) el k) in
+      record {
+        frame = λ q m. same_on z0 z2 z3 q (same_on z0 z1 z2 q (fa.frame q (omega (arith, m))) (fb.frame q (omega (arith, m)))) (writes_same z2 z3 p _ up q k2 (apart q p (omega (arith, m))));
+        join = k2.join ∙ (fb.join ∙ fa.join);
+        summed = λ once h low. joins_at z0 z1 z2 z3 up p c a b (fuel - 1) fa fb k2 once h (omega (arith, low));
+      }
+
+  pub refreshes_joined : (v : Table E) (z0 z1 z2 z3 : Sums S) (up u : Option Place) (p : Place) (t : Tree) (l r : Option Place) (fuel : ℕ)
+      → IsTree n v.entry u t → Some p ≡ top t → l ≡ (n (v.entry p)).left → r ≡ (n (v.entry p)).right
+      → ((x : Option Place) (y : Tree) → IsTree n v.entry x y → l ≡ top y → Refreshes IsConsistentTree z0 z1 (Some p) y (fuel - 1))
+      → ((x : Option Place) (y : Tree) → IsTree n v.entry x y → r ≡ top y → Refreshes IsConsistentTree z1 z2 (Some p) y (fuel - 1))
+      → Writes z2 z3 p (Some (z2.join p (seen z2 l) (seen z2 r))) up → Refreshes IsConsistentBelow z0 z3 up t fuel
+  refreshes_joined v z0 z1 z2 z3 up u p leaf l r fuel tree e el er fa fb k = absurd (none_not p (sym e))
+  refreshes_joined v z0 z1 z2 z3 up u p (fork c a q b) l r fuel tree e el er fa fb k =
+      let same : p ≡ q = some_same e in
+      let here : IsTree n v.entry u (fork c a p b) = subst (λ (y : Place). IsTree n v.entry u (fork c a y b)) (sym same) tree in
+      let la : l ≡ top a = el ∙ here.0.left in
+      let rb : r ≡ top b = er ∙ here.0.right in
+      subst (λ (y : Place). Refreshes IsConsistentBelow z0 z3 up (fork c a y b) fuel) same
+      (joined_here v z0 z1 z2 z3 up u p c a b l r fuel here la rb (fa (Some p) a here.1 la) (fb (Some p) b here.2 rb) k)
+
+module _ {E : Type 0} (n : E → Node) where
+  -- the tree below the right child
+  pub tree_right : (v : Table E) (u : Option Place) (p : Place) (t : Tree) (r : Option Place) → IsTree n v.entry u t → Some p ≡ top t → r ≡ (n (v.entry p)).right
+      → (x : Option Place) × (y : Tree) × IsTree n v.entry x y × (r ≡ top y)
+  tree_right v u p leaf r tree e er = absurd (none_not p (sym e))
+  tree_right v u p (fork c a q b) r tree e er =
+      (Some q, b, tree.2, er ∙ (ap (λ (y : Place). (n (v.entry y)).right) (some_same e) ∙ tree.0.right))

@@ -1,0 +1,127 @@
+-- Edits of a tree keep each fresh summary right.
+use Rattle.std.specs.declared.cmp.Ordering.{Ordering}
+use Rattle.std.proofs.Common.{◌≡◌, ◌≢◌, ◌≤◌, ◌+◌, true, false, Option, None, List, [], ◌∷◌, ◌++◌, refl, sym, ap, ◌∙◌, subst, arith, inl, inr}
+use Rattle.ic_unsafe_ref.specs.declared.place.Place.{Place}
+use Rattle.ic_unsafe_ref.proofs.PlaceLemmas.{same_or_not}
+use Rattle.ic_link_ops.specs.declared.side.Side.{Side}
+use Rattle.ic_link_ops.specs.Sequences.{Cut, join, insert, IsAbsent}
+use Rattle.ic_link_ops.specs.Tables.{Table, ChangesOnly}
+use Rattle.ic_link_ops.specs.Trees.{in_order}
+use Rattle.ic_link_ops.specs.RedBlackTree.{Node, Shows}
+use Rattle.ic_link_ops.specs.Times.{one_at, times, times_in}
+use Rattle.ic_link_ops.proofs.Times.{one_at_self, one_at_other, times_append, times_order, absent_times}
+use Rattle.ic_link_ops.proofs.ShownTrees.{holds_once, shows_beside, free_absent}
+use Rattle.ic_rbtree.specs.Closed.{IsNode}
+use Rattle.ic_rbtree.specs.Height.{height}
+use Rattle.ic_rbtree.specs.Insertion.{IsHole, Attaches}
+use Rattle.ic_rbtree.specs.Ordered.{InsertsInOrder}
+use Rattle.ic_rbtree.specs.Transplants.{TakesAway}
+use Rattle.ic_rbtree.specs.Pieces.{loose, Shown}
+use Rattle.ic_rbtree.proofs.Removing.{shown_of, shows_of}
+use Rattle.ic_rbtree.proofs.Climbed.{path_few}
+use Rattle.ic_augmented.specs.Sums.{Sums}
+use Rattle.ic_augmented.specs.Consistent.{IsConsistent, IsConsistentTree, KeepsConsistent, ShowsConsistent, ShowsSummed, Refreshes, IsJoined}
+use Rattle.ic_augmented.proofs.ConsistencyLemmas.{not_stale, consistent_tree, summed_consistent}
+
+module _ {E : Type 0} (n : E → Node) where
+  -- a linked place beside the tree
+  loose_shown : (v : Table E) (root : Option Place) (s : List Place) (p : Place) → Shows n v root s → IsAbsent p s → (n (v.entry p)).linked ≡ true → Shown n v v root s (loose p ∷ [])
+  loose_shown v root s p h out linked = record {
+    tree = h.tree;
+    stands = record {
+      are = ((tt, h.starts), (h.held.entries, (linked, tt)));
+      once = λ q. once q;
+      beside = λ q none. refl;
+      linked = λ q. refl;
+      extent = refl;
+    };
+    order = h.held.order;
+    shape = h.shape;
+  } where
+    out_of : times p h.tree ≡ 0
+    out_of = let k : times_in p (in_order h.tree) ≡ 0 = ap (times_in p) h.held.order ∙ absent_times p s out in omega (arith, k, times_order p h.tree)
+
+    once : (q : Place) → 0 + (times q h.tree + (one_at q p + 0)) ≤ 1
+    once q = elim (same_or_not q p) [
+      | inl e ↦ let none : times q h.tree ≡ 0 = subst (λ (z : Place). times z h.tree ≡ 0) (sym e) out_of in let one : one_at q p ≡ 1 = subst (λ (z : Place). one_at z p ≡ 1) (sym e) (one_at_self p) in omega arith
+      | inr k ↦ omega (arith, one_at_other q p k, holds_once h.held q)
+    ]
+
+  -- a place that has just been linked, beside the tree
+  pub free_member : (old : Table E) (root : Option Place) (s t : List Place) (p : Place) → t ≡ s → Shows n old root s → (n (old.entry p)).linked ≡ false → IsAbsent p t
+  free_member old root s t p e h free = subst (IsAbsent p) (sym e) (free_absent h free)
+
+module _ {E S : Type 0} (n : E → Node) where
+  fewer_consistent : (v : Table E) (z : Sums S) (s t : List Place) → ((q : Place) → times_in q t ≤ times_in q s) → IsConsistent n v z s → IsConsistent n v z t
+  fewer_consistent v z s t k h q m but x e = h q (omega (arith, m, k q)) but x e
+
+  stale_more : (v : Table E) (z : Sums S) (s : List Place) (p : Place) → z.fresh p ≡ None → IsConsistent n v z s → IsConsistent n v z (p ∷ s)
+  stale_more v z s p none h q m but x e = h q (omega (arith, m, one_at_other q p (not_stale z p q x none e))) but x e
+
+  -- AN INSERT
+  pub attached : (v w : Table E) (z y x : Sums S) (root new_root parent : Option Place) (d : Side) (p : Place) (gap : Cut)
+      → y.fresh p ≡ None → KeepsConsistent n v v z y → Attaches n v w root new_root parent d p → ((s : List Place) → IsConsistent n v y s → IsConsistent n w x s)
+      → IsNode n v p → IsAbsent p (join gap) → ShowsConsistent n z v root (join gap) → IsHole n v parent d gap → ShowsConsistent n x w new_root (insert gap p)
+  attached v w z y x root new_root parent d p gap none invalidated done keeps linked out h hole = (
+    shows_of n (done v gap [] (loose_shown n v root (join gap) p h.0 out linked) hole),
+    fewer_consistent w x (p ∷ join gap) (insert gap p) (λ q. omega (arith, times_append q gap.front gap.back, times_append q gap.front (p ∷ gap.back)))
+        (keeps (p ∷ join gap) (stale_more v y (join gap) p none (invalidated.consistent (join gap) h.1))),
+  )
+
+  -- A REMOVAL
+  pub taken : (v w : Table E) (z y x : Sums S) (root new_root : Option Place) (p : Place) (front back : List Place)
+      → TakesAway n v w root new_root p → ((s : List Place) → IsConsistent n v z s → IsConsistent n w y s) → KeepsConsistent n w w y x
+      → ShowsConsistent n z v root (front ++ p ∷ back) → ShowsConsistent n x w new_root (front ++ back)
+  taken v w z y x root new_root p front back done keeps invalidated h = (
+    shows_of n (done v front back [] (shown_of n h.0)),
+    fewer_consistent w x (front ++ p ∷ back) (front ++ back) (λ q. omega (arith, times_append q front back, times_append q front (p ∷ back)))
+        (invalidated.consistent (front ++ p ∷ back) (keeps (front ++ p ∷ back) h.1)),
+  )
+
+  -- the shown tree is consistent
+  pub consistent_shown : (v : Table E) (z : Sums S) (root : Option Place) (s : List Place) (h : ShowsConsistent n z v root s) → IsConsistentTree z h.0.tree
+  consistent_shown v z root s h = consistent_tree n v z s None h.0.tree h.1 h.0.held.entries members where
+    members : (q : Place) → times q h.0.tree ≤ times_in q s
+    members q = let k : times_in q (in_order h.0.tree) ≡ times_in q s = ap (times_in q) h.0.held.order in omega (arith, k, times_order q h.0.tree)
+
+  -- ALL IS FRESH
+  pub refreshed : (v : Table E) (z y : Sums S) (root : Option Place) (s : List Place) (h : ShowsConsistent n z v root s) → Refreshes IsConsistentTree z y None h.0.tree 67 → ShowsSummed n y v root s
+  refreshed v z y root s h f = record {
+    shows = h.0;
+    summed = f.summed (holds_once h.0.held) (consistent_shown v z root s h) (omega (arith, low));
+  } where
+    low : height h.0.tree ≤ 66
+    low = path_few n h.0 [] h.0.tree (height h.0.tree) refl (omega arith)
+
+  -- and so consistent
+  pub still_consistent : (v : Table E) (z : Sums S) (root : Option Place) (s : List Place) → ShowsSummed n z v root s → ShowsConsistent n z v root s
+  still_consistent v z root s h = (h.shows, λ q m but x e. summed_consistent n v z None h.shows.tree h.summed h.shows.held.entries q (member q m) x e) where
+    member : (q : Place) → 1 ≤ times_in q s → 1 ≤ times q h.shows.tree
+    member q m = let k : times_in q (in_order h.shows.tree) ≡ times_in q s = ap (times_in q) h.shows.held.order in omega (arith, k, m, times_order q h.shows.tree)
+
+  -- another place changes
+  pub beside_consistent : (v w : Table E) (z : Sums S) (t : List Place) (p : Place) → IsAbsent p t → ChangesOnly v w p → IsConsistent n v z t → IsConsistent n w z t
+  beside_consistent v w z t p out only h q m but x k = subst (λ (y : E). IsJoined z q (n y).left (n y).right x) (sym (only.others q other)) (h q m but x k) where
+    other : q ≢ p
+    other i = let k : times_in q t ≡ 0 = subst (λ (y : Place). times_in y t ≡ 0) (sym i) (absent_times p t out) in absurd (omega (arith, m, k))
+
+  pub beside_shows : (v w : Table E) (z : Sums S) (root : Option Place) (s : List Place) (p : Place) → IsAbsent p s → ChangesOnly v w p → ShowsConsistent n z v root s → ShowsConsistent n z w root s
+  beside_shows v w z root s p out only h = (shows_beside h.0 out only.others, beside_consistent v w z s p out only h.1)
+
+  pub acquired_consistent : (old v : Table E) (z : Sums S) (root : Option Place) (s t : List Place) (p : Place) → t ≡ s → (n (old.entry p)).linked ≡ false → ChangesOnly old v p
+      → ShowsConsistent n z old root s → ShowsConsistent n z v root t
+  acquired_consistent old v z root s t p e free only h = subst (ShowsConsistent n z v root) (sym e) (beside_shows old v z root s p (free_absent h.0 free) only h)
+
+  -- an insert in order, in whose sequence each fresh summary is right
+  pub inserts_consistent : {at : Place → Ordering} (old w : Table E) (x : Sums S) (root : Option Place) (s : List Place) (p : Place) (gap : Cut) → join gap ≡ s → IsConsistent n w x (insert gap p)
+      → InsertsInOrder (Shows n) at old w root s p → InsertsInOrder (ShowsConsistent n x) at old w root s p
+  inserts_consistent old w x root s p gap same h i = record {
+    gap = i.gap;
+    same = i.same;
+    border = i.border;
+    inserted = record { shows = (i.inserted.shows, fewer_consistent w x (insert gap p) (insert i.gap p) fewer h); frame = i.inserted.frame };
+  } where
+    fewer : (q : Place) → times_in q (insert i.gap p) ≤ times_in q (insert gap p)
+    fewer q =
+        let k : times_in q (join i.gap) ≡ times_in q (join gap) = ap (times_in q) (i.same ∙ sym same) in
+        omega (arith, k, times_append q i.gap.front i.gap.back, times_append q gap.front gap.back, times_append q i.gap.front (p ∷ i.gap.back), times_append q gap.front (p ∷ gap.back))

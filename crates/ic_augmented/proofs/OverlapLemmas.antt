@@ -1,0 +1,360 @@
+-- The first interval that overlaps: below a place, and behind it.
+use Rattle.std.proofs.Common.{◌≡◌, ◌≢◌, ◌≤◌, ◌<◌, ◌-◌, ◌&&◌, nat_lt, ◌⊎◌, ℕ, Bool, true, false, cond, Option, Some, None, List, [], ◌∷◌, ◌++◌, length, map, max, refl, sym, ap, ◌∙◌, subst, arith, inl, inr, append_assoc}
+use Rattle.std.proofs.Math.Nat.{le-max_left, le-max_right, max-le}
+use Rattle.std.proofs.lemmas.Bool.{ltb-true, ltb-false, lt-ltb, le-ltb}
+use Rattle.std.proofs.lemmas.List.Elements.{filter-append}
+use Rattle.std.specs.Cmp.{nat_cmp_is}
+use Rattle.std.specs.List.{filter}
+use Rattle.std.specs.Ordering.{nat_cmp}
+use Rattle.std.specs.declared.cmp.Ordering.TheVariants.{Greater}
+use Rattle.ic_unsafe_ref.specs.declared.place.Place.{Place}
+use Rattle.ic_unsafe_ref.specs.Objects.{Objects, is_placed}
+use Rattle.ic_link_ops.specs.declared.color.Color.{Color}
+use Rattle.ic_link_ops.specs.declared.side.Side.TheVariants.{Left, Right}
+use Rattle.ic_link_ops.specs.Frames.{Frame, frame, plug, above, after}
+use Rattle.ic_link_ops.specs.Walk.{is_end}
+use Rattle.ic_link_ops.specs.PlacedObjects.{ArePlaced}
+use Rattle.ic_link_ops.specs.RedBlackTree.{Node, IsTree}
+use Rattle.ic_link_ops.specs.Sequences.{first}
+use Rattle.ic_link_ops.specs.Tables.{Table}
+use Rattle.ic_link_ops.specs.Trees.{Tree, leaf, fork, top, in_order}
+use Rattle.ic_link_ops.proofs.SequenceLemmas.{none_not, some_same}
+use Rattle.ic_rbtree.specs.Borders.{IsSorted}
+use Rattle.ic_rbtree.specs.Height.{height}
+use Rattle.ic_rbtree.proofs.Climbed.{path_few}
+use Rattle.ic_augmented.specs.declared.intervals.Interval.{Interval}
+use Rattle.ic_augmented.specs.Counts.{or_zero}
+use Rattle.ic_augmented.specs.Consistent.{ShowsSummed}
+use Rattle.ic_augmented.specs.Intervals.{interval_in, intervals_in, overlaps}
+use Rattle.ic_augmented.specs.Sums.{seen, total, IsSummed}
+use Rattle.ic_augmented.proofs.ConsistencyLemmas.{summed_seen, times_top}
+use Rattle.ic_augmented.specs.Subtrees.{IsSubtree}
+use Rattle.ic_augmented.proofs.SubtreeLemmas.{lower, member_subtree, subtree_left, subtree_right}
+use Rattle.ic_augmented.proofs.RankLemmas.{end_is, not_end, summed_below}
+use Rattle.ic_link_ops.proofs.Times.{times_plug}
+
+below_or_not : (a b : ℕ) → (a < b) ⊎ (b ≤ a)
+below_or_not a b = pick (nat_lt a b) refl where
+  pick : (c : Bool) → nat_lt a b ≡ c → (a < b) ⊎ (b ≤ a)
+  pick true e = inl (ltb-true a b e)
+  pick false e = inr (ltb-false a b e)
+
+and_false : (b : Bool) → b && false ≡ false
+and_false true = refl
+and_false false = refl
+
+nothing_behind : (s t : List Place) → s ++ t ≡ [] → t ≡ []
+nothing_behind [] t e = e
+nothing_behind (x ∷ s) t e = cc
+
+-- ORDER by starts
+module _ (start : Place → ℕ) where
+  not_later : (q r : Place) → nat_cmp (start q) (start r) ≢ Greater → start q ≤ start r
+  not_later q r h = elim (below_or_not (start r) (start q)) [
+    | inl less ↦ absurd (h (sym (nat_cmp_is (start q) (start r) Greater less)))
+    | inr more ↦ more
+  ]
+
+  sorted_tail : (x : Place) (s : List Place) → IsSorted nat_cmp (map start (x ∷ s)) → IsSorted nat_cmp (map start s)
+  sorted_tail x [] h = tt
+  sorted_tail x (y ∷ s) h = h.1
+
+  pub sorted_behind : (f g : List Place) → IsSorted nat_cmp (map start (f ++ g)) → IsSorted nat_cmp (map start g)
+  sorted_behind [] g h = h
+  sorted_behind (x ∷ f) g h = sorted_behind f g (sorted_tail x (f ++ g) h)
+
+  pub sorted_front : (f g : List Place) → IsSorted nat_cmp (map start (f ++ g)) → IsSorted nat_cmp (map start f)
+  sorted_front [] g h = tt
+  sorted_front (x ∷ []) g h = tt
+  sorted_front (x ∷ y ∷ f) g h = (h.0, sorted_front (y ∷ f) g h.1)
+
+-- OVERLAPS
+module _ (start : Place → ℕ) (es : List Interval) (from to : ℕ) where
+  abbrev pub end : Place → ℕ
+  end q = (interval_in es q).end
+
+  abbrev pub test : Place → Bool
+  test q = overlaps start end from to q
+
+  over : (q : Place) → start q < to → from < end q → test q ≡ true
+  over q starts ends = ap (λ (b : Bool). b && nat_lt from (end q)) (lt-ltb (start q) to starts) ∙ lt-ltb from (end q) ends
+
+  ends_before : (q : Place) → end q ≤ from → test q ≡ false
+  ends_before q h = ap (λ (b : Bool). nat_lt (start q) to && b) (le-ltb from (end q) h) ∙ and_false (nat_lt (start q) to)
+
+  starts_behind : (q : Place) → to ≤ start q → test q ≡ false
+  starts_behind q h = ap (λ (b : Bool). b && nat_lt from (end q)) (le-ltb (start q) to h)
+
+  must_start_behind : (q : Place) → from < end q → test q ≡ false → to ≤ start q
+  must_start_behind q ends none = elim (below_or_not (start q) to) [
+    | inl starts ↦ let k : true ≡ false = sym (over q starts ends) ∙ none in cc
+    | inr h ↦ h
+  ]
+
+  drops : (q : Place) (s : List Place) → test q ≡ false → filter test (q ∷ s) ≡ filter test s
+  drops q s e = ap (λ (b : Bool). cond b (q ∷ filter test s) (filter test s)) e
+
+  takes : (q : Place) (s : List Place) → test q ≡ true → filter test (q ∷ s) ≡ q ∷ filter test s
+  takes q s e = ap (λ (b : Bool). cond b (q ∷ filter test s) (filter test s)) e
+
+  must_fail : (q : Place) (s : List Place) → filter test (q ∷ s) ≡ [] → test q ≡ false
+  must_fail q s e = pick (test q) refl where
+    pick : (b : Bool) → test q ≡ b → test q ≡ false
+    pick true k = let l : q ∷ filter test s ≡ [] = sym (takes q s k) ∙ e in cc
+    pick false k = k
+
+  -- behind one that starts too late all do
+  late : (q : Place) (s : List Place) → to ≤ start q → IsSorted nat_cmp (map start (q ∷ s)) → filter test (q ∷ s) ≡ []
+  late q [] h sorted = drops q [] (starts_behind q h)
+  late q (r ∷ s) h sorted = drops q (r ∷ s) (starts_behind q h) ∙ late r s (omega (arith, h, not_later start q r sorted.0)) sorted.1
+
+  -- a tree whose greatest end is not behind `from` has none
+  none_below : (t : Tree) → or_zero (total (intervals_in es) t) ≤ from → filter test (in_order t) ≡ []
+  none_below leaf h = refl
+  none_below (fork c a p b) h =
+      let x : ℕ = or_zero (total (intervals_in es) a) in
+      let y : ℕ = or_zero (total (intervals_in es) b) in
+      let m1 : end p ≤ max (end p) (max x y) = le-max_left (end p) (max x y) in
+      let m2 : max x y ≤ max (end p) (max x y) = le-max_right (end p) (max x y) in
+      filter-append test (in_order a) (p ∷ in_order b)
+      ∙ (ap (λ (s : List Place). s ++ filter test (p ∷ in_order b)) (none_below a (omega (arith, h, m2, le-max_left x y)))
+      ∙ (drops p (in_order b) (ends_before p (omega (arith, h, m1))) ∙ none_below b (omega (arith, h, m2, le-max_right x y))))
+
+  -- and one whose greatest end is has a member that ends there
+  record Reaches (s : List Place) : Type 0 where
+    front : List Place
+    back : List Place
+    q : Place
+    is : s ≡ front ++ q ∷ back
+    ends : from < end q
+
+  reaches : (t : Tree) → from < or_zero (total (intervals_in es) t) → Reaches (in_order t)
+  reaches leaf h = absurd (omega (arith, h))
+  reaches (fork c a p b) h = elim (below_or_not from (end p)) [
+    | inl here ↦ record { front = in_order a; back = in_order b; q = p; is = refl; ends = here }
+    | inr low ↦ elim (below_or_not from (or_zero (total (intervals_in es) a))) [
+      | inl left ↦
+          let r = reaches a left in
+          record { front = r.front; back = r.back ++ p ∷ in_order b; q = r.q; is = ap (λ (s : List Place). s ++ p ∷ in_order b) r.is ∙ append_assoc r.front (r.q ∷ r.back) (p ∷ in_order b); ends = r.ends }
+      | inr lower ↦
+          let r = reaches b (right (end p) (or_zero (total (intervals_in es) a)) (or_zero (total (intervals_in es) b)) h low lower) in
+          record { front = in_order a ++ p ∷ r.front; back = r.back; q = r.q; is = ap (λ (s : List Place). in_order a ++ p ∷ s) r.is ∙ sym (append_assoc (in_order a) (p ∷ r.front) (r.q ∷ r.back)); ends = r.ends }
+    ]
+  ] where
+    right : (e x y : ℕ) → from < max e (max x y) → e ≤ from → x ≤ from → from < y
+    right e x y h low lower = elim (below_or_not from y) [
+      | inl more ↦ more
+      | inr less ↦ absurd (omega (arith, h, max-le low (max-le lower less)))
+    ]
+
+  -- where a member of the front ends behind `from`, the first that overlaps stands in the front, or none does
+  first_left : (s rest : List Place) → Reaches s → IsSorted nat_cmp (map start (s ++ rest)) → first (filter test s) ≡ first (filter test (s ++ rest))
+  first_left s rest r sorted = pick (filter test s) refl where
+    pick : (w : List Place) → filter test s ≡ w → first (filter test s) ≡ first (filter test (s ++ rest))
+    pick (x ∷ w) e = ap first e ∙ sym (ap first (filter-append test s rest ∙ ap (λ (y : List Place). y ++ filter test rest) e))
+    pick [] e =
+        let both : filter test r.front ++ filter test (r.q ∷ r.back) ≡ [] = sym (filter-append test r.front (r.q ∷ r.back)) ∙ (ap (filter test) (sym r.is) ∙ e) in
+        let behind : to ≤ start r.q = must_start_behind r.q r.ends (must_fail r.q r.back (nothing_behind (filter test r.front) (filter test (r.q ∷ r.back)) both)) in
+        let split : s ++ rest ≡ r.front ++ (r.q ∷ (r.back ++ rest)) = ap (λ (y : List Place). y ++ rest) r.is ∙ append_assoc r.front (r.q ∷ r.back) rest in
+        let on : IsSorted nat_cmp (map start (r.q ∷ (r.back ++ rest))) = sorted_behind start r.front (r.q ∷ (r.back ++ rest)) (subst (λ (y : List Place). IsSorted nat_cmp (map start y)) split sorted) in
+        let none : filter test (r.q ∷ r.back) ++ filter test rest ≡ [] = sym (filter-append test (r.q ∷ r.back) rest) ∙ late r.q (r.back ++ rest) behind on in
+        let rest_none : filter test rest ≡ [] = nothing_behind (filter test (r.q ∷ r.back)) (filter test rest) none in
+        ap first (e ∙ sym (filter-append test s rest ∙ (ap (λ (y : List Place). y ++ filter test rest) e ∙ rest_none)))
+
+  -- the left subtree has none
+  skipped : (a : Tree) (rest : List Place) → or_zero (total (intervals_in es) a) ≤ from → filter test (in_order a ++ rest) ≡ filter test rest
+  skipped a rest low = filter-append test (in_order a) rest ∙ ap (λ (y : List Place). y ++ filter test rest) (none_below a low)
+
+  module _ {E : Type 0} (n : E → Node) (v : Table E) (u : Option Place) (turns : ℕ) where
+    -- what a search finds below
+    abbrev pub FindsFirst : Option Place → ℕ → Option Place → Type 0
+    FindsFirst o fuel result = (x : Option Place) (t : Tree) → IsTree n v.entry x t → o ≡ top t → IsSummed (intervals_in es) x t → IsSorted nat_cmp (map start (in_order t)) → height t ≤ fuel
+        → result ≡ first (filter test (in_order t))
+
+    abbrev Finds : Option Place → Tree → Type 0
+    Finds result t = IsTree n v.entry u t → IsSummed (intervals_in es) u t → IsSorted nat_cmp (map start (in_order t)) → height t ≤ turns → result ≡ first (filter test (in_order t))
+
+    at_root : (p : Place) (result : Option Place) → ((c : Color) (a b : Tree) → Finds result (fork c a p b)) → (t : Tree) → Some p ≡ top t → Finds result t
+    at_root p result f leaf e = absurd (none_not p (sym e))
+    at_root p result f (fork c a q b) e = subst (λ (y : Place). Finds result (fork c a y b)) (some_same e) (f c a b)
+
+    module _ (p : Place) (l r : Option Place) (g : ℕ) (el : l ≡ (n (v.entry p)).left) (eg : g ≡ or_zero (seen (intervals_in es) l)) (er : r ≡ (n (v.entry p)).right) where
+      left_greatest : (c : Color) (a b : Tree) → IsTree n v.entry u (fork c a p b) → IsSummed (intervals_in es) u (fork c a p b) → g ≡ or_zero (total (intervals_in es) a)
+      left_greatest c a b h s = eg ∙ ap or_zero (ap (seen (intervals_in es)) (el ∙ h.0.left) ∙ summed_seen (intervals_in es) (Some p) a s.2)
+
+      pub overlap_left : (result : Option Place) → from < g → FindsFirst l (turns - 1) result → (t : Tree) → Some p ≡ top t → Finds result t
+      overlap_left result more found = at_root p result (λ c a b h s sorted low.
+          found (Some p) a h.1 (el ∙ h.0.left) s.2 (sorted_front start (in_order a) (p ∷ in_order b) sorted) (omega (arith, low, le-max_left (height a) (height b)))
+          ∙ first_left (in_order a) (p ∷ in_order b) (reaches a (omega (arith, more, left_greatest c a b h s))) sorted)
+
+      pub overlap_none : g ≤ from → to ≤ start p → (t : Tree) → Some p ≡ top t → Finds None t
+      overlap_none less behind = at_root p None (λ c a b h s sorted low.
+          sym (ap first (skipped a (p ∷ in_order b) (omega (arith, less, left_greatest c a b h s)) ∙ late p (in_order b) behind (sorted_behind start (in_order a) (p ∷ in_order b) sorted))))
+
+      pub overlap_here : g ≤ from → start p < to → from < end p → (t : Tree) → Some p ≡ top t → Finds (Some p) t
+      overlap_here less starts ends = at_root p (Some p) (λ c a b h s sorted low.
+          sym (ap first (skipped a (p ∷ in_order b) (omega (arith, less, left_greatest c a b h s)) ∙ takes p (in_order b) (over p starts ends))))
+
+      pub overlap_right : (result : Option Place) → g ≤ from → end p ≤ from → FindsFirst r (turns - 1) result → (t : Tree) → Some p ≡ top t → Finds result t
+      overlap_right result less ends found = at_root p result (λ c a b h s sorted low.
+          found (Some p) b h.2 (er ∙ h.0.right) s.3 (sorted_tail start p (in_order b) (sorted_behind start (in_order a) (p ∷ in_order b) sorted)) (omega (arith, low, le-max_right (height a) (height b)))
+          ∙ sym (ap first (skipped a (p ∷ in_order b) (omega (arith, less, left_greatest c a b h s)) ∙ drops p (in_order b) (ends_before p ends))))
+
+  module _ {E : Type 0} (n : E → Node) (v : Table E) where
+    -- FROM THE ROOT
+    pub first_is : {root : Option Place} (s : List Place) (h : ShowsSummed n (intervals_in es) v root s) → IsSorted nat_cmp (map start s) → (o result : Option Place) → o ≡ root → FindsFirst n v None 67 o 67 result
+        → result ≡ first (filter test s)
+    first_is s h sorted o result e found =
+        let low : height h.shows.tree ≤ 66 = path_few n h.shows [] h.shows.tree (height h.shows.tree) refl (omega arith) in
+        found None h.shows.tree h.shows.held.entries (e ∙ h.shows.starts) h.summed (subst (λ (y : List Place). IsSorted nat_cmp (map start y)) (sym h.shows.held.order) sorted) (omega (arith, low))
+        ∙ ap (λ (y : List Place). first (filter test y)) h.shows.held.order
+
+-- what stands at the members of a subtree on either side
+pub placed_left : {T : Type 0} (objects : Objects T) (f g : List Place) → ArePlaced objects (f ++ g) → ArePlaced objects f
+placed_left objects [] g h = tt
+placed_left objects (x ∷ f) g h = (h.0, placed_left objects f g h.1)
+
+pub placed_right : {T : Type 0} (objects : Objects T) (f g : List Place) → ArePlaced objects (f ++ g) → ArePlaced objects g
+placed_right objects [] g h = h
+placed_right objects (x ∷ f) g h = placed_right objects f g h.1
+
+module _ {E T : Type 0} (n : E → Node) (v : Table E) (objects : Objects T) (u : Option Place) (p : Place) where
+  -- the tree on the left, whose members have objects, and that on the right
+  abbrev pub HasTree : Option Place → Type 0
+  HasTree o = (x : Option Place) × (t : Tree) × IsTree n v.entry x t × (o ≡ top t) × ArePlaced objects (in_order t)
+
+  pub has_left : (t : Tree) (l : Option Place) → IsTree n v.entry u t → Some p ≡ top t → ArePlaced objects (in_order t) → l ≡ (n (v.entry p)).left → HasTree l
+  has_left leaf l h e placed el = absurd (none_not p (sym e))
+  has_left (fork c a q b) l h e placed el =
+      (Some q, a, h.1, el ∙ (ap (λ (y : Place). (n (v.entry y)).left) (some_same e) ∙ h.0.left), placed_left objects (in_order a) (q ∷ in_order b) placed)
+
+  pub has_right : (t : Tree) (r : Option Place) → IsTree n v.entry u t → Some p ≡ top t → ArePlaced objects (in_order t) → r ≡ (n (v.entry p)).right → HasTree r
+  has_right leaf r h e placed er = absurd (none_not p (sym e))
+  has_right (fork c a q b) r h e placed er =
+      (Some q, b, h.2, er ∙ (ap (λ (y : Place). (n (v.entry y)).right) (some_same e) ∙ h.0.right), (placed_right objects (in_order a) (q ∷ in_order b) placed).1)
+
+  pub has_here : (t : Tree) → Some p ≡ top t → ArePlaced objects (in_order t) → is_placed objects p ≡ true
+  has_here leaf e placed = absurd (none_not p (sym e))
+  has_here (fork c a q b) e placed = subst (λ (y : Place). is_placed objects y ≡ true) (sym (some_same e)) (placed_right objects (in_order a) (q ∷ in_order b) placed).0
+
+module _ {E : Type 0} (n : E → Node) (v : Table E) where
+  module _ {T : Type 0} (objects : Objects T) where
+    -- the parent's subtree, and what stands behind it
+    pub behind_up : (fs : List Frame) (t : Tree) (up : Place) → IsSubtree n v fs t → ArePlaced objects (after fs) → above fs ≡ Some up
+        → (gs : List Frame) × (u : Tree) × IsSubtree n v gs u × (top u ≡ Some up) × ArePlaced objects (after gs)
+    behind_up [] t up h placed e = absurd (none_not up e)
+    behind_up (frame Left c q b ∷ fs) t up h placed e = (fs, fork c t q b, subtree_left n v c q b fs t h, e, placed_right objects (in_order b) (after fs) placed.1)
+    behind_up (frame Right c q b ∷ fs) t up h placed e = (fs, fork c b q t, subtree_right n v c q b fs t h, e, placed)
+
+    module _ (p up : Place) (right : Option Place) (right_is : right ≡ (n (v.entry up)).right) (other : is_end right p ≡ false) where
+      -- a right child has the parent behind it
+      absurd_right : (fs : List Frame) (t : Tree) (c : Color) (q : Place) (b : Tree) → IsSubtree n v (frame Right c q b ∷ fs) t → top t ≡ Some p → Some q ≡ Some up → ⊥
+      absurd_right fs t c q b h e eu = not_end right p other (right_is ∙ (ap (λ (y : Place). (n (v.entry y)).right) (sym (some_same eu)) ∙ (h.around.0.right ∙ e)))
+
+      pub behind_here : (fs : List Frame) (t : Tree) → IsSubtree n v fs t → top t ≡ Some p → ArePlaced objects (after fs) → above fs ≡ Some up → is_placed objects up ≡ true
+      behind_here [] t h e placed eu = absurd (none_not up eu)
+      behind_here (frame Left c q b ∷ fs) t h e placed eu = subst (λ (y : Place). is_placed objects y ≡ true) (some_same eu) placed.0
+      behind_here (frame Right c q b ∷ fs) t h e placed eu = absurd (absurd_right fs t c q b h e eu)
+
+      pub behind_tree : (fs : List Frame) (t : Tree) → IsSubtree n v fs t → top t ≡ Some p → ArePlaced objects (after fs) → above fs ≡ Some up → HasTree n v objects None up right
+      behind_tree [] t h e placed eu = absurd (none_not up eu)
+      behind_tree (frame Left c q b ∷ fs) t h e placed eu =
+          (Some q, b, h.around.1, right_is ∙ (ap (λ (y : Place). (n (v.entry y)).right) (sym (some_same eu)) ∙ h.around.0.right), placed_left objects (in_order b) (after fs) placed.1)
+      behind_tree (frame Right c q b ∷ fs) t h e placed eu = absurd (absurd_right fs t c q b h e eu)
+
+  module _ (start : Place → ℕ) (es : List Interval) (from to : ℕ) where
+    -- what is found behind the subtree at a place
+    abbrev pub FindsBehind : Place → ℕ → Option Place → Type 0
+    FindsBehind p turns result = (fs : List Frame) (t : Tree) → IsSubtree n v fs t → IsSummed (intervals_in es) None (plug fs t) → top t ≡ Some p → IsSorted nat_cmp (map start (after fs)) → length fs ≤ turns
+        → result ≡ first (filter (test start es from to) (after fs))
+
+    module _ (p up : Place) (turns : ℕ) (right : Option Place) (right_is : right ≡ (n (v.entry up)).right) (result : Option Place) where
+      -- behind a right child stands what stands behind the parent's subtree
+      pub behind_right : FindsBehind up (turns - 1) result → is_end right p ≡ true → (fs : List Frame) (t : Tree) → above fs ≡ Some up → IsSubtree n v fs t → IsSummed (intervals_in es) None (plug fs t) → top t ≡ Some p
+          → IsSorted nat_cmp (map start (after fs)) → length fs ≤ turns → result ≡ first (filter (test start es from to) (after fs))
+      behind_right on same [] t eu h s e sorted low = absurd (none_not up eu)
+      behind_right on same (frame Left c q b ∷ fs) t eu h s e sorted low =
+          let twice : top b ≡ Some p = sym h.around.0.right ∙ (ap (λ (y : Place). (n (v.entry y)).right) (some_same eu) ∙ (sym right_is ∙ end_is right p same)) in
+          absurd (omega (arith, h.once p, times_plug p fs (fork c t q b), times_top p t e, times_top p b twice))
+      behind_right on same (frame Right c q b ∷ fs) t eu h s e sorted low = on fs (fork c b q t) (subtree_right n v c q b fs t h) s eu sorted (omega (arith, low))
+
+      -- behind a left one stand the parent, its right subtree and then that
+      module _ (found : (b : Tree) (fs : List Frame) (c : Color) (t : Tree) → IsSubtree n v fs (fork c t up b) → IsSummed (intervals_in es) None (plug fs (fork c t up b)) → IsSummed (intervals_in es) (Some up) b → right ≡ top b
+          → IsTree n v.entry (Some up) b → IsSorted nat_cmp (map start (up ∷ (in_order b ++ after fs))) → length fs ≤ turns - 1 → result ≡ first (filter (test start es from to) (up ∷ (in_order b ++ after fs)))) where
+        pub behind_left : is_end right p ≡ false → (fs : List Frame) (t : Tree) → above fs ≡ Some up → IsSubtree n v fs t → IsSummed (intervals_in es) None (plug fs t) → top t ≡ Some p
+            → IsSorted nat_cmp (map start (after fs)) → length fs ≤ turns → result ≡ first (filter (test start es from to) (after fs))
+        behind_left other [] t eu h s e sorted low = absurd (none_not up eu)
+        behind_left other (frame Right c q b ∷ fs) t eu h s e sorted low =
+            absurd (not_end right p other (right_is ∙ (ap (λ (y : Place). (n (v.entry y)).right) (sym (some_same eu)) ∙ (h.around.0.right ∙ e))))
+        behind_left other (frame Left c q b ∷ fs) t eu h s e sorted low = at q (sym (some_same eu)) (subtree_left n v c q b fs t h) s h.around.0.right h.around.1 sorted where
+          at : (y : Place) → up ≡ y → IsSubtree n v fs (fork c t y b) → IsSummed (intervals_in es) None (plug fs (fork c t y b)) → (n (v.entry y)).right ≡ top b → IsTree n v.entry (Some y) b
+              → IsSorted nat_cmp (map start (y ∷ (in_order b ++ after fs))) → result ≡ first (filter (test start es from to) (y ∷ (in_order b ++ after fs)))
+          at y is = subst (λ (x : Place). IsSubtree n v fs (fork c t x b) → IsSummed (intervals_in es) None (plug fs (fork c t x b)) → (n (v.entry x)).right ≡ top b → IsTree n v.entry (Some x) b
+              → IsSorted nat_cmp (map start (x ∷ (in_order b ++ after fs))) → result ≡ first (filter (test start es from to) (x ∷ (in_order b ++ after fs)))) is
+              (λ h2 s2 r2 t2 sorted2. found b fs c t h2 s2 (summed_below (intervals_in es) fs (fork c t up b) s2).3 (right_is ∙ r2) t2 sorted2 (omega (arith, low)))
+
+      pub behind_none : result ≡ None → to ≤ start up → is_end right p ≡ false → (fs : List Frame) (t : Tree) → above fs ≡ Some up → IsSubtree n v fs t → IsSummed (intervals_in es) None (plug fs t) → top t ≡ Some p
+          → IsSorted nat_cmp (map start (after fs)) → length fs ≤ turns → result ≡ first (filter (test start es from to) (after fs))
+      behind_none none behind = behind_left (λ b fs c t h s sb rb tb sorted low. none ∙ sym (ap first (late start es from to up (in_order b ++ after fs) behind sorted)))
+
+      pub behind_this : result ≡ Some up → start up < to → from < (interval_in es up).end → is_end right p ≡ false → (fs : List Frame) (t : Tree) → above fs ≡ Some up → IsSubtree n v fs t → IsSummed (intervals_in es) None (plug fs t)
+          → top t ≡ Some p → IsSorted nat_cmp (map start (after fs)) → length fs ≤ turns → result ≡ first (filter (test start es from to) (after fs))
+      behind_this is starts ends = behind_left (λ b fs c t h s sb rb tb sorted low. is ∙ sym (ap first (takes start es from to up (in_order b ++ after fs) (over start es from to up starts ends))))
+
+      module _ (g : ℕ) (g_is : g ≡ or_zero (seen (intervals_in es) right)) (ends : (interval_in es up).end ≤ from) where
+        greatest_is : (b : Tree) → right ≡ top b → IsSummed (intervals_in es) (Some up) b → g ≡ or_zero (total (intervals_in es) b)
+        greatest_is b rb sb = g_is ∙ ap or_zero (ap (seen (intervals_in es)) rb ∙ summed_seen (intervals_in es) (Some up) b sb)
+
+        pub behind_below : from < g → FindsFirst start es from to n v None 67 right 67 result → is_end right p ≡ false → (fs : List Frame) (t : Tree) → above fs ≡ Some up → IsSubtree n v fs t
+            → IsSummed (intervals_in es) None (plug fs t) → top t ≡ Some p → IsSorted nat_cmp (map start (after fs)) → length fs ≤ turns → result ≡ first (filter (test start es from to) (after fs))
+        behind_below more below = behind_left (λ b fs c t h s sb rb tb sorted low.
+            let rest = sorted_tail start up (in_order b ++ after fs) sorted in
+            below (Some up) b tb rb sb (sorted_front start (in_order b) (after fs) rest) (omega (arith, h.low, lower fs (fork c t up b), le-max_right (height t) (height b)))
+            ∙ (first_left start es from to (in_order b) (after fs) (reaches start es from to b (omega (arith, more, greatest_is b rb sb))) rest
+            ∙ sym (ap first (drops start es from to up (in_order b ++ after fs) (ends_before start es from to up ends)))))
+
+        pub behind_on : g ≤ from → FindsBehind up (turns - 1) result → is_end right p ≡ false → (fs : List Frame) (t : Tree) → above fs ≡ Some up → IsSubtree n v fs t → IsSummed (intervals_in es) None (plug fs t) → top t ≡ Some p
+            → IsSorted nat_cmp (map start (after fs)) → length fs ≤ turns → result ≡ first (filter (test start es from to) (after fs))
+        behind_on less on = behind_left (λ b fs c t h s sb rb tb sorted low.
+            on fs (fork c t up b) h s refl (sorted_behind start (in_order b) (after fs) (sorted_tail start up (in_order b ++ after fs) sorted)) low
+            ∙ sym (ap first (drops start es from to up (in_order b ++ after fs) (ends_before start es from to up ends) ∙ skipped start es from to b (after fs) (omega (arith, less, greatest_is b rb sb)))))
+
+    pub behind_root : (fs : List Frame) → above fs ≡ None → None ≡ first (filter (test start es from to) (after fs))
+    behind_root [] e = refl
+    behind_root (frame d c p b ∷ fs) e = absurd (none_not p (sym e))
+
+    pub behind_spent : (fs : List Frame) → length fs ≤ 0 → None ≡ first (filter (test start es from to) (after fs))
+    behind_spent [] e = refl
+    behind_spent (f ∷ fs) e = absurd (omega (arith, e))
+
+    module _ (root : Option Place) (front : List Place) (p : Place) (back : List Place) (right : Option Place) (g : ℕ) (result : Option Place) (right_is : right ≡ (n (v.entry p)).right) (g_is : g ≡ or_zero (seen (intervals_in es) right)) where
+      -- what is found behind a member
+      abbrev FindsNext : Type 0
+      FindsNext = ShowsSummed n (intervals_in es) v root (front ++ p ∷ back) → IsSorted nat_cmp (map start (front ++ p ∷ back)) → result ≡ first (filter (test start es from to) back)
+
+      behind_sorted : (s : List Place) → s ≡ back → IsSorted nat_cmp (map start (front ++ p ∷ back)) → IsSorted nat_cmp (map start s)
+      behind_sorted s e sorted = subst (λ (y : List Place). IsSorted nat_cmp (map start y)) (sym e) (sorted_tail start p back (sorted_behind start front (p ∷ back) sorted))
+
+      pub next_below : from < g → FindsFirst start es from to n v None 67 right 67 result → FindsNext
+      next_below more below h sorted =
+          let x = member_subtree n v root front p back h.shows in
+          let t : Tree = fork x.c x.a p x.b in
+          let summed = subst (λ (y : Tree). IsSummed (intervals_in es) None y) (sym x.same) h.summed in
+          let sb = (summed_below (intervals_in es) x.fs t summed).3 in
+          let rb : right ≡ top x.b = right_is ∙ x.subtree.tree.0.right in
+          let many : g ≡ or_zero (total (intervals_in es) x.b) = g_is ∙ ap or_zero (ap (seen (intervals_in es)) rb ∙ summed_seen (intervals_in es) (Some p) x.b sb) in
+          let rest = behind_sorted (in_order x.b ++ after x.fs) x.back_is sorted in
+          below (Some p) x.b x.subtree.tree.2 rb sb (sorted_front start (in_order x.b) (after x.fs) rest) (omega (arith, x.subtree.low, lower x.fs t, le-max_right (height x.a) (height x.b)))
+          ∙ (first_left start es from to (in_order x.b) (after x.fs) (reaches start es from to x.b (omega (arith, more, many))) rest ∙ ap (λ (y : List Place). first (filter (test start es from to) y)) x.back_is)
+
+      pub next_behind : g ≤ from → FindsBehind p 67 result → FindsNext
+      next_behind less behind h sorted =
+          let x = member_subtree n v root front p back h.shows in
+          let t : Tree = fork x.c x.a p x.b in
+          let summed = subst (λ (y : Tree). IsSummed (intervals_in es) None y) (sym x.same) h.summed in
+          let sb = (summed_below (intervals_in es) x.fs t summed).3 in
+          let rb : right ≡ top x.b = right_is ∙ x.subtree.tree.0.right in
+          let many : g ≡ or_zero (total (intervals_in es) x.b) = g_is ∙ ap or_zero (ap (seen (intervals_in es)) rb ∙ summed_seen (intervals_in es) (Some p) x.b sb) in
+          let rest = behind_sorted (in_order x.b ++ after x.fs) x.back_is sorted in
+          behind x.fs t x.subtree summed refl (sorted_behind start (in_order x.b) (after x.fs) rest) (omega (arith, x.low))
+          ∙ (sym (ap first (skipped start es from to x.b (after x.fs) (omega (arith, less, many)))) ∙ ap (λ (y : List Place). first (filter (test start es from to) y)) x.back_is)

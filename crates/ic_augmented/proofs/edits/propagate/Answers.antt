@@ -1,0 +1,19 @@
+use Rattle.std.proofs.Common.{refl}
+use Rattle.ic_link_ops.specs.Trees.{fork}
+use Rattle.ic_augmented.proofs.EditLemmas.{still_consistent}
+use Rattle.ic_augmented.proofs.PathLemmas.{propagated}
+use Rattle.ic_augmented.proofs.SubtreeLemmas.{member_subtree}
+use Rattle.ic_augmented.proofs.edits.propagate.Goals as goal
+
+pub refresh_path-requires-clause-subtree : goal.refresh_path-requires-clause-subtree
+refresh_path-requires-clause-subtree g c =
+    let m = c.requires.member.1 in
+    let x = member_subtree g.N.Nodes.node (g.N.Nodes.table c.args.summed.now.links) c.requires.member.0 m.front c.args.place m.back m.shown in
+    (x.fs, fork x.c x.a c.args.place x.b, x.subtree, refl)
+
+pub returns-clause-summed : goal.returns-clause-summed
+returns-clause-summed g c root front back h =
+    propagated g.N.Nodes.node (g.N.Nodes.table c.args.summed.now.links) (g.M.Sums.sums c.args.summed.now.sums) (g.M.Sums.sums c.refresh_path.new.sums) root front c.args.place back c.refresh_path.ensures.summed h
+
+pub returns-clause-consistent : goal.returns-clause-consistent
+returns-clause-consistent g c root front back h = still_consistent g.N.Nodes.node _ _ root _ (returns-clause-summed g c root front back h)

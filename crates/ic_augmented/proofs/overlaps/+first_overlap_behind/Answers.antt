@@ -1,0 +1,92 @@
+use Rattle.std.proofs.Common.{rules, ℕ, ◌≡◌, ◌<◌, ◌≤◌, Some, None, arith, refl, sym, ap, ◌∙◌}
+use Rattle.ic_rbtree.specs.SortedObjects.{key_or}
+use Rattle.ic_augmented.specs.Intervals.{start_in, end_of}
+use Rattle.ic_augmented.proofs.OverlapLemmas.{behind_up, behind_here, behind_tree, behind_right, behind_none, behind_this, behind_below, behind_on}
+use Rattle.ic_augmented.proofs.SubtreeLemmas.{subtree_parent}
+use Rattle.ic_augmented.proofs.overlaps.+first_overlap_behind.Goals as goal
+
+pub first_overlap_behind-requires : goal.first_overlap_behind-requires
+first_overlap_behind-requires g t c κs within =
+    let n = g.N.Nodes.node in
+    let v = g.N.Nodes.table c.args.links.now in
+    let r = c.requires in
+    let eu = sym (subtree_parent n v r.0 r.1 c.args.place r.2 r.3) ∙ (sym c.parent.ensures ∙ c.in_ok-above.was) in
+    let up = behind_up n v (g.O.Values.values c.args.starts.now) r.0 r.1 c.in_ok-above.above r.2 r.4 eu in
+    search rules
+
+pub returns-then-is_at : goal.returns-then-is_at
+returns-then-is_at g t c fs u h s e sorted low =
+    let n = g.N.Nodes.node in
+    let v = g.N.Nodes.table c.args.links.now in
+    let start = start_in (g.O.Values.values c.args.starts.now) in
+    let es = c.args.ends.now.cells.items in
+    let eu = sym (subtree_parent n v fs u c.args.place h e) ∙ (sym c.parent.ensures ∙ c.in_ok-above.was) in
+    behind_right n v start es c.args.from c.args.to c.args.place c.in_ok-above.above c.args.turns c.right-right.result c.right-right.ensures c.first_overlap_behind.result c.first_overlap_behind.ensures (sym c.is_at.ensures ∙ c.if-is_at.true) fs u eu h s e sorted low
+
+pub value-requires : goal.value-requires
+value-requires g t c =
+    let n = g.N.Nodes.node in
+    let v = g.N.Nodes.table c.args.links.now in
+    let r = c.requires in
+    let eu = sym (subtree_parent n v r.0 r.1 c.args.place r.2 r.3) ∙ (sym c.parent.ensures ∙ c.in_ok-above.was) in
+    record { placed = behind_here n v (g.O.Values.values c.args.starts.now) c.args.place c.in_ok-above.above c.right-right.result c.right-right.ensures (sym c.is_at.ensures ∙ c.if-is_at.false) r.0 r.1 r.2 r.3 r.4 eu }
+
+pub returns-then-to-value : goal.returns-then-to-value
+returns-then-to-value g t c fs u h s e sorted low =
+    let n = g.N.Nodes.node in
+    let v = g.N.Nodes.table c.args.links.now in
+    let start = start_in (g.O.Values.values c.args.starts.now) in
+    let es = c.args.ends.now.cells.items in
+    let eu = sym (subtree_parent n v fs u c.args.place h e) ∙ (sym c.parent.ensures ∙ c.in_ok-above.was) in
+    let is : start c.in_ok-above.above ≡ c.value.result.now = ap (key_or (λ (x : ℕ). x)) c.value.ensures in
+    let behind : c.args.to ≤ start c.in_ok-above.above = omega (arith, is, c.if-to-value.true) in
+    behind_none n v start es c.args.from c.args.to c.args.place c.in_ok-above.above c.args.turns c.right-right.result c.right-right.ensures None refl behind (sym c.is_at.ensures ∙ c.if-is_at.false) fs u eu h s e sorted low
+
+pub returns-then-from-end : goal.returns-then-from-end
+returns-then-from-end g t c fs u h s e sorted low =
+    let n = g.N.Nodes.node in
+    let v = g.N.Nodes.table c.args.links.now in
+    let start = start_in (g.O.Values.values c.args.starts.now) in
+    let es = c.args.ends.now.cells.items in
+    let eu = sym (subtree_parent n v fs u c.args.place h e) ∙ (sym c.parent.ensures ∙ c.in_ok-above.was) in
+    let is : start c.in_ok-above.above ≡ c.value.result.now = ap (key_or (λ (x : ℕ). x)) c.value.ensures in
+    let starts : start c.in_ok-above.above < c.args.to = omega (arith, is, c.if-to-value.false) in
+    let ends : c.args.from < end_of c.args.ends.now c.in_ok-above.above = omega (arith, c.end.ensures, c.if-from-end.true) in
+    behind_this n v start es c.args.from c.args.to c.args.place c.in_ok-above.above c.args.turns c.right-right.result c.right-right.ensures (Some c.in_ok-above.above) refl starts ends (sym c.is_at.ensures ∙ c.if-is_at.false) fs u eu h s e sorted low
+
+pub first_overlap_below-requires : goal.first_overlap_below-requires
+first_overlap_below-requires g t c =
+    let n = g.N.Nodes.node in
+    let v = g.N.Nodes.table c.args.links.now in
+    let r = c.requires in
+    let eu = sym (subtree_parent n v r.0 r.1 c.args.place r.2 r.3) ∙ (sym c.parent.ensures ∙ c.in_ok-above.was) in
+    behind_tree n v (g.O.Values.values c.args.starts.now) c.args.place c.in_ok-above.above c.right-right.result c.right-right.ensures (sym c.is_at.ensures ∙ c.if-is_at.false) r.0 r.1 r.2 r.3 r.4 eu
+
+pub returns-then-from-greatest : goal.returns-then-from-greatest
+returns-then-from-greatest g t c fs u h s e sorted low =
+    let n = g.N.Nodes.node in
+    let v = g.N.Nodes.table c.args.links.now in
+    let start = start_in (g.O.Values.values c.args.starts.now) in
+    let es = c.args.ends.now.cells.items in
+    let eu = sym (subtree_parent n v fs u c.args.place h e) ∙ (sym c.parent.ensures ∙ c.in_ok-above.was) in
+    let ends : end_of c.args.ends.now c.in_ok-above.above ≤ c.args.from = omega (arith, c.end.ensures, c.if-from-end.false) in
+    behind_below n v start es c.args.from c.args.to c.args.place c.in_ok-above.above c.args.turns c.right-right.result c.right-right.ensures c.first_overlap_below.result c.greatest.result c.greatest.ensures ends c.if-from-greatest.true c.first_overlap_below.ensures (sym c.is_at.ensures ∙ c.if-is_at.false) fs u eu h s e sorted low
+
+pub first_overlap_behind-requires-2 : goal.first_overlap_behind-requires-2
+first_overlap_behind-requires-2 g t c κs within =
+    let n = g.N.Nodes.node in
+    let v = g.N.Nodes.table c.args.links.now in
+    let r = c.requires in
+    let eu = sym (subtree_parent n v r.0 r.1 c.args.place r.2 r.3) ∙ (sym c.parent.ensures ∙ c.in_ok-above.was) in
+    let up = behind_up n v (g.O.Values.values c.args.starts.now) r.0 r.1 c.in_ok-above.above r.2 r.4 eu in
+    search rules
+
+pub returns : goal.returns
+returns g t c fs u h s e sorted low =
+    let n = g.N.Nodes.node in
+    let v = g.N.Nodes.table c.args.links.now in
+    let start = start_in (g.O.Values.values c.args.starts.now) in
+    let es = c.args.ends.now.cells.items in
+    let eu = sym (subtree_parent n v fs u c.args.place h e) ∙ (sym c.parent.ensures ∙ c.in_ok-above.was) in
+    let ends : end_of c.args.ends.now c.in_ok-above.above ≤ c.args.from = omega (arith, c.end.ensures, c.if-from-end.false) in
+    behind_on n v start es c.args.from c.args.to c.args.place c.in_ok-above.above c.args.turns c.right-right.result c.right-right.ensures c.first_overlap_behind-2.result c.greatest.result c.greatest.ensures ends c.if-from-greatest.false c.first_overlap_behind-2.ensures (sym c.is_at.ensures ∙ c.if-is_at.false) fs u eu h s e sorted low

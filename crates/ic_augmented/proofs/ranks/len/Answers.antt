@@ -1,0 +1,6 @@
+use Rattle.std.proofs.Common.{◌∙◌}
+use Rattle.ic_augmented.proofs.CountLemmas.{length_is}
+use Rattle.ic_augmented.proofs.ranks.len.Goals as goal
+
+pub returns : goal.returns
+returns g c s h = c.count.ensures ∙ length_is g.N.Nodes.node _ _ _ s h c.root.result c.root.ensures

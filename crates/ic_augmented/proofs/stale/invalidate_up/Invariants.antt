@@ -1,0 +1,19 @@
+use Rattle.std.proofs.Common.{◌≡◌, Some, None, List, ◌⊎◌}
+use Rattle.ic_unsafe_ref.specs.declared.place.Place.{Place}
+use Rattle.ic_augmented.specs.Consistent.{IsConsistent, IsConsistentBut}
+use Rattle.ic_augmented.proofs.stale.invalidate_up.Given as goal
+
+abbrev pub invariant-loop-at : goal.invariant-loop-at
+invariant-loop-at g l =
+    let n = g.N.Nodes.node in
+    let v = g.N.Nodes.table l._links in
+    let z = g.M.Sums.sums l.sums in
+    record {
+      stale : (l.at ≡ Some l.fn.place) ⊎ (z.fresh l.fn.place ≡ None);
+      consistent : (s : List Place) → IsConsistent n v (g.M.Sums.sums l.fn.sums) s → IsConsistentBut n v z s l.at;
+      covers : (q : Place) → g.M.Sums.Covers l.fn.sums q → g.M.Sums.Covers l.sums q;
+      join : z.join ≡ (g.M.Sums.sums l.fn.sums).join;
+    }
+
+abbrev pub decreases-loop-at : goal.decreases-loop-at
+decreases-loop-at g l = g.M.Sums.count l.sums

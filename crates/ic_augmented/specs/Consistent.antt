@@ -1,0 +1,72 @@
+-- Summaries that are right where they are fresh: what every edit keeps.
+use Rattle.std.specs.Prelude.{◌≡◌, ◌≤◌, ℕ, true, Option, Some, None, List, [], ◌∷◌}
+use Rattle.ic_unsafe_ref.specs.declared.place.Place.{Place}
+use Rattle.ic_link_ops.specs.Tables.{Table}
+use Rattle.ic_link_ops.specs.Frames.{Frame, frame}
+use Rattle.ic_link_ops.specs.Trees.{Tree, leaf, fork, top}
+use Rattle.ic_link_ops.specs.RedBlackTree.{Node, Shows}
+use Rattle.ic_link_ops.specs.Times.{times, times_in}
+use Rattle.ic_rbtree.specs.Height.{height}
+use Rattle.ic_augmented.specs.Sums.{Sums, is_fresh, seen, IsSummed}
+
+module _ {S : Type 0} where
+  -- the child is fresh, and its summary was written below q
+  abbrev pub IsUnder : Sums S → Place → Option Place → Type 0
+  IsUnder z q None = Unit {0}
+  IsUnder z q (Some c) = (is_fresh (z.fresh c) ≡ true) × (z.upper c ≡ Some q)
+
+  -- the summary x at q is what its value makes of those of its children, which are fresh
+  pub record IsJoined (z : Sums S) (q : Place) (left right : Option Place) (x : S) : Type 0 where
+    pub joined : x ≡ z.join q (seen z left) (seen z right)
+    pub left_is : IsUnder z q left
+    pub right_is : IsUnder z q right
+
+  -- all at q is the same
+  pub record IsSameAt (z w : Sums S) (q : Place) : Type 0 where
+    pub fresh : w.fresh q ≡ z.fresh q
+    pub upper : w.upper q ≡ z.upper q
+
+  -- in this tree each fresh summary is right
+  abbrev pub IsConsistentTree : Sums S → Tree → Type 0
+  IsConsistentTree z leaf = Unit {0}
+  IsConsistentTree z (fork c a p b) = ((x : S) → z.fresh p ≡ Some x → IsJoined z p (top a) (top b) x) × IsConsistentTree z a × IsConsistentTree z b
+
+  -- in both subtrees of the root it is
+  abbrev pub IsConsistentBelow : Sums S → Tree → Type 0
+  IsConsistentBelow z leaf = Unit {0}
+  IsConsistentBelow z (fork c a p b) = IsConsistentTree z a × IsConsistentTree z b
+
+  -- and in each tree that stands beside a way down
+  abbrev pub IsConsistentBeside : Sums S → List Frame → Type 0
+  IsConsistentBeside z [] = Unit {0}
+  IsConsistentBeside z (frame d c p b ∷ fs) = IsConsistentTree z b × IsConsistentBeside z fs
+
+  -- from one state to the other a tree t has been summed, below `up`, if it was consistent in this sense and is not too high. Beside it
+  -- nothing has changed
+  pub record Refreshes (IsConsistent : Sums S → Tree → Type 0) (z w : Sums S) (up : Option Place) (t : Tree) (fuel : ℕ) : Type 0 where
+    pub frame : (q : Place) → times q t ≡ 0 → IsSameAt z w q
+    pub join : w.join ≡ z.join
+    pub summed : ((q : Place) → times q t ≤ 1) → IsConsistent z t → height t ≤ fuel → IsSummed w up t
+
+module _ {E S : Type 0} (n : E → Node) where
+  -- each fresh summary at a member of s is right, but maybe at one place
+  abbrev pub IsConsistentBut : Table E → Sums S → List Place → Option Place → Type 0
+  IsConsistentBut v z s but =
+      (q : Place) → 1 ≤ times_in q s → (but ≡ Some q → ⊥) → (x : S) → z.fresh q ≡ Some x → IsJoined z q (n (v.entry q)).left (n (v.entry q)).right x
+
+  abbrev pub IsConsistent : Table E → Sums S → List Place → Type 0
+  IsConsistent v z s = IsConsistentBut v z s None
+
+  -- an edit keeps what is right
+  pub record KeepsConsistent (v w : Table E) (z y : Sums S) : Type 0 where
+    pub consistent : (s : List Place) → IsConsistent v z s → IsConsistent w y s
+    pub join : y.join ≡ z.join
+
+  -- THE TABLE SHOWS s, and each fresh summary is right
+  abbrev pub ShowsConsistent : Sums S → Table E → Option Place → List Place → Type 0
+  ShowsConsistent z v root s = Shows n v root s × IsConsistent v z s
+
+  -- THE TABLE SHOWS s, SUMMED: the summary of each subtree stands at its root
+  pub record ShowsSummed (z : Sums S) (v : Table E) (root : Option Place) (s : List Place) : Type 0 where
+    pub shows : Shows n v root s
+    pub summed : IsSummed z None shows.tree

@@ -1,0 +1,113 @@
+//! Edits of a tree whose links have summaries beside them.
+//!
+//! ```text
+//! attach(&mut tree, &mut summed, parent, side, place);
+//! propagate(&mut summed, place);
+//! unlink(&mut tree, &mut summed, other);
+//! refresh(&tree, &mut summed);
+//! ```
+
+ghost use Rattle.std.specs.Prelude.{◌≡◌, Option, Some, List, [], ◌∷◌, ◌++◌};
+ghost use Rattle.ic_unsafe_ref.specs.declared.place.Place.{Place};
+ghost use Rattle.ic_link_ops.specs.Sequences.{Cut, join, insert, IsAbsent};
+ghost use Rattle.ic_link_ops.specs.Positions.{HasMember};
+ghost use Rattle.ic_link_ops.specs.RedBlackTree.{Shows};
+ghost use Rattle.ic_rbtree.specs.Closed.{IsNode, IsSafe, IsSafeBut, StaysClosed, ClosesAt, KeepsNodes};
+ghost use Rattle.ic_rbtree.specs.Insertion.{IsHole, Attaches};
+ghost use Rattle.ic_rbtree.specs.Transplants.{TakesAway};
+ghost use Rattle.ic_rbtree.specs.Tree.{root_of, adapter_of};
+ghost use Rattle.ic_augmented.specs.Summed.{links_of, sums_of};
+ghost use Rattle.ic_augmented.specs.Consistent.{KeepsConsistent, ShowsConsistent, ShowsSummed};
+
+use crate::stale::{invalidate_up, refresh_below, refresh_path};
+use crate::summed::Summed;
+use crate::sums::Sums;
+use ic_link_ops::Side;
+use ic_rbtree::{Nodes, RBTree};
+use ic_unsafe_ref::Place;
+
+/// Puts `place` in on this side of `parent`, as [`RBTree::attach`] does, and makes the summaries stale that it changes.
+///
+/// It asks for what `RBTree::attach` asks. Each fresh summary stays right, of every tree in the table. O(log n).
+pub fn attach<A, N: Nodes, M: Sums>(
+    tree: &mut RBTree<A>,
+    summed: &mut Summed<N, M>,
+    parent: Option<Place>,
+    side: Side,
+    place: Place,
+)
+    requires { IsSafeBut N.node (N.table (links_of summed.old)) (root_of tree.old) place (Some place ∷ parent ∷ []) }
+    ensures consistent { (gap : Cut) → IsNode N.node (N.table (links_of summed.old)) place → IsAbsent place (join gap)
+        → ShowsConsistent N.node (M.sums (sums_of summed.old)) (N.table (links_of summed.old)) (root_of tree.old) (join gap)
+        → IsHole N.node (N.table (links_of summed.old)) parent side gap
+        → ShowsConsistent N.node (M.sums (sums_of summed.new)) (N.table (links_of summed.new)) (root_of tree.new) (insert gap place) }
+    ensures attached { Attaches N.node (N.table (links_of summed.old)) (N.table (links_of summed.new)) (root_of tree.old) (root_of tree.new) parent side place }
+    ensures safe { ClosesAt N.node (N.table (links_of summed.old)) (N.table (links_of summed.new)) (root_of tree.old) (root_of tree.new) place (Some place ∷ parent ∷ []) }
+    ensures linked { KeepsNodes N.node (N.table (links_of summed.old)) (N.table (links_of summed.new)) }
+    ensures quiet { N.Quiet (links_of summed.old) (links_of summed.new) }
+    ensures sums { KeepsConsistent N.node (N.table (links_of summed.old)) (N.table (links_of summed.new)) (M.sums (sums_of summed.old)) (M.sums (sums_of summed.new)) }
+    ensures covers { (q : Place) → M.Covers (sums_of summed.old) q → M.Covers (sums_of summed.new) q }
+    ensures adapter { adapter_of tree.new ≡ adapter_of tree.old }
+{
+    invalidate_up(&summed.links, &mut summed.sums, place);
+    tree.attach(summed, parent, side, place);
+}
+
+/// Takes the member at `place` out, as [`RBTree::unlink`] does, and makes the summaries stale that it changes. The place stays linked.
+///
+/// It asks for what `RBTree::unlink` asks. Each fresh summary stays right, of every tree in the table. O(log n).
+pub fn unlink<A, N: Nodes, M: Sums>(tree: &mut RBTree<A>, summed: &mut Summed<N, M>, place: Place)
+    requires { IsSafe N.node (N.table (links_of summed.old)) (root_of tree.old) (Some place ∷ []) }
+    ensures consistent { (front back : List Place)
+        → ShowsConsistent N.node (M.sums (sums_of summed.old)) (N.table (links_of summed.old)) (root_of tree.old) (front ++ place ∷ back)
+        → ShowsConsistent N.node (M.sums (sums_of summed.new)) (N.table (links_of summed.new)) (root_of tree.new) (front ++ back) }
+    ensures taken { TakesAway N.node (N.table (links_of summed.old)) (N.table (links_of summed.new)) (root_of tree.old) (root_of tree.new) place }
+    ensures safe { StaysClosed N.node (N.table (links_of summed.old)) (N.table (links_of summed.new)) (root_of tree.old) (root_of tree.new) (Some place ∷ []) [] }
+    ensures linked { KeepsNodes N.node (N.table (links_of summed.old)) (N.table (links_of summed.new)) }
+    ensures quiet { N.Quiet (links_of summed.old) (links_of summed.new) }
+    ensures sums { KeepsConsistent N.node (N.table (links_of summed.old)) (N.table (links_of summed.new)) (M.sums (sums_of summed.old)) (M.sums (sums_of summed.new)) }
+    ensures covers { (q : Place) → M.Covers (sums_of summed.old) q → M.Covers (sums_of summed.new) q }
+    ensures adapter { adapter_of tree.new ≡ adapter_of tree.old }
+{
+    tree.unlink(summed, place);
+    invalidate_up(&summed.links, &mut summed.sums, place);
+}
+
+/// Renews the stale summaries of the tree: then it is summed. The links stay.
+///
+/// It asks that the links show a tree, and that there is room for a summary at each linked place. O(v) for v stale summaries.
+pub fn refresh<A, N: Nodes, M: Sums>(tree: &RBTree<A>, summed: &mut Summed<N, M>)
+    requires shown { (s : List Place) × Shows N.node (N.table (links_of summed.old)) (root_of tree.now) s }
+    requires covered { (q : Place) → IsNode N.node (N.table (links_of summed.old)) q → M.Covers (sums_of summed.old) q }
+    ensures summed { (s : List Place)
+        → ShowsConsistent N.node (M.sums (sums_of summed.old)) (N.table (links_of summed.old)) (root_of tree.now) s
+        → ShowsSummed N.node (M.sums (sums_of summed.new)) (N.table (links_of summed.new)) (root_of tree.now) s }
+    ensures consistent { (s : List Place)
+        → ShowsConsistent N.node (M.sums (sums_of summed.old)) (N.table (links_of summed.old)) (root_of tree.now) s
+        → ShowsConsistent N.node (M.sums (sums_of summed.new)) (N.table (links_of summed.new)) (root_of tree.now) s }
+    ensures covers { (q : Place) → M.Covers (sums_of summed.old) q → M.Covers (sums_of summed.new) q }
+    ensures links { links_of summed.new ≡ links_of summed.old }
+{
+    let root = tree.root();
+    refresh_below(&summed.links, &mut summed.sums, root, None, 67);
+}
+
+/// Renews the stale summaries of a tree from the member at `place` up: then it is summed. The links stay.
+///
+/// It does what [`refresh`] does, and is faster where what is stale stands at `place`, on the way from there to the root and beside that: after
+/// an insert of `place`. It asks that the place is that of a member, and that there is room for a summary at each linked place.
+/// O(log n + v) for v stale summaries.
+pub fn propagate<N: Nodes, M: Sums>(summed: &mut Summed<N, M>, place: Place)
+    requires member { (root : Option Place) × HasMember (Shows N.node (N.table (links_of summed.old)) root) place }
+    requires covered { (q : Place) → IsNode N.node (N.table (links_of summed.old)) q → M.Covers (sums_of summed.old) q }
+    ensures summed { (root : Option Place) (front back : List Place)
+        → ShowsConsistent N.node (M.sums (sums_of summed.old)) (N.table (links_of summed.old)) root (front ++ place ∷ back)
+        → ShowsSummed N.node (M.sums (sums_of summed.new)) (N.table (links_of summed.new)) root (front ++ place ∷ back) }
+    ensures consistent { (root : Option Place) (front back : List Place)
+        → ShowsConsistent N.node (M.sums (sums_of summed.old)) (N.table (links_of summed.old)) root (front ++ place ∷ back)
+        → ShowsConsistent N.node (M.sums (sums_of summed.new)) (N.table (links_of summed.new)) root (front ++ place ∷ back) }
+    ensures covers { (q : Place) → M.Covers (sums_of summed.old) q → M.Covers (sums_of summed.new) q }
+    ensures links { links_of summed.new ≡ links_of summed.old }
+{
+    refresh_path(&summed.links, &mut summed.sums, place, 67);
+}

@@ -1,0 +1,32 @@
+//! Red-black trees with a summary over each subtree, kept beside the links: how many members it has, the greatest
+//! end of its intervals, or what you make of them.
+//!
+//! An edit marks each summary as stale that may have changed, and `refresh` renews the stale ones. So several edits share one `refresh`.
+//!
+//! ```text
+//! insert_keyed(&mut tree, &mut summed, place);
+//! refresh(&tree, &mut summed);
+//! nth(&tree, &summed, 3) // the fourth member
+//! ```
+#![tactic(auto)]
+
+mod counts;
+mod edits;
+mod intervals;
+mod linking;
+mod no_sums;
+mod overlaps;
+mod ranks;
+mod stale;
+mod summed;
+mod sums;
+
+pub use counts::{Count, Counts};
+pub use edits::{attach, propagate, refresh, unlink};
+pub use intervals::{Interval, Intervals, set_end};
+pub use linking::{insert_keyed, remove};
+pub use no_sums::NoSums;
+pub use overlaps::{first_overlap, next_overlap};
+pub use ranks::{index_of, len, nth};
+pub use summed::Summed;
+pub use sums::Sums;

@@ -1,0 +1,153 @@
+//! Intervals that overlap another, found by the greatest ends of subtrees.
+//!
+//! ```text
+//! let first = first_overlap(&tree, &summed, &summed.links, 5, 8)?; // the first that overlaps [5, 8)
+//! let next = next_overlap(&summed, &summed.links, first, 5, 8); // and the one behind it
+//! ```
+
+ghost use Rattle.std.specs.Prelude.{◌≡◌, ◌≤◌, Option, None, Some, List, ◌∷◌, ◌++◌, filter, length, map};
+ghost use Rattle.std.specs.Ordering.{nat_cmp};
+ghost use Rattle.ic_unsafe_ref.specs.declared.place.Place.{Place};
+ghost use Rattle.ic_link_ops.specs.Frames.{Frame, plug, after};
+ghost use Rattle.ic_link_ops.specs.PlacedObjects.{ArePlaced};
+ghost use Rattle.ic_link_ops.specs.RedBlackTree.{IsTree, Shows};
+ghost use Rattle.ic_link_ops.specs.Sequences.{first};
+ghost use Rattle.ic_link_ops.specs.Tables.{Table};
+ghost use Rattle.ic_link_ops.specs.Trees.{Tree, top, in_order};
+ghost use Rattle.ic_rbtree.specs.Borders.{IsSorted};
+ghost use Rattle.ic_rbtree.specs.Height.{height};
+ghost use Rattle.ic_rbtree.specs.Tree.{root_of};
+ghost use Rattle.ic_augmented.specs.Consistent.{ShowsSummed};
+ghost use Rattle.ic_augmented.specs.Intervals.{intervals, end_of, start_in, overlaps};
+ghost use Rattle.ic_augmented.specs.Subtrees.{IsSubtree};
+ghost use Rattle.ic_augmented.specs.Summed.{links_of, sums_of};
+ghost use Rattle.ic_augmented.specs.Sums.{IsSummed};
+
+use crate::intervals::Intervals;
+use crate::ranks::is_at;
+use crate::summed::Summed;
+use ic_rbtree::{Nodes, RBTree};
+use ic_unsafe_ref::{Place, Values};
+use std::alloc::Allocator;
+
+// The first interval of the subtree at a place that overlaps `[from, to)`.
+fn first_overlap_below<N: Nodes, O: Values<u64>, A: Allocator>(
+    links: &N,
+    ends: &Intervals<A>,
+    starts: &O,
+    place: Option<Place>,
+    from: u64,
+    to: u64,
+    turns: u32,
+) -> Option<Place>
+    requires { (u : Option Place) × (t : Tree) × IsTree N.node (Table.entry (N.table links.now)) u t × (place ≡ top t) × ArePlaced (O.values starts.now) (in_order t) }
+    ensures { (u : Option Place) (t : Tree) → IsTree N.node (Table.entry (N.table links.now)) u t → place ≡ top t
+        → IsSummed (intervals ends.now) u t → IsSorted nat_cmp (map (start_in (O.values starts.now)) (in_order t)) → height t ≤ turns
+        → result ≡ first (filter (overlaps (start_in (O.values starts.now)) (end_of ends.now) from to) (in_order t)) }
+{
+    let here = place?;
+    if turns == 0 {
+        return None;
+    }
+    let left = links.left(here);
+    if from < ends.greatest(left) {
+        return first_overlap_below(links, ends, starts, left, from, to, turns - 1);
+    }
+    if to <= *starts.value(here) {
+        return None;
+    }
+    if from < ends.end(here) {
+        return Some(here);
+    }
+    let right = links.right(here);
+    first_overlap_below(links, ends, starts, right, from, to, turns - 1)
+}
+
+/// The first member whose interval overlaps `[from, to)`: it starts before `to`, and ends behind `from`.
+///
+/// The start of each interval is the number that `starts` has for its place, by which the tree is in order. It asks that the links show a
+/// tree with a start at each member. It finds none where no member overlaps. O(log n).
+pub fn first_overlap<T, N: Nodes, O: Values<u64>, A: Allocator>(
+    tree: &RBTree<T>,
+    summed: &Summed<N, Intervals<A>>,
+    starts: &O,
+    from: u64,
+    to: u64,
+) -> Option<Place>
+    requires { (s : List Place) × Shows N.node (N.table (links_of summed.now)) (root_of tree.now) s × ArePlaced (O.values starts.now) s }
+    ensures { (s : List Place)
+        → ShowsSummed N.node (intervals (sums_of summed.now)) (N.table (links_of summed.now)) (root_of tree.now) s
+        → IsSorted nat_cmp (map (start_in (O.values starts.now)) s)
+        → result ≡ first (filter (overlaps (start_in (O.values starts.now)) (end_of (sums_of summed.now)) from to) s) }
+{
+    first_overlap_below(
+        &summed.links,
+        &summed.sums,
+        starts,
+        tree.root(),
+        from,
+        to,
+        67,
+    )
+}
+
+// The first interval behind the subtree at a place that overlaps `[from, to)`.
+fn first_overlap_behind<N: Nodes, O: Values<u64>, A: Allocator>(
+    links: &N,
+    ends: &Intervals<A>,
+    starts: &O,
+    place: Place,
+    from: u64,
+    to: u64,
+    turns: u32,
+) -> Option<Place>
+    requires { (fs : List Frame) × (t : Tree) × IsSubtree N.node (N.table links.now) fs t × (top t ≡ Some place) × ArePlaced (O.values starts.now) (after fs) }
+    ensures { (fs : List Frame) (t : Tree) → IsSubtree N.node (N.table links.now) fs t → IsSummed (intervals ends.now) None (plug fs t) → top t ≡ Some place
+        → IsSorted nat_cmp (map (start_in (O.values starts.now)) (after fs)) → length fs ≤ turns
+        → result ≡ first (filter (overlaps (start_in (O.values starts.now)) (end_of ends.now) from to) (after fs)) }
+{
+    if turns == 0 {
+        return None;
+    }
+    let above = links.parent(place)?;
+    let right = links.right(above);
+    if is_at(right, place) {
+        return first_overlap_behind(links, ends, starts, above, from, to, turns - 1);
+    }
+    if to <= *starts.value(above) {
+        return None;
+    }
+    if from < ends.end(above) {
+        return Some(above);
+    }
+    if from < ends.greatest(right) {
+        return first_overlap_below(links, ends, starts, right, from, to, 67);
+    }
+    first_overlap_behind(links, ends, starts, above, from, to, turns - 1)
+}
+
+/// The first member behind the one at `place` whose interval overlaps `[from, to)`.
+///
+/// It asks that the place is that of a member of a tree, whichever, that is in the order of starts and has one at each member. It finds none where no
+/// member behind overlaps. So `first_overlap`, and then this until it finds none, give all that overlap, in order. O(log n).
+pub fn next_overlap<N: Nodes, O: Values<u64>, A: Allocator>(
+    summed: &Summed<N, Intervals<A>>,
+    starts: &O,
+    place: Place,
+    from: u64,
+    to: u64,
+) -> Option<Place>
+    requires { (root : Option Place) × (front back : List Place)
+        × Shows N.node (N.table (links_of summed.now)) root (front ++ place ∷ back) × ArePlaced (O.values starts.now) (front ++ place ∷ back) }
+    ensures { (root : Option Place) (front back : List Place)
+        → ShowsSummed N.node (intervals (sums_of summed.now)) (N.table (links_of summed.now)) root (front ++ place ∷ back)
+        → IsSorted nat_cmp (map (start_in (O.values starts.now)) (front ++ place ∷ back))
+        → result ≡ first (filter (overlaps (start_in (O.values starts.now)) (end_of (sums_of summed.now)) from to) back) }
+{
+    let links = &summed.links;
+    let right = links.right(place);
+    if from < summed.sums.greatest(right) {
+        return first_overlap_below(links, &summed.sums, starts, right, from, to, 67);
+    }
+    first_overlap_behind(links, &summed.sums, starts, place, from, to, 67)
+}

@@ -1,0 +1,131 @@
+//! How many members a tree has, the one at a position, and the position of one.
+//!
+//! ```text
+//! nth(&tree, &summed, len(&tree, &summed) / 2) // the median
+//! index_of(&summed, place) // how many stand in front of it
+//! ```
+
+ghost use Rattle.std.specs.Prelude.{◌≡◌, ◌≤◌, Option, Some, None, List, ◌∷◌, ◌++◌, length};
+ghost use Rattle.std.specs.List.{slice_get};
+ghost use Rattle.ic_unsafe_ref.specs.declared.place.Place.{Place};
+ghost use Rattle.ic_link_ops.specs.Frames.{Frame, plug, before};
+ghost use Rattle.ic_link_ops.specs.Positions.{HasMember};
+ghost use Rattle.ic_link_ops.specs.RedBlackTree.{IsTree, Shows};
+ghost use Rattle.ic_link_ops.specs.Trees.{Tree, top, in_order};
+ghost use Rattle.ic_link_ops.specs.Tables.{Table};
+ghost use Rattle.ic_link_ops.specs.Walk.{is_end};
+ghost use Rattle.ic_rbtree.specs.Height.{height};
+ghost use Rattle.ic_rbtree.specs.Tree.{root_of};
+ghost use Rattle.ic_augmented.specs.Counts.{counts};
+ghost use Rattle.ic_augmented.specs.Sums.{IsSummed};
+ghost use Rattle.ic_augmented.specs.Subtrees.{IsSubtree};
+ghost use Rattle.ic_augmented.specs.Summed.{links_of, sums_of};
+ghost use Rattle.ic_augmented.specs.Consistent.{ShowsSummed};
+
+use crate::counts::Counts;
+use crate::summed::Summed;
+use ic_rbtree::{Nodes, RBTree};
+use ic_unsafe_ref::Place;
+use std::alloc::Allocator;
+
+/// How many members the tree has. O(1).
+#[inline]
+pub fn len<T, N: Nodes, A: Allocator>(tree: &RBTree<T>, summed: &Summed<N, Counts<A>>) -> u64
+    ensures { (s : List Place)
+        → ShowsSummed N.node (counts (sums_of summed.now)) (N.table (links_of summed.now)) (root_of tree.now) s
+        → result ≡ length s }
+{
+    summed.sums.count(tree.root())
+}
+
+// The member at a position of the subtree at a place.
+fn nth_below<N: Nodes, A: Allocator>(
+    links: &N,
+    sums: &Counts<A>,
+    place: Option<Place>,
+    position: u64,
+    turns: u32,
+) -> Option<Place>
+    requires { (u : Option Place) × (t : Tree) × IsTree N.node (Table.entry (N.table links.now)) u t × (place ≡ top t) }
+    ensures { (u : Option Place) (t : Tree) → IsTree N.node (Table.entry (N.table links.now)) u t → place ≡ top t
+        → IsSummed (counts sums.now) u t → length (in_order t) ≤ 8589934591 → height t ≤ turns
+        → result ≡ slice_get (in_order t) position }
+{
+    let here = place?;
+    if turns == 0 {
+        return None;
+    }
+    let left = links.left(here);
+    let before = sums.count(left);
+    if position < before {
+        return nth_below(links, sums, left, position, turns - 1);
+    }
+    if position == before {
+        return Some(here);
+    }
+    let right = links.right(here);
+    nth_below(links, sums, right, position - before - 1, turns - 1)
+}
+
+/// The member at a position, counted from 0, `None` from the tree's length on. O(log n).
+pub fn nth<T, N: Nodes, A: Allocator>(
+    tree: &RBTree<T>,
+    summed: &Summed<N, Counts<A>>,
+    position: u64,
+) -> Option<Place>
+    requires { (s : List Place) × ShowsSummed N.node (counts (sums_of summed.now)) (N.table (links_of summed.now)) (root_of tree.now) s }
+    ensures { (s : List Place)
+        → ShowsSummed N.node (counts (sums_of summed.now)) (N.table (links_of summed.now)) (root_of tree.now) s
+        → result ≡ slice_get s position }
+{
+    nth_below(&summed.links, &summed.sums, tree.root(), position, 67)
+}
+
+// Whether `end` is `place`.
+#[inline]
+pub(crate) fn is_at(end: Option<Place>, place: Place) -> bool
+    ensures { result ≡ is_end end place }
+{
+    match end {
+        Some(other) => other.index() == place.index(),
+        None => false,
+    }
+}
+
+// How many members stand in front of the subtree at a place.
+fn count_before<N: Nodes, A: Allocator>(
+    links: &N,
+    sums: &Counts<A>,
+    place: Place,
+    turns: u32,
+) -> u64
+    requires { (fs : List Frame) × (t : Tree) × IsSubtree N.node (N.table links.now) fs t × (top t ≡ Some place) }
+    ensures { (fs : List Frame) (t : Tree) → IsSubtree N.node (N.table links.now) fs t → IsSummed (counts sums.now) None (plug fs t)
+        → top t ≡ Some place → length fs ≤ turns → result ≡ length (before fs) }
+{
+    if turns == 0 {
+        return 0;
+    }
+    let Some(above) = links.parent(place) else {
+        return 0;
+    };
+    let before = count_before(links, sums, above, turns - 1);
+    if !is_at(links.right(above), place) {
+        return before;
+    }
+    let beside = sums.count(links.left(above));
+    before.saturating_add(beside).saturating_add(1)
+}
+
+/// The position of the member at `place`: how many members stand in front of it.
+///
+/// It asks that the place is that of a member of a tree, whichever, and tells its position if the tree is summed. O(log n).
+pub fn index_of<N: Nodes, A: Allocator>(summed: &Summed<N, Counts<A>>, place: Place) -> u64
+    requires { (root : Option Place) × HasMember (Shows N.node (N.table (links_of summed.now)) root) place }
+    ensures { (root : Option Place) (front back : List Place)
+        → ShowsSummed N.node (counts (sums_of summed.now)) (N.table (links_of summed.now)) root (front ++ place ∷ back)
+        → result ≡ length front }
+{
+    let before = count_before(&summed.links, &summed.sums, place, 67);
+    before.saturating_add(summed.sums.count(summed.links.left(place)))
+}

@@ -1,0 +1,108 @@
+//! Summaries that an edit makes stale, and those that are written anew.
+//!
+//! ```text
+//! invalidate_up(&links, &mut sums, place); // that of the place, and all above
+//! refresh_below(&links, &mut sums, root, None, TURNS); // from the root down, where they are stale
+//! refresh_path(&links, &mut sums, place, TURNS); // from a place up
+//! ```
+
+ghost use Rattle.std.specs.Prelude.{◌≡◌, ◌<◌, Option, Some, None, List, length};
+ghost use Rattle.ic_unsafe_ref.specs.declared.place.Place.{Place};
+ghost use Rattle.ic_link_ops.specs.Frames.{Frame, plug};
+ghost use Rattle.ic_link_ops.specs.RedBlackTree.{IsTree};
+ghost use Rattle.ic_link_ops.specs.Trees.{Tree, top};
+ghost use Rattle.ic_link_ops.specs.Tables.{Table};
+ghost use Rattle.ic_rbtree.specs.Closed.{IsNode};
+ghost use Rattle.ic_augmented.specs.Consistent.{IsConsistentTree, IsConsistentBelow, IsConsistentBeside, KeepsConsistent, Refreshes};
+ghost use Rattle.ic_augmented.specs.Subtrees.{IsSubtree};
+ghost use Rattle.ic_augmented.specs.Sums.{IsSummed};
+
+use crate::sums::Sums;
+use ic_rbtree::Nodes;
+use ic_unsafe_ref::Place;
+
+// Makes the summary of a place stale, and all that were made of it: those above, up to one that is stale.
+#[inline]
+pub(crate) fn invalidate_up<N: Nodes, M: Sums>(_links: &N, sums: &mut M, place: Place)
+    ensures stale { (M.sums sums.new).fresh place ≡ None }
+    ensures covers { (q : Place) → M.Covers sums.old q → M.Covers sums.new q }
+    ensures consistent { KeepsConsistent N.node (N.table _links.now) (N.table _links.now) (M.sums sums.old) (M.sums sums.new) }
+{
+    let mut at = Some(place);
+    while let Some(here) = at {
+        if !sums.is_fresh(here) {
+            return;
+        }
+        sums.invalidate(here);
+        at = sums.upper(here);
+    }
+}
+// Writes the stale summaries at an end and below it. It goes down where they are stale alone.
+#[inline(always)]
+#[cycle(refresh)]
+pub(crate) fn refresh_below<N: Nodes, M: Sums>(
+    links: &N,
+    sums: &mut M,
+    place: Option<Place>,
+    upper: Option<Place>,
+    turns: u32,
+)
+    requires covered { (q : Place) → IsNode N.node (N.table links.now) q → M.Covers sums.old q }
+    requires tree { (u : Option Place) × (t : Tree) × IsTree N.node (Table.entry (N.table links.now)) u t × (place ≡ top t) }
+    ensures covers { (q : Place) → M.Covers sums.old q → M.Covers sums.new q }
+    ensures refreshed { (u : Option Place) (t : Tree) → IsTree N.node (Table.entry (N.table links.now)) u t → place ≡ top t
+        → Refreshes IsConsistentTree (M.sums sums.old) (M.sums sums.new) upper t turns }
+{
+    let Some(here) = place else {
+        return;
+    };
+    if sums.is_fresh(here) {
+        sums.set_upper(here, upper);
+        return;
+    }
+    refresh_at(links, sums, here, upper, turns);
+}
+
+// Writes the summary of a place, and the stale ones below it.
+#[cycle(refresh)]
+fn refresh_at<N: Nodes, M: Sums>(
+    links: &N,
+    sums: &mut M,
+    here: Place,
+    upper: Option<Place>,
+    turns: u32,
+)
+    requires covered { (q : Place) → IsNode N.node (N.table links.now) q → M.Covers sums.old q }
+    requires tree { (u : Option Place) × (t : Tree) × IsTree N.node (Table.entry (N.table links.now)) u t × (Some here ≡ top t) }
+    ensures covers { (q : Place) → M.Covers sums.old q → M.Covers sums.new q }
+    ensures refreshed { (u : Option Place) (t : Tree) → IsTree N.node (Table.entry (N.table links.now)) u t → Some here ≡ top t
+        → Refreshes IsConsistentBelow (M.sums sums.old) (M.sums sums.new) upper t turns }
+{
+    if turns == 0 {
+        return;
+    }
+    let left = links.left(here);
+    let right = links.right(here);
+    refresh_below(links, sums, left, Some(here), turns - 1);
+    refresh_below(links, sums, right, Some(here), turns - 1);
+    sums.write(here, left, right, upper);
+}
+
+// Writes the summaries of a place and of all above it, and the stale ones below those.
+pub(crate) fn refresh_path<N: Nodes, M: Sums>(links: &N, sums: &mut M, place: Place, turns: u32)
+    requires covered { (q : Place) → IsNode N.node (N.table links.now) q → M.Covers sums.old q }
+    requires subtree { (fs : List Frame) × (t : Tree) × IsSubtree N.node (N.table links.now) fs t × (top t ≡ Some place) }
+    ensures covers { (q : Place) → M.Covers sums.old q → M.Covers sums.new q }
+    ensures summed { (fs : List Frame) (t : Tree) → IsSubtree N.node (N.table links.now) fs t → top t ≡ Some place → length fs < turns
+        → IsConsistentBeside (M.sums sums.old) fs → IsConsistentBelow (M.sums sums.old) t → IsSummed (M.sums sums.new) None (plug fs t) }
+{
+    if turns == 0 {
+        return;
+    }
+    let upper = links.parent(place);
+    refresh_at(links, sums, place, upper, 67);
+    let Some(above) = upper else {
+        return;
+    };
+    refresh_path(links, sums, above, turns - 1);
+}

@@ -1,0 +1,60 @@
+//! What is kept beside the links of a tree for its summaries.
+//!
+//! ```text
+//! sums.invalidate(place); // its summary is stale now
+//! ```
+
+ghost use Rattle.std.specs.Prelude.{◌≡◌, ◌<◌, ℕ, true, Some};
+ghost use Rattle.ic_unsafe_ref.specs.declared.place.Place.{Place};
+ghost use Rattle.ic_augmented.specs.Sums as specs;
+ghost use Rattle.ic_augmented.specs.Sums.{is_fresh, seen, Invalidates, Writes};
+
+use ic_unsafe_ref::Place;
+
+/// A summary beside each place, fresh or stale, and the parent below which it was written.
+pub trait Sums {
+    /// What is kept of a subtree.
+    type Summary;
+
+    // What is kept at each place, and what a place's own value makes of the summaries of its subtrees.
+    ghost sums: { Self → specs.Sums Self.Summary };
+
+    // The place has room for a summary.
+    ghost Covers: { Self → Place → Type 0 };
+
+    // How many summaries are fresh.
+    ghost count: { Self → ℕ };
+
+    /// Whether the summary of `place` is fresh. O(1).
+    fn is_fresh(&self, place: Place) -> bool
+        ensures { result ≡ is_fresh ((sums self.now).fresh place) };
+
+    /// The parent of `place` when its summary was written. O(1).
+    fn upper(&self, place: Place) -> Option<Place>
+        ensures { result ≡ (sums self.now).upper place };
+
+    /// Makes the summary of `place` stale. O(1).
+    fn invalidate(&mut self, place: Place)
+        ensures covers { (q : Place) → Covers self.old q → Covers self.new q }
+        ensures invalidated { Invalidates (sums self.old) (sums self.new) place }
+        ensures fewer { is_fresh ((sums self.old).fresh place) ≡ true → count self.new < count self.old };
+
+    /// Keeps the summary of `place`, and sets its parent. It asks for room. O(1).
+    fn set_upper(&mut self, place: Place, upper: Option<Place>)
+        requires covered { Covers self.old place }
+        ensures covers { (q : Place) → Covers self.old q → Covers self.new q }
+        ensures written { Writes (sums self.old) (sums self.new) place ((sums self.old).fresh place) upper };
+
+    /// Writes what the value of `place` makes of the summaries of its children. It asks for room. O(1).
+    fn write(
+        &mut self,
+        place: Place,
+        left: Option<Place>,
+        right: Option<Place>,
+        upper: Option<Place>,
+    )
+        requires covered { Covers self.old place }
+        ensures covers { (q : Place) → Covers self.old q → Covers self.new q }
+        ensures written { Writes (sums self.old) (sums self.new) place
+            (Some ((sums self.old).join place (seen (sums self.old) left) (seen (sums self.old) right))) upper };
+}
