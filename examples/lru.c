@@ -13,7 +13,7 @@ static uint32_t slot_of[PAGES];
 static int use(int page) {
     uint32_t slot = slot_of[page];
     if (slot != IC_NONE)
-        return ic_list_remove(links, SLOTS, &order, slot) || ic_list_push_front(links, SLOTS, &order, slot) ? -1 : 1;
+        return ic_list_move_to_front(links, SLOTS, &order, slot) ? -1 : 1;
     if (ic_list_pop_front(links, SLOTS, &vacant, &slot) != IC_OK) {
         if (ic_list_pop_back(links, SLOTS, &order, &slot) != IC_OK)
             return -1;

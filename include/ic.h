@@ -279,6 +279,26 @@ uint32_t ic_list_remove(struct ic_link2 *table, size_t places, struct ic_list *l
 IC_NODISCARD
 uint32_t ic_list_replace(struct ic_link2 *table, size_t places, struct ic_list *list, uint32_t at, uint32_t place);
 
+/* Moves the member `place` behind the member `at`, or to the front where `at` is IC_NONE. It stays linked. Where it is there already, and
+ * where `at` is `place`, nothing changes.
+ * IC_NULL: `place` is IC_NONE. IC_OUT_OF_RANGE or IC_NOT_LINKED: of `at` or `place`. IC_BROKEN: one of them is no member. */
+IC_NODISCARD
+uint32_t ic_list_move_after(struct ic_link2 *table, size_t places, struct ic_list *list, uint32_t at, uint32_t place);
+
+/* Moves the member `place` in front of the member `at`, or to the back where `at` is IC_NONE. As ic_list_move_after in all else. */
+IC_NODISCARD
+uint32_t ic_list_move_before(struct ic_link2 *table, size_t places, struct ic_list *list, uint32_t at, uint32_t place);
+
+/* Moves the member `place` to the front, as a cache does with what was used last. It stays linked.
+ * IC_NULL: `place` is IC_NONE. IC_OUT_OF_RANGE or IC_NOT_LINKED: of `place`. IC_BROKEN: `place` is no member, or the first member is none of
+ * this table. */
+IC_NODISCARD
+uint32_t ic_list_move_to_front(struct ic_link2 *table, size_t places, struct ic_list *list, uint32_t place);
+
+/* Moves the member `place` to the back. Refusals as of ic_list_move_to_front, but for the last member in place of the first. */
+IC_NODISCARD
+uint32_t ic_list_move_to_back(struct ic_link2 *table, size_t places, struct ic_list *list, uint32_t place);
+
 /* Moves all members of `given` behind the member `at`, or to the front where `at` is IC_NONE, in their order. `given` is empty then.
  * IC_OUT_OF_RANGE or IC_NOT_LINKED: of `at`. IC_BROKEN: `at` is no member, or `given` is no list of this table, or begins with the same
  * member as the list, as the list itself does. */

@@ -422,6 +422,12 @@ public:
     status remove(std::uint32_t at) const noexcept { return edit(ic_list_remove, at); }
     status replace(std::uint32_t at, std::uint32_t place) const noexcept { return edit(ic_list_replace, at, place); }
 
+    /// Moves the member `place`, which stays linked.
+    status move_after(std::uint32_t at, std::uint32_t place) const noexcept { return edit(ic_list_move_after, at, place); }
+    status move_before(std::uint32_t at, std::uint32_t place) const noexcept { return edit(ic_list_move_before, at, place); }
+    status move_to_front(std::uint32_t place) const noexcept { return edit(ic_list_move_to_front, place); }
+    status move_to_back(std::uint32_t place) const noexcept { return edit(ic_list_move_to_back, place); }
+
     /// Moves all members of `given` in front of an iterator's member, and to the back if that is end(). This and the next four return
     /// ic::status::broken of this list itself, and of a list of another table.
     status splice(iterator at, list_view given) const noexcept { return splice_before(*at, given); }

@@ -159,6 +159,30 @@ void edit_two_way(lists<View> &it, int which, std::uint32_t index, std::uint32_t
     }
 }
 
+/// Moves a member to an end, or into a gap beside another one or itself.
+void move(lists<ic::list_view> &it, int which, std::uint32_t index) {
+    const ic::list_view view = it.view(which);
+    auto &plain = it.plain[which];
+    const auto member = std::next(plain.begin(), index), gap = std::next(plain.begin(), below(static_cast<std::uint32_t>(plain.size()) + 1));
+    switch (below(4)) {
+    case 0:
+        if (made(view.move_to_front(*member), ic::status::ok))
+            plain.splice(plain.begin(), plain, member);
+        break;
+    case 1:
+        if (made(view.move_to_back(*member), ic::status::ok))
+            plain.splice(plain.end(), plain, member);
+        break;
+    case 2:
+        if (made(view.move_before(gap == plain.end() ? ic::none : *gap, *member), ic::status::ok))
+            plain.splice(gap, plain, member);
+        break;
+    default:
+        if (made(view.move_after(gap == plain.begin() ? ic::none : *std::prev(gap), *member), ic::status::ok))
+            plain.splice(gap, plain, member);
+    }
+}
+
 void edit_own(lists<ic::list_view> &it, int which, std::uint32_t index) {
     const ic::list_view view = it.view(which), other = it.view(1 - which);
     auto &plain = it.plain[which], &others = it.plain[1 - which];
@@ -166,7 +190,9 @@ void edit_own(lists<ic::list_view> &it, int which, std::uint32_t index) {
     const std::uint32_t before = index ? *std::next(view.begin(), index - 1) : ic::none;
     const ic::status linking = to_link(view, place);
     const auto member = std::next(plain.begin(), index);
-    if (at != ic::none && below(2)) {
+    if (at != ic::none && below(3) == 0) {
+        move(it, which, index);
+    } else if (at != ic::none && below(2)) {
         expect(*view.iterator_to(at) == at, "there is another iterator to a member");
         if (below(4) == 0 && made(view.remove(at), ic::status::ok))
             plain.erase(member);

@@ -18,3 +18,12 @@ never off on = let no : false ≡ true = sym off ∙ on in cc
 pub not_is : (b : Bool) → false ≡ not b → b ≡ true
 not_is true e = refl
 not_is false e = cc
+
+-- and the other way round
+pub not_so : (b : Bool) → not b ≡ true → b ≡ true → ⊥
+not_so true other on = cc
+not_so false other on = cc
+
+pub is_not : (b : Bool) → (b ≡ true → ⊥) → not b ≡ true
+is_not true off = absurd (off refl)
+is_not false off = refl

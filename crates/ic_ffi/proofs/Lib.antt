@@ -5,6 +5,7 @@ pub mod Faults
 pub mod Views
 pub mod Lists
 pub mod Doubly
+pub mod Moves
 pub mod Singly
 pub mod Xor
 pub mod Seen

@@ -39,6 +39,26 @@ module _ {E W : Type 0} {between : E → Option Place → Option Place → Type 
     };
   }
 
+  -- MOVE: the neighbors of p are turned to each other, and then p is put where the others are cut
+  pub moved : {Names : Type 0} {old mid new : Table E} {list off_list list' : ListHead W} (front : List Place) (p : Place) (back : List Place) (cut : Cut) {b a before behind : Option Place}
+      → b ≡ last front → a ≡ first back → IsAfter cut before → IsBefore cut behind → join cut ≡ front ++ back → ShowsChain between keep old list (front ++ p ∷ back)
+      → ((front back : List Place) → ShowsChain between keep old list (front ++ p ∷ back) → b ≡ last front → a ≡ first back → ShowsChain between keep mid off_list (front ++ back))
+      → mid.extent ≡ old.extent → ((q : Place) → b ≢ Some q → (Names → a ≢ Some q) → mid.entry q ≡ old.entry q)
+      → ((front back : List Place) → ShowsChain between keep mid off_list (front ++ back) → before ≡ last front → behind ≡ first back → IsAbsent p (front ++ back)
+      → ShowsChain between keep new list' (front ++ p ∷ back))
+      → new.extent ≡ mid.extent → ((q : Place) → before ≢ Some q → q ≢ p → (Names → behind ≢ Some q) → new.entry q ≡ mid.entry q)
+      → Inserts (ShowsChain between keep) old new list' cut p
+  moved front p back cut is_b is_a after ahead same shown off extent others put extent' others' = record {
+    shows = put cut.front cut.back (rw same (off front back shown is_b is_a)) after ahead (rw same (distinct_middle front back p shown.distinct));
+    frame = record {
+      extent = extent' ∙ extent;
+      others = λ q away.
+          let from = gap_not front back is_b is_a (rw same at away.1) in
+          let to = gap_not cut.front cut.back after ahead away.1 in
+          others' q to.0 away.0 (λ _. to.1) ∙ others q from.0 (λ _. from.1);
+    };
+  }
+
   -- `law`: what stands between two others is linked
   module _ {linked : E → Bool} (law : (e : E) (b a : Option Place) → between e b a → linked e ≡ true) where
     module _ {t : Table E} {list : ListHead W} (front back : List Place) (shown : ShowsChain between keep t list (front ++ back)) where

@@ -1,11 +1,11 @@
 -- Doubly linked lists over a caller's words.
-use Rattle.std.specs.Prelude.{◌≡◌, ℕ, List, [], Option, Some, None}
+use Rattle.std.specs.Prelude.{◌≡◌, ℕ, List, [], ◌∷◌, ◌++◌, Option, Some, None}
 use Rattle.ic_unsafe_ref.specs.declared.place.Place.{Place}
 use Rattle.ic_unsafe_ref.specs.Places.{word_of}
 use Rattle.ic_link_ops.specs.Sequences.{Cut}
 use Rattle.ic_link_ops.specs.Tables.{Table}
 use Rattle.ic_link_ops.specs.Chains.{Ends}
-use Rattle.ic_link_ops.specs.Edits.{Splits}
+use Rattle.ic_link_ops.specs.Edits.{Inserts, Splits}
 use Rattle.ic_link_ops.specs.LinkedList as doubly
 use Rattle.ic_link_ops.specs.LinkedList.{Neighbors, neighbors_at}
 use Rattle.ic_link_ops.specs.PlainTables as plain
@@ -15,6 +15,7 @@ use Rattle.ic_ffi.specs.declared.table.RawTable.{RawTable}
 use Rattle.ic_ffi.specs.declared.gap.Gap.{Gap}
 use Rattle.ic_ffi.specs.declared.gap.Side.{Side}
 use Rattle.ic_ffi.specs.declared.gap.Side.TheVariants.{After, Before}
+use Rattle.ic_ffi.specs.Answers.{IsAccepted}
 use Rattle.ic_ffi.specs.Gaps.{Stands}
 use Rattle.ic_ffi.specs.Words.{place_in, no_words, is_linked_two, next_of_two, prev_of_two}
 use Rattle.ic_ffi.specs.Tables.{raw_table, neighbors_of}
@@ -104,6 +105,15 @@ Popped = calls.Popped Shows is_linked_two no_words ends_of
 
 abbrev pub Replaced : (old new : List RawTwo) (list list' : RawEnds) (status : ℕ) → Place → (front back : List Place) → Place → Type 0
 Replaced = calls.Replaced Shows is_linked_two no_words ends_of
+
+-- a member is moved to where the others are cut
+abbrev pub Moved : (old new : List RawTwo) (list list' : RawEnds) (status : ℕ) → Place → (front back : List Place) → Cut → Type 0
+Moved old new list list' status p front back cut =
+    ShowsList old list (front ++ p ∷ back) → IsAccepted status (Inserts Shows (table_of old) (table_of new) (ends_of list') cut p)
+
+-- a member stays where it is, and nothing is changed
+abbrev pub Stayed : (old new : List RawTwo) (list list' : RawEnds) (status : ℕ) → Place → (front back : List Place) → Type 0
+Stayed old new list list' status p front back = ShowsList old list (front ++ p ∷ back) → IsAccepted status ((new ≡ old) × (list' ≡ list))
 
 abbrev pub Spliced : (old new : List RawTwo) (list list' : RawEnds) (status : ℕ) → RawEnds → Cut → List Place → Type 0
 Spliced = calls.Spliced Shows is_linked_two no_words ends_of

@@ -1,7 +1,7 @@
 -- The gap at which a call edits.
-use Rattle.std.specs.Prelude.{◌≡◌, ◌∷◌, List, Bool, Option, Some}
+use Rattle.std.specs.Prelude.{◌≡◌, ◌≢◌, ◌∷◌, List, Bool, Option, Some}
 use Rattle.ic_unsafe_ref.specs.declared.place.Place.{Place}
-use Rattle.ic_link_ops.specs.Sequences.{Cut, first, last, IsAfter, IsBefore}
+use Rattle.ic_link_ops.specs.Sequences.{Cut, at_front, at_back, first, last, IsAfter, IsBefore}
 use Rattle.ic_link_ops.specs.Tables.{Table, IsLinked}
 use Rattle.ic_ffi.specs.declared.gap.Gap.{Gap}
 use Rattle.ic_ffi.specs.declared.gap.Side.{Side}
@@ -20,9 +20,18 @@ Stands linked t at = (q : Place) → at ≡ Some q → IsLinked linked t q
 abbrev pub StandBeside : {E : Type 0} → (E → Bool) → Table E → Gap → Type 0
 StandBeside linked t gap = Stands linked t gap.before × Stands linked t gap.behind
 
+-- the place is on neither side of a gap
+abbrev pub IsApart : Gap → Place → Type 0
+IsApart gap p = (gap.before ≢ Some p) × (gap.behind ≢ Some p)
+
 -- where a sequence is cut, as a call finds it
 abbrev pub gap_of : Cut → Gap
 gap_of cut = record { before = last cut.front; behind = first cut.back }
+
+-- the outermost gap on this side of none: in front of all, or behind all
+abbrev pub outermost : Side → List Place → Cut
+outermost After s = at_front s
+outermost Before s = at_back s
 
 -- the gap in front of a member
 abbrev pub before : Place → (front back : List Place) → Cut

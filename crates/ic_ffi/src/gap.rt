@@ -4,8 +4,9 @@
 //! Side::After  // behind a place, in front of all at none
 //! ```
 
-ghost use Rattle.std.specs.Prelude.{◌≡◌, ◌≢◌, Some, true, false};
+ghost use Rattle.std.specs.Prelude.{◌≡◌, ◌≢◌, ◌↔◌, Some, true, false};
 ghost use Rattle.ic_unsafe_ref.specs.declared.place.Place.{Place};
+ghost use Rattle.ic_ffi.specs.Gaps.{IsApart};
 
 use ic_chain::{Chain, ListKind};
 use ic_unsafe_ref::Place;
@@ -24,6 +25,17 @@ pub enum Side {
 pub struct Gap {
     pub(crate) before: Option<Place>,
     pub(crate) behind: Option<Place>,
+}
+
+impl Gap {
+    // Whether the place is on neither side.
+    #[inline]
+    pub(crate) fn is_apart(&self, place: Place) -> bool
+        ensures { (result ≡ true) ↔ IsApart self.now place }
+    {
+        let word = Place::to_word(Some(place));
+        Place::to_word(self.before) != word && Place::to_word(self.behind) != word
+    }
 }
 
 // Whether both lists begin with the same member, as the two names of one list do.

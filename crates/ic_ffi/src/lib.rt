@@ -18,6 +18,7 @@
 mod gap;
 mod list;
 mod list_calls;
+mod move_calls;
 mod nodes;
 mod number;
 mod search;

@@ -7,11 +7,12 @@
 ghost use Rattle.std.specs.Prelude.{◌≡◌, ◌≢◌, ◌++◌, ◌∷◌, [], List, Option, Some, None, true, false};
 ghost use Rattle.ic_unsafe_ref.specs.declared.place.Place.{Place};
 ghost use Rattle.ic_link_ops.specs.Sequences.{Cut, join, first, last, at_back, IsDisjoint};
-ghost use Rattle.ic_link_ops.specs.Tables.{IsUnlinked};
+ghost use Rattle.ic_link_ops.specs.Tables.{IsUnlinked, KeepsLinked};
+ghost use Rattle.ic_link_ops.specs.Chains.{Ends};
 ghost use Rattle.ic_link_ops.specs.Edits.{Inserts, Removes, Replaces, Splices};
 ghost use Rattle.ic_ffi.specs.declared.gap.Gap.{Gap};
 ghost use Rattle.ic_ffi.specs.declared.gap.Side.TheVariants.{After, Before};
-ghost use Rattle.ic_ffi.specs.Gaps.{IsBeside, Stands, StandBeside, before, gap_of};
+ghost use Rattle.ic_ffi.specs.Gaps.{IsBeside, Stands, StandBeside, before, gap_of, outermost};
 ghost use Rattle.ic_ffi.specs.Tables.{IsFree};
 ghost use Rattle.ic_ffi.specs.Words.{is_linked_two};
 ghost use Rattle.ic_ffi.specs.Doubly.{Shows, SplitsBeside, TellsGap, gap_from, IsEnd, end_on, lent_table, next_from, prev_from};
@@ -151,6 +152,104 @@ fn beside(links: &RawTable<'_, RawTwo>, list: &List, at: Option<Place>) -> Optio
     Some(Gap { before, behind })
 }
 
+// The places on both sides of a member that has one on either, where their words are such as a call writes. Else none.
+#[inline]
+fn between(links: &RawTable<'_, RawTwo>, member: Place) -> Option<Gap>
+    ensures member { (gap : Gap) → result ≡ Some gap → Stands is_linked_two (lent_table links.now) (Some member) }
+    ensures stands { (gap : Gap) → result ≡ Some gap → StandBeside is_linked_two (lent_table links.now) gap }
+    ensures before { (gap : Gap) (list : Ends) → result ≡ Some gap → TellsGap Before (lent_table links.now) list (Some member) }
+    ensures behind { (gap : Gap) (list : Ends) → result ≡ Some gap → TellsGap After (lent_table links.now) list (Some member) }
+    ensures prev { (gap : Gap) → result ≡ Some gap → (q : Place) × (gap.before ≡ Some q) }
+    ensures next { (gap : Gap) → result ≡ Some gap → (q : Place) × (gap.behind ≡ Some q) }
+    ensures shown { (gap : Gap) (list : Ends) (front back : List Place) → result ≡ Some gap → Shows (lent_table links.now) list (front ++ member ∷ back)
+        → gap ≡ gap_of (record { front = front; back = back }) }
+{
+    if !links.is_linked(member) {
+        return None;
+    }
+    let Some(before) = links.prev(member) else {
+        return None;
+    };
+    let Some(behind) = links.next(member) else {
+        return None;
+    };
+    if !links.covers(before) || !links.at(before).is_before(member) {
+        return None;
+    }
+    if !links.covers(behind) || !links.at(behind).is_behind(member) {
+        return None;
+    }
+    Some(Gap {
+        before: Some(before),
+        behind: Some(behind),
+    })
+}
+
+// The outermost gap on a side of none, beyond a member whose words are such as a call writes. Else none.
+#[inline]
+fn gap_at_end(links: &RawTable<'_, RawTwo>, list: &List, side: Side) -> Option<Gap>
+    ensures told { (gap : Gap) → result ≡ Some gap → TellsGap side (lent_table links.now) list.now None }
+    ensures stands { (gap : Gap) → result ≡ Some gap → StandBeside is_linked_two (lent_table links.now) gap }
+    ensures end { (gap : Gap) → result ≡ Some gap → (q : Place) × (end_on side list.now ≡ Some q) }
+    ensures shown { (gap : Gap) (s : List Place) → result ≡ Some gap → Shows (lent_table links.now) list.now s → gap ≡ gap_of (outermost side s) }
+{
+    match side {
+        Side::After => {
+            let Some(first) = list.first() else {
+                return None;
+            };
+            if !links.covers(first) || !links.at(first).is_first() {
+                return None;
+            }
+            Some(Gap {
+                before: None,
+                behind: Some(first),
+            })
+        }
+        Side::Before => {
+            let Some(last) = list.last() else {
+                return None;
+            };
+            if !links.covers(last) || !links.at(last).is_last() {
+                return None;
+            }
+            Some(Gap {
+                before: Some(last),
+                behind: None,
+            })
+        }
+    }
+}
+
+// What `gaps_to_move` gives of a member that has one on both sides and goes to an end, where all these words are such as a call writes. Else
+// none.
+#[inline]
+pub(crate) fn gaps_to_end(
+    links: &RawTable<'_, RawTwo>,
+    list: &List,
+    side: Side,
+    member: Place,
+) -> Option<(Gap, Gap)>
+    ensures shown { (from to : Gap) (front back : List Place) → result ≡ Some (from, to)
+        → Shows (lent_table links.now) list.now (front ++ member ∷ back)
+        → (from ≡ gap_of (record { front = front; back = back })) × (to ≡ gap_of (outermost side (front ++ back))) }
+    ensures inner { (from to : Gap) → result ≡ Some (from, to) → ((q : Place) × (from.before ≡ Some q)) × ((q : Place) × (from.behind ≡ Some q)) }
+    ensures told { (from to : Gap) → result ≡ Some (from, to) → TellsGap side (lent_table links.now) list.now None }
+    ensures to { (from to : Gap) → result ≡ Some (from, to) → StandBeside is_linked_two (lent_table links.now) to }
+    ensures member { (from to : Gap) → result ≡ Some (from, to) → Stands is_linked_two (lent_table links.now) (Some member) }
+    ensures before { (from to : Gap) → result ≡ Some (from, to) → TellsGap Before (lent_table links.now) list.now (Some member) }
+    ensures behind { (from to : Gap) → result ≡ Some (from, to) → TellsGap After (lent_table links.now) list.now (Some member) }
+    ensures from { (from to : Gap) → result ≡ Some (from, to) → StandBeside is_linked_two (lent_table links.now) from }
+{
+    let Some(from) = between(links, member) else {
+        return None;
+    };
+    let Some(to) = gap_at_end(links, list, side) else {
+        return None;
+    };
+    Some((from, to))
+}
+
 // Puts a place behind the last member, where its words are such as a call writes. Else it changes nothing, and says so.
 #[inline]
 pub(crate) fn push_behind_last(
@@ -166,16 +265,13 @@ pub(crate) fn push_behind_last(
     ensures refused { result ≡ false → (links.new ≡ links.old) × (list.new ≡ list.old) }
     ensures extent { (lent_table links.new).extent ≡ (lent_table links.old).extent }
 {
-    let Some(last) = list.last() else {
+    let Some(gap) = gap_at_end(&*links, &*list, Side::Before) else {
         return false;
     };
-    if !links.covers(last) || !links.at(last).is_last() {
-        return false;
-    }
     let Some(place) = links.acquire(place) else {
         return false;
     };
-    list.insert_linked(links, Some(last), place, None);
+    list.insert_linked(links, gap.before, place, gap.behind);
     true
 }
 
@@ -226,22 +322,10 @@ pub(crate) fn remove_between(
     ensures refused { result ≡ false → links.new ≡ links.old }
     ensures extent { (lent_table links.new).extent ≡ (lent_table links.old).extent }
 {
-    if !links.is_linked(member) {
-        return false;
-    }
-    let Some(before) = links.prev(member) else {
+    let Some(gap) = between(&*links, member) else {
         return false;
     };
-    let Some(behind) = links.next(member) else {
-        return false;
-    };
-    if !links.covers(before) || !links.at(before).is_before(member) {
-        return false;
-    }
-    if !links.covers(behind) || !links.at(behind).is_behind(member) {
-        return false;
-    }
-    list.bypass(links, Some(before), member, Some(behind));
+    list.bypass(links, gap.before, member, gap.behind);
     links.release_link(member);
     true
 }
@@ -292,6 +376,58 @@ pub(crate) fn remove(links: &mut RawTable<'_, RawTwo>, list: &mut List, member: 
     list.bypass(links, gap.before, member, gap.behind);
     links.release_link(member);
     true
+}
+
+// The places on both sides of a member, and the gap beside another one, where the member is to go. None where the words tell of no such
+// member, or of no such gap.
+#[inline]
+pub(crate) fn gaps_to_move(
+    links: &RawTable<'_, RawTwo>,
+    list: &List,
+    side: Side,
+    at: Option<Place>,
+    member: Place,
+) -> Option<(Gap, Gap)>
+    ensures shown { (front back : List Place) (cut : Cut) → Shows (lent_table links.now) list.now (front ++ member ∷ back)
+        → join cut ≡ front ++ member ∷ back → IsBeside side cut at
+        → result ≡ Some (gap_of (record { front = front; back = back }), gap_of cut) }
+    ensures at { (from to : Gap) → result ≡ Some (from, to) → Stands is_linked_two (lent_table links.now) at }
+    ensures told { (from to : Gap) → result ≡ Some (from, to) → TellsGap side (lent_table links.now) list.now at }
+    ensures to { (from to : Gap) → result ≡ Some (from, to) → StandBeside is_linked_two (lent_table links.now) to }
+    ensures member { (from to : Gap) → result ≡ Some (from, to) → Stands is_linked_two (lent_table links.now) (Some member) }
+    ensures before { (from to : Gap) → result ≡ Some (from, to) → TellsGap Before (lent_table links.now) list.now (Some member) }
+    ensures behind { (from to : Gap) → result ≡ Some (from, to) → TellsGap After (lent_table links.now) list.now (Some member) }
+    ensures from { (from to : Gap) → result ≡ Some (from, to) → StandBeside is_linked_two (lent_table links.now) from }
+{
+    let Some(to) = gap_at(links, list, side, at) else {
+        return None;
+    };
+    let Some(from) = beside(links, list, Some(member)) else {
+        return None;
+    };
+    Some((from, to))
+}
+
+// Moves a member, which is between these two places, into a gap that it is not beside. It stays linked.
+#[inline]
+pub(crate) fn relocate(
+    links: &mut RawTable<'_, RawTwo>,
+    list: &mut List,
+    from: Gap,
+    member: Place,
+    to: Gap,
+)
+    requires member { Stands is_linked_two (lent_table links.old) (Some member) }
+    requires from { StandBeside is_linked_two (lent_table links.old) from }
+    requires to { StandBeside is_linked_two (lent_table links.old) to }
+    ensures moved { (front back : List Place) (cut : Cut) → Shows (lent_table links.old) list.old (front ++ member ∷ back)
+        → join cut ≡ front ++ back → from ≡ gap_of (record { front = front; back = back }) → to ≡ gap_of cut
+        → Inserts Shows (lent_table links.old) (lent_table links.new) list.new cut member }
+    ensures linked { KeepsLinked is_linked_two (lent_table links.old) (lent_table links.new) }
+    ensures extent { (lent_table links.new).extent ≡ (lent_table links.old).extent }
+{
+    list.bypass(links, from.before, member, from.behind);
+    list.insert_linked(links, to.before, member, to.behind);
 }
 
 // The member at an end, which the outermost gap on this side of none is in front of, and the places on both sides of it. None where

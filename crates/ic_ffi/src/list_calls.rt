@@ -29,7 +29,7 @@ use ic_unsafe_ref::Place;
 
 // The list of its two words.
 #[inline]
-fn list_of(words: &RawEnds) -> list::List
+pub(crate) fn list_of(words: &RawEnds) -> list::List
     ensures { result ≡ ends_of words.now }
 {
     LinkedList::from_ends(place_in(words.head), place_in(words.tail))

@@ -166,6 +166,21 @@ impl<W: Words> RawTable<'_, W> {
         BROKEN
     }
 
+    /// Why a call at two members is refused: by the first fault of the two, or as [`BROKEN`]. O(1).
+    #[cold]
+    #[inline(never)]
+    pub fn refusal_at_both(&self, one: u32, other: u32) -> u32
+        ensures refusal { result ≡ refusal (member_fault W.is_linked (raw_table W.unlinked self.now) (place_of one)
+            ∷ member_fault W.is_linked (raw_table W.unlinked self.now) (place_of other) ∷ []) }
+        ensures refused { (result ≢ 0) × (result ≢ 4) }
+    {
+        let fault = self.member_fault(place_of(one));
+        if fault != OK {
+            return fault;
+        }
+        self.refusal_at(other)
+    }
+
     /// Why `place` does not go in at the member `at`: by the fault of either, or as [`BROKEN`]. O(1).
     #[cold]
     #[inline(never)]

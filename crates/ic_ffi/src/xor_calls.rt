@@ -39,22 +39,6 @@ fn list_of(words: &RawEnds) -> xor_list::List
     XorLinkedList::from_ends(place_in(words.head), place_in(words.tail))
 }
 
-// Why a call at two members is refused: by the first fault of the two, or as [`BROKEN`].
-#[cold]
-#[inline(never)]
-fn refusal_at_both(links: &RawTable<'_, RawOne>, one: u32, other: u32) -> u32
-    ensures refusal { result ≡ refusal (member_fault is_linked_one (lent_table links.now) (place_of one)
-        ∷ member_fault is_linked_one (lent_table links.now) (place_of other) ∷ []) }
-    ensures refused { (result ≢ 0) × (result ≢ 4) }
-    ensures status { IsStatus result }
-{
-    let fault = links.member_fault(place_of(one));
-    if fault != OK {
-        return fault;
-    }
-    links.refusal_at(other)
-}
-
 // Why a place does not go in at two members: by the first fault of the three, or as [`BROKEN`].
 #[cold]
 #[inline(never)]
@@ -365,7 +349,7 @@ pub extern "C" fn ic_xor_remove(
         return NULL;
     };
     if !take(table, list, place_of(before), member) {
-        return refusal_at_both(&RawTable::new(table), at, before);
+        return RawTable::new(table).refusal_at_both(at, before);
     }
     OK
 }
@@ -438,7 +422,7 @@ pub extern "C" fn ic_xor_splice_between(
     let mut edited = list_of(&*list);
     let (front, back) = (place_of(before), place_of(behind));
     if !xor_list::splice(&mut links, &mut edited, front, list_of(&*given), back) {
-        return refusal_at_both(&links, before, behind);
+        return links.refusal_at_both(before, behind);
     }
     list.set(edited.first(), edited.last());
     given.set(None, None);
@@ -473,7 +457,7 @@ pub extern "C" fn ic_xor_split_between(
     let mut part = XorLinkedList::new();
     let (front, back) = (place_of(before), place_of(behind));
     if !rest.is_empty() || !xor_list::split(&mut links, &mut edited, front, back, &mut part) {
-        return refusal_at_both(&links, before, behind);
+        return links.refusal_at_both(before, behind);
     }
     list.set(edited.first(), edited.last());
     rest.set(part.first(), part.last());

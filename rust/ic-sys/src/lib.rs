@@ -113,6 +113,10 @@ extern "C" {
     pub fn ic_list_insert_before(table: *mut ic_link2, places: usize, list: *mut ic_list, at: u32, place: u32) -> u32;
     pub fn ic_list_remove(table: *mut ic_link2, places: usize, list: *mut ic_list, at: u32) -> u32;
     pub fn ic_list_replace(table: *mut ic_link2, places: usize, list: *mut ic_list, at: u32, place: u32) -> u32;
+    pub fn ic_list_move_after(table: *mut ic_link2, places: usize, list: *mut ic_list, at: u32, place: u32) -> u32;
+    pub fn ic_list_move_before(table: *mut ic_link2, places: usize, list: *mut ic_list, at: u32, place: u32) -> u32;
+    pub fn ic_list_move_to_front(table: *mut ic_link2, places: usize, list: *mut ic_list, place: u32) -> u32;
+    pub fn ic_list_move_to_back(table: *mut ic_link2, places: usize, list: *mut ic_list, place: u32) -> u32;
     pub fn ic_list_splice_after(
         table: *mut ic_link2,
         places: usize,

@@ -20,9 +20,10 @@ use ic_sys::*;
 /// let mut recent = List::new();
 /// for used in [3, 1, 2, 3, 1] {
 ///     if links[used as usize].is_linked() {
-///         recent.remove(&mut links, used)?;
+///         recent.move_to_front(&mut links, used)?;
+///     } else {
+///         recent.push_front(&mut links, used)?;
 ///     }
-///     recent.push_front(&mut links, used)?;
 /// }
 /// assert!(recent.iter(&links).eq([1, 3, 2]));
 /// assert_eq!(recent.pop_back(&mut links)?, Some(2));
@@ -160,6 +161,56 @@ impl List {
     pub fn replace(&mut self, table: &mut [Link2], at: u32, place: u32) -> Result<(), Error> {
         let (links, places) = Link2::parts(table);
         done(unsafe { ic_list_replace(links, places, &mut self.0, at, place) })
+    }
+
+    /// Moves the member `place` behind the member `at`, or to the front if that is `None`. It stays linked. O(1).
+    ///
+    /// If it is there already, and if `at` is `place`, nothing changes.
+    ///
+    /// # Errors
+    ///
+    /// [`Error::OutOfRange`] or [`Error::NotLinked`] of `at` or `place`. [`Error::Null`] if `place` is `u32::MAX`. [`Error::Broken`] if one of
+    /// them is no member.
+    #[inline]
+    pub fn move_after(&mut self, table: &mut [Link2], at: Option<u32>, place: u32) -> Result<(), Error> {
+        let (links, places) = Link2::parts(table);
+        done(unsafe { ic_list_move_after(links, places, &mut self.0, number(at), place) })
+    }
+
+    /// Moves the member `place` in front of the member `at`, or to the back if that is `None`. It stays linked. O(1).
+    ///
+    /// If it is there already, and if `at` is `place`, nothing changes.
+    ///
+    /// # Errors
+    ///
+    /// As [`move_after`](Self::move_after).
+    #[inline]
+    pub fn move_before(&mut self, table: &mut [Link2], at: Option<u32>, place: u32) -> Result<(), Error> {
+        let (links, places) = Link2::parts(table);
+        done(unsafe { ic_list_move_before(links, places, &mut self.0, number(at), place) })
+    }
+
+    /// Moves a member to the front, as a cache does with what was used last. It stays linked. O(1).
+    ///
+    /// # Errors
+    ///
+    /// [`Error::OutOfRange`] or [`Error::NotLinked`] of `place`. [`Error::Null`] if `place` is `u32::MAX`. [`Error::Broken`] if `place` is no
+    /// member, or the first member is none of this table.
+    #[inline]
+    pub fn move_to_front(&mut self, table: &mut [Link2], place: u32) -> Result<(), Error> {
+        let (links, places) = Link2::parts(table);
+        done(unsafe { ic_list_move_to_front(links, places, &mut self.0, place) })
+    }
+
+    /// Moves a member to the back. It stays linked. O(1).
+    ///
+    /// # Errors
+    ///
+    /// As [`move_to_front`](Self::move_to_front), but for the last member in place of the first.
+    #[inline]
+    pub fn move_to_back(&mut self, table: &mut [Link2], place: u32) -> Result<(), Error> {
+        let (links, places) = Link2::parts(table);
+        done(unsafe { ic_list_move_to_back(links, places, &mut self.0, place) })
     }
 
     /// Moves all members of `given`, in their order, behind the member `at`, or to the front if that is `None`. O(1). `given` is empty then.

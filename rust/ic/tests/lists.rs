@@ -46,6 +46,33 @@ fn list_moves() {
 }
 
 #[test]
+fn list_moves_members() {
+    let mut links = [Link2::UNLINKED; 8];
+    let (mut list, mut other) = (List::new(), List::new());
+    for place in 0..5 {
+        list.push_back(&mut links, place).unwrap();
+    }
+    other.push_back(&mut links, 5).unwrap();
+    list.move_to_front(&mut links, 3).unwrap();
+    list.move_to_back(&mut links, 1).unwrap();
+    assert!(list.iter(&links).eq([3, 0, 2, 4, 1]));
+    list.move_after(&mut links, Some(4), 3).unwrap();
+    list.move_before(&mut links, Some(2), 1).unwrap();
+    assert!(list.iter(&links).eq([0, 1, 2, 4, 3]) && list.iter(&links).rev().eq([3, 4, 2, 1, 0]));
+    let was = (links, list.clone());
+    list.move_after(&mut links, Some(2), 2).unwrap();
+    list.move_before(&mut links, Some(4), 2).unwrap();
+    list.move_after(&mut links, None, 0).unwrap();
+    list.move_before(&mut links, None, 3).unwrap();
+    assert_eq!(list.move_after(&mut links, Some(6), 0), Err(Error::NotLinked));
+    assert_eq!(list.move_before(&mut links, Some(0), 8), Err(Error::OutOfRange));
+    assert_eq!(list.move_to_front(&mut links, u32::MAX), Err(Error::Null));
+    assert_eq!(list.move_to_back(&mut links, 5), Err(Error::Broken));
+    assert!(links == was.0 && (list.first(), list.last()) == (was.1.first(), was.1.last()));
+    assert!(other.iter(&links).eq([5]));
+}
+
+#[test]
 fn list_refuses() {
     let mut links = [Link2::UNLINKED; 8];
     let (mut list, mut other) = (List::new(), List::new());
