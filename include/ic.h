@@ -25,8 +25,8 @@
  *   - It writes to nothing but table[0 .. places - 1], the lists, the tree and the out parameter that it is handed.
  *   - If the status is not IC_OK, it has changed nothing, out parameters included. The status says what is wrong with the first member
  *     that is named, else with the next one, else with the place to insert, else that the words do not fit together (IC_BROKEN).
- *   - It takes at most a fixed number of steps, but for ic_stack_splice_after, which takes at most `places` more. A call of a list takes a
- *     few, and a call of a tree O(log n).
+ *   - It takes at most a fixed number of steps, but for ic_stack_splice_after, ic_stack_clear and ic_list_clear, which take at most a few more
+ *     for each place of the table. Any other call of a list takes a few, and a call of a tree O(log n).
  *
  * Where the table holds the list or tree, and the member that you name is one of its members, the call makes the edit that its comment
  * says. Every other list and tree of the table stays as it was. A member of another list of the same table is refused with IC_BROKEN where
@@ -188,7 +188,7 @@ static inline uint32_t ic_place_within(size_t places, uint64_t word) {
     for (uint32_t place = (first), follower = (next), ic_rounds_##place = ic_bound(places); \
          (is_member) && ic_rounds_##place--; place = follower, follower = (next))
 
-/* ---- Doubly linked lists: 16 bytes a place, all calls O(1) ------------------------------------------------------------------------
+/* ---- Doubly linked lists: 16 bytes a place, all calls O(1) but ic_list_clear -------------------------------------------------------
  *
  * Good for queues, and for caches, from whose middle objects leave.
  */
@@ -309,6 +309,17 @@ uint32_t ic_list_splice_after(struct ic_link2 *table, size_t places, struct ic_l
 IC_NODISCARD
 uint32_t ic_list_splice_before(struct ic_link2 *table, size_t places, struct ic_list *list, uint32_t at, struct ic_list *given);
 
+/* Moves all members of `given` to the back, in their order. `given` is empty then.
+ * IC_BROKEN: the last member is none of this table, or `given` is no list of it, or begins with the same member as the list, as the list
+ * itself does. */
+IC_NODISCARD
+uint32_t ic_list_append(struct ic_link2 *table, size_t places, struct ic_list *list, struct ic_list *given);
+
+/* Takes all members off. O(n).
+ * IC_BROKEN: the links do not lead from the first member to the last, each to the next and back. */
+IC_NODISCARD
+uint32_t ic_list_clear(struct ic_link2 *table, size_t places, struct ic_list *list);
+
 /* Moves the members behind `at` to `rest`, or all of them where `at` is IC_NONE. Hand in an empty `rest`.
  * IC_OUT_OF_RANGE or IC_NOT_LINKED: of `at`. IC_BROKEN: `at` is no member, or `rest` has members. */
 IC_NODISCARD
@@ -318,7 +329,7 @@ uint32_t ic_list_split_after(struct ic_link2 *table, size_t places, struct ic_li
 IC_NODISCARD
 uint32_t ic_list_split_before(struct ic_link2 *table, size_t places, struct ic_list *list, uint32_t at, struct ic_list *rest);
 
-/* ---- Singly linked lists: 8 bytes a place, all calls O(1) but ic_stack_splice_after -----------------------------------------------
+/* ---- Singly linked lists: 8 bytes a place, all calls O(1) but ic_stack_splice_after and ic_stack_clear ------------------------------
  *
  * Good for stacks and free lists. What is edited is behind the member `at`, or at the front where `at` is IC_NONE. With the last member
  * kept beside it, a list is a queue: insert behind it, and pop at the front.
@@ -405,6 +416,11 @@ uint32_t ic_stack_splice_after(struct ic_link1 *table, size_t places, struct ic_
  * IC_OUT_OF_RANGE or IC_NOT_LINKED: of `at`. IC_BROKEN: the member behind is none of this table, or `rest` has members. */
 IC_NODISCARD
 uint32_t ic_stack_split_after(struct ic_link1 *table, size_t places, struct ic_stack *list, uint32_t at, struct ic_stack *rest);
+
+/* Takes all members off. O(n).
+ * IC_BROKEN: the links lead to no end within `places` steps. */
+IC_NODISCARD
+uint32_t ic_stack_clear(struct ic_link1 *table, size_t places, struct ic_stack *list);
 
 /* ---- XOR lists: 8 bytes a place, all calls O(1) -----------------------------------------------------------------------------------
  *
@@ -524,6 +540,11 @@ uint32_t ic_xor_replace(struct ic_link1 *table, size_t places, struct ic_xor_lis
 IC_NODISCARD
 uint32_t ic_xor_splice_between(struct ic_link1 *table, size_t places, struct ic_xor_list *list, uint32_t before, struct ic_xor_list *given,
                                uint32_t behind);
+
+/* Moves all members of `given` to the back, in their order. `given` is empty then.
+ * IC_BROKEN: an end of either list is none of this table, or `given` begins with the same member as the list, as the list itself does. */
+IC_NODISCARD
+uint32_t ic_xor_append(struct ic_link1 *table, size_t places, struct ic_xor_list *list, struct ic_xor_list *given);
 
 /* Moves the members from `behind` on to `rest`, and `before` is the last member then. All move where `before` is IC_NONE, and none where
  * `behind` is. Hand in an empty `rest`.

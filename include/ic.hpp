@@ -428,7 +428,10 @@ public:
     status move_to_front(std::uint32_t place) const noexcept { return edit(ic_list_move_to_front, place); }
     status move_to_back(std::uint32_t place) const noexcept { return edit(ic_list_move_to_back, place); }
 
-    /// Moves all members of `given` in front of an iterator's member, and to the back if that is end(). This and the next four return
+    /// Takes all members off. ic::status::broken: they are no list of this table, and nothing is changed.
+    status clear() const noexcept { return edit(ic_list_clear); }
+
+    /// Moves all members of `given` in front of an iterator's member, and to the back if that is end(). This and the next five return
     /// ic::status::broken of this list itself, and of a list of another table.
     status splice(iterator at, list_view given) const noexcept { return splice_before(*at, given); }
     status splice_after(std::uint32_t at, list_view given) const noexcept {
@@ -437,6 +440,7 @@ public:
     status splice_before(std::uint32_t at, list_view given) const noexcept {
         return edit_both(given, ic_list_splice_before, at, given.head_);
     }
+    status append(list_view given) const noexcept { return edit_both(given, ic_list_append, given.head_); }
     status split_after(std::uint32_t at, list_view rest) const noexcept { return edit_both(rest, ic_list_split_after, at, rest.head_); }
     status split_before(std::uint32_t at, list_view rest) const noexcept { return edit_both(rest, ic_list_split_before, at, rest.head_); }
 };
@@ -459,6 +463,9 @@ public:
     [[nodiscard]] std::optional<std::uint32_t> replace_after(std::uint32_t at, std::uint32_t place) const noexcept {
         return taken(ic_stack_replace_after, at, place);
     }
+
+    /// Takes all members off. ic::status::broken: they are no list of this table, and nothing is changed.
+    status clear() const noexcept { return edit(ic_stack_clear); }
 
     /// This and the next return ic::status::broken of this list itself, and of a list of another table.
     status splice_after(std::uint32_t at, stack_view given) const noexcept {
@@ -487,12 +494,13 @@ public:
     }
     void reverse() const noexcept { ic_xor_reverse(head_); }
 
-    /// Moves all members of `given` in front of an iterator's member, and to the back if that is end(). This and the next two return
+    /// Moves all members of `given` in front of an iterator's member, and to the back if that is end(). This and the next three return
     /// ic::status::broken of this list itself, and of a list of another table.
     status splice(iterator at, xor_view given) const noexcept { return splice_between(front_of(at), given, *at); }
     status splice_between(std::uint32_t before, xor_view given, std::uint32_t behind) const noexcept {
         return edit_both(given, ic_xor_splice_between, before, given.head_, behind);
     }
+    status append(xor_view given) const noexcept { return edit_both(given, ic_xor_append, given.head_); }
     status split_between(std::uint32_t before, std::uint32_t behind, xor_view rest) const noexcept {
         return edit_both(rest, ic_xor_split_between, before, behind, rest.head_);
     }

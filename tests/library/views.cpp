@@ -154,7 +154,10 @@ void edit_two_way(lists<View> &it, int which, std::uint32_t index, std::uint32_t
         break;
     default:
         made(view.splice(at, view), ic::status::broken);
-        if (below(4) == 0 && made(view.splice(at, other), ic::status::ok))
+        made(view.append(view), ic::status::broken);
+        if (below(4))
+            return;
+        if (index == plain.size() ? made(view.append(other), ic::status::ok) : made(view.splice(at, other), ic::status::ok))
             plain.splice(std::next(plain.begin(), index), it.plain[1 - which]);
     }
 }

@@ -6,6 +6,7 @@ pub mod Views
 pub mod Lists
 pub mod Doubly
 pub mod Moves
+pub mod DoublyWalks
 pub mod Singly
 pub mod Xor
 pub mod Seen

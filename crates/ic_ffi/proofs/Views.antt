@@ -8,6 +8,7 @@ use Rattle.ic_link_ops.specs.PlainTables.{entry_at, table_of}
 use Rattle.ic_link_ops.specs.Edits.{Inserts, Removes, Replaces}
 use Rattle.ic_rbtree.specs.Ordered.{InsertsInOrder}
 use Rattle.ic_ffi.specs.declared.table.RawTable.{RawTable}
+use Rattle.ic_ffi.specs.Calls.{Clears}
 use Rattle.ic_ffi.specs.Tables.{raw_entries, raw_table, IsFree}
 
 module _ {W : Type 0} (unlinked : W) where
@@ -27,6 +28,12 @@ module _ {W : Type 0} (unlinked : W) where
     -- what the words show the view shows
     pub viewed : {es : List W} (t : RawTable W) {h : H} {s : List Place} → raw_entries t ≡ es → Shows (table_of unlinked es) h s → Shows (raw_table unlinked t) h s
     viewed t e shown = kept _ _ _ _ shown (λ q. ap (λ es. entry_at unlinked es q) e)
+
+    -- and the other way round
+    pub shown_back : {es : List W} (t : RawTable W) {h : H} {s : List Place} → raw_entries t ≡ es → Shows (raw_table unlinked t) h s → Shows (table_of unlinked es) h s
+    shown_back t {h} {s} e shown =
+        let back : Shows (table_of unlinked (raw_entries t)) h s = kept _ _ _ _ shown (λ q. refl) in
+        rw (← e) back
 
     -- and what is done to the view is done to the words, once the list is kept
     pub inserted_back : (a b : RawTable W) {es fs : List W} {h h' : H} {cut : Cut} {p : Place} → raw_entries a ≡ es → fs ≡ raw_entries b → h' ≡ h
@@ -53,6 +60,12 @@ module _ {W : Type 0} (unlinked : W) where
         let back : Replaces Shows (table_of unlinked (raw_entries a)) (table_of unlinked (raw_entries b)) h cut p =
         record { shows = kept _ _ _ _ r.shows (λ q. refl); frame = frame_back a b r.frame } in
         rw (← e, f, k) back
+
+  pub clears_back : (is_linked : W → Bool) (a b : RawTable W) {es fs : List W} {s : List Place} → raw_entries a ≡ es → fs ≡ raw_entries b
+      → Clears is_linked (raw_table unlinked a) (raw_table unlinked b) s → Clears is_linked (table_of unlinked es) (table_of unlinked fs) s
+  clears_back is_linked a b {s = s} e f c =
+      let back : Clears is_linked (table_of unlinked (raw_entries a)) (table_of unlinked (raw_entries b)) s = record { unlinked = c.unlinked; frame = frame_back a b c.frame } in
+      rw (← e, f) back
 
   -- what is unlinked in the view is unlinked among the words
   pub unlinked_back : (is_linked : W → Bool) (b : RawTable W) {fs : List W} (p : Place) → fs ≡ raw_entries b → IsUnlinked is_linked (raw_table unlinked b) p

@@ -1,14 +1,19 @@
 -- WHAT A CALL DOES to the words of a table and of its list, by the sequence that they show: in the same words for every kind.
 use Rattle.std.specs.Prelude.{ℕ, Bool, ◌∷◌, ◌++◌, List, Option}
 use Rattle.ic_unsafe_ref.specs.declared.place.Place.{Place}
-use Rattle.ic_link_ops.specs.Sequences.{Cut, join, IsDisjoint}
-use Rattle.ic_link_ops.specs.Tables.{Table, IsUnlinked}
+use Rattle.ic_link_ops.specs.Sequences.{Cut, join, IsDisjoint, IsMember}
+use Rattle.ic_link_ops.specs.Tables.{Table, IsUnlinked, KeepsBeside}
 use Rattle.ic_link_ops.specs.PlainTables.{table_of}
 use Rattle.ic_link_ops.specs.Edits.{Inserts, Removes, Replaces, Splices, Splits}
 use Rattle.ic_ffi.specs.Answers.{IsAccepted}
 use Rattle.ic_ffi.specs.Gaps.{before, Stands}
 use Rattle.ic_ffi.specs.Tables.{IsFree, member_fault, place_fault}
 use Rattle.ic_ffi.specs.Words.{HasNumber}
+
+-- each member of s is unlinked, and nothing but entries of members is changed
+pub record Clears {E : Type 0} (linked : E → Bool) (old new : Table E) (s : List Place) : Type 0 where
+  pub unlinked : (p : Place) → IsMember p s → IsUnlinked linked new p
+  pub frame : KeepsBeside old new s
 
 -- `Shows t head s`: the table shows s for the list with this head. `head_of`: what a list's words say. old and new, list and list': the words
 -- before the call and after it
@@ -75,3 +80,7 @@ module _ {W R H : Type 0} (Shows : Table W → H → List Place → Type 0) (lin
     Split rest cut kept handed =
         ShowsList old list (join cut)
         → IsAccepted status (Splits Shows (table_of unlinked old) (table_of unlinked new) (head_of list') (head_of rest) kept handed)
+
+    -- all members are unlinked
+    abbrev pub Cleared : List Place → Type 0
+    Cleared s = ShowsList old list s → IsAccepted status (Clears linked (table_of unlinked old) (table_of unlinked new) s)

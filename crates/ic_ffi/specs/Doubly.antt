@@ -122,3 +122,6 @@ Spliced = calls.Spliced Shows is_linked_two no_words ends_of
 abbrev pub Split : Side → (old new : List RawTwo) (list list' : RawEnds) (status : ℕ) → RawEnds → Cut → Type 0
 Split After old new list list' status rest cut = calls.Split Shows is_linked_two no_words ends_of old new list list' status rest cut cut.front cut.back
 Split Before old new list list' status rest cut = calls.Split Shows is_linked_two no_words ends_of old new list list' status rest cut cut.back cut.front
+
+abbrev pub Cleared : (old new : List RawTwo) (list list' : RawEnds) (status : ℕ) → List Place → Type 0
+Cleared = calls.Cleared Shows is_linked_two no_words ends_of

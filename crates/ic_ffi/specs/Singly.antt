@@ -76,3 +76,6 @@ Spliced = calls.Spliced Shows is_linked_one no_word list_of
 
 abbrev pub Split : (old new : List RawOne) (list list' : RawFront) (status : ℕ) → RawFront → Cut → Type 0
 Split old new list list' status rest cut = calls.Split Shows is_linked_one no_word list_of old new list list' status rest cut cut.front cut.back
+
+abbrev pub Cleared : (old new : List RawOne) (list list' : RawFront) (status : ℕ) → List Place → Type 0
+Cleared = calls.Cleared Shows is_linked_one no_word list_of

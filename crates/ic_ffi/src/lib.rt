@@ -29,6 +29,7 @@ mod status;
 mod table;
 mod tree;
 mod tree_calls;
+mod whole;
 mod words;
 mod xor_calls;
 mod xor_list;

@@ -79,7 +79,7 @@ fn leads(
 
 // Whether `place` is linked, or none, and `prev` stands before it.
 #[inline]
-fn follows(
+pub(crate) fn follows(
     links: &RawTable<'_, RawTwo>,
     list: &List,
     place: Option<Place>,

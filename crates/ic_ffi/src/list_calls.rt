@@ -15,15 +15,15 @@ ghost use Rattle.ic_link_ops.specs.Chains.{no_members};
 ghost use Rattle.ic_ffi.specs.declared.gap.Side.TheVariants.{After, Before};
 ghost use Rattle.ic_ffi.specs.Gaps.{IsBeside};
 ghost use Rattle.ic_ffi.specs.Words.{place_of};
-ghost use Rattle.ic_ffi.specs.Doubly.{ShowsList, FreeIn, StandsIn, TellsGap, IsEnd, end_on, table_of, ends_of, words_of, fault_at, fault_of, Inserted, Removed, Popped, Replaced, Spliced, Split};
+ghost use Rattle.ic_ffi.specs.Doubly.{ShowsList, FreeIn, StandsIn, TellsGap, IsEnd, end_on, table_of, ends_of, words_of, fault_at, fault_of, Inserted, Removed, Popped, Replaced, Spliced, Split, Cleared};
 ghost use Rattle.ic_ffi.specs.Answers.{IsStatus, refusal};
 
 use crate::gap::Side;
-use crate::list;
 use crate::number::{number_of, place_in, place_of};
 use crate::status::{BROKEN, NONE, NULL, OK};
 use crate::table::RawTable;
 use crate::words::{RawEnds, RawTwo};
+use crate::{list, whole};
 use ic_linked_list::LinkedList;
 use ic_unsafe_ref::Place;
 
@@ -492,6 +492,29 @@ pub extern "C" fn ic_list_splice_before(
     splice_at(table, list, Side::Before, at, given)
 }
 
+/// Puts all of the given list behind all members, and leaves the given one empty. O(1).
+///
+/// A list that begins with the same member, as the list itself, is [`BROKEN`].
+#[unsafe(no_mangle)]
+pub extern "C" fn ic_list_append(
+    table: &mut [RawTwo],
+    list: &mut RawEnds,
+    given: &mut RawEnds,
+) -> u32
+    ensures spliced { (s t : List Place) → Spliced table.old table.new list.old list.new result given.old (at_back s) t }
+    ensures emptied { result ≡ 0 → given.new ≡ words_of no_members }
+    ensures told { result ≡ 0 → TellsGap Before (table_of table.old) (ends_of list.old) None }
+    ensures front { result ≡ 0 → TellsGap After (table_of table.old) (ends_of given.old) None }
+    ensures back { result ≡ 0 → TellsGap Before (table_of table.old) (ends_of given.old) None }
+    ensures apart { result ≡ 0 → (p : Place) → (ends_of given.old).head ≡ Some p → (ends_of list.old).head ≢ Some p }
+    ensures words { result ≡ 0 → list.new ≡ words_of (ends_of list.new) }
+    ensures refused { result ≢ 0 → (table.new ≡ table.old) × (list.new ≡ list.old) × (given.new ≡ given.old) }
+    ensures why { result ≢ 0 → result ≡ 5 }
+    ensures status { IsStatus result }
+{
+    splice_at(table, list, Side::Before, NONE, given)
+}
+
 /// Hands out what stands behind the member `at`, at [`NONE`] all of the list. O(1).
 ///
 /// Where `rest` is not empty, it returns [`BROKEN`].
@@ -538,4 +561,24 @@ pub extern "C" fn ic_list_split_before(
     ensures status { IsStatus result }
 {
     split_at(table, list, Side::Before, at, rest)
+}
+
+/// Takes all members off, which are unlinked then. O(n).
+///
+/// Where the places do not lead from the first member to the last, and back, it returns [`BROKEN`].
+#[unsafe(no_mangle)]
+pub extern "C" fn ic_list_clear(table: &mut [RawTwo], list: &mut RawEnds) -> u32
+    ensures cleared { (s : List Place) → Cleared table.old table.new list.old list.new result s }
+    ensures ended { result ≡ 0 → (s : List Place) × ShowsList table.old list.old s }
+    ensures emptied { result ≡ 0 → list.new ≡ words_of no_members }
+    ensures refused { result ≢ 0 → (table.new ≡ table.old) × (list.new ≡ list.old) }
+    ensures why { result ≢ 0 → result ≡ 5 }
+    ensures status { IsStatus result }
+{
+    let mut links = RawTable::new(table);
+    if !whole::clear_list(&mut links, &mut list_of(&*list)) {
+        return BROKEN;
+    }
+    list.set(None, None);
+    OK
 }

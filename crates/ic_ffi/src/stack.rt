@@ -143,7 +143,7 @@ pub(crate) fn replace(
 }
 
 // The last member of the list with this front, if its places lead to an end within as many steps as the table has places.
-fn last_from(links: &RawTable<'_, RawOne>, front: Place) -> Option<Place>
+pub(crate) fn last_from(links: &RawTable<'_, RawOne>, front: Place) -> Option<Place>
     ensures ended { (end : Place) → result ≡ Some end
         → (s : List Place) × Shows (lent_table links.now) (list_from (Some front)) s × (Some end ≡ last s) }
     ensures shown { (s : List Place) → Shows (lent_table links.now) (list_from (Some front)) s → result ≡ last s }

@@ -13,14 +13,14 @@ ghost use Rattle.ic_unsafe_ref.specs.declared.place.Place.{Place};
 ghost use Rattle.ic_link_ops.specs.Sequences.{Cut, at_front, last, IsAfter};
 ghost use Rattle.ic_link_ops.specs.SinglyLinkedList.{list_from};
 ghost use Rattle.ic_ffi.specs.Words.{place_of};
-ghost use Rattle.ic_ffi.specs.Singly.{ShowsList, FreeIn, StandsIn, table_of, front_of, word_of_front, list_of, next_from, fault_at, fault_of, Inserted, Popped, Exchanged, Spliced, Split};
+ghost use Rattle.ic_ffi.specs.Singly.{ShowsList, FreeIn, StandsIn, table_of, front_of, word_of_front, list_of, next_from, fault_at, fault_of, Inserted, Popped, Exchanged, Spliced, Split, Cleared};
 ghost use Rattle.ic_ffi.specs.Answers.{IsStatus, refusal};
 
 use crate::number::{number_of, place_in, place_of};
-use crate::stack;
-use crate::status::{NONE, NULL, OK};
+use crate::status::{BROKEN, NONE, NULL, OK};
 use crate::table::{RawTable, refusal_at_end};
 use crate::words::{RawFront, RawOne};
+use crate::{stack, whole};
 use ic_singly_linked_list::SinglyLinkedList;
 
 // The list of its word.
@@ -33,7 +33,7 @@ fn stack_of(words: &RawFront) -> stack::Stack
 
 /// Puts a place in front of all members. O(1).
 ///
-/// The place has to be one of the table, and not linked. Where the first member is not linked, it returns [`BROKEN`](crate::BROKEN).
+/// The place has to be one of the table, and not linked. Where the first member is not linked, it returns [`BROKEN`].
 #[unsafe(no_mangle)]
 pub extern "C" fn ic_stack_push_front(table: &mut [RawOne], list: &mut RawFront, place: u32) -> u32
     ensures inserted { (s : List Place) (p : Place) → place_of place ≡ Some p
@@ -73,7 +73,7 @@ fn pop_front_any(table: &mut [RawOne], list: &mut RawFront, popped: &mut u32) ->
 
 /// Takes the first member off and hands it out, or returns [`NULL`] where there is none. O(1).
 ///
-/// Where the first member is not linked, it returns [`BROKEN`](crate::BROKEN).
+/// Where the first member is not linked, it returns [`BROKEN`].
 #[unsafe(no_mangle)]
 pub extern "C" fn ic_stack_pop_front(
     table: &mut [RawOne],
@@ -105,7 +105,7 @@ pub extern "C" fn ic_stack_pop_front(
 /// Puts a place behind the member `at`, at [`NONE`] in front of all. O(1).
 ///
 /// The place has to be one of the table, and not linked. Where what stands behind `at` is not linked, it returns
-/// [`BROKEN`](crate::BROKEN).
+/// [`BROKEN`].
 #[unsafe(no_mangle)]
 pub extern "C" fn ic_stack_insert_after(
     table: &mut [RawOne],
@@ -135,7 +135,7 @@ pub extern "C" fn ic_stack_insert_after(
 
 /// Takes the member behind `at` off, at [`NONE`] the first one, and hands it out, or returns [`NULL`] where there is none. O(1).
 ///
-/// Where what stands behind `at` is not linked, it returns [`BROKEN`](crate::BROKEN).
+/// Where what stands behind `at` is not linked, it returns [`BROKEN`].
 #[unsafe(no_mangle)]
 pub extern "C" fn ic_stack_remove_after(
     table: &mut [RawOne],
@@ -173,7 +173,7 @@ pub extern "C" fn ic_stack_remove_after(
 /// Returns [`NULL`] where there is none. O(1).
 ///
 /// The place has to be one of the table, and not linked. Where what stands behind `at` is not linked, it returns
-/// [`BROKEN`](crate::BROKEN).
+/// [`BROKEN`].
 #[unsafe(no_mangle)]
 pub extern "C" fn ic_stack_replace_after(
     table: &mut [RawOne],
@@ -215,7 +215,7 @@ pub extern "C" fn ic_stack_replace_after(
 
 /// Puts all of the given list behind the member `at`, at [`NONE`] in front of all, and leaves the given one empty.
 ///
-/// One reading for each of its members. Where what stands behind `at` is not linked, it returns [`BROKEN`](crate::BROKEN), and so it does
+/// One reading for each of its members. Where what stands behind `at` is not linked, it returns [`BROKEN`], and so it does
 /// of a given list that begins with the same member, as the list itself, or whose places lead to no end.
 #[unsafe(no_mangle)]
 pub extern "C" fn ic_stack_splice_after(
@@ -249,7 +249,7 @@ pub extern "C" fn ic_stack_splice_after(
 
 /// Hands out what stands behind the member `at`, at [`NONE`] all of the list. O(1).
 ///
-/// Where `rest` is not empty, or what stands behind `at` is not linked, it returns [`BROKEN`](crate::BROKEN).
+/// Where `rest` is not empty, or what stands behind `at` is not linked, it returns [`BROKEN`].
 #[unsafe(no_mangle)]
 pub extern "C" fn ic_stack_split_after(
     table: &mut [RawOne],
@@ -277,5 +277,25 @@ pub extern "C" fn ic_stack_split_after(
     }
     list.set(edited.first());
     rest.set(part.first());
+    OK
+}
+
+/// Takes all members off, which are unlinked then. O(n).
+///
+/// Where the places lead to no end, it returns [`BROKEN`].
+#[unsafe(no_mangle)]
+pub extern "C" fn ic_stack_clear(table: &mut [RawOne], list: &mut RawFront) -> u32
+    ensures cleared { (s : List Place) → Cleared table.old table.new list.old list.new result s }
+    ensures ended { result ≡ 0 → (s : List Place) × ShowsList table.old list.old s }
+    ensures emptied { result ≡ 0 → list.new ≡ word_of_front None }
+    ensures refused { result ≢ 0 → (table.new ≡ table.old) × (list.new ≡ list.old) }
+    ensures why { result ≢ 0 → result ≡ 5 }
+    ensures status { IsStatus result }
+{
+    let mut links = RawTable::new(table);
+    if !whole::clear_stack(&mut links, &mut stack_of(&*list)) {
+        return BROKEN;
+    }
+    list.set(None);
     OK
 }

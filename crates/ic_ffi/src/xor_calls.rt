@@ -10,7 +10,7 @@
 
 ghost use Rattle.std.specs.Prelude.{◌≡◌, ◌≢◌, ◌↔◌, ◌++◌, ◌∷◌, [], List, reverse, Option, Some, None, true, false};
 ghost use Rattle.ic_unsafe_ref.specs.declared.place.Place.{Place};
-ghost use Rattle.ic_link_ops.specs.Sequences.{Cut, join, at_front, at_back, first, last, IsAfter, IsBefore};
+ghost use Rattle.ic_link_ops.specs.Sequences.{Cut, join, at_front, at_back, first, last, IsAfter, IsBefore, IsDisjoint};
 ghost use Rattle.ic_link_ops.specs.Tables.{Table};
 ghost use Rattle.ic_link_ops.specs.Chains.{no_members};
 ghost use Rattle.ic_ffi.specs.declared.words.RawOne.{RawOne};
@@ -393,6 +393,37 @@ pub extern "C" fn ic_xor_replace(
     OK
 }
 
+// Puts all of the given list between two neighbors, and says whether it could.
+#[inline]
+fn splice(
+    table: &mut [RawOne],
+    list: &mut RawEnds,
+    before: Option<Place>,
+    given: &mut RawEnds,
+    behind: Option<Place>,
+) -> bool
+    ensures spliced { (cut : Cut) (t : List Place) → IsAfter cut before → IsBefore cut behind → ShowsList table.old list.old (join cut)
+        → ShowsList table.old given.old t → IsDisjoint t (join cut)
+        → (result ≡ true) × Spliced table.old table.new list.old list.new 0 given.old cut t }
+    ensures emptied { result ≡ true → given.new ≡ words_of no_members }
+    ensures before { result ≡ true → StandsIn table.old before }
+    ensures behind { result ≡ true → StandsIn table.old behind }
+    ensures told { result ≡ true → TellsGap (table_of table.old) (ends_of list.old) before behind }
+    ensures ends { result ≡ true → TellsEnds (table_of table.old) (ends_of given.old) }
+    ensures apart { result ≡ true → (p : Place) → (ends_of given.old).head ≡ Some p → (ends_of list.old).head ≢ Some p }
+    ensures words { result ≡ true → list.new ≡ words_of (ends_of list.new) }
+    ensures refused { result ≡ false → (table.new ≡ table.old) × (list.new ≡ list.old) × (given.new ≡ given.old) }
+{
+    let mut links = RawTable::new(table);
+    let mut edited = list_of(&*list);
+    if !xor_list::splice(&mut links, &mut edited, before, list_of(&*given), behind) {
+        return false;
+    }
+    list.set(edited.first(), edited.last());
+    given.set(None, None);
+    true
+}
+
 /// Puts all of the given list between the neighbors `before` and `behind`, and leaves the given one empty. O(1).
 ///
 /// Where the words tell of no gap between the two or of no list that is given, and where both lists begin with the same member, it
@@ -418,14 +449,36 @@ pub extern "C" fn ic_xor_splice_between(
     ensures why { result ≢ 0 → result ≡ refusal (fault_at table.old (place_of before) ∷ fault_at table.old (place_of behind) ∷ []) }
     ensures status { IsStatus result }
 {
-    let mut links = RawTable::new(table);
-    let mut edited = list_of(&*list);
-    let (front, back) = (place_of(before), place_of(behind));
-    if !xor_list::splice(&mut links, &mut edited, front, list_of(&*given), back) {
-        return links.refusal_at_both(before, behind);
+    if !splice(table, list, place_of(before), given, place_of(behind)) {
+        return RawTable::new(table).refusal_at_both(before, behind);
     }
-    list.set(edited.first(), edited.last());
-    given.set(None, None);
+    OK
+}
+
+/// Puts all of the given list behind all members, and leaves the given one empty. O(1).
+///
+/// A list that begins with the same member, as the list itself, is [`BROKEN`], and so are two whose ends are none of the table.
+#[unsafe(no_mangle)]
+pub extern "C" fn ic_xor_append(
+    table: &mut [RawOne],
+    list: &mut RawEnds,
+    given: &mut RawEnds,
+) -> u32
+    ensures spliced { (s t : List Place) → Spliced table.old table.new list.old list.new result given.old (at_back s) t }
+    ensures emptied { result ≡ 0 → given.new ≡ words_of no_members }
+    ensures stands { result ≡ 0 → StandsIn table.old (ends_of list.old).tail }
+    ensures told { result ≡ 0 → TellsGap (table_of table.old) (ends_of list.old) (ends_of list.old).tail None }
+    ensures ends { result ≡ 0 → TellsEnds (table_of table.old) (ends_of given.old) }
+    ensures apart { result ≡ 0 → (p : Place) → (ends_of given.old).head ≡ Some p → (ends_of list.old).head ≢ Some p }
+    ensures words { result ≡ 0 → list.new ≡ words_of (ends_of list.new) }
+    ensures refused { result ≢ 0 → (table.new ≡ table.old) × (list.new ≡ list.old) × (given.new ≡ given.old) }
+    ensures why { result ≢ 0 → result ≡ 5 }
+    ensures status { IsStatus result }
+{
+    let last = place_in(list.tail);
+    if !splice(table, list, last, given, None) {
+        return BROKEN;
+    }
     OK
 }
 

@@ -131,6 +131,8 @@ extern "C" {
         at: u32,
         given: *mut ic_list,
     ) -> u32;
+    pub fn ic_list_append(table: *mut ic_link2, places: usize, list: *mut ic_list, given: *mut ic_list) -> u32;
+    pub fn ic_list_clear(table: *mut ic_link2, places: usize, list: *mut ic_list) -> u32;
     pub fn ic_list_split_after(
         table: *mut ic_link2,
         places: usize,
@@ -170,6 +172,7 @@ extern "C" {
         at: u32,
         given: *mut ic_stack,
     ) -> u32;
+    pub fn ic_stack_clear(table: *mut ic_link1, places: usize, list: *mut ic_stack) -> u32;
     pub fn ic_stack_split_after(
         table: *mut ic_link1,
         places: usize,
@@ -198,6 +201,7 @@ extern "C" {
         at: u32,
         place: u32,
     ) -> u32;
+    pub fn ic_xor_append(table: *mut ic_link1, places: usize, list: *mut ic_xor_list, given: *mut ic_xor_list) -> u32;
     pub fn ic_xor_splice_between(
         table: *mut ic_link1,
         places: usize,

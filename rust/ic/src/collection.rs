@@ -147,16 +147,6 @@ macro_rules! collection {
                 crate::collection::retain(self, table, keep)
             }
 
-            /// Unlinks all members. O(n) in a list, and O(n log n) in a tree.
-            ///
-            /// # Errors
-            ///
-            /// As [`retain`](Self::retain).
-            #[inline]
-            pub fn clear(&mut self, table: &mut [$Link]) -> Result<(), Error> {
-                self.retain(table, |_| false)
-            }
-
             /// A cursor on no member. O(1).
             #[inline]
             #[must_use]

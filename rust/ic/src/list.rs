@@ -236,6 +236,28 @@ impl List {
         done(unsafe { ic_list_splice_before(links, places, &mut self.0, number(at), &mut given.0) })
     }
 
+    /// Moves all members of `given`, in their order, to the back. O(1). `given` is empty then.
+    ///
+    /// # Errors
+    ///
+    /// [`Error::Broken`] if the last member is none of this table, or `given` no list of it.
+    #[inline]
+    pub fn append(&mut self, table: &mut [Link2], given: &mut List) -> Result<(), Error> {
+        let (links, places) = Link2::parts(table);
+        done(unsafe { ic_list_append(links, places, &mut self.0, &mut given.0) })
+    }
+
+    /// Unlinks all members. O(n).
+    ///
+    /// # Errors
+    ///
+    /// [`Error::Broken`] if the links do not lead from the first member to the last, each to the next and back.
+    #[inline]
+    pub fn clear(&mut self, table: &mut [Link2]) -> Result<(), Error> {
+        let (links, places) = Link2::parts(table);
+        done(unsafe { ic_list_clear(links, places, &mut self.0) })
+    }
+
     /// Hands out the members behind the member `at` as a list, or all if that is `None`. O(1).
     ///
     /// # Errors

@@ -131,6 +131,17 @@ impl Stack {
         done(unsafe { ic_stack_splice_after(links, places, &mut self.0, number(at), &mut given.0) })
     }
 
+    /// Unlinks all members. O(n).
+    ///
+    /// # Errors
+    ///
+    /// [`Error::Broken`] if the links lead to no end within as many steps as the table has places.
+    #[inline]
+    pub fn clear(&mut self, table: &mut [Link1]) -> Result<(), Error> {
+        let (links, places) = Link1::parts(table);
+        done(unsafe { ic_stack_clear(links, places, &mut self.0) })
+    }
+
     /// Hands out the members behind the member `at` as a list, or all if that is `None`. O(1).
     ///
     /// # Errors

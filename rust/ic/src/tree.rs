@@ -138,6 +138,16 @@ impl Tree {
         done(unsafe { ic_tree_remove(links, places, &mut self.0, at) })
     }
 
+    /// Unlinks all members, one after the other. O(n log n).
+    ///
+    /// # Errors
+    ///
+    /// As [`retain`](Self::retain).
+    #[inline]
+    pub fn clear(&mut self, table: &mut [Link3]) -> Result<(), Error> {
+        self.retain(table, |_| false)
+    }
+
     /// Links a place where the member `at` is, which is unlinked. O(1). Nothing is compared, so hand in a place that belongs there.
     ///
     /// # Errors

@@ -176,6 +176,27 @@ impl XorList {
         done(unsafe { ic_xor_splice_between(links, places, &mut self.0, number(before), &mut given.0, number(behind)) })
     }
 
+    /// Moves all members of `given`, in their order, to the back. O(1). `given` is empty then.
+    ///
+    /// # Errors
+    ///
+    /// [`Error::Broken`] if an end of either list is none of this table.
+    #[inline]
+    pub fn append(&mut self, table: &mut [Link1], given: &mut XorList) -> Result<(), Error> {
+        let (links, places) = Link1::parts(table);
+        done(unsafe { ic_xor_append(links, places, &mut self.0, &mut given.0) })
+    }
+
+    /// Unlinks all members, one after the other. O(n).
+    ///
+    /// # Errors
+    ///
+    /// As [`retain`](Self::retain).
+    #[inline]
+    pub fn clear(&mut self, table: &mut [Link1]) -> Result<(), Error> {
+        self.retain(table, |_| false)
+    }
+
     /// Hands out the members from `behind` on as a list, so that `before` is the last member. O(1).
     ///
     /// # Errors

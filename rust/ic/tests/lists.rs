@@ -73,6 +73,37 @@ fn list_moves_members() {
 }
 
 #[test]
+fn lists_are_appended_and_cleared() {
+    let mut links = [Link2::UNLINKED; 8];
+    let (mut list, mut other) = (List::new(), List::new());
+    list.append(&mut links, &mut other).unwrap();
+    for place in 0..4 {
+        if place % 2 == 0 { &mut list } else { &mut other }.push_back(&mut links, place).unwrap();
+    }
+    list.append(&mut links, &mut other).unwrap();
+    assert!(list.iter(&links).eq([0, 2, 1, 3]) && other.is_empty());
+    let ring = links;
+    links[3].clone_from(&links[0]);
+    assert_eq!(list.clear(&mut links), Err(Error::Broken));
+    links = ring;
+    list.clear(&mut links).unwrap();
+    assert!(list.is_empty() && links.iter().all(|link| !link.is_linked()));
+
+    let mut links = [Link1::UNLINKED; 8];
+    let (mut one, mut two, mut stack) = (XorList::new(), XorList::new(), Stack::new());
+    for place in 0..4 {
+        if place % 2 == 0 { &mut one } else { &mut two }.push_back(&mut links, place).unwrap();
+        stack.push_front(&mut links, place + 4).unwrap();
+    }
+    one.append(&mut links, &mut two).unwrap();
+    assert!(one.iter(&links).eq([0, 2, 1, 3]) && two.is_empty());
+    stack.clear(&mut links).unwrap();
+    assert!(stack.is_empty() && links[4..].iter().all(|link| !link.is_linked()));
+    one.clear(&mut links).unwrap();
+    assert!(one.is_empty() && links.iter().all(|link| !link.is_linked()));
+}
+
+#[test]
 fn list_refuses() {
     let mut links = [Link2::UNLINKED; 8];
     let (mut list, mut other) = (List::new(), List::new());

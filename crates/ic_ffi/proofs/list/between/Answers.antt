@@ -1,4 +1,4 @@
-use Rattle.std.proofs.Common.{Some, sym, ap, ◌∙◌}
+use Rattle.std.proofs.Common.{sym, ap, ◌∙◌}
 use Rattle.ic_link_ops.proofs.SequenceLemmas.{some_same}
 use Rattle.ic_link_ops.proofs.ShownLists.{shows_middle}
 use Rattle.ic_ffi.proofs.Gaps.{gap_is}

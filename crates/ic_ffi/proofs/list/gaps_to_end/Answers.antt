@@ -1,4 +1,4 @@
-use Rattle.std.proofs.Common.{◌≡◌, ◌++◌, ◌∷◌, sym, ap, ◌∙◌}
+use Rattle.std.proofs.Common.{◌++◌, ◌∷◌, sym, ap, ◌∙◌}
 use Rattle.ic_link_ops.proofs.SequenceLemmas.{some_same}
 use Rattle.ic_ffi.proofs.Moves.{end_left}
 use Rattle.ic_ffi.proofs.list.gaps_to_end.Goals as goal
