@@ -25,8 +25,8 @@
  *   - It writes to nothing but table[0 .. places - 1], the lists, the tree and the out parameter that it is handed.
  *   - If the status is not IC_OK, it has changed nothing, out parameters included. The status says what is wrong with the first member
  *     that is named, else with the next one, else with the place to insert, else that the words do not fit together (IC_BROKEN).
- *   - It takes at most a fixed number of steps, but for ic_stack_splice_after, ic_stack_clear and ic_list_clear, which take at most a few more
- *     for each place of the table. Any other call of a list takes a few, and a call of a tree O(log n).
+ *   - It takes at most a fixed number of steps, but for ic_stack_splice_after and ic_list_clear, ic_stack_clear and ic_xor_clear, which take
+ *     at most a few more for each place of the table. Any other call of a list takes a few, and a call of a tree O(log n).
  *
  * Where the table holds the list or tree, and the member that you name is one of its members, the call makes the edit that its comment
  * says. Every other list and tree of the table stays as it was. A member of another list of the same table is refused with IC_BROKEN where
@@ -422,7 +422,7 @@ uint32_t ic_stack_split_after(struct ic_link1 *table, size_t places, struct ic_s
 IC_NODISCARD
 uint32_t ic_stack_clear(struct ic_link1 *table, size_t places, struct ic_stack *list);
 
-/* ---- XOR lists: 8 bytes a place, all calls O(1) -----------------------------------------------------------------------------------
+/* ---- XOR lists: 8 bytes a place, all calls O(1) but ic_xor_clear ------------------------------------------------------------------
  *
  * Good for lists that are used at both ends and walked both ways, where memory is scarce. A member alone does not tell its neighbors, so
  * a gap is named by both members beside it: `before` is the member in front of it, or IC_NONE at the front, and `behind` is the member
@@ -545,6 +545,11 @@ uint32_t ic_xor_splice_between(struct ic_link1 *table, size_t places, struct ic_
  * IC_BROKEN: an end of either list is none of this table, or `given` begins with the same member as the list, as the list itself does. */
 IC_NODISCARD
 uint32_t ic_xor_append(struct ic_link1 *table, size_t places, struct ic_xor_list *list, struct ic_xor_list *given);
+
+/* Takes all members off. O(n).
+ * IC_BROKEN: an end of the list is none of this table, or the links do not lead from one end to the other within `places` steps. */
+IC_NODISCARD
+uint32_t ic_xor_clear(struct ic_link1 *table, size_t places, struct ic_xor_list *list);
 
 /* Moves the members from `behind` on to `rest`, and `before` is the last member then. All move where `before` is IC_NONE, and none where
  * `behind` is. Hand in an empty `rest`.

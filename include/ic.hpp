@@ -494,6 +494,9 @@ public:
     }
     void reverse() const noexcept { ic_xor_reverse(head_); }
 
+    /// Takes all members off. ic::status::broken: they are no list of this table, and nothing is changed.
+    status clear() const noexcept { return edit(ic_xor_clear); }
+
     /// Moves all members of `given` in front of an iterator's member, and to the back if that is end(). This and the next three return
     /// ic::status::broken of this list itself, and of a list of another table.
     status splice(iterator at, xor_view given) const noexcept { return splice_between(front_of(at), given, *at); }

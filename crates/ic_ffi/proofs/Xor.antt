@@ -1,5 +1,5 @@
 -- What calls of an XOR list read of what is shown.
-use Rattle.std.proofs.Common.{◌≡◌, ℕ, nat_eq, true, Option, Some, None, List, [], ◌∷◌, ◌++◌, drop, reverse, refl, sym, ap, ◌∙◌, append_assoc, append-nil}
+use Rattle.std.proofs.Common.{◌≡◌, ℕ, nat_eq, true, Option, Some, None, List, [], ◌∷◌, ◌++◌, drop, reverse, refl, sym, ap, subst, ◌∙◌, append_assoc, append-nil}
 use Rattle.std.proofs.lemmas.Bool.{eq-eqb}
 use Rattle.ic_unsafe_ref.specs.declared.place.Place.{Place}
 use Rattle.ic_unsafe_ref.specs.Places.{word_of}
@@ -11,9 +11,12 @@ use Rattle.ic_link_ops.proofs.SequenceLemmas.{first_of_back, last_of_front, last
 use Rattle.ic_link_ops.proofs.ShownLists.{shows_middle, shows_reversed, before_gap, behind_gap, gap_linked, gap_behind_linked}
 use Rattle.ic_link_ops.proofs.XorLists.{joined_linked, joined_symmetric}
 use Rattle.ic_ffi.specs.declared.words.RawOne.{RawOne}
+use Rattle.ic_ffi.specs.declared.table.RawTable.{RawTable}
 use Rattle.ic_ffi.specs.Words.{is_linked_one, next_of_one}
 use Rattle.ic_ffi.specs.Gaps.{Stands}
-use Rattle.ic_ffi.specs.Xor.{Shows, Joins, GoesOn, Faces, TellsGap, TellsMember, TellsEnds, other}
+use Rattle.ic_ffi.specs.Tables.{raw_entries}
+use Rattle.ic_ffi.specs.Singly.{table_of, lent_table}
+use Rattle.ic_ffi.specs.Xor.{Shows, Joins, GoesOn, Faces, TellsGap, TellsMember, TellsEnds, LeadsThrough, other}
 use Rattle.ic_ffi.proofs.Entries.{same_word}
 use Rattle.ic_ffi.proofs.Lists.{before_stands, behind_stands}
 
@@ -22,7 +25,7 @@ pub words_tell : {a b : Option Place} {v w : ℕ} → v ≡ word_of a → w ≡ 
 words_tell {a} {b} {v} {w} e f = (same_word a b e f, λ same. eq-eqb v w (e ∙ ap word_of same ∙ sym f))
 
 -- either neighbor tells the other
-other_behind : (e : RawOne) (a b : Option Place) → Joins e a b → other e a ≡ b
+pub other_behind : (e : RawOne) (a b : Option Place) → Joins e a b → other e a ≡ b
 other_behind e a b j = joins_finds_other (next_of_one e) a b j
 
 other_before : (e : RawOne) (a b : Option Place) → Joins e a b → other e b ≡ a
@@ -96,3 +99,8 @@ ends_told {t} {list} {s} shown =
 -- a list is turned round by its ends alone
 pub turned : {t : Table RawOne} {list list' : Ends} {s : List Place} → Shows t list s → list'.head ≡ list.tail → list'.tail ≡ list.head → Shows t list' (reverse s)
 turned shown head tail = shows_reversed (joined_symmetric (λ e a b. joins_symmetric (next_of_one e) a b)) shown head tail
+
+-- what the words of a view lead through
+pub leads_back : {es : List RawOne} (t : RawTable RawOne) (list : Ends) (s : List Place) → raw_entries t ≡ es → LeadsThrough (lent_table t) list s → LeadsThrough (table_of es) list s
+leads_back t list s e leads =
+    let back : LeadsThrough (table_of (raw_entries t)) list s = leads in subst (λ es. LeadsThrough (table_of es) list s) e back

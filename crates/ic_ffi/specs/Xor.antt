@@ -1,5 +1,5 @@
 -- XOR linked lists over a caller's words.
-use Rattle.std.specs.Prelude.{◌≡◌, true, ℕ, List, Option, Some, None}
+use Rattle.std.specs.Prelude.{◌≡◌, true, ℕ, List, [], ◌∷◌, Option, Some, None}
 use Rattle.ic_unsafe_ref.specs.declared.place.Place.{Place}
 use Rattle.ic_link_ops.specs.Sequences.{Cut}
 use Rattle.ic_link_ops.specs.Tables.{Table}
@@ -54,6 +54,15 @@ TellsMemberBefore t list behind at = (p : Place) → at ≡ Some p → TellsMemb
 abbrev pub TellsEnds : Table RawOne → Ends → Type 0
 TellsEnds t list = Faces t.entry list.tail list.head None × Faces t.entry list.head list.tail None
 
+-- THE WORDS LEAD THROUGH s from the first member to the last: each place of s is linked, and what stands on its other side is next. s may have
+-- a place twice, as no list has
+abbrev pub LeadsOn : (Place → RawOne) → (end from at : Option Place) → List Place → Type 0
+LeadsOn entry end from at [] = (at ≡ None) × (end ≡ from)
+LeadsOn entry end from at (x ∷ s) = (at ≡ Some x) × (is_linked_one (entry x) ≡ true) × LeadsOn entry end (Some x) (other (entry x) from) s
+
+abbrev pub LeadsThrough : Table RawOne → Ends → List Place → Type 0
+LeadsThrough t list s = LeadsOn t.entry list.tail None list.head s
+
 -- what a call does to such words
 abbrev pub ShowsList : List RawOne → RawEnds → List Place → Type 0
 ShowsList = calls.ShowsList Shows is_linked_one no_word ends_of
@@ -87,3 +96,6 @@ Spliced = calls.Spliced Shows is_linked_one no_word ends_of
 
 abbrev pub Split : (old new : List RawOne) (list list' : RawEnds) (status : ℕ) → RawEnds → Cut → Type 0
 Split old new list list' status rest cut = calls.Split Shows is_linked_one no_word ends_of old new list list' status rest cut cut.front cut.back
+
+abbrev pub Cleared : (old new : List RawOne) (list list' : RawEnds) (status : ℕ) → List Place → Type 0
+Cleared = calls.Cleared Shows is_linked_one no_word ends_of

@@ -18,7 +18,7 @@ ghost use Rattle.ic_ffi.specs.Words.{place_in, place_of, is_linked_one};
 ghost use Rattle.ic_ffi.specs.Tables.{member_fault, place_fault};
 ghost use Rattle.ic_ffi.specs.Doubly.{ends_of, words_of};
 ghost use Rattle.ic_ffi.specs.Singly.{table_of, lent_table};
-ghost use Rattle.ic_ffi.specs.Xor.{Shows, ShowsList, FreeIn, StandsIn, TellsGap, TellsMemberBehind, TellsMemberBefore, TellsEnds, fault_at, fault_of, Inserted, Removed, Popped, Replaced, Spliced, Split};
+ghost use Rattle.ic_ffi.specs.Xor.{Shows, ShowsList, FreeIn, StandsIn, TellsGap, TellsMemberBehind, TellsMemberBefore, TellsEnds, LeadsThrough, fault_at, fault_of, Inserted, Removed, Popped, Replaced, Spliced, Split, Cleared};
 ghost use Rattle.ic_ffi.specs.Answers.{IsStatus, refusal};
 
 use crate::number::{number_of, place_in, place_of};
@@ -514,6 +514,26 @@ pub extern "C" fn ic_xor_split_between(
     }
     list.set(edited.first(), edited.last());
     rest.set(part.first(), part.last());
+    OK
+}
+
+/// Takes all members off, which are unlinked then. O(n).
+///
+/// Where the places do not lead from the first member to the last, it returns [`BROKEN`].
+#[unsafe(no_mangle)]
+pub extern "C" fn ic_xor_clear(table: &mut [RawOne], list: &mut RawEnds) -> u32
+    ensures cleared { (s : List Place) → Cleared table.old table.new list.old list.new result s }
+    ensures ended { result ≡ 0 → (s : List Place) × LeadsThrough (table_of table.old) (ends_of list.old) s }
+    ensures emptied { result ≡ 0 → list.new ≡ words_of no_members }
+    ensures refused { result ≢ 0 → (table.new ≡ table.old) × (list.new ≡ list.old) }
+    ensures why { result ≢ 0 → result ≡ 5 }
+    ensures status { IsStatus result }
+{
+    let mut links = RawTable::new(table);
+    if !xor_list::clear(&mut links, &list_of(&*list)) {
+        return BROKEN;
+    }
+    list.set(None, None);
     OK
 }
 

@@ -9,12 +9,13 @@ ghost use Rattle.ic_unsafe_ref.specs.declared.place.Place.{Place};
 ghost use Rattle.ic_link_ops.specs.Sequences.{Cut, join, first, last, IsDisjoint, IsAfter, IsBefore};
 ghost use Rattle.ic_link_ops.specs.Tables.{IsLinked, IsUnlinked};
 ghost use Rattle.ic_link_ops.specs.Edits.{Inserts, Removes, Replaces, Splices, Splits};
+ghost use Rattle.ic_ffi.specs.Calls.{Clears};
 ghost use Rattle.ic_ffi.specs.Gaps.{Stands};
 ghost use Rattle.ic_ffi.specs.Gaps as gaps;
 ghost use Rattle.ic_ffi.specs.Tables.{IsFree};
 ghost use Rattle.ic_ffi.specs.Words.{is_linked_one};
 ghost use Rattle.ic_ffi.specs.Singly.{lent_table};
-ghost use Rattle.ic_ffi.specs.Xor.{Shows, GoesOn, Faces, TellsGap, TellsMember, TellsMemberBehind, TellsMemberBefore, TellsEnds};
+ghost use Rattle.ic_ffi.specs.Xor.{Shows, GoesOn, Faces, TellsGap, TellsMember, TellsMemberBehind, TellsMemberBefore, TellsEnds, LeadsThrough};
 
 use crate::gap::begin_alike;
 use crate::table::RawTable;
@@ -338,5 +339,67 @@ pub(crate) fn split(
         return false;
     }
     *rest = list.split_between(links, before, behind);
+    true
+}
+
+// Whether the places lead from the first member to the last, within as many steps as the table has places.
+fn leads_to_last(links: &RawTable<'_, RawOne>, list: &List) -> bool
+    ensures ended { result ≡ true → (s : List Place) × LeadsThrough (lent_table links.now) list.now s }
+    ensures shown { (s : List Place) → Shows (lent_table links.now) list.now s → result ≡ true }
+{
+    let Some(front) = list.first() else {
+        return Place::to_word(list.last()) == Place::to_word(None);
+    };
+    let mut prev = None;
+    let mut at = front;
+    let mut left = links.places();
+    while left > 0 {
+        if !links.is_linked(at) {
+            return false;
+        }
+        let Some(next) = links.next(at, prev) else {
+            return Place::to_word(list.last()) == Place::to_word(Some(at));
+        };
+        prev = Some(at);
+        at = next;
+        left -= 1;
+    }
+    false
+}
+
+// Unlinks the places from the first member on, one after the other.
+fn release_all(links: &mut RawTable<'_, RawOne>, list: &List)
+    ensures cleared { (s : List Place) → Shows (lent_table links.old) list.now s → Clears is_linked_one (lent_table links.old) (lent_table links.new) s }
+    ensures extent { (lent_table links.new).extent ≡ (lent_table links.old).extent }
+{
+    let mut prev = None;
+    let mut at = list.first();
+    let mut left = links.places();
+    while left > 0 {
+        let Some(member) = at else {
+            return;
+        };
+        if !links.is_linked(member) {
+            return;
+        }
+        at = links.next(member, prev);
+        links.release_link(member);
+        prev = Some(member);
+        left -= 1;
+    }
+}
+
+// Takes all members off, and says whether it could: the places lead from the first to the last.
+pub(crate) fn clear(links: &mut RawTable<'_, RawOne>, list: &List) -> bool
+    ensures cleared { (s : List Place) → Shows (lent_table links.old) list.now s
+        → (result ≡ true) × Clears is_linked_one (lent_table links.old) (lent_table links.new) s }
+    ensures ended { result ≡ true → (s : List Place) × LeadsThrough (lent_table links.old) list.now s }
+    ensures refused { result ≡ false → links.new ≡ links.old }
+    ensures extent { (lent_table links.new).extent ≡ (lent_table links.old).extent }
+{
+    if !leads_to_last(&*links, list) {
+        return false;
+    }
+    release_all(links, list);
     true
 }

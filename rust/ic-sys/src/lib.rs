@@ -202,6 +202,7 @@ extern "C" {
         place: u32,
     ) -> u32;
     pub fn ic_xor_append(table: *mut ic_link1, places: usize, list: *mut ic_xor_list, given: *mut ic_xor_list) -> u32;
+    pub fn ic_xor_clear(table: *mut ic_link1, places: usize, list: *mut ic_xor_list) -> u32;
     pub fn ic_xor_splice_between(
         table: *mut ic_link1,
         places: usize,

@@ -187,14 +187,15 @@ impl XorList {
         done(unsafe { ic_xor_append(links, places, &mut self.0, &mut given.0) })
     }
 
-    /// Unlinks all members, one after the other. O(n).
+    /// Unlinks all members. O(n).
     ///
     /// # Errors
     ///
-    /// As [`retain`](Self::retain).
+    /// [`Error::Broken`] if an end of the list is none of this table, or the links do not lead from one end to the other.
     #[inline]
     pub fn clear(&mut self, table: &mut [Link1]) -> Result<(), Error> {
-        self.retain(table, |_| false)
+        let (links, places) = Link1::parts(table);
+        done(unsafe { ic_xor_clear(links, places, &mut self.0) })
     }
 
     /// Hands out the members from `behind` on as a list, so that `before` is the last member. O(1).
