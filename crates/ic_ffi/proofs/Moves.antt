@@ -1,13 +1,18 @@
 -- Where a member goes that is moved: a gap of the others is one of all members.
 use Rattle.std.proofs.Common.{◌≡◌, ◌⊎◌, inl, inr, Option, Some, None, List, [], ◌∷◌, ◌++◌, drop, refl, sym, ap, subst, ◌∙◌, append_assoc, append-nil}
 use Rattle.ic_unsafe_ref.specs.declared.place.Place.{Place}
-use Rattle.ic_link_ops.specs.Sequences.{Cut, join, insert, first, last, IsAbsent}
-use Rattle.ic_link_ops.proofs.SequenceLemmas.{none_not, some_same, gap_not, last_or-append, last_of_push}
+use Rattle.ic_link_ops.specs.Sequences.{Cut, join, insert, first, last, IsAbsent, IsDistinct}
+use Rattle.ic_link_ops.specs.Chains.{Ends}
+use Rattle.ic_link_ops.proofs.SequenceLemmas.{none_not, some_same, absent_right, distinct_middle, last_not, gap_not, last_or-append, last_of_push}
 use Rattle.ic_ffi.specs.declared.gap.Side.{Side}
 use Rattle.ic_ffi.specs.declared.gap.Side.TheVariants.{After, Before}
 use Rattle.ic_ffi.specs.Gaps.{IsApart, IsBeside, gap_of, outermost}
-use Rattle.ic_ffi.specs.Doubly.{IsEnd}
+use Rattle.ic_ffi.specs.Doubly.{IsEnd, end_on}
 use Rattle.ic_ffi.proofs.Doubly.{first_kept, last_kept}
+
+-- the ends of a sequence
+abbrev pub ends : List Place → Ends
+ends s = record { head = first s; tail = last s }
 
 -- TWO CUTS OF ONE SEQUENCE: the front of one begins with that of the other
 pub two_cuts : (a b c d : List Place) → a ++ b ≡ c ++ d → ((m : List Place) × (a ≡ c ++ m) × (d ≡ m ++ b)) ⊎ ((m : List Place) × (c ≡ a ++ m) × (b ≡ m ++ d))
@@ -43,6 +48,21 @@ outermost_whole Before s = append-nil s
 pub end_beside : (side : Side) (front back : List Place) {at : Option Place} → IsEnd side front back → at ≡ None → IsBeside side (record { front = front; back = back }) at
 end_beside After front back end e = e ∙ ap last (sym end)
 end_beside Before front back end e = e ∙ ap first (sym end)
+
+-- the member at an end is beside the outermost gap there, and nowhere else
+pub stands_at_end : (side : Side) (front : List Place) (p : Place) (back : List Place) → IsDistinct (front ++ p ∷ back) → end_on side (ends (front ++ p ∷ back)) ≡ Some p
+    → IsEnd side front back
+stands_at_end After [] p back d e = refl
+stands_at_end After (x ∷ front) p back d e = absurd ((absent_right x front (p ∷ back) d.0).0 (some_same e))
+stands_at_end Before front p [] d e = refl
+stands_at_end Before front p (x ∷ back) d e =
+    absurd (last_not (Some x) back p (λ k. out.0 (sym (some_same k))) out.1 (sym (last_or-append None front (p ∷ x ∷ back)) ∙ e)) where
+      out : IsAbsent p (x ∷ back)
+      out = absent_right p front (x ∷ back) (distinct_middle front (x ∷ back) p d)
+
+pub end_inserted : (side : Side) (front : List Place) (p : Place) (back : List Place) → IsEnd side front back → insert (outermost side (front ++ back)) p ≡ front ++ p ∷ back
+end_inserted After front p back end = rw end refl
+end_inserted Before front p back end = rw (end, append-nil) refl
 
 -- a member at an end has none on that side
 pub not_inner : (side : Side) (front back : List Place) {q r : Place} → IsEnd side front back → Some q ≡ last front → Some r ≡ first back → ⊥

@@ -250,6 +250,50 @@ pub(crate) fn gaps_to_end(
     Some((from, to))
 }
 
+// Whether the member is at the end beside the outermost gap on this side of none, with another one beyond it, and their words are such as a
+// call writes.
+#[inline]
+pub(crate) fn is_at_end(
+    links: &RawTable<'_, RawTwo>,
+    list: &List,
+    side: Side,
+    member: Place,
+) -> bool
+    ensures end { result ≡ true → end_on side list.now ≡ Some member }
+    ensures told { result ≡ true → TellsGap side (lent_table links.now) list.now None }
+    ensures member { result ≡ true → Stands is_linked_two (lent_table links.now) (Some member) }
+    ensures before { result ≡ true → TellsGap Before (lent_table links.now) list.now (Some member) }
+    ensures behind { result ≡ true → TellsGap After (lent_table links.now) list.now (Some member) }
+{
+    let at = Some(member);
+    match side {
+        Side::After => {
+            if !leads(links, list, None, at)
+                || !links.covers(member)
+                || !links.at(member).is_first()
+            {
+                return false;
+            }
+            let Some(second) = links.next(member) else {
+                return false;
+            };
+            links.covers(second) && links.at(second).is_behind(member)
+        }
+        Side::Before => {
+            if !follows(links, list, None, at)
+                || !links.covers(member)
+                || !links.at(member).is_last()
+            {
+                return false;
+            }
+            let Some(second) = links.prev(member) else {
+                return false;
+            };
+            links.covers(second) && links.at(second).is_before(member)
+        }
+    }
+}
+
 // Puts a place behind the last member, where its words are such as a call writes. Else it changes nothing, and says so.
 #[inline]
 pub(crate) fn push_behind_last(
@@ -378,10 +422,81 @@ pub(crate) fn remove(links: &mut RawTable<'_, RawTwo>, list: &mut List, member: 
     true
 }
 
-// The places on both sides of a member, and the gap beside another one, where the member is to go. None where the words tell of no such
-// member, or of no such gap.
+// The gap beside a member that has another one on its other side, where their words are such as a call writes. Else none.
 #[inline]
-pub(crate) fn gaps_to_move(
+fn gap_inside(links: &RawTable<'_, RawTwo>, side: Side, at: Place) -> Option<Gap>
+    ensures at { (gap : Gap) → result ≡ Some gap → Stands is_linked_two (lent_table links.now) (Some at) }
+    ensures stands { (gap : Gap) → result ≡ Some gap → StandBeside is_linked_two (lent_table links.now) gap }
+    ensures told { (gap : Gap) (list : Ends) → result ≡ Some gap → TellsGap side (lent_table links.now) list (Some at) }
+    ensures shown { (gap : Gap) (list : Ends) (cut : Cut) → result ≡ Some gap → Shows (lent_table links.now) list (join cut)
+        → IsBeside side cut (Some at) → gap ≡ gap_of cut }
+{
+    if !links.is_linked(at) {
+        return None;
+    }
+    match side {
+        Side::After => {
+            let Some(behind) = links.next(at) else {
+                return None;
+            };
+            if !links.covers(behind) || !links.at(behind).is_behind(at) {
+                return None;
+            }
+            Some(Gap {
+                before: Some(at),
+                behind: Some(behind),
+            })
+        }
+        Side::Before => {
+            let Some(before) = links.prev(at) else {
+                return None;
+            };
+            if !links.covers(before) || !links.at(before).is_before(at) {
+                return None;
+            }
+            Some(Gap {
+                before: Some(before),
+                behind: Some(at),
+            })
+        }
+    }
+}
+
+// What `gaps_to_move` gives of a member that has one on both sides and goes between two others, where all these words are such as a call
+// writes. Else none.
+#[inline]
+fn gaps_inside(
+    links: &RawTable<'_, RawTwo>,
+    side: Side,
+    at: Option<Place>,
+    member: Place,
+) -> Option<(Gap, Gap)>
+    ensures shown { (from to : Gap) (list : Ends) (front back : List Place) (cut : Cut) → result ≡ Some (from, to)
+        → Shows (lent_table links.now) list (front ++ member ∷ back) → join cut ≡ front ++ member ∷ back → IsBeside side cut at
+        → (from ≡ gap_of (record { front = front; back = back })) × (to ≡ gap_of cut) }
+    ensures at { (from to : Gap) → result ≡ Some (from, to) → Stands is_linked_two (lent_table links.now) at }
+    ensures told { (from to : Gap) (list : Ends) → result ≡ Some (from, to) → TellsGap side (lent_table links.now) list at }
+    ensures to { (from to : Gap) → result ≡ Some (from, to) → StandBeside is_linked_two (lent_table links.now) to }
+    ensures member { (from to : Gap) → result ≡ Some (from, to) → Stands is_linked_two (lent_table links.now) (Some member) }
+    ensures before { (from to : Gap) (list : Ends) → result ≡ Some (from, to) → TellsGap Before (lent_table links.now) list (Some member) }
+    ensures behind { (from to : Gap) (list : Ends) → result ≡ Some (from, to) → TellsGap After (lent_table links.now) list (Some member) }
+    ensures from { (from to : Gap) → result ≡ Some (from, to) → StandBeside is_linked_two (lent_table links.now) from }
+{
+    let Some(at) = at else {
+        return None;
+    };
+    let Some(from) = between(links, member) else {
+        return None;
+    };
+    let Some(to) = gap_inside(links, side, at) else {
+        return None;
+    };
+    Some((from, to))
+}
+
+// What `gaps_to_move` gives, of any words.
+#[inline]
+fn gaps_anywhere(
     links: &RawTable<'_, RawTwo>,
     list: &List,
     side: Side,
@@ -406,6 +521,33 @@ pub(crate) fn gaps_to_move(
         return None;
     };
     Some((from, to))
+}
+
+// The places on both sides of a member, and the gap beside another one, where the member is to go. None where the words tell of no such
+// member, or of no such gap.
+#[inline]
+pub(crate) fn gaps_to_move(
+    links: &RawTable<'_, RawTwo>,
+    list: &List,
+    side: Side,
+    at: Option<Place>,
+    member: Place,
+) -> Option<(Gap, Gap)>
+    ensures shown { (front back : List Place) (cut : Cut) → Shows (lent_table links.now) list.now (front ++ member ∷ back)
+        → join cut ≡ front ++ member ∷ back → IsBeside side cut at
+        → result ≡ Some (gap_of (record { front = front; back = back }), gap_of cut) }
+    ensures at { (from to : Gap) → result ≡ Some (from, to) → Stands is_linked_two (lent_table links.now) at }
+    ensures told { (from to : Gap) → result ≡ Some (from, to) → TellsGap side (lent_table links.now) list.now at }
+    ensures to { (from to : Gap) → result ≡ Some (from, to) → StandBeside is_linked_two (lent_table links.now) to }
+    ensures member { (from to : Gap) → result ≡ Some (from, to) → Stands is_linked_two (lent_table links.now) (Some member) }
+    ensures before { (from to : Gap) → result ≡ Some (from, to) → TellsGap Before (lent_table links.now) list.now (Some member) }
+    ensures behind { (from to : Gap) → result ≡ Some (from, to) → TellsGap After (lent_table links.now) list.now (Some member) }
+    ensures from { (from to : Gap) → result ≡ Some (from, to) → StandBeside is_linked_two (lent_table links.now) from }
+{
+    if let Some((from, to)) = gaps_inside(links, side, at, member) {
+        return Some((from, to));
+    }
+    gaps_anywhere(links, list, side, at, member)
 }
 
 // Moves a member, which is between these two places, into a gap that it is not beside. It stays linked.

@@ -110,6 +110,9 @@ fn move_to_end(table: &mut [RawTwo], list: &mut RawEnds, side: Side, place: u32)
         list.set(edited.first(), edited.last());
         return OK;
     }
+    if list::is_at_end(&links, &edited, side, member) {
+        return OK;
+    }
     move_to_end_any(links.entries, list, side, place)
 }
 
