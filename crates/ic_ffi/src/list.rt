@@ -423,7 +423,7 @@ pub(crate) fn remove(links: &mut RawTable<'_, RawTwo>, list: &mut List, member: 
 }
 
 // The gap beside a member that has another one on its other side, where their words are such as a call writes. Else none.
-#[inline]
+#[inline(always)]
 fn gap_inside(links: &RawTable<'_, RawTwo>, side: Side, at: Place) -> Option<Gap>
     ensures at { (gap : Gap) → result ≡ Some gap → Stands is_linked_two (lent_table links.now) (Some at) }
     ensures stands { (gap : Gap) → result ≡ Some gap → StandBeside is_linked_two (lent_table links.now) gap }
@@ -464,8 +464,8 @@ fn gap_inside(links: &RawTable<'_, RawTwo>, side: Side, at: Place) -> Option<Gap
 
 // What `gaps_to_move` gives of a member that has one on both sides and goes between two others, where all these words are such as a call
 // writes. Else none.
-#[inline]
-fn gaps_inside(
+#[inline(always)]
+pub(crate) fn gaps_inside(
     links: &RawTable<'_, RawTwo>,
     side: Side,
     at: Option<Place>,
@@ -494,9 +494,10 @@ fn gaps_inside(
     Some((from, to))
 }
 
-// What `gaps_to_move` gives, of any words.
+// The places on both sides of a member, and the gap beside another one, where the member is to go. None where the words tell of no such
+// member, or of no such gap.
 #[inline]
-fn gaps_anywhere(
+pub(crate) fn gaps_to_move(
     links: &RawTable<'_, RawTwo>,
     list: &List,
     side: Side,
@@ -521,33 +522,6 @@ fn gaps_anywhere(
         return None;
     };
     Some((from, to))
-}
-
-// The places on both sides of a member, and the gap beside another one, where the member is to go. None where the words tell of no such
-// member, or of no such gap.
-#[inline]
-pub(crate) fn gaps_to_move(
-    links: &RawTable<'_, RawTwo>,
-    list: &List,
-    side: Side,
-    at: Option<Place>,
-    member: Place,
-) -> Option<(Gap, Gap)>
-    ensures shown { (front back : List Place) (cut : Cut) → Shows (lent_table links.now) list.now (front ++ member ∷ back)
-        → join cut ≡ front ++ member ∷ back → IsBeside side cut at
-        → result ≡ Some (gap_of (record { front = front; back = back }), gap_of cut) }
-    ensures at { (from to : Gap) → result ≡ Some (from, to) → Stands is_linked_two (lent_table links.now) at }
-    ensures told { (from to : Gap) → result ≡ Some (from, to) → TellsGap side (lent_table links.now) list.now at }
-    ensures to { (from to : Gap) → result ≡ Some (from, to) → StandBeside is_linked_two (lent_table links.now) to }
-    ensures member { (from to : Gap) → result ≡ Some (from, to) → Stands is_linked_two (lent_table links.now) (Some member) }
-    ensures before { (from to : Gap) → result ≡ Some (from, to) → TellsGap Before (lent_table links.now) list.now (Some member) }
-    ensures behind { (from to : Gap) → result ≡ Some (from, to) → TellsGap After (lent_table links.now) list.now (Some member) }
-    ensures from { (from to : Gap) → result ≡ Some (from, to) → StandBeside is_linked_two (lent_table links.now) from }
-{
-    if let Some((from, to)) = gaps_inside(links, side, at, member) {
-        return Some((from, to));
-    }
-    gaps_anywhere(links, list, side, at, member)
 }
 
 // Moves a member, which is between these two places, into a gap that it is not beside. It stays linked.

@@ -23,9 +23,11 @@ use crate::status::{NONE, NULL, OK};
 use crate::table::RawTable;
 use crate::words::{RawEnds, RawTwo};
 
-// Moves a member into the gap beside another one. A gap beside the member itself is where it stands: then nothing is changed.
-#[inline]
-fn move_at(table: &mut [RawTwo], list: &mut RawEnds, side: Side, at: u32, place: u32) -> u32
+// Moves any member into the gap beside another one, or says why not. A gap beside the member itself is where it stands: then nothing is
+// changed.
+#[cold]
+#[inline(never)]
+fn move_any(table: &mut [RawTwo], list: &mut RawEnds, side: Side, at: u32, place: u32) -> u32
     ensures moved { (cut : Cut) (front back : List Place) (p : Place) → IsBeside side cut (place_of at) → place_of place ≡ Some p
         → join cut ≡ front ++ back → Moved table.old table.new list.old list.new result p front back cut }
     ensures itself { (front back : List Place) (p : Place) → place_of at ≡ Some p → place_of place ≡ Some p
@@ -60,6 +62,43 @@ fn move_at(table: &mut [RawTwo], list: &mut RawEnds, side: Side, at: u32, place:
     OK
 }
 
+// Moves a member into the gap beside another one.
+#[inline(always)]
+fn move_at(table: &mut [RawTwo], list: &mut RawEnds, side: Side, at: u32, place: u32) -> u32
+    ensures moved { (cut : Cut) (front back : List Place) (p : Place) → IsBeside side cut (place_of at) → place_of place ≡ Some p
+        → join cut ≡ front ++ back → Moved table.old table.new list.old list.new result p front back cut }
+    ensures itself { (front back : List Place) (p : Place) → place_of at ≡ Some p → place_of place ≡ Some p
+        → Stayed table.old table.new list.old list.new result p front back }
+    ensures there { (front back : List Place) (p : Place) → IsBeside side (record { front = front; back = back }) (place_of at)
+        → place_of place ≡ Some p → Stayed table.old table.new list.old list.new result p front back }
+    ensures null { (result ≡ 4) ↔ (place_of place ≡ None) }
+    ensures stands { result ≡ 0 → StandsIn table.old (place_of at) }
+    ensures told { result ≡ 0 → TellsGap side (table_of table.old) (ends_of list.old) (place_of at) }
+    ensures member { result ≡ 0 → StandsIn table.old (place_of place) }
+    ensures before { result ≡ 0 → TellsGap Before (table_of table.old) (ends_of list.old) (place_of place) }
+    ensures behind { result ≡ 0 → TellsGap After (table_of table.old) (ends_of list.old) (place_of place) }
+    ensures linked { KeepsLinked is_linked_two (table_of table.old) (table_of table.new) }
+    ensures words { list.old ≡ words_of (ends_of list.old) → list.new ≡ words_of (ends_of list.new) }
+    ensures refused { result ≢ 0 → (table.new ≡ table.old) × (list.new ≡ list.old) }
+    ensures why { result ≢ 0 → result ≢ 4 → result ≡ refusal (fault_at table.old (place_of at) ∷ fault_at table.old (place_of place) ∷ []) }
+    ensures status { IsStatus result }
+{
+    let Some(member) = place_of(place) else {
+        return NULL;
+    };
+    let mut links = RawTable::new(table);
+    let mut edited = list_of(&*list);
+    let Some((from, to)) = list::gaps_inside(&links, side, place_of(at), member) else {
+        return move_any(links.entries, list, side, at, place);
+    };
+    if !to.is_apart(member) {
+        return OK;
+    }
+    list::relocate(&mut links, &mut edited, from, member, to);
+    list.set(edited.first(), edited.last());
+    OK
+}
+
 // Moves a member to an end of any list, or says why not.
 #[cold]
 #[inline(never)]
@@ -79,7 +118,7 @@ fn move_to_end_any(table: &mut [RawTwo], list: &mut RawEnds, side: Side, place: 
     ensures why { result ≢ 0 → result ≢ 4 → result ≡ refusal (fault_at table.old (place_of place) ∷ []) }
     ensures status { IsStatus result }
 {
-    move_at(table, list, side, NONE, place)
+    move_any(table, list, side, NONE, place)
 }
 
 // Moves a member to the end at which the outermost gap on this side of none is.

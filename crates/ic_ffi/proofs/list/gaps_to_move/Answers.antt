@@ -1,13 +1,17 @@
-use Rattle.std.proofs.Common.{Some}
+use Rattle.std.proofs.Common.{Some, refl, sym, ◌∙◌}
+use Rattle.ic_link_ops.proofs.SequenceLemmas.{some_same, none_not}
 use Rattle.ic_ffi.proofs.list.gaps_to_move.Goals as goal
 
-pub returns-in-Some-clause-shown : goal.returns-in-Some-clause-shown
-returns-in-Some-clause-shown c front back cut shown same beside =
-    let found = c.gaps_inside.ensures.shown _ _ c.args.list.now front back cut c.in-Some.is shown same beside in
-    (λ k. Some (found.0 k, found.1 k))
+pub returns-in_default-clause-shown : goal.returns-in_default-clause-shown
+returns-in_default-clause-shown c front back cut shown same beside =
+    absurd (none_not _ (sym c.in_default.is ∙ c.gap_at.ensures.shown cut (rw same shown) beside))
 
-pub returns-in-Some-clause-before : goal.returns-in-Some-clause-before
-returns-in-Some-clause-before c from to is = c.gaps_inside.ensures.before _ _ c.args.list.now c.in-Some.is
+pub returns-in_default-beside-clause-shown : goal.returns-in_default-beside-clause-shown
+returns-in_default-beside-clause-shown c front back cut shown same beside =
+    absurd (none_not _ (sym c.in_default-beside.is ∙ c.beside.ensures.member front back c.args.member shown refl))
 
-pub returns-in-Some-clause-behind : goal.returns-in-Some-clause-behind
-returns-in-Some-clause-behind c from to is = c.gaps_inside.ensures.behind _ _ c.args.list.now c.in-Some.is
+pub returns-clause-shown : goal.returns-clause-shown
+returns-clause-shown c front back cut shown same beside =
+    let to = some_same (sym c.in-Some.is ∙ c.gap_at.ensures.shown cut (rw same shown) beside) in
+    let from = some_same (sym c.in-Some-beside.is ∙ c.beside.ensures.member front back c.args.member shown refl) in
+    (λ k. Some (from k, to k))
