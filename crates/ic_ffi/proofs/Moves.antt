@@ -4,9 +4,10 @@ use Rattle.ic_unsafe_ref.specs.declared.place.Place.{Place}
 use Rattle.ic_link_ops.specs.Sequences.{Cut, join, insert, first, last, IsAbsent, IsDistinct}
 use Rattle.ic_link_ops.specs.Chains.{Ends}
 use Rattle.ic_link_ops.proofs.SequenceLemmas.{none_not, some_same, absent_right, distinct_middle, last_not, gap_not, last_or-append, last_of_push}
+use Rattle.ic_ffi.specs.declared.gap.Gap.{Gap}
 use Rattle.ic_ffi.specs.declared.gap.Side.{Side}
 use Rattle.ic_ffi.specs.declared.gap.Side.TheVariants.{After, Before}
-use Rattle.ic_ffi.specs.Gaps.{IsApart, IsBeside, gap_of, outermost}
+use Rattle.ic_ffi.specs.Gaps.{IsApart, IsBeside, gap_of, outermost, toward}
 use Rattle.ic_ffi.specs.Doubly.{IsEnd, end_on}
 use Rattle.ic_ffi.proofs.Doubly.{first_kept, last_kept}
 
@@ -26,13 +27,18 @@ two_cuts (x ∷ a) b (y ∷ c) d e =
       | inr r ↦ inr (r.0, (λ k. other k ∷ r.1 k), r.2)
     ]
 
--- where a member has one on both sides, the ends are the same without it
-pub end_left : (side : Side) (front : List Place) (p : Place) (back : List Place) {q r : Place} → Some q ≡ last front → Some r ≡ first back
+-- a gap with a place on both sides has one toward either
+pub toward_either : (side : Side) (gap : Gap) → (q : Place) × (gap.before ≡ Some q) → (q : Place) × (gap.behind ≡ Some q) → (q : Place) × (toward side gap ≡ Some q)
+toward_either After gap before behind = before
+toward_either Before gap before behind = behind
+
+-- where a member has one toward an end, that end is the same without it
+pub end_left : (side : Side) (front : List Place) (p : Place) (back : List Place) {q : Place} → Some q ≡ toward side (gap_of (record { front = front; back = back }))
     → gap_of (outermost side (front ++ p ∷ back)) ≡ gap_of (outermost side (front ++ back))
-end_left After front p back e f =
+end_left After front p back e =
     let starts : first (front ++ p ∷ back) ≡ first (front ++ back) = first_kept front (p ∷ back) e ∙ sym (first_kept front back e) in
     (λ k. record { before = None; behind = starts k })
-end_left Before front p back e f =
+end_left Before front p back f =
     let ends : last (front ++ p ∷ back) ≡ last (front ++ back) = last_kept front p back f in
     (λ k. record { before = ends k; behind = None })
 
@@ -65,9 +71,9 @@ end_inserted After front p back end = rw end refl
 end_inserted Before front p back end = rw (end, append-nil) refl
 
 -- a member at an end has none on that side
-pub not_inner : (side : Side) (front back : List Place) {q r : Place} → IsEnd side front back → Some q ≡ last front → Some r ≡ first back → ⊥
-not_inner After front back {q} end e f = none_not q (sym (e ∙ ap last end))
-not_inner Before front back {r = r} end e f = none_not r (sym (f ∙ ap first end))
+pub not_inner : (side : Side) (front back : List Place) {q : Place} → IsEnd side front back → Some q ≡ toward side (gap_of (record { front = front; back = back })) → ⊥
+not_inner After front back {q} end e = none_not q (sym (e ∙ ap last end))
+not_inner Before front back {q} end e = none_not q (sym (e ∙ ap first end))
 
 -- a gap of all members that is beside `at`, where p is one of them
 pub record IsWhole (side : Side) (at : Option Place) (p : Place) (front back : List Place) (whole : Cut) : Type 0 where

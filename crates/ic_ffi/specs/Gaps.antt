@@ -33,6 +33,11 @@ abbrev pub outermost : Side → List Place → Cut
 outermost After s = at_front s
 outermost Before s = at_back s
 
+-- the place of a gap that is toward this side of none
+abbrev pub toward : Side → Gap → Option Place
+toward After gap = gap.before
+toward Before gap = gap.behind
+
 -- the gap in front of a member
 abbrev pub before : Place → (front back : List Place) → Cut
 before p front back = record { front = front; back = p ∷ back }

@@ -12,7 +12,7 @@ ghost use Rattle.ic_link_ops.specs.Chains.{Ends};
 ghost use Rattle.ic_link_ops.specs.Edits.{Inserts, Removes, Replaces, Splices};
 ghost use Rattle.ic_ffi.specs.declared.gap.Gap.{Gap};
 ghost use Rattle.ic_ffi.specs.declared.gap.Side.TheVariants.{After, Before};
-ghost use Rattle.ic_ffi.specs.Gaps.{IsBeside, Stands, StandBeside, before, gap_of, outermost};
+ghost use Rattle.ic_ffi.specs.Gaps.{IsBeside, Stands, StandBeside, before, gap_of, outermost, toward};
 ghost use Rattle.ic_ffi.specs.Tables.{IsFree};
 ghost use Rattle.ic_ffi.specs.Words.{is_linked_two};
 ghost use Rattle.ic_ffi.specs.Doubly.{Shows, SplitsBeside, TellsGap, gap_from, IsEnd, end_on, lent_table, next_from, prev_from};
@@ -221,35 +221,6 @@ fn gap_at_end(links: &RawTable<'_, RawTwo>, list: &List, side: Side) -> Option<G
     }
 }
 
-// What `gaps_to_move` gives of a member that has one on both sides and goes to an end, where all these words are such as a call writes. Else
-// none.
-#[inline]
-pub(crate) fn gaps_to_end(
-    links: &RawTable<'_, RawTwo>,
-    list: &List,
-    side: Side,
-    member: Place,
-) -> Option<(Gap, Gap)>
-    ensures shown { (from to : Gap) (front back : List Place) → result ≡ Some (from, to)
-        → Shows (lent_table links.now) list.now (front ++ member ∷ back)
-        → (from ≡ gap_of (record { front = front; back = back })) × (to ≡ gap_of (outermost side (front ++ back))) }
-    ensures inner { (from to : Gap) → result ≡ Some (from, to) → ((q : Place) × (from.before ≡ Some q)) × ((q : Place) × (from.behind ≡ Some q)) }
-    ensures told { (from to : Gap) → result ≡ Some (from, to) → TellsGap side (lent_table links.now) list.now None }
-    ensures to { (from to : Gap) → result ≡ Some (from, to) → StandBeside is_linked_two (lent_table links.now) to }
-    ensures member { (from to : Gap) → result ≡ Some (from, to) → Stands is_linked_two (lent_table links.now) (Some member) }
-    ensures before { (from to : Gap) → result ≡ Some (from, to) → TellsGap Before (lent_table links.now) list.now (Some member) }
-    ensures behind { (from to : Gap) → result ≡ Some (from, to) → TellsGap After (lent_table links.now) list.now (Some member) }
-    ensures from { (from to : Gap) → result ≡ Some (from, to) → StandBeside is_linked_two (lent_table links.now) from }
-{
-    let Some(from) = between(links, member) else {
-        return None;
-    };
-    let Some(to) = gap_at_end(links, list, side) else {
-        return None;
-    };
-    Some((from, to))
-}
-
 // Whether the member is at the end beside the outermost gap on this side of none, with another one beyond it, and their words are such as a
 // call writes.
 #[inline]
@@ -292,6 +263,108 @@ pub(crate) fn is_at_end(
             links.covers(second) && links.at(second).is_before(member)
         }
     }
+}
+
+// The places on both sides of the last member where the side is that of the first, and of the first one where it is that of the last, if
+// there is another one, and their words are such as a call writes. Else none.
+#[inline]
+fn beside_other_end(
+    links: &RawTable<'_, RawTwo>,
+    list: &List,
+    side: Side,
+    member: Place,
+) -> Option<Gap>
+    ensures member { (gap : Gap) → result ≡ Some gap → Stands is_linked_two (lent_table links.now) (Some member) }
+    ensures stands { (gap : Gap) → result ≡ Some gap → StandBeside is_linked_two (lent_table links.now) gap }
+    ensures before { (gap : Gap) → result ≡ Some gap → TellsGap Before (lent_table links.now) list.now (Some member) }
+    ensures behind { (gap : Gap) → result ≡ Some gap → TellsGap After (lent_table links.now) list.now (Some member) }
+    ensures toward { (gap : Gap) → result ≡ Some gap → (q : Place) × (toward side gap ≡ Some q) }
+    ensures shown { (gap : Gap) (front back : List Place) → result ≡ Some gap → Shows (lent_table links.now) list.now (front ++ member ∷ back)
+        → gap ≡ gap_of (record { front = front; back = back }) }
+{
+    match side {
+        Side::After => {
+            if !is_at_end(links, list, Side::Before, member) {
+                return None;
+            }
+            let Some(before) = links.prev(member) else {
+                return None;
+            };
+            Some(Gap {
+                before: Some(before),
+                behind: links.next(member),
+            })
+        }
+        Side::Before => {
+            if !is_at_end(links, list, Side::After, member) {
+                return None;
+            }
+            let Some(behind) = links.next(member) else {
+                return None;
+            };
+            Some(Gap {
+                before: links.prev(member),
+                behind: Some(behind),
+            })
+        }
+    }
+}
+
+// What `gaps_to_move` gives of a member that has one on both sides and goes to an end, where all these words are such as a call writes. Else
+// none.
+#[inline]
+pub(crate) fn gaps_to_end(
+    links: &RawTable<'_, RawTwo>,
+    list: &List,
+    side: Side,
+    member: Place,
+) -> Option<(Gap, Gap)>
+    ensures shown { (from to : Gap) (front back : List Place) → result ≡ Some (from, to)
+        → Shows (lent_table links.now) list.now (front ++ member ∷ back)
+        → (from ≡ gap_of (record { front = front; back = back })) × (to ≡ gap_of (outermost side (front ++ back))) }
+    ensures inner { (from to : Gap) → result ≡ Some (from, to) → (q : Place) × (toward side from ≡ Some q) }
+    ensures told { (from to : Gap) → result ≡ Some (from, to) → TellsGap side (lent_table links.now) list.now None }
+    ensures to { (from to : Gap) → result ≡ Some (from, to) → StandBeside is_linked_two (lent_table links.now) to }
+    ensures member { (from to : Gap) → result ≡ Some (from, to) → Stands is_linked_two (lent_table links.now) (Some member) }
+    ensures before { (from to : Gap) → result ≡ Some (from, to) → TellsGap Before (lent_table links.now) list.now (Some member) }
+    ensures behind { (from to : Gap) → result ≡ Some (from, to) → TellsGap After (lent_table links.now) list.now (Some member) }
+    ensures from { (from to : Gap) → result ≡ Some (from, to) → StandBeside is_linked_two (lent_table links.now) from }
+{
+    let Some(from) = between(links, member) else {
+        return None;
+    };
+    let Some(to) = gap_at_end(links, list, side) else {
+        return None;
+    };
+    Some((from, to))
+}
+
+// The same of a member at the other end.
+#[inline]
+pub(crate) fn gaps_from_other_end(
+    links: &RawTable<'_, RawTwo>,
+    list: &List,
+    side: Side,
+    member: Place,
+) -> Option<(Gap, Gap)>
+    ensures shown { (from to : Gap) (front back : List Place) → result ≡ Some (from, to)
+        → Shows (lent_table links.now) list.now (front ++ member ∷ back)
+        → (from ≡ gap_of (record { front = front; back = back })) × (to ≡ gap_of (outermost side (front ++ back))) }
+    ensures inner { (from to : Gap) → result ≡ Some (from, to) → (q : Place) × (toward side from ≡ Some q) }
+    ensures told { (from to : Gap) → result ≡ Some (from, to) → TellsGap side (lent_table links.now) list.now None }
+    ensures to { (from to : Gap) → result ≡ Some (from, to) → StandBeside is_linked_two (lent_table links.now) to }
+    ensures member { (from to : Gap) → result ≡ Some (from, to) → Stands is_linked_two (lent_table links.now) (Some member) }
+    ensures before { (from to : Gap) → result ≡ Some (from, to) → TellsGap Before (lent_table links.now) list.now (Some member) }
+    ensures behind { (from to : Gap) → result ≡ Some (from, to) → TellsGap After (lent_table links.now) list.now (Some member) }
+    ensures from { (from to : Gap) → result ≡ Some (from, to) → StandBeside is_linked_two (lent_table links.now) from }
+{
+    let Some(from) = beside_other_end(links, list, side, member) else {
+        return None;
+    };
+    let Some(to) = gap_at_end(links, list, side) else {
+        return None;
+    };
+    Some((from, to))
 }
 
 // Puts a place behind the last member, where its words are such as a call writes. Else it changes nothing, and says so.

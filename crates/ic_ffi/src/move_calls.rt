@@ -152,6 +152,11 @@ fn move_to_end(table: &mut [RawTwo], list: &mut RawEnds, side: Side, place: u32)
     if list::is_at_end(&links, &edited, side, member) {
         return OK;
     }
+    if let Some((from, to)) = list::gaps_from_other_end(&links, &edited, side, member) {
+        list::relocate(&mut links, &mut edited, from, member, to);
+        list.set(edited.first(), edited.last());
+        return OK;
+    }
     move_to_end_any(links.entries, list, side, place)
 }
 
