@@ -118,7 +118,17 @@ fn move_to_end_any(table: &mut [RawTwo], list: &mut RawEnds, side: Side, place: 
     ensures why { result ≢ 0 → result ≢ 4 → result ≡ refusal (fault_at table.old (place_of place) ∷ []) }
     ensures status { IsStatus result }
 {
-    move_any(table, list, side, NONE, place)
+    let Some(member) = place_of(place) else {
+        return NULL;
+    };
+    let mut links = RawTable::new(table);
+    let mut edited = list_of(&*list);
+    if let Some((from, to)) = list::gaps_from_other_end(&links, &edited, side, member) {
+        list::relocate(&mut links, &mut edited, from, member, to);
+        list.set(edited.first(), edited.last());
+        return OK;
+    }
+    move_any(links.entries, list, side, NONE, place)
 }
 
 // Moves a member to the end at which the outermost gap on this side of none is.
@@ -150,11 +160,6 @@ fn move_to_end(table: &mut [RawTwo], list: &mut RawEnds, side: Side, place: u32)
         return OK;
     }
     if list::is_at_end(&links, &edited, side, member) {
-        return OK;
-    }
-    if let Some((from, to)) = list::gaps_from_other_end(&links, &edited, side, member) {
-        list::relocate(&mut links, &mut edited, from, member, to);
-        list.set(edited.first(), edited.last());
         return OK;
     }
     move_to_end_any(links.entries, list, side, place)

@@ -28,6 +28,7 @@ returns-in-Some-gaps_to_end-clause-there c front back p end is shown' =
     absurd (not_inner c.args.side front back end (sym inner.1 ∙ ap (toward c.args.side) gaps.0))
 
 -- a member that is at the end stays there
+
 pub returns-then-is_at_end-clause-moved : goal.returns-then-is_at_end-clause-moved
 returns-then-is_at_end-clause-moved c front back p is shown' =
     let side = c.args.side in
@@ -42,22 +43,3 @@ returns-then-is_at_end-clause-moved c front back p is shown' =
       done = inserted_back no_words kept c.new-links.result c.new-links.result {h = c.list_of-edited.result} c.new-links.ensures.1 (search rules) (search rules)
           (record { shows = rw (end_inserted side front member back end) seen; frame = record { extent = refl; others = λ q away. refl } });
     })
-
-pub returns-in-Some-gaps_from_other_end-clause-moved : goal.returns-in-Some-gaps_from_other_end-clause-moved
-returns-in-Some-gaps_from_other_end-clause-moved c front back p is shown' =
-    let one : p ≡ c.in-Some.member = some_same (sym is ∙ sym c.place_of.ensures ∙ c.in-Some.is) in
-    let seen : Shows (lent_table c.new-links.result) c.list_of-edited.result (front ++ c.in-Some.member ∷ back) = rw c.list_of-edited.ensures (viewed no_words kept c.new-links.result c.new-links.ensures.1 (rw one at shown')) in
-    let gaps = c.gaps_from_other_end.ensures.shown _ _ front back c.in-Some-gaps_from_other_end.is seen in
-    rw one (record {
-      accepted = refl;
-      done = inserted_back no_words kept c.new-links.result c.relocate-in-Some-gaps_from_other_end.new.links c.new-links.ensures.1 (search rules) (search rules)
-          (c.relocate-in-Some-gaps_from_other_end.ensures.moved front back (outermost c.args.side (front ++ back)) seen (outermost_whole c.args.side (front ++ back)) gaps.0 gaps.1);
-    })
-
-pub returns-in-Some-gaps_from_other_end-clause-there : goal.returns-in-Some-gaps_from_other_end-clause-there
-returns-in-Some-gaps_from_other_end-clause-there c front back p end is shown' =
-    let one : p ≡ c.in-Some.member = some_same (sym is ∙ sym c.place_of.ensures ∙ c.in-Some.is) in
-    let seen : Shows (lent_table c.new-links.result) c.list_of-edited.result (front ++ c.in-Some.member ∷ back) = rw c.list_of-edited.ensures (viewed no_words kept c.new-links.result c.new-links.ensures.1 (rw one at shown')) in
-    let gaps = c.gaps_from_other_end.ensures.shown _ _ front back c.in-Some-gaps_from_other_end.is seen in
-    let inner = c.gaps_from_other_end.ensures.inner _ _ c.in-Some-gaps_from_other_end.is in
-    absurd (not_inner c.args.side front back end (sym inner.1 ∙ ap (toward c.args.side) gaps.0))

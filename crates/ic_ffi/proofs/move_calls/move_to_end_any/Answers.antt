@@ -1,23 +1,52 @@
-use Rattle.std.proofs.Common.{◌≡◌, [], ◌∷◌, ◌++◌, subst}
+use Rattle.std.proofs.Common.{◌≡◌, [], ◌∷◌, ◌++◌, refl, sym, ap, subst, ◌∙◌, rules}
+use Rattle.ic_link_ops.proofs.SequenceLemmas.{some_same}
 use Rattle.ic_ffi.specs.Answers.{refusal}
-use Rattle.ic_ffi.specs.Gaps.{outermost}
-use Rattle.ic_ffi.specs.Words.{place_of}
-use Rattle.ic_ffi.specs.Doubly.{TellsGap, table_of, ends_of, fault_at}
+use Rattle.ic_ffi.specs.Gaps.{outermost, toward}
+use Rattle.ic_ffi.specs.Words.{no_words, place_of}
+use Rattle.ic_ffi.specs.Doubly.{Shows, TellsGap, ends_of, fault_at, lent_table, table_of}
 use Rattle.ic_ffi.proofs.Numbers.{none_named}
-use Rattle.ic_ffi.proofs.Moves.{outermost_beside, outermost_whole, end_beside}
+use Rattle.ic_ffi.proofs.Views.{viewed, inserted_back}
+use Rattle.ic_ffi.proofs.Lists.{kept}
+use Rattle.ic_ffi.proofs.Moves.{end_beside, not_inner, outermost_beside, outermost_whole}
 use Rattle.ic_ffi.proofs.move_calls.move_to_end_any.Goals as goal
+
+pub returns-in-Some-gaps_from_other_end-clause-moved : goal.returns-in-Some-gaps_from_other_end-clause-moved
+returns-in-Some-gaps_from_other_end-clause-moved c front back p is shown' =
+    let one : p ≡ c.in-Some.member = some_same (sym is ∙ sym c.place_of.ensures ∙ c.in-Some.is) in
+    let seen : Shows (lent_table c.new-links.result) c.list_of-edited.result (front ++ c.in-Some.member ∷ back) = rw c.list_of-edited.ensures (viewed no_words kept c.new-links.result c.new-links.ensures.1 (rw one at shown')) in
+    let gaps = c.gaps_from_other_end.ensures.shown _ _ front back c.in-Some-gaps_from_other_end.is seen in
+    rw one (record {
+      accepted = refl;
+      done = inserted_back no_words kept c.new-links.result c.relocate.new.links c.new-links.ensures.1 (search rules) (search rules)
+          (c.relocate.ensures.moved front back (outermost c.args.side (front ++ back)) seen (outermost_whole c.args.side (front ++ back)) gaps.0 gaps.1);
+    })
+
+pub returns-in-Some-gaps_from_other_end-clause-there : goal.returns-in-Some-gaps_from_other_end-clause-there
+returns-in-Some-gaps_from_other_end-clause-there c front back p end is shown' =
+    let one : p ≡ c.in-Some.member = some_same (sym is ∙ sym c.place_of.ensures ∙ c.in-Some.is) in
+    let seen : Shows (lent_table c.new-links.result) c.list_of-edited.result (front ++ c.in-Some.member ∷ back) = rw c.list_of-edited.ensures (viewed no_words kept c.new-links.result c.new-links.ensures.1 (rw one at shown')) in
+    let gaps = c.gaps_from_other_end.ensures.shown _ _ front back c.in-Some-gaps_from_other_end.is seen in
+    let inner = c.gaps_from_other_end.ensures.inner _ _ c.in-Some-gaps_from_other_end.is in
+    absurd (not_inner c.args.side front back end (sym inner.1 ∙ ap (toward c.args.side) gaps.0))
 
 pub returns-clause-moved : goal.returns-clause-moved
 returns-clause-moved c front back p is =
     let side = c.args.side in
-    c.move_any.ensures.moved (outermost side (front ++ back)) front back p (outermost_beside side (front ++ back) none_named) is (outermost_whole side (front ++ back))
+    let done = c.move_any.ensures.moved (outermost side (front ++ back)) front back p (outermost_beside side (front ++ back) none_named) is (outermost_whole side (front ++ back)) in
+    search (rules, done)
 
 pub returns-clause-there : goal.returns-clause-there
-returns-clause-there c front back p end is = c.move_any.ensures.there front back p (end_beside c.args.side front back end none_named) is
+returns-clause-there c front back p end is =
+    let done = c.move_any.ensures.there front back p (end_beside c.args.side front back end none_named) is in
+    search (rules, done)
 
 pub returns-clause-told : goal.returns-clause-told
-returns-clause-told c made = subst (λ at. TellsGap c.args.side (table_of c.args.table.now) (ends_of c.args.list.now) at) none_named (c.move_any.ensures.told made)
+returns-clause-told c made =
+    let list = ends_of c.args.list.now in
+    rw (← c.new-links.ensures.1) (subst (λ at. TellsGap c.args.side (table_of c.new-links.result.entries.now) list at) none_named (c.move_any.ensures.told made))
 
 pub returns-clause-why : goal.returns-clause-why
 returns-clause-why c refused named =
-    subst (λ at. c.move_any.result ≡ refusal (fault_at c.args.table.now at ∷ fault_at c.args.table.now (place_of c.args.place) ∷ [])) none_named (c.move_any.ensures.why refused named)
+    let words = c.new-links.result.entries.now in
+    rw (← c.new-links.ensures.1)
+    (subst (λ at. c.move_any.result ≡ refusal (fault_at words at ∷ fault_at words (place_of c.args.place) ∷ [])) none_named (c.move_any.ensures.why refused named))
