@@ -5,6 +5,7 @@ import math
 
 PAGE, PLOT = "beside-peers.md", "beside-peers.svg"
 OURS, OTHER, RUST = "ours", "ours, other", "Rust crate"
+PEERS = [RUST, "Boost", "BSD"]  # those that no check makes slower
 COLOURS = ["#1b7837", "#2166ac", "#b2182b", "#762a83", "#8c510a"]
 
 
@@ -25,6 +26,15 @@ class Figures:
         return mine[1] / theirs[1] if mine and theirs else None
 
 
+    def beside_best(self, workload, members):
+        """How many times the best peer's median that of our faster form is, and which peer that is."""
+        def fastest(names):
+            return min(((found[1], name) for name in names if (found := self.times.get((workload, members, name)))), default=None)
+
+        mine, best = fastest([OURS, OTHER]), fastest(PEERS)
+        return (mine[0] / best[0], best[1]) if mine and best else None
+
+
 def table(head, rows):
     lines = [head, ["---"] + ["---:"] * (len(head) - 1), *rows]
     return ["| " + " | ".join(line) + " |" for line in lines] + [""]
@@ -32,6 +42,14 @@ def table(head, rows):
 
 def shown(value, form="{:.2f}"):
     return "-" if value is None else form.format(value)
+
+
+def beside_best(figures):
+    """For each workload and size the ratio, and the peer."""
+    for workload in figures.options.only:
+        found = [figures.beside_best(workload, members) for members in figures.options.sizes]
+        if any(found):
+            yield [figures.workloads[workload][0], *("-" if not of else f"{of[0]:.2f} ({of[1]})" for of in found)]
 
 
 def beside_rust(figures):
@@ -67,6 +85,16 @@ def page(figures):
         "the machine at the same time: instructions are exact, nanoseconds vary.",
         "",
     ]
+    best = list(beside_best(figures))
+    if best:
+        lines += [
+            "## Beside the best peer",
+            "",
+            "How many times the time of the fastest peer ours takes, in the faster of our two forms, by the number of members. The peer stands "
+            "behind the ratio: the Rust crate, Boost or BSD. Below 1 ours is the fastest of all.",
+            "",
+            *table(["", *(f"{members:,}" for members in figures.options.sizes)], best),
+        ]
     rows = list(beside_rust(figures))
     if rows:
         lines += [
