@@ -90,11 +90,6 @@ module _ {V H : Type 0} {Shows : Table Entry → H → List Place → Type 0} {t
     stands = turned.stands s shown;
   }
 
--- a position stands under the same head
-pub with_head : {L H : Type 0} {Shows : Table Entry → H → List Place → Type 0} {table : L → Table Entry} {links : L} {head head' : H} {at : Option Place}
-    → head' ≡ head → position.Stands Shows table (site links head at) → position.Stands Shows table (site links head' at)
-with_head same stands = record { gap = stands.gap; shown = rw same stands.shown; after = stands.after }
-
 module _ {V H : Type 0} {Shows : Table Entry → H → List Place → Type 0} {head head' : H} {m m' : AnyCollection V} where
   -- A MOVE anywhere,
   pub moves : {t : Table Entry} {cursor : Option Place} → Turned Shows t t head head' m m' → head' ≡ head → Held t m → cursor_in m' ≡ cursor → Moves t m m' cursor

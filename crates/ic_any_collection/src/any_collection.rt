@@ -5,7 +5,7 @@
 //! queue.kind() // Kind::Doubly, whatever is done with it
 //! ```
 
-ghost use Rattle.std.specs.Prelude.{◌≡◌, List, None, [], true};
+ghost use Rattle.std.specs.Prelude.{◌≡◌, None, [], true};
 ghost use Rattle.ic_unsafe_ref.specs.declared.place.Place.{Place};
 ghost use Rattle.ic_link_ops.specs.Tables.{Table};
 ghost use Rattle.ic_any_collection.specs.declared.entry.Entry.{Entry};

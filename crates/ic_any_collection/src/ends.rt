@@ -8,14 +8,14 @@
 ghost use Rattle.std.specs.Prelude.{◌≡◌, ◌∷◌, List, [], IfSome, IfNone};
 ghost use Rattle.std.specs.Bool.{OnTrue, OnFalse};
 ghost use Rattle.ic_unsafe_ref.specs.declared.place.Place.{Place};
-ghost use Rattle.ic_link_ops.specs.Sequences.{Cut, at_front, at_back, insert, remove, but_last, first, last, join};
+ghost use Rattle.ic_link_ops.specs.Sequences.{at_front, at_back, insert, remove, but_last, first, last};
 ghost use Rattle.ic_link_ops.specs.Chains.{ShowsChain, ShowsSomeChain};
 ghost use Rattle.ic_link_ops.specs.LinkSteps.{acquires, releases};
 ghost use Rattle.ic_link_ops.specs.Tables.{IsCovered, KeepsBeside};
 
 use ic_chain::{BidirectionalLinks, Chain, DoubleEnded, ForwardLinks, ListPosition};
 use ic_link_ops::LinkOps;
-use ic_unsafe_ref::{Place, UnsafeRef};
+use ic_unsafe_ref::Place;
 
 /// Puts the place in front of all members, and the position to null, and returns whether its link was acquired.
 #[inline]

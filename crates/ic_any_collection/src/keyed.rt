@@ -8,12 +8,12 @@
 ghost use Rattle.std.specs.Prelude.{◌≡◌, List, ◌++◌, Option, Some, None, true, false, IfOk, OnOk, OnErr, IfSome, IfNone};
 ghost use Rattle.ic_unsafe_ref.specs.declared.place.Place.{Place};
 ghost use Rattle.ic_unsafe_ref.specs.Objects.{Objects as Placed, is_placed};
-ghost use Rattle.ic_link_ops.specs.Sequences.{Cut, join, IsBefore};
+ghost use Rattle.ic_link_ops.specs.Sequences.{IsBefore};
 ghost use Rattle.ic_link_ops.specs.Edits.{Inserts};
 ghost use Rattle.ic_link_ops.specs.Tables.{IsCovered, IsLinked, LinksAlso};
 ghost use Rattle.ic_link_ops.specs.PlacedObjects.{ArePlaced, ShowsPlaced};
 ghost use Rattle.ic_link_ops.specs.RedBlackTree.{Shows};
-ghost use Rattle.ic_rbtree.specs.Borders.{Finds, IsBorder, IsLowerBorder, IsUpperBorder, less_at, at_most_at};
+ghost use Rattle.ic_rbtree.specs.Borders.{Finds, IsLowerBorder, IsUpperBorder};
 ghost use Rattle.ic_rbtree.specs.Comparing.{compared, compared_within, order_of, own_order, HasRoom, Looks};
 ghost use Rattle.ic_rbtree.specs.CursorMut as editing;
 ghost use Rattle.ic_rbtree.specs.Entry as gaps;

@@ -5,7 +5,7 @@
 //! queue.contains(&field, place)    // whether the place is one of them
 //! ```
 
-ghost use Rattle.std.specs.Prelude.{◌≡◌, ◌↔◌, List, Option, Some, None, IsTrue, IfOk, IfSome, IfNone, drop, true};
+ghost use Rattle.std.specs.Prelude.{◌≡◌, ◌↔◌, Option, Some, None, IsTrue, IfOk, IfSome, IfNone, drop};
 ghost use Rattle.ic_unsafe_ref.specs.declared.place.Place.{Place};
 ghost use Rattle.ic_link_ops.specs.Sequences.{Cut, join, first, last, IsAfter, IsBefore, IsMember, IsAbsent};
 ghost use Rattle.ic_link_ops.specs.Tables.{IsCovered};

@@ -9,7 +9,7 @@
 ghost use Rattle.std.specs.Prelude.{◌≡◌, List, None, [], true, OnOk, OnErr};
 ghost use Rattle.std.specs.Prelude.{reverse};
 ghost use Rattle.ic_unsafe_ref.specs.declared.place.Place.{Place};
-ghost use Rattle.ic_link_ops.specs.Sequences.{join, IsAfter, IsBefore, IsDisjoint};
+ghost use Rattle.ic_link_ops.specs.Sequences.{IsAfter, IsBefore, IsDisjoint};
 ghost use Rattle.ic_link_ops.specs.Tables.{Table, KeepsBeside};
 ghost use Rattle.ic_link_ops.specs.LinkSteps.{Replays, releases_each};
 ghost use Rattle.ic_any_collection.specs.Entries.{is_linked};

@@ -5,7 +5,7 @@
 //! store.touch(place?); // in front of all others
 //! ```
 
-ghost use Rattle.std.specs.Prelude.{◌≡◌, ◌+◌, ◌∷◌, [], true, Some, None, length, OnOk, IfErr, IfSome, IfNone};
+ghost use Rattle.std.specs.Prelude.{◌≡◌, ◌∷◌, [], true, Some, None, OnOk, IfErr, IfSome, IfNone};
 ghost use Rattle.ic_unsafe_ref.specs.Objects.{is_placed, object_at};
 ghost use Rattle.ic_link_ops.specs.Positions.{object_there};
 ghost use Rattle.std.specs.Prelude.{if◌then◌else◌};

@@ -5,7 +5,6 @@
 //! Take(Where::Front).run(&mut members, &mut links, &objects, adapter)?       // the first member, or none
 //! ```
 
-ghost use Rattle.std.specs.Prelude.{◌≡◌};
 ghost use Rattle.ic_world.specs.Calls as calls;
 ghost use Rattle.ic_world.specs.declared.calls.one_call.Call.TheVariants as one;
 

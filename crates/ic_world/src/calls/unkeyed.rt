@@ -6,7 +6,6 @@
 //! world.remove(queue)?     // Some(first)
 //! ```
 
-ghost use Rattle.std.specs.Prelude.{◌≡◌};
 
 use crate::World;
 use crate::call::{Command, Refusal};
