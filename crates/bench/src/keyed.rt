@@ -85,7 +85,7 @@ pub(crate) fn least<L: RBTreeOps, O: Values<u64>>(
 
 // Adds to the value of an object, which is its key.
 #[inline]
-fn raise(objects: &mut Objects<u64>, object: Place, by: u64)
+pub(crate) fn raise(objects: &mut Objects<u64>, object: Place, by: u64)
     ensures { MatchOption (object_at objects.old object) (objects.new ≡ objects.old)
         (λ was. objects.new ≡ with_object objects.old object ((was + by) % 2 ^ 64)) }
 {

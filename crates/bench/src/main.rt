@@ -13,6 +13,7 @@
 
 mod beside;
 mod by_world;
+mod ends;
 mod keyed;
 mod lines;
 mod lists;
@@ -27,7 +28,7 @@ use room::{Size, Watch};
 use std::{env, io};
 use workloads::checksum;
 
-const WORKLOADS: [&str; 33] = [
+const WORKLOADS: [&str; 34] = [
     "pair",
     "pair-lent",
     "touch",
@@ -56,6 +57,7 @@ const WORKLOADS: [&str; 33] = [
     "turn-keyed",
     "queue",
     "queue-keyed",
+    "queue-ends",
     "tree_step",
     "tree_iter",
     "tree_iter-flat",

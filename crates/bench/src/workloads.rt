@@ -6,6 +6,7 @@
 
 use crate::beside::{on_keyed, set_keys};
 use crate::by_world::on_world;
+use crate::ends::on_queue_with_ends;
 use crate::keyed::{on_queue, on_steps, on_tree, on_values};
 use crate::lists::on_list;
 use crate::random::Random;
@@ -80,10 +81,11 @@ fn xor(watch: &mut Watch<'_>, room: &Room, size: Size) -> Option<u64> {
     Some(on_xor(watch, &mut links, &room.objects, &order, size))
 }
 
-// A tree of them, or of their values in an array, and removals of the first half in the other order.
+// A tree of them, or in its other form one of their values in an array, and for the queue one that keeps its ends. Removals are those of the
+// first half in the other order.
 fn tree(
     name: &str,
-    is_flat: bool,
+    is_other: bool,
     watch: &mut Watch<'_>,
     room: &mut Room,
     size: Size,
@@ -95,7 +97,11 @@ fn tree(
     let covered = links.covers().min(values.len());
     let order = places_of(alloc, &room.objects, &room.order, covered).ok()?;
     if name == "queue" {
-        let checksum = on_queue(watch, &mut links, &mut room.objects, &order, size);
+        let checksum = if is_other {
+            on_queue_with_ends(watch, &mut links, &mut room.objects, &order, size)
+        } else {
+            on_queue(watch, &mut links, &mut room.objects, &order, size)
+        };
         return Some(checksum);
     }
     if name == "tree_step" {
@@ -107,7 +113,7 @@ fn tree(
     if !are_distinct(&places, &inverse) {
         return None;
     }
-    let checksum = if is_flat {
+    let checksum = if is_other {
         on_values(name, watch, &mut links, &values, &order, &places, size)
     } else {
         on_tree(
@@ -134,7 +140,8 @@ fn keyed(name: &str, watch: &mut Watch<'_>, room: &Room, size: Size) -> Option<u
 }
 
 /// Does the workload, and returns its checksum. Behind the workload of a doubly or singly linked list `-lent` stands for a lent table, and
-/// behind one of a tree by its keys `-flat` for keys in an array, and `-keyed` for keys beside the links. Without memory there is no checksum.
+/// behind one of a tree by its keys `-flat` for keys in an array, and `-keyed` for keys beside the links. `queue-ends` is the queue on
+/// a tree that keeps its ends. Without memory there is no checksum.
 pub fn checksum(name: &str, watch: &mut Watch<'_>, size: Size) -> Option<u64> {
     let mut room = make_room(watch.rt.alloc(), size.members)?;
     let (work, is_other) = match name.split_once('-') {

@@ -43,8 +43,10 @@ impl RawTable<'_, RawThree> {
 
 /// The places that the table has count as linked, so that no name leads to another, whatever the words say.
 impl Nodes for RawTable<'_, RawThree> {
+    ghost use Rattle.std.specs.Prelude.{nat_lt};
+    ghost use Rattle.std.proofs.Common.{refl, ap, ◌∙◌};
+    ghost use Rattle.ic_unsafe_ref.specs.Places.{index_of};
     ghost use Rattle.ic_ffi.specs.Seen.{seen, seen_node, KeepsMarks};
-    ghost use Rattle.std.proofs.Common.{refl, ◌∙◌};
 
     type Entry = Seen;
 
@@ -119,4 +121,6 @@ impl Nodes for RawTable<'_, RawThree> {
     ghost quiet_still = { λ t. record { extent = refl; marks = λ q. refl } };
 
     ghost quiet_on = { λ a b c x y. record { extent = y.extent ∙ x.extent; marks = λ q. y.marks q ∙ x.marks q } };
+
+    ghost quiet_keeps = { λ old new same q. ap (λ x. nat_lt (index_of q) x.places) same.extent };
 }

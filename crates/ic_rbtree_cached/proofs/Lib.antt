@@ -1,3 +1,4 @@
 pub mod EndsKept
 pub mod HoleFits
 pub mod PositionEnds
+pub mod PlacedMembers

@@ -1,6 +1,6 @@
 use Rattle.ic_rbtree_cached.specs.Ends.{ShowsCached}
 use Rattle.ic_rbtree_cached.specs.Tree.{ends_of}
-use Rattle.collections_tests.proofs.Placed.{inserted_placed}
+use Rattle.ic_rbtree_cached.proofs.PlacedMembers.{inserted_placed}
 use Rattle.collections_tests.proofs.tree.cached.write_inserted.Goals as goal
 
 pub returns-clause-placed : goal.returns-clause-placed
