@@ -11,6 +11,8 @@
 //! | `xor_linked_list` | the XOR list: both neighbors in one word |
 //! | `atomic` | claims on places, which threads share, and tables of links over them: `linked_list::AtomicLinkOps` and its three kin |
 //! | `rbtree` | the red-black tree, in an order that cursors or keys make |
+//! | `rbtree_cached` | the tree that keeps its first and its last member: `RBTreeCached` |
+//! | `augmented` | trees with a summary over each subtree: lengths, positions, overlaps of intervals |
 //! | `key_adapter` | where the key of an object stands, and bounds of keys |
 //! | `rbtree_keys` | searches in a tree, which count their looks |
 //! | `world` | objects, fields and collections whose calls test every condition themselves |
@@ -23,6 +25,7 @@ pub mod singly_linked_list;
 pub mod xor_linked_list;
 
 pub use ic_atomic as atomic;
+pub use ic_augmented as augmented;
 pub use ic_chain as chain;
 pub use ic_link_ops as link_ops;
 pub use ic_link_ops::LinkOps;
@@ -35,6 +38,8 @@ pub use ic_pool as pool;
 pub use ic_pool::{PlaceError, Pool, Tables};
 pub use ic_rbtree::key_adapter::{Bound, KeyAdapter};
 pub use ic_rbtree::{RBTree, key_adapter, rbtree_keys};
+pub use ic_rbtree_cached as rbtree_cached;
+pub use ic_rbtree_cached::RBTreeCached;
 pub use ic_singly_linked_list::SinglyLinkedList;
 pub use ic_unsafe_ref as unsafe_ref;
 pub use ic_unsafe_ref::UnsafeRef;
