@@ -1,4 +1,4 @@
 pub mod EndsKept
 pub mod HoleFits
-pub mod PositionEnds
 pub mod PlacedMembers
+pub mod PositionEnds
