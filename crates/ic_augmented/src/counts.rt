@@ -11,7 +11,7 @@ ghost use Rattle.ic_link_ops.specs.declared.errors.CoverError.TheVariants as Cov
 ghost use Rattle.ic_augmented.specs.Sums.{seen};
 ghost use Rattle.ic_augmented.specs.Consistent.{IsSameAt};
 
-use crate::sums::Sums;
+use crate::sums::{RenewSums, Sums};
 use ic_link_ops::{CoverError, PlaceWord};
 use ic_unsafe_ref::Place;
 use std::alloc::{AllocError, Allocator, Global};
@@ -145,7 +145,9 @@ impl<A: Allocator> Sums for Counts<A> {
             cell.count = 0;
         }
     }
+}
 
+impl<A: Allocator> RenewSums for Counts<A> {
     #[inline]
     fn set_upper(&mut self, place: Place, upper: Option<Place>) {
         let cell = &mut self.cells[place.index()];

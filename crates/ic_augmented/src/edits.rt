@@ -21,7 +21,7 @@ ghost use Rattle.ic_augmented.specs.Consistent.{KeepsConsistent, ShowsConsistent
 
 use crate::stale::{invalidate_up, refresh_below, refresh_path};
 use crate::summed::Summed;
-use crate::sums::Sums;
+use crate::sums::{RenewSums, Sums};
 use ic_link_ops::Side;
 use ic_rbtree::{Nodes, RBTree};
 use ic_unsafe_ref::Place;
@@ -76,7 +76,7 @@ pub fn unlink<A, N: Nodes, M: Sums>(tree: &mut RBTree<A>, summed: &mut Summed<N,
 /// Renews the stale summaries of the tree: then it is summed. The links stay.
 ///
 /// It asks that the links show a tree, and that there is room for a summary at each linked place. O(v) for v stale summaries.
-pub fn refresh<A, N: Nodes, M: Sums>(tree: &RBTree<A>, summed: &mut Summed<N, M>)
+pub fn refresh<A, N: Nodes, M: RenewSums>(tree: &RBTree<A>, summed: &mut Summed<N, M>)
     requires shown { (s : List Place) × Shows N.node (N.table (links_of summed.old)) (root_of tree.now) s }
     requires covered { (q : Place) → IsNode N.node (N.table (links_of summed.old)) q → M.Covers (sums_of summed.old) q }
     ensures summed { (s : List Place)
@@ -97,7 +97,7 @@ pub fn refresh<A, N: Nodes, M: Sums>(tree: &RBTree<A>, summed: &mut Summed<N, M>
 /// It does what [`refresh`] does, and is faster where what is stale stands at `place`, on the way from there to the root and beside that: after
 /// an insert of `place`. It asks that the place is that of a member, and that there is room for a summary at each linked place.
 /// O(log n + v) for v stale summaries.
-pub fn propagate<N: Nodes, M: Sums>(summed: &mut Summed<N, M>, place: Place)
+pub fn propagate<N: Nodes, M: RenewSums>(summed: &mut Summed<N, M>, place: Place)
     requires member { (root : Option Place) × HasMember (Shows N.node (N.table (links_of summed.old)) root) place }
     requires covered { (q : Place) → IsNode N.node (N.table (links_of summed.old)) q → M.Covers (sums_of summed.old) q }
     ensures summed { (root : Option Place) (front back : List Place)

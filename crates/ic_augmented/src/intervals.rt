@@ -18,7 +18,7 @@ ghost use Rattle.ic_augmented.specs.Sums.{seen};
 
 use crate::stale::invalidate_up;
 use crate::summed::Summed;
-use crate::sums::Sums;
+use crate::sums::{RenewSums, Sums};
 use ic_link_ops::{CoverError, PlaceWord};
 use ic_rbtree::Nodes;
 use ic_unsafe_ref::Place;
@@ -179,7 +179,9 @@ impl<A: Allocator> Sums for Intervals<A> {
             cell.greatest = None;
         }
     }
+}
 
+impl<A: Allocator> RenewSums for Intervals<A> {
     #[inline]
     fn set_upper(&mut self, place: Place, upper: Option<Place>) {
         let cell = &mut self.cells[place.index()];

@@ -29,4 +29,4 @@ pub use no_sums::NoSums;
 pub use overlaps::{first_overlap, next_overlap};
 pub use ranks::{index_of, len, nth};
 pub use summed::Summed;
-pub use sums::Sums;
+pub use sums::{RenewSums, Sums};

@@ -9,7 +9,7 @@ ghost use Rattle.std.specs.Prelude.{None};
 use crate::sums::Sums;
 use ic_unsafe_ref::Place;
 
-/// Keeps nothing of any place.
+/// Keeps nothing of any place, so nothing of it can be renewed.
 #[derive(Clone, Copy)]
 pub struct NoSums;
 
@@ -37,21 +37,5 @@ impl Sums for NoSums {
     #[inline]
     fn invalidate(&mut self, place: Place) {
         let _ = place;
-    }
-
-    #[inline]
-    fn set_upper(&mut self, place: Place, upper: Option<Place>) {
-        let _ = (place, upper);
-    }
-
-    #[inline]
-    fn write(
-        &mut self,
-        place: Place,
-        left: Option<Place>,
-        right: Option<Place>,
-        upper: Option<Place>,
-    ) {
-        let _ = (place, left, right, upper);
     }
 }

@@ -17,7 +17,7 @@ ghost use Rattle.ic_augmented.specs.Consistent.{IsConsistentTree, IsConsistentBe
 ghost use Rattle.ic_augmented.specs.Subtrees.{IsSubtree};
 ghost use Rattle.ic_augmented.specs.Sums.{IsSummed};
 
-use crate::sums::Sums;
+use crate::sums::{RenewSums, Sums};
 use ic_rbtree::Nodes;
 use ic_unsafe_ref::Place;
 
@@ -40,7 +40,7 @@ pub(crate) fn invalidate_up<N: Nodes, M: Sums>(_links: &N, sums: &mut M, place: 
 // Writes the stale summaries at an end and below it. It goes down where they are stale alone.
 #[inline(always)]
 #[cycle(refresh)]
-pub(crate) fn refresh_below<N: Nodes, M: Sums>(
+pub(crate) fn refresh_below<N: Nodes, M: RenewSums>(
     links: &N,
     sums: &mut M,
     place: Option<Place>,
@@ -65,7 +65,7 @@ pub(crate) fn refresh_below<N: Nodes, M: Sums>(
 
 // Writes the summary of a place, and the stale ones below it.
 #[cycle(refresh)]
-fn refresh_at<N: Nodes, M: Sums>(
+fn refresh_at<N: Nodes, M: RenewSums>(
     links: &N,
     sums: &mut M,
     here: Place,
@@ -89,7 +89,12 @@ fn refresh_at<N: Nodes, M: Sums>(
 }
 
 // Writes the summaries of a place and of all above it, and the stale ones below those.
-pub(crate) fn refresh_path<N: Nodes, M: Sums>(links: &N, sums: &mut M, place: Place, turns: u32)
+pub(crate) fn refresh_path<N: Nodes, M: RenewSums>(
+    links: &N,
+    sums: &mut M,
+    place: Place,
+    turns: u32,
+)
     requires covered { (q : Place) → IsNode N.node (N.table links.now) q → M.Covers sums.old q }
     requires subtree { (fs : List Frame) × (t : Tree) × IsSubtree N.node (N.table links.now) fs t × (top t ≡ Some place) }
     ensures covers { (q : Place) → M.Covers sums.old q → M.Covers sums.new q }

@@ -38,12 +38,15 @@ pub trait Sums {
         ensures covers { (q : Place) → Covers self.old q → Covers self.new q }
         ensures invalidated { Invalidates (sums self.old) (sums self.new) place }
         ensures fewer { is_fresh ((sums self.old).fresh place) ≡ true → count self.new < count self.old };
+}
 
+/// Summaries that can be written anew, in memory of their own.
+pub trait RenewSums: Sums {
     /// Keeps the summary of `place`, and sets its parent. It asks for room. O(1).
     fn set_upper(&mut self, place: Place, upper: Option<Place>)
-        requires covered { Covers self.old place }
-        ensures covers { (q : Place) → Covers self.old q → Covers self.new q }
-        ensures written { Writes (sums self.old) (sums self.new) place ((sums self.old).fresh place) upper };
+        requires covered { Self.Covers self.old place }
+        ensures covers { (q : Place) → Self.Covers self.old q → Self.Covers self.new q }
+        ensures written { Writes (Self.sums self.old) (Self.sums self.new) place ((Self.sums self.old).fresh place) upper };
 
     /// Writes what the value of `place` makes of the summaries of its children. It asks for room. O(1).
     fn write(
@@ -53,8 +56,8 @@ pub trait Sums {
         right: Option<Place>,
         upper: Option<Place>,
     )
-        requires covered { Covers self.old place }
-        ensures covers { (q : Place) → Covers self.old q → Covers self.new q }
-        ensures written { Writes (sums self.old) (sums self.new) place
-            (Some ((sums self.old).join place (seen (sums self.old) left) (seen (sums self.old) right))) upper };
+        requires covered { Self.Covers self.old place }
+        ensures covers { (q : Place) → Self.Covers self.old q → Self.Covers self.new q }
+        ensures written { Writes (Self.sums self.old) (Self.sums self.new) place
+            (Some ((Self.sums self.old).join place (seen (Self.sums self.old) left) (seen (Self.sums self.old) right))) upper };
 }

@@ -1,7 +1,7 @@
 use Rattle.ic_augmented.specs.Sums.{seen}
 use Rattle.ic_augmented.specs.Counts.{counts}
 use Rattle.ic_augmented.proofs.CountLemmas.{count_writes, count_joins}
-use Rattle.ic_augmented.proofs.counts.CountsSums.write.Goals as goal
+use Rattle.ic_augmented.proofs.counts.CountsRenewSums.write.Goals as goal
 
 pub returns-clause-written : goal.returns-clause-written
 returns-clause-written g c =

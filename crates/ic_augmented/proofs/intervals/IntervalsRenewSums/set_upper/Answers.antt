@@ -1,6 +1,6 @@
 use Rattle.std.proofs.Common.{refl}
 use Rattle.ic_augmented.proofs.IntervalLemmas.{interval_moves}
-use Rattle.ic_augmented.proofs.intervals.IntervalsSums.set_upper.Goals as goal
+use Rattle.ic_augmented.proofs.intervals.IntervalsRenewSums.set_upper.Goals as goal
 
 pub returns-clause-written : goal.returns-clause-written
 returns-clause-written g c =

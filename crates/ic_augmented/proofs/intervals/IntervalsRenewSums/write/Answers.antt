@@ -2,7 +2,7 @@ use Rattle.std.proofs.Common.{refl, ap, Some}
 use Rattle.ic_augmented.specs.Intervals.{intervals}
 use Rattle.ic_augmented.specs.Sums.{seen}
 use Rattle.ic_augmented.proofs.IntervalLemmas.{interval_writes, interval_joins}
-use Rattle.ic_augmented.proofs.intervals.IntervalsSums.write.Goals as goal
+use Rattle.ic_augmented.proofs.intervals.IntervalsRenewSums.write.Goals as goal
 
 pub returns-clause-written : goal.returns-clause-written
 returns-clause-written g c =

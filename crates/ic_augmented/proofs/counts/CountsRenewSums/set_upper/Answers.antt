@@ -1,5 +1,5 @@
 use Rattle.ic_augmented.proofs.CountLemmas.{count_writes, count_read}
-use Rattle.ic_augmented.proofs.counts.CountsSums.set_upper.Goals as goal
+use Rattle.ic_augmented.proofs.counts.CountsRenewSums.set_upper.Goals as goal
 
 pub returns-clause-written : goal.returns-clause-written
 returns-clause-written g c =
