@@ -5,7 +5,6 @@
 //! EntryAt(&5, place).run(&mut members, &mut links, &objects, adapter)?       // the member of key 5, or the object
 //! ```
 
-
 use crate::call::Refusal;
 use crate::calls::kinds::is_tree;
 use crate::calls::one_call::{OneCall, told};

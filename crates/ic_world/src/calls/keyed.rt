@@ -6,7 +6,6 @@
 //! world.range(tree, Bound::Included(3), Bound::Unbounded)? // all from key 3 on
 //! ```
 
-
 use crate::World;
 use crate::call::{Command, Refusal};
 use crate::calls::insertion::{EntryAt, Insertion};

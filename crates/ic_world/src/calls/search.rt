@@ -4,7 +4,6 @@
 //! Search::Find(5).run(&mut members, &mut links, &objects, adapter)? // the first member of key 5, with the looks
 //! ```
 
-
 use crate::call::Refusal;
 use crate::calls::kinds::is_tree;
 use crate::calls::one_call::OneCall;

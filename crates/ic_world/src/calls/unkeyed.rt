@@ -6,7 +6,6 @@
 //! world.remove(queue)?     // Some(first)
 //! ```
 
-
 use crate::World;
 use crate::call::{Command, Refusal};
 use crate::calls::gaps::{Put, Swap, Take};

@@ -4,7 +4,6 @@
 //! Whole::Clear.run(&mut members, &mut links, &objects, adapter)?; // all members go out, and are unlinked
 //! ```
 
-
 use crate::call::Refusal;
 use crate::calls::one_call::{OneCall, told};
 use ic_any_collection::{AnyCollection, AnyTable};
