@@ -178,6 +178,12 @@ export class List extends Collection {
   spliceBefore(at, given) { this.edit(this.library.calls.ic_list_splice_before, at, this.given(given)); }
   splitAfter(at) { return this.split(this.library.calls.ic_list_split_after, at); }
   splitBefore(at) { return this.split(this.library.calls.ic_list_split_before, at); }
+  append(given) { this.edit(this.library.calls.ic_list_append, this.given(given)); }
+  moveAfter(at, place) { this.edit(this.library.calls.ic_list_move_after, at, place); }
+  moveBefore(at, place) { this.edit(this.library.calls.ic_list_move_before, at, place); }
+  moveToFront(place) { this.edit(this.library.calls.ic_list_move_to_front, place); }
+  moveToBack(place) { this.edit(this.library.calls.ic_list_move_to_back, place); }
+  clear() { this.edit(this.library.calls.ic_list_clear); }
 }
 
 /** A singly linked list over links1. */
@@ -198,6 +204,7 @@ export class Stack extends Collection {
   }
   spliceAfter(at, given) { this.edit(this.library.calls.ic_stack_splice_after, at, this.given(given)); }
   splitAfter(at) { return this.split(this.library.calls.ic_stack_split_after, at); }
+  clear() { this.edit(this.library.calls.ic_stack_clear); }
 }
 
 /** An XOR list over links1. A gap is named by both members beside it. */
@@ -222,6 +229,8 @@ export class XorList extends Collection {
   replace(before, at, place) { this.edit(this.library.calls.ic_xor_replace, before, at, place); }
   spliceBetween(before, given, behind) { this.edit(this.library.calls.ic_xor_splice_between, before, this.given(given), behind); }
   splitBetween(before, behind) { return this.split(this.library.calls.ic_xor_split_between, before, behind); }
+  append(given) { this.edit(this.library.calls.ic_xor_append, this.given(given)); }
+  clear() { this.edit(this.library.calls.ic_xor_clear); }
   reverse() { this.library.done(this.library.calls.ic_xor_reverse(this.self)); }
 }
 

@@ -9,10 +9,20 @@ const random = (below) => ((state = (Math.imul(state, 1664525) + 1013904223) >>>
 const orNull = (it) => it ?? null;
 
 // What an edit of the plain array returns. It is refused if a named member is in no list, or the place is in one or in no table.
-const accepts = (plain, named, place) => named.every((at) => at === null || plain.includes(at)) && !plain.includes(place) && place < PLACES;
+const areMembers = (plain, named) => named.every((at) => at === null || plain.includes(at));
+const accepts = (plain, named, place) => areMembers(plain, named) && !plain.includes(place) && place < PLACES;
 const insert = (plain, named, index, place) => (accepts(plain, named, place) ? (plain.splice(index, 0, place), null) : REFUSED);
 const replace = (plain, index, place) => (index >= 0 && accepts(plain, [], place) ? ((plain[index] = place), null) : REFUSED);
 const remove = (plain, index) => (index < 0 ? REFUSED : (plain.splice(index, 1), null));
+const clear = (plain) => ((plain.length = 0), null);
+
+/** A member goes in front of the others from `index` on, which counts them without it. */
+function move(plain, named, place, index) {
+  if (!areMembers(plain, [...named, place])) return REFUSED;
+  plain.splice(plain.indexOf(place), 1);
+  plain.splice(index(), 0, place);
+  return null;
+}
 
 const counts = {};
 function compare(name, call, wanted) {
@@ -52,7 +62,14 @@ function doubly(ic, turns) {
       const rest = list.splitAfter(at);
       putInFront(plain, plain.indexOf(at) + 1, rest, () => list.spliceAfter(null, rest));
     }
-    const index = plain.indexOf(at);
+    if (turn % 90 === 0) {
+      const given = new List(list.links);
+      list.append(given);
+      given.append(list);
+      assert(list.isEmpty);
+      list.append(given);
+    }
+    const index = plain.indexOf(at), own = place === at ? plain.indexOf(place) : -1;
     assert.deepEqual([list.first, list.last], [orNull(plain[0]), orNull(plain.at(-1))]);
     return [
       ["pushBack", [place], () => insert(plain, [], plain.length, place)],
@@ -63,6 +80,11 @@ function doubly(ic, turns) {
       ["insertBefore", [at, place], () => insert(plain, [at], at === null ? plain.length : index, place)],
       ["replace", [at, place], () => replace(plain, index, place)],
       ["remove", [at], () => remove(plain, index)],
+      ["moveToFront", [place], () => move(plain, [], place, () => 0)],
+      ["moveToBack", [place], () => move(plain, [], place, () => plain.length)],
+      ["moveAfter", [at, place], () => move(plain, [at], place, () => (own < 0 ? plain.indexOf(at) + 1 : own))],
+      ["moveBefore", [at, place], () => move(plain, [at], place, () => (own >= 0 ? own : at === null ? plain.length : plain.indexOf(at)))],
+      ...(turn % 60 === 0 ? [["clear", [], () => clear(plain)]] : []),
     ];
   });
 }
@@ -81,6 +103,7 @@ function singly(ic, turns) {
       ["popFront", [], () => orNull(plain.shift())],
       ["insertAfter", [at, place], () => insert(plain, [at], index + 1, place)],
       ["removeAfter", [at], () => (at !== null && index < 0 ? REFUSED : orNull(plain.splice(index + 1, 1)[0]))],
+      ...(turn % 60 === 0 ? [["clear", [], () => clear(plain)]] : []),
     ];
   });
 }
@@ -93,6 +116,13 @@ function xor(ic, turns) {
       const rest = list.splitBetween(...gap);
       putInFront(plain, index, rest, () => list.spliceBetween(null, rest, orNull(plain[0])));
       return [["reverse", [], () => (plain.reverse(), null)]];
+    }
+    if (turn % 90 === 1) {
+      const given = new XorList(list.links);
+      given.append(list);
+      assert(list.isEmpty);
+      list.append(given);
+      return [["clear", [], () => clear(plain)]];
     }
     return [
       ["pushFront", [place], () => insert(plain, [], 0, place)],

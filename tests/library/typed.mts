@@ -8,6 +8,10 @@ list.pushBack(7);
 const first: Gap = list.popFront();
 const rest: List = list.splitAfter(first);
 list.spliceBefore(null, rest);
+list.append(rest);
+list.moveAfter(null, 7);
+list.moveToBack(7);
+list.clear();
 const stack = new Stack(ic.links1(100));
 const others = new XorList(ic.links1(100));
 const keys = ic.keys(4);
@@ -22,6 +26,8 @@ try {
 }
 // @ts-expect-error: a list of another kind
 list.spliceAfter(null, stack);
+// @ts-expect-error: no place to move
+list.moveBefore(3);
 // @ts-expect-error: there may be no member
 const place: number = list.popBack();
 // @ts-expect-error: a place is no text
