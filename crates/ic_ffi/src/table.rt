@@ -178,7 +178,11 @@ impl<W: Words> RawTable<'_, W> {
         if fault != OK {
             return fault;
         }
-        self.refusal_at(other)
+        let fault = self.member_fault(place_of(other));
+        if fault != OK {
+            return fault;
+        }
+        BROKEN
     }
 
     /// Why `place` does not go in at the member `at`: by the fault of either, or as [`BROKEN`]. O(1).
