@@ -81,8 +81,8 @@ def page(figures):
         *(f"- {line}" for line in figures.machine),
         *(f"- left out: {line}" for line in figures.left_out),
         "",
-        f"Each program was run {figures.options.rounds} times, in turn with the others. The figures are of one operation. Other work ran on "
-        "the machine at the same time: instructions are exact, nanoseconds vary.",
+        f"Each program was run {figures.options.rounds} times, in turn with the others, and five times as often with 1,000 members. The figures are "
+        "of one operation. Other work ran on the machine at the same time: instructions are exact, nanoseconds vary.",
         "",
     ]
     best = list(beside_best(figures))
