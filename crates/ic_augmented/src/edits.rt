@@ -28,7 +28,7 @@ use ic_unsafe_ref::Place;
 
 /// Puts `place` in on this side of `parent`, as [`RBTree::attach`] does, and makes the summaries stale that it changes.
 ///
-/// It asks for what `RBTree::attach` asks. Each fresh summary stays right, of every tree in the table. O(log n).
+/// It requires what `RBTree::attach` requires. Each fresh summary stays right, of every tree in the table. O(log n).
 pub fn attach<A, N: Nodes, M: Sums>(
     tree: &mut RBTree<A>,
     summed: &mut Summed<N, M>,
@@ -55,7 +55,7 @@ pub fn attach<A, N: Nodes, M: Sums>(
 
 /// Takes the member at `place` out, as [`RBTree::unlink`] does, and makes the summaries stale that it changes. The place stays linked.
 ///
-/// It asks for what `RBTree::unlink` asks. Each fresh summary stays right, of every tree in the table. O(log n).
+/// It requires what `RBTree::unlink` requires. Each fresh summary stays right, of every tree in the table. O(log n).
 pub fn unlink<A, N: Nodes, M: Sums>(tree: &mut RBTree<A>, summed: &mut Summed<N, M>, place: Place)
     requires { IsSafe N.node (N.table (links_of summed.old)) (root_of tree.old) (Some place ∷ []) }
     ensures consistent { (front back : List Place)
@@ -75,7 +75,7 @@ pub fn unlink<A, N: Nodes, M: Sums>(tree: &mut RBTree<A>, summed: &mut Summed<N,
 
 /// Renews the stale summaries of the tree: then it is summed. The links stay.
 ///
-/// It asks that the links show a tree, and that there is room for a summary at each linked place. O(v) for v stale summaries.
+/// It requires that the links show a tree, and that there is room for a summary at each linked place. O(v) for v stale summaries.
 pub fn refresh<A, N: Nodes, M: RenewSums>(tree: &RBTree<A>, summed: &mut Summed<N, M>)
     requires shown { (s : List Place) × Shows N.node (N.table (links_of summed.old)) (root_of tree.now) s }
     requires covered { (q : Place) → IsNode N.node (N.table (links_of summed.old)) q → M.Covers (sums_of summed.old) q }
@@ -95,7 +95,7 @@ pub fn refresh<A, N: Nodes, M: RenewSums>(tree: &RBTree<A>, summed: &mut Summed<
 /// Renews the stale summaries of a tree from the member at `place` up: then it is summed. The links stay.
 ///
 /// It does what [`refresh`] does, and is faster where what is stale stands at `place`, on the way from there to the root and beside that: after
-/// an insert of `place`. It asks that the place is that of a member, and that there is room for a summary at each linked place.
+/// an insert of `place`. It requires that the place is that of a member, and that there is room for a summary at each linked place.
 /// O(log n + v) for v stale summaries.
 pub fn propagate<N: Nodes, M: RenewSums>(summed: &mut Summed<N, M>, place: Place)
     requires member { (root : Option Place) × HasMember (Shows N.node (N.table (links_of summed.old)) root) place }

@@ -206,7 +206,7 @@ impl<A: Allocator> RenewSums for Intervals<A> {
 
 /// Sets the end of the interval at `place`, and makes the summaries stale that it changes.
 ///
-/// It asks that there is room for an interval at the place. Each fresh summary stays right, of every tree in the table. O(log n).
+/// It requires that there is room for an interval at the place. Each fresh summary stays right, of every tree in the table. O(log n).
 pub fn set_end<N: Nodes, A: Allocator>(summed: &mut Summed<N, Intervals<A>>, place: Place, end: u64)
     requires covered { index_of place < room_of (sums_of summed.old) }
     ensures set { end_of (sums_of summed.new) place ≡ end }

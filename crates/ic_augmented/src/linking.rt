@@ -31,7 +31,7 @@ use ic_unsafe_ref::{Place, Values};
 
 /// Links the place, and inserts it where the key beside its link belongs, behind members with the same key, unless its link is refused.
 ///
-/// It asks that the place is covered, and that the links show a tree. It returns whether the link was acquired. After a refusal the tree,
+/// It requires that the place is covered, and that the links show a tree. It returns whether the link was acquired. After a refusal the tree,
 /// its links and its summaries are as they were. Each fresh summary stays right, of every tree in the table. O(log n).
 pub fn insert_keyed<A: KeyAdapter, L: RBTreeOps + LinkValues<A::Value>, M: Sums>(
     tree: &mut RBTree<A>,
@@ -66,7 +66,7 @@ pub fn insert_keyed<A: KeyAdapter, L: RBTreeOps + LinkValues<A::Value>, M: Sums>
 
 /// Takes the member at `place` off the tree, and unlinks it.
 ///
-/// It asks that the place is that of a member. Each fresh summary stays right, of every tree in the table. O(log n), and no look.
+/// It requires that the place is that of a member. Each fresh summary stays right, of every tree in the table. O(log n), and no look.
 pub fn remove<A, L: RBTreeOps, M: Sums>(
     tree: &mut RBTree<A>,
     summed: &mut Summed<L, M>,

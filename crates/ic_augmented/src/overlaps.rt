@@ -65,7 +65,7 @@ fn first_overlap_below<N: Nodes, O: Values<u64>, A: Allocator>(
 
 /// The first member whose interval overlaps `[from, to)`: it starts before `to`, and ends behind `from`.
 ///
-/// The start of each interval is the number that `starts` has for its place, by which the tree is in order. It asks that the links show a
+/// The start of each interval is the number that `starts` has for its place, by which the tree is in order. It requires that the links show a
 /// tree with a start at each member. It finds none where no member overlaps. O(log n).
 pub fn first_overlap<T, N: Nodes, O: Values<u64>, A: Allocator>(
     tree: &RBTree<T>,
@@ -128,7 +128,7 @@ fn first_overlap_behind<N: Nodes, O: Values<u64>, A: Allocator>(
 
 /// The first member behind the one at `place` whose interval overlaps `[from, to)`.
 ///
-/// It asks that the place is that of a member of a tree, whichever, that is in the order of starts and has one at each member. It finds none where no
+/// It requires that the place is that of a member of a tree, whichever, that is in the order of starts and has one at each member. It finds none where no
 /// member behind overlaps. So `first_overlap`, and then this until it finds none, give all that overlap, in order. O(log n).
 pub fn next_overlap<N: Nodes, O: Values<u64>, A: Allocator>(
     summed: &Summed<N, Intervals<A>>,

@@ -119,7 +119,7 @@ fn count_before<N: Nodes, A: Allocator>(
 
 /// The position of the member at `place`: how many members stand in front of it.
 ///
-/// It asks that the place is that of a member of a tree, whichever, and tells its position if the tree is summed. O(log n).
+/// It requires that the place is that of a member of a tree, whichever, and tells its position if the tree is summed. O(log n).
 pub fn index_of<N: Nodes, A: Allocator>(summed: &Summed<N, Counts<A>>, place: Place) -> u64
     requires { (root : Option Place) × HasMember (Shows N.node (N.table (links_of summed.now)) root) place }
     ensures { (root : Option Place) (front back : List Place)

@@ -42,13 +42,13 @@ pub trait Sums {
 
 /// Summaries that can be written anew, in memory of their own.
 pub trait RenewSums: Sums {
-    /// Keeps the summary of `place`, and sets its parent. It asks for room. O(1).
+    /// Keeps the summary of `place`, and sets its parent. It requires room for a summary there. O(1).
     fn set_upper(&mut self, place: Place, upper: Option<Place>)
         requires covered { Self.Covers self.old place }
         ensures covers { (q : Place) → Self.Covers self.old q → Self.Covers self.new q }
         ensures written { Writes (Self.sums self.old) (Self.sums self.new) place ((Self.sums self.old).fresh place) upper };
 
-    /// Writes what the value of `place` makes of the summaries of its children. It asks for room. O(1).
+    /// Writes what the value of `place` makes of the summaries of its children. It requires room for a summary there. O(1).
     fn write(
         &mut self,
         place: Place,
