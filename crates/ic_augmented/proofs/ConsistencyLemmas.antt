@@ -128,7 +128,7 @@ module _ {S : Type 0} where
   same_still : (z : Sums S) (q : Place) → IsSameAt z z q
   same_still z q = record { fresh = refl; upper = refl }
 
-  same_on : (x y z : Sums S) (q : Place) → IsSameAt x y q → IsSameAt y z q → IsSameAt x z q
+  pub same_on : (x y z : Sums S) (q : Place) → IsSameAt x y q → IsSameAt y z q → IsSameAt x z q
   same_on x y z q h k = record { fresh = k.fresh ∙ h.fresh; upper = k.upper ∙ h.upper }
 
   pub writes_same : (z w : Sums S) (p : Place) (x : Option S) (up : Option Place) (q : Place) → Writes z w p x up → q ≢ p → IsSameAt z w q

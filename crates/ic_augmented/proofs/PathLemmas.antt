@@ -5,14 +5,14 @@ use Rattle.ic_link_ops.specs.declared.side.Side.TheVariants.{Left, Right}
 use Rattle.ic_link_ops.specs.Frames.{Frame, frame, plug, above}
 use Rattle.ic_link_ops.specs.RedBlackTree.{Node, IsTree}
 use Rattle.ic_link_ops.specs.Tables.{Table}
-use Rattle.ic_link_ops.specs.Times.{times_around}
+use Rattle.ic_link_ops.specs.Times.{times, times_around}
 use Rattle.ic_link_ops.specs.Trees.{Tree, fork, top}
 use Rattle.ic_link_ops.proofs.SequenceLemmas.{none_not}
 use Rattle.ic_link_ops.proofs.Times.{times_plug}
 use Rattle.ic_augmented.specs.Sums.{Sums, IsSummed}
 use Rattle.ic_augmented.specs.Consistent.{IsSameAt, IsConsistentTree, IsConsistentBelow, IsConsistentBeside, Refreshes, ShowsConsistent, ShowsSummed}
 use Rattle.ic_augmented.specs.Subtrees.{IsSubtree}
-use Rattle.ic_augmented.proofs.ConsistencyLemmas.{consistent_kept, summed_consistent_tree}
+use Rattle.ic_augmented.proofs.ConsistencyLemmas.{consistent_kept, same_on, summed_consistent_tree}
 use Rattle.ic_augmented.proofs.EditLemmas.{consistent_shown}
 use Rattle.ic_augmented.proofs.SubtreeLemmas.{lower, member_subtree, subtree_left, subtree_right}
 
@@ -30,6 +30,10 @@ module _ {S : Type 0} where
   consistent_parts z (frame Right c p b ∷ fs) t h = let r = consistent_parts z fs (fork c b p t) h in (r.0.2, (r.0.1, r.1))
 
 module _ {E S : Type 0} (n : E → Node) (v : Table E) where
+  -- all stays that is kept outside the tree around the subtree at this place
+  abbrev pub OthersStay : Sums S → Sums S → Place → Type 0
+  OthersStay z w p = (fs : List Frame) (t : Tree) → IsSubtree n v fs t → top t ≡ Some p → (q : Place) → times q (plug fs t) ≡ 0 → IsSameAt z w q
+
   -- from one state to the other the whole tree around the subtree at this place has been summed
   abbrev pub RefreshesPath : Sums S → Sums S → Place → ℕ → Type 0
   RefreshesPath z w p turns = (fs : List Frame) (t : Tree) → IsSubtree n v fs t → top t ≡ Some p → length fs < turns → IsConsistentBeside z fs → IsConsistentBelow z t → IsSummed w None (plug fs t)
@@ -62,6 +66,19 @@ module _ {E S : Type 0} (n : E → Node) (v : Table E) where
         let kept = beside_here (frame Right c q b ∷ fs) t h e beside in
         let at : Some q ≡ Some up = sym (upper_is (frame Right c q b ∷ fs) t h e) ∙ is in
         on fs (fork c b q t) (subtree_right n v c q b fs t h) at (omega (arith, low)) kept.1 (kept.0, summed_consistent_tree y upper t (summed_here (frame Right c q b ∷ fs) t h e below))
+
+    -- what stands outside the tree stays
+    pub others_here : (fs : List Frame) (t : Tree) → IsSubtree n v fs t → top t ≡ Some p → (q : Place) → times q (plug fs t) ≡ 0 → IsSameAt z y q
+    others_here fs t h e q out = (here (above fs) t h.tree (sym e)).frame q (omega (arith, out, times_plug q fs t))
+
+    pub others_on : (w : Sums S) (up : Place) → upper ≡ Some up → OthersStay y w up → OthersStay z w p
+    others_on w up is on [] t h e q out = absurd (none_not up (sym (upper_is [] t h e) ∙ is))
+    others_on w up is on (frame Left c a b ∷ fs) t h e q out =
+        let at : Some a ≡ Some up = sym (upper_is (frame Left c a b ∷ fs) t h e) ∙ is in
+        same_on z y w q (others_here (frame Left c a b ∷ fs) t h e q out) (on fs (fork c t a b) (subtree_left n v c a b fs t h) at q out)
+    others_on w up is on (frame Right c a b ∷ fs) t h e q out =
+        let at : Some a ≡ Some up = sym (upper_is (frame Right c a b ∷ fs) t h e) ∙ is in
+        same_on z y w q (others_here (frame Right c a b ∷ fs) t h e q out) (on fs (fork c b a t) (subtree_right n v c a b fs t h) at q out)
 
   -- FROM A MEMBER: all is fresh
   pub propagated : (z y : Sums S) (root : Option Place) (front : List Place) (p : Place) (back : List Place) → RefreshesPath z y p 67 → ShowsConsistent n z v root (front ++ p ∷ back)

@@ -17,7 +17,7 @@ ghost use Rattle.ic_rbtree.specs.Insertion.{IsHole, Attaches};
 ghost use Rattle.ic_rbtree.specs.Transplants.{TakesAway};
 ghost use Rattle.ic_rbtree.specs.Tree.{root_of, adapter_of};
 ghost use Rattle.ic_augmented.specs.Summed.{links_of, sums_of};
-ghost use Rattle.ic_augmented.specs.Consistent.{KeepsConsistent, ShowsConsistent, ShowsSummed};
+ghost use Rattle.ic_augmented.specs.Consistent.{IsSameAt, KeepsConsistent, ShowsConsistent, ShowsSummed};
 
 use crate::stale::{invalidate_up, refresh_below, refresh_path};
 use crate::summed::Summed;
@@ -73,7 +73,7 @@ pub fn unlink<A, N: Nodes, M: Sums>(tree: &mut RBTree<A>, summed: &mut Summed<N,
     invalidate_up(&summed.links, &mut summed.sums, place);
 }
 
-/// Renews the stale summaries of the tree: then it is summed. The links stay.
+/// Renews the stale summaries of the tree: then it is summed. The links stay, and so does all that is kept at places outside the tree.
 ///
 /// It requires that the links show a tree, and that there is room for a summary at each linked place. O(v) for v stale summaries.
 pub fn refresh<A, N: Nodes, M: RenewSums>(tree: &RBTree<A>, summed: &mut Summed<N, M>)
@@ -85,6 +85,9 @@ pub fn refresh<A, N: Nodes, M: RenewSums>(tree: &RBTree<A>, summed: &mut Summed<
     ensures consistent { (s : List Place)
         → ShowsConsistent N.node (M.sums (sums_of summed.old)) (N.table (links_of summed.old)) (root_of tree.now) s
         → ShowsConsistent N.node (M.sums (sums_of summed.new)) (N.table (links_of summed.new)) (root_of tree.now) s }
+    ensures others { (s : List Place) → Shows N.node (N.table (links_of summed.old)) (root_of tree.now) s → (q : Place) → IsAbsent q s
+        → IsSameAt (M.sums (sums_of summed.old)) (M.sums (sums_of summed.new)) q }
+    ensures join { (M.sums (sums_of summed.new)).join ≡ (M.sums (sums_of summed.old)).join }
     ensures covers { (q : Place) → M.Covers (sums_of summed.old) q → M.Covers (sums_of summed.new) q }
     ensures links { links_of summed.new ≡ links_of summed.old }
 {
@@ -92,7 +95,8 @@ pub fn refresh<A, N: Nodes, M: RenewSums>(tree: &RBTree<A>, summed: &mut Summed<
     refresh_below(&summed.links, &mut summed.sums, root, None, 67);
 }
 
-/// Renews the stale summaries of a tree from the member at `place` up: then it is summed. The links stay.
+/// Renews the stale summaries of a tree from the member at `place` up: then it is summed. The links stay, and so does all that is kept at
+/// places outside the tree.
 ///
 /// It does what [`refresh`] does, and is faster where what is stale stands at `place`, on the way from there to the root and beside that: after
 /// an insert of `place`. It requires that the place is that of a member, and that there is room for a summary at each linked place.
@@ -106,6 +110,9 @@ pub fn propagate<N: Nodes, M: RenewSums>(summed: &mut Summed<N, M>, place: Place
     ensures consistent { (root : Option Place) (front back : List Place)
         → ShowsConsistent N.node (M.sums (sums_of summed.old)) (N.table (links_of summed.old)) root (front ++ place ∷ back)
         → ShowsConsistent N.node (M.sums (sums_of summed.new)) (N.table (links_of summed.new)) root (front ++ place ∷ back) }
+    ensures others { (root : Option Place) (front back : List Place) → Shows N.node (N.table (links_of summed.old)) root (front ++ place ∷ back)
+        → (q : Place) → IsAbsent q (front ++ place ∷ back) → IsSameAt (M.sums (sums_of summed.old)) (M.sums (sums_of summed.new)) q }
+    ensures join { (M.sums (sums_of summed.new)).join ≡ (M.sums (sums_of summed.old)).join }
     ensures covers { (q : Place) → M.Covers (sums_of summed.old) q → M.Covers (sums_of summed.new) q }
     ensures links { links_of summed.new ≡ links_of summed.old }
 {

@@ -47,6 +47,7 @@ pub fn insert_keyed<A: KeyAdapter, L: RBTreeOps + LinkValues<A::Value>, M: Sums>
     ensures acquired { OnTrue result (L.Does (links_of summed.old) (links_of summed.new) (acquires place ∷ [])) }
     ensures others { (t : List Place) → IsAbsent place t → IsConsistent L.node (L.table (links_of summed.old)) (M.sums (sums_of summed.old)) t
         → IsConsistent L.node (L.table (links_of summed.new)) (M.sums (sums_of summed.new)) t }
+    ensures join { (M.sums (sums_of summed.new)).join ≡ (M.sums (sums_of summed.old)).join }
     ensures covers { (q : Place) → M.Covers (sums_of summed.old) q → M.Covers (sums_of summed.new) q }
     ensures extent { (L.table (links_of summed.new)).extent ≡ (L.table (links_of summed.old)).extent }
     ensures adapter { adapter_of tree.new ≡ adapter_of tree.old }
@@ -81,6 +82,7 @@ pub fn remove<A, L: RBTreeOps, M: Sums>(
         → IsConsistent L.node (L.table (links_of summed.new)) (M.sums (sums_of summed.new)) t }
     ensures frame { (s : List Place) → Shows L.node (L.table (links_of summed.old)) (root_of tree.old) s
         → KeepsBeside (L.table (links_of summed.old)) (L.table (links_of summed.new)) s }
+    ensures join { (M.sums (sums_of summed.new)).join ≡ (M.sums (sums_of summed.old)).join }
     ensures covers { (q : Place) → M.Covers (sums_of summed.old) q → M.Covers (sums_of summed.new) q }
     ensures adapter { adapter_of tree.new ≡ adapter_of tree.old }
 {

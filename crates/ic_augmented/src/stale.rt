@@ -12,8 +12,9 @@ ghost use Rattle.ic_link_ops.specs.Frames.{Frame, plug};
 ghost use Rattle.ic_link_ops.specs.RedBlackTree.{IsTree};
 ghost use Rattle.ic_link_ops.specs.Trees.{Tree, top};
 ghost use Rattle.ic_link_ops.specs.Tables.{Table};
+ghost use Rattle.ic_link_ops.specs.Times.{times};
 ghost use Rattle.ic_rbtree.specs.Closed.{IsNode};
-ghost use Rattle.ic_augmented.specs.Consistent.{IsConsistentTree, IsConsistentBelow, IsConsistentBeside, KeepsConsistent, Refreshes};
+ghost use Rattle.ic_augmented.specs.Consistent.{IsSameAt, IsConsistentTree, IsConsistentBelow, IsConsistentBeside, KeepsConsistent, Refreshes};
 ghost use Rattle.ic_augmented.specs.Subtrees.{IsSubtree};
 ghost use Rattle.ic_augmented.specs.Sums.{IsSummed};
 
@@ -97,6 +98,9 @@ pub(crate) fn refresh_path<N: Nodes, M: RenewSums>(
 )
     requires covered { (q : Place) → IsNode N.node (N.table links.now) q → M.Covers sums.old q }
     requires subtree { (fs : List Frame) × (t : Tree) × IsSubtree N.node (N.table links.now) fs t × (top t ≡ Some place) }
+    ensures others { (fs : List Frame) (t : Tree) → IsSubtree N.node (N.table links.now) fs t → top t ≡ Some place
+        → (q : Place) → times q (plug fs t) ≡ 0 → IsSameAt (M.sums sums.old) (M.sums sums.new) q }
+    ensures join { (M.sums sums.new).join ≡ (M.sums sums.old).join }
     ensures covers { (q : Place) → M.Covers sums.old q → M.Covers sums.new q }
     ensures summed { (fs : List Frame) (t : Tree) → IsSubtree N.node (N.table links.now) fs t → top t ≡ Some place → length fs < turns
         → IsConsistentBeside (M.sums sums.old) fs → IsConsistentBelow (M.sums sums.old) t → IsSummed (M.sums sums.new) None (plug fs t) }

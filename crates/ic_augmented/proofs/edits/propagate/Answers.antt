@@ -1,5 +1,7 @@
-use Rattle.std.proofs.Common.{refl}
+use Rattle.std.proofs.Common.{refl, ap, ◌∙◌}
+use Rattle.ic_link_ops.specs.Times.{times}
 use Rattle.ic_link_ops.specs.Trees.{fork}
+use Rattle.ic_link_ops.proofs.ShownTrees.{holds_out}
 use Rattle.ic_augmented.proofs.EditLemmas.{still_consistent}
 use Rattle.ic_augmented.proofs.PathLemmas.{propagated}
 use Rattle.ic_augmented.proofs.SubtreeLemmas.{member_subtree}
@@ -17,3 +19,8 @@ returns-clause-summed g c root front back h =
 
 pub returns-clause-consistent : goal.returns-clause-consistent
 returns-clause-consistent g c root front back h = still_consistent g.N.Nodes.node _ _ root _ (returns-clause-summed g c root front back h)
+
+pub returns-clause-others : goal.returns-clause-others
+returns-clause-others g c root front back h q out =
+    let x = member_subtree g.N.Nodes.node (g.N.Nodes.table c.args.summed.now.links) root front c.args.place back h in
+    c.refresh_path.ensures.others x.fs (fork x.c x.a c.args.place x.b) x.subtree refl q (ap (times q) x.same ∙ holds_out h.held q out)

@@ -1,5 +1,5 @@
 use Rattle.std.proofs.Common.{rules, sym, ◌∙◌}
-use Rattle.ic_augmented.proofs.PathLemmas.{path_on}
+use Rattle.ic_augmented.proofs.PathLemmas.{path_on, others_on}
 use Rattle.ic_augmented.proofs.SubtreeLemmas.{subtree_parent, subtree_up}
 use Rattle.ic_augmented.proofs.stale.+refresh_path.Goals as goal
 
@@ -17,3 +17,10 @@ returns-clause-summed g t c =
     let v = g.N.Nodes.table c.args.links.now in
     path_on n v (g.M.Sums.sums c.args.sums.now) (g.M.Sums.sums c.refresh_at.new.sums) c.args.place c.parent-upper.result c.refresh_at.ensures.refreshed
     (λ fs u h e. c.parent-upper.ensures ∙ subtree_parent n v fs u c.args.place h e) (g.M.Sums.sums c.refresh_path.new.sums) c.in-Some.above c.args.turns c.in-Some.is c.refresh_path.ensures.summed
+
+pub returns-clause-others : goal.returns-clause-others
+returns-clause-others g t c =
+    let n = g.N.Nodes.node in
+    let v = g.N.Nodes.table c.args.links.now in
+    others_on n v (g.M.Sums.sums c.args.sums.now) (g.M.Sums.sums c.refresh_at.new.sums) c.args.place c.parent-upper.result c.refresh_at.ensures.refreshed
+    (λ fs u h e. c.parent-upper.ensures ∙ subtree_parent n v fs u c.args.place h e) (g.M.Sums.sums c.refresh_path.new.sums) c.in-Some.above c.in-Some.is c.refresh_path.ensures.others
