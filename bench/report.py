@@ -6,7 +6,6 @@ import math
 PAGE, PLOT = "beside-peers.md", "beside-peers.svg"
 OURS, OTHER, ENDS, RUST = "ours", "ours, other", "ours, kept ends", "Rust crate"
 PEERS = [RUST, "Boost", "BSD"]  # those that no check makes slower
-COLOURS = ["#1b7837", "#2166ac", "#b2182b", "#762a83", "#8c510a"]
 
 
 @dataclasses.dataclass
@@ -24,7 +23,6 @@ class Figures:
         """How many times the Rust crate's median ours is."""
         mine, theirs = (self.times.get((workload, members, name)) for name in (ours, RUST))
         return mine[1] / theirs[1] if mine and theirs else None
-
 
     def beside_best(self, workload, members):
         """How many times the best peer's median that of our fastest form is, and which peer that is."""
@@ -94,6 +92,8 @@ def page(figures):
             "behind the ratio: the Rust crate, Boost or BSD. Below 1 ours is the fastest of all.",
             "",
             *table(["", *(f"{members:,}" for members in figures.options.sizes)], best),
+            f"![The time of each program beside that of the fastest peer, as a plot]({PLOT})",
+            "",
         ]
     rows = list(beside_rust(figures))
     if rows:
@@ -105,8 +105,6 @@ def page(figures):
             "instructions of one operation with 1,000 members.",
             "",
             *table(rows[0][0], [row for _head, row in rows]),
-            f"![The ratios as a plot]({PLOT})",
-            "",
         ]
         for members in figures.options.sizes:
             lines += [f"## Nanoseconds, {members:,} members", "", "The median, and the quartiles.", ""]
@@ -130,75 +128,93 @@ def program_rows(program):
 
 
 class Plot:
-    """A row for each workload. A dot for each size and form stands at the ratio, on a log axis."""
+    """A row for each workload, and a panel for each size. A mark for each program stands at how many times the fastest peer's time its own is,
+    on a log axis. Programs differ in the shape of their marks, and in color."""
 
-    LEFT, RIGHT, TOP, ROW, WIDTH = 300, 30, 84, 30, 860
+    LEFT, TOP, ROW, PANEL, GAP, SIZE = 292, 96, 30, 250, 24, 5
+    # The shape of each program's marks around (0, 0), and their color. Ours is the fastest of our forms.
+    MARKS = {
+        OURS: ("circle", "#1b7837"),
+        "C library": ("square", "#762a83"),
+        RUST: ("triangle", "#b2182b"),
+        "Boost": ("diamond", "#2166ac"),
+        "BSD": ("cross", "#8c510a"),
+    }
+    SHAPES = {"square": "-5,-5 5,-5 5,5 -5,5", "triangle": "0,-6 6,5 -6,5", "diamond": "0,-7 7,0 0,7 -7,0"}
 
     def __init__(self, figures):
-        self.figures = figures
-        self.dots = {
-            (workload, name, members): ratio
-            for workload in figures.options.only for name in (OURS, OTHER) for members in figures.options.sizes
-            if (ratio := figures.ratio(workload, members, name))
+        self.figures, self.sizes = figures, figures.options.sizes
+        self.ratios = {
+            (workload, members, name): ratio
+            for workload in figures.options.only for members in self.sizes for name in self.MARKS
+            if (ratio := self.ratio(workload, members, name))
         }
-        self.shown = [workload for workload in figures.options.only if any(workload == key[0] for key in self.dots)]
-        self.low = min([0.5, *self.dots.values()]) / 1.1
-        self.high = max([2, *self.dots.values()]) * 1.1
+        self.shown = [workload for workload in figures.options.only if any(workload == key[0] for key in self.ratios)]
+        self.low = min([0.5, *self.ratios.values()]) / 1.1
+        self.high = max([2, *self.ratios.values()]) * 1.1
+        self.width = self.LEFT + len(self.sizes) * (self.PANEL + self.GAP)
         self.height = self.TOP + self.ROW * len(self.shown) + 44
 
-    def x(self, ratio):
-        share = math.log(ratio / self.low) / math.log(self.high / self.low)
-        return self.LEFT + share * (self.WIDTH - self.LEFT - self.RIGHT)
+    def ratio(self, workload, members, name):
+        found = [self.figures.times.get((workload, members, form)) for form in ([OURS, OTHER, ENDS] if name == OURS else [name])]
+        peers = [of[1] for peer in PEERS if (of := self.figures.times.get((workload, members, peer)))]
+        mine = [of[1] for of in found if of]
+        return min(mine) / min(peers) if mine and peers else None
 
-    def dot(self, x, y, name, members):
-        colour = COLOURS[self.figures.options.sizes.index(members) % len(COLOURS)]
-        fill = colour if name == OURS else "white"
-        return f'<circle cx="{x:.1f}" cy="{y:.1f}" r="5" fill="{fill}" stroke="{colour}" stroke-width="2"/>'
+    def x(self, panel, ratio):
+        share = math.log(ratio / self.low) / math.log(self.high / self.low)
+        return self.LEFT + panel * (self.PANEL + self.GAP) + share * self.PANEL
+
+    def mark(self, x, y, name):
+        shape, color = self.MARKS[name]
+        paint = f'fill="{color if name == OURS else "white"}" fill-opacity="0.9" stroke="{color}" stroke-width="2"'
+        if shape == "circle":
+            return f'<circle cx="{x:.1f}" cy="{y:.1f}" r="{self.SIZE}" {paint}/>'
+        place = f'transform="translate({x:.1f} {y:.1f})"'
+        if shape == "cross":
+            return f'<path d="M-5,-5 5,5 M-5,5 5,-5" {place} stroke="{color}" stroke-width="2"/>'
+        return f'<polygon points="{self.SHAPES[shape]}" {place} {paint}/>'
 
     @staticmethod
     def text(x, y, words, anchor="start", more=""):
         return f'<text x="{x:.1f}" y="{y:.1f}" text-anchor="{anchor}"{more}>{words}</text>'
 
-    def axis(self):
-        bottom = self.height - 34
-        for ratio in (0.125, 0.25, 0.5, 0.7, 1, 1.4, 2, 3, 4, 6, 8, 16):
+    def axis(self, panel, members):
+        bottom, one = self.height - 34, self.x(panel, 1)
+        for ratio in (0.125, 0.25, 0.5, 1, 2, 4, 8, 16):
             if self.low <= ratio <= self.high:
-                line = 'stroke="#333" stroke-width="2"' if ratio == 1 else 'stroke="#ddd"'
-                yield f'<line x1="{self.x(ratio):.1f}" y1="{self.TOP - 8}" x2="{self.x(ratio):.1f}" y2="{bottom}" {line}/>'
-                yield self.text(self.x(ratio), bottom + 16, f"{ratio:g}", "middle")
-        yield self.text(self.x(1) - 8, self.TOP - 14, "ours is faster", "end", ' fill="#666"')
-        yield self.text(self.x(1) + 8, self.TOP - 14, "the Rust crate is faster", "start", ' fill="#666"')
+                line = 'stroke="#333" stroke-width="2"' if ratio == 1 else 'stroke="#ccc"'
+                yield f'<line x1="{self.x(panel, ratio):.1f}" y1="{self.TOP - 8}" x2="{self.x(panel, ratio):.1f}" y2="{bottom}" {line}/>'
+                yield self.text(self.x(panel, ratio), bottom + 16, f"{ratio:g}", "middle")
+        yield self.text(one, self.TOP - 14, f"{members:,} members", "middle", ' font-weight="bold"')
 
     def legend(self):
         at = self.LEFT
-        for name, what in ((OURS, "table handed in"), (OTHER, "lent table, or keys beside the links")):
-            for members in self.figures.options.sizes:
-                yield self.dot(at, 46, name, members)
-                at += 16
-            yield self.text(at, 50, what)
-            at += 130
-        at = self.LEFT
-        for members in self.figures.options.sizes:
-            yield self.dot(at, 26, OURS, members)
-            yield self.text(at + 12, 30, f"{members:,} members")
-            at += 150
+        for name in self.MARKS:
+            if any(name == key[2] for key in self.ratios):
+                label = "Fasciahyssop" if name == OURS else name
+                yield self.mark(at, 46, name)
+                yield self.text(at + 12, 50, label)
+                at += 40 + 8 * len(label)
 
     def rows(self):
         for row, workload in enumerate(self.shown):
             y = self.TOP + self.ROW * (row + 0.5)
             if row % 2 == 0:
-                yield f'<rect x="0" y="{y - self.ROW / 2}" width="{self.WIDTH}" height="{self.ROW}" fill="#f6f6f6"/>'
+                yield f'<rect x="0" y="{y - self.ROW / 2}" width="{self.width}" height="{self.ROW}" fill="#f6f6f6"/>'
             yield self.text(self.LEFT - 14, y + 4, self.figures.workloads[workload][0], "end")
-        yield from self.axis()
-        for (workload, name, members), ratio in self.dots.items():
-            y = self.TOP + self.ROW * (self.shown.index(workload) + 0.5) + (-5 if name == OURS else 5)
-            yield self.dot(self.x(ratio), y, name, members)
+        for panel, members in enumerate(self.sizes):
+            yield from self.axis(panel, members)
+        for name in reversed(self.MARKS):  # ours last, above the others
+            for (workload, members, program), ratio in self.ratios.items():
+                if program == name:
+                    yield self.mark(self.x(self.sizes.index(members), ratio), self.TOP + self.ROW * (self.shown.index(workload) + 0.5), name)
 
     def svg(self):
-        yield f'<svg xmlns="http://www.w3.org/2000/svg" width="{self.WIDTH}" height="{self.height}" font-family="sans-serif" font-size="13">'
-        yield f'<rect width="{self.WIDTH}" height="{self.height}" fill="white"/>'
-        yield self.text(14, 30, "Time beside the Rust crate's", more=' font-size="16" font-weight="bold"')
-        yield self.text(14, 50, "median of one operation, log axis", more=' fill="#666"')
+        yield f'<svg xmlns="http://www.w3.org/2000/svg" viewBox="0 0 {self.width} {self.height}" width="{self.width}" height="{self.height}" font-family="sans-serif" font-size="13">'
+        yield f'<rect width="{self.width}" height="{self.height}" fill="white"/>'
+        yield self.text(14, 26, "Time of one operation, beside the fastest peer's", more=' font-size="16" font-weight="bold"')
+        yield self.text(14, 50, "left of 1: faster than all three peers", more=' fill="#444"')
         yield from self.legend()
         yield from self.rows()
         yield "</svg>"
@@ -208,5 +224,5 @@ def write(figures):
     figures.options.folder.mkdir(parents=True, exist_ok=True)
     (figures.options.folder / PAGE).write_text(page(figures))
     plot = Plot(figures)
-    if plot.dots:
+    if plot.ratios:
         (figures.options.folder / PLOT).write_text("\n".join(plot.svg()) + "\n")
