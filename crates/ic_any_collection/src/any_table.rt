@@ -77,7 +77,7 @@ impl<M: Allocator> AnyTable<M> {
         }
     }
 
-    /// Whether `place` is linked. It asks that the place is covered. O(1).
+    /// Whether `place` is linked. It requires that the place is covered. O(1).
     #[inline]
     pub fn is_linked(&self, place: Place) -> bool
         requires covered { IsCovered (look self.now) place }
@@ -91,7 +91,7 @@ impl<M: Allocator> AnyTable<M> {
         }
     }
 
-    /// Unlinks `place`, whoever linked it. An unlinked place stays so. It asks that the place is covered. O(1).
+    /// Unlinks `place`, whoever linked it. An unlinked place stays so. It requires that the place is covered. O(1).
     ///
     /// Every other entry stays, so each collection of which the place is no member keeps its sequence.
     #[inline]

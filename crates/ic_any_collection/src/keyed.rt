@@ -119,7 +119,7 @@ impl<T> AnyCollection<T> {
 
     /// Puts the cursor on the first member of this key, null if there is none, and returns it with the looks of the descent.
     ///
-    /// It asks that this is a tree, and that an object stands at each member. O(log n).
+    /// It requires that this is a tree, and that an object stands at each member. O(log n).
     pub fn find<A: KeyAdapter<Value = T>, M: Allocator, B: Allocator>(
         &mut self,
         links: &AnyTable<M>,
@@ -163,7 +163,7 @@ impl<T> AnyCollection<T> {
     /// Puts the cursor on the first member whose key meets the bound, null if there is none, and returns it with the looks of
     /// the descent: none for `Unbounded`.
     ///
-    /// It asks that this is a tree, and that an object stands at each member. In a tree that isn't sorted the cursor is on a
+    /// It requires that this is a tree, and that an object stands at each member. In a tree that isn't sorted the cursor is on a
     /// border. O(log n).
     pub fn lower_bound<A: KeyAdapter<Value = T>, M: Allocator, B: Allocator>(
         &mut self,
@@ -194,7 +194,7 @@ impl<T> AnyCollection<T> {
     /// Puts the cursor on the last member whose key meets the bound, null if there is none, and returns it with the looks of
     /// the descent: none for `Unbounded`.
     ///
-    /// It asks that this is a tree, and that an object stands at each member. In a tree that isn't sorted the cursor is on a
+    /// It requires that this is a tree, and that an object stands at each member. In a tree that isn't sorted the cursor is on a
     /// border. O(log n).
     #[tactic(auto, using(crate::proofs::KeyedSearches::upper_member))]
     pub fn upper_bound<A: KeyAdapter<Value = T>, M: Allocator, B: Allocator>(
@@ -225,7 +225,7 @@ impl<T> AnyCollection<T> {
 
     /// The members between two bounds, in memory of `alloc`, and the looks of both descents.
     ///
-    /// It asks that this is a tree, and that an object stands at each member. O(log n + answer).
+    /// It requires that this is a tree, and that an object stands at each member. O(log n + answer).
     pub fn range<A: KeyAdapter<Value = T>, M: Allocator, B: Allocator, N: Allocator>(
         &self,
         alloc: N,
@@ -338,7 +338,7 @@ impl<T> AnyCollection<T> {
     /// on it. Answers whether a member had the key, the member, and the looks of the descent; `None` where none had it and the
     /// object is linked, and then nothing has changed.
     ///
-    /// It asks that this is a tree, that an object stands at each member, and that the object's place is covered. O(log n).
+    /// It requires that this is a tree, that an object stands at each member, and that the object's place is covered. O(log n).
     pub fn entry<A: KeyAdapter<Value = T>, M: Allocator, B: Allocator>(
         &mut self,
         links: &mut AnyTable<M>,

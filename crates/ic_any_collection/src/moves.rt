@@ -112,7 +112,7 @@ impl<T> AnyCollection<T> {
         }
     }
 
-    /// Puts the cursor on a member. In an XOR list it asks that `prev` is the one in front of it, `None` at the front; other kinds
+    /// Puts the cursor on a member. In an XOR list it requires that `prev` is the one in front of it, `None` at the front; other kinds
     /// don't read it. O(1).
     #[inline]
     pub fn stand_on<M: Allocator>(&mut self, links: &AnyTable<M>, prev: Option<Place>, place: Place)

@@ -120,7 +120,7 @@ impl<T> AnyCollection<T> {
         None
     }
 
-    /// Whether the place is that of a member. It asks that the place is covered. It walks from the front, but climbs in a tree:
+    /// Whether the place is that of a member. It requires that the place is covered. It walks from the front, but climbs in a tree:
     /// O(members), in a tree O(log n).
     pub fn contains<M: Allocator>(&self, links: &AnyTable<M>, place: Place) -> bool
         requires held { Held (look links.now) self.now }

@@ -76,7 +76,7 @@ impl<T> AnyCollection<T> {
 
     /// Puts all of the given collection behind the cursor, at null in front of all. The cursor stays.
     ///
-    /// It asks that both are lists of one kind, kept by the same table, which share no member. O(1); of singly linked lists one
+    /// It requires that both are lists of one kind, kept by the same table, which share no member. O(1); of singly linked lists one
     /// reading for each given member.
     #[inline]
     pub fn splice_after<M: Allocator>(&mut self, links: &mut AnyTable<M>, given: AnyCollection<T>)
@@ -93,7 +93,7 @@ impl<T> AnyCollection<T> {
 
     /// Puts all of the given collection in front of the cursor, at null behind all. The cursor stays.
     ///
-    /// It asks that both are doubly linked lists or both XOR lists, kept by the same table, which share no member. O(1).
+    /// It requires that both are doubly linked lists or both XOR lists, kept by the same table, which share no member. O(1).
     #[inline]
     pub fn splice_before<M: Allocator>(&mut self, links: &mut AnyTable<M>, given: AnyCollection<T>)
         requires held { Held (look links.old) self.old }
@@ -169,7 +169,7 @@ impl<T> AnyCollection<T> {
 
     /// Hands out the members behind the cursor, at null all of them. The cursor stays.
     ///
-    /// It asks that this is a list. O(1).
+    /// It requires that this is a list. O(1).
     #[inline]
     pub fn split_after<M: Allocator>(&mut self, links: &mut AnyTable<M>) -> AnyCollection<T>
         requires held { Held (look links.old) self.old }
@@ -195,7 +195,7 @@ impl<T> AnyCollection<T> {
 
     /// Hands out the members in front of the cursor, at null all of them. The cursor stays.
     ///
-    /// It asks that this is a doubly linked or an XOR list. O(1).
+    /// It requires that this is a doubly linked or an XOR list. O(1).
     #[inline]
     pub fn split_before<M: Allocator>(&mut self, links: &mut AnyTable<M>) -> AnyCollection<T>
         requires held { Held (look links.old) self.old }

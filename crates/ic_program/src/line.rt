@@ -27,7 +27,7 @@ pub enum Line {
 impl Line {
     /// What these bytes say, which are one line. Words stand between spaces: the name of the call, and its arguments in order.
     ///
-    /// It asks nothing, and takes no memory. A number is 1 to 20 decimal digits with a value below 2^64, and an object's
+    /// It requires nothing, and takes no memory. A number is 1 to 20 decimal digits with a value below 2^64, and an object's
     /// number is below 2^32. A kind is `singly`, `doubly`, `xor` or `tree`; a bound is `included:K`, `excluded:K` or
     /// `unbounded`; a neighbor is an object's number, or `none`. The `\n` or `\r\n` at its end says nothing. O(bytes).
     pub fn of(line: &[u8]) -> Line {

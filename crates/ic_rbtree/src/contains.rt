@@ -34,7 +34,7 @@ fn has_child<M: Allocator>(links: &LinkOps<M>, parent: Place, place: Place) -> b
 }
 
 impl<A: KeyAdapter> RBTree<A> {
-    /// Whether the place is that of a member. It asks that the place is covered. O(log n): it reads no more than 66 places.
+    /// Whether the place is that of a member. It requires that the place is covered. O(log n): it reads no more than 66 places.
     ///
     /// It climbs by the parents, and looks at each step whether the parent has the place as a child: so links that an
     /// object keeps from a tree that was emptied by `fast_clear` make no member of it.

@@ -58,7 +58,7 @@ impl<A: KeyAdapter> RBTree<A> {
         Cursor::new(self, links, PlaceWord::of(Some(object.place())))
     }
 
-    /// A cursor on the first member, null in an empty tree. O(log n): it goes down to it, so it asks that the tree is shown.
+    /// A cursor on the first member, null in an empty tree. O(log n): it goes down to it, so it requires that the tree is shown.
     #[inline]
     pub fn front<'a, L: RBTreeOps>(&'a self, links: &'a L) -> Cursor<'a, A, L>
         requires shown { ShowsSome L.node (L.table links.now) (root_of self.now) }
@@ -70,7 +70,7 @@ impl<A: KeyAdapter> RBTree<A> {
         Cursor::new(self, links, PlaceWord::of(self.first(links)))
     }
 
-    /// A cursor on the last member, null in an empty tree. O(log n): it goes down to it, so it asks that the tree is shown.
+    /// A cursor on the last member, null in an empty tree. O(log n): it goes down to it, so it requires that the tree is shown.
     #[inline]
     pub fn back<'a, L: RBTreeOps>(&'a self, links: &'a L) -> Cursor<'a, A, L>
         requires shown { ShowsSome L.node (L.table links.now) (root_of self.now) }
@@ -116,7 +116,7 @@ impl<A: KeyAdapter> RBTree<A> {
         CursorMut::new(self, links, current)
     }
 
-    /// A cursor that edits, on the first member, null in an empty tree. O(log n): it asks that the tree is shown.
+    /// A cursor that edits, on the first member, null in an empty tree. O(log n): it requires that the tree is shown.
     #[inline]
     pub fn front_mut<'a, L: RBTreeOps>(&'a mut self, links: &'a mut L) -> CursorMut<'a, A, L>
         requires shown { ShowsSome L.node (L.table links.old) (root_of self.old) }
@@ -128,7 +128,7 @@ impl<A: KeyAdapter> RBTree<A> {
         CursorMut::new(self, links, current)
     }
 
-    /// A cursor that edits, on the last member, null in an empty tree. O(log n): it asks that the tree is shown.
+    /// A cursor that edits, on the last member, null in an empty tree. O(log n): it requires that the tree is shown.
     #[inline]
     pub fn back_mut<'a, L: RBTreeOps>(&'a mut self, links: &'a mut L) -> CursorMut<'a, A, L>
         requires shown { ShowsSome L.node (L.table links.old) (root_of self.old) }
@@ -173,7 +173,7 @@ impl<A: KeyAdapter> RBTree<A> {
         CursorOwning::new(self, PlaceWord::of(Some(object.place())))
     }
 
-    /// A cursor that keeps the tree, on the first member, null in an empty tree. O(log n): it asks that the tree is shown.
+    /// A cursor that keeps the tree, on the first member, null in an empty tree. O(log n): it requires that the tree is shown.
     #[inline]
     pub fn front_owning<L: RBTreeOps>(self, links: &L) -> CursorOwning<A>
         requires shown { ShowsSome L.node (L.table links.now) (root_of self) }
@@ -185,7 +185,7 @@ impl<A: KeyAdapter> RBTree<A> {
         CursorOwning::new(self, at)
     }
 
-    /// A cursor that keeps the tree, on the last member, null in an empty tree. O(log n): it asks that the tree is shown.
+    /// A cursor that keeps the tree, on the last member, null in an empty tree. O(log n): it requires that the tree is shown.
     #[inline]
     pub fn back_owning<L: RBTreeOps>(self, links: &L) -> CursorOwning<A>
         requires shown { ShowsSome L.node (L.table links.now) (root_of self) }

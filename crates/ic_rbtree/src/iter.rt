@@ -144,7 +144,7 @@ impl<A: KeyAdapter> RBTree<A> {
     ghost use Rattle.ic_link_ops.specs.PlacedObjects.{ShowsPlaced, values_at};
     ghost use Rattle.ic_rbtree.specs.Iter.{objects_left, CanWalk};
 
-    /// A walk over the objects of the tree, from either end. It asks that all members are placed.
+    /// A walk over the objects of the tree, from either end. It requires that all members are placed.
     pub fn iter<'a, L: RBTreeOps, O: Values<A::Value>>(
         &'a self,
         links: &'a L,
@@ -166,7 +166,7 @@ impl<A: KeyAdapter> RBTree<A> {
     }
 
     /// A value that prints the objects of the tree, in order: `{:?}` writes `[10, 20]`, and `{:#?}` writes each object on lines of its own.
-    /// It asks that all members are placed. O(log n), and no memory.
+    /// It requires that all members are placed. O(log n), and no memory.
     pub fn debug<'a, L: RBTreeOps, O: Values<A::Value>>(
         &'a self,
         links: &'a L,

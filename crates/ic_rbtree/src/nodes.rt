@@ -1,4 +1,4 @@
-//! What the surgery of a tree asks of the words that it writes.
+//! What the surgery of a tree requires of the words that it writes.
 //!
 //! ```text
 //! attach(nodes, root, parent, side, place); // of any table, or of words that a caller keeps
@@ -13,7 +13,7 @@ use ic_link_ops::Color;
 use ic_link_ops::rbtree::RBTreeOps;
 use ic_unsafe_ref::Place;
 
-/// Entries that name two children and a parent and have a color, for whoever keeps them: what the surgery of a tree asks.
+/// Entries that name two children and a parent and have a color, for whoever keeps them: what the surgery of a tree requires.
 ///
 /// Every table of tree links is one. It links and unlinks no place.
 pub trait Nodes {
@@ -29,27 +29,27 @@ pub trait Nodes {
     // From the one state to the other nothing was done but to set what nodes say.
     ghost Quiet: { Self → Self → Type 0 };
 
-    /// The left child of `place`. It asks that the place is linked. O(1).
+    /// The left child of `place`. It requires that the place is linked. O(1).
     fn left(&self, place: Place) -> Option<Place>
         requires linked { IsNode node (table self.now) place }
         ensures { result ≡ (node_at node (table self.now) place).left };
 
-    /// The right child of `place`. It asks that the place is linked. O(1).
+    /// The right child of `place`. It requires that the place is linked. O(1).
     fn right(&self, place: Place) -> Option<Place>
         requires linked { IsNode node (table self.now) place }
         ensures { result ≡ (node_at node (table self.now) place).right };
 
-    /// The parent of `place`. It asks that the place is linked. O(1).
+    /// The parent of `place`. It requires that the place is linked. O(1).
     fn parent(&self, place: Place) -> Option<Place>
         requires linked { IsNode node (table self.now) place }
         ensures { result ≡ (node_at node (table self.now) place).parent };
 
-    /// The color of `place`. It asks that the place is linked. O(1).
+    /// The color of `place`. It requires that the place is linked. O(1).
     fn color(&self, place: Place) -> Color
         requires linked { IsNode node (table self.now) place }
         ensures { result ≡ (node_at node (table self.now) place).color };
 
-    /// Sets the left child of `place`. It asks that the place is linked, and what it names too. O(1).
+    /// Sets the left child of `place`. It requires that the place is linked, and what it names too. O(1).
     fn set_left(&mut self, place: Place, left: Option<Place>)
         requires linked { IsNode node (table self.old) place }
         requires named { IsNamed node (table self.old) left }
@@ -57,7 +57,7 @@ pub trait Nodes {
         ensures frame { ChangesOnly (table self.old) (table self.new) place }
         ensures quiet { Quiet self.old self.new };
 
-    /// Sets the right child of `place`. It asks that the place is linked, and what it names too. O(1).
+    /// Sets the right child of `place`. It requires that the place is linked, and what it names too. O(1).
     fn set_right(&mut self, place: Place, right: Option<Place>)
         requires linked { IsNode node (table self.old) place }
         requires named { IsNamed node (table self.old) right }
@@ -65,7 +65,7 @@ pub trait Nodes {
         ensures frame { ChangesOnly (table self.old) (table self.new) place }
         ensures quiet { Quiet self.old self.new };
 
-    /// Sets the parent of `place`. It asks that the place is linked, and what it names too. O(1).
+    /// Sets the parent of `place`. It requires that the place is linked, and what it names too. O(1).
     fn set_parent(&mut self, place: Place, parent: Option<Place>)
         requires linked { IsNode node (table self.old) place }
         requires named { IsNamed node (table self.old) parent }
@@ -73,14 +73,14 @@ pub trait Nodes {
         ensures frame { ChangesOnly (table self.old) (table self.new) place }
         ensures quiet { Quiet self.old self.new };
 
-    /// Sets the color of `place`. It asks that the place is linked. O(1).
+    /// Sets the color of `place`. It requires that the place is linked. O(1).
     fn set_color(&mut self, place: Place, color: Color)
         requires linked { IsNode node (table self.old) place }
         ensures set { node_at node (table self.new) place ≡ record (node_at node (table self.old) place) { color = color } }
         ensures frame { ChangesOnly (table self.old) (table self.new) place }
         ensures quiet { Quiet self.old self.new };
 
-    /// Sets the parent and the color of `place`, at once. It asks that the place is linked, and what it names too. O(1).
+    /// Sets the parent and the color of `place`, at once. It requires that the place is linked, and what it names too. O(1).
     fn set_parent_and_color(&mut self, place: Place, parent: Option<Place>, color: Color)
         requires linked { IsNode node (table self.old) place }
         requires named { IsNamed node (table self.old) parent }

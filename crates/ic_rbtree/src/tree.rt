@@ -112,7 +112,7 @@ impl<A> RBTree<A> {
     /// Puts `place` in on this side of `parent`, which has no child there, and repairs the colors. With no parent the tree is
     /// empty.
     ///
-    /// It asks for a set that has `place` and `parent` and is closed, but that `place` may lead anywhere. It ends and leaves that
+    /// It requires a set that has `place` and `parent` and is closed, but that `place` may lead anywhere. It ends and leaves that
     /// set closed whatever the words say, and of a tree it makes one with `place`. O(log n).
     pub fn attach<N: Nodes>(
         &mut self,
@@ -133,7 +133,7 @@ impl<A> RBTree<A> {
 
     /// Takes the member at `place` out, and repairs the colors. The place stays linked.
     ///
-    /// It asks for a closed set that has `place`. It ends and leaves that set closed whatever the words say, and of a tree it makes
+    /// It requires a closed set that has `place`. It ends and leaves that set closed whatever the words say, and of a tree it makes
     /// one without `place`. O(log n).
     pub fn unlink<N: Nodes>(&mut self, nodes: &mut N, place: Place)
         requires { IsSafe N.node (N.table nodes.old) (root_of self.old) (Some place ∷ []) }
@@ -148,7 +148,7 @@ impl<A> RBTree<A> {
 
     /// Puts `new` in place of the member at `place`, in its color. Both stay linked.
     ///
-    /// It asks for two places, and for a set that has both and is closed, but that `new` may lead anywhere. It leaves that set closed
+    /// It requires two places, and for a set that has both and is closed, but that `new` may lead anywhere. It leaves that set closed
     /// whatever the words say, and of a tree it makes one with `new` where `place` was. O(1).
     pub fn take_place<N: Nodes>(&mut self, nodes: &mut N, place: Place, new: Place)
         requires safe { IsSafeBut N.node (N.table nodes.old) (root_of self.old) new (Some place ∷ Some new ∷ []) }
@@ -165,7 +165,7 @@ impl<A> RBTree<A> {
     /// Where a step to a side leads from a position: to the member beside it, from null to the end on the other side, from that end
     /// to null.
     ///
-    /// It asks for a closed set that has the position. It ends whatever the words say. O(log n), and O(1) on average over a walk.
+    /// It requires a closed set that has the position. It ends whatever the words say. O(log n), and O(1) on average over a walk.
     #[inline]
     pub fn step<N: Nodes>(&self, nodes: &N, current: Option<Place>, side: Side) -> Option<Place>
         requires { IsSafe N.node (N.table nodes.now) (root_of self.now) (current ∷ []) }
@@ -178,7 +178,7 @@ impl<A> RBTree<A> {
     /// Goes down from the root to the gap to which a probe sends: behind the members that are less than what is searched, in front of
     /// those that are greater, and past equal ones to the side `equals`.
     ///
-    /// It asks for a closed set with a value at each of its places, and that the probe's count is at most `u64::MAX - 66`. It ends
+    /// It requires a closed set with a value at each of its places, and that the probe's count is at most `u64::MAX - 66`. It ends
     /// whatever the words say. O(log n): v looks in a tree of n members, where `2^v <= (n + 1)^2`.
     #[inline]
     pub fn search<N: Nodes, V, P: Probe<V>, O: Values<V>>(

@@ -37,7 +37,7 @@ use std::alloc::{AllocFailed, Allocator};
 /// Puts a timer into the queue, behind all with its deadline or an earlier one, unless its link is refused. O(log n), and it
 /// takes no memory.
 ///
-/// It asks that the timer is placed and its place covered, and that the timers in the queue are placed and stand in the order
+/// It requires that the timer is placed and its place covered, and that the timers in the queue are placed and stand in the order
 /// of their deadlines, as each call here leaves them. A refused timer comes back, and the queue is as it was.
 pub fn schedule<T: HasDeadline, L: RBTreeOps, B: Allocator>(
     timers: &mut RBTree<ByDeadline<T>>,
@@ -72,7 +72,7 @@ fn is_due<T: HasDeadline>(timer: Option<&T>, now: u64) -> bool
 
 /// Takes the first timer off if its deadline is at most `now`, and returns `None` otherwise. O(log n).
 ///
-/// It asks that the timers in the queue are placed and stand in the order of their deadlines. The timer is unlinked then, and
+/// It requires that the timers in the queue are placed and stand in the order of their deadlines. The timer is unlinked then, and
 /// stays placed; none in the queue was due before it. Where the answer is `None` all wait still, and nothing has changed.
 pub fn take_due<T: HasDeadline, L: RBTreeOps, B: Allocator>(
     timers: &mut RBTree<ByDeadline<T>>,
@@ -102,7 +102,7 @@ pub fn take_due<T: HasDeadline, L: RBTreeOps, B: Allocator>(
 
 /// Takes all timers off that are due at `now`, the earliest first, and puts them behind those in `due`. O(k log n) for k of them.
 ///
-/// It asks that the timers in the queue are placed and stand in the order of their deadlines. What was taken is unlinked then,
+/// It requires that the timers in the queue are placed and stand in the order of their deadlines. What was taken is unlinked then,
 /// and stays placed. It takes memory for `due` alone, and none where that has room. Where it has none left and can't grow, the
 /// timer that it had no room for comes back, unlinked as those in `due`, and the others wait still.
 pub fn take_all_due<T: HasDeadline, L: RBTreeOps, B: Allocator, C: Allocator>(
@@ -131,7 +131,7 @@ pub fn take_all_due<T: HasDeadline, L: RBTreeOps, B: Allocator, C: Allocator>(
 
 /// Takes a timer off before it is due: all others stay, in their order. O(log n), and it takes no memory.
 ///
-/// It asks that the timer is in the queue, and is never refused. The timer is unlinked then, and stays placed.
+/// It requires that the timer is in the queue, and is never refused. The timer is unlinked then, and stays placed.
 pub fn cancel<T: HasDeadline, L: RBTreeOps>(
     timers: &mut RBTree<ByDeadline<T>>,
     links: &mut L,

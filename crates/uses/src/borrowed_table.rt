@@ -106,7 +106,7 @@ impl<L: LinkedListOps> LinkedListOps for BorrowedTable<'_, L> {
 
 /// Puts an unlinked object at the back of a list by a view of the table, and the table has then what the view showed.
 ///
-/// It asks that the table covers the object's place and shows a sequence for the list. A linked object comes back, and
+/// It requires that the table covers the object's place and shows a sequence for the list. A linked object comes back, and
 /// no entry has changed. O(1).
 pub fn push_back<T, L: LinkedListOps>(
     list: &mut LinkedList<T>,

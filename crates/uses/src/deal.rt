@@ -48,7 +48,7 @@ where
 
 /// Deals the members of a list to two hands, one from its front and one from its back in turns, until none is left.
 ///
-/// It asks that the table shows a sequence for the list. Each member is unlinked as it is dealt. Where a hand has no room
+/// It requires that the table shows a sequence for the list. Each member is unlinked as it is dealt. Where a hand has no room
 /// left and no memory to grow, those dealt so far are unlinked, and so is the one that the hand had no room for; the others
 /// stay linked. One step for each member, and memory for the hands alone.
 pub fn deal<T, L: LinkedListOps, A: Allocator>(
@@ -72,7 +72,7 @@ pub fn deal<T, L: LinkedListOps, A: Allocator>(
 
 /// Shows the objects of a list to two hands, one from its front and one from its back in turns, until all are shown.
 ///
-/// It asks that the table shows a sequence for the list, whose members are placed. Where a hand has no room left and no
+/// It requires that the table shows a sequence for the list, whose members are placed. Where a hand has no room left and no
 /// memory to grow, the hands have those shown so far. One step for each member, and memory for the hands alone.
 pub fn show<'a, T, L: LinkedListOps, A: Allocator, B: Allocator>(
     list: &LinkedList<T>,

@@ -109,7 +109,7 @@ impl<L: LinkedListOps> EitherTable<L> {
 
     /// Puts an unlinked object at the back of a list whose links this table has; it is the same one of the two then.
     ///
-    /// It asks that the table covers the object's place and shows a sequence for the list. A linked object comes back,
+    /// It requires that the table covers the object's place and shows a sequence for the list. A linked object comes back,
     /// and no entry has changed. O(1).
     pub fn push_back<T>(
         &mut self,

@@ -16,7 +16,7 @@ use std::alloc::Allocator;
 
 /// Pushes two objects into a new list, and returns where a cursor stands that has moved once: on the first of them.
 ///
-/// It asks that the table covers both places, and uses the table up. An object that is linked already, or pushed twice,
+/// It requires that the table covers both places, and uses the table up. An object that is linked already, or pushed twice,
 /// comes back. O(1), and it takes no memory.
 pub fn first_steps<T, A: Allocator>(
     mut links: LinkOps<A>,

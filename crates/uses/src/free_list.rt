@@ -19,7 +19,7 @@ use ic_unsafe_ref::{Place, UnsafeRef};
 
 /// Gives an object back, unless its link is refused: it is the first to be taken again. O(1), and it takes no memory.
 ///
-/// It asks that the object's place is covered, and that the table shows a sequence for the list. A refused object comes back, and
+/// It requires that the object's place is covered, and that the table shows a sequence for the list. A refused object comes back, and
 /// the list is as it was. No other list of the table changes.
 #[inline]
 pub fn give_back<T, L: SinglyLinkedListOps>(
@@ -44,7 +44,7 @@ pub fn give_back<T, L: SinglyLinkedListOps>(
 
 /// Takes the object that was given back last, or `None` where there is none. O(1), and it takes no memory.
 ///
-/// It asks that the table shows a sequence for the list. Where there is none, nothing has changed. No other list of the table
+/// It requires that the table shows a sequence for the list. Where there is none, nothing has changed. No other list of the table
 /// changes.
 #[inline]
 pub fn take<T, L: SinglyLinkedListOps>(
@@ -67,7 +67,7 @@ pub fn take<T, L: SinglyLinkedListOps>(
 
 /// Gives an object back and takes one at once: unless its link is refused, it is that object, and the list is as it was. O(1).
 ///
-/// It asks what [`give_back`] asks, and a refused object comes back as there.
+/// It requires what [`give_back`] requires, and a refused object comes back as there.
 pub fn give_and_take<T, L: SinglyLinkedListOps>(
     free: &mut SinglyLinkedList<T>,
     links: &mut L,

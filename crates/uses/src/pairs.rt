@@ -33,7 +33,7 @@ pub fn in_order(first: Place, second: Place) -> (Place, Place)
 
 /// The two objects of a list that has two, `None` where it has another number of them. O(1).
 ///
-/// It asks that the table shows a sequence for the list, whose members are placed.
+/// It requires that the table shows a sequence for the list, whose members are placed.
 pub fn both<'a, T, L: LinkedListOps, A: Allocator>(
     list: &LinkedList<T>,
     links: &'a L,
@@ -74,7 +74,7 @@ pub fn larger<L: LinkedListOps>(
 
 /// Takes the two members of a list that has two off it, `None` where it has another number of them. O(1).
 ///
-/// It asks that the table shows a sequence for the list. Of a list with another number of members those that came off,
+/// It requires that the table shows a sequence for the list. Of a list with another number of members those that came off,
 /// three at most, are unlinked, and the others stay linked.
 pub fn take_both<T, L: LinkedListOps>(
     list: LinkedList<T>,

@@ -33,7 +33,7 @@ fn claim_by(claims: &Claims, mut holder: Holder, place: Place) -> (Holder, bool)
 /// both told true, both would hold the place, and no place is held by two. Were both told false, somebody would hold
 /// it, and nobody does.
 ///
-/// It asks that the two are all holders of the claims, and that neither holds the place. The holders come back, each
+/// It requires that the two are all holders of the claims, and that neither holds the place. The holders come back, each
 /// with what it was told: it holds the place exactly if the answer is true. O(1), and it takes no memory but that of
 /// one more thread; where none can be started, this thread makes both claims.
 pub fn race<R: Threads + Sync>(

@@ -133,7 +133,7 @@ impl<L: LinkedListOps, R: Recorder> RecordedTable<L, R> {
 
     /// Takes the first object off a list: one note is added, that this object was released. `None` adds none. O(1).
     ///
-    /// It asks that the table shows a sequence for the list.
+    /// It requires that the table shows a sequence for the list.
     pub fn pop_front<T>(&mut self, list: &mut LinkedList<T>) -> Option<UnsafeRef<T>>
         requires shown { ShowsSome L.neighbors (L.table (links_of self.old)) list.old }
         ensures answer { (s : List Place) → Shows L.neighbors (L.table (links_of self.old)) list.old s → result ≡ first s }
@@ -148,7 +148,7 @@ impl<L: LinkedListOps, R: Recorder> RecordedTable<L, R> {
 
     /// Puts an object at the back of a list: one note is added, that it was acquired, or that it was refused. O(1).
     ///
-    /// It asks that the table covers the object's place and shows a sequence for the list.
+    /// It requires that the table covers the object's place and shows a sequence for the list.
     pub fn push_back<T>(
         &mut self,
         list: &mut LinkedList<T>,
@@ -168,7 +168,7 @@ impl<L: LinkedListOps, R: Recorder> RecordedTable<L, R> {
 
     /// Clears a list: each member is noted as released, in order, and nothing else is. One step for each member.
     ///
-    /// It asks that the table shows a sequence for the list.
+    /// It requires that the table shows a sequence for the list.
     pub fn clear<T>(&mut self, list: &mut LinkedList<T>)
         requires shown { ShowsSome L.neighbors (L.table (links_of self.old)) list.old }
         ensures empty { list.new ≡ no_members }

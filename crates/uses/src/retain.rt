@@ -20,7 +20,7 @@ use std::alloc::Allocator;
 
 /// Takes off each member whose object fails the test. The others stay, in their order.
 ///
-/// It asks that the table shows a sequence for the list, whose members are placed. The test is asked once for each member,
+/// It requires that the table shows a sequence for the list, whose members are placed. The test is asked once for each member,
 /// from the front. What was taken off is unlinked, and stays placed. One step for each member, and no memory.
 pub fn retain<T, L: LinkedListOps, A: Allocator, F: Fn(&T) -> bool>(
     list: &mut LinkedList<T>,

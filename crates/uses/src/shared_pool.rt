@@ -21,7 +21,7 @@ use std::alloc::Allocator;
 /// Takes an object out of the pool: the first of its places that nobody holds as this holder comes by. `None`: somebody held
 /// each of them as it was tried.
 ///
-/// The pool is the claims' places. It asks that these are no more than places can be, and that the holder was made with the
+/// The pool is the claims' places. It requires that these are no more than places can be, and that the holder was made with the
 /// claims. Nobody else takes that object out until this holder gives it back. One claim a place that is tried: O(places), no
 /// memory, and it waits for nobody.
 pub fn take<A: Allocator>(claims: &Claims<A>, holder: &mut Holder) -> Option<Place>
@@ -43,7 +43,7 @@ pub fn take<A: Allocator>(claims: &Claims<A>, holder: &mut Holder) -> Option<Pla
 
 /// Gives an object back, which any thread may take out then.
 ///
-/// It asks that this holder has taken it out. One release, O(1), no memory.
+/// It requires that this holder has taken it out. One release, O(1), no memory.
 pub fn give_back<A: Allocator>(claims: &Claims<A>, holder: &mut Holder, place: Place)
     requires place { index_of place < places_of claims.now }
     requires made { IsOf claims.now holder.old }

@@ -27,7 +27,7 @@ impl<A: KeyAdapter> RBTree<A> {
 
     /// A cursor on the first member that meets the bound, null if there is none.
     ///
-    /// It asks that all members are placed, and that the count of the bound's probe is at most `u64::MAX - 66`. In a tree that
+    /// It requires that all members are placed, and that the count of the bound's probe is at most `u64::MAX - 66`. In a tree that
     /// isn't sorted for the probe it is on a border: a member that meets the bound and whose predecessor, if any, doesn't.
     /// O(log n): v looks in a tree of n members, where `2^v <= (n + 1)^2`, and none for `Unbounded`.
     #[inline]
@@ -109,7 +109,7 @@ impl<A: KeyAdapter> RBTree<A> {
 
     /// A cursor on the last member that meets the bound, null if there is none.
     ///
-    /// It asks that all members are placed, and that the count of the bound's probe is at most `u64::MAX - 66`. In a tree that
+    /// It requires that all members are placed, and that the count of the bound's probe is at most `u64::MAX - 66`. In a tree that
     /// isn't sorted for the probe it is on a border: a member that meets the bound and whose successor, if any, doesn't.
     /// O(log n): v looks in a tree of n members, where `2^v <= (n + 1)^2`, and none for `Unbounded`.
     #[inline]

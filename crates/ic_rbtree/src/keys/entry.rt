@@ -66,7 +66,7 @@ pub enum Entry<'a, A: KeyAdapter, L> {
 impl<A: KeyAdapter> RBTree<A> {
     /// The first member that compares equal, or the gap where the search ended.
     ///
-    /// It asks that all members are placed, and that the probe's count is at most `u64::MAX - 66`. It descends as `find_by`.
+    /// It requires that all members are placed, and that the probe's count is at most `u64::MAX - 66`. It descends as `find_by`.
     /// O(log n): v looks in a tree of n members, where `2^v <= (n + 1)^2`.
     pub fn entry_by<'a, L: RBTreeOps, P: Probe<A::Value>, O: Values<A::Value>>(
         &'a mut self,
@@ -127,7 +127,7 @@ impl<A: KeyAdapter> RBTree<A> {
 impl<'a, A: KeyAdapter, L: RBTreeOps> InsertCursor<'a, A, L> {
     /// Inserts the object at the gap, whatever its key is, unless its link is refused. The cursor that it answers is on the object.
     ///
-    /// It asks that the object's place is covered. A refused object comes back with the gap, and tree and table are as they were.
+    /// It requires that the object's place is covered. A refused object comes back with the gap, and tree and table are as they were.
     /// O(log n): no look, and the repair.
     pub fn insert(
         self,
@@ -160,7 +160,7 @@ impl<'a, A: KeyAdapter, L: RBTreeOps> InsertCursor<'a, A, L> {
 impl<'a, A: KeyAdapter, L: RBTreeOps> Entry<'a, A, L> {
     /// The cursor on the member that has the key, or on the object, which is inserted where the key would stand.
     ///
-    /// Where the entry is vacant, it asks that the object's place is covered; a refused object comes back with the gap, and tree
+    /// Where the entry is vacant, it requires that the object's place is covered; a refused object comes back with the gap, and tree
     /// and table are as they were. Where it is occupied, nothing is linked.
     pub fn or_insert(
         self,

@@ -25,7 +25,7 @@ impl<A: KeyAdapter> RBTree<A> {
 
     /// A cursor on the first member that compares equal, null if there is none.
     ///
-    /// It asks that all members are placed, and that the probe's count is at most `u64::MAX - 66`. It goes left at a member
+    /// It requires that all members are placed, and that the probe's count is at most `u64::MAX - 66`. It goes left at a member
     /// that is greater or equal, and right at one that is less; where the members are not sorted for the probe, it may miss
     /// equal ones. O(log n): v looks in a tree of n members, where `2^v <= (n + 1)^2`, with one look-up of an object each.
     #[inline]

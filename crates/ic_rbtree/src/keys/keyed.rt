@@ -28,7 +28,7 @@ impl<A: KeyAdapter> RBTree<A> {
     /// Inserts the object where the key that the table keeps beside its link belongs: [`insert`](RBTree::insert) where the table keeps
     /// the values. A look reads one entry, which has the key and the children.
     ///
-    /// It asks that the object's place is covered, and that the members and the object are placed. A refused object comes back, nothing
+    /// It requires that the object's place is covered, and that the members and the object are placed. A refused object comes back, nothing
     /// is looked at, and the tree and its links are as they were. O(log n).
     #[inline]
     pub fn insert_keyed<L: RBTreeOps + LinkValues<A::Value>>(

@@ -45,7 +45,7 @@ impl<A: KeyAdapter, L: RBTreeOps> Ordered<L> for RBTree<A> {
 impl<A: KeyAdapter> RBTree<A> {
     /// Inserts the object where the probe's order wants it: behind members that compare equal, unless its link is refused.
     ///
-    /// It asks that the object's place is covered, that all members are placed, and that the probe's count is at most
+    /// It requires that the object's place is covered, that all members are placed, and that the probe's count is at most
     /// `u64::MAX - 66`. A refused object comes back, nothing is looked at, and the tree and its links are as they were. The crate
     /// returns a cursor on the object; here that is one more call, `cursor_mut_from_ptr`. O(log n): v looks in a tree of n
     /// members, where `2^v <= (n + 1)^2`.
@@ -78,7 +78,7 @@ impl<A: KeyAdapter> RBTree<A> {
     }
 
     /// Inserts the object where its own key belongs, behind members with the same key, unless its link is refused: `insert_by`
-    /// with a `KeyProbe`. It asks that the object is placed, too. O(log n).
+    /// with a `KeyProbe`. It requires that the object is placed, too. O(log n).
     #[inline]
     pub fn insert<L: RBTreeOps, O: Values<A::Value>>(
         &mut self,

@@ -27,7 +27,7 @@ pub trait Probe<V> {
 
     /// Compares what is searched with `value`: `Less` where it is less.
     ///
-    /// It asks that the count of looks is below `u64::MAX`. It counts one more, and compares as before.
+    /// It requires that the count of looks is below `u64::MAX`. It counts one more, and compares as before.
     fn compare(&mut self, value: &V) -> Ordering
         requires room { count self.old < 18446744073709551615 }
         ensures answer { result ≡ order self.old value.now }

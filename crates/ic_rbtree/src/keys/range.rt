@@ -50,7 +50,7 @@ impl<A: KeyAdapter> RBTree<A> {
     /// A walk over the objects between two bounds, from the lower border of `min` to the upper border of `max`. Nothing where the
     /// key at the second is less than that at the first.
     ///
-    /// It asks that all members are placed, that both probes have the tree's adapter, and that their counts are at most
+    /// It requires that all members are placed, that both probes have the tree's adapter, and that their counts are at most
     /// `u64::MAX - 66`. O(log n): two descents, each of v looks in a tree of n members, where `2^v <= (n + 1)^2`.
     pub fn range_by<'a, L: RBTreeOps, O: Values<A::Value>>(
         &'a self,
