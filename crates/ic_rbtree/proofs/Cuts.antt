@@ -1,5 +1,5 @@
 -- A tree is cut at a hole, from there up.
-use Rattle.std.proofs.Common.{◌≡◌, ◌+◌, Option, Some, None, List, [], ◌∷◌, ◌++◌, refl, sym, ap, ◌∙◌, subst, arith, append-nil, append_assoc}
+use Rattle.std.proofs.Common.{◌≡◌, ℕ, ◌+◌, ◌-◌, ◌<◌, Option, Some, None, List, [], ◌∷◌, ◌++◌, refl, sym, ap, ◌∙◌, subst, arith, append-nil, append_assoc}
 use Rattle.ic_unsafe_ref.specs.declared.place.Place.{Place}
 use Rattle.ic_link_ops.specs.declared.color.Color.{Color}
 use Rattle.ic_link_ops.specs.declared.color.Color.TheVariants.{Black}
@@ -20,13 +20,15 @@ use Rattle.ic_rbtree.specs.Closed.{IsNode, IsNamed}
 use Rattle.ic_rbtree.specs.Cuts.{CutUp, IsCutUp, IsCutBelow, IsCutting, Detaches, AreCutApart}
 use Rattle.ic_rbtree.specs.Height.{turns}
 use Rattle.ic_rbtree.specs.Insertion.{blackened, IsHole}
-use Rattle.ic_rbtree.specs.Join.{Pair, ArePair}
+use Rattle.ic_rbtree.specs.declared.join.roots.Measured.{Measured}
+use Rattle.ic_rbtree.specs.Join.{IsMeasured, Pair, AreMeasured, IsJoined}
 use Rattle.ic_rbtree.specs.Pieces.{Piece, loose, below, around, Held, Stands, Shown}
 use Rattle.ic_rbtree.specs.Removal.{IsOn}
 use Rattle.ic_rbtree.specs.Steps.{IsSideOf}
 use Rattle.ic_rbtree.proofs.Attaching.{hole}
-use Rattle.ic_rbtree.proofs.Branches.{side_near, side_far, side_up, side_linked}
-use Rattle.ic_rbtree.proofs.Low.{frames_low}
+use Rattle.ic_rbtree.proofs.Branches.{side_near, side_far, side_tint, side_up, side_linked}
+use Rattle.ic_rbtree.proofs.Low.{frames_low, blacks_low}
+use Rattle.ic_rbtree.proofs.Spine.{weight_small, at_root}
 use Rattle.ic_rbtree.proofs.Pieces.{regroup, set_parent_and_color}
 use Rattle.ic_rbtree.proofs.RemovalShapes.{shape_open}
 use Rattle.ic_rbtree.proofs.InsertionShapes.{red_not_black}
@@ -49,6 +51,13 @@ right_blackened (fork c a p b) pairs even = record { black_root = refl; no_red_p
 right_leaf : IsRight leaf
 right_leaf = record { black_root = refl; no_red_pair = tt; even = tt }
 
+-- no tree, measured
+abbrev pub nothing : Measured
+nothing = record { root = None; height = 0 }
+
+nothing_is : IsMeasured nothing leaf
+nothing_is = record { root_is = refl; height_is = refl }
+
 -- the lowest frame
 pub lowest : (fs : List Frame) (d : Side) (p : Place) → Some p ≡ above fs → IsOn d fs → (c : Color) × (b : Tree) × (gs : List Frame) × (fs ≡ frame d c p b ∷ gs)
 lowest [] d p e on = absurd (none_not p (sym e))
@@ -56,12 +65,21 @@ lowest (frame k c q b ∷ gs) d p e on = (c, b, gs, ap (λ z. frame k c z b ∷ 
 
 module _ {E : Type 0} (n : E → Node) where
   -- A SUBTREE IS DETACHED by one write
-  pub detaches_some : {v w : Table E} (q : Place) (child : Option Place) → child ≡ Some q
-      → n (w.entry q) ≡ record (n (v.entry q)) { parent = None; color = Black } → ChangesOnly v w q → Detaches n v w child
-  detaches_some q child is set only base up leaf ps e h = absurd (none_not q (sym e ∙ is))
-  detaches_some q child is set only base up (fork c a p b) ps e h =
-      close_below n None (top a) (top b) Left Black a p b ps refl refl
-      (set_parent_and_color n Left p c (top a) (top b) up (below (Some p) a ∷ below (Some p) b ∷ ps) (open_below n up Left c a p b ps h) q None None Black (some_same (sym is ∙ e)) refl set only)
+  pub detaches_some : {v w : Table E} {height : ℕ} {alone : Measured} (q : Place) (child : Option Place) → child ≡ Some q → alone.root ≡ child
+      → alone.height ≡ height + 1 - weight (n (v.entry q)).color
+      → n (w.entry q) ≡ record (n (v.entry q)) { parent = None; color = Black } → ChangesOnly v w q → Detaches n v w child height alone
+  detaches_some q child is root tall set only base up leaf ps e high h = absurd (none_not q (sym e ∙ is))
+  detaches_some {v} q child is root tall set only base up (fork c a p b) ps e high h =
+      let tint : weight (n (v.entry q)).color ≡ weight c = ap weight (at_root n v.entry up q (fork c a p b) h.are.0 (sym is ∙ e)).color in (
+        close_below n None (top a) (top b) Left Black a p b ps refl refl
+            (set_parent_and_color n Left p c (top a) (top b) up (below (Some p) a ∷ below (Some p) b ∷ ps) (open_below n up Left c a p b ps h) q None None Black (some_same (sym is ∙ e)) refl set only),
+        record { root_is = root ∙ e; height_is = omega (arith, tall, high, tint, weight_small c) },
+      )
+
+  -- and none is where it is missing
+  pub detaches_none : {v : Table E} {height : ℕ} {alone : Measured} (child : Option Place) → child ≡ None → alone.root ≡ child → alone.height ≡ height → Detaches n v v child height alone
+  detaches_none child is root tall base up leaf ps e high h = (regroup n (below None leaf ∷ ps) h (λ q. refl) (tt, h.are.1), record { root_is = root ∙ e; height_is = tall ∙ high })
+  detaches_none child is root tall base up (fork c a p b) ps e high h = absurd (none_not p (sym is ∙ e))
 
   -- the side that a table tells is the frame's
   side_there : (v : Table E) (fs : List Frame) (i : Side) (p : Place) → IsAround n v.entry fs (Some p) → times_around p fs ≡ 0
@@ -75,7 +93,7 @@ module _ {E : Type 0} (n : E → Node) where
       absurd (omega (arith, none, times_top p b m))
 
   -- AT THE MEMBER above the hole
-  module _ {v : Table E} {root left right : Option Place} {k : CutUp E} (x : IsCutUp n v root left right k)
+  module _ {v : Table E} {root : Option Place} {left right : Measured} {k : CutUp E} (x : IsCutUp n v root left right k)
       (d : Side) (c : Color) (p : Place) (b : Tree) (fs : List Frame) (is : k.frames ≡ frame d c p b ∷ fs) where
     here : IsCutUp n v root left right (record k { frames = frame d c p b ∷ fs })
     here = subst (λ (gs : List Frame). IsCutUp n v root left right (record k { frames = gs })) is x
@@ -96,10 +114,20 @@ module _ {E : Type 0} (n : E → Node) where
     opened = regroup n (below (Some p) b ∷ others) here.held (λ q. omega arith)
         (here.held.are.0.0.1, (lowest_node, ((here.held.are.0.0.2, here.held.are.0.1), here.held.are.1)))
 
+    -- no way down is long
+    pub count_low : k.count < turns
+    count_low = omega (arith, blacks_low n b opened here.even.1, here.even.0)
+
+    pub lowest_weighs : {w : ℕ} → w ≡ weight (n (v.entry p)).color → w ≡ weight c
+    lowest_weighs e = e ∙ ap weight (side_tint n v.entry d p c k.named (top b) (above fs) here.held.are.0.0.0)
+
     -- with its other subtree detached,
-    module _ {w : Table E} {rest : Option Place} (re : rest ≡ top b) (off : Detaches n v w rest) where
+    module _ {w : Table E} {rest : Option Place} {height : ℕ} {alone : Measured} (re : rest ≡ top b) (level : height ≡ k.count) (off : Detaches n v w rest height alone) where
+      apart_is : Held n k.base w (below None (blackened b) ∷ others) × IsMeasured alone (blackened b)
+      apart_is = off k.base (Some p) b others re (level ∙ sym here.even.0) opened
+
       apart : Held n k.base w (below None (blackened b) ∷ others)
-      apart = off k.base (Some p) b others re opened
+      apart = apart_is.0
 
       -- both can be joined to a part,
       abbrev pub back_pair : Pair E
@@ -111,37 +139,45 @@ module _ {E : Type 0} (n : E → Node) where
       shaped : IsRight (blackened b)
       shaped = right_blackened b here.pairs.2 here.even.1
 
-      pub are_back_pair : ArePair n w right p rest back_pair
+      pub are_back_pair : AreMeasured n w right p alone back_pair
       are_back_pair = record {
-        held = regroup n (loose p ∷ below None k.back ∷ below None (blackened b) ∷ around root fs (Some p) ∷ below None k.front ∷ k.pieces) apart (λ q. omega arith)
-            (apart.are.1.0, (apart.are.1.1.1.1.0, (apart.are.0, (apart.are.1.1.0, (apart.are.1.1.1.0, apart.are.1.1.1.1.1)))));
-        one_is = x.right_is;
-        two_is = re ∙ sym (top_blackened b);
-        one_right = x.back_right;
-        two_right = shaped;
+        pair = record {
+          held = regroup n (loose p ∷ below None k.back ∷ below None (blackened b) ∷ around root fs (Some p) ∷ below None k.front ∷ k.pieces) apart (λ q. omega arith)
+              (apart.are.1.0, (apart.are.1.1.1.1.0, (apart.are.0, (apart.are.1.1.0, (apart.are.1.1.1.0, apart.are.1.1.1.1.1)))));
+          one_is = x.right_is.root_is;
+          two_is = apart_is.1.root_is;
+          one_right = x.back_right;
+          two_right = shaped;
+        };
+        one_height = x.right_is.height_is;
+        two_height = apart_is.1.height_is;
       }
 
-      pub are_front_pair : ArePair n w rest p left front_pair
+      pub are_front_pair : AreMeasured n w alone p left front_pair
       are_front_pair = record {
-        held = regroup n (loose p ∷ below None (blackened b) ∷ below None k.front ∷ around root fs (Some p) ∷ below None k.back ∷ k.pieces) apart (λ q. omega arith)
-            (apart.are.1.0, (apart.are.0, (apart.are.1.1.1.0, (apart.are.1.1.0, (apart.are.1.1.1.1.0, apart.are.1.1.1.1.1)))));
-        one_is = re ∙ sym (top_blackened b);
-        two_is = x.left_is;
-        one_right = shaped;
-        two_right = x.front_right;
+        pair = record {
+          held = regroup n (loose p ∷ below None (blackened b) ∷ below None k.front ∷ around root fs (Some p) ∷ below None k.back ∷ k.pieces) apart (λ q. omega arith)
+              (apart.are.1.0, (apart.are.0, (apart.are.1.1.1.0, (apart.are.1.1.0, (apart.are.1.1.1.1.0, apart.are.1.1.1.1.1)))));
+          one_is = apart_is.1.root_is;
+          two_is = x.left_is.root_is;
+          one_right = shaped;
+          two_right = x.front_right;
+        };
+        one_height = apart_is.1.height_is;
+        two_height = x.left_is.height_is;
       }
 
       -- AND ARE
-      pub cut_back : {u : Table E} {new : Option Place} → d ≡ Left → Shown n k.base u new (in_order k.back ++ p ∷ in_order (blackened b)) back_pair.pieces
+      pub cut_back : {u : Table E} {new : Measured} → d ≡ Left → IsJoined n k.base u new (in_order k.back ++ p ∷ in_order (blackened b)) back_pair.pieces
           → (front back : Tree) × IsCutUp n u root left new (record k { frames = fs; named = Some p; count = weight c + k.count; front = front; back = back })
-      cut_back {u} {new} left_side h = (
+      cut_back {u} {new} left_side (h, tall) = (
         k.front,
         h.tree,
         record {
           held = regroup n (around root fs (Some p) ∷ below None k.front ∷ below None h.tree ∷ k.pieces) h.stands (λ q. omega arith)
               (h.stands.are.1.1.0, (h.stands.are.1.1.1.0, (h.stands.are.1.0, h.stands.are.1.1.1.1)));
           left_is = x.left_is;
-          right_is = h.stands.are.0.1;
+          right_is = record { root_is = h.stands.are.0.1; height_is = tall };
           front_right = x.front_right;
           back_right = h.shape;
           pairs = here.pairs.3;
@@ -154,15 +190,15 @@ module _ {E : Type 0} (n : E → Node) where
         },
       )
 
-      pub cut_front : {u : Table E} {new : Option Place} → d ≡ Right → Shown n k.base u new (in_order (blackened b) ++ p ∷ in_order k.front) front_pair.pieces
+      pub cut_front : {u : Table E} {new : Measured} → d ≡ Right → IsJoined n k.base u new (in_order (blackened b) ++ p ∷ in_order k.front) front_pair.pieces
           → (front back : Tree) × IsCutUp n u root new right (record k { frames = fs; named = Some p; count = weight c + k.count; front = front; back = back })
-      cut_front {u} {new} right_side h = (
+      cut_front {u} {new} right_side (h, tall) = (
         h.tree,
         k.back,
         record {
           held = regroup n (around root fs (Some p) ∷ below None h.tree ∷ below None k.back ∷ k.pieces) h.stands (λ q. omega arith)
               (h.stands.are.1.1.0, (h.stands.are.1.0, (h.stands.are.1.1.1.0, h.stands.are.1.1.1.1)));
-          left_is = h.stands.are.0.1;
+          left_is = record { root_is = h.stands.are.0.1; height_is = tall };
           right_is = x.right_is;
           front_right = h.shape;
           back_right = x.back_right;
@@ -189,7 +225,7 @@ module _ {E : Type 0} (n : E → Node) where
 
   -- FROM A HOLE of a tree
   pub begins : {base v : Table E} {root : Option Place} {d : Side} {gap : Cut} {ps : List Piece} (parent : Option Place) → Shown n base v root (join gap) ps → IsHole n v parent d gap
-      → IsCutting n base v root parent d None None gap ps turns
+      → IsCutting n base v root parent d 0 nothing nothing gap ps turns
   begins {base} {v} {root} {d} {gap} {ps} None h at =
       let none : h.tree ≡ leaf = leaf_is h.tree (h.order ∙ (ap (λ (s : List Place). s ++ gap.back) at.0 ∙ at.1)) in
       let st = subst (λ (t : Tree). Stands n base v root [] t ps) none h.stands in (
@@ -201,8 +237,8 @@ module _ {E : Type 0} (n : E → Node) where
         record {
           cut = record {
             held = regroup n (around root [] None ∷ below None leaf ∷ below None leaf ∷ ps) st (λ q. omega arith) (st.are.0, (tt, (tt, st.are.1.1)));
-            left_is = refl;
-            right_is = refl;
+            left_is = nothing_is;
+            right_is = nothing_is;
             front_right = right_leaf;
             back_right = right_leaf;
             pairs = tt;
@@ -212,6 +248,7 @@ module _ {E : Type 0} (n : E → Node) where
           };
           parent_is = refl;
           side_is = tt;
+          height_is = refl;
         },
         omega arith,
       )
@@ -227,8 +264,8 @@ module _ {E : Type 0} (n : E → Node) where
         record {
           cut = record {
             held = regroup n (around root fs None ∷ below None leaf ∷ below None leaf ∷ ps) x.stands (λ q. omega arith) (x.stands.are.0, (tt, (tt, x.stands.are.1.1)));
-            left_is = refl;
-            right_is = refl;
+            left_is = nothing_is;
+            right_is = nothing_is;
             front_right = right_leaf;
             back_right = right_leaf;
             pairs = o.2;
@@ -238,21 +275,22 @@ module _ {E : Type 0} (n : E → Node) where
           };
           parent_is = refl;
           side_is = refl;
+          height_is = refl;
         },
         frames_low n x.stands x.right,
       )
 
   -- to the two parts of a tree
-  pub ends : {v : Table E} {root parent left right : Option Place} {d : Side} {k : CutUp E} → parent ≡ None → IsCutBelow n v root parent d left right k
-      → AreCutApart n k.base v left right k.gap k.pieces
-  ends {v} {root} {parent} {left} {right} {d} {k} is x = at k.frames x where
-    at : (fs : List Frame) → IsCutBelow n v root parent d left right (record k { frames = fs }) → AreCutApart n k.base v left right k.gap k.pieces
+  pub ends : {v : Table E} {root parent : Option Place} {d : Side} {height : ℕ} {left right : Measured} {k : CutUp E} → parent ≡ None → IsCutBelow n v root parent d height left right k
+      → AreCutApart n k.base v left.root right.root k.gap k.pieces
+  ends {v} {root} {parent} {d} {height} {left} {right} {k} is x = at k.frames x where
+    at : (fs : List Frame) → IsCutBelow n v root parent d height left right (record k { frames = fs }) → AreCutApart n k.base v left.root right.root k.gap k.pieces
     at [] x = record {
       front = k.front;
       back = k.back;
       held = regroup n (below None k.front ∷ below None k.back ∷ k.pieces) x.cut.held (λ q. omega arith) x.cut.held.are.1;
-      left_is = x.cut.left_is;
-      right_is = x.cut.right_is;
+      left_is = x.cut.left_is.root_is;
+      right_is = x.cut.right_is.root_is;
       front_right = x.cut.front_right;
       back_right = x.cut.back_right;
       front_is = x.cut.front_is;

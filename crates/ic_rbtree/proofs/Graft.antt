@@ -1,5 +1,5 @@
 -- A place comes into a tree with another tree below it, write by write.
-use Rattle.std.proofs.Common.{◌≡◌, ◌+◌, Bool, true, Option, Some, None, List, [], ◌∷◌, ◌++◌, refl, sym, ◌∙◌, subst, arith}
+use Rattle.std.proofs.Common.{◌≡◌, ◌+◌, Bool, true, Option, Some, None, List, [], ◌∷◌, ◌++◌, refl, sym, ap, ◌∙◌, subst, arith}
 use Rattle.ic_unsafe_ref.specs.declared.place.Place.{Place}
 use Rattle.ic_link_ops.specs.declared.color.Color.{Color}
 use Rattle.ic_link_ops.specs.declared.color.Color.TheVariants.{Red, Black}
@@ -23,7 +23,7 @@ use Rattle.ic_rbtree.proofs.Branches.{top_branch, side_loose}
 use Rattle.ic_rbtree.proofs.Closed.{read_in}
 use Rattle.ic_rbtree.proofs.Pieces.{regroup, set_near, set_far, set_up, set_tint}
 use Rattle.ic_rbtree.proofs.Removing.{order_around}
-use Rattle.ic_rbtree.proofs.InsertionShapes.{top_color_branch, blacks_branch, even_branch, pairs_branch, red_not_black}
+use Rattle.ic_rbtree.proofs.InsertionShapes.{top_color_branch, blacks_branch, even_branch, pairs_branch, red_not_black, through, blacks_plug}
 use Rattle.ic_rbtree.proofs.RemovalShapes.{shape_open}
 use Rattle.ic_rbtree.proofs.ShownClosed.{among, among_there, stands_closed}
 use Rattle.ic_rbtree.proofs.Rotations.{below_linked, around_linked, close_below, changes_child_side}
@@ -55,6 +55,14 @@ module _ {E : Type 0} (n : E → Node) where
     graft_stands =
         regroup n (around root k.frames (top k.near) ∷ below (above k.frames) k.near ∷ loose p ∷ below None k.far ∷ k.pieces) x.held (λ q. omega arith)
         (x.held.are.1.0, (x.held.are.1.1.0, (x.held.are.0, x.held.are.1.1.1)))
+
+    -- the place is red: a way down has as many black members as before
+    pub graft_blacks : blacks (plug k.frames (branch d Red k.far p k.near)) ≡ blacks (plug k.frames k.near)
+    graft_blacks =
+        let t : Tree = branch d Red k.far p k.near in
+        let same : blacks k.near ≡ blacks t = omega (arith, blacks_branch d Red k.far p k.near (sym x.same), x.same) in
+        let even : EvenAround k.frames (blacks k.near) = (shape_open k.frames k.near x.right).3 in
+        blacks_plug k.frames t (subst (λ m. EvenAround k.frames m) same even) ∙ ap (through k.frames) (sym same) ∙ sym (blacks_plug k.frames k.near even)
 
     loose_cell : (d : Side) {ps : List Piece} {base : Table E} → Held n base v (loose p ∷ ps)
         → Held n base v (cell d p (n (v.entry p)).color (child_on d (n (v.entry p))) (child_on (across d) (n (v.entry p))) (n (v.entry p)).parent ∷ ps)
@@ -89,22 +97,26 @@ module _ {E : Type 0} (n : E → Node) where
           close_below n up (top k.far) (top k.near) d c k.far p k.near (R ∷ k.pieces) refl refl h6
 
       -- at the root
-      pub graft_top : c ≡ Black → parent ≡ None → Shown n k.base v6 (Some p) (in_order (plug k.frames (branch d Red k.far p k.near))) k.pieces
+      pub graft_top : c ≡ Black → parent ≡ None
+          → (h : Shown n k.base v6 (Some p) (in_order (plug k.frames (branch d Red k.far p k.near))) k.pieces) × (blacks h.tree ≡ blacks (plug k.frames k.near) + 1)
       graft_top black none = by k.frames (sym x.parent_is ∙ none) x.right (subst (λ z. Held n k.base v6 (below (above k.frames) (branch d z k.far p k.near) ∷ around root k.frames (top k.near) ∷ k.pieces)) black graft_written) where
         by : (fs : List Frame) → above fs ≡ None → IsRight (plug fs k.near) → Held n k.base v6 (below (above fs) (branch d Black k.far p k.near) ∷ around root fs (top k.near) ∷ k.pieces)
-            → Shown n k.base v6 (Some p) (in_order (plug fs (branch d Red k.far p k.near))) k.pieces
+            → (h : Shown n k.base v6 (Some p) (in_order (plug fs (branch d Red k.far p k.near))) k.pieces) × (blacks h.tree ≡ blacks (plug fs k.near) + 1)
         by (frame i y q b ∷ fs) e r h = absurd (none_not q (sym e))
-        by [] e r h = record {
-          tree = branch d Black k.far p k.near;
-          stands = regroup n (around (Some p) [] (top (branch d Black k.far p k.near)) ∷ below None (branch d Black k.far p k.near) ∷ k.pieces) h (λ q. omega arith)
-              ((tt, sym (top_branch d Black k.far p k.near)), (h.are.0, h.are.1.1));
-          order = order_painted d Black k.far p k.near;
-          shape = record {
-            black_root = top_color_branch d Black k.far p k.near;
-            no_red_pair = pairs_branch d Black k.far p k.near red_not_black red_not_black x.far_right.no_red_pair r.no_red_pair;
-            even = even_branch d Black k.far p k.near (sym x.same) x.far_right.even r.even;
-          };
-        }
+        by [] e r h = (
+          record {
+            tree = branch d Black k.far p k.near;
+            stands = regroup n (around (Some p) [] (top (branch d Black k.far p k.near)) ∷ below None (branch d Black k.far p k.near) ∷ k.pieces) h (λ q. omega arith)
+                ((tt, sym (top_branch d Black k.far p k.near)), (h.are.0, h.are.1.1));
+            order = order_painted d Black k.far p k.near;
+            shape = record {
+              black_root = top_color_branch d Black k.far p k.near;
+              no_red_pair = pairs_branch d Black k.far p k.near red_not_black red_not_black x.far_right.no_red_pair r.no_red_pair;
+              even = even_branch d Black k.far p k.near (sym x.same) x.far_right.even r.even;
+            };
+          },
+          omega (arith, blacks_branch d Black k.far p k.near (sym x.same), x.same),
+        )
 
       -- below a parent
       pub graft_red : {v7 : Table E} (q : Place) → c ≡ Red → parent ≡ Some q → n (v7.entry q) ≡ with_child d (n (v6.entry q)) (Some p) → ChangesOnly v6 v7 q

@@ -165,3 +165,13 @@ exponent_small v m small h = elim (cases_lt 66 v) [
       absurd (omega (arith, big, h, square, is))
   | inr few ↦ few
 ]
+
+-- and what is at most 2 ^ 33 too
+pub exponent_smaller : (v m : ℕ) → m ≤ 8589934592 → 2 ^ v ≤ m → v ≤ 66
+exponent_smaller v m small h = elim (cases_lt 66 v) [
+  | inl more ↦
+      let big : 2 ^ 66 < 2 ^ v = pow_below 66 v more in
+      let is : 2 ^ 66 ≡ 73786976294838206464 = refl in
+      absurd (omega (arith, big, h, small, is))
+  | inr few ↦ few
+]

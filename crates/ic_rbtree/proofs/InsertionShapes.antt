@@ -124,3 +124,51 @@ inner_rotated fs d q b f ta x tb n =
       pairs_around = (λ r. (tp.0 refl).1, pa.1, tp.2, pa.3);
       even_around = (omega (arith, all, new, same, te.0), te.2, subst (λ (k : ℕ). EvenAround (f ∷ fs) k) e ea.2);
     }
+
+-- how many black members a way down has through a subtree of so many
+abbrev pub through : List Frame → ℕ → ℕ
+through [] m = m
+through (frame d c p b ∷ fs) m = through fs (weight c + m)
+
+pub blacks_plug : (fs : List Frame) (t : Tree) → EvenAround fs (blacks t) → blacks (plug fs t) ≡ through fs (blacks t)
+blacks_plug [] t e = refl
+blacks_plug (frame d c p b ∷ fs) t e =
+    let same : blacks (branch d c t p b) ≡ weight c + blacks t = blacks_branch d c t p b (sym e.0) in
+    blacks_plug fs (branch d c t p b) (subst (λ (k : ℕ). EvenAround fs k) (sym same) e.2) ∙ ap (through fs) same
+
+-- a black root counts
+through_wanted : (fs : List Frame) (m : ℕ) → through fs (weight (wanted fs) + m) ≡ through fs m + weight (wanted fs)
+through_wanted [] m = omega arith
+through_wanted (f ∷ fs) m = let same : 0 + m ≡ m = omega arith in omega (arith, ap (through (f ∷ fs)) same)
+
+module _ (fs : List Frame) (d : Side) (q : Place) (b : Tree) (k : Side) (c : Color) (g : Place) where
+  -- around a red pair, by the uncle
+  pub pair_blacks : (u t : Tree) → IsNearlyRight (frame d Red q b ∷ frame k c g u ∷ fs) t → blacks (plug (frame d Red q b ∷ frame k c g u ∷ fs) t) ≡ through fs (1 + blacks u)
+  pair_blacks u t n =
+      let heavy : weight c ≡ 1 = ap weight (not_red c n.pairs_around.1) in
+      let same : weight c + (0 + blacks t) ≡ 1 + blacks u = omega (arith, heavy, n.even_around.2.0) in
+      blacks_plug (frame d Red q b ∷ frame k c g u ∷ fs) t n.even_around ∙ ap (through fs) same
+
+  -- as many where it is recolored, and one more at the root
+  pub recolored_blacks : (ua : Tree) (u : Place) (ub t : Tree) → IsNearlyRight (frame d Red q b ∷ frame k c g (fork Red ua u ub) ∷ fs) t →
+      blacks (plug fs (branch k (wanted fs) (branch d Black t q b) g (fork Black ua u ub))) ≡ through fs (1 + blacks (fork Red ua u ub)) + weight (wanted fs)
+  recolored_blacks ua u ub t n =
+      let low : Tree = branch d Black t q b in
+      let high : Tree = branch k (wanted fs) low g (fork Black ua u ub) in
+      let low_blacks : blacks low ≡ 1 + blacks t = blacks_branch d Black t q b (sym n.even_around.0) in
+      let same : blacks low ≡ blacks (fork Black ua u ub) = omega (arith, low_blacks, n.even_around.2.0) in
+      let all : blacks high ≡ weight (wanted fs) + (1 + blacks (fork Red ua u ub)) =
+      omega (arith, blacks_branch k (wanted fs) low g (fork Black ua u ub) same, low_blacks, n.even_around.2.0) in
+      blacks_plug fs high (recolored fs d q b k c g ua u ub t n).even_around ∙ ap (through fs) all ∙ through_wanted fs (1 + blacks (fork Red ua u ub))
+
+-- and where it is rotated
+pub restored_blacks : (fs : List Frame) (d : Side) (q : Place) (b : Tree) (c : Color) (g : Place) (u t : Tree) →
+    IsNearlyRight (frame d Red q b ∷ frame d c g u ∷ fs) t → EvenAround fs (blacks (branch d Black t q (branch d Red b g u))) →
+    blacks (plug fs (branch d Black t q (branch d Red b g u))) ≡ through fs (1 + blacks u)
+restored_blacks fs d q b c g u t n even =
+    let ea = n.even_around in
+    let low : Tree = branch d Red b g u in
+    let low_blacks : blacks low ≡ 0 + blacks b = blacks_branch d Red b g u (omega (arith, ea.0, ea.2.0)) in
+    let all : blacks (branch d Black t q low) ≡ 1 + blacks t = blacks_branch d Black t q low (omega (arith, low_blacks, ea.0)) in
+    let same : blacks (branch d Black t q low) ≡ 1 + blacks u = omega (arith, all, ea.2.0) in
+    blacks_plug fs (branch d Black t q low) even ∙ ap (through fs) same

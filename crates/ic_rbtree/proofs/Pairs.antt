@@ -1,5 +1,6 @@
 -- Two trees and a place between them.
-use Rattle.std.proofs.Common.{◌≡◌, Bool, ℕ, ◌+◌, ◌≤◌, ◌<◌, Option, Some, None, List, [], ◌∷◌, ◌++◌, refl, sym, ap, ◌∙◌, subst, arith, append-nil, append_assoc, drop}
+use Rattle.std.specs.Int.{from_bool}
+use Rattle.std.proofs.Common.{◌≡◌, Bool, true, false, cond, ◌+◌, ◌≤◌, ◌<◌, Option, Some, None, List, [], ◌∷◌, ◌++◌, refl, sym, ap, ◌∙◌, subst, arith, append-nil, append_assoc, drop}
 use Rattle.ic_unsafe_ref.specs.declared.place.Place.{Place}
 use Rattle.ic_link_ops.specs.declared.color.Color.TheVariants.{Red, Black}
 use Rattle.ic_link_ops.specs.declared.side.Side.{Side}
@@ -14,14 +15,15 @@ use Rattle.ic_link_ops.specs.RedBlackTree.{Node, Shows}
 use Rattle.ic_link_ops.specs.Frames.{Frame, branch, plug, above, before, after}
 use Rattle.ic_link_ops.proofs.Frames.{in_order_parts}
 use Rattle.ic_rbtree.specs.Height.{height, turns}
-use Rattle.ic_rbtree.specs.Join.{IsGraft, IsRootOf, IsSpine, Pair, ArePair, AreHigh, CanJoin, ShowsParts, Appends}
-use Rattle.ic_rbtree.specs.Pieces.{loose, below, around, Stands, Shown}
+use Rattle.ic_rbtree.specs.declared.join.roots.Measured.{Measured}
+use Rattle.ic_rbtree.specs.Join.{IsGraft, IsRootOf, IsSpine, Pair, ArePair, AreMeasured, AreHigh, CanJoin, ShowsParts, Appends}
+use Rattle.ic_rbtree.specs.Pieces.{Piece, loose, below, around, Stands, Shown}
 use Rattle.ic_rbtree.specs.Sides.{beyond, IsBeside}
 use Rattle.ic_link_ops.specs.Sequences.{Cut, join, insert, at_front}
 use Rattle.ic_link_ops.proofs.SequenceLemmas.{first_is, nothing_first, absent_both, distinct_insert}
 use Rattle.ic_link_ops.proofs.ShownTrees.{free_absent, shows_beside}
 use Rattle.ic_link_ops.proofs.Trees.{leaf_is}
-use Rattle.ic_rbtree.proofs.Low.{shown_low}
+use Rattle.ic_rbtree.proofs.Low.{shown_low, blacks_low}
 use Rattle.ic_rbtree.proofs.Pieces.{regroup}
 
 -- the sequence of the taller tree, and then the place and the other
@@ -37,6 +39,15 @@ order_joined Left gs u one two p nothing same =
     ∙ ap (λ (s : List Place). s ++ ((in_order two ++ p ∷ in_order u) ++ after gs)) nothing
     ∙ append_assoc (in_order two) (p ∷ in_order u) (after gs)
     ∙ ap (λ (s : List Place). in_order two ++ p ∷ s) (ap (λ (s : List Place). s ++ (in_order u ++ after gs)) (sym nothing) ∙ sym (in_order_parts gs u) ∙ ap in_order same)
+
+-- a number of a bool
+pub one_more : (b : Bool) → from_bool b ≡ cond b 1 0
+one_more true = refl
+one_more false = refl
+
+pub one_at_most : (b : Bool) → cond b 1 0 ≤ 1
+one_at_most true = omega arith
+one_at_most false = omega arith
 
 -- the same pair, the other one first
 abbrev pub swapped : {E : Type 0} → Pair E → Pair E
@@ -64,22 +75,37 @@ module _ {E : Type 0} (n : E → Node) {v : Table E} {one : Option Place} {p : P
     pub pair_low : height k.one < turns
     pair_low = shown_low n pair_stands x.one_right
 
+module _ {E : Type 0} (n : E → Node) {v : Table E} {one : Measured} {p : Place} {two : Measured} {k : Pair E} where
+  pub measured_swapped : AreMeasured n v one p two k → AreMeasured n v two p one (swapped k)
+  measured_swapped x = record { pair = pair_swapped n x.pair; one_height = x.two_height; two_height = x.one_height }
+
+  -- a height has room for one more
+  pub height_low : AreMeasured n v one p two k → one.height < turns
+  height_low x =
+      let h = regroup n (below None k.one ∷ loose p ∷ below None k.two ∷ k.pieces) x.pair.held (λ q. omega arith) (x.pair.held.are.1.0, (x.pair.held.are.0, x.pair.held.are.1.1)) in
+      omega (arith, blacks_low n k.one h x.pair.one_right.even, x.one_height)
+
   -- where the other tree comes in
-  pub pair_graft : {root near parent : Option Place} {d : Side} {high low : ℕ} (x : AreHigh n v one p two high low k) (gs : List Frame) (u : Tree) → root ≡ one
-      → IsSpine n k.base v one d k.one (loose p ∷ below None k.two ∷ k.pieces) near parent low gs u → top_color u ≡ Black
-      → IsGraft n v root parent d near p two (record { base = k.base; frames = gs; near = u; far = k.two; pieces = k.pieces })
+  pub pair_graft : {root near parent : Option Place} {d : Side} (x : AreHigh n v one p two k) (gs : List Frame) (u : Tree) → root ≡ one.root
+      → IsSpine n k.base v one.root d k.one (loose p ∷ below None k.two ∷ k.pieces) near parent two.height gs u → top_color u ≡ Black
+      → IsGraft n v root parent d near p two.root (record { base = k.base; frames = gs; near = u; far = k.two; pieces = k.pieces })
   pair_graft {root} x gs u is s black = record {
     held = regroup n (loose p ∷ around root gs (top u) ∷ below (above gs) u ∷ below None k.two ∷ k.pieces) s.stands (λ q. omega arith)
         (s.stands.are.1.1.0, ((s.stands.are.0.0, is ∙ s.stands.are.0.1), (s.stands.are.1.0, s.stands.are.1.1.1)));
     parent_is = s.parent_is;
     near_is = s.near_is;
-    far_is = x.pair.two_is;
+    far_is = x.measured.pair.two_is;
     side_is = s.side_is;
-    same = s.blacks_are ∙ x.low_is;
+    same = s.blacks_are ∙ x.measured.two_height;
     black = black;
-    right = subst IsRight (sym s.same) x.pair.one_right;
-    far_right = x.pair.two_right;
+    right = subst IsRight (sym s.same) x.measured.pair.one_right;
+    far_right = x.measured.pair.two_right;
   }
+
+module _ {E : Type 0} (n : E → Node) where
+  -- the same tree, by another name for its root and its sequence
+  abbrev pub shown_as : {base w : Table E} {root new_root : Option Place} {s t : List Place} {ps : List Piece} → new_root ≡ root → s ≡ t → Shown n base w root s ps → Shown n base w new_root t ps
+  shown_as {base} {w} {ps = ps} e f h = record { tree = h.tree; stands = subst (λ (o : Option Place). Stands n base w o [] h.tree ps) (sym e) h.stands; order = h.order ∙ f; shape = h.shape }
 
 module _ {E : Type 0} (n : E → Node) {v : Table E} {left : Option Place} {p : Place} {right : Option Place} {gap : Cut} where
   -- FROM THE SEQUENCES into the pieces,

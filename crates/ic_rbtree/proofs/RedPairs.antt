@@ -1,5 +1,5 @@
 -- A red pair: recolored, or rotated above the grandparent.
-use Rattle.std.proofs.Common.{◌≡◌, ◌+◌, Bool, true, false, Option, Some, None, List, [], ◌∷◌, length, refl, sym, ap, ◌∙◌, subst, arith}
+use Rattle.std.proofs.Common.{◌≡◌, ℕ, ◌+◌, ◌<◌, Bool, true, false, cond, not, is_some, Option, Some, None, List, [], ◌∷◌, length, refl, sym, ap, ◌∙◌, subst, arith}
 use Rattle.std.specs.Option.{IsSome}
 use Rattle.ic_unsafe_ref.specs.declared.place.Place.{Place}
 use Rattle.ic_link_ops.specs.declared.color.Color.{Color}
@@ -8,21 +8,22 @@ use Rattle.ic_link_ops.specs.declared.side.Side.{Side}
 use Rattle.ic_link_ops.specs.declared.side.Side.TheVariants.{Left, Right}
 use Rattle.ic_link_ops.specs.Tables.{Table, ChangesOnly}
 use Rattle.ic_link_ops.specs.Trees.{Tree, leaf, fork, top, in_order}
-use Rattle.ic_link_ops.specs.Shape.{top_color}
+use Rattle.ic_link_ops.specs.Shape.{top_color, weight, blacks, IsRight}
 use Rattle.ic_link_ops.specs.RedBlackTree.{Node, IsTree}
 use Rattle.ic_link_ops.specs.Frames.{Frame, frame, branch, plug, above, across, child_on}
 use Rattle.ic_link_ops.proofs.SequenceLemmas.{none_not, some_same}
 use Rattle.ic_link_ops.proofs.Trees.{top_parent}
 use Rattle.ic_rbtree.specs.Pieces.{Stands}
-use Rattle.ic_rbtree.specs.Focus.{Focus, IsRestored}
+use Rattle.ic_rbtree.specs.Focus.{Focus}
 use Rattle.ic_rbtree.specs.Steps.{Rotates, IsSideOf}
 use Rattle.ic_rbtree.specs.Shortage.{wanted, color_above, IsNearlyRight}
 use Rattle.ic_rbtree.specs.Removal.{is_red, red_at}
-use Rattle.ic_rbtree.specs.Insertion.{color_below, are_across, RedPair, above_pair, blackened, RedAt, IsFixedOrHigher, PairAt, Recolors, HasOuterGrandchild}
+use Rattle.ic_rbtree.specs.Insertion.{color_below, are_across, RedPair, above_pair, blackened, RedAt, IsRestoredWith, IsFixedOrHigher, PairAt, Recolors, HasOuterGrandchild}
 use Rattle.ic_rbtree.proofs.Branches.{branch_across, top_branch, as_branch, order_plug, order_branch, order_rotated, side_far, side_tint, side_up}
 use Rattle.ic_rbtree.proofs.Rotations.{turn}
 use Rattle.ic_rbtree.proofs.Zipper.{go_up, go_down, go_across, go_top, painted_top, painted_above}
-use Rattle.ic_rbtree.proofs.InsertionShapes.{recolored, restored, inner_rotated, right_plug}
+use Rattle.ic_rbtree.proofs.InsertionShapes.{recolored, restored, inner_rotated, right_plug, through, pair_blacks, recolored_blacks, restored_blacks}
+use Rattle.ic_rbtree.proofs.RemovalShapes.{shape_open}
 use Rattle.ic_rbtree.proofs.ParentClimbs.{side_found}
 use Rattle.ic_rbtree.proofs.RedSiblings.{black_is, some_is, red_tells}
 
@@ -42,6 +43,24 @@ wanted_is : (fs : List Frame) → color_below (above fs) ≡ wanted fs
 wanted_is [] = refl
 wanted_is (frame d c p b ∷ fs) = refl
 
+-- a step comes from below a parent
+pub red_below : (fs : List Frame) {m : ℕ} → m < length fs → weight (wanted fs) ≡ 0
+red_below [] few = absurd (omega (arith, few))
+red_below (f ∷ fs) few = refl
+
+pub red_there : (fs : List Frame) (q : Place) → above fs ≡ Some q → weight (wanted fs) ≡ 0
+red_there [] q e = absurd (none_not q e)
+red_there (f ∷ fs) q e = refl
+
+-- at the root the tree has grown
+pub grown_is : (fs : List Frame) (o : Option Place) (r : Bool) → o ≡ above fs → is_some o ≡ not r → cond r 1 0 ≡ weight (wanted fs)
+grown_is [] None true e is = refl
+grown_is [] None false e is = cc
+grown_is [] (Some p) r e is = absurd (none_not p (sym e))
+grown_is (frame d c p b ∷ fs) None r e is = absurd (none_not p e)
+grown_is (frame d c p b ∷ fs) (Some q) true e is = cc
+grown_is (frame d c p b ∷ fs) (Some q) false e is = refl
+
 module _ {E : Type 0} (n : E → Node) where
   -- the red parent has a parent
   pub record Pair (v : Table E) (root : Option Place) (x : Place) (k : Focus E) (q : Place) : Type 0 where
@@ -50,19 +69,29 @@ module _ {E : Type 0} (n : E → Node) where
     pub around : RedPair
     pub fs : List Frame
     pub at : PairAt n v root x q g side around (record k { frames = fs })
-    pub fewer : length k.frames ≡ length fs + 2
+    pub frames_are : k.frames ≡ above_pair q g side around fs
 
   module _ {v : Table E} {root : Option Place} {x : Place} {k : Focus E} (h : RedAt n v root x k) (o : Option Place) where
     pub red_parent : o ≡ (n (v.entry x)).parent → o ≡ above k.frames
     red_parent eo = eo ∙ top_parent n v.entry (above k.frames) k.subtree x h.stands.are.1.0 h.top_is
 
-    done_at : (color_above k.frames ≡ Red → top_color k.subtree ≡ Black) → IsRestored n v root k
-    done_at fits = record {
-      tree = plug k.frames k.subtree;
-      stands = go_top n h.stands;
-      order = h.order;
-      shape = right_plug k.frames k.subtree h.nearly.pairs h.nearly.even h.nearly.pairs_around h.nearly.even_around fits;
-    }
+    done_at : (color_above k.frames ≡ Red → top_color k.subtree ≡ Black) → IsRestoredWith n v root k (blacks (plug k.frames k.subtree))
+    done_at fits = (
+      record {
+        tree = plug k.frames k.subtree;
+        stands = go_top n h.stands;
+        order = h.order;
+        shape = right_plug k.frames k.subtree h.nearly.pairs h.nearly.even h.nearly.pairs_around h.nearly.even_around fits;
+      },
+      refl,
+    )
+
+    -- at the root
+    pub done_top : o ≡ above k.frames → o ≡ None → IsRestoredWith n v root k (blacks (plug k.frames k.subtree))
+    done_top up none = done_at (λ red. at k.frames (sym up ∙ none) h.nearly.painted) where
+      at : (fs : List Frame) → above fs ≡ None → top_color k.subtree ≡ wanted fs → top_color k.subtree ≡ Black
+      at [] e is = is
+      at (frame d c p b ∷ fs) e is = absurd (none_not p (sym e))
 
     module _ (up : o ≡ above k.frames) (q : Place) (is : o ≡ Some q) (r : Bool) (er : r ≡ red_at n v (Some q)) where
       above_is : above k.frames ≡ Some q
@@ -74,7 +103,7 @@ module _ {E : Type 0} (n : E → Node) where
           ap is_red (sym (subst (λ (z : Place). (n (v.entry z)).color ≡ c) same (side_tint n v.entry d p c (top k.subtree) (top b) (above fs) h.stands.are.0.0.0))) ∙ sym er
 
       -- below a black member
-      pub done_black : r ≡ false → IsRestored n v root k
+      pub done_black : r ≡ false → IsRestoredWith n v root k (blacks (plug k.frames k.subtree))
       done_black e = done_at (at k.frames h above_is) where
         at : (fs : List Frame) → RedAt n v root x (record k { frames = fs }) → above fs ≡ Some q → color_above fs ≡ Red → top_color k.subtree ≡ Black
         at [] h up red = absurd (none_not q up)
@@ -82,7 +111,7 @@ module _ {E : Type 0} (n : E → Node) where
 
       pub pair_at : r ≡ true → Pair v root x k q
       pair_at e = at k.frames h above_is refl where
-        at : (fs : List Frame) → RedAt n v root x (record k { frames = fs }) → above fs ≡ Some q → length k.frames ≡ length fs → Pair v root x k q
+        at : (fs : List Frame) → RedAt n v root x (record k { frames = fs }) → above fs ≡ Some q → k.frames ≡ fs → Pair v root x k q
         at [] h up l = absurd (none_not q up)
         at (frame d Black p b ∷ fs) h up l = let m : false ≡ true = tint d Black p b fs h (some_same up) ∙ e in cc
         at (frame d Red p b ∷ []) h up l = let m : Red ≡ Black = h.nearly.pairs_around.1 refl in cc
@@ -92,7 +121,7 @@ module _ {E : Type 0} (n : E → Node) where
           around = record { low = d; sibling = b; color = c; uncle = u };
           fs = fs;
           at = record { red = subst (λ (z : Place). RedAt n v root x (record k { frames = frame d Red z b ∷ frame i c g u ∷ fs })) (some_same up) h };
-          fewer = omega (arith, l);
+          frames_are = l ∙ ap (λ (z : Place). frame d Red z b ∷ frame i c g u ∷ fs) (some_same up);
         }
 
   module _ {v : Table E} {root : Option Place} {x q g : Place} {i : Side} {m : RedPair} {k : Focus E} (h : PairAt n v root x q g i m k) where
@@ -103,12 +132,9 @@ module _ {E : Type 0} (n : E → Node) where
     joined = go_up n h.red.stands
 
     -- on which side of g the parent stands
-    pair_side : (r : Side) → IsSideOf n v q g r → r ≡ i
+    pub pair_side : (r : Side) → IsSideOf n v q g r → r ≡ i
     pair_side r is =
         side_found n v k.base root i m.color g m.uncle k.frames (branch m.low Red k.subtree q m.sibling) k.pieces q r joined (top_branch m.low Red k.subtree q m.sibling) is
-
-    pub at_side : (r : Side) → IsSideOf n v q g r → PairAt n v root x q g r m k
-    at_side r is = subst (λ (z : Side). PairAt n v root x q g z m k) (sym (pair_side r is)) h
 
     pub uncle_is : (far : Side) (o : Option Place) → far ≡ across i → o ≡ child_on far (n (v.entry g)) → o ≡ top m.uncle
     uncle_is far o ef eo =
@@ -127,10 +153,11 @@ module _ {E : Type 0} (n : E → Node) where
       some (fork c a p b) e eo = some_is o p eo
 
     -- the repair goes on at g
-    pub fixed_higher : {w : Table E} (y : Place) → top m.uncle ≡ Some y → is_red (top_color m.uncle) ≡ true → Recolors n v w q y g → IsFixedOrHigher n w root k (length k.frames + 2) (Some g)
+    pub fixed_higher : {w : Table E} (y : Place) → top m.uncle ≡ Some y → is_red (top_color m.uncle) ≡ true → Recolors n v w q y g
+        → IsFixedOrHigher n w root k (length k.frames + 2) (blacks (plug (above_pair q g i m k.frames) k.subtree)) (Some g)
     fixed_higher {w} y is red recolors = at m.uncle is red h.red where
       at : (u : Tree) → top u ≡ Some y → is_red (top_color u) ≡ true → RedAt n v root x (record k { frames = above_pair q g i (record m { uncle = u }) k.frames })
-          → IsFixedOrHigher n w root k (length k.frames + 2) (Some g)
+          → IsFixedOrHigher n w root k (length k.frames + 2) (blacks (plug (above_pair q g i (record m { uncle = u }) k.frames) k.subtree)) (Some g)
       at leaf is red h = absurd (none_not y is)
       at (fork Black a p b) is red h = cc
       at (fork Red a p b) is red h =
@@ -147,6 +174,8 @@ module _ {E : Type 0} (n : E → Node) where
                   (order_branch m.low Black Red k.subtree k.subtree q m.sibling m.sibling refl refl) refl) ∙ h.order;
             },
             omega arith,
+            recolored_blacks k.frames m.low q m.sibling i m.color g a p b k.subtree h.nearly
+                ∙ ap (λ (z : ℕ). z + weight (wanted k.frames)) (sym (pair_blacks k.frames m.low q m.sibling i m.color g (fork Red a p b) k.subtree h.nearly)),
           )
 
     -- an outer grandchild already
@@ -208,15 +237,23 @@ module _ {E : Type 0} (n : E → Node) where
   -- all is right after the grandparent's rotation
   pub fixed_here : {v w : Table E} {root new_root : Option Place} (upper g : Place) (i : Side) (m : RedPair) (k : Focus E)
       → HasOuterGrandchild n v root upper g i m k → is_red (top_color m.uncle) ≡ false
-      → (j : Side) → j ≡ across i → Rotates n v w root new_root g upper j Red Black → IsRestored n w new_root k
+      → (j : Side) → j ≡ across i → Rotates n v w root new_root g upper j Red Black → IsRestoredWith n w new_root k (through k.frames (1 + blacks m.uncle))
   fixed_here {v} {w} {root} {new_root} upper g i m k (x, b, t, h) black j ej rotated =
       let all : Tree = branch i Black t upper (branch i Red b g m.uncle) in
-      record {
-        tree = plug k.frames all;
-        stands = go_top n (rotates_grandparent v root upper g i j ej (record m { sibling = b }) (record k { subtree = t }) h.red.stands w new_root rotated);
-        order = order_plug k.frames all (branch i m.color (branch i Red t upper b) g m.uncle) (order_rotated i Black Red Red m.color t upper b g m.uncle) ∙ h.red.order;
-        shape = restored k.frames i upper b m.color g m.uncle t h.red.nearly (black_is (top_color m.uncle) black);
-      }
+      let right : IsRight (plug k.frames all) = restored k.frames i upper b m.color g m.uncle t h.red.nearly (black_is (top_color m.uncle) black) in (
+        record {
+          tree = plug k.frames all;
+          stands = go_top n (rotates_grandparent v root upper g i j ej (record m { sibling = b }) (record k { subtree = t }) h.red.stands w new_root rotated);
+          order = order_plug k.frames all (branch i m.color (branch i Red t upper b) g m.uncle) (order_rotated i Black Red Red m.color t upper b g m.uncle) ∙ h.red.order;
+          shape = right;
+        },
+        restored_blacks k.frames i upper b m.color g m.uncle t h.red.nearly (shape_open k.frames all right).3,
+      )
+
+  -- with as many black members on a way down as around the pair
+  pub fixed_pair : {v w : Table E} {root new_root : Option Place} {x q g : Place} {i : Side} {m : RedPair} {k : Focus E} → PairAt n v root x q g i m k
+      → IsRestoredWith n w new_root k (through k.frames (1 + blacks m.uncle)) → IsRestoredWith n w new_root k (blacks (plug (above_pair q g i m k.frames) k.subtree))
+  fixed_pair {q = q} {g} {i} {m} {k} h (r, same) = (r, same ∙ sym (pair_blacks k.frames m.low q m.sibling i m.color g m.uncle k.subtree h.red.nearly))
 
   -- THE WRITES of the three
   pub recolors : (v v1 v2 w : Table E) (q y g : Place) (x : Color) → x ≡ color_below (n (v.entry g)).parent
@@ -240,12 +277,25 @@ module _ {E : Type 0} (n : E → Node) where
         painted_top n i m.color low g U' refl tint set3 only3 h5
 
   -- a step's answer, from the pair's to the whole
-  pub fixed_below : (w : Table E) (root : Option Place) (k : Focus E) (fs : List Frame) (o : Option Place) → length k.frames ≡ length fs + 2
-      → IsFixedOrHigher n w root (record k { frames = fs }) (length fs + 2) o → IsFixedOrHigher n w root k (length k.frames) o
-  fixed_below w root k fs None e h = h
-  fixed_below w root k fs (Some g) e (gs, t, red, fewer) = (gs, t, red, omega (arith, e, fewer))
+  pub fixed_below : (w : Table E) (root : Option Place) (k : Focus E) (q g : Place) (i : Side) (m : RedPair) (fs : List Frame) (o : Option Place) → k.frames ≡ above_pair q g i m fs
+      → IsFixedOrHigher n w root (record k { frames = fs }) (length fs + 2) (blacks (plug (above_pair q g i m fs) k.subtree)) o
+      → IsFixedOrHigher n w root k (length k.frames) (blacks (plug k.frames k.subtree)) o
+  fixed_below w root k q g i m fs None e (h, same) = (h, same ∙ ap (λ (gs : List Frame). blacks (plug gs k.subtree)) (sym e))
+  fixed_below w root k q g i m fs (Some y) e (gs, t, red, fewer, same) = (
+    gs,
+    t,
+    red,
+    omega (arith, ap length e, fewer),
+    same ∙ ap (λ (hs : List Frame). blacks (plug hs k.subtree) + weight (wanted gs)) (sym e),
+  )
 
-  pub grand_same : {v : Table E} {root : Option Place} {x : Place} {k : Focus E} {q : Place} (y : Pair v root x k q) (o : Option Place) (g : Place)
-      → o ≡ (n (v.entry q)).parent → o ≡ Some g → PairAt n v root x q g y.side y.around (record k { frames = y.fs })
-  grand_same {v} {root} {x} {k} {q} y o g eo is =
-      subst (λ (z : Place). PairAt n v root x q z y.side y.around (record k { frames = y.fs })) (some_same (sym (grand_is y.at) ∙ (sym eo ∙ is))) y.at
+  module _ {v : Table E} {root : Option Place} {x : Place} {k : Focus E} {q : Place} (y : Pair v root x k q) (o : Option Place) (g : Place)
+      (eo : o ≡ (n (v.entry q)).parent) (is : o ≡ Some g) where
+    grand_there : y.g ≡ g
+    grand_there = some_same (sym (grand_is y.at) ∙ (sym eo ∙ is))
+
+    pub grand_same : PairAt n v root x q g y.side y.around (record k { frames = y.fs })
+    grand_same = subst (λ (z : Place). PairAt n v root x q z y.side y.around (record k { frames = y.fs })) grand_there y.at
+
+    pub grand_frames : k.frames ≡ above_pair q g y.side y.around y.fs
+    grand_frames = y.frames_are ∙ ap (λ (z : Place). above_pair q z y.side y.around y.fs) grand_there

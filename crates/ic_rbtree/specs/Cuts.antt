@@ -6,10 +6,12 @@ use Rattle.ic_link_ops.specs.declared.side.Side.{Side}
 use Rattle.ic_link_ops.specs.Frames.{Frame, frame, above, before, after}
 use Rattle.ic_link_ops.specs.RedBlackTree.{Node}
 use Rattle.ic_link_ops.specs.Sequences.{Cut}
-use Rattle.ic_link_ops.specs.Shape.{weight, IsRight}
+use Rattle.ic_link_ops.specs.Shape.{weight, blacks, IsRight}
 use Rattle.ic_link_ops.specs.Tables.{Table}
 use Rattle.ic_link_ops.specs.Trees.{Tree, top, in_order}
+use Rattle.ic_rbtree.specs.declared.join.roots.Measured.{Measured}
 use Rattle.ic_rbtree.specs.Insertion.{blackened}
+use Rattle.ic_rbtree.specs.Join.{IsMeasured}
 use Rattle.ic_rbtree.specs.Pieces.{Piece, below, around, Held}
 use Rattle.ic_rbtree.specs.Removal.{IsOn}
 use Rattle.ic_rbtree.specs.Shortage.{PairsAround, EvenAround}
@@ -27,11 +29,12 @@ pub record CutUp (E : Type 0) : Type 0 where
   pub pieces : List Piece
 
 module _ {E : Type 0} (n : E → Node) where
-  -- THE LOOP'S INVARIANT: both parts are trees of the right shape, and with the frames they have the members of the gap's sides
-  pub record IsCutUp (v : Table E) (root left right : Option Place) (k : CutUp E) : Type 0 where
+  -- THE LOOP'S INVARIANT: both parts are trees of the right shape with these black heights, and with the frames they have the members
+  -- of the gap's sides
+  pub record IsCutUp (v : Table E) (root : Option Place) (left right : Measured) (k : CutUp E) : Type 0 where
     pub held : Held n k.base v (around root k.frames k.named ∷ below None k.front ∷ below None k.back ∷ k.pieces)
-    pub left_is : left ≡ top k.front
-    pub right_is : right ≡ top k.back
+    pub left_is : IsMeasured left k.front
+    pub right_is : IsMeasured right k.back
     pub front_right : IsRight k.front
     pub back_right : IsRight k.back
     pub pairs : PairsAround k.frames
@@ -39,28 +42,30 @@ module _ {E : Type 0} (n : E → Node) where
     pub front_is : before k.frames ++ in_order k.front ≡ k.gap.front
     pub back_is : in_order k.back ++ after k.frames ≡ k.gap.back
 
-  -- and the hole is on side d of `parent`
-  pub record IsCutBelow (v : Table E) (root parent : Option Place) (d : Side) (left right : Option Place) (k : CutUp E) : Type 0 where
+  -- and the hole is on side d of `parent`, where a way down had so many black members
+  pub record IsCutBelow (v : Table E) (root parent : Option Place) (d : Side) (height : ℕ) (left right : Measured) (k : CutUp E) : Type 0 where
     pub cut : IsCutUp v root left right k
     pub parent_is : parent ≡ above k.frames
     pub side_is : IsOn d k.frames
+    pub height_is : height ≡ k.count
 
   -- that is so of some frames and parts, below fewer than m frames
-  abbrev pub IsCutting : Table E → Table E → Option Place → Option Place → Side → Option Place → Option Place → Cut → List Piece → ℕ → Type 0
-  IsCutting base v root parent d left right gap ps m =
+  abbrev pub IsCutting : Table E → Table E → Option Place → Option Place → Side → ℕ → Measured → Measured → Cut → List Piece → ℕ → Type 0
+  IsCutting base v root parent d height left right gap ps m =
       (fs : List Frame) × (o : Option Place) × (count : ℕ) × (front back : Tree)
-      × IsCutBelow v root parent d left right (record { base = base; gap = gap; frames = fs; named = o; count = count; front = front; back = back; pieces = ps })
+      × IsCutBelow v root parent d height left right (record { base = base; gap = gap; frames = fs; named = o; count = count; front = front; back = back; pieces = ps })
       × (length fs < m)
 
-  -- a subtree with this root becomes a tree of its own, with a black root
-  abbrev pub Detaches : Table E → Table E → Option Place → Type 0
-  Detaches v w child =
-      (base : Table E) (up : Option Place) (t : Tree) (ps : List Piece) → child ≡ top t → Held n base v (below up t ∷ ps) → Held n base w (below None (blackened t) ∷ ps)
+  -- a subtree with this root and black height becomes a tree of its own, with a black root
+  abbrev pub Detaches : Table E → Table E → Option Place → ℕ → Measured → Type 0
+  Detaches v w child height alone =
+      (base : Table E) (up : Option Place) (t : Tree) (ps : List Piece) → child ≡ top t → height ≡ blacks t → Held n base v (below up t ∷ ps)
+      → Held n base w (below None (blackened t) ∷ ps) × IsMeasured alone (blackened t)
 
   -- the hole is one member further up, and that member and its other subtree are in a part
-  abbrev pub CutsOff : Table E → Table E → Place → Side → Option Place → Option Place → Option Place → Option Place → Type 0
-  CutsOff v w p d left right new_left new_right =
-      (root : Option Place) (k : CutUp E) (c : Color) (b : Tree) (fs : List Frame) → k.frames ≡ frame d c p b ∷ fs → IsCutUp v root left right k
+  abbrev pub CutsOff : Table E → Table E → Place → Side → ℕ → Measured → Measured → Measured → Measured → Type 0
+  CutsOff v w p d height left right new_left new_right =
+      (root : Option Place) (k : CutUp E) (c : Color) (b : Tree) (fs : List Frame) → k.frames ≡ frame d c p b ∷ fs → height ≡ k.count → IsCutUp v root left right k
       → (front back : Tree) × IsCutUp w root new_left new_right (record k { frames = fs; named = Some p; count = weight c + k.count; front = front; back = back })
 
   -- TWO TREES with the members of the sides of the gap

@@ -1,5 +1,5 @@
 -- What the steps of a repair after an insert do.
-use Rattle.std.specs.Prelude.{◌≡◌, ℕ, ◌+◌, ◌<◌, Bool, true, false, Option, Some, None, List, [], ◌∷◌, ◌++◌, length}
+use Rattle.std.specs.Prelude.{◌≡◌, ℕ, ◌+◌, ◌<◌, Bool, true, false, cond, Option, Some, None, List, [], ◌∷◌, ◌++◌, length}
 use Rattle.ic_unsafe_ref.specs.declared.place.Place.{Place}
 use Rattle.ic_link_ops.specs.declared.color.Color.{Color}
 use Rattle.ic_link_ops.specs.declared.color.Color.TheVariants.{Red, Black}
@@ -8,6 +8,7 @@ use Rattle.ic_link_ops.specs.declared.side.Side.TheVariants.{Left, Right}
 use Rattle.ic_link_ops.specs.Sequences.{Cut}
 use Rattle.ic_link_ops.specs.Tables.{Table}
 use Rattle.ic_link_ops.specs.Trees.{Tree, leaf, fork, top, in_order}
+use Rattle.ic_link_ops.specs.Shape.{weight, blacks}
 use Rattle.ic_link_ops.specs.RedBlackTree.{Node}
 use Rattle.ic_link_ops.specs.Frames.{Frame, frame, branch, plug, above, child_on}
 use Rattle.ic_rbtree.specs.Height.{turns}
@@ -52,23 +53,32 @@ module _ {E : Type 0} (n : E → Node) where
     pub nearly : IsNearlyRight k.frames k.subtree
     pub order : in_order (plug k.frames k.subtree) ≡ k.sequence
 
-  -- all is right, or the same stands further up, below fewer than m frames
-  abbrev pub IsFixedOrHigher : Table E → Option Place → Focus E → ℕ → Option Place → Type 0
-  IsFixedOrHigher w root k m None = IsRestored n w root k
-  IsFixedOrHigher w root k m (Some g) = (fs : List Frame) × (t : Tree) × RedAt w root g (record k { frames = fs; subtree = t }) × (length fs < m)
+  -- all is right, with so many black members on a way down
+  abbrev pub IsRestoredWith : Table E → Option Place → Focus E → ℕ → Type 0
+  IsRestoredWith w root k count = (h : IsRestored n w root k) × (blacks h.tree ≡ count)
+
+  -- or the same stands further up, below fewer than m frames, and a way down has one black member more at the root
+  abbrev pub IsFixedOrHigher : Table E → Option Place → Focus E → ℕ → ℕ → Option Place → Type 0
+  IsFixedOrHigher w root k m count None = IsRestoredWith w root k count
+  IsFixedOrHigher w root k m count (Some g) =
+      (fs : List Frame) × (t : Tree) × RedAt w root g (record k { frames = fs; subtree = t }) × (length fs < m) × (blacks (plug fs t) ≡ count + weight (wanted fs))
 
   abbrev pub FixesRedParent : Table E → Table E → Option Place → Option Place → Place → Option Place → Option Place → Type 0
-  FixesRedParent v w root new_root x parent result = (k : Focus E) → RedAt v root x k → parent ≡ above k.frames → IsFixedOrHigher w new_root k (length k.frames) result
+  FixesRedParent v w root new_root x parent result = (k : Focus E) → RedAt v root x k → parent ≡ above k.frames → IsFixedOrHigher w new_root k (length k.frames) (blacks (plug k.frames k.subtree)) result
 
-  abbrev pub FixesInsertion : Table E → Table E → Option Place → Option Place → Place → Option Place → Type 0
-  FixesInsertion v w root new_root x parent = (k : Focus E) → RedAt v root x k → parent ≡ above k.frames → length k.frames < turns → IsRestored n w new_root k
+  -- all is right, and a way down has one black member more if the tree has grown. Where x was the root, that is counted already
+  abbrev pub FixesInsertion : Table E → Table E → Option Place → Option Place → Place → Option Place → Bool → Type 0
+  FixesInsertion v w root new_root x parent grown =
+      (k : Focus E) → RedAt v root x k → parent ≡ above k.frames → length k.frames < turns
+      → (h : IsRestored n w new_root k) × (blacks h.tree + weight (wanted k.frames) ≡ blacks (plug k.frames k.subtree) + cond grown 1 0)
 
   -- the red parent q of x, and its parent g, on side i of which q stands; the frames are those above g
   pub record PairAt (v : Table E) (root : Option Place) (x q g : Place) (i : Side) (m : RedPair) (k : Focus E) : Type 0 where
     pub red : RedAt v root x (record k { frames = above_pair q g i m k.frames })
 
   abbrev pub FixesRedPairOn : Table E → Table E → Option Place → Option Place → Place → Place → Place → Side → Option Place → Type 0
-  FixesRedPairOn v w root new_root x q g i result = (m : RedPair) (k : Focus E) → PairAt v root x q g i m k → IsFixedOrHigher w new_root k (length k.frames + 2) result
+  FixesRedPairOn v w root new_root x q g i result = (m : RedPair) (k : Focus E) → PairAt v root x q g i m k
+      → IsFixedOrHigher w new_root k (length k.frames + 2) (blacks (plug (above_pair q g i m k.frames) k.subtree)) result
 
   abbrev pub FixesRedPair : Table E → Table E → Option Place → Option Place → Place → Place → Place → Option Place → Type 0
   FixesRedPair v w root new_root x q g result = (i : Side) → FixesRedPairOn v w root new_root x q g i result

@@ -1,5 +1,5 @@
 -- A place comes into a tree, with another tree below it.
-use Rattle.std.specs.Prelude.{◌≡◌, ℕ, ◌≤◌, true, Option, None, List, [], ◌∷◌}
+use Rattle.std.specs.Prelude.{◌≡◌, ℕ, ◌+◌, ◌≤◌, Bool, true, cond, Option, None, List, [], ◌∷◌}
 use Rattle.ic_unsafe_ref.specs.declared.place.Place.{Place}
 use Rattle.ic_link_ops.specs.declared.color.Color.TheVariants.{Red, Black}
 use Rattle.ic_link_ops.specs.declared.side.Side.{Side}
@@ -9,6 +9,7 @@ use Rattle.ic_link_ops.specs.Trees.{Tree, top, in_order}
 use Rattle.ic_link_ops.specs.Shape.{top_color, blacks, IsRight}
 use Rattle.ic_link_ops.specs.RedBlackTree.{Node, IsTree, Shows}
 use Rattle.ic_link_ops.specs.Frames.{Frame, branch, plug, above}
+use Rattle.ic_rbtree.specs.declared.join.roots.Measured.{Measured}
 use Rattle.ic_rbtree.specs.Pieces.{Piece, loose, below, around, Held, Stands, Shown}
 use Rattle.ic_rbtree.specs.Removal.{IsOn}
 use Rattle.ic_rbtree.specs.Sides.{beyond}
@@ -33,10 +34,11 @@ module _ {E : Type 0} (n : E → Node) where
     pub right : IsRight (plug k.frames k.near)
     pub far_right : IsRight k.far
 
-  -- p has come in between both
-  abbrev pub Grafts : Table E → Table E → Option Place → Option Place → Option Place → Side → Option Place → Place → Option Place → Type 0
-  Grafts v w root new_root parent d near p far =
-      (k : Graft E) → IsGraft v root parent d near p far k → Shown n k.base w new_root (in_order (plug k.frames (branch d Red k.far p k.near))) k.pieces
+  -- p has come in between both, and a way down has one black member more if the tree has grown
+  abbrev pub Grafts : Table E → Table E → Option Place → Option Place → Option Place → Side → Option Place → Place → Option Place → Bool → Type 0
+  Grafts v w root new_root parent d near p far grown =
+      (k : Graft E) → IsGraft v root parent d near p far k
+      → (h : Shown n k.base w new_root (in_order (plug k.frames (branch d Red k.far p k.near))) k.pieces) × (blacks h.tree ≡ blacks (plug k.frames k.near) + cond grown 1 0)
 
   -- the place is the root of a tree; and this is how many black members it has on a way down
   abbrev pub IsRootOf : Table E → Option Place → Tree → Type 0
@@ -57,6 +59,11 @@ module _ {E : Type 0} (n : E → Node) where
   EndsBlack base v root d t ps near parent count =
       (gs : List Frame) × (u : Tree) × IsSpine base v root d t ps near parent count gs u × (top_color u ≡ Black)
 
+-- the root of a tree, and its black height
+pub record IsMeasured (m : Measured) (t : Tree) : Type 0 where
+  pub root_is : m.root ≡ top t
+  pub height_is : m.height ≡ blacks t
+
 -- two trees
 pub record Pair (E : Type 0) : Type 0 where
   pub base : Table E
@@ -73,12 +80,20 @@ module _ {E : Type 0} (n : E → Node) where
     pub one_right : IsRight k.one
     pub two_right : IsRight k.two
 
+  -- and their black heights
+  pub record AreMeasured (v : Table E) (one : Measured) (p : Place) (two : Measured) (k : Pair E) : Type 0 where
+    pub pair : ArePair v one.root p two.root k
+    pub one_height : one.height ≡ blacks k.one
+    pub two_height : two.height ≡ blacks k.two
+
   -- the first of them is at least as high as the other, in black members
-  pub record AreHigh (v : Table E) (one : Option Place) (p : Place) (two : Option Place) (high low : ℕ) (k : Pair E) : Type 0 where
-    pub pair : ArePair v one p two k
-    pub high_is : high ≡ blacks k.one
-    pub low_is : low ≡ blacks k.two
-    pub lower : low ≤ high
+  pub record AreHigh (v : Table E) (one : Measured) (p : Place) (two : Measured) (k : Pair E) : Type 0 where
+    pub measured : AreMeasured v one p two k
+    pub lower : two.height ≤ one.height
+
+  -- THEY ARE ONE TREE with the in-order list s, and its black height
+  abbrev pub IsJoined : Table E → Table E → Measured → List Place → List Piece → Type 0
+  IsJoined base w m s ps = (h : Shown n base w m.root s ps) × (m.height ≡ blacks h.tree)
 
   -- TWO TREES CAN BE JOINED with p between them: p is linked, and no place stands twice in all
   pub record CanJoin (v : Table E) (left : Option Place) (p : Place) (right : Option Place) (gap : Cut) : Type 0 where

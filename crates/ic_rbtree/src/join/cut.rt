@@ -1,10 +1,15 @@
 //! A tree that is cut at a hole: both parts grow as the way up is cut off below them.
 //!
+//! The black heights are handed on from turn to turn, and a join takes the time of the difference between the heights of a part and of
+//! the subtree which comes to it. Before it the part is at most one higher than the subtree, and after it at least as high. So all joins
+//! of a part take the time of its last height, and a constant for each turn: O(log n), as in Tarjan, Data Structures and Network
+//! Algorithms, chapter 4.
+//!
 //! ```text
 //! let (front, back) = cut_at(nodes, parent, side); // the roots of both parts
 //! ```
 
-ghost use Rattle.std.specs.Prelude.{Option, Some, List};
+ghost use Rattle.std.specs.Prelude.{◌<◌, Option, Some, List};
 ghost use Rattle.ic_link_ops.specs.RedBlackTree.{node_at};
 ghost use Rattle.ic_link_ops.specs.Sequences.{Cut, join};
 ghost use Rattle.ic_link_ops.specs.Tables.{Table};
@@ -13,7 +18,7 @@ ghost use Rattle.ic_rbtree.specs.Cuts.{CutUp, IsCutBelow, Detaches, CutsOff, Are
 ghost use Rattle.ic_rbtree.specs.Insertion.{IsHole};
 ghost use Rattle.ic_rbtree.specs.Pieces.{Piece, Shown};
 
-use crate::join::roots::join;
+use crate::join::roots::{Measured, join_measured, weight_of};
 use crate::nodes::Nodes;
 use crate::readings::{child, other, side_below};
 use crate::repair::TURNS;
@@ -21,35 +26,46 @@ use crate::repair::writers::set_parent_and_color;
 use ic_link_ops::{Color, Side};
 use ic_unsafe_ref::Place;
 
-// A subtree becomes a tree of its own, with a black root.
-fn detach<N: Nodes>(links: &mut N, child: Option<Place>)
-    requires { IsNamed N.node (N.table links.old) child }
-    ensures detached { Detaches N.node (N.table links.old) (N.table links.new) child }
+// A subtree of this black height becomes a tree of its own, with a black root. A red root made it one higher.
+fn detach<N: Nodes>(links: &mut N, child: Option<Place>, height: u32) -> Measured
+    requires named { IsNamed N.node (N.table links.old) child }
+    requires low { height < 4294967295 }
+    ensures detached { Detaches N.node (N.table links.old) (N.table links.new) child height result }
     ensures quiet { N.Quiet links.old links.new }
 {
-    if let Some(child) = child {
-        set_parent_and_color(links, child, None, Color::Black);
+    let Some(place) = child else {
+        return Measured {
+            root: child,
+            height,
+        };
+    };
+    let weight = weight_of(&*links, place);
+    set_parent_and_color(links, place, None, Color::Black);
+    Measured {
+        root: child,
+        height: height + 1 - weight,
     }
 }
 
-// The member above the hole is cut off with its other subtree, and both come to the part on their side. The hole is where the
-// member was.
+// The member above the hole is cut off with its other subtree, which has this black height, and both come to the part on their side.
+// The hole is where the member was.
 fn cut_off<N: Nodes>(
     links: &mut N,
     place: Place,
     side: Side,
-    left: Option<Place>,
-    right: Option<Place>,
-) -> (Option<Place>, Option<Place>)
-    requires { (root : Option Place) × (k : CutUp N.Entry) × IsCutBelow N.node (N.table links.old) root (Some place) side left right k }
-    ensures cut { CutsOff N.node (N.table links.old) (N.table links.new) place side left right result.0 result.1 }
+    height: u32,
+    left: Measured,
+    right: Measured,
+) -> (Measured, Measured)
+    requires { (root : Option Place) × (k : CutUp N.Entry) × IsCutBelow N.node (N.table links.old) root (Some place) side height left right k }
+    ensures cut { CutsOff N.node (N.table links.old) (N.table links.new) place side height left right result.0 result.1 }
     ensures quiet { N.Quiet links.old links.new }
 {
     let rest = child(&*links, place, other(side));
-    detach(links, rest);
+    let rest = detach(links, rest, height);
     match side {
-        Side::Left => (left, join(links, right, place, rest)),
-        Side::Right => (join(links, rest, place, left), right),
+        Side::Left => (left, join_measured(links, right, place, rest)),
+        Side::Right => (join_measured(links, rest, place, left), right),
     }
 }
 
@@ -68,18 +84,24 @@ pub(crate) fn cut_at<N: Nodes>(
 {
     let mut at = parent;
     let mut side = side;
-    let mut left = None;
-    let mut right = None;
+    let mut height = 0;
+    let mut left = Measured {
+        root: None,
+        height: 0,
+    };
+    let mut right = left;
     for _ in 0..TURNS {
         let Some(place) = at else {
-            return (left, right);
+            return (left.root, right.root);
         };
         at = links.parent(place);
         let above = side_below(&*links, place, at);
-        let parts = cut_off(links, place, side, left, right);
+        let weight = weight_of(&*links, place);
+        let parts = cut_off(links, place, side, height, left, right);
+        height += weight;
         left = parts.0;
         right = parts.1;
         side = above;
     }
-    (left, right)
+    (left.root, right.root)
 }

@@ -14,7 +14,7 @@ ghost use Rattle.ic_link_ops.specs.Tables.{Table};
 ghost use Rattle.ic_link_ops.specs.Trees.{Tree, in_order};
 ghost use Rattle.ic_link_ops.specs.declared.color.Color.TheVariants.{Red};
 ghost use Rattle.ic_rbtree.specs.Height.{height, turns};
-ghost use Rattle.ic_rbtree.specs.Join.{Graft, IsGraft, Grafts, IsRootOf, EndsBlack, Pair, ArePair, AreHigh};
+ghost use Rattle.ic_rbtree.specs.Join.{Graft, IsGraft, Grafts, IsRootOf, EndsBlack, Pair, ArePair, AreMeasured, AreHigh, IsJoined};
 ghost use Rattle.ic_rbtree.specs.Pieces.{Piece, Stands, Shown};
 
 use crate::nodes::Nodes;
@@ -25,8 +25,15 @@ use crate::repair::writers::{adopt, set_child, set_color, set_parent};
 use ic_link_ops::{Color, PlaceWord, Side};
 use ic_unsafe_ref::Place;
 
+// A tree by its root, and how many black members stand on a way down.
+#[derive(Clone, Copy)]
+pub(crate) struct Measured {
+    pub(crate) root: Option<Place>,
+    pub(crate) height: u32,
+}
+
 // The linked place comes in where `near` stands on this side of `parent`, with `near` below it and `far`, a tree of its own, on this side
-// of it. The colors are repaired.
+// of it. The colors are repaired. It answers whether a way down has one black member more.
 pub(crate) fn graft<N: Nodes>(
     links: &mut N,
     root: &mut PlaceWord,
@@ -35,9 +42,9 @@ pub(crate) fn graft<N: Nodes>(
     near: Option<Place>,
     place: Place,
     far: Option<Place>,
-)
+) -> bool
     requires { (k : Graft N.Entry) × IsGraft N.node (N.table links.old) root.old parent side near place far k }
-    ensures grafted { Grafts N.node (N.table links.old) (N.table links.new) root.old root.new parent side near place far }
+    ensures grafted { Grafts N.node (N.table links.old) (N.table links.new) root.old root.new parent side near place far result }
     ensures quiet { N.Quiet links.old links.new }
 {
     set_child(links, place, side, far);
@@ -49,17 +56,18 @@ pub(crate) fn graft<N: Nodes>(
         None => {
             set_color(links, place, Color::Black);
             *root = PlaceWord::of(Some(place));
+            true
         }
         Some(above) => {
             set_color(links, place, Color::Red);
             set_child(links, above, side, Some(place));
-            insert_fixup(links, root, place, parent);
+            insert_fixup(links, root, place, parent)
         }
     }
 }
 
 // 1 for a black member.
-fn weight_of<N: Nodes>(links: &N, place: Place) -> u32
+pub(crate) fn weight_of<N: Nodes>(links: &N, place: Place) -> u32
     requires { IsNode N.node (N.table links.now) place }
     ensures { result ≡ weight (node_at N.node (N.table links.now) place).color }
 {
@@ -121,22 +129,42 @@ pub(crate) fn descend_spine<N: Nodes>(
 // Joins two trees, of which the first is at least as high, with a linked place between them: the first stands on the other side of it.
 pub(crate) fn join_higher<N: Nodes>(
     links: &mut N,
-    tall: Option<Place>,
-    high: u32,
+    tall: Measured,
     side: Side,
     place: Place,
-    low: Option<Place>,
-    height: u32,
-) -> Option<Place>
-    requires { (k : Pair N.Entry) × AreHigh N.node (N.table links.old) tall place low high height k }
-    ensures joined { (k : Pair N.Entry) → AreHigh N.node (N.table links.old) tall place low high height k
-        → Shown N.node k.base (N.table links.new) result (in_order (branch side Red k.two place k.one)) k.pieces }
+    low: Measured,
+) -> Measured
+    requires { (k : Pair N.Entry) × AreHigh N.node (N.table links.old) tall place low k }
+    ensures joined { (k : Pair N.Entry) → AreHigh N.node (N.table links.old) tall place low k
+        → IsJoined N.node k.base (N.table links.new) result (in_order (branch side Red k.two place k.one)) k.pieces }
     ensures quiet { N.Quiet links.old links.new }
 {
-    let (near, parent) = descend_spine(&*links, tall, side, high, height);
-    let mut root = PlaceWord::of(tall);
-    graft(links, &mut root, parent, side, near, place, low);
-    root.get()
+    let (near, parent) = descend_spine(&*links, tall.root, side, tall.height, low.height);
+    let mut root = PlaceWord::of(tall.root);
+    let grown = graft(links, &mut root, parent, side, near, place, low.root);
+    Measured {
+        root: root.get(),
+        height: tall.height + u32::from(grown),
+    }
+}
+
+// Joins two trees of known heights with a linked place between them, in the time of the difference of the heights.
+pub(crate) fn join_measured<N: Nodes>(
+    links: &mut N,
+    left: Measured,
+    place: Place,
+    right: Measured,
+) -> Measured
+    requires { (k : Pair N.Entry) × AreMeasured N.node (N.table links.old) left place right k }
+    ensures joined { (k : Pair N.Entry) → AreMeasured N.node (N.table links.old) left place right k
+        → IsJoined N.node k.base (N.table links.new) result (in_order k.one ++ place ∷ in_order k.two) k.pieces }
+    ensures quiet { N.Quiet links.old links.new }
+{
+    if right.height <= left.height {
+        join_higher(links, left, Side::Right, place, right)
+    } else {
+        join_higher(links, right, Side::Left, place, left)
+    }
 }
 
 // Joins two trees with a linked place between them.
@@ -151,11 +179,13 @@ pub(crate) fn join<N: Nodes>(
         → Shown N.node k.base (N.table links.new) result (in_order k.one ++ place ∷ in_order k.two) k.pieces }
     ensures quiet { N.Quiet links.old links.new }
 {
-    let high = black_height(&*links, left);
-    let low = black_height(&*links, right);
-    if low <= high {
-        join_higher(links, left, high, Side::Right, place, right, low)
-    } else {
-        join_higher(links, right, low, Side::Left, place, left, high)
-    }
+    let left = Measured {
+        root: left,
+        height: black_height(&*links, left),
+    };
+    let right = Measured {
+        root: right,
+        height: black_height(&*links, right),
+    };
+    join_measured(links, left, place, right).root
 }

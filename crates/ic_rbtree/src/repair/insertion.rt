@@ -118,15 +118,17 @@ pub(crate) fn fix_red_parent<N: Nodes>(
     fix_red_pair(links, root, place, parent, grand)
 }
 
-/// Repairs the colors above a member that was put in red below this parent, in O(log n): RB-INSERT-FIXUP.
+/// Repairs the colors above a member that was put in red below this parent, in O(log n): RB-INSERT-FIXUP. It answers whether the tree
+/// has grown: the repair came up to the root, and a way down has one black member more.
+#[inline(always)]
 pub(crate) fn insert_fixup<N: Nodes>(
     links: &mut N,
     root: &mut PlaceWord,
     place: Place,
     parent: Option<Place>,
-)
+) -> bool
     requires { IsSafe N.node (N.table links.old) root.old (Some place ∷ parent ∷ []) }
-    ensures restored { FixesInsertion N.node (N.table links.old) (N.table links.new) root.old root.new place parent }
+    ensures restored { FixesInsertion N.node (N.table links.old) (N.table links.new) root.old root.new place parent result }
     ensures safe { StaysClosed N.node (N.table links.old) (N.table links.new) root.old root.new (Some place ∷ parent ∷ []) [] }
     ensures quiet { N.Quiet links.old links.new }
 {
@@ -134,11 +136,12 @@ pub(crate) fn insert_fixup<N: Nodes>(
     let mut parent = parent;
     for _ in 0..TURNS {
         let Some(upper) = fix_red_parent(links, root, place, parent) else {
-            return;
+            return parent.is_none();
         };
         place = upper;
         parent = links.parent(place);
     }
+    false
 }
 
 // Puts a linked place, which is on its own, into a hole of the tree.

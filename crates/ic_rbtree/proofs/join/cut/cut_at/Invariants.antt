@@ -15,6 +15,6 @@ invariant-loop g l =
     let now = g.N.Nodes.table l.links in
     record {
       each : (base : Table g.row.N-Entry.Denot) (root : Option Place) (gap : Cut) (ps : List Piece) → Shown n base old root (join gap) ps → IsHole n old l.fn.parent l.fn.side gap
-          → IsCutting n base now root l.at l.side l.left l.right gap ps (turns - l.counter);
+          → IsCutting n base now root l.at l.side l.height l.left l.right gap ps (turns - l.counter);
       quiet : g.N.Nodes.Quiet l.fn.links l.links;
     }

@@ -1,11 +1,13 @@
-use Rattle.std.proofs.Common.{Option, refl, sym, ◌∙◌, subst}
+use Rattle.std.proofs.Common.{◌≡◌, ◌+◌, Option, refl, sym, ◌∙◌, subst, arith}
 use Rattle.ic_unsafe_ref.specs.declared.place.Place.{Place}
 use Rattle.ic_link_ops.specs.declared.color.Color.TheVariants.{Red, Black}
 use Rattle.ic_link_ops.specs.Frames.{branch, plug}
+use Rattle.ic_link_ops.specs.Shape.{blacks}
 use Rattle.ic_link_ops.specs.Trees.{in_order}
 use Rattle.ic_rbtree.specs.Pieces.{Shown}
-use Rattle.ic_rbtree.proofs.Graft.{place_node, place_named, near_named, far_named, parent_named, graft_stands, graft_top, graft_red, red_safe}
+use Rattle.ic_rbtree.proofs.Graft.{place_node, place_named, near_named, far_named, parent_named, graft_stands, graft_top, graft_red, graft_blacks, red_safe}
 use Rattle.ic_rbtree.proofs.Low.{frames_low}
+use Rattle.ic_rbtree.proofs.RedPairs.{red_there}
 use Rattle.ic_rbtree.proofs.join.roots.graft.Goals as goal
 
 pub set_child-requires : goal.set_child-requires
@@ -75,19 +77,21 @@ insert_fixup-requires g c =
 pub returns-in-None-clause-grafted : goal.returns-in-None-clause-grafted
 returns-in-None-clause-grafted g c k x =
     let n = g.N.Nodes.node in
-    subst (λ (o : Option Place). Shown n k.base (g.N.Nodes.table c.set_color.new.links) o (in_order (plug k.frames (branch c.args.side Red k.far c.args.place k.near))) k.pieces) (sym c.of.ensures)
+    subst (λ (o : Option Place). (h : Shown n k.base (g.N.Nodes.table c.set_color.new.links) o (in_order (plug k.frames (branch c.args.side Red k.far c.args.place k.near))) k.pieces)
+    × (blacks h.tree ≡ blacks (plug k.frames k.near) + 1)) (sym c.of.ensures)
     (graft_top n x c.other.result Black c.other.ensures c.set_child.ensures.set c.set_child.ensures.frame c.set_child-2.ensures.set c.set_child-2.ensures.frame
     c.set_parent.ensures.set c.set_parent.ensures.frame c.adopt.ensures.moved c.adopt-2.ensures.moved c.set_color.ensures.set c.set_color.ensures.frame refl c.in-None.is)
 
 pub returns-in-Some-clause-grafted : goal.returns-in-Some-clause-grafted
 returns-in-Some-clause-grafted g c k x =
     let n = g.N.Nodes.node in
-    c.insert_fixup.ensures.restored _
+    let r = c.insert_fixup.ensures.restored _
     (graft_red n x c.other.result Red c.other.ensures c.set_child.ensures.set c.set_child.ensures.frame c.set_child-2.ensures.set c.set_child-2.ensures.frame
     c.set_parent.ensures.set c.set_parent.ensures.frame c.adopt.ensures.moved c.adopt-2.ensures.moved c.set_color-in-Some.ensures.set c.set_color-in-Some.ensures.frame
     c.in-Some.above refl c.in-Some.is c.set_child-in-Some.ensures.set c.set_child-in-Some.ensures.frame)
     (sym c.in-Some.is ∙ x.parent_is)
-    (frames_low n (graft_stands n x) x.right)
+    (frames_low n (graft_stands n x) x.right) in
+    (r.0, omega (arith, r.1, graft_blacks n x, red_there k.frames c.in-Some.above (sym x.parent_is ∙ c.in-Some.is)))
 
 pub returns-in-Some-clause-quiet : goal.returns-in-Some-clause-quiet
 returns-in-Some-clause-quiet g c =

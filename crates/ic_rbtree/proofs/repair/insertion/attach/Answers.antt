@@ -44,10 +44,10 @@ pub returns-in-Some-clause-attached : goal.returns-in-Some-clause-attached
 returns-in-Some-clause-attached g c base gap ps shown at =
     let n = g.N.Nodes.node in
     let x = hole n c.args.parent c.in-Some.above c.args.side gap c.in-Some.is shown at in
-    c.insert_fixup.ensures.restored _
+    (c.insert_fixup.ensures.restored _
     (attached_red n c.in-Some.above c.args.side gap.front gap.back c.args.place c.set_node-in-Some.ensures.set c.set_node-in-Some.ensures.frame c.set_child.ensures.set c.set_child.ensures.frame x)
     refl
-    (frames_low n x.stands x.right)
+    (frames_low n x.stands x.right)).0
 
 pub returns-in-Some-clause-safe : goal.returns-in-Some-clause-safe
 returns-in-Some-clause-safe g c S h i =

@@ -1,6 +1,6 @@
 use Rattle.std.proofs.Common.{None, sym, ◌∙◌}
 use Rattle.ic_rbtree.proofs.Closed.{in_child, in_linked}
-use Rattle.ic_rbtree.proofs.RedPairs.{uncle_is, uncle_red, uncle_some, fixed_higher, fixed_here}
+use Rattle.ic_rbtree.proofs.RedPairs.{uncle_is, uncle_red, uncle_some, fixed_higher, fixed_here, fixed_pair}
 use Rattle.ic_rbtree.proofs.RedSiblings.{not_none}
 use Rattle.ic_rbtree.proofs.repair.insertion.fix_red_pair_on.Goals as goal
 
@@ -44,9 +44,10 @@ pub returns-clause-fixed : goal.returns-clause-fixed
 returns-clause-fixed g c m k h =
     let n = g.N.Nodes.node in
     let is = uncle_is n h c.other-far.result c.child-uncle.result c.other-far.ensures c.child-uncle.ensures in
-    fixed_here n c.rotate_inner_grandchild-upper.result c.args.grand c.args.side m k
+    fixed_pair n h
+    (fixed_here n c.rotate_inner_grandchild-upper.result c.args.grand c.args.side m k
     (c.rotate_inner_grandchild-upper.ensures.outer_grandchild c.args.grand m k h)
-    (sym (uncle_red n h c.child-uncle.result is c.is_red.result c.is_red.ensures) ∙ c.if-is_red.false) c.other-far.result c.other-far.ensures c.rotate.ensures.rotated
+    (sym (uncle_red n h c.child-uncle.result is c.is_red.result c.is_red.ensures) ∙ c.if-is_red.false) c.other-far.result c.other-far.ensures c.rotate.ensures.rotated)
 
 pub returns-clause-safe : goal.returns-clause-safe
 returns-clause-safe g c S h i =

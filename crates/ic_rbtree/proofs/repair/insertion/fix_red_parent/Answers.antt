@@ -1,8 +1,11 @@
 use Rattle.std.proofs.Common.{sym, ◌∙◌}
 use Rattle.ic_link_ops.proofs.SequenceLemmas.{none_not}
 use Rattle.ic_rbtree.proofs.Closed.{in_there, in_parent, in_linked}
-use Rattle.ic_rbtree.proofs.RedPairs.{done_black, pair_at, grand_is, grand_same, fixed_below}
+use Rattle.ic_rbtree.proofs.RedPairs.{done_top, done_black, pair_at, grand_is, grand_same, grand_frames, fixed_below}
 use Rattle.ic_rbtree.proofs.repair.insertion.fix_red_parent.Goals as goal
+
+pub returns-in_err-parent-clause-fixed : goal.returns-in_err-parent-clause-fixed
+returns-in_err-parent-clause-fixed g c k h up = rw c.from_residual.ensures (done_top g.N.Nodes.node h c.args.parent up c.in_err-parent.was)
 
 pub is_red-requires : goal.is_red-requires
 is_red-requires g c q e =
@@ -37,7 +40,8 @@ pub returns-clause-fixed : goal.returns-clause-fixed
 returns-clause-fixed g c k h up =
     let n = g.N.Nodes.node in
     let y = pair_at n h c.args.parent up c.in_ok-parent.parent c.in_ok-parent.was c.is_red.result c.is_red.ensures c.if-not-is_red.false in
-    fixed_below n _ c.fix_red_pair.new.root k y.fs c.fix_red_pair.result y.fewer
+    fixed_below n _ c.fix_red_pair.new.root k c.in_ok-parent.parent c.in_ok-grand.grand y.side y.around y.fs c.fix_red_pair.result
+    (grand_frames n y c.parent.result c.in_ok-grand.grand c.parent.ensures c.in_ok-grand.was)
     (c.fix_red_pair.ensures.fixed y.side y.around (record k { frames = y.fs }) (grand_same n y c.parent.result c.in_ok-grand.grand c.parent.ensures c.in_ok-grand.was))
 
 pub returns-clause-safe : goal.returns-clause-safe

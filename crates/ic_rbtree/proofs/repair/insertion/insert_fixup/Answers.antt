@@ -1,10 +1,10 @@
-use Rattle.std.proofs.Common.{arith}
+use Rattle.std.proofs.Common.{refl, arith}
 use Rattle.ic_rbtree.proofs.Closed.{in_parent}
-use Rattle.ic_rbtree.proofs.RedPairs.{red_parent}
+use Rattle.ic_rbtree.proofs.RedPairs.{red_parent, red_below, grown_is}
 use Rattle.ic_rbtree.proofs.repair.insertion.insert_fixup.Goals as goal
 
 pub loop-init : goal.loop-init
-loop-init g c = record { each = λ k h up few. (k.frames, k.subtree, h, up, few); safe = λ S h i. (h, i); quiet = g.met.N.Nodes.quiet_still _ }
+loop-init g c = record { each = λ k h up few. (k.frames, k.subtree, h, up, few, refl); safe = λ S h i. (h, i); quiet = g.met.N.Nodes.quiet_still _ }
 
 pub fix_red_parent-requires : goal.fix_red_parent-requires
 fix_red_parent-requires g c = let r = c.requires in let k = c.loop.invariant.safe r.0 r.1 r.2 in (r.0, k.0, k.1)
@@ -21,7 +21,7 @@ loop-preserved g c = record {
   each = λ k h up few.
       let i = c.loop.invariant.each k h up few in
       let r = c.in-Some.ensures.fixed (record k { frames = i.0; subtree = i.1 }) i.2 i.3 in
-      (r.0, r.1, r.2, red_parent g.N.Nodes.node r.2 _ c.parent-parent.ensures, omega (arith, i.4, r.3));
+      (r.0, r.1, r.2, red_parent g.N.Nodes.node r.2 _ c.parent-parent.ensures, omega (arith, i.4, r.3), omega (arith, i.5, r.4, red_below i.0 r.3));
   safe = λ S h i.
       let k = c.loop.invariant.safe S h i in
       let e = c.in-Some.ensures.safe S k.0 k.1 in
@@ -31,7 +31,9 @@ loop-preserved g c = record {
 
 pub returns-in_default-clause-restored : goal.returns-in_default-clause-restored
 returns-in_default-clause-restored g c k h up few =
-    let i = c.loop.invariant.each k h up few in c.in_default.ensures.fixed (record k { frames = i.0; subtree = i.1 }) i.2 i.3
+    let i = c.loop.invariant.each k h up few in
+    let r = c.in_default.ensures.fixed (record k { frames = i.0; subtree = i.1 }) i.2 i.3 in
+    (r.0, omega (arith, i.5, r.1, grown_is i.0 c.loop.parent c.is_none.result i.3 c.is_none.ensures))
 
 pub returns-in_default-clause-safe : goal.returns-in_default-clause-safe
 returns-in_default-clause-safe g c S h i = let k = c.loop.invariant.safe S h i in ((c.fix_red_parent.ensures.safe S k.0 k.1).0, tt)
