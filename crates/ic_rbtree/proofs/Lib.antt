@@ -43,3 +43,5 @@ pub mod Passing
 pub mod SortedKeys
 pub mod SortedValues
 pub mod EachObject
+pub mod Vines
+pub mod Builders

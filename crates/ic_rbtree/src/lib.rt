@@ -19,6 +19,7 @@
 //! ```
 #![tactic(auto)]
 
+mod builder;
 mod contains;
 mod cursors;
 mod edits;
@@ -33,9 +34,11 @@ mod readings;
 mod repair;
 mod steps;
 mod tree;
+mod vine;
 mod whole;
 mod within;
 
+pub use builder::RBTreeBuilder;
 pub use cursors::{Cursor, CursorMut, CursorOwning};
 pub use ic_cursors::Listing;
 pub use ic_link_ops::Color;

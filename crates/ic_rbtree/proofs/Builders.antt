@@ -1,0 +1,151 @@
+-- A vine between the two ends that a builder keeps: a place hung behind it, the tree of it, and the vine of a tree.
+use Rattle.std.proofs.Common.{◌≡◌, ℕ, zero, suc, ◌+◌, ◌*◌, ◌^◌, ◌≤◌, ◌<◌, Bool, Option, Some, None, List, [], ◌∷◌, ◌++◌, length, refl, sym, ap, ◌∙◌, subst, arith, append-nil}
+use Rattle.std.proofs.lemmas.Nat.{pow-add}
+use Rattle.ic_unsafe_ref.specs.declared.place.Place.{Place}
+use Rattle.ic_link_ops.specs.declared.color.Color.TheVariants.{Black}
+use Rattle.ic_link_ops.specs.declared.side.Side.TheVariants.{Left, Right}
+use Rattle.ic_link_ops.specs.Chains.{Ends, list_head}
+use Rattle.ic_link_ops.specs.Edits.{Inserts}
+use Rattle.ic_link_ops.specs.RedBlackTree.{Node, Shows}
+use Rattle.ic_link_ops.specs.Sequences.{Cut, join, IsAbsent, IsDistinct, first, last, at_back}
+use Rattle.ic_link_ops.specs.Shape.{top_color}
+use Rattle.ic_link_ops.specs.SinglyLinkedList.{IsFollowed, IsWalk}
+use Rattle.ic_link_ops.specs.Tables.{Table, ChangesOnly, IsUnlinked}
+use Rattle.ic_link_ops.specs.Trees.{Tree, in_order}
+use Rattle.ic_link_ops.specs.Turns.{TurnsBehind}
+use Rattle.ic_link_ops.proofs.Chains.{chain_absent, chain_last, last_between}
+use Rattle.ic_link_ops.proofs.SequenceLemmas.{absent_left, absent_both, distinct_insert, disjoint_sym, last_not, last_of_push, none_not, nothing_last}
+use Rattle.ic_link_ops.proofs.SinglyLists.{successor_turns}
+use Rattle.ic_link_ops.proofs.Walks.{few_places}
+use Rattle.ic_rbtree.specs.Closed.{IsNode}
+use Rattle.ic_rbtree.specs.Height.{height, turns}
+use Rattle.ic_rbtree.specs.Sides.{IsBeside}
+use Rattle.ic_rbtree.specs.Vines.{along, IsVine, ShowsVine, IsVineOf, IsTreeOf, BecomesTree, BecomesVine, Rearranges}
+use Rattle.ic_rbtree.proofs.Low.{shown_low}
+use Rattle.ic_rbtree.proofs.Members.{stands_of}
+use Rattle.ic_rbtree.proofs.Vines.{nothing_black, vine_glue, vine_beside}
+
+-- what follows a sequence that has a last member changes nothing of its first
+first_still : (s : List Place) (q : Place) (t : List Place) → last s ≡ Some q → first (s ++ t) ≡ first s
+first_still [] q t e = absurd (none_not q e)
+first_still (x ∷ s) q t e = refl
+
+black_top : (h : ℕ) (t : Tree) → (1 ≤ h → top_color t ≡ Black) → (h ≡ 0 → length (in_order t) ≡ 0) → top_color t ≡ Black
+black_top zero t high low = nothing_black t (low refl)
+black_top (suc h) t high low = high (omega arith)
+
+module _ {E : Type 0} (n : E → Node) where
+  -- A PLACE IS HUNG BEHIND
+  module _ {v : Table E} {front back : Option Place} {s : List Place} (x : ShowsVine n v (list_head front back) s) where
+    pub back_linked : {q : Place} → back ≡ Some q → IsNode n v q
+    back_linked is = (last_between (IsFollowed (along n)) v.entry None s None x.chain (sym is ∙ x.tail)).linked
+
+    module _ {place : Place} (out : IsAbsent place s) (linked : IsNode n v place) {v1 : Table E}
+        (set1 : n (v1.entry place) ≡ record (n (v.entry place)) { right = None }) (only1 : ChangesOnly v v1 place) where
+      longer : IsDistinct (s ++ place ∷ [])
+      longer = distinct_insert s [] place (subst IsDistinct (sym (append-nil s)) x.distinct) (absent_both place s [] out tt)
+
+      first_vine : IsVine n v1.entry s None
+      first_vine = vine_beside n v v1 s None (place ∷ []) (disjoint_sym (place ∷ []) s (out, tt)) (record { extent = only1.extent; others = λ q o. only1.others q o.0 }) x.chain
+
+      still_linked : IsNode n v1 place
+      still_linked = ap (λ (e : Node). e.linked) set1 ∙ linked
+
+      -- behind nothing,
+      pub hung_alone : back ≡ None → Inserts (ShowsVine n) v v1 (list_head (Some place) (Some place)) (at_back s) place
+      hung_alone is =
+          let bare = nothing_last s (sym is ∙ x.tail) in
+          record {
+            shows = subst (λ z. ShowsVine n v1 (list_head (Some place) (Some place)) (z ++ place ∷ [])) (sym bare)
+                (record { distinct = (tt, tt); chain = (record { linked = still_linked; next = ap (λ (e : Node). e.right) set1 }, tt); head = refl; tail = refl });
+            frame = record { extent = only1.extent; others = λ q o. only1.others q o.0 };
+          }
+
+      -- and behind the last member
+      module _ {q : Place} (is : back ≡ Some q) {v2 : Table E} (set2 : n (v2.entry q) ≡ record (n (v1.entry q)) { right = Some place }) (only2 : ChangesOnly v1 v2 q) where
+        last_is : last s ≡ Some q
+        last_is = sym x.tail ∙ is
+
+        same : v2.entry place ≡ v1.entry place
+        same = only2.others place (λ e. last_not None s place (none_not place) out (last_is ∙ ap (λ z. Some z) (sym e)))
+
+        turned : TurnsBehind (IsFollowed (along n)) v1.entry v2.entry (last s) None (Some place)
+        turned = subst (λ o. TurnsBehind (IsFollowed (along n)) v1.entry v2.entry o None (Some place)) (sym last_is)
+            (successor_turns {s = along n} None only2 (ap (λ (e : Node). record { linked = e.linked; next = e.right }) set2))
+
+        others : (z : Place) → IsAbsent z (place ∷ (s ++ [])) → v2.entry z ≡ v.entry z
+        others z o =
+            only2.others z (λ e. last_not None s z (none_not z) (absent_left z s [] o.1) (last_is ∙ ap (λ y. Some y) (sym e))) ∙ only1.others z o.0
+
+        pub hung_last : Inserts (ShowsVine n) v v2 (list_head front (Some place)) (at_back s) place
+        hung_last = record {
+          shows = record {
+            distinct = longer;
+            chain = vine_glue n v2.entry s place [] None (chain_last (IsFollowed (along n)) v1.entry v2.entry None s None (Some place) turned x.distinct first_vine)
+                (ap (λ (e : E). (n e).linked) same ∙ still_linked) (ap (λ (e : E). (n e).right) same ∙ ap (λ (e : Node). e.right) set1) tt;
+            head = x.head ∙ sym (first_still s q (place ∷ []) last_is);
+            tail = sym (last_of_push s place);
+          };
+          frame = record { extent = only2.extent ∙ only1.extent; others = others };
+        }
+
+  -- a place that has just been linked stands on no vine that was shown
+  pub vine_acquired : (linked : E → Bool) → ((e : E) → (n e).linked ≡ linked e) → {old v : Table E} {ends : Ends} {s : List Place} {p : Place} → ShowsVine n old ends s
+      → IsUnlinked linked old p → ChangesOnly old v p → IsAbsent p s × ShowsVine n v ends s
+  vine_acquired linked alike {old} {v} {ends} {s} {p} x was only =
+      let out = chain_absent (IsFollowed (along n)) linked (λ e b a h. sym (alike e) ∙ h.linked) old.entry None s None p x.chain was in (
+        out,
+        record {
+          distinct = x.distinct;
+          chain = vine_beside n old v s None (p ∷ []) (disjoint_sym (p ∷ []) s (out, tt)) (record { extent = only.extent; others = λ q o. only.others q o.0 }) x.chain;
+          head = x.head;
+          tail = x.tail;
+        },
+      )
+
+  pub pushed : {old v w : Table E} {ends : Ends} {s : List Place} {p : Place} → ChangesOnly old v p → Inserts (ShowsVine n) v w ends (at_back s) p → Inserts (ShowsVine n) old w ends (at_back s) p
+  pushed only h = record { shows = h.shows; frame = record { extent = h.frame.extent ∙ only.extent; others = λ q o. h.frame.others q o ∙ only.others q o.0 } }
+
+  -- THE TREE of all members
+  module _ {v : Table E} {ends : Ends} {s : List Place} (x : ShowsVine n v ends s) where
+    pub vine_walk : IsWalk (along n) v.entry ends.head s
+    vine_walk = record { before = None; part = record { distinct = x.distinct; chain = x.chain; starts = x.head; ends = refl } }
+
+    pub vine_short : length s + 1 < 2 ^ 64
+    vine_short = omega (arith, few_places s x.distinct)
+
+    module _ {first : Option Place} {count height : ℕ} (starts : first ≡ ends.head) (counted : count ≡ length s) (enough : 2 ^ height ≤ count + 1) (few : count + 1 < 2 * 2 ^ height) where
+      pub whole_vine : IsVineOf n v first count height s None
+      whole_vine = record { vine = x.chain; distinct = x.distinct; starts = starts ∙ x.head; counted = counted; enough = enough; few = omega (arith, few, pow-add 2 height 1) }
+
+      pub built : {w : Table E} {root next : Option Place} → BecomesTree n v w root next height s None → Rearranges (Shows n) v w root s
+      built h = record {
+        shows = record {
+          tree = h.tree;
+          held = record { order = h.order; distinct = x.distinct; entries = h.entries };
+          starts = h.root_is;
+          shape = record {
+            black_root = black_top height h.tree h.black_root (λ e. omega (arith, few, counted, ap (λ (m : ℕ). 2 ^ m) e, ap length h.order));
+            no_red_pair = h.no_red_pair;
+            even = h.even;
+          };
+        };
+        frame = h.frame;
+      }
+
+  -- THE VINE of a tree
+  module _ {v : Table E} {root : Option Place} {s : List Place} (x : Shows n v root s) where
+    pub whole_tree : IsTreeOf n v root None x.tree
+    whole_tree = record { entries = x.held.entries; distinct = subst IsDistinct (sym x.held.order) x.held.distinct; root_is = x.starts }
+
+    pub whole_low : height x.tree ≤ turns
+    whole_low = let low : height x.tree < turns = shown_low n (stands_of n x.held) x.shape in omega (arith, low)
+
+    pub taken_apart : {w : Table E} {first back : Option Place} → ((g : Cut) → Shows n v root (join g) → IsBeside Left g None → IsBeside Right g back)
+        → BecomesVine n v w first (in_order x.tree) None → Rearranges (ShowsVine n) v w (list_head first back) s
+    taken_apart {w} {first} {back} leads h' =
+        let h = subst (λ z. BecomesVine n v w first z None) x.held.order h' in
+        record {
+          shows = record { distinct = x.held.distinct; chain = h.vine; head = h.first_is; tail = leads (at_back s) (subst (λ z. Shows n v root z) (sym (append-nil s)) x) refl };
+          frame = h.frame;
+        }

@@ -1,0 +1,69 @@
+-- A vine, a tree without left children: linked places, of which each is the right child of the one before. What else they read doesn't count.
+use Rattle.std.specs.Prelude.{◌≡◌, ℕ, ◌+◌, ◌^◌, ◌≤◌, length, Option, None, List}
+use Rattle.ic_unsafe_ref.specs.declared.place.Place.{Place}
+use Rattle.ic_link_ops.specs.declared.color.Color.TheVariants.{Black}
+use Rattle.ic_link_ops.specs.Chains.{Ends, IsChain, ShowsBetween}
+use Rattle.ic_link_ops.specs.Sequences.{IsDistinct, first_or}
+use Rattle.ic_link_ops.specs.Shape.{top_color, blacks, IsEven, NoRedPair}
+use Rattle.ic_link_ops.specs.SinglyLinkedList.{Successor, IsFollowed}
+use Rattle.ic_link_ops.specs.RedBlackTree.{Node, IsTree}
+use Rattle.ic_link_ops.specs.Tables.{Table, KeepsBeside}
+use Rattle.ic_link_ops.specs.Trees.{Tree, top, in_order}
+
+module _ {E : Type 0} (n : E → Node) where
+  -- what a vine reads of an entry: whether its place is linked, and its right child
+  abbrev pub along : E → Successor
+  along e = record { linked = (n e).linked; next = (n e).right }
+
+  -- s stands on a vine, and the right child of its last member is `behind`
+  abbrev pub IsVine : (Place → E) → List Place → Option Place → Type 0
+  IsVine entry s behind = IsChain (IsFollowed along) entry None s behind
+
+  -- THE TABLE SHOWS s for the vine with these ends: s is a vine of distinct places, its last member has no right child, and the ends are the first and the last of s
+  abbrev pub ShowsVine : Table E → Ends → List Place → Type 0
+  ShowsVine = ShowsBetween (IsFollowed along)
+
+  -- the table shows a sequence for the vine
+  abbrev pub ShowsVineSome : Table E → Ends → Type 0
+  ShowsVineSome v ends = (s : List Place) × ShowsVine v ends s
+
+  -- A VINE OF SO MANY MEMBERS, from `first` on to the one in front of `behind`: as many as a tree may have with this black height
+  pub record IsVineOf (v : Table E) (first : Option Place) (count height : ℕ) (s : List Place) (behind : Option Place) : Type 0 where
+    pub vine : IsVine v.entry s behind
+    pub distinct : IsDistinct s
+    pub starts : first ≡ first_or s behind
+    pub counted : count ≡ length s
+    pub enough : 2 ^ height ≤ count + 1
+    pub few : count + 1 ≤ 2 ^ (height + 1)
+
+  -- IT BECOMES A TREE of this black height, whose root is black unless that is 0, and no entry but those of its members is changed
+  pub record BecomesTree (v w : Table E) (root next : Option Place) (height : ℕ) (s : List Place) (behind : Option Place) : Type 0 where
+    pub tree : Tree
+    pub entries : IsTree n w.entry None tree
+    pub root_is : root ≡ top tree
+    pub next_is : next ≡ behind
+    pub order : in_order tree ≡ s
+    pub blacks_are : blacks tree ≡ height
+    pub even : IsEven tree
+    pub no_red_pair : NoRedPair tree
+    pub black_root : 1 ≤ height → top_color tree ≡ Black
+    pub frame : KeepsBeside v w s
+
+  -- A TREE of distinct places, whatever its colors: its root is this one, below this parent
+  pub record IsTreeOf (v : Table E) (root up : Option Place) (t : Tree) : Type 0 where
+    pub entries : IsTree n v.entry up t
+    pub distinct : IsDistinct (in_order t)
+    pub root_is : root ≡ top t
+
+  -- ITS MEMBERS BECOME A VINE in front of `behind`, and no entry but theirs is changed
+  pub record BecomesVine (v w : Table E) (first : Option Place) (s : List Place) (behind : Option Place) : Type 0 where
+    pub vine : IsVine w.entry s behind
+    pub first_is : first ≡ first_or s behind
+    pub frame : KeepsBeside v w s
+
+-- `Shows t head s`: the table shows s for the collection with this head
+module _ {E H : Type 0} (Shows : Table E → H → List Place → Type 0) where
+  -- THE MEMBERS ARE ARRANGED ANEW, for this head: they are s as before, and no entry but theirs is changed
+  pub record Rearranges (v w : Table E) (head : H) (s : List Place) : Type 0 where
+    pub shows : Shows w head s
+    pub frame : KeepsBeside v w s

@@ -1,0 +1,159 @@
+//! A tree from objects that come in order, in O(n): the builder chains them, and makes the tree of them in the end.
+//!
+//! ```text
+//! let mut builder = RBTreeBuilder::new(ByDeadline);
+//! builder.push_back(&mut links, object)?; // each behind those before it, O(1)
+//! let tree = builder.build(&mut links);   // O(n), and no look at a key
+//! let builder = tree.into_builder(&mut links);
+//! ```
+
+ghost use Rattle.std.specs.Prelude.{◌≡◌, Some, None, OnOk, OnErr, IfErr, List, [], ◌∷◌};
+ghost use Rattle.ic_unsafe_ref.specs.declared.place.Place.{Place};
+ghost use Rattle.ic_link_ops.specs.Chains.{no_members, list_head};
+ghost use Rattle.ic_link_ops.specs.Edits.{Inserts};
+ghost use Rattle.ic_link_ops.specs.LinkSteps.{acquires};
+ghost use Rattle.ic_link_ops.specs.RedBlackTree.{Shows, ShowsSome};
+ghost use Rattle.ic_link_ops.specs.Sequences.{at_back};
+ghost use Rattle.ic_link_ops.specs.Tables.{IsCovered};
+ghost use Rattle.ic_rbtree.specs.Builder.{ends_of, builder_adapter_of};
+ghost use Rattle.ic_rbtree.specs.Tree.{root_of, adapter_of};
+ghost use Rattle.ic_rbtree.specs.Vines.{ShowsVine, ShowsVineSome, Rearranges};
+
+use crate::nodes::Nodes;
+use crate::repair::TURNS;
+use crate::vine::{hang_behind, tree_to_vine, vine_length, vine_to_tree};
+use crate::{KeyAdapter, RBTree};
+use ic_link_ops::rbtree::RBTreeOps;
+use ic_link_ops::{AlreadyLinked, LinkOps, PlaceWord, Side};
+use ic_unsafe_ref::{Place, UnsafeRef};
+
+/// Linked objects in the order in which they came, to become a tree in one go.
+///
+/// It chains its members by the words of their links, each as the right child of the one before, a vine, and keeps the first and the
+/// last. It looks at no key: to build a tree for keyed calls, push the objects in the order of their keys. A builder that is dropped
+/// leaves its members linked.
+pub struct RBTreeBuilder<A> {
+    front: PlaceWord,
+    back: PlaceWord,
+    adapter: A,
+}
+
+impl<A: Drop> Drop for RBTreeBuilder<A> {
+    fn drop(self) {
+        let RBTreeBuilder {
+            front: _,
+            back: _,
+            adapter: _,
+        } = self;
+    }
+}
+
+impl<A> RBTreeBuilder<A> {
+    /// A builder of a tree with this adapter. It has no members.
+    pub fn new(adapter: A) -> RBTreeBuilder<A>
+        ensures empty { ends_of result ≡ no_members }
+        ensures adapter { builder_adapter_of result ≡ adapter }
+    {
+        RBTreeBuilder::from_ends(adapter, None, None)
+    }
+
+    /// The builder with these ends, as [`first`](Self::first) and [`last`](Self::last) return them, and this adapter, for who chained
+    /// the members himself. It reads no links. O(1).
+    #[inline]
+    pub fn from_ends(adapter: A, first: Option<Place>, last: Option<Place>) -> RBTreeBuilder<A>
+        ensures ends { ends_of result ≡ list_head first last }
+        ensures adapter { builder_adapter_of result ≡ adapter }
+    {
+        RBTreeBuilder {
+            front: PlaceWord::of(first),
+            back: PlaceWord::of(last),
+            adapter,
+        }
+    }
+
+    /// The first member, `None` where there is none. It reads no links. O(1).
+    #[inline]
+    pub fn first(&self) -> Option<Place>
+        ensures { result ≡ (ends_of self.now).head }
+    {
+        self.front.get()
+    }
+
+    /// The last member, `None` where there is none. It reads no links. O(1).
+    #[inline]
+    pub fn last(&self) -> Option<Place>
+        ensures { result ≡ (ends_of self.now).tail }
+    {
+        self.back.get()
+    }
+
+    /// The tree of all members in their order, with the builder's adapter. No link is acquired or released, and what shares no member
+    /// with the builder stays.
+    ///
+    /// It requires that the table shows the members, as it does after [`new`](Self::new) and each [`push_back`](Self::push_back). It
+    /// reads no key and takes no memory. O(n).
+    pub fn build<N: Nodes>(self, nodes: &mut N) -> RBTree<A>
+        requires shown { ShowsVineSome N.node (N.table nodes.old) (ends_of self) }
+        ensures built { (s : List Place) → ShowsVine N.node (N.table nodes.old) (ends_of self) s
+            → Rearranges (Shows N.node) (N.table nodes.old) (N.table nodes.new) (root_of result) s }
+        ensures quiet { N.Quiet nodes.old nodes.new }
+        ensures adapter { adapter_of result ≡ builder_adapter_of self }
+    {
+        let RBTreeBuilder {
+            front,
+            back: _,
+            adapter,
+        } = self;
+        let first = front.get();
+        let count = vine_length(&*nodes, first);
+        let (root, _) = vine_to_tree(nodes, first, count, (count + 1).ilog2());
+        RBTree::from_root(adapter, root)
+    }
+}
+
+impl<A: KeyAdapter> RBTreeBuilder<A> {
+    /// Puts the object behind all members, unless its link is refused.
+    ///
+    /// It requires that the object's place is covered. A refused object comes back, and the builder and all links are as they were.
+    /// O(1).
+    pub fn push_back<L: RBTreeOps>(
+        &mut self,
+        links: &mut L,
+        object: UnsafeRef<A::Value>,
+    ) -> Result<(), AlreadyLinked<A::Value>>
+        requires covered { IsCovered (L.table links.old) object }
+        requires shown { ShowsVineSome L.node (L.table links.old) (ends_of self.old) }
+        ensures inserted { (s : List Place) → ShowsVine L.node (L.table links.old) (ends_of self.old) s → OnOk result
+            (Inserts (ShowsVine L.node) (L.table links.old) (L.table links.new) (ends_of self.new) (at_back s) object) }
+        ensures acquired { OnOk result (L.Does links.old links.new (acquires object ∷ [])) }
+        ensures adapter { builder_adapter_of self.new ≡ builder_adapter_of self.old }
+        ensures refused { OnErr result (L.Refused links.old links.new object) }
+        ensures unchanged { IfErr result (λ refused. (refused.0 ≡ object) × (self.new ≡ self.old)) }
+    {
+        let place = object.place();
+        if !links.acquire_link(place) {
+            return Err(AlreadyLinked(object));
+        }
+        hang_behind(links, &mut self.front, self.back.get(), place);
+        self.back = PlaceWord::of(Some(place));
+        Ok(())
+    }
+}
+
+impl<A: Copy> RBTree<A> {
+    /// A builder that has all members of this tree in their order, and its adapter. No link is acquired or released, and what shares no
+    /// member with the tree stays.
+    ///
+    /// [`build`](RBTreeBuilder::build) of it makes a tree that is as low as can be. It reads no key and takes no memory. O(n).
+    pub fn into_builder<N: Nodes>(self, nodes: &mut N) -> RBTreeBuilder<A>
+        requires shown { ShowsSome N.node (N.table nodes.old) (root_of self) }
+        ensures taken_apart { (s : List Place) → Shows N.node (N.table nodes.old) (root_of self) s
+            → Rearranges (ShowsVine N.node) (N.table nodes.old) (N.table nodes.new) (ends_of result) s }
+        ensures quiet { N.Quiet nodes.old nodes.new }
+        ensures adapter { builder_adapter_of result ≡ adapter_of self }
+    {
+        let last = self.step(&*nodes, None, Side::Left);
+        let first = tree_to_vine(nodes, self.root.get(), None, TURNS);
+        RBTreeBuilder::from_ends(self.adapter, first, last)
+    }
+}

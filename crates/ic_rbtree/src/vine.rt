@@ -1,0 +1,129 @@
+//! A vine, a tree without left children: linked places in order, of which each is the right child of the one before.
+//!
+//! A tree becomes a vine, and a vine a tree, in place and in O(n), as in Day, Stout and Warren's algorithm. A vine has no colors and no
+//! parents: only right children are read.
+//!
+//! ```text
+//! let first = tree_to_vine(links, root, None, TURNS);
+//! let count = vine_length(&*links, first);
+//! let (root, _) = vine_to_tree(links, first, count, (count + 1).ilog2());
+//! ```
+
+ghost use Rattle.std.specs.Prelude.{◌≡◌, ◌≤◌, ◌+◌, ◌-◌, Option, Some, None, List, length};
+ghost use Rattle.ic_unsafe_ref.specs.declared.place.Place.{Place};
+ghost use Rattle.ic_link_ops.specs.Chains.{list_head};
+ghost use Rattle.ic_link_ops.specs.Edits.{Inserts};
+ghost use Rattle.ic_link_ops.specs.Sequences.{IsAbsent, at_back};
+ghost use Rattle.ic_link_ops.specs.Shape.{weight};
+ghost use Rattle.ic_link_ops.specs.SinglyLinkedList.{IsWalk};
+ghost use Rattle.ic_link_ops.specs.Tables.{Table};
+ghost use Rattle.ic_link_ops.specs.Trees.{Tree, in_order};
+ghost use Rattle.ic_rbtree.specs.Closed.{IsNode, IsNamed};
+ghost use Rattle.ic_rbtree.specs.Height.{height};
+ghost use Rattle.ic_rbtree.specs.Vines.{along, ShowsVine, IsVineOf, IsTreeOf, BecomesTree, BecomesVine};
+
+use crate::nodes::Nodes;
+use crate::repair::writers::{adopt, set_node};
+use ic_link_ops::{Color, PlaceWord};
+use ic_unsafe_ref::Place;
+
+// How many members a vine has from its first one on.
+pub(crate) fn vine_length<N: Nodes>(links: &N, first: Option<Place>) -> u64
+    requires { (s : List Place) × IsWalk (along N.node) (Table.entry (N.table links.now)) first s }
+    ensures { (s : List Place) → IsWalk (along N.node) (Table.entry (N.table links.now)) first s → result ≡ length s }
+{
+    let mut at = first;
+    for count in 0..u64::MAX {
+        let Some(place) = at else {
+            return count;
+        };
+        at = links.right(place);
+    }
+    u64::MAX
+}
+
+// A linked place becomes the last of a vine that ended with `back`.
+pub(crate) fn hang_behind<N: Nodes>(
+    links: &mut N,
+    front: &mut PlaceWord,
+    back: Option<Place>,
+    place: Place,
+)
+    requires linked { IsNode N.node (N.table links.old) place }
+    requires shown { (s : List Place) × ShowsVine N.node (N.table links.old) (list_head front.old back) s }
+    ensures hung { (s : List Place) → ShowsVine N.node (N.table links.old) (list_head front.old back) s → IsAbsent place s
+        → Inserts (ShowsVine N.node) (N.table links.old) (N.table links.new) (list_head front.new (Some place)) (at_back s) place }
+    ensures quiet { N.Quiet links.old links.new }
+{
+    links.set_right(place, None);
+    match back {
+        Some(last) => links.set_right(last, Some(place)),
+        None => *front = PlaceWord::of(Some(place)),
+    }
+}
+
+// The color of a member with this black height, which counts it.
+fn color_at(height: u32) -> Color
+    ensures { weight result + (height - 1) ≡ height }
+{
+    match height {
+        0 => Color::Red,
+        _ => Color::Black,
+    }
+}
+
+// The tree of the first `count` members of a vine, and the member behind them. Each way down it has `height` black members: its sizes
+// left and right differ by one at most, all levels but the lowest are full, and the members of that one are red if it is not full.
+pub(crate) fn vine_to_tree<N: Nodes>(
+    links: &mut N,
+    first: Option<Place>,
+    count: u64,
+    height: u32,
+) -> (Option<Place>, Option<Place>)
+    requires { (s : List Place) × (behind : Option Place) × IsVineOf N.node (N.table links.old) first count height s behind }
+    ensures grown { (s : List Place) (behind : Option Place) → IsVineOf N.node (N.table links.old) first count height s behind
+        → BecomesTree N.node (N.table links.old) (N.table links.new) result.0 result.1 height s behind }
+    ensures quiet { N.Quiet links.old links.new }
+{
+    if count == 0 {
+        return (None, first);
+    }
+    let before = (count - 1) / 2;
+    let lower = height.saturating_sub(1);
+    let (left, middle) = vine_to_tree(links, first, before, lower);
+    let Some(place) = middle else {
+        return (left, middle);
+    };
+    let next = links.right(place);
+    let (right, rest) = vine_to_tree(links, next, count - 1 - before, lower);
+    set_node(links, place, left, right, None, color_at(height));
+    adopt(links, left, Some(place));
+    adopt(links, right, Some(place));
+    (Some(place), rest)
+}
+
+// The members of the tree with this root become a vine in front of `behind`, of which this is the first.
+pub(crate) fn tree_to_vine<N: Nodes>(
+    links: &mut N,
+    root: Option<Place>,
+    behind: Option<Place>,
+    turns: u32,
+) -> Option<Place>
+    requires tree { (up : Option Place) × (t : Tree) × IsTreeOf N.node (N.table links.old) root up t × (height t ≤ turns) }
+    requires named { IsNamed N.node (N.table links.old) behind }
+    ensures laid { (up : Option Place) (t : Tree) → IsTreeOf N.node (N.table links.old) root up t → height t ≤ turns
+        → BecomesVine N.node (N.table links.old) (N.table links.new) result (in_order t) behind }
+    ensures quiet { N.Quiet links.old links.new }
+{
+    let Some(place) = root else {
+        return behind;
+    };
+    if turns == 0 {
+        return behind;
+    }
+    let left = links.left(place);
+    let right = links.right(place);
+    let next = tree_to_vine(links, right, behind, turns - 1);
+    links.set_right(place, next);
+    tree_to_vine(links, left, Some(place), turns - 1)
+}
