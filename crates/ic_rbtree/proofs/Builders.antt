@@ -16,9 +16,10 @@ use Rattle.ic_link_ops.specs.Turns.{TurnsBehind}
 use Rattle.ic_link_ops.proofs.Chains.{chain_absent, chain_last, last_between}
 use Rattle.ic_link_ops.proofs.SequenceLemmas.{absent_left, absent_both, distinct_insert, disjoint_sym, last_not, last_of_push, none_not, nothing_last}
 use Rattle.ic_link_ops.proofs.SinglyLists.{successor_turns}
+use Rattle.ic_link_ops.proofs.Trees.{one_tree}
 use Rattle.ic_link_ops.proofs.Walks.{few_places}
 use Rattle.ic_rbtree.specs.Closed.{IsNode}
-use Rattle.ic_rbtree.specs.Height.{height, turns}
+use Rattle.ic_rbtree.specs.Height.{height, turns, IsLowest}
 use Rattle.ic_rbtree.specs.Sides.{IsBeside}
 use Rattle.ic_rbtree.specs.Vines.{along, IsVine, ShowsVine, IsVineOf, IsTreeOf, BecomesTree, BecomesVine, Rearranges}
 use Rattle.ic_rbtree.proofs.Low.{shown_low}
@@ -132,6 +133,12 @@ module _ {E : Type 0} (n : E → Node) where
         };
         frame = h.frame;
       }
+
+  -- which is as low as can be
+  pub built_lowest : {v w : Table E} {root next o : Option Place} {m : ℕ} {s r : List Place} {behind : Option Place} → BecomesTree n v w root next m s behind → o ≡ root
+      → (h : Shows n w o r) → IsLowest h.tree
+  built_lowest {v} {w} {root} {next} {o} {m} {s} {r} {behind} b is h =
+      subst IsLowest (one_tree n w.entry None b.tree h.tree b.entries h.held.entries (sym b.root_is ∙ (sym is ∙ h.starts))) b.lowest
 
   -- THE VINE of a tree
   module _ {v : Table E} {root : Option Place} {s : List Place} (x : Shows n v root s) where

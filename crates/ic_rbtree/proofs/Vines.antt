@@ -1,6 +1,7 @@
 -- Vines: cut and glued at a member, hung behind, grown into trees, and laid out of them.
-use Rattle.std.proofs.Common.{◌≡◌, ℕ, zero, suc, ◌+◌, ◌-◌, ◌/◌, ◌^◌, ◌≤◌, ◌<◌, true, Option, Some, None, List, [], ◌∷◌, ◌++◌, length, refl, sym, ap, ◌∙◌, subst, arith, length-append}
-use Rattle.std.proofs.Math.Nat.{le-max_left, le-max_right}
+use Rattle.std.proofs.Common.{◌≡◌, ℕ, zero, suc, max, inl, inr, ◌+◌, ◌-◌, ◌/◌, ◌^◌, ◌≤◌, ◌<◌, true, Option, Some, None, List, [], ◌∷◌, ◌++◌, length, refl, sym, ap, ◌∙◌, subst, arith, length-append}
+use Rattle.std.proofs.Math.Nat.{le-max_left, le-max_right, max-eq_left, max-eq_right}
+use Rattle.std.proofs.lemmas.Bool.{cases_lt}
 use Rattle.std.proofs.lemmas.Nat.{pow-add, pow_pos}
 use Rattle.ic_unsafe_ref.specs.declared.place.Place.{Place}
 use Rattle.ic_link_ops.specs.declared.color.Color.{Color}
@@ -25,7 +26,7 @@ use Rattle.ic_rbtree.specs.Vines.{along, IsVine, IsVineOf, IsTreeOf, BecomesTree
 use Rattle.ic_rbtree.proofs.Pieces.{regroup, node_set}
 use Rattle.ic_rbtree.proofs.Rotations.{below_linked, close_below}
 use Rattle.ic_rbtree.proofs.Branches.{as_branch, top_leaf}
-use Rattle.ic_rbtree.specs.Height.{height}
+use Rattle.ic_rbtree.specs.Height.{height, IsLowest}
 
 -- the sequence around its member number k
 pub split_at : (k : ℕ) (s : List Place) → k < length s → (a : List Place) × (p : Place) × (b : List Place) × (s ≡ a ++ p ∷ b) × (length a ≡ k)
@@ -95,6 +96,25 @@ flat (suc h) e = absurd (omega (arith, e, pow-add 2 1 h, pow_pos h))
 black_if : (c : Color) → 1 ≤ weight c → c ≡ Black
 black_if Red e = absurd (omega (arith, e))
 black_if Black e = refl
+
+pow_max : (a b m : ℕ) → 2 ^ a ≤ m → 2 ^ b ≤ m → 2 ^ max a b ≤ m
+pow_max a b m h k = elim (cases_lt a b) [
+  | inl less ↦ omega (arith, k, ap (λ (z : ℕ). 2 ^ z) (max-eq_right {n = a} {m = b} (omega (arith, less))))
+  | inr more ↦ omega (arith, h, ap (λ (z : ℕ). 2 ^ z) (max-eq_left {n = a} {m = b} more))
+]
+
+-- of a tree that is as low as can be, and of one that has one member more at most
+lowest_even : (t : Tree) (m : ℕ) → IsLowest t → length (in_order t) ≤ m + 1 → 2 ^ height t ≤ length (in_order t) + m + 1
+lowest_even leaf m low few = omega arith
+lowest_even (fork c a p b) m low few = omega (arith, low, few, pow-add 2 1 (max (height a) (height b)))
+
+lowest_fork : (c : Color) (a : Tree) (p : Place) (b : Tree) → length (in_order a) ≤ length (in_order b) → length (in_order b) ≤ length (in_order a) + 1 → IsLowest a → IsLowest b
+    → IsLowest (fork c a p b)
+lowest_fork c a p b less few low_a low_b =
+    let all : length (in_order a ++ p ∷ in_order b) ≡ length (in_order a) + (length (in_order b) + 1) = omega (arith, length-append (in_order a) (p ∷ in_order b)) in
+    let most : 2 ^ max (height a) (height b) ≤ length (in_order a) + length (in_order b) + 1 =
+    pow_max (height a) (height b) (length (in_order a) + length (in_order b) + 1) (omega (arith, low_a, less)) (omega (arith, lowest_even b (length (in_order a)) low_b few)) in
+    omega (arith, all, most, pow-add 2 1 (max (height a) (height b)))
 
 module _ {E : Type 0} (n : E → Node) where
   -- what stands in front of a vine doesn't count
@@ -238,13 +258,19 @@ module _ {E : Type 0} (n : E → Node) where
               sym (times_order q (fork c g.tree place h.tree)) ∙ (ap (λ (z : List Place). times_in q z) all ∙ absent_times q s out) in
               hung.beside q (omega (arith, none)) ∙ (h.frame.others q (absent_right q halves.0 (place ∷ halves.2) o).1 ∙ g.frame.others q (absent_left q halves.0 (place ∷ halves.2) o))
 
+          sizes_are : (length (in_order g.tree) ≡ before) × (length (in_order h.tree) ≡ count - 1 - before)
+          sizes_are = (
+            omega (arith, ap length g.order, halves.4),
+            omega (arith, ap length h.order, x.counted, ap length halves.3, length-append halves.0 (halves.1 ∷ halves.2), halves.4),
+          )
+
           -- a red member has nothing below
           below_red : c ≡ Red → (top_color g.tree ≡ Black) × (top_color h.tree ≡ Black)
           below_red e =
               let none : height ≡ 0 = omega (arith, weighs, ap weight e) in
               let one : count ≡ 1 = omega (arith, some, x.few, ap (λ (m : ℕ). 2 ^ (m + 1)) none) in (
-                nothing_black g.tree (omega (arith, ap length g.order, halves.4, half, one)),
-                nothing_black h.tree (omega (arith, ap length h.order, x.counted, ap length halves.3, length-append halves.0 (halves.1 ∷ halves.2), one)),
+                nothing_black g.tree (omega (arith, sizes_are.0, half, one)),
+                nothing_black h.tree (omega (arith, sizes_are.1, one)),
               )
 
           pub hung_below : BecomesTree n v v5 (Some place) rest height s behind
@@ -258,6 +284,7 @@ module _ {E : Type 0} (n : E → Node) where
             even = (g.blacks_are ∙ sym h.blacks_are, g.even, h.even);
             no_red_pair = (below_red, g.no_red_pair, h.no_red_pair);
             black_root = λ high. black_if c (omega (arith, weighs, high));
+            lowest = lowest_fork c g.tree place h.tree (omega (arith, sizes_are.0, sizes_are.1, some, half)) (omega (arith, sizes_are.0, sizes_are.1, some, half)) g.lowest h.lowest;
             frame = record { extent = hung.extent ∙ (h.frame.extent ∙ g.frame.extent); others = others };
           }
 
@@ -277,6 +304,7 @@ module _ {E : Type 0} (n : E → Node) where
         even = tt;
         no_red_pair = tt;
         black_root = λ high. refl;
+        lowest = omega arith;
         frame = record { extent = refl; others = λ q out. refl };
       }
 

@@ -9,6 +9,7 @@ use Rattle.ic_link_ops.specs.SinglyLinkedList.{Successor, IsFollowed}
 use Rattle.ic_link_ops.specs.RedBlackTree.{Node, IsTree}
 use Rattle.ic_link_ops.specs.Tables.{Table, KeepsBeside}
 use Rattle.ic_link_ops.specs.Trees.{Tree, top, in_order}
+use Rattle.ic_rbtree.specs.Height.{IsLowest}
 
 module _ {E : Type 0} (n : E → Node) where
   -- what a vine reads of an entry: whether its place is linked, and its right child
@@ -47,6 +48,7 @@ module _ {E : Type 0} (n : E → Node) where
     pub even : IsEven tree
     pub no_red_pair : NoRedPair tree
     pub black_root : 1 ≤ height → top_color tree ≡ Black
+    pub lowest : IsLowest tree
     pub frame : KeepsBeside v w s
 
   -- A TREE of distinct places, whatever its colors: its root is this one, below this parent

@@ -16,6 +16,7 @@ ghost use Rattle.ic_link_ops.specs.RedBlackTree.{Shows, ShowsSome};
 ghost use Rattle.ic_link_ops.specs.Sequences.{at_back};
 ghost use Rattle.ic_link_ops.specs.Tables.{IsCovered};
 ghost use Rattle.ic_rbtree.specs.Builder.{ends_of, builder_adapter_of};
+ghost use Rattle.ic_rbtree.specs.Height.{IsLowest};
 ghost use Rattle.ic_rbtree.specs.Tree.{root_of, adapter_of};
 ghost use Rattle.ic_rbtree.specs.Vines.{ShowsVine, ShowsVineSome, Rearranges};
 
@@ -87,15 +88,15 @@ impl<A> RBTreeBuilder<A> {
         self.back.get()
     }
 
-    /// The tree of all members in their order, with the builder's adapter. No link is acquired or released, and what shares no member
-    /// with the builder stays.
+    /// The tree of all members in their order, with the builder's adapter. It is as low as a tree of so many members can be.
     ///
-    /// It requires that the table shows the members, as it does after [`new`](Self::new) and each [`push_back`](Self::push_back). It
-    /// reads no key and takes no memory. O(n).
+    /// It requires that the table shows the members, as it does after [`new`](Self::new) and each [`push_back`](Self::push_back). No
+    /// link is acquired or released, and what shares no member with the builder stays. It reads no key and takes no memory. O(n).
     pub fn build<N: Nodes>(self, nodes: &mut N) -> RBTree<A>
         requires shown { ShowsVineSome N.node (N.table nodes.old) (ends_of self) }
         ensures built { (s : List Place) → ShowsVine N.node (N.table nodes.old) (ends_of self) s
             → Rearranges (Shows N.node) (N.table nodes.old) (N.table nodes.new) (root_of result) s }
+        ensures lowest { (s : List Place) (h : Shows N.node (N.table nodes.new) (root_of result) s) → IsLowest h.tree }
         ensures quiet { N.Quiet nodes.old nodes.new }
         ensures adapter { adapter_of result ≡ builder_adapter_of self }
     {
@@ -141,10 +142,11 @@ impl<A: KeyAdapter> RBTreeBuilder<A> {
 }
 
 impl<A: Copy> RBTree<A> {
-    /// A builder that has all members of this tree in their order, and its adapter. No link is acquired or released, and what shares no
-    /// member with the tree stays.
+    /// A builder that has all members of this tree in their order, and its adapter: to put more behind them, or to build the tree anew,
+    /// as low as can be.
     ///
-    /// [`build`](RBTreeBuilder::build) of it makes a tree that is as low as can be. It reads no key and takes no memory. O(n).
+    /// It requires that the table shows the members. No link is acquired or released, and what shares no member with the tree stays. It
+    /// reads no key and takes no memory. O(n).
     pub fn into_builder<N: Nodes>(self, nodes: &mut N) -> RBTreeBuilder<A>
         requires shown { ShowsSome N.node (N.table nodes.old) (root_of self) }
         ensures taken_apart { (s : List Place) → Shows N.node (N.table nodes.old) (root_of self) s
