@@ -9,7 +9,7 @@
 //! ```
 //!
 //! Who keeps trees in words of his own makes a tree of the root that he keeps, makes one edit by the layer under these calls, and
-//! reads the root again. That layer runs over whatever implements [`Nodes`], and asks only for links that lead out of no set of
+//! reads the root again. That layer runs over whatever implements [`Nodes`], and requires only that links lead out of no set of
 //! linked places.
 //!
 //! ```text
