@@ -89,8 +89,9 @@ impl<A: KeyAdapter> RBTree<A> {
     /// Keeps the members in front of the object, which has to be a member, and hands out the object and all behind it, as a tree with
     /// the same adapter. It looks at no key, and no link is acquired or released.
     ///
-    /// Trees that share no member with this one stay. O(log n): it joins O(log n) subtrees, each in the time of the difference of the
-    /// heights, as in Cormen, Leiserson, Rivest and Stein, problem 13-2. The heights are handed on, and the differences sum to O(log n).
+    /// Trees that share no member with this one stay. O(log n): it joins the subtrees beside one way up, each in the time of a difference of
+    /// heights (Cormen, Leiserson, Rivest and Stein, problem 13-2). The heights are handed on, so that a turn measures no tree, and the
+    /// differences sum to a multiple of the height of the tree.
     pub fn split_off<L: RBTreeOps>(
         &mut self,
         links: &mut L,
