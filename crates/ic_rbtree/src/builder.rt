@@ -58,8 +58,8 @@ impl<A> RBTreeBuilder<A> {
         RBTreeBuilder::from_ends(adapter, None, None)
     }
 
-    /// The builder with these ends, as [`first`](Self::first) and [`last`](Self::last) return them, and this adapter, for who chained
-    /// the members himself. It reads no links. O(1).
+    /// The builder with these ends, as [`first`](Self::first) and [`last`](Self::last) return them, and this adapter, for callers who
+    /// chained the members themselves. It reads no links. O(1).
     #[inline]
     pub fn from_ends(adapter: A, first: Option<Place>, last: Option<Place>) -> RBTreeBuilder<A>
         ensures ends { ends_of result ≡ list_head first last }
@@ -91,7 +91,8 @@ impl<A> RBTreeBuilder<A> {
     /// The tree of all members in their order, with the builder's adapter. It is as low as a tree of so many members can be.
     ///
     /// It requires that the table shows the members, as it does after [`new`](Self::new) and each [`push_back`](Self::push_back). No
-    /// link is acquired or released, and what shares no member with the builder stays. It reads no key and takes no memory. O(n).
+    /// link is acquired or released, and a collection that shares no member with the builder stays as it was. It reads no key and takes no
+    /// memory. O(n).
     pub fn build<N: Nodes>(self, nodes: &mut N) -> RBTree<A>
         requires shown { ShowsVineSome N.node (N.table nodes.old) (ends_of self) }
         ensures built { (s : List Place) → ShowsVine N.node (N.table nodes.old) (ends_of self) s
@@ -145,8 +146,8 @@ impl<A: Copy> RBTree<A> {
     /// A builder that has all members of this tree in their order, and its adapter: to put more behind them, or to build the tree anew,
     /// as low as can be.
     ///
-    /// It requires that the table shows the members. No link is acquired or released, and what shares no member with the tree stays. It
-    /// reads no key and takes no memory. O(n).
+    /// It requires that the table shows the members. No link is acquired or released, and a collection that shares no member with the tree
+    /// stays as it was. It reads no key and takes no memory. O(n).
     pub fn into_builder<N: Nodes>(self, nodes: &mut N) -> RBTreeBuilder<A>
         requires shown { ShowsSome N.node (N.table nodes.old) (root_of self) }
         ensures taken_apart { (s : List Place) → Shows N.node (N.table nodes.old) (root_of self) s
