@@ -1,0 +1,79 @@
+-- What clauses see of an entry of a tree with its ends: a member with a key, or a gap where it would stand.
+use Rattle.std.specs.Prelude.{◌≡◌, ⊤, Some, Result, IfOk, IfErr, List, [], ◌∷◌}
+use Rattle.std.specs.declared.cmp.Ordering.{Ordering}
+use Rattle.std.specs.Borrow.{MutBor}
+use Rattle.ic_unsafe_ref.specs.declared.place.Place.{Place}
+use Rattle.ic_link_ops.specs.Edits.{Inserts}
+use Rattle.ic_link_ops.specs.LinkSteps.{LinkStep, acquires}
+use Rattle.ic_link_ops.specs.Positions.{Stands}
+use Rattle.ic_link_ops.specs.Sequences.{Cut, join}
+use Rattle.ic_link_ops.specs.Tables.{Table}
+use Rattle.ic_link_ops.specs.RedBlackTree.{Node}
+use Rattle.ic_rbtree.specs.Borders.{IsBorder, at_most_at, less_at}
+use Rattle.ic_rbtree_cached.specs.declared.entry.Entry.{Entry}
+use Rattle.ic_rbtree_cached.specs.declared.entry.Entry.TheVariants.{Occupied, Vacant}
+use Rattle.ic_rbtree_cached.specs.declared.entry.InsertCursor.{InsertCursor}
+use Rattle.ic_rbtree_cached.specs.declared.entry.RefusedInsert.{RefusedInsert}
+use Rattle.ic_rbtree_cached.specs.declared.tree.RBTreeCached.{RBTreeCached}
+use Rattle.ic_rbtree_cached.specs.CursorMut as editing
+use Rattle.ic_rbtree_cached.specs.CursorMut.{CursorMut}
+use Rattle.ic_rbtree_cached.specs.Ends.{ShowsCached}
+use Rattle.ic_rbtree_cached.specs.Holes.{IsHoleAt}
+use Rattle.ic_rbtree_cached.specs.Tree.{ends_of, ShowsFor}
+
+module _ {A L V K : Type 0} where
+  -- what holds of the cursor, if the entry is occupied, and of the gap, if it is vacant
+  abbrev pub IfOccupied : Entry A L V K → (CursorMut A L V → Type 0) → Type 0
+  IfOccupied (Occupied c) P = P c
+  IfOccupied (Vacant v) P = ⊤
+
+  abbrev pub IfVacant : Entry A L V K → (InsertCursor A L → Type 0) → Type 0
+  IfVacant (Occupied c) P = ⊤
+  IfVacant (Vacant v) P = P v
+
+module _ {A L : Type 0} where
+  -- the tree and the table that it edits
+  abbrev pub tree_of : InsertCursor A L → RBTreeCached A
+  tree_of v = v.tree.now
+
+  abbrev pub links_of : InsertCursor A L → L
+  links_of v = v.links.now
+
+  -- it edits this tree and this table, which are as they were
+  abbrev pub IsBorrowed : MutBor (RBTreeCached A) → MutBor L → InsertCursor A L → Type 0
+  IsBorrowed tree links v =
+      (v.tree.ghost_name ≡ tree.ghost_name) × (v.links.ghost_name ≡ links.ghost_name) × (v.tree.now ≡ tree.now) × (v.links.now ≡ links.now)
+
+  module _ {E : Type 0} (node : E → Node) where
+    -- THE GAP where it inserts
+    abbrev pub IsVacantAt : Table E → InsertCursor A L → Cut → Type 0
+    IsVacantAt t v gap = IsHoleAt node t v.hole gap
+
+    -- there is a gap of what is shown where it inserts
+    abbrev pub CanInsert : (L → Table E) → InsertCursor A L → Type 0
+    CanInsert table v = (gap : Cut) × ShowsCached node (table (links_of v)) (ends_of (tree_of v)) (join gap) × IsVacantAt (table (links_of v)) v gap
+
+    -- VACANT FOR WHAT IS SEARCHED: it inserts at a gap of s where the member in front is smaller, and the one behind larger
+    pub record IsVacantFor (at : Place → Ordering) (t : Table E) (s : List Place) (v : InsertCursor A L) : Type 0 where
+      pub gap : Cut
+      pub same : join gap ≡ s
+      pub is_at : IsVacantAt t v gap
+      pub smaller : IsBorder (at_most_at at) gap
+      pub larger : IsBorder (less_at at) gap
+
+  -- the same gap of the same tree and table, and the tree is as it was
+  abbrev pub IsLeft : InsertCursor A L → InsertCursor A L → Type 0
+  IsLeft old v =
+      (v.tree.ghost_name ≡ old.tree.ghost_name) × (v.links.ghost_name ≡ old.links.ghost_name) × (tree_of v ≡ tree_of old) × (v.hole ≡ old.hole)
+
+-- THE OBJECT IS INSERTED at the gap, and the cursor is on it; or its link is refused, and it comes back with the gap, of which nothing has changed
+module _ {A L T K E : Type 0} (node : E → Node) (table : L → Table E) (Does : L → L → List LinkStep → Type 0) (Refused : L → L → Place → Type 0) where
+  pub record InsertsInto (v : InsertCursor A L) (object : Place) (result : Result (CursorMut A L T) (RefusedInsert A L T K)) : Type 0 where
+    pub inserted : (gap : Cut) → ShowsCached node (table (links_of v)) (ends_of (tree_of v)) (join gap) → IsVacantAt node (table (links_of v)) v gap
+        → IfOk result (λ c. Inserts (ShowsCached node) (table (links_of v)) (table (editing.links_of c)) (ends_of (editing.tree_of c)) gap object)
+    pub acquired : IfOk result (λ c. Does (links_of v) (editing.links_of c) (acquires object ∷ []))
+    pub position : IfOk result (λ c. editing.position c ≡ Some object)
+    pub stands : IfOk result (λ c. Stands (ShowsFor node) table (editing.site_of c))
+    pub borrows : IfOk result (editing.SameNames v.tree v.links)
+    pub refused : IfErr result (λ e. Refused (links_of v) (links_of e.gap) object)
+    pub unchanged : IfErr result (λ e. (e.object ≡ object) × IsLeft v e.gap)

@@ -1,0 +1,188 @@
+//! The member with a key, or the gap where it would stand, in a tree that keeps its ends.
+//!
+//! ```text
+//! let cursor = timers.entry(&mut links, &objects, &5).or_insert_with(|| timer)?;
+//! ```
+
+ghost use Rattle.std.specs.Prelude.{◌≡◌, Ok, IsSome, List};
+ghost use Rattle.ic_unsafe_ref.specs.declared.place.Place.{Place};
+ghost use Rattle.ic_link_ops.specs.PlacedObjects.{ShowsPlaced};
+ghost use Rattle.ic_link_ops.specs.Positions.{Stands};
+ghost use Rattle.ic_link_ops.specs.Tables.{IsCovered};
+ghost use Rattle.ic_rbtree.specs.Borders.{Finds};
+ghost use Rattle.ic_rbtree.specs.Comparing.{compared, order_of, HasRoom, Looks};
+ghost use Rattle.ic_rbtree.specs.Tree.{adapter_of};
+ghost use Rattle.ic_rbtree_cached.specs.CursorMut as editing;
+ghost use Rattle.ic_rbtree_cached.specs.Ends.{ShowsCached};
+ghost use Rattle.ic_rbtree_cached.specs.Entry.{IfOccupied, IfVacant, IsVacantFor, CanInsert, InsertsInto, links_of, IsBorrowed};
+ghost use Rattle.ic_rbtree_cached.specs.Tree.{tree_of, ends_of, ShowsFor};
+
+use crate::hole::Hole;
+use crate::{CursorMut, RBTreeCached};
+use ic_link_ops::rbtree::RBTreeOps;
+use ic_link_ops::{LinkOps, PlaceWord, Side};
+use ic_rbtree::{KeyAdapter, KeyProbe, Probe};
+use ic_unsafe_ref::{UnsafeRef, Values};
+
+/// The gap of a tree where a key would stand that no member has, with the tree and the table of its links.
+pub struct InsertCursor<'a, A, L> {
+    tree: &'a mut RBTreeCached<A>,
+    links: &'a mut L,
+    hole: Hole,
+}
+
+impl<A, L> Drop for InsertCursor<'_, A, L> {
+    fn drop(self)
+        ensures tree { self.exit.0.now ≡ self.entry.tree.now }
+        ensures links { self.exit.1.0.now ≡ self.entry.links.now }
+    {
+        let InsertCursor {
+            tree: _,
+            links: _,
+            hole: _,
+        } = self;
+    }
+}
+
+/// An insert that was refused, since the object is linked: the gap, as it was, and the object.
+#[derive(Drop)]
+pub struct RefusedInsert<'a, A: KeyAdapter, L> {
+    /// The gap, in a tree and a table as they were.
+    pub gap: InsertCursor<'a, A, L>,
+    /// The object that came back.
+    pub object: UnsafeRef<A::Value>,
+}
+
+/// What `entry` finds: a cursor on the first member with the key, or the gap where it would stand.
+#[derive(Drop)]
+pub enum Entry<'a, A: KeyAdapter, L> {
+    /// A member has the key.
+    Occupied(CursorMut<'a, A, L>),
+    /// No member that was looked at has it.
+    Vacant(InsertCursor<'a, A, L>),
+}
+
+impl<A: KeyAdapter> RBTreeCached<A> {
+    /// The first member that compares equal, or the gap where the search ended. An insert there makes no second search, and sets the
+    /// ends.
+    ///
+    /// It requires that all members are placed, and that the probe's count is at most `u64::MAX - 66`. It descends as `find_by` of the
+    /// plain tree. O(log n): v looks in a tree of n members, where `2^v <= (n + 1)^2`.
+    pub fn entry_by<'a, L: RBTreeOps, P: Probe<A::Value>, O: Values<A::Value>>(
+        &'a mut self,
+        links: &'a mut L,
+        objects: &O,
+        probe: &mut P,
+    ) -> Entry<'a, A, L>
+        requires placed { ShowsPlaced (ShowsCached L.node (L.table links.old) (ends_of self.old)) (O.values objects.now) }
+        requires room { HasRoom (P.count probe.old) }
+        ensures occupied { (s : List Place) → ShowsCached L.node (L.table links.old) (ends_of self.old) s → IfOccupied result (λ c.
+            Finds (compared (P.order probe.old) (O.values objects.now)) s (editing.position c) × IsSome (editing.position c)) }
+        ensures stands { IfOccupied result (λ c. Stands (ShowsFor L.node) L.table (editing.site_of c)) }
+        ensures vacant { (s : List Place) → ShowsCached L.node (L.table links.old) (ends_of self.old) s → IfVacant result (λ v.
+            IsVacantFor L.node (compared (P.order probe.old) (O.values objects.now)) (L.table links.old) s v) }
+        ensures occupied_borrows { IfOccupied result (editing.IsBorrowed self.entry links.entry) }
+        ensures vacant_borrows { IfVacant result (IsBorrowed self.entry links.entry) }
+        ensures looks { (s : List Place) → ShowsCached L.node (L.table links.old) (ends_of self.old) s
+            → Looks P.order P.count probe.old probe.new s }
+    {
+        let descent = self.tree.descend(&*links, objects, probe, Side::Left);
+        if descent.is_equal() {
+            let current = PlaceWord::of(descent.back.get());
+            return Entry::Occupied(CursorMut::new(self, links, current));
+        }
+        let hole = Hole::of(&descent);
+        Entry::Vacant(InsertCursor {
+            tree: self,
+            links,
+            hole,
+        })
+    }
+
+    /// The first member with this key, or the gap where it would stand: `entry_by` with a `KeyProbe`. O(log n).
+    pub fn entry<'a, L: RBTreeOps, O: Values<A::Value>>(
+        &'a mut self,
+        links: &'a mut L,
+        objects: &O,
+        key: &A::Key,
+    ) -> Entry<'a, A, L>
+        requires placed { ShowsPlaced (ShowsCached L.node (L.table links.old) (ends_of self.old)) (O.values objects.now) }
+        ensures occupied { (s : List Place) → ShowsCached L.node (L.table links.old) (ends_of self.old) s → IfOccupied result (λ c.
+            Finds (compared (order_of A.Key.cmp (A.key_of (adapter_of (tree_of self.old))) key.now) (O.values objects.now)) s
+            (editing.position c) × IsSome (editing.position c)) }
+        ensures stands { IfOccupied result (λ c. Stands (ShowsFor L.node) L.table (editing.site_of c)) }
+        ensures vacant { (s : List Place) → ShowsCached L.node (L.table links.old) (ends_of self.old) s → IfVacant result (λ v.
+            IsVacantFor L.node (compared (order_of A.Key.cmp (A.key_of (adapter_of (tree_of self.old))) key.now) (O.values objects.now))
+            (L.table links.old) s v) }
+        ensures occupied_borrows { IfOccupied result (editing.IsBorrowed self.entry links.entry) }
+        ensures vacant_borrows { IfVacant result (IsBorrowed self.entry links.entry) }
+    {
+        let mut probe = KeyProbe::new(self.tree.adapter(), key);
+        self.entry_by(links, objects, &mut probe)
+    }
+}
+
+impl<'a, A: KeyAdapter, L: RBTreeOps> InsertCursor<'a, A, L> {
+    /// Inserts the object at the gap, whatever its key is, unless its link is refused. The cursor that it answers is on the object, and
+    /// the ends are set.
+    ///
+    /// It requires that the object's place is covered. A refused object comes back with the gap, and tree and table are as they were.
+    /// O(log n): no look, and the repair.
+    pub fn insert(
+        self,
+        object: UnsafeRef<A::Value>,
+    ) -> Result<CursorMut<'a, A, L>, RefusedInsert<'a, A, L>>
+        requires covered { IsCovered (L.table (links_of self)) object }
+        requires vacant { CanInsert L.node L.table self }
+        ensures { InsertsInto L.node L.table L.Does L.Refused self.entry object result }
+    {
+        let InsertCursor { tree, links, hole } = self;
+        let place = object.place();
+        if !links.acquire_link(place) {
+            let gap = InsertCursor { tree, links, hole };
+            return Err(RefusedInsert { gap, object });
+        }
+        tree.attach(links, hole, place);
+        let current = PlaceWord::of(Some(place));
+        Ok(CursorMut::new(tree, links, current))
+    }
+}
+
+impl<'a, A: KeyAdapter, L: RBTreeOps> Entry<'a, A, L> {
+    /// The cursor on the member that has the key, or on the object, which is inserted where the key would stand.
+    ///
+    /// Where the entry is vacant, it requires that the object's place is covered; a refused object comes back with the gap, and tree
+    /// and table are as they were. Where it is occupied, nothing is linked.
+    pub fn or_insert(
+        self,
+        object: UnsafeRef<A::Value>,
+    ) -> Result<CursorMut<'a, A, L>, RefusedInsert<'a, A, L>>
+        requires covered { IfVacant self (λ v. IsCovered (L.table (links_of v)) object) }
+        requires vacant { IfVacant self (CanInsert L.node L.table) }
+        ensures occupied { IfOccupied self.entry (λ c. result ≡ Ok c) }
+        ensures vacant { IfVacant self.entry (λ v. InsertsInto L.node L.table L.Does L.Refused v object result) }
+    {
+        match self {
+            Entry::Occupied(cursor) => Ok(cursor),
+            Entry::Vacant(gap) => gap.insert(object),
+        }
+    }
+
+    /// The cursor that `or_insert` returns, with the object that `make` gives, which is called only where the entry is vacant.
+    pub fn or_insert_with<F: FnOnce() -> UnsafeRef<A::Value>>(
+        self,
+        make: F,
+    ) -> Result<CursorMut<'a, A, L>, RefusedInsert<'a, A, L>>
+        requires callable { IfVacant self (λ v. F.pre make) }
+        requires covered { IfVacant self (λ v. (object : Place) → F.post make object → IsCovered (L.table (links_of v)) object) }
+        requires vacant { IfVacant self (CanInsert L.node L.table) }
+        ensures occupied { IfOccupied self.entry (λ c. result ≡ Ok c) }
+        ensures vacant { IfVacant self.entry (λ v. (object : Place) × F.post make object
+            × InsertsInto L.node L.table L.Does L.Refused v object result) }
+    {
+        match self {
+            Entry::Occupied(cursor) => Ok(cursor),
+            Entry::Vacant(gap) => gap.insert(make()),
+        }
+    }
+}
