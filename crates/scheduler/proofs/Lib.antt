@@ -1,8 +1,9 @@
 pub mod AllDue
 pub mod ByDeadline
+pub mod FrontCursor
+pub mod Keeping
 pub mod KeptValues
 pub mod Moving
-pub mod Keeping
 pub mod Once
 pub mod Outcomes
 pub mod TakingDue

@@ -1,19 +1,17 @@
 -- Each task of a scheduler stands at one place.
-use Rattle.std.proofs.Common.{◌≡◌, ℕ, suc, Bool, true, false, Option, Some, None, IsSome, List, [], ◌∷◌, length, map, refl, sym, ap, ◌∙◌, subst, slice_index_or, true≢false}
-use Rattle.std.proofs.Math.ListN.{get_or-map}
+use Rattle.std.proofs.Common.{◌≡◌, ℕ, suc, Bool, true, false, Option, Some, None, IsSome, List, [], ◌∷◌, length, refl, sym, ap, ◌∙◌, subst, true≢false}
 use Rattle.std.specs.List.{cons_option}
 use Rattle.ic_unsafe_ref.specs.declared.place.Place.{Place}
 use Rattle.ic_unsafe_ref.specs.Objects.{Objects, object_at}
-use Rattle.ic_link_ops.specs.Chains.{Ends, no_members}
+use Rattle.ic_link_ops.specs.Chains.{Ends}
 use Rattle.ic_link_ops.specs.DoublyEntries as lists
 use Rattle.ic_link_ops.specs.PlacedObjects.{ArePlaced, values_at}
 use Rattle.ic_link_ops.specs.Sequences.{IsAbsent, IsMember, IsDistinct, IsDisjoint}
-use Rattle.ic_link_ops.proofs.CollectionLaws.{new_shows_nothing}
 use Rattle.ic_link_ops.proofs.DoublyLists as doubly
 use Rattle.ic_link_ops.proofs.NumberedCollections.{numbered_apart, numbered_free}
 use Rattle.ic_link_ops.proofs.TwoFields.{unlinked_second}
 use Rattle.ic_rbtree.specs.PlainTrees as trees
-use Rattle.ic_rbtree.proofs.PlainTrees.{plain_members, plain_trees}
+use Rattle.ic_rbtree.proofs.PlainTrees.{plain_trees}
 use Rattle.scheduler.specs.declared.task.Task.{Task}
 use Rattle.scheduler.specs.Kept.{schedule_of, IsKept}
 use Rattle.scheduler.specs.Schedule.{places_at, IsOnceEach}

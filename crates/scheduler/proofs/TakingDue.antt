@@ -8,9 +8,10 @@ use Rattle.ic_link_ops.specs.PlacedObjects.{ArePlaced}
 use Rattle.ic_link_ops.specs.Positions.{object_there}
 use Rattle.ic_link_ops.specs.Sequences.{first}
 use Rattle.ic_link_ops.proofs.SequenceLemmas.{none_not, some_same}
-use Rattle.ic_rbtree.specs.Borders.{IsSorted}
+use Rattle.ic_rbtree.specs.Borders.{IsSorted, if_passes}
 use Rattle.ic_rbtree.specs.SortedObjects.{key_at, key_or, keys_at}
-use Rattle.scheduler.specs.Timers.{due}
+use Rattle.scheduler.specs.Timers.{due, is_due}
+use Rattle.ic_rbtree.proofs.Passing.{passed}
 use Rattle.ic_rbtree.proofs.SortedKeys.{first_is_least}
 
 module _ {T : Type 0} (deadline : T → ℕ) (objects : Objects T) where
@@ -22,10 +23,10 @@ module _ {T : Type 0} (deadline : T → ℕ) (objects : Objects T) where
       let all : AllByRecursion (λ q. key_at deadline objects x ≤ key_at deadline objects q) (x ∷ s) = (omega arith, first_is_least (key_at deadline objects) x s sorted) in
       subst (λ (y : Place). AllByRecursion (λ q. key_at deadline objects y ≤ key_at deadline objects q) (x ∷ s)) (sym (some_same is)) all
 
-  pub taken_earliest : (s : List Place) (o : Option Place) → o ≡ first s → IsSorted nat_cmp (keys_at deadline objects s)
+  pub taken_earliest : (now : ℕ) (s : List Place) (o : Option Place) → o ≡ if_passes (is_due deadline objects now) (first s) → IsSorted nat_cmp (keys_at deadline objects s)
       → IfSome o (λ p. AllByRecursion (λ q. key_at deadline objects p ≤ key_at deadline objects q) s)
-  taken_earliest s None is sorted = tt
-  taken_earliest s (Some p) is sorted = is_earliest s is sorted
+  taken_earliest now s None is sorted = tt
+  taken_earliest now s (Some p) is sorted = is_earliest s (passed (is_due deadline objects now) (first s) p is).0 sorted
 
   later : (now k : ℕ) (s : List Place) → now < k → AllByRecursion (λ q. k ≤ key_at deadline objects q) s → AllByRecursion (λ q. now < key_at deadline objects q) s
   later now k [] h all = tt

@@ -4,7 +4,11 @@ use Rattle.std.specs.List.{AllByRecursion}
 use Rattle.std.specs.declared.alloc.AllocFailed.{AllocFailed}
 use Rattle.ic_unsafe_ref.specs.declared.place.Place.{Place}
 use Rattle.ic_unsafe_ref.specs.Objects.{Objects, object_at}
-use Rattle.ic_rbtree.specs.SortedObjects.{key_at}
+use Rattle.ic_link_ops.specs.Positions.{Site, ShowsAt}
+use Rattle.ic_link_ops.specs.RedBlackTree.{Node, Shows}
+use Rattle.ic_link_ops.specs.Sequences.{first}
+use Rattle.ic_link_ops.specs.Tables.{Table}
+use Rattle.ic_rbtree.specs.SortedObjects.{key_at, ShowsSorted}
 
 module _ {T : Type 0} (deadline : T → ℕ) where
   -- whether a timer is due: there is one, and its deadline is at most `now`
@@ -20,6 +24,11 @@ module _ {T : Type 0} (deadline : T → ℕ) where
   pub record StandsFirst (objects : Objects T) (now : ℕ) (taken rest s : List Place) : Type 0 where
     pub same : taken ++ rest ≡ s
     pub are_due : AllByRecursion (λ p. key_at deadline objects p ≤ now) taken
+
+  -- a position is on the first timer of a queue, null where there is none; the timers are placed, and in the order of their deadlines
+  pub record IsAtFront {L E : Type 0} (n : E → Node) (table : L → Table E) (objects : Objects T) (at : Site L (Option Place)) : Type 0 where
+    pub queue : ShowsSorted deadline (ShowsAt (Shows n) table at) objects
+    pub first_is : (s : List Place) → ShowsAt (Shows n) table at s → at.position ≡ first s
 
 -- what comes back where there was no room for it
 abbrev pub handed_back : {T : Type 0} → Result Unit (AllocFailed T) → List T

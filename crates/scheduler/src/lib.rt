@@ -13,6 +13,7 @@
 #![tactic(auto)]
 
 mod add_error;
+mod due;
 mod queue;
 mod queues;
 mod scheduler;

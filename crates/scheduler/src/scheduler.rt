@@ -1,12 +1,11 @@
 //! The scheduler.
 
-ghost use Rattle.std.specs.Prelude.{◌≡◌, ◌≤◌, [], length, true, false, OnOk, IsErr, IfErr, IfSome, IfNone};
-ghost use Rattle.std.specs.Bool.{OnTrue, OnFalse};
-ghost use Rattle.std.specs.List.{AllByRecursion};
+ghost use Rattle.std.specs.Prelude.{◌≡◌, [], true, OnOk, IsErr, IfErr, IfSome, IfNone};
 
-use crate::queues::{Queues, dequeue, enqueue, no_queues};
+use crate::due::move_due;
+use crate::queues::{Queues, dequeue, no_queues};
 use crate::task::Task;
-use crate::timer_queue::{ByDeadline, schedule, take_due};
+use crate::timer_queue::{ByDeadline, schedule};
 use crate::{AddError, Queue};
 use ic_link_ops::{linked_list, rbtree};
 use ic_rbtree::RBTree;
@@ -40,7 +39,7 @@ impl<V, A: Allocator> Model for Scheduler<V, A> {
 }
 
 impl<V, A: Allocator> Scheduler<V, A> {
-    ghost use Rattle.scheduler.specs.Schedule.{IsEmpty, IsOnceEach, StandsFor, IsUnchanged, Adds, Ticks, TakesFront, MovesFirst, is_due, queue_at, task_of};
+    ghost use Rattle.scheduler.specs.Schedule.{IsEmpty, IsOnceEach, StandsFor, IsUnchanged, Adds, Ticks, TakesFront, queue_at, task_of};
     ghost use Rattle.scheduler.specs.Refusals.{number_of, refusal_number, value_of};
 
     /// A scheduler with no task. It takes no memory.
@@ -98,36 +97,19 @@ impl<V, A: Allocator> Scheduler<V, A> {
         }
     }
 
-    // Moves the first task that waits to its queue, if it is due, and says whether it did. There are fewer places than 2^33, so no
-    // count of such moves gets too large.
-    fn move_first(&mut self, now: u64) -> bool
-        ensures few { length self.old.waiting ≤ 8589934591 }
-        ensures moved { OnTrue result (MovesFirst now self.old self.new) }
-        ensures none_due { OnFalse result (IsUnchanged self.old self.new × AllByRecursion (λ task. is_due now task ≡ false) self.old.waiting) }
-    {
-        let Some(object) = take_due(
-            &mut self.deadlines,
-            &mut self.deadline_links,
-            &self.objects,
-            now,
-        ) else {
-            return false;
-        };
-        let queue = self.objects.get(object.place()).unwrap().queue; // proved: a task stands there
-        enqueue(&mut self.queues, &mut self.queue_links, queue, object);
-        true
-    }
-
     /// Moves the tasks that are due at `now` to the backs of their queues, the earliest first, and of equal ones the one that was
-    /// added first. It returns how many. O(k log n) for k of them, and it takes no memory.
+    /// added first. It returns how many. O(log n), and O(1) on average for each of them, and it takes no memory.
     pub fn tick(&mut self, now: u64) -> usize
         ensures { Ticks now self.old self.new result }
     {
-        let mut moved = 0;
-        while self.move_first(now) {
-            moved += 1;
-        }
-        moved
+        move_due(
+            &mut self.deadlines,
+            &mut self.deadline_links,
+            &self.objects,
+            &mut self.queue_links,
+            &mut self.queues,
+            now,
+        )
     }
 
     /// Takes the task at the front of the queue out, with its deadline: `None` if the queue is empty. O(1), and it takes no memory.

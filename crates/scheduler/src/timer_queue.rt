@@ -17,20 +17,21 @@ ghost use Rattle.ic_link_ops.specs.Sequences.{first, at_front};
 ghost use Rattle.ic_link_ops.specs.Tables.{IsCovered, KeepsBeside};
 ghost use Rattle.ic_link_ops.specs.LinkSteps.{acquires, releases, releases_each};
 ghost use Rattle.ic_link_ops.specs.Edits.{Removes};
-ghost use Rattle.ic_link_ops.specs.Positions.{HasMember};
+ghost use Rattle.ic_link_ops.specs.Positions.{HasMember, ShowsAt};
 ghost use Rattle.ic_link_ops.specs.RedBlackTree.{Shows};
+ghost use Rattle.ic_rbtree.specs.CursorMut.{tree_of, links_of, site_of, SameBorrows};
 ghost use Rattle.ic_rbtree.specs.Tree.{root_of};
 ghost use Rattle.ic_rbtree.specs.Borders.{if_passes};
 ghost use Rattle.ic_rbtree.specs.Ordered.{InsertsInOrder};
 ghost use Rattle.ic_rbtree.specs.SortedObjects.{against, key_at, ShowsSorted, StaysSorted};
-ghost use Rattle.scheduler.specs.Timers.{due, is_due, handed_back, StandsFirst};
+ghost use Rattle.scheduler.specs.Timers.{due, is_due, handed_back, StandsFirst, IsAtFront};
 
 mod deadline;
 
 pub use deadline::{ByDeadline, HasDeadline};
 use ic_link_ops::rbtree::RBTreeOps;
 use ic_link_ops::{AlreadyLinked, LinkOps};
-use ic_rbtree::RBTree;
+use ic_rbtree::{CursorMut, RBTree};
 use ic_unsafe_ref::{Objects, UnsafeRef};
 use std::alloc::{AllocFailed, Allocator};
 
@@ -70,6 +71,33 @@ fn is_due<T: HasDeadline>(timer: Option<&T>, now: u64) -> bool
     }
 }
 
+// Takes the first timer off, on which the cursor stands, if its deadline is at most `now`, and returns `None` otherwise. The cursor goes on to
+// the one that is first then. O(log n), and O(1) on average over all that are taken so.
+#[inline]
+pub(crate) fn take_due_at<T: HasDeadline, L: RBTreeOps, B: Allocator>(
+    cursor: &mut CursorMut<'_, ByDeadline<T>, L>,
+    objects: &Objects<T, B>,
+    now: u64,
+) -> Option<UnsafeRef<T>>
+    requires front { IsAtFront T.deadline L.node L.table objects.now (site_of cursor.old) }
+    ensures front { IsAtFront T.deadline L.node L.table objects.now (site_of cursor.new) }
+    ensures due { (s : List Place) → ShowsAt (Shows L.node) L.table (site_of cursor.old) s
+        → result ≡ if_passes (is_due T.deadline objects.now now) (first s) }
+    ensures none_due { (s : List Place) → ShowsAt (Shows L.node) L.table (site_of cursor.old) s
+        → IfNone result (AllByRecursion (λ p. now < key_at T.deadline objects.now p) s) }
+    ensures taken { (s : List Place) → ShowsAt (Shows L.node) L.table (site_of cursor.old) s
+        → OnSome result (Removes (Shows L.node) (L.table (links_of cursor.old)) (L.table (links_of cursor.new))
+        (root_of (tree_of cursor.new)) (at_front s)) }
+    ensures released { IfSome result (λ timer. L.Does (links_of cursor.old) (links_of cursor.new) (releases timer ∷ [])) }
+    ensures unchanged { IfNone result ((tree_of cursor.new ≡ tree_of cursor.old) × (links_of cursor.new ≡ links_of cursor.old)) }
+    ensures borrows { SameBorrows cursor.old cursor.new }
+{
+    if !is_due(cursor.get(objects), now) {
+        return None;
+    }
+    cursor.remove()
+}
+
 /// Takes the first timer off if its deadline is at most `now`, and returns `None` otherwise. O(log n).
 ///
 /// It requires that the timers in the queue are placed and stand in the order of their deadlines. The timer is unlinked then, and
@@ -94,13 +122,11 @@ pub fn take_due<T: HasDeadline, L: RBTreeOps, B: Allocator>(
     ensures unchanged { IfNone result ((timers.new ≡ timers.old) × (links.new ≡ links.old)) }
 {
     let mut cursor = timers.front_mut(links);
-    if !is_due(cursor.get(objects), now) {
-        return None;
-    }
-    cursor.remove()
+    take_due_at(&mut cursor, objects, now)
 }
 
-/// Takes all timers off that are due at `now`, the earliest first, and puts them behind those in `due`. O(k log n) for k of them.
+/// Takes all timers off that are due at `now`, the earliest first, and puts them behind those in `due`. O(log n), and O(1) on average for
+/// each that is taken.
 ///
 /// It requires that the timers in the queue are placed and stand in the order of their deadlines. What was taken is unlinked then,
 /// and stays placed. It takes memory for `due` alone, and none where that has room. Where it has none left and can't grow, the
@@ -123,7 +149,8 @@ pub fn take_all_due<T: HasDeadline, L: RBTreeOps, B: Allocator, C: Allocator>(
     ensures frame { (s : List Place) → Shows L.node (L.table links.old) (root_of timers.old) s
         → KeepsBeside (L.table links.old) (L.table links.new) s }
 {
-    while let Some(timer) = take_due(timers, links, objects, now) {
+    let mut cursor = timers.front_mut(links);
+    while let Some(timer) = take_due_at(&mut cursor, objects, now) {
         due.push(timer)?;
     }
     Ok(())

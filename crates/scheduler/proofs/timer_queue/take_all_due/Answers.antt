@@ -1,4 +1,4 @@
-use Rattle.std.proofs.Common.{◌∙◌, refl, sym, ap, arith, List, ◌++◌, append-nil, subst}
+use Rattle.std.proofs.Common.{rules, ◌∙◌, refl, sym, ap, arith, List, ◌++◌, append-nil, subst}
 use Rattle.ic_unsafe_ref.specs.declared.place.Place.{Place}
 use Rattle.ic_link_ops.proofs.ShownTrees.{one_sequence}
 use Rattle.scheduler.specs.Timers.{handed_back, StandsFirst}
@@ -9,10 +9,17 @@ use Rattle.scheduler.proofs.timer_queue.take_all_due.Goals as goal
 pub loop-timer-init : goal.loop-timer-init
 loop-timer-init g c =
     let p = c.requires.queue.placed in
-    record { queue = c.requires.queue; shown = (p.members, p.shown); takes = takes_none (g.met.L.LinkOps.does_nothing _) p.shown; room = omega arith }
+    let e = c.front_mut-cursor.ensures in
+    record {
+      borrows = (refl, refl);
+      front = record { queue = rw (e.borrows.3, e.borrows.2) c.requires.queue; first_is = λ s shown. e.position s (rw (e.borrows.3, e.borrows.2) at shown) };
+      shown = (p.members, p.shown);
+      takes = rw (e.borrows.3, e.borrows.2) (takes_none (g.met.L.LinkOps.does_nothing _) p.shown);
+      room = omega arith;
+    }
 
-pub take_due-requires : goal.take_due-requires
-take_due-requires g c = record { queue = c.loop-timer.invariant.queue }
+pub take_due_at-requires : goal.take_due_at-requires
+take_due_at-requires g c = record { front = c.loop-timer.invariant.front }
 
 pub loop-timer-smaller : goal.loop-timer-smaller
 loop-timer-smaller g c =
@@ -26,7 +33,8 @@ loop-timer-preserved g c =
     let k = i.takes in
     let e = c.in-Some.ensures in
     record {
-      queue = c.take_due.ensures.queue;
+      borrows = (e.borrows.0 ∙ i.borrows.0, e.borrows.1 ∙ i.borrows.1);
+      front = c.take_due_at.ensures.front;
       shown = i.shown;
       takes = takes_one k (e.due k.rest k.shown) g.met.L.LinkOps.does_on {new_held = c.push.new.self.items} c.in_ok-push.ensures.items (e.taken k.rest k.shown) e.released;
       room = omega (arith, i.room, c.push.ensures.capacity);
@@ -41,7 +49,9 @@ returns-in_err-push-clause-taken g c s shown =
     let back = room_refused c.from_residual.result c.from_residual.ensures.1 c.in_err-push.ensures.value_returned in
     let held = ap (λ (x : List Place). x ++ handed_back c.from_residual.result) c.in_err-push.ensures.items ∙ ap (λ (x : List Place). c.loop-timer.due.items ++ x) back ∙ t.held_is in
     let stood = subst (StandsFirst g.T.HasDeadline.deadline c.args.objects.now c.args.now t.taken t.rest) (one_sequence i.shown.1 shown) t.stood in
-    (t.taken, t.rest, stood, held, t.shown, t.steps)
+    let left = t.shown in
+    let steps = t.steps in
+    (t.taken, t.rest, stood, held, search rules, search rules)
 
 pub returns-in_err-push-clause-full : goal.returns-in_err-push-clause-full
 returns-in_err-push-clause-full g c = on_err c.from_residual.result (omega (arith, c.loop-timer.invariant.room, c.in_err-push.ensures.full, c.in_err-push.ensures.len))
@@ -52,7 +62,8 @@ returns-in_err-push-clause-frame g c s shown =
     let k = i.takes in
     let e = c.in-Some.ensures in
     let frame = (takes_one k (e.due k.rest k.shown) g.met.L.LinkOps.does_on refl (e.taken k.rest k.shown) e.released).frame in
-    rw (one_sequence i.shown.1 shown) at frame
+    let kept = rw (one_sequence i.shown.1 shown) at frame in
+    search rules
 
 pub returns-clause-taken : goal.returns-clause-taken
 returns-clause-taken g c s shown =
@@ -63,10 +74,23 @@ returns-clause-taken g c s shown =
     let stood = subst (StandsFirst g.T.HasDeadline.deadline c.args.objects.now c.args.now k.taken k.rest) (one_sequence i.shown.1 shown) k.stood in
     let left = rw (← e.0, ← e.1) at k.shown in
     let steps = rw (← e.1) at k.steps in
-    (k.taken, k.rest, stood, held, left, steps)
+    (k.taken, k.rest, stood, held, search rules, search rules)
 
 pub returns-clause-frame : goal.returns-clause-frame
 returns-clause-frame g c s shown =
     let i = c.loop-timer.invariant in
     let frame = i.takes.frame in
-    rw (one_sequence i.shown.1 shown, ← c.in_default.ensures.unchanged.1) at frame
+    let kept = rw (one_sequence i.shown.1 shown, ← c.in_default.ensures.unchanged.1) at frame in
+    search rules
+
+pub returns-in_err-push-clause-queue : goal.returns-in_err-push-clause-queue
+returns-in_err-push-clause-queue g c =
+    let q = c.take_due_at.ensures.front.queue in
+    let shown = q.placed.shown in
+    record { placed = record { members = q.placed.members; shown = search rules; placed = q.placed.placed }; sorted = q.sorted }
+
+pub returns-clause-queue : goal.returns-clause-queue
+returns-clause-queue g c =
+    let q = c.take_due_at.ensures.front.queue in
+    let shown = q.placed.shown in
+    record { placed = record { members = q.placed.members; shown = search rules; placed = q.placed.placed }; sorted = q.sorted }

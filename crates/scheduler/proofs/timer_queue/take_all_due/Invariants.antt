@@ -3,17 +3,19 @@ use Rattle.ic_unsafe_ref.specs.declared.place.Place.{Place}
 use Rattle.ic_link_ops.specs.RedBlackTree.{Shows}
 use Rattle.ic_rbtree.specs.Members.{members}
 use Rattle.ic_rbtree.specs.Tree.{root_of}
-use Rattle.ic_rbtree.specs.SortedObjects.{ShowsSorted}
+use Rattle.ic_rbtree.specs.CursorMut.{tree_of, links_of, site_of, SameBorrows}
+use Rattle.scheduler.specs.Timers.{IsAtFront}
 use Rattle.scheduler.proofs.AllDue.{Takes}
 use Rattle.scheduler.proofs.timer_queue.take_all_due.Given as goal
 
 abbrev pub invariant-loop-timer : goal.invariant-loop-timer
 invariant-loop-timer g l = record {
-  queue : ShowsSorted g.T.HasDeadline.deadline (Shows g.L.RBTreeOps.node (g.L.LinkOps.table l.links) (root_of l.timers)) l.objects;
+  borrows : SameBorrows l.initial.cursor l.cursor;
+  front : IsAtFront g.T.HasDeadline.deadline g.L.RBTreeOps.node g.L.LinkOps.table l.objects (site_of l.cursor);
   shown : (s : List Place) × Shows g.L.RBTreeOps.node (g.L.LinkOps.table l.fn.links) (root_of l.fn.timers) s;
-  takes : Takes g.T.HasDeadline.deadline g.L.RBTreeOps.node g.L.LinkOps.table g.L.LinkOps.Does l.objects l.now l.fn.links shown.0 l.fn.due.items l.links (root_of l.timers) l.due.items;
+  takes : Takes g.T.HasDeadline.deadline g.L.RBTreeOps.node g.L.LinkOps.table g.L.LinkOps.Does l.objects l.now l.fn.links shown.0 l.fn.due.items (links_of l.cursor) (root_of (tree_of l.cursor)) l.due.items;
   room : vec_capacity l.fn.due ≤ vec_capacity l.due;
 }
 
 abbrev pub decreases-loop-timer : goal.decreases-loop-timer
-decreases-loop-timer g l = length (members g.L.RBTreeOps.node (g.L.LinkOps.table l.links) (root_of l.timers))
+decreases-loop-timer g l = length (members g.L.RBTreeOps.node (g.L.LinkOps.table (links_of l.cursor)) (root_of (tree_of l.cursor)))
