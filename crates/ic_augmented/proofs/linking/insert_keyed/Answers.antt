@@ -1,6 +1,7 @@
 use Rattle.std.proofs.Common.{◌∙◌, ap, refl, sym, subst}
+use Rattle.ic_unsafe_ref.specs.declared.place.Place.{Place}
 use Rattle.ic_unsafe_ref.specs.Objects.{Objects}
-use Rattle.ic_link_ops.specs.Sequences.{join}
+use Rattle.ic_link_ops.specs.Sequences.{join, IsAbsent}
 use Rattle.ic_rbtree.specs.Comparing.{compared, own_order}
 use Rattle.ic_rbtree.specs.Ordered.{InsertsInOrder}
 use Rattle.ic_rbtree.proofs.Removing.{shown_of}
@@ -25,7 +26,7 @@ attach-requires g c =
     let r = c.requires.shown in
     let l = g.met.L.LinkOps.does_replay _ _ _ c.if-not-acquire_link.ensures.acquired in
     let f = fits n g.L.LinkOps.linked g.met.L.RBTreeOps.linked_alike l.was l.is c.acquire_link.ensures.frame r.1 refl c.search-hole.ensures.ends c.get.ensures in
-    (with_place c.args.place (join f.gap), shown_closed_but n f.shown, (with_itself n f.shown, (hole_in n (g.L.LinkOps.table c.acquire_link.new.self) c.args.place _ _ f.gap f.hole, tt)))
+    (with_place c.place-place.result (join f.gap), shown_closed_but n f.shown, (with_itself n f.shown, (hole_in n (g.L.LinkOps.table c.acquire_link.new.self) c.place-place.result _ _ f.gap f.hole, tt)))
 
 pub returns-clause-inserted : goal.returns-clause-inserted
 returns-clause-inserted g c s shown =
@@ -39,19 +40,20 @@ returns-clause-inserted g c s shown =
     let values = g.L.Values.values c.acquire_link.new.self in
     let f = fits n g.L.LinkOps.linked alike l.was l.is c.acquire_link.ensures.frame shown.0 refl c.search-hole.ensures.ends c.get.ensures in
     let free = alike _ ∙ l.was in
-    let kept = c.attach.ensures.consistent f.gap (alike _ ∙ l.is) (free_member n _ _ s (join f.gap) c.args.place f.same shown.0 free)
-    (acquired_consistent n _ _ _ _ s (join f.gap) c.args.place f.same free c.acquire_link.ensures.frame shown) f.hole in
-    subst (λ (o : Objects g.row.A-Value.Denot). InsertsInOrder (ShowsConsistent n new_sums) (compared (own o c.args.place) o) before after c.attach.new.tree.root s c.args.place)
+    let kept = c.attach.ensures.consistent f.gap (alike _ ∙ l.is) (free_member n _ _ s (join f.gap) c.place-place.result f.same shown.0 free)
+    (acquired_consistent n _ _ _ _ s (join f.gap) c.place-place.result f.same free c.acquire_link.ensures.frame shown) f.hole in
+    subst (λ (p : Place). InsertsInOrder (ShowsConsistent n new_sums) (compared (own (g.L.Values.values c.args.summed.now.links) p) (g.L.Values.values c.args.summed.now.links)) before after c.attach.new.tree.root s p) c.place-place.ensures
+    (subst (λ (o : Objects g.row.A-Value.Denot). InsertsInOrder (ShowsConsistent n new_sums) (compared (own o c.place-place.result) o) before after c.attach.new.tree.root s c.place-place.result)
     (g.met.L.LinkValues.values_stay _ _ c.acquire_link.ensures.frame.extent)
-    (subst (λ order. InsertsInOrder (ShowsConsistent n new_sums) (compared order values) before after c.attach.new.tree.root s c.args.place)
+    (subst (λ order. InsertsInOrder (ShowsConsistent n new_sums) (compared order values) before after c.attach.new.tree.root s c.place-place.result)
     (own_is g.A.Key.Ord.cmp g.A.KeyAdapter.key_of values (c.new-probe.ensures.adapter ∙ c.adapter-adapter.ensures)
     (c.new-probe.ensures.key ∙ (c.get_key.ensures ∙ ap (λ z. g.A.KeyAdapter.key_of z c.value.result.now) c.adapter-adapter.ensures)) refl c.value.ensures)
-    (inserts_consistent n before after new_sums c.attach.new.tree.root s c.args.place f.gap f.same kept.1
-    (fitted n g.L.LinkOps.linked alike l.was l.is c.acquire_link.ensures.frame f c.attach.ensures.attached)))
+    (inserts_consistent n before after new_sums c.attach.new.tree.root s c.place-place.result f.gap f.same kept.1
+    (fitted n g.L.LinkOps.linked alike l.was l.is c.acquire_link.ensures.frame f c.attach.ensures.attached))))
 
 pub returns-clause-others : goal.returns-clause-others
 returns-clause-others g c t out h =
-    c.attach.ensures.sums.consistent t (beside_consistent g.L.RBTreeOps.node _ _ _ t c.args.place out c.acquire_link.ensures.frame h)
+    c.attach.ensures.sums.consistent t (beside_consistent g.L.RBTreeOps.node _ _ _ t c.place-place.result (subst (λ (p : Place). IsAbsent p t) (sym c.place-place.ensures) out) c.acquire_link.ensures.frame h)
 
 pub returns-then-not-acquire_link-clause-others : goal.returns-then-not-acquire_link-clause-others
 returns-then-not-acquire_link-clause-others g c t out h =
