@@ -11,7 +11,7 @@ use Rattle.ic_link_ops.specs.Times.{one_at, times, times_in}
 use Rattle.ic_link_ops.proofs.SequenceLemmas.{none_not, some_same}
 use Rattle.ic_link_ops.proofs.Times.{one_at_self, one_at_other, apart}
 use Rattle.ic_rbtree.specs.Height.{height}
-use Rattle.ic_augmented.specs.Sums.{Sums, is_fresh, seen, total, IsSummed, Invalidates, Writes}
+use Rattle.ic_augmented.specs.Sums.{Sums, is_fresh, seen, total, IsSummed, MarksAlone, Invalidates, Writes}
 use Rattle.ic_augmented.specs.Consistent.{IsUnder, IsJoined, IsSameAt, IsConsistentTree, IsConsistentBelow, Refreshes, IsConsistentBut, IsConsistent}
 
 pub times_top : (p : Place) (t : Tree) → top t ≡ Some p → 1 ≤ times p t
@@ -183,6 +183,10 @@ module _ {S : Type 0} where
   refreshes_below z w up leaf fuel r = record { frame = r.frame; join = r.join; summed = λ once h low. r.summed once tt low }
   refreshes_below z w up (fork c a p b) fuel r = record { frame = r.frame; join = r.join; summed = λ once h low. r.summed once (h.1, h.2) low }
 
+  -- with a turn that was there
+  pub refreshes_more : (z w : Sums S) (up : Option Place) (t : Tree) (fuel : ℕ) → 1 ≤ fuel → Refreshes IsConsistentBelow z w up t (suc (fuel - 1)) → Refreshes IsConsistentBelow z w up t fuel
+  refreshes_more z w up t fuel more r = record { frame = r.frame; join = r.join; summed = λ once h low. r.summed once h (omega (arith, low, more)) }
+
   joins_at : (z0 z1 z2 z3 : Sums S) (up : Option Place) (p : Place) (c : Color) (a b : Tree) (fuel : ℕ)
       → Refreshes IsConsistentTree z0 z1 (Some p) a fuel → Refreshes IsConsistentTree z1 z2 (Some p) b fuel → Writes z2 z3 p (Some (z2.join p (seen z2 (top a)) (seen z2 (top b)))) up
       → ((q : Place) → times q (fork c a p b) ≤ 1) → IsConsistentBelow z0 (fork c a p b) → height (fork c a p b) ≤ suc fuel → IsSummed z3 up (fork c a p b)
@@ -204,6 +208,12 @@ module _ {S : Type 0} where
       | inr other ↦ k.others p other ∙ none
     ]
   ]
+
+  -- one more summary is made stale
+  pub marks_next : (old z w : Sums S) (p : Place) → Invalidates z w p → MarksAlone old z → MarksAlone old w
+  marks_next old z w p k h = record { fresh = still; upper = λ q. k.upper q ∙ h.upper q } where
+    still : (q : Place) (x : S) → w.fresh q ≡ Some x → old.fresh q ≡ Some x
+    still q x e = h.fresh q x (sym (k.others q (not_stale w p q x k.stale e)) ∙ e)
 
   stale_none : (o : Option S) → is_fresh o ≡ false → o ≡ None
   stale_none None e = refl
@@ -294,8 +304,8 @@ module _ {E S : Type 0} (n : E → Node) where
   -- both subtrees are refreshed, and then the root is written
   joined_here : (v : Table E) (z0 z1 z2 z3 : Sums S) (up u : Option Place) (p : Place) (c : Color) (a b : Tree) (l r : Option Place) (fuel : ℕ)
       → IsTree n v.entry u (fork c a p b) → l ≡ top a → r ≡ top b
-      → Refreshes IsConsistentTree z0 z1 (Some p) a (fuel - 1) → Refreshes IsConsistentTree z1 z2 (Some p) b (fuel - 1)
-      → Writes z2 z3 p (Some (z2.join p (seen z2 l) (seen z2 r))) up → Refreshes IsConsistentBelow z0 z3 up (fork c a p b) fuel
+      → Refreshes IsConsistentTree z0 z1 (Some p) a fuel → Refreshes IsConsistentTree z1 z2 (Some p) b fuel
+      → Writes z2 z3 p (Some (z2.join p (seen z2 l) (seen z2 r))) up → Refreshes IsConsistentBelow z0 z3 up (fork c a p b) (suc fuel)
   joined_here v z0 z1 z2 z3 up u p c a b l r fuel tree el er fa fb k =
       let k2 : Writes z2 z3 p (Some (z2.join p (seen z2 (top a)) (seen z2 (top b)))) up =
       subst (λ (o : Option Place). Writes z2 z3 p (Some (z2.join p (seen z2 (top a)) (seen z2 o))) up) er
@@ -303,21 +313,21 @@ module _ {E S : Type 0} (n : E → Node) where
       record {
         frame = λ q m. same_on z0 z2 z3 q (same_on z0 z1 z2 q (fa.frame q (omega (arith, m))) (fb.frame q (omega (arith, m)))) (writes_same z2 z3 p _ up q k2 (apart q p (omega (arith, m))));
         join = k2.join ∙ (fb.join ∙ fa.join);
-        summed = λ once h low. joins_at z0 z1 z2 z3 up p c a b (fuel - 1) fa fb k2 once h (omega (arith, low));
+        summed = λ once h low. joins_at z0 z1 z2 z3 up p c a b fuel fa fb k2 once h low;
       }
 
   pub refreshes_joined : (v : Table E) (z0 z1 z2 z3 : Sums S) (up u : Option Place) (p : Place) (t : Tree) (l r : Option Place) (fuel : ℕ)
       → IsTree n v.entry u t → Some p ≡ top t → l ≡ (n (v.entry p)).left → r ≡ (n (v.entry p)).right
-      → ((x : Option Place) (y : Tree) → IsTree n v.entry x y → l ≡ top y → Refreshes IsConsistentTree z0 z1 (Some p) y (fuel - 1))
-      → ((x : Option Place) (y : Tree) → IsTree n v.entry x y → r ≡ top y → Refreshes IsConsistentTree z1 z2 (Some p) y (fuel - 1))
-      → Writes z2 z3 p (Some (z2.join p (seen z2 l) (seen z2 r))) up → Refreshes IsConsistentBelow z0 z3 up t fuel
+      → ((x : Option Place) (y : Tree) → IsTree n v.entry x y → l ≡ top y → Refreshes IsConsistentTree z0 z1 (Some p) y fuel)
+      → ((x : Option Place) (y : Tree) → IsTree n v.entry x y → r ≡ top y → Refreshes IsConsistentTree z1 z2 (Some p) y fuel)
+      → Writes z2 z3 p (Some (z2.join p (seen z2 l) (seen z2 r))) up → Refreshes IsConsistentBelow z0 z3 up t (suc fuel)
   refreshes_joined v z0 z1 z2 z3 up u p leaf l r fuel tree e el er fa fb k = absurd (none_not p (sym e))
   refreshes_joined v z0 z1 z2 z3 up u p (fork c a q b) l r fuel tree e el er fa fb k =
       let same : p ≡ q = some_same e in
       let here : IsTree n v.entry u (fork c a p b) = subst (λ (y : Place). IsTree n v.entry u (fork c a y b)) (sym same) tree in
       let la : l ≡ top a = el ∙ here.0.left in
       let rb : r ≡ top b = er ∙ here.0.right in
-      subst (λ (y : Place). Refreshes IsConsistentBelow z0 z3 up (fork c a y b) fuel) same
+      subst (λ (y : Place). Refreshes IsConsistentBelow z0 z3 up (fork c a y b) (suc fuel)) same
       (joined_here v z0 z1 z2 z3 up u p c a b l r fuel here la rb (fa (Some p) a here.1 la) (fb (Some p) b here.2 rb) k)
 
 module _ {E : Type 0} (n : E → Node) where

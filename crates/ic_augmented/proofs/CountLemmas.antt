@@ -1,5 +1,6 @@
--- Counts as they are written, and what they tell of positions.
-use Rattle.std.proofs.Common.{◌≡◌, ◌≢◌, ◌≤◌, ◌<◌, ◌+◌, ◌-◌, ◌^◌, ℕ, suc, zero, Option, Some, None, List, [], ◌∷◌, ◌++◌, length, slice_index_or, slice_set, min, refl, sym, ap, ◌∙◌, subst, arith, inl, inr, length-append}
+-- What counts tell of positions.
+use Rattle.std.proofs.Common.{◌≡◌, ◌≢◌, ◌≤◌, ◌<◌, ◌+◌, ◌-◌, ◌^◌, ℕ, suc, zero, Option, Some, None, List, [], ◌∷◌, ◌++◌, length, min, refl, sym, ap, ◌∙◌, subst, arith, inl, inr, length-append}
+use Rattle.std.specs.Bool.{⊤}
 use Rattle.std.proofs.Math.Nat.{min-eq_left, le-min, le-max_left, le-max_right}
 use Rattle.std.specs.List.{slice_get}
 use Rattle.ic_unsafe_ref.specs.declared.place.Place.{Place}
@@ -14,57 +15,15 @@ use Rattle.ic_link_ops.proofs.SequenceLemmas.{none_not, some_same}
 use Rattle.ic_link_ops.proofs.Walks.{few_places}
 use Rattle.ic_rbtree.specs.Height.{height}
 use Rattle.ic_rbtree.proofs.Climbed.{path_few}
-use Rattle.ic_augmented.specs.declared.counts.Count.{Count}
-use Rattle.ic_augmented.specs.Sums.{seen, total, IsSummed, Invalidates, Writes}
-use Rattle.ic_augmented.specs.Counts.{unless_zero, or_zero, counted, stale_count, counts_in}
+use Rattle.ic_augmented.specs.declared.sum_table.Cell.{Cell}
+use Rattle.ic_augmented.specs.Sums.{seen, total, IsSummed}
+use Rattle.ic_augmented.specs.SumTables.{or_zero}
+use Rattle.ic_augmented.specs.Counts.{counts_in}
 use Rattle.ic_augmented.specs.Consistent.{ShowsSummed}
 use Rattle.ic_augmented.proofs.ConsistencyLemmas.{summed_seen}
 
-unless_zero_some : (k : ℕ) → 1 ≤ k → unless_zero k ≡ Some k
-unless_zero_some zero h = absurd (omega (arith, h))
-unless_zero_some (suc k) h = refl
-
--- A WRITE at a place
-pub count_writes : (es : List Count) (p : Place) (new : Count) (i : ℕ) (x : Option ℕ) (up : Option Place) → i ≡ index_of p → index_of p < length es → unless_zero new.count ≡ x → new.upper ≡ up
-    → Writes (counts_in es) (counts_in (slice_set es i new)) p x up
-count_writes es p new i x up at covered ex eu = record {
-  fresh = ap (λ (e : Count). unless_zero e.count) (entry_same stale_count es p new i at covered) ∙ ex;
-  upper = ap (λ (e : Count). e.upper) (entry_same stale_count es p new i at covered) ∙ eu;
-  others = λ q n. ap (λ (e : Count). unless_zero e.count) (others_same stale_count es p new i at q n);
-  uppers = λ q n. ap (λ (e : Count). e.upper) (others_same stale_count es p new i at q n);
-  join = refl;
-}
-
-pub count_invalidates : (es : List Count) (p : Place) (old new out : Count) (i : ℕ) → i ≡ index_of p → index_of p < length es → old ≡ slice_index_or es i out → new.count ≡ 0 → new.upper ≡ old.upper
-    → Invalidates (counts_in es) (counts_in (slice_set es i new)) p
-count_invalidates es p old new out i at covered read none eu = record {
-  stale = ap (λ (e : Count). unless_zero e.count) (entry_same stale_count es p new i at covered) ∙ ap unless_zero none;
-  others = λ q n. ap (λ (e : Count). unless_zero e.count) (others_same stale_count es p new i at q n);
-  upper = λ q. same q;
-  join = refl;
-} where
-  here : (slice_index_or (slice_set es i new) (index_of p) stale_count).upper ≡ (slice_index_or es (index_of p) stale_count).upper
-  here = ap (λ (e : Count). e.upper) (entry_same stale_count es p new i at covered) ∙ (eu ∙ sym (ap (λ (e : Count). e.upper) (entry_read stale_count es p old out i at covered read)))
-
-  same : (q : Place) → (slice_index_or (slice_set es i new) (index_of q) stale_count).upper ≡ (slice_index_or es (index_of q) stale_count).upper
-  same q = elim (same_or_not q p) [
-    | inl e ↦ subst (λ (y : Place). (slice_index_or (slice_set es i new) (index_of y) stale_count).upper ≡ (slice_index_or es (index_of y) stale_count).upper) (sym e) here
-    | inr n ↦ ap (λ (e : Count). e.upper) (others_same stale_count es p new i at q n)
-  ]
-
--- what is kept of a set place's upper is read there
-pub count_read : (es : List Count) (p : Place) (old out : Count) (i : ℕ) → i ≡ index_of p → index_of p < length es → old ≡ slice_index_or es i out
-    → unless_zero old.count ≡ unless_zero (slice_index_or es (index_of p) stale_count).count
-count_read es p old out i at covered read = ap (λ (e : Count). unless_zero e.count) (sym (entry_read stale_count es p old out i at covered read))
-
-pub count_joins : (p : Place) (below k a b : ℕ) (x y : Option ℕ) → a ≡ or_zero x → b ≡ or_zero y → below ≡ min (a + b) (2 ^ 64 - 1) → k ≡ min (below + 1) (2 ^ 64 - 1) → unless_zero k ≡ Some (counted p x y)
-count_joins p below k a b x y ea eb eu ek =
-    let at_least : 1 ≤ min (below + 1) (2 ^ 64 - 1) = le-min (omega arith) (omega arith) in
-    unless_zero_some k (omega (arith, ek, at_least))
-    ∙ ap Some (ek ∙ ap (λ (z : ℕ). min (z + 1) (2 ^ 64 - 1)) (eu ∙ ap (λ (z : ℕ). min z (2 ^ 64 - 1)) (ap (λ (z : ℕ). z + b) ea ∙ ap (λ (z : ℕ). or_zero x + z) eb)))
-
 -- THE COUNT OF A TREE is how many members it has
-pub total_count : (es : List Count) (t : Tree) → length (in_order t) ≤ 8589934591 → or_zero (total (counts_in es) t) ≡ length (in_order t)
+pub total_count : (es : List (Cell ⊤ ℕ)) (t : Tree) → length (in_order t) ≤ 8589934591 → or_zero (total (counts_in es) t) ≡ length (in_order t)
 total_count es leaf few = refl
 total_count es (fork c a p b) few =
     let long : length (in_order (fork c a p b)) ≡ length (in_order a) + suc (length (in_order b)) = length-append (in_order a) (p ∷ in_order b) in
@@ -76,7 +35,7 @@ total_count es (fork c a p b) few =
     let two : min (i + k + 1) (2 ^ 64 - 1) ≡ i + k + 1 = min-eq_left (omega (arith, left, right, long, few)) in
     ap (λ (z : ℕ). min (z + 1) (2 ^ 64 - 1)) one ∙ (two ∙ omega (arith, left, right, long))
 
-pub seen_count : (es : List Count) (up : Option Place) (t : Tree) → IsSummed (counts_in es) up t → length (in_order t) ≤ 8589934591 → or_zero (seen (counts_in es) (top t)) ≡ length (in_order t)
+pub seen_count : (es : List (Cell ⊤ ℕ)) (up : Option Place) (t : Tree) → IsSummed (counts_in es) up t → length (in_order t) ≤ 8589934591 → or_zero (seen (counts_in es) (top t)) ≡ length (in_order t)
 seen_count es up t h few = ap or_zero (summed_seen (counts_in es) up t h) ∙ total_count es t few
 
 -- POSITIONS in what stands around a member
@@ -93,7 +52,7 @@ get_right : (a b : List Place) (p : Place) (k : ℕ) → slice_get (a ++ p ∷ b
 get_right [] b p k = let e : 0 + suc k ≡ suc k = omega arith in ap (slice_get (p ∷ b)) e
 get_right (x ∷ a) b p k = let e : length (x ∷ a) + suc k ≡ suc (length a + suc k) = omega arith in ap (slice_get (x ∷ (a ++ p ∷ b))) e ∙ get_right a b p k
 
-module _ {E : Type 0} (n : E → Node) (v : Table E) (es : List Count) (u : Option Place) where
+module _ {E : Type 0} (n : E → Node) (v : Table E) (es : List (Cell ⊤ ℕ)) (u : Option Place) where
   -- what a place's count on the left says of it
   record Split (t : Tree) (p : Place) (l : Option Place) (before turns : ℕ) : Type 0 where
     c : Color
@@ -162,7 +121,7 @@ module _ {E : Type 0} (n : E → Node) (v : Table E) (es : List Count) (u : Opti
         f (Some p) k.b k.tree.2 (er ∙ k.tree.0.right) k.summed_right k.few_right k.low_right
         ∙ (sym (get_right (in_order k.a) (in_order k.b) p (position - before - 1)) ∙ (ap (slice_get (in_order (fork k.c k.a p k.b))) there ∙ ap (λ (y : Tree). slice_get (in_order y) position) (sym k.is)))
 
-module _ {E : Type 0} (n : E → Node) (v : Table E) (es : List Count) (root : Option Place) (s : List Place) (h : ShowsSummed n (counts_in es) v root s) where
+module _ {E : Type 0} (n : E → Node) (v : Table E) (es : List (Cell ⊤ ℕ)) (root : Option Place) (s : List Place) (h : ShowsSummed n (counts_in es) v root s) where
   few_members : length (in_order h.shows.tree) ≤ 8589934591
   few_members = subst (λ (y : List Place). length y ≤ 8589934591) (sym h.shows.held.order) (few_places s h.shows.held.distinct)
 

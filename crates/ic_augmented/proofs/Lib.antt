@@ -4,6 +4,6 @@ mod CountLemmas
 mod SubtreeLemmas
 mod RankLemmas
 mod PathLemmas
-mod IntervalLemmas
+mod SumTableLemmas
 mod OverlapLemmas
 pub mod AllOverlaps

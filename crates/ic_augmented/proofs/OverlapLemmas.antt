@@ -22,10 +22,11 @@ use Rattle.ic_link_ops.proofs.SequenceLemmas.{none_not, some_same}
 use Rattle.ic_rbtree.specs.Borders.{IsSorted}
 use Rattle.ic_rbtree.specs.Height.{height}
 use Rattle.ic_rbtree.proofs.Climbed.{path_few}
-use Rattle.ic_augmented.specs.declared.intervals.Interval.{Interval}
-use Rattle.ic_augmented.specs.Counts.{or_zero}
+use Rattle.ic_augmented.specs.declared.sum_table.Cell.{Cell}
 use Rattle.ic_augmented.specs.Consistent.{ShowsSummed}
-use Rattle.ic_augmented.specs.Intervals.{interval_in, intervals_in, overlaps}
+use Rattle.ic_augmented.specs.Greatest.{number_in, greatest_in}
+use Rattle.ic_augmented.specs.Intervals.{overlaps}
+use Rattle.ic_augmented.specs.SumTables.{or_zero}
 use Rattle.ic_augmented.specs.Sums.{seen, total, IsSummed}
 use Rattle.ic_augmented.proofs.ConsistencyLemmas.{summed_seen, times_top}
 use Rattle.ic_augmented.specs.Subtrees.{IsSubtree}
@@ -69,9 +70,9 @@ module _ (start : Place → ℕ) where
   sorted_front (x ∷ y ∷ f) g h = (h.0, sorted_front (y ∷ f) g h.1)
 
 -- OVERLAPS
-module _ (start : Place → ℕ) (es : List Interval) (from to : ℕ) where
+module _ (start : Place → ℕ) (es : List (Cell ℕ ℕ)) (from to : ℕ) where
   abbrev pub end : Place → ℕ
-  end q = (interval_in es q).end
+  end q = number_in es q
 
   abbrev pub test : Place → Bool
   test q = overlaps start end from to q
@@ -109,11 +110,11 @@ module _ (start : Place → ℕ) (es : List Interval) (from to : ℕ) where
   late q (r ∷ s) h sorted = drops q (r ∷ s) (starts_behind q h) ∙ late r s (omega (arith, h, not_later start q r sorted.0)) sorted.1
 
   -- a tree whose greatest end is not behind `from` has none
-  none_below : (t : Tree) → or_zero (total (intervals_in es) t) ≤ from → filter test (in_order t) ≡ []
+  none_below : (t : Tree) → or_zero (total (greatest_in es) t) ≤ from → filter test (in_order t) ≡ []
   none_below leaf h = refl
   none_below (fork c a p b) h =
-      let x : ℕ = or_zero (total (intervals_in es) a) in
-      let y : ℕ = or_zero (total (intervals_in es) b) in
+      let x : ℕ = or_zero (total (greatest_in es) a) in
+      let y : ℕ = or_zero (total (greatest_in es) b) in
       let m1 : end p ≤ max (end p) (max x y) = le-max_left (end p) (max x y) in
       let m2 : max x y ≤ max (end p) (max x y) = le-max_right (end p) (max x y) in
       filter-append test (in_order a) (p ∷ in_order b)
@@ -128,16 +129,16 @@ module _ (start : Place → ℕ) (es : List Interval) (from to : ℕ) where
     is : s ≡ front ++ q ∷ back
     ends : from < end q
 
-  reaches : (t : Tree) → from < or_zero (total (intervals_in es) t) → Reaches (in_order t)
+  reaches : (t : Tree) → from < or_zero (total (greatest_in es) t) → Reaches (in_order t)
   reaches leaf h = absurd (omega (arith, h))
   reaches (fork c a p b) h = elim (below_or_not from (end p)) [
     | inl here ↦ record { front = in_order a; back = in_order b; q = p; is = refl; ends = here }
-    | inr low ↦ elim (below_or_not from (or_zero (total (intervals_in es) a))) [
+    | inr low ↦ elim (below_or_not from (or_zero (total (greatest_in es) a))) [
       | inl left ↦
           let r = reaches a left in
           record { front = r.front; back = r.back ++ p ∷ in_order b; q = r.q; is = ap (λ (s : List Place). s ++ p ∷ in_order b) r.is ∙ append_assoc r.front (r.q ∷ r.back) (p ∷ in_order b); ends = r.ends }
       | inr lower ↦
-          let r = reaches b (right (end p) (or_zero (total (intervals_in es) a)) (or_zero (total (intervals_in es) b)) h low lower) in
+          let r = reaches b (right (end p) (or_zero (total (greatest_in es) a)) (or_zero (total (greatest_in es) b)) h low lower) in
           record { front = in_order a ++ p ∷ r.front; back = r.back; q = r.q; is = ap (λ (s : List Place). in_order a ++ p ∷ s) r.is ∙ sym (append_assoc (in_order a) (p ∷ r.front) (r.q ∷ r.back)); ends = r.ends }
     ]
   ] where
@@ -162,25 +163,25 @@ module _ (start : Place → ℕ) (es : List Interval) (from to : ℕ) where
         ap first (e ∙ sym (filter-append test s rest ∙ (ap (λ (y : List Place). y ++ filter test rest) e ∙ rest_none)))
 
   -- the left subtree has none
-  skipped : (a : Tree) (rest : List Place) → or_zero (total (intervals_in es) a) ≤ from → filter test (in_order a ++ rest) ≡ filter test rest
+  skipped : (a : Tree) (rest : List Place) → or_zero (total (greatest_in es) a) ≤ from → filter test (in_order a ++ rest) ≡ filter test rest
   skipped a rest low = filter-append test (in_order a) rest ∙ ap (λ (y : List Place). y ++ filter test rest) (none_below a low)
 
   module _ {E : Type 0} (n : E → Node) (v : Table E) (u : Option Place) (turns : ℕ) where
     -- what a search finds below
     abbrev pub FindsFirst : Option Place → ℕ → Option Place → Type 0
-    FindsFirst o fuel result = (x : Option Place) (t : Tree) → IsTree n v.entry x t → o ≡ top t → IsSummed (intervals_in es) x t → IsSorted nat_cmp (map start (in_order t)) → height t ≤ fuel
+    FindsFirst o fuel result = (x : Option Place) (t : Tree) → IsTree n v.entry x t → o ≡ top t → IsSummed (greatest_in es) x t → IsSorted nat_cmp (map start (in_order t)) → height t ≤ fuel
         → result ≡ first (filter test (in_order t))
 
     abbrev Finds : Option Place → Tree → Type 0
-    Finds result t = IsTree n v.entry u t → IsSummed (intervals_in es) u t → IsSorted nat_cmp (map start (in_order t)) → height t ≤ turns → result ≡ first (filter test (in_order t))
+    Finds result t = IsTree n v.entry u t → IsSummed (greatest_in es) u t → IsSorted nat_cmp (map start (in_order t)) → height t ≤ turns → result ≡ first (filter test (in_order t))
 
     at_root : (p : Place) (result : Option Place) → ((c : Color) (a b : Tree) → Finds result (fork c a p b)) → (t : Tree) → Some p ≡ top t → Finds result t
     at_root p result f leaf e = absurd (none_not p (sym e))
     at_root p result f (fork c a q b) e = subst (λ (y : Place). Finds result (fork c a y b)) (some_same e) (f c a b)
 
-    module _ (p : Place) (l r : Option Place) (g : ℕ) (el : l ≡ (n (v.entry p)).left) (eg : g ≡ or_zero (seen (intervals_in es) l)) (er : r ≡ (n (v.entry p)).right) where
-      left_greatest : (c : Color) (a b : Tree) → IsTree n v.entry u (fork c a p b) → IsSummed (intervals_in es) u (fork c a p b) → g ≡ or_zero (total (intervals_in es) a)
-      left_greatest c a b h s = eg ∙ ap or_zero (ap (seen (intervals_in es)) (el ∙ h.0.left) ∙ summed_seen (intervals_in es) (Some p) a s.2)
+    module _ (p : Place) (l r : Option Place) (g : ℕ) (el : l ≡ (n (v.entry p)).left) (eg : g ≡ or_zero (seen (greatest_in es) l)) (er : r ≡ (n (v.entry p)).right) where
+      left_greatest : (c : Color) (a b : Tree) → IsTree n v.entry u (fork c a p b) → IsSummed (greatest_in es) u (fork c a p b) → g ≡ or_zero (total (greatest_in es) a)
+      left_greatest c a b h s = eg ∙ ap or_zero (ap (seen (greatest_in es)) (el ∙ h.0.left) ∙ summed_seen (greatest_in es) (Some p) a s.2)
 
       pub overlap_left : (result : Option Place) → from < g → FindsFirst l (turns - 1) result → (t : Tree) → Some p ≡ top t → Finds result t
       overlap_left result more found = at_root p result (λ c a b h s sorted low.
@@ -202,7 +203,7 @@ module _ (start : Place → ℕ) (es : List Interval) (from to : ℕ) where
 
   module _ {E : Type 0} (n : E → Node) (v : Table E) where
     -- FROM THE ROOT
-    pub first_is : {root : Option Place} (s : List Place) (h : ShowsSummed n (intervals_in es) v root s) → IsSorted nat_cmp (map start s) → (o result : Option Place) → o ≡ root → FindsFirst n v None 67 o 67 result
+    pub first_is : {root : Option Place} (s : List Place) (h : ShowsSummed n (greatest_in es) v root s) → IsSorted nat_cmp (map start s) → (o result : Option Place) → o ≡ root → FindsFirst n v None 67 o 67 result
         → result ≡ first (filter test s)
     first_is s h sorted o result e found =
         let low : height h.shows.tree ≤ 66 = path_few n h.shows [] h.shows.tree (height h.shows.tree) refl (omega arith) in
@@ -262,15 +263,15 @@ module _ {E : Type 0} (n : E → Node) (v : Table E) where
           (Some q, b, h.around.1, right_is ∙ (ap (λ (y : Place). (n (v.entry y)).right) (sym (some_same eu)) ∙ h.around.0.right), placed_left objects (in_order b) (after fs) placed.1)
       behind_tree (frame Right c q b ∷ fs) t h e placed eu = absurd (absurd_right fs t c q b h e eu)
 
-  module _ (start : Place → ℕ) (es : List Interval) (from to : ℕ) where
+  module _ (start : Place → ℕ) (es : List (Cell ℕ ℕ)) (from to : ℕ) where
     -- what is found behind the subtree at a place
     abbrev pub FindsBehind : Place → ℕ → Option Place → Type 0
-    FindsBehind p turns result = (fs : List Frame) (t : Tree) → IsSubtree n v fs t → IsSummed (intervals_in es) None (plug fs t) → top t ≡ Some p → IsSorted nat_cmp (map start (after fs)) → length fs ≤ turns
+    FindsBehind p turns result = (fs : List Frame) (t : Tree) → IsSubtree n v fs t → IsSummed (greatest_in es) None (plug fs t) → top t ≡ Some p → IsSorted nat_cmp (map start (after fs)) → length fs ≤ turns
         → result ≡ first (filter (test start es from to) (after fs))
 
     module _ (p up : Place) (turns : ℕ) (right : Option Place) (right_is : right ≡ (n (v.entry up)).right) (result : Option Place) where
       -- behind a right child stands what stands behind the parent's subtree
-      pub behind_right : FindsBehind up (turns - 1) result → is_end right p ≡ true → (fs : List Frame) (t : Tree) → above fs ≡ Some up → IsSubtree n v fs t → IsSummed (intervals_in es) None (plug fs t) → top t ≡ Some p
+      pub behind_right : FindsBehind up (turns - 1) result → is_end right p ≡ true → (fs : List Frame) (t : Tree) → above fs ≡ Some up → IsSubtree n v fs t → IsSummed (greatest_in es) None (plug fs t) → top t ≡ Some p
           → IsSorted nat_cmp (map start (after fs)) → length fs ≤ turns → result ≡ first (filter (test start es from to) (after fs))
       behind_right on same [] t eu h s e sorted low = absurd (none_not up eu)
       behind_right on same (frame Left c q b ∷ fs) t eu h s e sorted low =
@@ -279,41 +280,41 @@ module _ {E : Type 0} (n : E → Node) (v : Table E) where
       behind_right on same (frame Right c q b ∷ fs) t eu h s e sorted low = on fs (fork c b q t) (subtree_right n v c q b fs t h) s eu sorted (omega (arith, low))
 
       -- behind a left one stand the parent, its right subtree and then that
-      module _ (found : (b : Tree) (fs : List Frame) (c : Color) (t : Tree) → IsSubtree n v fs (fork c t up b) → IsSummed (intervals_in es) None (plug fs (fork c t up b)) → IsSummed (intervals_in es) (Some up) b → right ≡ top b
+      module _ (found : (b : Tree) (fs : List Frame) (c : Color) (t : Tree) → IsSubtree n v fs (fork c t up b) → IsSummed (greatest_in es) None (plug fs (fork c t up b)) → IsSummed (greatest_in es) (Some up) b → right ≡ top b
           → IsTree n v.entry (Some up) b → IsSorted nat_cmp (map start (up ∷ (in_order b ++ after fs))) → length fs ≤ turns - 1 → result ≡ first (filter (test start es from to) (up ∷ (in_order b ++ after fs)))) where
-        pub behind_left : is_end right p ≡ false → (fs : List Frame) (t : Tree) → above fs ≡ Some up → IsSubtree n v fs t → IsSummed (intervals_in es) None (plug fs t) → top t ≡ Some p
+        pub behind_left : is_end right p ≡ false → (fs : List Frame) (t : Tree) → above fs ≡ Some up → IsSubtree n v fs t → IsSummed (greatest_in es) None (plug fs t) → top t ≡ Some p
             → IsSorted nat_cmp (map start (after fs)) → length fs ≤ turns → result ≡ first (filter (test start es from to) (after fs))
         behind_left other [] t eu h s e sorted low = absurd (none_not up eu)
         behind_left other (frame Right c q b ∷ fs) t eu h s e sorted low =
             absurd (not_end right p other (right_is ∙ (ap (λ (y : Place). (n (v.entry y)).right) (sym (some_same eu)) ∙ (h.around.0.right ∙ e))))
         behind_left other (frame Left c q b ∷ fs) t eu h s e sorted low = at q (sym (some_same eu)) (subtree_left n v c q b fs t h) s h.around.0.right h.around.1 sorted where
-          at : (y : Place) → up ≡ y → IsSubtree n v fs (fork c t y b) → IsSummed (intervals_in es) None (plug fs (fork c t y b)) → (n (v.entry y)).right ≡ top b → IsTree n v.entry (Some y) b
+          at : (y : Place) → up ≡ y → IsSubtree n v fs (fork c t y b) → IsSummed (greatest_in es) None (plug fs (fork c t y b)) → (n (v.entry y)).right ≡ top b → IsTree n v.entry (Some y) b
               → IsSorted nat_cmp (map start (y ∷ (in_order b ++ after fs))) → result ≡ first (filter (test start es from to) (y ∷ (in_order b ++ after fs)))
-          at y is = subst (λ (x : Place). IsSubtree n v fs (fork c t x b) → IsSummed (intervals_in es) None (plug fs (fork c t x b)) → (n (v.entry x)).right ≡ top b → IsTree n v.entry (Some x) b
+          at y is = subst (λ (x : Place). IsSubtree n v fs (fork c t x b) → IsSummed (greatest_in es) None (plug fs (fork c t x b)) → (n (v.entry x)).right ≡ top b → IsTree n v.entry (Some x) b
               → IsSorted nat_cmp (map start (x ∷ (in_order b ++ after fs))) → result ≡ first (filter (test start es from to) (x ∷ (in_order b ++ after fs)))) is
-              (λ h2 s2 r2 t2 sorted2. found b fs c t h2 s2 (summed_below (intervals_in es) fs (fork c t up b) s2).3 (right_is ∙ r2) t2 sorted2 (omega (arith, low)))
+              (λ h2 s2 r2 t2 sorted2. found b fs c t h2 s2 (summed_below (greatest_in es) fs (fork c t up b) s2).3 (right_is ∙ r2) t2 sorted2 (omega (arith, low)))
 
-      pub behind_none : result ≡ None → to ≤ start up → is_end right p ≡ false → (fs : List Frame) (t : Tree) → above fs ≡ Some up → IsSubtree n v fs t → IsSummed (intervals_in es) None (plug fs t) → top t ≡ Some p
+      pub behind_none : result ≡ None → to ≤ start up → is_end right p ≡ false → (fs : List Frame) (t : Tree) → above fs ≡ Some up → IsSubtree n v fs t → IsSummed (greatest_in es) None (plug fs t) → top t ≡ Some p
           → IsSorted nat_cmp (map start (after fs)) → length fs ≤ turns → result ≡ first (filter (test start es from to) (after fs))
       behind_none none behind = behind_left (λ b fs c t h s sb rb tb sorted low. none ∙ sym (ap first (late start es from to up (in_order b ++ after fs) behind sorted)))
 
-      pub behind_this : result ≡ Some up → start up < to → from < (interval_in es up).end → is_end right p ≡ false → (fs : List Frame) (t : Tree) → above fs ≡ Some up → IsSubtree n v fs t → IsSummed (intervals_in es) None (plug fs t)
+      pub behind_this : result ≡ Some up → start up < to → from < number_in es up → is_end right p ≡ false → (fs : List Frame) (t : Tree) → above fs ≡ Some up → IsSubtree n v fs t → IsSummed (greatest_in es) None (plug fs t)
           → top t ≡ Some p → IsSorted nat_cmp (map start (after fs)) → length fs ≤ turns → result ≡ first (filter (test start es from to) (after fs))
       behind_this is starts ends = behind_left (λ b fs c t h s sb rb tb sorted low. is ∙ sym (ap first (takes start es from to up (in_order b ++ after fs) (over start es from to up starts ends))))
 
-      module _ (g : ℕ) (g_is : g ≡ or_zero (seen (intervals_in es) right)) (ends : (interval_in es up).end ≤ from) where
-        greatest_is : (b : Tree) → right ≡ top b → IsSummed (intervals_in es) (Some up) b → g ≡ or_zero (total (intervals_in es) b)
-        greatest_is b rb sb = g_is ∙ ap or_zero (ap (seen (intervals_in es)) rb ∙ summed_seen (intervals_in es) (Some up) b sb)
+      module _ (g : ℕ) (g_is : g ≡ or_zero (seen (greatest_in es) right)) (ends : number_in es up ≤ from) where
+        greatest_is : (b : Tree) → right ≡ top b → IsSummed (greatest_in es) (Some up) b → g ≡ or_zero (total (greatest_in es) b)
+        greatest_is b rb sb = g_is ∙ ap or_zero (ap (seen (greatest_in es)) rb ∙ summed_seen (greatest_in es) (Some up) b sb)
 
         pub behind_below : from < g → FindsFirst start es from to n v None 67 right 67 result → is_end right p ≡ false → (fs : List Frame) (t : Tree) → above fs ≡ Some up → IsSubtree n v fs t
-            → IsSummed (intervals_in es) None (plug fs t) → top t ≡ Some p → IsSorted nat_cmp (map start (after fs)) → length fs ≤ turns → result ≡ first (filter (test start es from to) (after fs))
+            → IsSummed (greatest_in es) None (plug fs t) → top t ≡ Some p → IsSorted nat_cmp (map start (after fs)) → length fs ≤ turns → result ≡ first (filter (test start es from to) (after fs))
         behind_below more below = behind_left (λ b fs c t h s sb rb tb sorted low.
             let rest = sorted_tail start up (in_order b ++ after fs) sorted in
             below (Some up) b tb rb sb (sorted_front start (in_order b) (after fs) rest) (omega (arith, h.low, lower fs (fork c t up b), le-max_right (height t) (height b)))
             ∙ (first_left start es from to (in_order b) (after fs) (reaches start es from to b (omega (arith, more, greatest_is b rb sb))) rest
             ∙ sym (ap first (drops start es from to up (in_order b ++ after fs) (ends_before start es from to up ends)))))
 
-        pub behind_on : g ≤ from → FindsBehind up (turns - 1) result → is_end right p ≡ false → (fs : List Frame) (t : Tree) → above fs ≡ Some up → IsSubtree n v fs t → IsSummed (intervals_in es) None (plug fs t) → top t ≡ Some p
+        pub behind_on : g ≤ from → FindsBehind up (turns - 1) result → is_end right p ≡ false → (fs : List Frame) (t : Tree) → above fs ≡ Some up → IsSubtree n v fs t → IsSummed (greatest_in es) None (plug fs t) → top t ≡ Some p
             → IsSorted nat_cmp (map start (after fs)) → length fs ≤ turns → result ≡ first (filter (test start es from to) (after fs))
         behind_on less on = behind_left (λ b fs c t h s sb rb tb sorted low.
             on fs (fork c t up b) h s refl (sorted_behind start (in_order b) (after fs) (sorted_tail start up (in_order b ++ after fs) sorted)) low
@@ -327,10 +328,10 @@ module _ {E : Type 0} (n : E → Node) (v : Table E) where
     behind_spent [] e = refl
     behind_spent (f ∷ fs) e = absurd (omega (arith, e))
 
-    module _ (root : Option Place) (front : List Place) (p : Place) (back : List Place) (right : Option Place) (g : ℕ) (result : Option Place) (right_is : right ≡ (n (v.entry p)).right) (g_is : g ≡ or_zero (seen (intervals_in es) right)) where
+    module _ (root : Option Place) (front : List Place) (p : Place) (back : List Place) (right : Option Place) (g : ℕ) (result : Option Place) (right_is : right ≡ (n (v.entry p)).right) (g_is : g ≡ or_zero (seen (greatest_in es) right)) where
       -- what is found behind a member
       abbrev FindsNext : Type 0
-      FindsNext = ShowsSummed n (intervals_in es) v root (front ++ p ∷ back) → IsSorted nat_cmp (map start (front ++ p ∷ back)) → result ≡ first (filter (test start es from to) back)
+      FindsNext = ShowsSummed n (greatest_in es) v root (front ++ p ∷ back) → IsSorted nat_cmp (map start (front ++ p ∷ back)) → result ≡ first (filter (test start es from to) back)
 
       behind_sorted : (s : List Place) → s ≡ back → IsSorted nat_cmp (map start (front ++ p ∷ back)) → IsSorted nat_cmp (map start s)
       behind_sorted s e sorted = subst (λ (y : List Place). IsSorted nat_cmp (map start y)) (sym e) (sorted_tail start p back (sorted_behind start front (p ∷ back) sorted))
@@ -339,10 +340,10 @@ module _ {E : Type 0} (n : E → Node) (v : Table E) where
       next_below more below h sorted =
           let x = member_subtree n v root front p back h.shows in
           let t : Tree = fork x.c x.a p x.b in
-          let summed = subst (λ (y : Tree). IsSummed (intervals_in es) None y) (sym x.same) h.summed in
-          let sb = (summed_below (intervals_in es) x.fs t summed).3 in
+          let summed = subst (λ (y : Tree). IsSummed (greatest_in es) None y) (sym x.same) h.summed in
+          let sb = (summed_below (greatest_in es) x.fs t summed).3 in
           let rb : right ≡ top x.b = right_is ∙ x.subtree.tree.0.right in
-          let many : g ≡ or_zero (total (intervals_in es) x.b) = g_is ∙ ap or_zero (ap (seen (intervals_in es)) rb ∙ summed_seen (intervals_in es) (Some p) x.b sb) in
+          let many : g ≡ or_zero (total (greatest_in es) x.b) = g_is ∙ ap or_zero (ap (seen (greatest_in es)) rb ∙ summed_seen (greatest_in es) (Some p) x.b sb) in
           let rest = behind_sorted (in_order x.b ++ after x.fs) x.back_is sorted in
           below (Some p) x.b x.subtree.tree.2 rb sb (sorted_front start (in_order x.b) (after x.fs) rest) (omega (arith, x.subtree.low, lower x.fs t, le-max_right (height x.a) (height x.b)))
           ∙ (first_left start es from to (in_order x.b) (after x.fs) (reaches start es from to x.b (omega (arith, more, many))) rest ∙ ap (λ (y : List Place). first (filter (test start es from to) y)) x.back_is)
@@ -351,10 +352,10 @@ module _ {E : Type 0} (n : E → Node) (v : Table E) where
       next_behind less behind h sorted =
           let x = member_subtree n v root front p back h.shows in
           let t : Tree = fork x.c x.a p x.b in
-          let summed = subst (λ (y : Tree). IsSummed (intervals_in es) None y) (sym x.same) h.summed in
-          let sb = (summed_below (intervals_in es) x.fs t summed).3 in
+          let summed = subst (λ (y : Tree). IsSummed (greatest_in es) None y) (sym x.same) h.summed in
+          let sb = (summed_below (greatest_in es) x.fs t summed).3 in
           let rb : right ≡ top x.b = right_is ∙ x.subtree.tree.0.right in
-          let many : g ≡ or_zero (total (intervals_in es) x.b) = g_is ∙ ap or_zero (ap (seen (intervals_in es)) rb ∙ summed_seen (intervals_in es) (Some p) x.b sb) in
+          let many : g ≡ or_zero (total (greatest_in es) x.b) = g_is ∙ ap or_zero (ap (seen (greatest_in es)) rb ∙ summed_seen (greatest_in es) (Some p) x.b sb) in
           let rest = behind_sorted (in_order x.b ++ after x.fs) x.back_is sorted in
           behind x.fs t x.subtree summed refl (sorted_behind start (in_order x.b) (after x.fs) rest) (omega (arith, x.low))
           ∙ (sym (ap first (skipped start es from to x.b (after x.fs) (omega (arith, less, many)))) ∙ ap (λ (y : List Place). first (filter (test start es from to) y)) x.back_is)

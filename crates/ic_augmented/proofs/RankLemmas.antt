@@ -1,5 +1,6 @@
 -- How many members stand in front of a subtree of a tree with counts.
 use Rattle.std.proofs.Common.{◌≡◌, ◌≢◌, ◌≤◌, ◌+◌, ◌-◌, ◌^◌, ℕ, suc, true, false, Option, Some, None, List, [], ◌∷◌, ◌++◌, length, min, refl, sym, ap, ◌∙◌, subst, arith, length-append, eqb-true, eq-eqb}
+use Rattle.std.specs.Bool.{⊤}
 use Rattle.std.proofs.Math.Nat.{min-eq_left}
 use Rattle.ic_unsafe_ref.specs.declared.place.Place.{Place}
 use Rattle.ic_unsafe_ref.specs.Places.{index_of}
@@ -13,8 +14,9 @@ use Rattle.ic_link_ops.specs.Walk.{is_end}
 use Rattle.ic_link_ops.proofs.Frames.{in_order_parts}
 use Rattle.ic_link_ops.proofs.SequenceLemmas.{none_not, some_same}
 use Rattle.ic_link_ops.proofs.Times.{times_plug}
-use Rattle.ic_augmented.specs.declared.counts.Count.{Count}
-use Rattle.ic_augmented.specs.Counts.{or_zero, counts_in}
+use Rattle.ic_augmented.specs.declared.sum_table.Cell.{Cell}
+use Rattle.ic_augmented.specs.Counts.{counts_in}
+use Rattle.ic_augmented.specs.SumTables.{or_zero}
 use Rattle.ic_augmented.specs.Sums.{Sums, seen, IsSummed}
 use Rattle.ic_augmented.specs.Consistent.{ShowsSummed}
 use Rattle.ic_augmented.specs.Subtrees.{IsSubtree}
@@ -50,7 +52,7 @@ pub before_spent : (fs : List Frame) → length fs ≤ 0 → 0 ≡ length (befor
 before_spent [] e = refl
 before_spent (f ∷ fs) e = absurd (omega (arith, e))
 
-module _ {E : Type 0} (n : E → Node) (v : Table E) (es : List Count) where
+module _ {E : Type 0} (n : E → Node) (v : Table E) (es : List (Cell ⊤ ℕ)) where
   -- what is counted in front of the subtree at a place
   abbrev pub CountsBefore : Place → ℕ → ℕ → Type 0
   CountsBefore p turns r = (fs : List Frame) (t : Tree) → IsSubtree n v fs t → IsSummed (counts_in es) None (plug fs t) → top t ≡ Some p → length fs ≤ turns → r ≡ length (before fs)

@@ -7,7 +7,7 @@ use Rattle.ic_link_ops.specs.Trees.{Tree, leaf, fork, top}
 use Rattle.ic_link_ops.specs.RedBlackTree.{Node, Shows}
 use Rattle.ic_link_ops.specs.Times.{times, times_in}
 use Rattle.ic_rbtree.specs.Height.{height}
-use Rattle.ic_augmented.specs.Sums.{Sums, is_fresh, seen, IsSummed}
+use Rattle.ic_augmented.specs.Sums.{Sums, is_fresh, seen, IsSummed, MarksAlone}
 
 module _ {S : Type 0} where
   -- the child is fresh, and its summary was written below q
@@ -57,9 +57,10 @@ module _ {E S : Type 0} (n : E → Node) where
   abbrev pub IsConsistent : Table E → Sums S → List Place → Type 0
   IsConsistent v z s = IsConsistentBut v z s None
 
-  -- an edit keeps what is right
+  -- an edit keeps what is right, and writes no summary, of whatever tree: it makes some stale
   pub record KeepsConsistent (v w : Table E) (z y : Sums S) : Type 0 where
     pub consistent : (s : List Place) → IsConsistent v z s → IsConsistent w y s
+    pub marks : MarksAlone z y
     pub join : y.join ≡ z.join
 
   -- THE TABLE SHOWS s, and each fresh summary is right

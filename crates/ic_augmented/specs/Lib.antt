@@ -1,7 +1,11 @@
 pub mod Sums
+pub mod MarkLaws
 pub mod Summed
 pub mod Consistent
 pub mod QuietEdits
+pub mod SumTables
 pub mod Counts
+pub mod Greatest
+pub mod GreatestLaws
 pub mod Intervals
 pub mod Subtrees

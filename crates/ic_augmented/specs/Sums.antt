@@ -31,6 +31,11 @@ module _ {S : Type 0} where
   IsSummed z up leaf = Unit {0}
   IsSummed z up (fork c a p b) = (z.fresh p ≡ total z (fork c a p b)) × (z.upper p ≡ up) × IsSummed z (Some p) a × IsSummed z (Some p) b
 
+  -- no summary was written from one state to the other: each is as it was, or stale now, and each parent is as it was
+  pub record MarksAlone (old new : Sums S) : Type 0 where
+    pub fresh : (q : Place) (x : S) → new.fresh q ≡ Some x → old.fresh q ≡ Some x
+    pub upper : (q : Place) → new.upper q ≡ old.upper q
+
   -- p is stale now, and nothing else has changed
   pub record Invalidates (old new : Sums S) (p : Place) : Type 0 where
     pub stale : new.fresh p ≡ None

@@ -28,7 +28,7 @@ use ic_unsafe_ref::Place;
 
 /// Puts `place` in on this side of `parent`, as [`RBTree::attach`] does, and makes the summaries stale that it changes.
 ///
-/// It requires what `RBTree::attach` requires. Each fresh summary stays right, of every tree in the table. O(log n).
+/// It requires what `RBTree::attach` requires. Each fresh summary stays right, of every tree in the table, and none is written. O(log n).
 pub fn attach<A, N: Nodes, M: Sums>(
     tree: &mut RBTree<A>,
     summed: &mut Summed<N, M>,
@@ -55,7 +55,7 @@ pub fn attach<A, N: Nodes, M: Sums>(
 
 /// Takes the member at `place` out, as [`RBTree::unlink`] does, and makes the summaries stale that it changes. The place stays linked.
 ///
-/// It requires what `RBTree::unlink` requires. Each fresh summary stays right, of every tree in the table. O(log n).
+/// It requires what `RBTree::unlink` requires. Each fresh summary stays right, of every tree in the table, and none is written. O(log n).
 pub fn unlink<A, N: Nodes, M: Sums>(tree: &mut RBTree<A>, summed: &mut Summed<N, M>, place: Place)
     requires { IsSafe N.node (N.table (links_of summed.old)) (root_of tree.old) (Some place ∷ []) }
     ensures consistent { (front back : List Place)

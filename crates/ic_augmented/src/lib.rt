@@ -1,10 +1,10 @@
 //! Red-black trees with a summary over each subtree, kept beside the links: how many members it has, the greatest
-//! end of its intervals, or what you make of them.
+//! of their numbers, or what you make of them.
 //!
 //! An edit marks each summary as stale that may have changed, and `refresh` renews the stale ones. So several edits share one `refresh`.
 //!
 //! ```text
-//! insert_keyed(&mut tree, &mut summed, place);
+//! insert_keyed(&mut tree, &mut summed, object)?;
 //! refresh(&tree, &mut summed);
 //! nth(&tree, &summed, 3) // the fourth member
 //! ```
@@ -12,21 +12,23 @@
 
 mod counts;
 mod edits;
-mod intervals;
+mod greatest;
 mod linking;
 mod no_sums;
 mod overlaps;
 mod ranks;
 mod stale;
+mod sum_table;
 mod summed;
 mod sums;
 
-pub use counts::{Count, Counts};
+pub use counts::Counts;
 pub use edits::{attach, propagate, refresh, unlink};
-pub use intervals::{Interval, Intervals, set_end};
+pub use greatest::Greatest;
 pub use linking::{insert_keyed, remove};
 pub use no_sums::NoSums;
 pub use overlaps::{first_overlap, next_overlap};
 pub use ranks::{index_of, len, nth};
+pub use sum_table::{Cell, Joins, SumTable, set_value};
 pub use summed::Summed;
 pub use sums::{RenewSums, Sums};

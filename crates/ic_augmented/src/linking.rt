@@ -18,6 +18,7 @@ ghost use Rattle.ic_rbtree.specs.Comparing.{compared, own_order};
 ghost use Rattle.ic_rbtree.specs.Ordered.{InsertsInOrder};
 ghost use Rattle.ic_rbtree.specs.Tree.{root_of, adapter_of};
 ghost use Rattle.ic_augmented.specs.Summed.{links_of, sums_of};
+ghost use Rattle.ic_augmented.specs.Sums.{MarksAlone};
 ghost use Rattle.ic_augmented.specs.Consistent.{IsConsistent, ShowsConsistent};
 
 use crate::edits::{attach, unlink};
@@ -32,7 +33,7 @@ use ic_unsafe_ref::{Place, UnsafeRef, Values};
 /// refused, and makes the summaries stale that it changes.
 ///
 /// It requires that the object's place is covered, and that the links show a tree. A refused object comes back, and the tree, its links and its
-/// summaries are as they were. Each fresh summary stays right, of every tree in the table. O(log n).
+/// summaries are as they were. Each fresh summary stays right, of every tree in the table, and none is written. O(log n).
 pub fn insert_keyed<A: KeyAdapter, L: RBTreeOps + LinkValues<A::Value>, M: Sums>(
     tree: &mut RBTree<A>,
     summed: &mut Summed<L, M>,
@@ -47,6 +48,7 @@ pub fn insert_keyed<A: KeyAdapter, L: RBTreeOps + LinkValues<A::Value>, M: Sums>
     ensures acquired { OnOk result (L.Does (links_of summed.old) (links_of summed.new) (acquires object ∷ [])) }
     ensures others { (t : List Place) → IsAbsent object t → IsConsistent L.node (L.table (links_of summed.old)) (M.sums (sums_of summed.old)) t
         → IsConsistent L.node (L.table (links_of summed.new)) (M.sums (sums_of summed.new)) t }
+    ensures marks { MarksAlone (M.sums (sums_of summed.old)) (M.sums (sums_of summed.new)) }
     ensures join { (M.sums (sums_of summed.new)).join ≡ (M.sums (sums_of summed.old)).join }
     ensures covers { (q : Place) → M.Covers (sums_of summed.old) q → M.Covers (sums_of summed.new) q }
     ensures extent { (L.table (links_of summed.new)).extent ≡ (L.table (links_of summed.old)).extent }
@@ -68,7 +70,8 @@ pub fn insert_keyed<A: KeyAdapter, L: RBTreeOps + LinkValues<A::Value>, M: Sums>
 
 /// Takes the member at `place` off the tree, and unlinks it.
 ///
-/// It requires that the place is that of a member. Each fresh summary stays right, of every tree in the table. O(log n), and no look.
+/// It requires that the place is that of a member. Each fresh summary stays right, of every tree in the table, and none is written. O(log n), and
+/// no look.
 pub fn remove<A, L: RBTreeOps, M: Sums>(
     tree: &mut RBTree<A>,
     summed: &mut Summed<L, M>,
@@ -83,6 +86,7 @@ pub fn remove<A, L: RBTreeOps, M: Sums>(
         → IsConsistent L.node (L.table (links_of summed.new)) (M.sums (sums_of summed.new)) t }
     ensures frame { (s : List Place) → Shows L.node (L.table (links_of summed.old)) (root_of tree.old) s
         → KeepsBeside (L.table (links_of summed.old)) (L.table (links_of summed.new)) s }
+    ensures marks { MarksAlone (M.sums (sums_of summed.old)) (M.sums (sums_of summed.new)) }
     ensures join { (M.sums (sums_of summed.new)).join ≡ (M.sums (sums_of summed.old)).join }
     ensures covers { (q : Place) → M.Covers (sums_of summed.old) q → M.Covers (sums_of summed.new) q }
     ensures adapter { adapter_of tree.new ≡ adapter_of tree.old }

@@ -18,12 +18,13 @@ ghost use Rattle.ic_rbtree.specs.Borders.{IsSorted};
 ghost use Rattle.ic_rbtree.specs.Height.{height};
 ghost use Rattle.ic_rbtree.specs.Tree.{root_of};
 ghost use Rattle.ic_augmented.specs.Consistent.{ShowsSummed};
-ghost use Rattle.ic_augmented.specs.Intervals.{intervals, end_of, start_in, overlaps};
+ghost use Rattle.ic_augmented.specs.Greatest.{greatest, number_at};
+ghost use Rattle.ic_augmented.specs.Intervals.{start_in, overlaps};
 ghost use Rattle.ic_augmented.specs.Subtrees.{IsSubtree};
 ghost use Rattle.ic_augmented.specs.Summed.{links_of, sums_of};
 ghost use Rattle.ic_augmented.specs.Sums.{IsSummed};
 
-use crate::intervals::Intervals;
+use crate::greatest::Greatest;
 use crate::ranks::is_at;
 use crate::summed::Summed;
 use ic_rbtree::{Nodes, RBTree};
@@ -33,7 +34,7 @@ use std::alloc::Allocator;
 // The first interval of the subtree at a place that overlaps `[from, to)`.
 fn first_overlap_below<N: Nodes, O: Values<u64>, A: Allocator>(
     links: &N,
-    ends: &Intervals<A>,
+    ends: &Greatest<A>,
     starts: &O,
     place: Option<Place>,
     from: u64,
@@ -42,21 +43,21 @@ fn first_overlap_below<N: Nodes, O: Values<u64>, A: Allocator>(
 ) -> Option<Place>
     requires { (u : Option Place) × (t : Tree) × IsTree N.node (Table.entry (N.table links.now)) u t × (place ≡ top t) × ArePlaced (O.values starts.now) (in_order t) }
     ensures { (u : Option Place) (t : Tree) → IsTree N.node (Table.entry (N.table links.now)) u t → place ≡ top t
-        → IsSummed (intervals ends.now) u t → IsSorted nat_cmp (map (start_in (O.values starts.now)) (in_order t)) → height t ≤ turns
-        → result ≡ first (filter (overlaps (start_in (O.values starts.now)) (end_of ends.now) from to) (in_order t)) }
+        → IsSummed (greatest ends.now) u t → IsSorted nat_cmp (map (start_in (O.values starts.now)) (in_order t)) → height t ≤ turns
+        → result ≡ first (filter (overlaps (start_in (O.values starts.now)) (number_at ends.now) from to) (in_order t)) }
 {
     let here = place?;
     if turns == 0 {
         return None;
     }
     let left = links.left(here);
-    if from < ends.greatest(left) {
+    if from < ends.total(left) {
         return first_overlap_below(links, ends, starts, left, from, to, turns - 1);
     }
     if to <= *starts.value(here) {
         return None;
     }
-    if from < ends.end(here) {
+    if from < ends.value(here) {
         return Some(here);
     }
     let right = links.right(here);
@@ -65,20 +66,21 @@ fn first_overlap_below<N: Nodes, O: Values<u64>, A: Allocator>(
 
 /// The first member whose interval overlaps `[from, to)`: it starts before `to`, and ends behind `from`.
 ///
-/// The start of each interval is the number that `starts` has for its place, by which the tree is in order. It requires that the links show a
+/// The end of each interval is the number at its place in the summaries, and its start the number that `starts` has for it, by which the tree is
+/// in order. It requires that the links show a
 /// tree with a start at each member. It finds none where no member overlaps. O(log n).
 pub fn first_overlap<T, N: Nodes, O: Values<u64>, A: Allocator>(
     tree: &RBTree<T>,
-    summed: &Summed<N, Intervals<A>>,
+    summed: &Summed<N, Greatest<A>>,
     starts: &O,
     from: u64,
     to: u64,
 ) -> Option<Place>
     requires { (s : List Place) × Shows N.node (N.table (links_of summed.now)) (root_of tree.now) s × ArePlaced (O.values starts.now) s }
     ensures { (s : List Place)
-        → ShowsSummed N.node (intervals (sums_of summed.now)) (N.table (links_of summed.now)) (root_of tree.now) s
+        → ShowsSummed N.node (greatest (sums_of summed.now)) (N.table (links_of summed.now)) (root_of tree.now) s
         → IsSorted nat_cmp (map (start_in (O.values starts.now)) s)
-        → result ≡ first (filter (overlaps (start_in (O.values starts.now)) (end_of (sums_of summed.now)) from to) s) }
+        → result ≡ first (filter (overlaps (start_in (O.values starts.now)) (number_at (sums_of summed.now)) from to) s) }
 {
     first_overlap_below(
         &summed.links,
@@ -94,7 +96,7 @@ pub fn first_overlap<T, N: Nodes, O: Values<u64>, A: Allocator>(
 // The first interval behind the subtree at a place that overlaps `[from, to)`.
 fn first_overlap_behind<N: Nodes, O: Values<u64>, A: Allocator>(
     links: &N,
-    ends: &Intervals<A>,
+    ends: &Greatest<A>,
     starts: &O,
     place: Place,
     from: u64,
@@ -102,9 +104,9 @@ fn first_overlap_behind<N: Nodes, O: Values<u64>, A: Allocator>(
     turns: u32,
 ) -> Option<Place>
     requires { (fs : List Frame) × (t : Tree) × IsSubtree N.node (N.table links.now) fs t × (top t ≡ Some place) × ArePlaced (O.values starts.now) (after fs) }
-    ensures { (fs : List Frame) (t : Tree) → IsSubtree N.node (N.table links.now) fs t → IsSummed (intervals ends.now) None (plug fs t) → top t ≡ Some place
+    ensures { (fs : List Frame) (t : Tree) → IsSubtree N.node (N.table links.now) fs t → IsSummed (greatest ends.now) None (plug fs t) → top t ≡ Some place
         → IsSorted nat_cmp (map (start_in (O.values starts.now)) (after fs)) → length fs ≤ turns
-        → result ≡ first (filter (overlaps (start_in (O.values starts.now)) (end_of ends.now) from to) (after fs)) }
+        → result ≡ first (filter (overlaps (start_in (O.values starts.now)) (number_at ends.now) from to) (after fs)) }
 {
     if turns == 0 {
         return None;
@@ -117,10 +119,10 @@ fn first_overlap_behind<N: Nodes, O: Values<u64>, A: Allocator>(
     if to <= *starts.value(above) {
         return None;
     }
-    if from < ends.end(above) {
+    if from < ends.value(above) {
         return Some(above);
     }
-    if from < ends.greatest(right) {
+    if from < ends.total(right) {
         return first_overlap_below(links, ends, starts, right, from, to, 67);
     }
     first_overlap_behind(links, ends, starts, above, from, to, turns - 1)
@@ -131,7 +133,7 @@ fn first_overlap_behind<N: Nodes, O: Values<u64>, A: Allocator>(
 /// It requires that the place is that of a member of a tree, whichever, that is in the order of starts and has one at each member. It finds none where no
 /// member behind overlaps. So `first_overlap`, and then this until it finds none, give all that overlap, in order. O(log n).
 pub fn next_overlap<N: Nodes, O: Values<u64>, A: Allocator>(
-    summed: &Summed<N, Intervals<A>>,
+    summed: &Summed<N, Greatest<A>>,
     starts: &O,
     place: Place,
     from: u64,
@@ -140,13 +142,13 @@ pub fn next_overlap<N: Nodes, O: Values<u64>, A: Allocator>(
     requires { (root : Option Place) × (front back : List Place)
         × Shows N.node (N.table (links_of summed.now)) root (front ++ place ∷ back) × ArePlaced (O.values starts.now) (front ++ place ∷ back) }
     ensures { (root : Option Place) (front back : List Place)
-        → ShowsSummed N.node (intervals (sums_of summed.now)) (N.table (links_of summed.now)) root (front ++ place ∷ back)
+        → ShowsSummed N.node (greatest (sums_of summed.now)) (N.table (links_of summed.now)) root (front ++ place ∷ back)
         → IsSorted nat_cmp (map (start_in (O.values starts.now)) (front ++ place ∷ back))
-        → result ≡ first (filter (overlaps (start_in (O.values starts.now)) (end_of (sums_of summed.now)) from to) back) }
+        → result ≡ first (filter (overlaps (start_in (O.values starts.now)) (number_at (sums_of summed.now)) from to) back) }
 {
     let links = &summed.links;
     let right = links.right(place);
-    if from < summed.sums.greatest(right) {
+    if from < summed.sums.total(right) {
         return first_overlap_below(links, &summed.sums, starts, right, from, to, 67);
     }
     first_overlap_behind(links, &summed.sums, starts, place, from, to, 67)

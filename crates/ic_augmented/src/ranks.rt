@@ -35,7 +35,7 @@ pub fn len<T, N: Nodes, A: Allocator>(tree: &RBTree<T>, summed: &Summed<N, Count
         → ShowsSummed N.node (counts (sums_of summed.now)) (N.table (links_of summed.now)) (root_of tree.now) s
         → result ≡ length s }
 {
-    summed.sums.count(tree.root())
+    summed.sums.total(tree.root())
 }
 
 // The member at a position of the subtree at a place.
@@ -56,7 +56,7 @@ fn nth_below<N: Nodes, A: Allocator>(
         return None;
     }
     let left = links.left(here);
-    let before = sums.count(left);
+    let before = sums.total(left);
     if position < before {
         return nth_below(links, sums, left, position, turns - 1);
     }
@@ -113,7 +113,7 @@ fn count_before<N: Nodes, A: Allocator>(
     if !is_at(links.right(above), place) {
         return before;
     }
-    let beside = sums.count(links.left(above));
+    let beside = sums.total(links.left(above));
     before.saturating_add(beside).saturating_add(1)
 }
 
@@ -127,5 +127,5 @@ pub fn index_of<N: Nodes, A: Allocator>(summed: &Summed<N, Counts<A>>, place: Pl
         → result ≡ length front }
 {
     let before = count_before(&summed.links, &summed.sums, place, 67);
-    before.saturating_add(summed.sums.count(summed.links.left(place)))
+    before.saturating_add(summed.sums.total(summed.links.left(place)))
 }

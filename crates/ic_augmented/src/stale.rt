@@ -6,7 +6,7 @@
 //! refresh_path(&links, &mut sums, place, TURNS); // from a place up
 //! ```
 
-ghost use Rattle.std.specs.Prelude.{◌≡◌, ◌<◌, Option, Some, None, List, length};
+ghost use Rattle.std.specs.Prelude.{◌≡◌, ◌<◌, suc, Option, Some, None, List, length};
 ghost use Rattle.ic_unsafe_ref.specs.declared.place.Place.{Place};
 ghost use Rattle.ic_link_ops.specs.Frames.{Frame, plug};
 ghost use Rattle.ic_link_ops.specs.RedBlackTree.{IsTree};
@@ -38,6 +38,7 @@ pub(crate) fn invalidate_up<N: Nodes, M: Sums>(_links: &N, sums: &mut M, place: 
         at = sums.upper(here);
     }
 }
+
 // Writes the stale summaries at an end and below it. It goes down where they are stale alone.
 #[inline(always)]
 #[cycle(refresh)]
@@ -82,10 +83,29 @@ fn refresh_at<N: Nodes, M: RenewSums>(
     if turns == 0 {
         return;
     }
+    renew(links, sums, here, upper, turns - 1);
+}
+
+// Writes the summary of a place, after the stale ones below it. The climb has it in its own loop, without a call.
+#[inline(always)]
+#[cycle(refresh)]
+fn renew<N: Nodes, M: RenewSums>(
+    links: &N,
+    sums: &mut M,
+    here: Place,
+    upper: Option<Place>,
+    turns: u32,
+)
+    requires covered { (q : Place) → IsNode N.node (N.table links.now) q → M.Covers sums.old q }
+    requires tree { (u : Option Place) × (t : Tree) × IsTree N.node (Table.entry (N.table links.now)) u t × (Some here ≡ top t) }
+    ensures covers { (q : Place) → M.Covers sums.old q → M.Covers sums.new q }
+    ensures refreshed { (u : Option Place) (t : Tree) → IsTree N.node (Table.entry (N.table links.now)) u t → Some here ≡ top t
+        → Refreshes IsConsistentBelow (M.sums sums.old) (M.sums sums.new) upper t (suc turns) }
+{
     let left = links.left(here);
     let right = links.right(here);
-    refresh_below(links, sums, left, Some(here), turns - 1);
-    refresh_below(links, sums, right, Some(here), turns - 1);
+    refresh_below(links, sums, left, Some(here), turns);
+    refresh_below(links, sums, right, Some(here), turns);
     sums.write(here, left, right, upper);
 }
 
@@ -109,7 +129,7 @@ pub(crate) fn refresh_path<N: Nodes, M: RenewSums>(
         return;
     }
     let upper = links.parent(place);
-    refresh_at(links, sums, place, upper, 67);
+    renew(links, sums, place, upper, 66);
     let Some(above) = upper else {
         return;
     };

@@ -23,6 +23,7 @@ impl<N: Nodes, M: Sums> Nodes for Summed<N, M> {
     ghost use Rattle.ic_augmented.specs.Summed.{links_of, sums_of};
     ghost use Rattle.ic_augmented.specs.Consistent.{KeepsConsistent};
     ghost use Rattle.ic_augmented.specs.QuietEdits.{QuietlyKeeps};
+    ghost use Rattle.ic_augmented.specs.MarkLaws.{marks_still, marks_on};
     ghost use Rattle.std.proofs.Common.{refl, ◌∙◌};
 
     type Entry = N::Entry;
@@ -80,9 +81,9 @@ impl<N: Nodes, M: Sums> Nodes for Summed<N, M> {
         self.links.set_parent_and_color(place, parent, color);
     }
 
-    ghost quiet_still = { λ t. record { quiet = N.quiet_still (links_of t); consistent = λ s h. h; covers = λ q h. h; join = refl } };
+    ghost quiet_still = { λ t. record { quiet = N.quiet_still (links_of t); consistent = λ s h. h; marks = marks_still (M.sums (sums_of t)); covers = λ q h. h; join = refl } };
 
-    ghost quiet_on = { λ a b c x y. record { quiet = N.quiet_on (links_of a) (links_of b) (links_of c) x.quiet y.quiet; consistent = λ s h. y.consistent s (x.consistent s h); covers = λ q h. y.covers q (x.covers q h); join = y.join ∙ x.join } };
+    ghost quiet_on = { λ a b c x y. record { quiet = N.quiet_on (links_of a) (links_of b) (links_of c) x.quiet y.quiet; consistent = λ s h. y.consistent s (x.consistent s h); marks = marks_on x.marks y.marks; covers = λ q h. y.covers q (x.covers q h); join = y.join ∙ x.join } };
 
     ghost quiet_keeps = { λ old new x. N.quiet_keeps (links_of old) (links_of new) x.quiet };
 }

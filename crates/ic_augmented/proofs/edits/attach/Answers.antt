@@ -1,4 +1,5 @@
 use Rattle.std.proofs.Common.{◌∙◌}
+use Rattle.ic_augmented.specs.MarkLaws.{marks_on}
 use Rattle.ic_augmented.proofs.EditLemmas.{attached}
 use Rattle.ic_augmented.proofs.edits.attach.Goals as goal
 
@@ -9,5 +10,6 @@ returns-clause-consistent g c gap linked out h hole =
 pub returns-clause-sums : goal.returns-clause-sums
 returns-clause-sums g c = record {
   consistent = λ s h. c.attach.ensures.quiet.consistent s (c.invalidate_up.ensures.consistent.consistent s h);
+  marks = marks_on c.invalidate_up.ensures.consistent.marks c.attach.ensures.quiet.marks;
   join = c.attach.ensures.quiet.join ∙ c.invalidate_up.ensures.consistent.join;
 }

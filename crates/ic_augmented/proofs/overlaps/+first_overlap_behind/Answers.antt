@@ -1,6 +1,7 @@
 use Rattle.std.proofs.Common.{rules, ℕ, ◌≡◌, ◌<◌, ◌≤◌, Some, None, arith, refl, sym, ap, ◌∙◌}
 use Rattle.ic_rbtree.specs.SortedObjects.{key_or}
-use Rattle.ic_augmented.specs.Intervals.{start_in, end_of}
+use Rattle.ic_augmented.specs.Greatest.{number_at}
+use Rattle.ic_augmented.specs.Intervals.{start_in}
 use Rattle.ic_augmented.proofs.OverlapLemmas.{behind_up, behind_here, behind_tree, behind_right, behind_none, behind_this, behind_below, behind_on}
 use Rattle.ic_augmented.proofs.SubtreeLemmas.{subtree_parent}
 use Rattle.ic_augmented.proofs.overlaps.+first_overlap_behind.Goals as goal
@@ -42,8 +43,8 @@ returns-then-to-value g t c fs u h s e sorted low =
     let behind : c.args.to ≤ start c.in_ok-above.above = omega (arith, is, c.if-to-value.true) in
     behind_none n v start es c.args.from c.args.to c.args.place c.in_ok-above.above c.args.turns c.right-right.result c.right-right.ensures None refl behind (sym c.is_at.ensures ∙ c.if-is_at.false) fs u eu h s e sorted low
 
-pub returns-then-from-end : goal.returns-then-from-end
-returns-then-from-end g t c fs u h s e sorted low =
+pub returns-then-from-value : goal.returns-then-from-value
+returns-then-from-value g t c fs u h s e sorted low =
     let n = g.N.Nodes.node in
     let v = g.N.Nodes.table c.args.links.now in
     let start = start_in (g.O.Values.values c.args.starts.now) in
@@ -51,7 +52,7 @@ returns-then-from-end g t c fs u h s e sorted low =
     let eu = sym (subtree_parent n v fs u c.args.place h e) ∙ (sym c.parent.ensures ∙ c.in_ok-above.was) in
     let is : start c.in_ok-above.above ≡ c.value.result.now = ap (key_or (λ (x : ℕ). x)) c.value.ensures in
     let starts : start c.in_ok-above.above < c.args.to = omega (arith, is, c.if-to-value.false) in
-    let ends : c.args.from < end_of c.args.ends.now c.in_ok-above.above = omega (arith, c.end.ensures, c.if-from-end.true) in
+    let ends : c.args.from < number_at c.args.ends.now c.in_ok-above.above = omega (arith, c.value-2.ensures, c.if-from-value.true) in
     behind_this n v start es c.args.from c.args.to c.args.place c.in_ok-above.above c.args.turns c.right-right.result c.right-right.ensures (Some c.in_ok-above.above) refl starts ends (sym c.is_at.ensures ∙ c.if-is_at.false) fs u eu h s e sorted low
 
 pub first_overlap_below-requires : goal.first_overlap_below-requires
@@ -62,15 +63,15 @@ first_overlap_below-requires g t c =
     let eu = sym (subtree_parent n v r.0 r.1 c.args.place r.2 r.3) ∙ (sym c.parent.ensures ∙ c.in_ok-above.was) in
     behind_tree n v (g.O.Values.values c.args.starts.now) c.args.place c.in_ok-above.above c.right-right.result c.right-right.ensures (sym c.is_at.ensures ∙ c.if-is_at.false) r.0 r.1 r.2 r.3 r.4 eu
 
-pub returns-then-from-greatest : goal.returns-then-from-greatest
-returns-then-from-greatest g t c fs u h s e sorted low =
+pub returns-then-from-total : goal.returns-then-from-total
+returns-then-from-total g t c fs u h s e sorted low =
     let n = g.N.Nodes.node in
     let v = g.N.Nodes.table c.args.links.now in
     let start = start_in (g.O.Values.values c.args.starts.now) in
     let es = c.args.ends.now.cells.items in
     let eu = sym (subtree_parent n v fs u c.args.place h e) ∙ (sym c.parent.ensures ∙ c.in_ok-above.was) in
-    let ends : end_of c.args.ends.now c.in_ok-above.above ≤ c.args.from = omega (arith, c.end.ensures, c.if-from-end.false) in
-    behind_below n v start es c.args.from c.args.to c.args.place c.in_ok-above.above c.args.turns c.right-right.result c.right-right.ensures c.first_overlap_below.result c.greatest.result c.greatest.ensures ends c.if-from-greatest.true c.first_overlap_below.ensures (sym c.is_at.ensures ∙ c.if-is_at.false) fs u eu h s e sorted low
+    let ends : number_at c.args.ends.now c.in_ok-above.above ≤ c.args.from = omega (arith, c.value-2.ensures, c.if-from-value.false) in
+    behind_below n v start es c.args.from c.args.to c.args.place c.in_ok-above.above c.args.turns c.right-right.result c.right-right.ensures c.first_overlap_below.result c.total.result c.total.ensures ends c.if-from-total.true c.first_overlap_below.ensures (sym c.is_at.ensures ∙ c.if-is_at.false) fs u eu h s e sorted low
 
 pub first_overlap_behind-requires-2 : goal.first_overlap_behind-requires-2
 first_overlap_behind-requires-2 g t c κs within =
@@ -88,5 +89,5 @@ returns g t c fs u h s e sorted low =
     let start = start_in (g.O.Values.values c.args.starts.now) in
     let es = c.args.ends.now.cells.items in
     let eu = sym (subtree_parent n v fs u c.args.place h e) ∙ (sym c.parent.ensures ∙ c.in_ok-above.was) in
-    let ends : end_of c.args.ends.now c.in_ok-above.above ≤ c.args.from = omega (arith, c.end.ensures, c.if-from-end.false) in
-    behind_on n v start es c.args.from c.args.to c.args.place c.in_ok-above.above c.args.turns c.right-right.result c.right-right.ensures c.first_overlap_behind-2.result c.greatest.result c.greatest.ensures ends c.if-from-greatest.false c.first_overlap_behind-2.ensures (sym c.is_at.ensures ∙ c.if-is_at.false) fs u eu h s e sorted low
+    let ends : number_at c.args.ends.now c.in_ok-above.above ≤ c.args.from = omega (arith, c.value-2.ensures, c.if-from-value.false) in
+    behind_on n v start es c.args.from c.args.to c.args.place c.in_ok-above.above c.args.turns c.right-right.result c.right-right.ensures c.first_overlap_behind-2.result c.total.result c.total.ensures ends c.if-from-total.false c.first_overlap_behind-2.ensures (sym c.is_at.ensures ∙ c.if-is_at.false) fs u eu h s e sorted low

@@ -25,10 +25,10 @@ first_overlap_below-requires g c =
     let behind = subst (ArePlaced objects) (sym x.back_is) (placed_right objects r.1 (c.args.place ∷ r.2) r.4).1 in
     (Some c.args.place, x.b, x.subtree.tree.2, c.right-right.ensures ∙ x.subtree.tree.0.right, placed_left objects (in_order x.b) (after x.fs) behind)
 
-pub returns-then-from-greatest : goal.returns-then-from-greatest
-returns-then-from-greatest g c root front back h sorted =
+pub returns-then-from-total : goal.returns-then-from-total
+returns-then-from-total g c root front back h sorted =
     next_below g.N.Nodes.node (g.N.Nodes.table c.args.summed.now.links) (start_in (g.O.Values.values c.args.starts.now)) c.args.summed.now.sums.cells.items c.args.from c.args.to root front c.args.place back
-    c.right-right.result c.greatest.result c.first_overlap_below.result c.right-right.ensures c.greatest.ensures c.if-from-greatest.true c.first_overlap_below.ensures h sorted
+    c.right-right.result c.total.result c.first_overlap_below.result c.right-right.ensures c.total.ensures c.if-from-total.true c.first_overlap_below.ensures h sorted
 
 pub first_overlap_behind-requires : goal.first_overlap_behind-requires
 first_overlap_behind-requires g c =
@@ -43,4 +43,4 @@ first_overlap_behind-requires g c =
 pub returns : goal.returns
 returns g c root front back h sorted =
     next_behind g.N.Nodes.node (g.N.Nodes.table c.args.summed.now.links) (start_in (g.O.Values.values c.args.starts.now)) c.args.summed.now.sums.cells.items c.args.from c.args.to root front c.args.place back
-    c.right-right.result c.greatest.result c.first_overlap_behind.result c.right-right.ensures c.greatest.ensures c.if-from-greatest.false c.first_overlap_behind.ensures h sorted
+    c.right-right.result c.total.result c.first_overlap_behind.result c.right-right.ensures c.total.ensures c.if-from-total.false c.first_overlap_behind.ensures h sorted

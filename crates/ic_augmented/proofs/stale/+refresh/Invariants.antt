@@ -2,7 +2,10 @@ use Rattle.std.proofs.Common.{◌+◌, ◌*◌}
 use Rattle.ic_augmented.proofs.stale.+refresh.Given as goal
 
 abbrev pub decreases-refresh_below : goal.decreases-refresh_below
-decreases-refresh_below g l = 2 * l.turns + 1
+decreases-refresh_below g l = 3 * l.turns + 1
 
 abbrev pub decreases-refresh_at : goal.decreases-refresh_at
-decreases-refresh_at g l = 2 * l.turns
+decreases-refresh_at g l = 3 * l.turns
+
+abbrev pub decreases-renew : goal.decreases-renew
+decreases-renew g l = 3 * l.turns + 2

@@ -1,0 +1,16 @@
+use Rattle.std.proofs.Common.{ap, refl, ◌∙◌}
+use Rattle.ic_link_ops.proofs.EntryLemmas.{others_same}
+use Rattle.ic_augmented.specs.declared.sum_table.Cell.{Cell}
+use Rattle.ic_augmented.specs.SumTables.{blank}
+use Rattle.ic_augmented.proofs.SumTableLemmas.{value_set, same_value}
+use Rattle.ic_augmented.proofs.sum_table.set_value.Goals as goal
+
+pub returns-clause-values : goal.returns-clause-values
+returns-clause-values g c q other =
+    ap (λ (y : Cell _ _). y.value) (others_same (blank g.V.Joins.initial) c.invalidate_up.new.sums.cells.items c.args.place _ c.index.result c.index.ensures.value q other)
+    ∙ same_value g.V.Joins.join g.V.Joins.initial g.met.V.Joins.tells c.invalidate_up.new.sums.cells.items c.args.summed.now.sums.cells.items c.invalidate_up.ensures.consistent.join q
+
+pub returns-clause-consistent : goal.returns-clause-consistent
+returns-clause-consistent g c s h =
+    value_set g.V.Joins.join g.V.Joins.initial c.invalidate_up.new.sums.cells.items c.args.place c.index_mut-cell.result.now _ _ c.index.result c.index.ensures.value (c.invalidate_up.ensures.covers c.args.place c.requires.covered) c.index_mut-cell.ensures.value
+    g.N.Nodes.node (g.N.Nodes.table c.args.summed.now.links) s refl refl c.invalidate_up.ensures.stale (c.invalidate_up.ensures.consistent.consistent s h)

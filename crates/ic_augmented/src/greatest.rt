@@ -1,0 +1,46 @@
+//! A number beside each place, and the greatest at each place and below.
+//!
+//! ```text
+//! set_value(&mut summed, place, 20); // the end of an interval, say, whose start is its key
+//! insert_keyed(&mut tree, &mut summed, object)?;
+//! propagate(&mut summed, place);
+//! ```
+
+ghost use Rattle.std.specs.Prelude.{◌≡◌, max};
+
+use crate::sum_table::{Joins, SumTable};
+use std::alloc::Global;
+
+/// A number beside each place, 0 until one is set, and the greatest there and below: the ends of intervals, say, or the lengths of regions.
+pub type Greatest<A = Global> = SumTable<u64, u64, A>;
+
+// The greater of two numbers.
+#[inline]
+fn greater(a: u64, b: u64) -> u64
+    ensures { result ≡ max a b }
+{
+    if a < b { b } else { a }
+}
+
+/// Of numbers the greatest is kept.
+impl Joins<u64> for u64 {
+    ghost use Rattle.ic_augmented.specs.Greatest.{greatest_of};
+    ghost use Rattle.ic_augmented.specs.GreatestLaws.{greatest_tells};
+
+    ghost initial = { 0 };
+
+    ghost join = { greatest_of };
+
+    fn initial() -> u64 {
+        0
+    }
+
+    #[inline]
+    fn join(self, left: Option<u64>, right: Option<u64>) -> u64
+        ensures { result ≡ greatest_of self left right }
+    {
+        greater(self, greater(left.unwrap_or(0), right.unwrap_or(0)))
+    }
+
+    ghost tells = { greatest_tells };
+}

@@ -1,0 +1,245 @@
+//! A value and a summary beside each place, in one `Vec`: the summaries of whatever values can be joined.
+//!
+//! ```text
+//! let mut lengths = Greatest::new(alloc); // the values are numbers, and each summary is the greatest
+//! lengths.cover(1000)?; // the only call that takes memory
+//! ```
+
+ghost use Rattle.std.specs.Prelude.{◌≡◌, ◌≢◌, ◌<◌, ◌≤◌, ◌↔◌, ⊤, Err, OnOk, OnErr, IsOk, max, Option, List};
+ghost use Rattle.ic_unsafe_ref.specs.declared.place.Place.{Place};
+ghost use Rattle.ic_unsafe_ref.specs.Places.{index_of};
+ghost use Rattle.ic_link_ops.specs.declared.errors.CoverError.TheVariants as CoverError;
+ghost use Rattle.ic_augmented.specs.Consistent.{IsConsistent, IsSameAt};
+ghost use Rattle.ic_augmented.specs.SumTables.{joined, room_of, value_of};
+ghost use Rattle.ic_augmented.specs.Summed.{links_of, sums_of};
+ghost use Rattle.ic_augmented.specs.Sums.{seen};
+
+use crate::stale::invalidate_up;
+use crate::summed::Summed;
+use crate::sums::{RenewSums, Sums};
+use ic_link_ops::{CoverError, PlaceWord};
+use ic_rbtree::Nodes;
+use ic_unsafe_ref::Place;
+use std::alloc::{AllocError, Allocator, Global};
+
+/// Values of which summaries are made: the summary of a subtree is what its root's value makes of those of the two subtrees below.
+pub trait Joins<S>: Copy + Drop {
+    // The value of a place to which no call has given one.
+    ghost initial: { Self };
+
+    // The summary of a subtree whose root has this value, of those on the left and on the right.
+    ghost join: { Self → Option S → Option S → S };
+
+    /// The value that stands at a place until one is set.
+    fn initial() -> Self
+        ensures { result ≡ initial };
+
+    /// The summary of a subtree whose root has this value, of those on its left and on its right, `None` where there is no member.
+    fn join(self, left: Option<S>, right: Option<S>) -> S
+        ensures { result ≡ join self left right };
+
+    // The law: the summaries tell the value.
+    ghost tells: { (x y : Self) → ((a b : Option S) → join x a b ≡ join y a b) → x ≡ y };
+}
+
+/// What is kept at a place: its value, the summary of the subtree there, none where that is stale, and the parent that the place had.
+///
+/// A copy of a cell belongs to no place, so it has the initial value and no summary.
+#[derive(Drop)]
+pub struct Cell<V, S> {
+    value: V,
+    summary: Option<S>,
+    upper: PlaceWord,
+}
+
+impl<V: Joins<S>, S: Drop> Cell<V, S> {
+    ghost use Rattle.ic_augmented.specs.SumTables.{blank};
+
+    fn blank() -> Cell<V, S>
+        ensures { result ≡ blank V.initial }
+    {
+        Cell {
+            value: V::initial(),
+            summary: None,
+            upper: PlaceWord::of(None),
+        }
+    }
+}
+
+impl<V: Joins<S>, S: Drop> Clone for Cell<V, S> {
+    ghost use Rattle.ic_augmented.specs.SumTables.{blank};
+
+    ghost is_clone = { λ _ copy. copy ≡ blank V.initial };
+
+    ghost is_infallible = { λ _. ⊤ };
+
+    /// A cell with the initial value and no summary. It never fails.
+    fn clone(&self) -> Result<Self, AllocError> {
+        Ok(Cell::blank())
+    }
+}
+
+/// A value and a summary beside each place.
+#[derive(Drop)]
+pub struct SumTable<V, S, A: Allocator = Global> {
+    pub(crate) cells: Vec<Cell<V, S>, A>,
+}
+
+impl<V: Joins<S>, S: Copy + Drop, A: Allocator> SumTable<V, S, A> {
+    ghost use Rattle.ic_augmented.specs.SumTables.{joined, room_of, value_of};
+
+    /// A table that has room for no place. It takes no memory.
+    pub fn new(alloc: A) -> SumTable<V, S, A>
+        ensures { room_of result ≡ 0 }
+    {
+        SumTable {
+            cells: Vec::new(alloc),
+        }
+    }
+
+    /// Makes room for the first `count` places. Those that are new have the initial value and no summary.
+    ///
+    /// It is refused above 4,294,967,296 places, and where no memory is found; then there is the room that there was. All values and summaries
+    /// stay, and where `count` is smaller than what there is room for, nothing changes. At most one request for memory.
+    pub fn cover(&mut self, count: usize) -> Result<(), CoverError>
+        ensures too_many { (result ≡ Err CoverError.TooManyPlaces) ↔ 4294967296 < count }
+        ensures covers { OnOk result (room_of self.new ≡ max (room_of self.old) count) }
+        ensures values { (q : Place) → value_of V.initial self.new q ≡ value_of V.initial self.old q }
+        ensures stays { (q : Place) → IsSameAt (joined V.join V.initial self.old) (joined V.join V.initial self.new) q }
+        ensures enough { count ≤ room_of self.old → count ≤ 4294967296 → IsOk result }
+        ensures refused { OnErr result (room_of self.new ≡ room_of self.old) }
+    {
+        if count > Place::COUNT {
+            return Err(CoverError::TooManyPlaces);
+        }
+        if count <= self.cells.len() {
+            return Ok(());
+        }
+        match self.cells.resize(count, Cell::blank()) {
+            Ok(()) => Ok(()),
+            Err(_) => Err(CoverError::OutOfMemory),
+        }
+    }
+
+    /// The value at `place`, the initial one where there is no room for the place. O(1).
+    #[inline]
+    pub fn value(&self, place: Place) -> V
+        ensures { result ≡ value_of V.initial self.now place }
+    {
+        let index = place.index();
+        if index < self.cells.len() {
+            self.cells[index].value
+        } else {
+            V::initial()
+        }
+    }
+
+    /// The summary at this end of the tree and below, as is kept there, `None` where that is stale and where there is no member. O(1).
+    #[inline]
+    pub fn summary(&self, end: Option<Place>) -> Option<S>
+        ensures { result ≡ seen (joined V.join V.initial self.now) end }
+    {
+        let place = end?;
+        let index = place.index();
+        if index < self.cells.len() {
+            self.cells[index].summary
+        } else {
+            None
+        }
+    }
+}
+
+impl<V: Joins<u64>, A: Allocator> SumTable<V, u64, A> {
+    ghost use Rattle.ic_augmented.specs.SumTables.{joined, or_zero};
+
+    /// The number that is kept of this end of the tree and below, 0 where that is stale and where there is no member. O(1).
+    #[inline]
+    pub fn total(&self, end: Option<Place>) -> u64
+        ensures { result ≡ or_zero (seen (joined V.join V.initial self.now) end) }
+    {
+        self.summary(end).unwrap_or(0)
+    }
+}
+
+impl<V: Joins<S>, S: Copy + Drop, A: Allocator> Sums for SumTable<V, S, A> {
+    ghost use Rattle.ic_augmented.specs.SumTables.{joined, room_of, is_kept};
+    ghost use Rattle.std.specs.List.{sum_by};
+
+    type Summary = S;
+
+    ghost sums = { joined V.join V.initial };
+
+    ghost Covers = { λ t p. index_of p < room_of t };
+
+    ghost count = { λ t. sum_by (λ cell. is_kept cell.summary) t.cells.items };
+
+    #[inline]
+    fn is_fresh(&self, place: Place) -> bool {
+        self.summary(Some(place)).is_some()
+    }
+
+    #[inline]
+    fn upper(&self, place: Place) -> Option<Place> {
+        let index = place.index();
+        if index < self.cells.len() {
+            self.cells[index].upper.get()
+        } else {
+            None
+        }
+    }
+
+    #[inline]
+    fn invalidate(&mut self, place: Place) {
+        let index = place.index();
+        if index < self.cells.len() {
+            let cell = &mut self.cells[index];
+            cell.summary = None;
+        }
+    }
+}
+
+impl<V: Joins<S>, S: Copy + Drop, A: Allocator> RenewSums for SumTable<V, S, A> {
+    #[inline]
+    fn set_upper(&mut self, place: Place, upper: Option<Place>) {
+        let cell = &mut self.cells[place.index()];
+        cell.upper = PlaceWord::of(upper);
+    }
+
+    #[inline]
+    fn write(
+        &mut self,
+        place: Place,
+        left: Option<Place>,
+        right: Option<Place>,
+        upper: Option<Place>,
+    ) {
+        let below_left = self.summary(left);
+        let below_right = self.summary(right);
+        let cell = &mut self.cells[place.index()];
+        let summary = cell.value.join(below_left, below_right);
+        cell.summary = Some(summary);
+        cell.upper = PlaceWord::of(upper);
+    }
+}
+
+/// Sets the value at `place`, and makes the summaries stale that it changes.
+///
+/// It requires that there is room for the place. Each fresh summary stays right, of every tree in the table. O(log n).
+pub fn set_value<N: Nodes, V: Joins<S>, S: Copy + Drop, A: Allocator>(
+    summed: &mut Summed<N, SumTable<V, S, A>>,
+    place: Place,
+    value: V,
+)
+    requires covered { index_of place < room_of (sums_of summed.old) }
+    ensures set { value_of V.initial (sums_of summed.new) place ≡ value }
+    ensures values { (q : Place) → q ≢ place → value_of V.initial (sums_of summed.new) q ≡ value_of V.initial (sums_of summed.old) q }
+    ensures consistent { (s : List Place)
+        → IsConsistent N.node (N.table (links_of summed.old)) (joined V.join V.initial (sums_of summed.old)) s
+        → IsConsistent N.node (N.table (links_of summed.new)) (joined V.join V.initial (sums_of summed.new)) s }
+    ensures covers { (q : Place) → index_of q < room_of (sums_of summed.old) → index_of q < room_of (sums_of summed.new) }
+    ensures links { links_of summed.new ≡ links_of summed.old }
+{
+    invalidate_up(&summed.links, &mut summed.sums, place);
+    let cell = &mut summed.sums.cells[place.index()];
+    cell.value = value;
+}
