@@ -170,9 +170,9 @@ module _ {S : Type 0} where
 
   -- both subtrees are summed, and then the place is written
   pub summed_written : (z w : Sums S) (up : Option Place) (p : Place) (c : Color) (a b : Tree) → IsSummed z (Some p) a → IsSummed z (Some p) b
-      → Writes z w p (Some (z.join p (seen z (top a)) (seen z (top b)))) up → ((q : Place) → times q (fork c a p b) ≤ 1) → IsSummed w up (fork c a p b)
+      → Writes z w p (total z (fork c a p b)) up → ((q : Place) → times q (fork c a p b) ≤ 1) → IsSummed w up (fork c a p b)
   summed_written z w up p c a b ha hb k once = (
-    k.fresh ∙ (ap Some (join_seen z p (Some p) a b ha hb) ∙ sym (total_same z w (fork c a p b) k.join)),
+    k.fresh ∙ sym (total_same z w (fork c a p b) k.join),
     k.upper,
     summed_kept z w (Some p) a k.join (λ q m. writes_same z w p _ up q k (apart_left q p c a b once m)) ha,
     summed_kept z w (Some p) b k.join (λ q m. writes_same z w p _ up q k (apart_right q p c a b once m)) hb,
@@ -187,17 +187,20 @@ module _ {S : Type 0} where
   pub refreshes_more : (z w : Sums S) (up : Option Place) (t : Tree) (fuel : ℕ) → 1 ≤ fuel → Refreshes IsConsistentBelow z w up t (suc (fuel - 1)) → Refreshes IsConsistentBelow z w up t fuel
   refreshes_more z w up t fuel more r = record { frame = r.frame; join = r.join; summed = λ once h low. r.summed once h (omega (arith, low, more)) }
 
-  joins_at : (z0 z1 z2 z3 : Sums S) (up : Option Place) (p : Place) (c : Color) (a b : Tree) (fuel : ℕ)
-      → Refreshes IsConsistentTree z0 z1 (Some p) a fuel → Refreshes IsConsistentTree z1 z2 (Some p) b fuel → Writes z2 z3 p (Some (z2.join p (seen z2 (top a)) (seen z2 (top b)))) up
+  joins_at : (z0 z1 z2 z3 : Sums S) (up : Option Place) (p : Place) (c : Color) (a b : Tree) (x y : Option S) (fuel : ℕ)
+      → Refreshes IsConsistentTree z0 z1 (Some p) a fuel → Refreshes IsConsistentTree z1 z2 (Some p) b fuel → x ≡ seen z1 (top a) → y ≡ seen z2 (top b) → Writes z2 z3 p (Some (z2.join p x y)) up
       → ((q : Place) → times q (fork c a p b) ≤ 1) → IsConsistentBelow z0 (fork c a p b) → height (fork c a p b) ≤ suc fuel → IsSummed z3 up (fork c a p b)
-  joins_at z0 z1 z2 z3 up p c a b fuel fa fb k once h low =
+  joins_at z0 z1 z2 z3 up p c a b x y fuel fa fb ex ey k once h low =
       let la : height a ≤ fuel = omega (arith, low, le-max_left (height a) (height b)) in
       let lb : height b ≤ fuel = omega (arith, low, le-max_right (height a) (height b)) in
       let a1 : IsSummed z1 (Some p) a = fa.summed (λ q. omega (arith, once q)) h.0 la in
       let b1 : IsConsistentTree z1 b = consistent_kept z0 z1 b fa.join (λ q m. fa.frame q (omega (arith, m, once q))) h.1 in
       let b2 : IsSummed z2 (Some p) b = fb.summed (λ q. omega (arith, once q)) b1 lb in
       let a2 : IsSummed z2 (Some p) a = summed_kept z1 z2 (Some p) a fb.join (λ q m. fb.frame q (omega (arith, m, once q))) a1 in
-      summed_written z2 z3 up p c a b a2 b2 k once
+      let tx : x ≡ total z2 a = ex ∙ (summed_seen z1 (Some p) a a1 ∙ sym (total_same z1 z2 a fb.join)) in
+      let ty : y ≡ total z2 b = ey ∙ summed_seen z2 (Some p) b b2 in
+      let joined : z2.join p x y ≡ z2.join p (total z2 a) (total z2 b) = ap (λ (o : Option S). z2.join p o y) tx ∙ ap (λ (o : Option S). z2.join p (total z2 a) o) ty in
+      summed_written z2 z3 up p c a b a2 b2 (subst (λ (o : S). Writes z2 z3 p (Some o) up) joined k) once
 
   -- the first place is stale from the first turn on
   pub stale_on : (z w : Sums S) (p q : Place) (o : Option Place) → Invalidates z w q → o ≡ Some q → (o ≡ Some p) ⊎ (z.fresh p ≡ None) → w.fresh p ≡ None
@@ -302,33 +305,29 @@ module _ {E S : Type 0} (n : E → Node) where
   ]
 
   -- both subtrees are refreshed, and then the root is written
-  joined_here : (v : Table E) (z0 z1 z2 z3 : Sums S) (up u : Option Place) (p : Place) (c : Color) (a b : Tree) (l r : Option Place) (fuel : ℕ)
+  joined_here : (v : Table E) (z0 z1 z2 z3 : Sums S) (up u : Option Place) (p : Place) (c : Color) (a b : Tree) (l r : Option Place) (x y : Option S) (fuel : ℕ)
       → IsTree n v.entry u (fork c a p b) → l ≡ top a → r ≡ top b
       → Refreshes IsConsistentTree z0 z1 (Some p) a fuel → Refreshes IsConsistentTree z1 z2 (Some p) b fuel
-      → Writes z2 z3 p (Some (z2.join p (seen z2 l) (seen z2 r))) up → Refreshes IsConsistentBelow z0 z3 up (fork c a p b) (suc fuel)
-  joined_here v z0 z1 z2 z3 up u p c a b l r fuel tree el er fa fb k =
-      let k2 : Writes z2 z3 p (Some (z2.join p (seen z2 (top a)) (seen z2 (top b)))) up =
-      subst (λ (o : Option Place). Writes z2 z3 p (Some (z2.join p (seen z2 (top a)) (seen z2 o))) up) er
-      (subst (λ (o : Option Place). Writes z2 z3 p (Some (z2.join p (seen z2 o) (seen z2 r))) up) el k) in
-      record {
-        frame = λ q m. same_on z0 z2 z3 q (same_on z0 z1 z2 q (fa.frame q (omega (arith, m))) (fb.frame q (omega (arith, m)))) (writes_same z2 z3 p _ up q k2 (apart q p (omega (arith, m))));
-        join = k2.join ∙ (fb.join ∙ fa.join);
-        summed = λ once h low. joins_at z0 z1 z2 z3 up p c a b fuel fa fb k2 once h low;
-      }
+      → x ≡ seen z1 l → y ≡ seen z2 r → Writes z2 z3 p (Some (z2.join p x y)) up → Refreshes IsConsistentBelow z0 z3 up (fork c a p b) (suc fuel)
+  joined_here v z0 z1 z2 z3 up u p c a b l r x y fuel tree el er fa fb ex ey k = record {
+    frame = λ q m. same_on z0 z2 z3 q (same_on z0 z1 z2 q (fa.frame q (omega (arith, m))) (fb.frame q (omega (arith, m)))) (writes_same z2 z3 p _ up q k (apart q p (omega (arith, m))));
+    join = k.join ∙ (fb.join ∙ fa.join);
+    summed = λ once h low. joins_at z0 z1 z2 z3 up p c a b x y fuel fa fb (ex ∙ ap (seen z1) el) (ey ∙ ap (seen z2) er) k once h low;
+  }
 
-  pub refreshes_joined : (v : Table E) (z0 z1 z2 z3 : Sums S) (up u : Option Place) (p : Place) (t : Tree) (l r : Option Place) (fuel : ℕ)
+  pub refreshes_joined : (v : Table E) (z0 z1 z2 z3 : Sums S) (up u : Option Place) (p : Place) (t : Tree) (l r : Option Place) (x y : Option S) (fuel : ℕ)
       → IsTree n v.entry u t → Some p ≡ top t → l ≡ (n (v.entry p)).left → r ≡ (n (v.entry p)).right
-      → ((x : Option Place) (y : Tree) → IsTree n v.entry x y → l ≡ top y → Refreshes IsConsistentTree z0 z1 (Some p) y fuel)
-      → ((x : Option Place) (y : Tree) → IsTree n v.entry x y → r ≡ top y → Refreshes IsConsistentTree z1 z2 (Some p) y fuel)
-      → Writes z2 z3 p (Some (z2.join p (seen z2 l) (seen z2 r))) up → Refreshes IsConsistentBelow z0 z3 up t (suc fuel)
-  refreshes_joined v z0 z1 z2 z3 up u p leaf l r fuel tree e el er fa fb k = absurd (none_not p (sym e))
-  refreshes_joined v z0 z1 z2 z3 up u p (fork c a q b) l r fuel tree e el er fa fb k =
+      → ((o : Option Place) (w : Tree) → IsTree n v.entry o w → l ≡ top w → Refreshes IsConsistentTree z0 z1 (Some p) w fuel)
+      → ((o : Option Place) (w : Tree) → IsTree n v.entry o w → r ≡ top w → Refreshes IsConsistentTree z1 z2 (Some p) w fuel)
+      → x ≡ seen z1 l → y ≡ seen z2 r → Writes z2 z3 p (Some (z2.join p x y)) up → Refreshes IsConsistentBelow z0 z3 up t (suc fuel)
+  refreshes_joined v z0 z1 z2 z3 up u p leaf l r x y fuel tree e el er fa fb ex ey k = absurd (none_not p (sym e))
+  refreshes_joined v z0 z1 z2 z3 up u p (fork c a q b) l r x y fuel tree e el er fa fb ex ey k =
       let same : p ≡ q = some_same e in
-      let here : IsTree n v.entry u (fork c a p b) = subst (λ (y : Place). IsTree n v.entry u (fork c a y b)) (sym same) tree in
+      let here : IsTree n v.entry u (fork c a p b) = subst (λ (w : Place). IsTree n v.entry u (fork c a w b)) (sym same) tree in
       let la : l ≡ top a = el ∙ here.0.left in
       let rb : r ≡ top b = er ∙ here.0.right in
-      subst (λ (y : Place). Refreshes IsConsistentBelow z0 z3 up (fork c a y b) (suc fuel)) same
-      (joined_here v z0 z1 z2 z3 up u p c a b l r fuel here la rb (fa (Some p) a here.1 la) (fb (Some p) b here.2 rb) k)
+      subst (λ (w : Place). Refreshes IsConsistentBelow z0 z3 up (fork c a w b) (suc fuel)) same
+      (joined_here v z0 z1 z2 z3 up u p c a b l r x y fuel here la rb (fa (Some p) a here.1 la) (fb (Some p) b here.2 rb) ex ey k)
 
 module _ {E : Type 0} (n : E → Node) where
   -- the tree below the right child

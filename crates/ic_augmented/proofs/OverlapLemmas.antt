@@ -6,7 +6,7 @@ use Rattle.std.proofs.lemmas.List.Elements.{filter-append}
 use Rattle.std.specs.Cmp.{nat_cmp_is}
 use Rattle.std.specs.List.{filter}
 use Rattle.std.specs.Ordering.{nat_cmp}
-use Rattle.std.specs.declared.cmp.Ordering.TheVariants.{Greater}
+use Rattle.std.specs.declared.cmp.Ordering.TheVariants.{Equal, Greater}
 use Rattle.ic_unsafe_ref.specs.declared.place.Place.{Place}
 use Rattle.ic_unsafe_ref.specs.Objects.{Objects, is_placed}
 use Rattle.ic_link_ops.specs.declared.color.Color.{Color}
@@ -68,6 +68,12 @@ module _ (start : Place → ℕ) where
   sorted_front [] g h = tt
   sorted_front (x ∷ []) g h = tt
   sorted_front (x ∷ y ∷ f) g h = (h.0, sorted_front (y ∷ f) g h.1)
+
+-- with no starts every order is one
+pub none_unsorted : (s : List Place) → IsSorted nat_cmp (map (λ (q : Place). 0) s)
+none_unsorted [] = tt
+none_unsorted (x ∷ []) = tt
+none_unsorted (x ∷ y ∷ s) = (λ e. let k : Equal ≡ Greater = e in cc, none_unsorted (y ∷ s))
 
 -- OVERLAPS
 module _ (start : Place → ℕ) (es : List (Cell ℕ ℕ)) (from to : ℕ) where

@@ -1,5 +1,5 @@
 -- Summaries of numbers: the greatest at each place and below.
-use Rattle.std.specs.Prelude.{ℕ, max, Option, List}
+use Rattle.std.specs.Prelude.{ℕ, Bool, nat_lt, max, Option, List}
 use Rattle.ic_unsafe_ref.specs.declared.place.Place.{Place}
 use Rattle.ic_augmented.specs.Sums.{Sums}
 use Rattle.ic_augmented.specs.SumTables.{or_zero, cell_in, joined_in}
@@ -23,3 +23,7 @@ module _ {A : Type 0} where
 
   abbrev pub number_at : SumTable ℕ ℕ A → Place → ℕ
   number_at t p = number_in t.cells.items p
+
+-- THE NUMBER at p IS GREATER than the bound
+abbrev pub is_greater : (number : Place → ℕ) → ℕ → Place → Bool
+is_greater number bound p = nat_lt bound (number p)

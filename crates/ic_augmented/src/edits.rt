@@ -92,7 +92,7 @@ pub fn refresh<A, N: Nodes, M: RenewSums>(tree: &RBTree<A>, summed: &mut Summed<
     ensures links { links_of summed.new ≡ links_of summed.old }
 {
     let root = tree.root();
-    refresh_below(&summed.links, &mut summed.sums, root, None, 67);
+    let _ = refresh_below(&summed.links, &mut summed.sums, root, None, 67);
 }
 
 /// Renews the stale summaries of a tree from the member at `place` up: then it is summed. The links stay, and so does all that is kept at

@@ -12,6 +12,7 @@
 
 mod counts;
 mod edits;
+mod exceeding;
 mod greatest;
 mod linking;
 mod no_sums;
@@ -24,6 +25,7 @@ mod sums;
 
 pub use counts::Counts;
 pub use edits::{attach, propagate, refresh, unlink};
+pub use exceeding::first_greater;
 pub use greatest::Greatest;
 pub use linking::{insert_keyed, remove};
 pub use no_sums::NoSums;

@@ -16,7 +16,7 @@ ghost use Rattle.ic_link_ops.specs.Times.{times};
 ghost use Rattle.ic_rbtree.specs.Closed.{IsNode};
 ghost use Rattle.ic_augmented.specs.Consistent.{IsSameAt, IsConsistentTree, IsConsistentBelow, IsConsistentBeside, KeepsConsistent, Refreshes};
 ghost use Rattle.ic_augmented.specs.Subtrees.{IsSubtree};
-ghost use Rattle.ic_augmented.specs.Sums.{IsSummed};
+ghost use Rattle.ic_augmented.specs.Sums.{seen, IsSummed};
 
 use crate::sums::{RenewSums, Sums};
 use ic_rbtree::Nodes;
@@ -39,7 +39,7 @@ pub(crate) fn invalidate_up<N: Nodes, M: Sums>(_links: &N, sums: &mut M, place: 
     }
 }
 
-// Writes the stale summaries at an end and below it. It goes down where they are stale alone.
+// Writes the stale summaries at an end and below it, and tells the one at the end. It goes down where they are stale alone.
 #[inline(always)]
 #[cycle(refresh)]
 pub(crate) fn refresh_below<N: Nodes, M: RenewSums>(
@@ -48,21 +48,20 @@ pub(crate) fn refresh_below<N: Nodes, M: RenewSums>(
     place: Option<Place>,
     upper: Option<Place>,
     turns: u32,
-)
+) -> Option<M::Summary>
     requires covered { (q : Place) → IsNode N.node (N.table links.now) q → M.Covers sums.old q }
     requires tree { (u : Option Place) × (t : Tree) × IsTree N.node (Table.entry (N.table links.now)) u t × (place ≡ top t) }
     ensures covers { (q : Place) → M.Covers sums.old q → M.Covers sums.new q }
+    ensures summary { result ≡ seen (M.sums sums.new) place }
     ensures refreshed { (u : Option Place) (t : Tree) → IsTree N.node (Table.entry (N.table links.now)) u t → place ≡ top t
         → Refreshes IsConsistentTree (M.sums sums.old) (M.sums sums.new) upper t turns }
 {
-    let Some(here) = place else {
-        return;
+    let here = place?;
+    let Some(summary) = sums.fresh(here) else {
+        return refresh_at(links, sums, here, upper, turns);
     };
-    if sums.is_fresh(here) {
-        sums.set_upper(here, upper);
-        return;
-    }
-    refresh_at(links, sums, here, upper, turns);
+    sums.set_upper(here, upper);
+    Some(summary)
 }
 
 // Writes the summary of a place, and the stale ones below it.
@@ -73,17 +72,18 @@ fn refresh_at<N: Nodes, M: RenewSums>(
     here: Place,
     upper: Option<Place>,
     turns: u32,
-)
+) -> Option<M::Summary>
     requires covered { (q : Place) → IsNode N.node (N.table links.now) q → M.Covers sums.old q }
     requires tree { (u : Option Place) × (t : Tree) × IsTree N.node (Table.entry (N.table links.now)) u t × (Some here ≡ top t) }
     ensures covers { (q : Place) → M.Covers sums.old q → M.Covers sums.new q }
+    ensures summary { result ≡ (M.sums sums.new).fresh here }
     ensures refreshed { (u : Option Place) (t : Tree) → IsTree N.node (Table.entry (N.table links.now)) u t → Some here ≡ top t
         → Refreshes IsConsistentBelow (M.sums sums.old) (M.sums sums.new) upper t turns }
 {
     if turns == 0 {
-        return;
+        return sums.fresh(here);
     }
-    renew(links, sums, here, upper, turns - 1);
+    Some(renew(links, sums, here, upper, turns - 1))
 }
 
 // Writes the summary of a place, after the stale ones below it. The climb has it in its own loop, without a call.
@@ -95,18 +95,19 @@ fn renew<N: Nodes, M: RenewSums>(
     here: Place,
     upper: Option<Place>,
     turns: u32,
-)
+) -> M::Summary
     requires covered { (q : Place) → IsNode N.node (N.table links.now) q → M.Covers sums.old q }
     requires tree { (u : Option Place) × (t : Tree) × IsTree N.node (Table.entry (N.table links.now)) u t × (Some here ≡ top t) }
     ensures covers { (q : Place) → M.Covers sums.old q → M.Covers sums.new q }
+    ensures summary { Some result ≡ (M.sums sums.new).fresh here }
     ensures refreshed { (u : Option Place) (t : Tree) → IsTree N.node (Table.entry (N.table links.now)) u t → Some here ≡ top t
         → Refreshes IsConsistentBelow (M.sums sums.old) (M.sums sums.new) upper t (suc turns) }
 {
     let left = links.left(here);
     let right = links.right(here);
-    refresh_below(links, sums, left, Some(here), turns);
-    refresh_below(links, sums, right, Some(here), turns);
-    sums.write(here, left, right, upper);
+    let below_left = refresh_below(links, sums, left, Some(here), turns);
+    let below_right = refresh_below(links, sums, right, Some(here), turns);
+    sums.write(here, below_left, below_right, upper)
 }
 
 // Writes the summaries of a place and of all above it, and the stale ones below those.
@@ -129,7 +130,7 @@ pub(crate) fn refresh_path<N: Nodes, M: RenewSums>(
         return;
     }
     let upper = links.parent(place);
-    renew(links, sums, place, upper, 66);
+    let _ = renew(links, sums, place, upper, 66);
     let Some(above) = upper else {
         return;
     };

@@ -5,14 +5,14 @@
 //! lengths.cover(1000)?; // the only call that takes memory
 //! ```
 
-ghost use Rattle.std.specs.Prelude.{◌≡◌, ◌≢◌, ◌<◌, ◌≤◌, ◌↔◌, ⊤, Err, OnOk, OnErr, IsOk, max, Option, List};
+ghost use Rattle.std.specs.Prelude.{◌≡◌, ◌≢◌, ◌<◌, ◌≤◌, ◌↔◌, ⊤, Err, OnOk, OnErr, IsOk, max, Option, Some, List};
 ghost use Rattle.ic_unsafe_ref.specs.declared.place.Place.{Place};
 ghost use Rattle.ic_unsafe_ref.specs.Places.{index_of};
 ghost use Rattle.ic_link_ops.specs.declared.errors.CoverError.TheVariants as CoverError;
 ghost use Rattle.ic_augmented.specs.Consistent.{IsConsistent, IsSameAt};
 ghost use Rattle.ic_augmented.specs.SumTables.{joined, room_of, value_of};
 ghost use Rattle.ic_augmented.specs.Summed.{links_of, sums_of};
-ghost use Rattle.ic_augmented.specs.Sums.{seen};
+ghost use Rattle.ic_augmented.specs.Sums.{seen, Writes};
 
 use crate::stale::invalidate_up;
 use crate::summed::Summed;
@@ -206,19 +206,23 @@ impl<V: Joins<S>, S: Copy + Drop, A: Allocator> RenewSums for SumTable<V, S, A> 
     }
 
     #[inline]
-    fn write(
-        &mut self,
-        place: Place,
-        left: Option<Place>,
-        right: Option<Place>,
-        upper: Option<Place>,
-    ) {
-        let below_left = self.summary(left);
-        let below_right = self.summary(right);
+    fn fresh(&self, place: Place) -> Option<S> {
+        self.summary(Some(place))
+    }
+
+    #[inline]
+    fn write(&mut self, place: Place, left: Option<S>, right: Option<S>, upper: Option<Place>) -> S
+        requires covered { index_of place < room_of self.old }
+        ensures covers { (q : Place) → index_of q < room_of self.old → index_of q < room_of self.new }
+        ensures summary { result ≡ (joined V.join V.initial self.old).join place left right }
+        ensures written { Writes (joined V.join V.initial self.old) (joined V.join V.initial self.new) place
+            (Some ((joined V.join V.initial self.old).join place left right)) upper }
+    {
         let cell = &mut self.cells[place.index()];
-        let summary = cell.value.join(below_left, below_right);
+        let summary = cell.value.join(left, right);
         cell.summary = Some(summary);
         cell.upper = PlaceWord::of(upper);
+        summary
     }
 }
 

@@ -7,14 +7,14 @@
 ghost use Rattle.std.specs.Prelude.{◌≡◌, ◌<◌, ℕ, true, Some};
 ghost use Rattle.ic_unsafe_ref.specs.declared.place.Place.{Place};
 ghost use Rattle.ic_augmented.specs.Sums as specs;
-ghost use Rattle.ic_augmented.specs.Sums.{is_fresh, seen, Invalidates, Writes};
+ghost use Rattle.ic_augmented.specs.Sums.{is_fresh, Invalidates, Writes};
 
 use ic_unsafe_ref::Place;
 
 /// A summary beside each place, fresh or stale, and the parent below which it was written.
 pub trait Sums {
     /// What is kept of a subtree.
-    type Summary;
+    type Summary: Drop;
 
     // What is kept at each place, and what a place's own value makes of the summaries of its subtrees.
     ghost sums: { Self → specs.Sums Self.Summary };
@@ -48,16 +48,20 @@ pub trait RenewSums: Sums {
         ensures covers { (q : Place) → Self.Covers self.old q → Self.Covers self.new q }
         ensures written { Writes (Self.sums self.old) (Self.sums self.new) place ((Self.sums self.old).fresh place) upper };
 
-    /// Writes what the value of `place` makes of the summaries of its children. It requires room for a summary there. O(1).
+    /// The summary of `place`, `None` where it is stale. O(1).
+    fn fresh(&self, place: Place) -> Option<Self::Summary>
+        ensures { result ≡ (Self.sums self.now).fresh place };
+
+    /// Writes what the value of `place` makes of these summaries of its subtrees, and returns it. It requires room for a summary there. O(1).
     fn write(
         &mut self,
         place: Place,
-        left: Option<Place>,
-        right: Option<Place>,
+        left: Option<Self::Summary>,
+        right: Option<Self::Summary>,
         upper: Option<Place>,
-    )
+    ) -> Self::Summary
         requires covered { Self.Covers self.old place }
         ensures covers { (q : Place) → Self.Covers self.old q → Self.Covers self.new q }
-        ensures written { Writes (Self.sums self.old) (Self.sums self.new) place
-            (Some ((Self.sums self.old).join place (seen (Self.sums self.old) left) (seen (Self.sums self.old) right))) upper };
+        ensures summary { result ≡ (Self.sums self.old).join place left right }
+        ensures written { Writes (Self.sums self.old) (Self.sums self.new) place (Some ((Self.sums self.old).join place left right)) upper };
 }

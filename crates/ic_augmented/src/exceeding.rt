@@ -1,0 +1,68 @@
+//! The first member whose number exceeds a bound, found by the greatest numbers of subtrees.
+//!
+//! ```text
+//! let region = first_greater(&tree, &summed, length - 1)?; // the first region that is long enough
+//! ```
+
+ghost use Rattle.std.specs.Prelude.{◌≡◌, ◌≤◌, Option, List, filter};
+ghost use Rattle.ic_unsafe_ref.specs.declared.place.Place.{Place};
+ghost use Rattle.ic_link_ops.specs.RedBlackTree.{IsTree, Shows};
+ghost use Rattle.ic_link_ops.specs.Sequences.{first};
+ghost use Rattle.ic_link_ops.specs.Tables.{Table};
+ghost use Rattle.ic_link_ops.specs.Trees.{Tree, top, in_order};
+ghost use Rattle.ic_rbtree.specs.Height.{height};
+ghost use Rattle.ic_rbtree.specs.Tree.{root_of};
+ghost use Rattle.ic_augmented.specs.Consistent.{ShowsSummed};
+ghost use Rattle.ic_augmented.specs.Greatest.{greatest, number_at, is_greater};
+ghost use Rattle.ic_augmented.specs.Summed.{links_of, sums_of};
+ghost use Rattle.ic_augmented.specs.Sums.{IsSummed};
+
+use crate::greatest::Greatest;
+use crate::summed::Summed;
+use ic_rbtree::{Nodes, RBTree};
+use ic_unsafe_ref::Place;
+use std::alloc::Allocator;
+
+// The first member of the subtree at a place whose number is greater than `bound`.
+fn first_greater_below<N: Nodes, A: Allocator>(
+    links: &N,
+    numbers: &Greatest<A>,
+    place: Option<Place>,
+    bound: u64,
+    turns: u32,
+) -> Option<Place>
+    requires { (u : Option Place) × (t : Tree) × IsTree N.node (Table.entry (N.table links.now)) u t × (place ≡ top t) }
+    ensures { (u : Option Place) (t : Tree) → IsTree N.node (Table.entry (N.table links.now)) u t → place ≡ top t
+        → IsSummed (greatest numbers.now) u t → height t ≤ turns
+        → result ≡ first (filter (is_greater (number_at numbers.now) bound) (in_order t)) }
+{
+    let here = place?;
+    if turns == 0 {
+        return None;
+    }
+    let left = links.left(here);
+    if bound < numbers.total(left) {
+        return first_greater_below(links, numbers, left, bound, turns - 1);
+    }
+    if bound < numbers.value(here) {
+        return Some(here);
+    }
+    let right = links.right(here);
+    first_greater_below(links, numbers, right, bound, turns - 1)
+}
+
+/// The first member whose number is greater than `bound`, whatever the order of the numbers is. It finds none where no number is greater. O(log n).
+///
+/// It requires that the links show a tree.
+pub fn first_greater<T, N: Nodes, A: Allocator>(
+    tree: &RBTree<T>,
+    summed: &Summed<N, Greatest<A>>,
+    bound: u64,
+) -> Option<Place>
+    requires { (s : List Place) × Shows N.node (N.table (links_of summed.now)) (root_of tree.now) s }
+    ensures { (s : List Place)
+        → ShowsSummed N.node (greatest (sums_of summed.now)) (N.table (links_of summed.now)) (root_of tree.now) s
+        → result ≡ first (filter (is_greater (number_at (sums_of summed.now)) bound) s) }
+{
+    first_greater_below(&summed.links, &summed.sums, tree.root(), bound, 67)
+}
