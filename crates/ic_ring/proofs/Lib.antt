@@ -1,0 +1,5 @@
+pub mod Circles
+pub mod OtherRings
+pub mod JoinedRings
+pub mod RingWalks
+pub mod Clearance

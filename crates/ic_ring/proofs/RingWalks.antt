@@ -1,0 +1,154 @@
+-- The members of a ring, as the entries lead through them, and a walk over its objects.
+use Rattle.std.proofs.Common.{◌≡◌, ◌≢◌, Option, Some, None, List, [], ◌∷◌, ◌++◌, true, false, Bor, refl, sym, ◌∙◌, ap, subst, append_assoc, eq-eqb}
+use Rattle.std.specs.Option.{option_copied}
+use Rattle.std.specs.List.{cons_option}
+use Rattle.std.specs.Iterator.{MakesProgress, item_count}
+use Rattle.std.proofs.lemmas.List.Elements.{filter_map-append}
+use Rattle.ic_unsafe_ref.specs.declared.place.Place.{Place}
+use Rattle.ic_unsafe_ref.specs.Objects.{Objects, object_at}
+use Rattle.ic_link_ops.specs.Sequences.{first_or, last, but_last}
+use Rattle.ic_link_ops.specs.Tables.{Table, IsCovered}
+use Rattle.ic_link_ops.specs.Walk.{is_end, GivesFirst, GivesLast}
+use Rattle.ic_link_ops.specs.LinkedList.{Neighbors, IsBetween, IsWalk}
+use Rattle.ic_link_ops.specs.PlacedObjects.{ArePlaced, values_at}
+use Rattle.ic_link_ops.proofs.SequenceLemmas.{some_same, absent_right, distinct_right, first_or-append, last_or-append, split_last}
+use Rattle.ic_link_ops.proofs.Chains.{chain_cut}
+use Rattle.ic_link_ops.proofs.DoublyLists.{walk_shown}
+use Rattle.ic_link_ops.proofs.PlacedEnds.{all_but_last}
+use Rattle.ic_link_ops.proofs.Walks.{is_end_not, yields_placed, makes_progress, yields_placed_back, makes_progress_back}
+use Rattle.ic_ring.specs.declared.iter.Iter.{Iter}
+use Rattle.ic_ring.specs.Rings.{IsCircle, Shows, members_until, members}
+use Rattle.ic_ring.specs.Iter.{objects_left, IsLeft, CanWalk}
+use Rattle.ic_ring.proofs.Circles.{rotated, seen_from}
+
+is_end_self : (p : Place) → is_end (Some p) p ≡ true
+is_end_self p = eq-eqb _ _ refl
+
+module _ {E : Type 0} {n : E → Neighbors} (t : Table E) (covered : (q : Place) → (n (t.entry q)).linked ≡ true → IsCovered t q) where
+  -- what stands between two places of a ring is what stands behind `given`, up to the end
+  pub until_shown : (end : Place) (given w : List Place) {front : Option Place} → IsCircle n t.entry (end ∷ (given ++ w)) → front ≡ first_or w (Some end)
+      → members_until n t front end ≡ w
+  until_shown end given [] {front} c starts = rw (starts, is_end_self end) refl
+  until_shown end given (x ∷ w) {front} c starts =
+      let other = absent_right end given (x ∷ w) c.distinct.0 in
+      let goes : is_end (Some x) end ≡ false = is_end_not (Some x) end (λ e. other.0 (sym (some_same e))) in
+      let ends : last (end ∷ (given ++ x ∷ w)) ≡ last (x ∷ w) = last_or-append None (end ∷ given) (x ∷ w) in
+      let cut = chain_cut (IsBetween n) t.entry (last (end ∷ (given ++ x ∷ w))) (end ∷ given) (x ∷ w) (Some end) c.chain in
+      let walk : IsWalk n t.entry (Some x) (last (x ∷ w)) (x ∷ w) = record {
+        before = last (end ∷ given);
+        behind = Some end;
+        part = record { distinct = distinct_right (end ∷ given) (x ∷ w) c.distinct; chain = cut.1; starts = refl; ends = refl };
+      } in
+      rw (starts, goes, c.chain.0.prev, ends) (walk_shown t covered (Some x) (last (x ∷ w)) (x ∷ w) walk)
+
+  -- THE MEMBERS of a ring are the one sequence that the table shows for it
+  pub members_shown : (head : Place) (s : List Place) → Shows n t head s → members n t head ≡ s
+  members_shown head s shown = until_shown head [] s shown shown.chain.0.next
+
+  pub one_ring_is_shown : (head : Place) (s u : List Place) → Shows n t head s → Shows n t head u → s ≡ u
+  one_ring_is_shown head s u shown other = sym (members_shown head s shown) ∙ members_shown head u other
+
+module _ {T L O E : Type 0} (n : E → Neighbors) (table : L → Table E) (values : O → Objects T) where
+  -- the walk gave out the member at p, and goes on behind it
+  pub record Steps (old new : Iter T L O) (p : Place) : Type 0 where
+    pub members : List Place
+    pub walk : IsLeft n table values new members
+    pub whole : IsLeft n table values old (p ∷ members)
+    pub placed : ArePlaced (values old.objects.now) (p ∷ members)
+    pub objects : values new.objects.now ≡ values old.objects.now
+
+  -- the same from the back: it gave out the member at p, and ends in front of it
+  pub record StepsBack (old new : Iter T L O) (p : Place) : Type 0 where
+    pub members : List Place
+    pub walk : IsLeft n table values new members
+    pub whole : IsLeft n table values old (members ++ p ∷ [])
+    pub placed : ArePlaced (values old.objects.now) (members ++ p ∷ [])
+    pub objects : values new.objects.now ≡ values old.objects.now
+
+  -- the front stands in the ring
+  pub front_stands : (t : Iter T L O) → CanWalk n table values t → (s : List Place) × IsCircle n (table t.links.now).entry (t.front ∷ s)
+  front_stands t ([], left, placed) = rw (some_same left.starts) (left.given ++ [], left.ring)
+  front_stands t (x ∷ w, left, placed) = rw (some_same left.starts) (w ++ t.end ∷ left.given, seen_from left.given x w left.ring)
+
+  -- THE STEPS, while the two are not one
+  pub steps_on : (t : Iter T L O) (next : Place) → CanWalk n table values t → t.front ≢ t.end → (n ((table t.links.now).entry t.front)).next ≡ Some next
+      → Steps t (record t { front = next }) t.front
+  steps_on t next ([], left, placed) goes leads = absurd (goes (some_same left.starts))
+  steps_on t next (x ∷ w, left, placed) goes leads =
+      let e : t.front ≡ x = some_same left.starts in
+      let seen = seen_from left.given x w left.ring in record {
+        members = w;
+        walk = record {
+          given = left.given ++ x ∷ [];
+          ring = rw (append_assoc left.given (x ∷ []) w) left.ring;
+          starts = sym leads ∙ rw e (seen.chain.0.next ∙ first_or-append w (t.end ∷ left.given) (Some x));
+        };
+        whole = subst (λ p. IsLeft n table values t (p ∷ w)) (sym e) left;
+        placed = subst (λ p. ArePlaced (values t.objects.now) (p ∷ w)) (sym e) placed;
+        objects = refl;
+      }
+
+  pub steps_back : (t : Iter T L O) (prev : Place) → CanWalk n table values t → t.front ≢ t.end → (n ((table t.links.now).entry t.end)).prev ≡ Some prev
+      → StepsBack t (record t { end = prev }) prev
+  steps_back t prev ([], left, placed) goes leads = absurd (goes (some_same left.starts))
+  steps_back t prev (x ∷ w, left, placed) goes leads =
+      let r = but_last (x ∷ w) in
+      let is : x ∷ w ≡ r ++ prev ∷ [] =
+      split_last (x ∷ w) (sym (last_or-append None (t.end ∷ left.given) (x ∷ w)) ∙ sym left.ring.chain.0.prev ∙ leads) in
+      let ring : IsCircle n (table t.links.now).entry ((t.end ∷ (left.given ++ r)) ++ prev ∷ []) =
+      rw (append_assoc left.given r (prev ∷ [])) (subst (λ w. IsCircle n (table t.links.now).entry (t.end ∷ (left.given ++ w))) is left.ring) in record {
+        members = r;
+        walk = record {
+          given = t.end ∷ left.given;
+          ring = rotated (t.end ∷ (left.given ++ r)) (prev ∷ []) ring;
+          starts = left.starts ∙ ap (λ w. first_or w (Some t.end)) is ∙ first_or-append r (prev ∷ []) (Some t.end);
+        };
+        whole = subst (IsLeft n table values t) is left;
+        placed = subst (ArePlaced (values t.objects.now)) is placed;
+        objects = refl;
+      }
+
+  -- the walk can go on
+  pub can_walk : {old new : Iter T L O} {p : Place} → Steps old new p → CanWalk n table values new
+  can_walk k = (k.members, k.walk, rw k.objects k.placed.1)
+
+  pub can_walk_back : {old new : Iter T L O} {p : Place} → StepsBack old new p → CanWalk n table values new
+  can_walk_back k = (k.members, k.walk, rw k.objects (all_but_last _ k.members _ k.placed).0)
+
+  module _ (law : (t : L) (q : Place) → (n ((table t).entry q)).linked ≡ true → IsCovered (table t) q) where
+    -- what is left is what stands at these members
+    pub left_is : (t : Iter T L O) (w : List Place) → IsLeft n table values t w → objects_left n table values t ≡ values_at (values t.objects.now) w
+    left_is t w k = ap (values_at (values t.objects.now)) (until_shown (table t.links.now) (law t.links.now) t.end k.given w k.ring k.starts)
+
+    -- nothing, where the two ends are one
+    pub none_left : (t : Iter T L O) → CanWalk n table values t → t.front ≡ t.end → objects_left n table values t ≡ []
+    none_left t ([], left, placed) e = left_is t [] left
+    none_left t (x ∷ w, left, placed) e =
+        absurd ((absent_right t.end left.given (x ∷ w) left.ring.distinct.0).0 (sym e ∙ some_same left.starts))
+
+    -- the step gives the object at p
+    pub gives : {old new : Iter T L O} {p : Place} (r : Option (Bor T)) → Steps old new p → option_copied r ≡ object_at (values old.objects.now) p
+        → GivesFirst (objects_left n table values) old r new
+    gives {old} {new} {p} r k is =
+        yields_placed (objects_left n table values) old new r (object_at (values old.objects.now) p) k.placed.0 is
+        (left_is old (p ∷ k.members) k.whole
+        ∙ ap (cons_option (object_at (values old.objects.now) p)) (sym (left_is new k.members k.walk ∙ ap (λ o. values_at o k.members) k.objects)))
+
+    -- and leaves one less
+    pub goes : {old new : Iter T L O} {p : Place} (r : Option (Bor T)) → Steps old new p → option_copied r ≡ object_at (values old.objects.now) p
+        → MakesProgress (CanWalk n table values) (item_count (objects_left n table values)) old r new
+    goes {old} {new} {p} r k is = makes_progress (objects_left n table values) (CanWalk n table values) old new r (can_walk k) (gives r k is)
+
+    -- the same from the back
+    pub gives_back : {old new : Iter T L O} {p : Place} (r : Option (Bor T)) → StepsBack old new p → option_copied r ≡ object_at (values old.objects.now) p
+        → GivesLast (objects_left n table values) old r new
+    gives_back {old} {new} {p} r k is =
+        yields_placed_back (objects_left n table values) old new r (object_at (values old.objects.now) p) (all_but_last _ k.members p k.placed).1 is
+        (left_is old (k.members ++ p ∷ []) k.whole
+        ∙ filter_map-append (object_at (values old.objects.now)) k.members (p ∷ [])
+        ∙ ap (λ (l : List T). l ++ cons_option (object_at (values old.objects.now) p) []) (sym (left_is new k.members k.walk ∙ ap (λ o. values_at o k.members) k.objects)))
+
+    pub goes_back : {old new : Iter T L O} {p : Place} (r : Option (Bor T)) → StepsBack old new p → option_copied r ≡ object_at (values old.objects.now) p
+        → MakesProgress (CanWalk n table values) (item_count (objects_left n table values)) old r new
+    goes_back {old} {new} {p} r k is =
+        makes_progress_back (objects_left n table values) (CanWalk n table values) old new r (can_walk_back k) (gives_back r k is)

@@ -1,0 +1,26 @@
+-- What clauses see of a walk over a ring's objects.
+use Rattle.std.specs.Prelude.{◌≡◌, Some, List, ◌++◌}
+use Rattle.ic_unsafe_ref.specs.declared.place.Place.{Place}
+use Rattle.ic_unsafe_ref.specs.Objects.{Objects}
+use Rattle.ic_link_ops.specs.Sequences.{first_or}
+use Rattle.ic_link_ops.specs.Tables.{Table}
+use Rattle.ic_link_ops.specs.LinkedList.{Neighbors}
+use Rattle.ic_link_ops.specs.PlacedObjects.{ArePlaced, values_at}
+use Rattle.ic_ring.specs.Rings.{Shows, members_until}
+use Rattle.ic_ring.specs.declared.iter.Iter.{Iter}
+
+-- `values`: the values by place
+module _ {T L O E : Type 0} (neighbors : E → Neighbors) (table : L → Table E) (values : O → Objects T) where
+  -- the objects that the walk has not given out yet
+  abbrev pub objects_left : Iter T L O → List T
+  objects_left t = values_at (values t.objects.now) (members_until neighbors (table t.links.now) (Some t.front) t.end)
+
+  -- these members are left: read from the walk's end, they are the last ones of the ring
+  pub record IsLeft (t : Iter T L O) (w : List Place) : Type 0 where
+    pub given : List Place
+    pub ring : Shows neighbors (table t.links.now) t.end (given ++ w)
+    pub starts : Some t.front ≡ first_or w (Some t.end)
+
+  -- there are such members, all of them placed
+  abbrev pub CanWalk : Iter T L O → Type 0
+  CanWalk t = (w : List Place) × IsLeft t w × ArePlaced (values t.objects.now) w

@@ -1,0 +1,2 @@
+pub mod Rings
+pub mod Iter

@@ -1,0 +1,45 @@
+-- Which members a table shows for a ring, whose head is a place of the table, and what stays where a ring changes.
+use Rattle.std.specs.Prelude.{◌≡◌, ◌⊎◌, cond, Option, List, [], ◌∷◌, ◌++◌}
+use Rattle.ic_unsafe_ref.specs.declared.place.Place.{Place}
+use Rattle.ic_link_ops.specs.Sequences.{IsAbsent, IsMember, IsDistinct, IsDisjoint, first, last}
+use Rattle.ic_link_ops.specs.Tables.{Table}
+use Rattle.ic_link_ops.specs.Chains.{Ends}
+use Rattle.ic_link_ops.specs.Walk.{is_end}
+use Rattle.ic_link_ops.specs.LinkedList as doubly
+use Rattle.ic_link_ops.specs.LinkedList.{Neighbors, neighbors_at, IsChain, members_between}
+
+module _ {E : Type 0} (neighbors : E → Neighbors) where
+  -- r IS A CIRCLE: no place stands twice in it, each stands between its neighbors, and behind the last stands the first
+  pub record IsCircle (entry : Place → E) (r : List Place) : Type 0 where
+    pub distinct : IsDistinct r
+    pub chain : IsChain neighbors entry (last r) r (first r)
+
+  -- THE TABLE SHOWS s for the ring with this head: the head, and then the members, are a circle
+  abbrev pub Shows : Table E → Place → List Place → Type 0
+  Shows t head s = IsCircle t.entry (head ∷ s)
+
+  -- the place stands in a ring, as its head or as a member: a ring can be read from each of its places
+  abbrev pub InRing : Table E → Place → Type 0
+  InRing t p = (s : List Place) × Shows t p s
+
+  -- r is the ring in which the place stands, with its head, read from whichever place
+  abbrev pub IsRingOf : Table E → Place → List Place → Type 0
+  IsRingOf t p r = IsCircle t.entry r × IsMember p r
+
+  -- beside p, the ring with this head has the members s: p is one more of them, or stands elsewhere
+  abbrev pub ShowsBeside : Table E → Place → Place → List Place → Type 0
+  ShowsBeside t p head s = (Shows t head s × IsAbsent p (head ∷ s))
+      ⊎ ((front back : List Place) × Shows t head (front ++ p ∷ back) × (s ≡ front ++ back))
+
+  -- THE OTHERS STAY: each ring in which none of these places stands, and each list
+  pub record OthersStay (old new : Table E) (places : List Place) : Type 0 where
+    pub rings : (r : List Place) → IsCircle old.entry r → IsDisjoint places r → IsCircle new.entry r
+    pub lists : (list : Ends) (s : List Place) → doubly.Shows neighbors old list s → doubly.Shows neighbors new list s
+
+  -- the places from `front` on, up to `end` and without it
+  abbrev pub members_until : Table E → Option Place → Place → List Place
+  members_until t front end = cond (is_end front end) [] (members_between neighbors t front (neighbors_at neighbors t end).prev)
+
+  -- the members of the ring with this head
+  abbrev pub members : Table E → Place → List Place
+  members t head = members_until t (neighbors_at neighbors t head).next head

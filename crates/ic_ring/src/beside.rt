@@ -1,0 +1,196 @@
+//! Calls that name no ring: a place stands in one ring at most, and its own neighbors lead to the others.
+//!
+//! ```text
+//! remove(&mut links, &object);                 // from whichever ring it is in
+//! insert_before(&mut links, place, object)?;   // beside a member; at a head, at the back
+//! replace(&mut links, &object, newer)?;        // where the object was
+//! ```
+
+ghost use Rattle.std.specs.Prelude.{◌≡◌, ◌≢◌, ◌∷◌, ◌++◌, List, [], Some, OnOk, OnErr, IfErr};
+ghost use Rattle.std.specs.Bool.{OnTrue, OnFalse};
+ghost use Rattle.ic_unsafe_ref.specs.declared.place.Place.{Place};
+ghost use Rattle.ic_link_ops.specs.Sequences.{first_or, last};
+ghost use Rattle.ic_link_ops.specs.Tables.{IsCovered, KeepsBeside};
+ghost use Rattle.ic_link_ops.specs.LinkSteps.{acquires, releases};
+ghost use Rattle.ic_link_ops.specs.LinkedList.{neighbors_at};
+ghost use Rattle.ic_ring.specs.Rings.{IsCircle, Shows, InRing, IsRingOf, OthersStay};
+
+use crate::surgery::{bypass, next_of, prev_of, turn_to};
+use ic_link_ops::linked_list::LinkedListOps;
+use ic_link_ops::{AlreadyLinked, LinkOps};
+use ic_unsafe_ref::{Place, UnsafeRef};
+
+/// The place behind one that stands in a ring. Behind the last member stands the head. O(1).
+///
+/// It requires that the place stands in a ring of the table.
+#[inline]
+pub fn next<L: LinkedListOps>(links: &L, place: Place) -> Place
+    requires ring { InRing L.neighbors (L.table links.now) place }
+    ensures behind { (s : List Place) → Shows L.neighbors (L.table links.now) place s → Some result ≡ first_or s (Some place) }
+    ensures ring { InRing L.neighbors (L.table links.now) result }
+{
+    next_of(links, place)
+}
+
+/// The place in front of one that stands in a ring. In front of the first member stands the head. O(1).
+///
+/// It requires that the place stands in a ring of the table.
+#[inline]
+pub fn prev<L: LinkedListOps>(links: &L, place: Place) -> Place
+    requires ring { InRing L.neighbors (L.table links.now) place }
+    ensures before { (s : List Place) → Shows L.neighbors (L.table links.now) place s → Some result ≡ last (place ∷ s) }
+    ensures ring { InRing L.neighbors (L.table links.now) result }
+{
+    prev_of(links, place)
+}
+
+// Puts the place between two neighbors of a ring, and answers whether its link was acquired.
+#[inline]
+pub(crate) fn insert_between<L: LinkedListOps>(
+    links: &mut L,
+    before: Place,
+    place: Place,
+    behind: Place,
+) -> bool
+    requires covered { IsCovered (L.table links.old) place }
+    requires ring { InRing L.neighbors (L.table links.old) behind }
+    requires before { (neighbors_at L.neighbors (L.table links.old) behind).prev ≡ Some before }
+    ensures inserted { (s : List Place) → Shows L.neighbors (L.table links.old) behind s
+        → OnTrue result (IsCircle L.neighbors (L.table links.new).entry (place ∷ behind ∷ s)) }
+    ensures acquired { OnTrue result (L.Does links.old links.new (acquires place ∷ [])) }
+    ensures refused { OnFalse result (L.Refused links.old links.new place) }
+    ensures others { OthersStay L.neighbors (L.table links.old) (L.table links.new) (behind ∷ []) }
+    ensures extent { (L.table links.new).extent ≡ (L.table links.old).extent }
+    ensures beside { (q : Place) → q ≢ before → q ≢ place → q ≢ behind → (L.table links.new).entry q ≡ (L.table links.old).entry q }
+{
+    if !links.link_between(place, Some(before), Some(behind)) {
+        return false;
+    }
+    turn_to(links, before, place, behind);
+    true
+}
+
+// Takes the place out from between its two neighbors, and unlinks it.
+#[inline]
+pub(crate) fn unlink<L: LinkedListOps>(links: &mut L, before: Place, place: Place, behind: Place)
+    requires ring { InRing L.neighbors (L.table links.old) place }
+    requires before { (neighbors_at L.neighbors (L.table links.old) place).prev ≡ Some before }
+    requires behind { (neighbors_at L.neighbors (L.table links.old) place).next ≡ Some behind }
+    ensures taken { (r : List Place) → Shows L.neighbors (L.table links.old) place r → IsCircle L.neighbors (L.table links.new).entry r }
+    ensures released { L.Does links.old links.new (releases place ∷ []) }
+    ensures others { OthersStay L.neighbors (L.table links.old) (L.table links.new) (place ∷ []) }
+    ensures extent { (L.table links.new).extent ≡ (L.table links.old).extent }
+    ensures beside { (q : Place) → q ≢ before → q ≢ place → q ≢ behind → (L.table links.new).entry q ≡ (L.table links.old).entry q }
+{
+    bypass(links, before, behind);
+    links.release_link(place);
+}
+
+/// Takes the object out of its ring, whichever that is, and unlinks it. O(1). Linux: `list_del`.
+///
+/// It requires that the object stands in a ring of the table. The ring's other members stay in their order, and every other ring and every
+/// list of the table stays as it is. A ring with no members is closed by the removal of its head.
+#[inline]
+pub fn remove<T, L: LinkedListOps>(links: &mut L, object: &UnsafeRef<T>)
+    requires member { InRing L.neighbors (L.table links.old) object.now }
+    ensures removed { (head : Place) (front back : List Place) → Shows L.neighbors (L.table links.old) head (front ++ object.now ∷ back)
+        → Shows L.neighbors (L.table links.new) head (front ++ back) }
+    ensures released { L.Does links.old links.new (releases object.now ∷ []) }
+    ensures others { OthersStay L.neighbors (L.table links.old) (L.table links.new) (object.now ∷ []) }
+    ensures frame { (r : List Place) → IsRingOf L.neighbors (L.table links.old) object.now r
+        → KeepsBeside (L.table links.old) (L.table links.new) r }
+{
+    let place = object.place();
+    let prev = prev_of(&*links, place);
+    let next = next_of(&*links, place);
+    unlink(links, prev, place, next);
+}
+
+/// Puts the object in front of a place that stands in a ring, unless its link is refused. O(1), and it takes no memory.
+///
+/// In front of a head it is the last member. It requires that the object's place is covered, and that the other place stands in a ring. A
+/// refused object comes back, and nothing has changed: over a plain table that is so exactly if the object is linked in it. Linux:
+/// `list_add_tail`.
+#[inline]
+pub fn insert_before<T, L: LinkedListOps>(
+    links: &mut L,
+    at: Place,
+    object: UnsafeRef<T>,
+) -> Result<(), AlreadyLinked<T>>
+    requires covered { IsCovered (L.table links.old) object }
+    requires ring { InRing L.neighbors (L.table links.old) at }
+
+    ensures inserted { (head : Place) (front back : List Place) → Shows L.neighbors (L.table links.old) head (front ++ at ∷ back)
+        → OnOk result (Shows L.neighbors (L.table links.new) head (front ++ object ∷ at ∷ back)) }
+    ensures at_head { (s : List Place) → Shows L.neighbors (L.table links.old) at s
+        → OnOk result (Shows L.neighbors (L.table links.new) at (s ++ object ∷ [])) }
+    ensures acquired { OnOk result (L.Does links.old links.new (acquires object ∷ [])) }
+    ensures refused { OnErr result (L.Refused links.old links.new object) }
+    ensures unchanged { IfErr result (λ refused. refused.0 ≡ object) }
+    ensures others { OthersStay L.neighbors (L.table links.old) (L.table links.new) (at ∷ []) }
+    ensures frame { (r : List Place) → IsRingOf L.neighbors (L.table links.old) at r
+        → KeepsBeside (L.table links.old) (L.table links.new) (object ∷ r) }
+{
+    let prev = prev_of(&*links, at);
+    if !insert_between(links, prev, object.place(), at) {
+        return Err(AlreadyLinked(object));
+    }
+    Ok(())
+}
+
+/// Puts the object behind a place that stands in a ring, unless its link is refused. O(1), and it takes no memory.
+///
+/// Behind a head it is the first member. It requires and returns what [`insert_before`] does. Linux: `list_add`.
+#[inline]
+pub fn insert_after<T, L: LinkedListOps>(
+    links: &mut L,
+    at: Place,
+    object: UnsafeRef<T>,
+) -> Result<(), AlreadyLinked<T>>
+    requires covered { IsCovered (L.table links.old) object }
+    requires ring { InRing L.neighbors (L.table links.old) at }
+
+    ensures inserted { (head : Place) (front back : List Place) → Shows L.neighbors (L.table links.old) head (front ++ at ∷ back)
+        → OnOk result (Shows L.neighbors (L.table links.new) head (front ++ at ∷ object ∷ back)) }
+    ensures at_head { (s : List Place) → Shows L.neighbors (L.table links.old) at s
+        → OnOk result (Shows L.neighbors (L.table links.new) at (object ∷ s)) }
+    ensures acquired { OnOk result (L.Does links.old links.new (acquires object ∷ [])) }
+    ensures refused { OnErr result (L.Refused links.old links.new object) }
+    ensures unchanged { IfErr result (λ refused. refused.0 ≡ object) }
+    ensures others { OthersStay L.neighbors (L.table links.old) (L.table links.new) (at ∷ []) }
+    ensures frame { (r : List Place) → IsRingOf L.neighbors (L.table links.old) at r
+        → KeepsBeside (L.table links.old) (L.table links.new) (object ∷ r) }
+{
+    let next = next_of(&*links, at);
+    if !insert_between(links, at, object.place(), next) {
+        return Err(AlreadyLinked(object));
+    }
+    Ok(())
+}
+
+/// Puts the object where another one stands in a ring, and unlinks that, unless its own link is refused. O(1), and it takes no memory.
+///
+/// It requires that the object's place is covered, and that the other one stands in a ring. A refused object comes back, and nothing has
+/// changed. Linux: `list_replace`.
+#[inline]
+pub fn replace<T, L: LinkedListOps>(
+    links: &mut L,
+    out: &UnsafeRef<T>,
+    object: UnsafeRef<T>,
+) -> Result<(), AlreadyLinked<T>>
+    requires covered { IsCovered (L.table links.old) object }
+    requires member { InRing L.neighbors (L.table links.old) out.now }
+
+    ensures replaced { (head : Place) (front back : List Place) → Shows L.neighbors (L.table links.old) head (front ++ out.now ∷ back)
+        → OnOk result (Shows L.neighbors (L.table links.new) head (front ++ object ∷ back)) }
+    ensures exchanged { OnOk result (L.Does links.old links.new (acquires object ∷ releases out.now ∷ [])) }
+    ensures refused { OnErr result (L.Refused links.old links.new object) }
+    ensures unchanged { IfErr result (λ refused. refused.0 ≡ object) }
+    ensures others { OthersStay L.neighbors (L.table links.old) (L.table links.new) (out.now ∷ []) }
+    ensures frame { (r : List Place) → IsRingOf L.neighbors (L.table links.old) out.now r
+        → KeepsBeside (L.table links.old) (L.table links.new) (object ∷ r) }
+{
+    insert_before(links, out.place(), object)?;
+    remove(links, out);
+    Ok(())
+}

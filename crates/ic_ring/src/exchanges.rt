@@ -1,0 +1,88 @@
+//! One edit that joins two rings, and cuts one in two: two places exchange what stands behind them.
+//!
+//! ```text
+//! ready.splice_back(&mut links, &late);        // all of `late` behind all of `ready`
+//! ready.split_after(&mut links, place, &rest); // what stood behind the place is in `rest`
+//! ```
+
+ghost use Rattle.std.specs.Prelude.{◌≡◌, ◌≢◌, ◌∷◌, ◌++◌, List, [], Some};
+ghost use Rattle.ic_unsafe_ref.specs.declared.place.Place.{Place};
+ghost use Rattle.ic_link_ops.specs.Sequences.{IsAbsent, IsDisjoint, last};
+ghost use Rattle.ic_link_ops.specs.Tables.{KeepsBeside};
+ghost use Rattle.ic_ring.specs.Rings.{IsCircle, Shows, InRing, IsRingOf, OthersStay};
+
+use crate::ring::Ring;
+use crate::surgery::{next_of, prev_of};
+use ic_link_ops::LinkOps;
+use ic_link_ops::linked_list::LinkedListOps;
+use ic_unsafe_ref::Place;
+
+/// Two places that stand in rings exchange what stands behind them. O(1), and no link step.
+///
+/// So two rings are joined: behind the first place stands what stood behind the second, up to that, and then what stood behind the first.
+/// One ring is cut so between the two. The same call again takes it back. It requires that both places stand in rings of the table.
+#[inline]
+pub fn exchange<L: LinkedListOps>(links: &mut L, first: Place, second: Place)
+    requires first { InRing L.neighbors (L.table links.old) first }
+    requires second { InRing L.neighbors (L.table links.old) second }
+    ensures joins { (r u : List Place) → IsCircle L.neighbors (L.table links.old).entry r → IsCircle L.neighbors (L.table links.old).entry u
+        → IsDisjoint r u → Some first ≡ last r → Some second ≡ last u → IsCircle L.neighbors (L.table links.new).entry (r ++ u) }
+    ensures cuts { (r u : List Place) → IsCircle L.neighbors (L.table links.old).entry (r ++ u) → Some first ≡ last r → Some second ≡ last u
+        → IsCircle L.neighbors (L.table links.new).entry r × IsCircle L.neighbors (L.table links.new).entry u }
+    ensures no_step { L.Does links.old links.new [] }
+    ensures others { OthersStay L.neighbors (L.table links.old) (L.table links.new) (first ∷ second ∷ []) }
+    ensures frame { (r u : List Place) → IsRingOf L.neighbors (L.table links.old) first r → IsRingOf L.neighbors (L.table links.old) second u
+        → KeepsBeside (L.table links.old) (L.table links.new) (r ++ u) }
+{
+    let behind_first = next_of(&*links, first);
+    let behind_second = next_of(&*links, second);
+    links.set_next(first, Some(behind_second));
+    links.set_prev(behind_second, Some(first));
+    links.set_next(second, Some(behind_first));
+    links.set_prev(behind_first, Some(second));
+}
+
+impl<T> Ring<T> {
+    /// Puts all members of another ring behind those of this one. The other ring is empty then. O(1), and no link step.
+    ///
+    /// It requires that they are two rings. Linux: `list_splice_tail_init`.
+    #[inline]
+    pub fn splice_back<L: LinkedListOps>(&self, links: &mut L, given: &Ring<T>)
+        requires shown { InRing L.neighbors (L.table links.old) self.now }
+        requires apart { (t : List Place) × Shows L.neighbors (L.table links.old) given.now t × IsAbsent self.now (given.now ∷ t) }
+        ensures spliced { (s t : List Place) → Shows L.neighbors (L.table links.old) self.now s → Shows L.neighbors (L.table links.old) given.now t
+            → Shows L.neighbors (L.table links.new) self.now (s ++ t) × Shows L.neighbors (L.table links.new) given.now [] }
+        ensures no_step { L.Does links.old links.new [] }
+        ensures others { OthersStay L.neighbors (L.table links.old) (L.table links.new) (self.now ∷ given.now ∷ []) }
+        ensures frame { (s t : List Place) → Shows L.neighbors (L.table links.old) self.now s → Shows L.neighbors (L.table links.old) given.now t
+            → KeepsBeside (L.table links.old) (L.table links.new) ((self.now ∷ s) ++ (given.now ∷ t)) }
+    {
+        let head = self.head();
+        let last = prev_of(&*links, head);
+        let given_head = given.head();
+        let given_last = prev_of(&*links, given_head);
+        exchange(links, last, given_last);
+        exchange(links, last, given_head);
+    }
+
+    /// Moves what stands behind a place of this ring to the front of another ring. Behind the head that is all. O(1), and no link step.
+    ///
+    /// It requires that the place stands in this ring, as its head or as a member, and that they are two rings.
+    #[inline]
+    pub fn split_after<L: LinkedListOps>(&self, links: &mut L, at: Place, rest: &Ring<T>)
+        requires cut { (front back : List Place) × Shows L.neighbors (L.table links.old) self.now (front ++ back) × (Some at ≡ last (self.now ∷ front)) }
+        requires apart { (t : List Place) × Shows L.neighbors (L.table links.old) rest.now t × IsAbsent self.now (rest.now ∷ t) }
+        ensures split { (front back t : List Place) → Shows L.neighbors (L.table links.old) self.now (front ++ back)
+            → Some at ≡ last (self.now ∷ front) → Shows L.neighbors (L.table links.old) rest.now t
+            → Shows L.neighbors (L.table links.new) self.now front × Shows L.neighbors (L.table links.new) rest.now (back ++ t) }
+        ensures no_step { L.Does links.old links.new [] }
+        ensures others { OthersStay L.neighbors (L.table links.old) (L.table links.new) (self.now ∷ rest.now ∷ []) }
+        ensures frame { (front back t : List Place) → Shows L.neighbors (L.table links.old) self.now (front ++ back)
+            → Some at ≡ last (self.now ∷ front) → Shows L.neighbors (L.table links.old) rest.now t
+            → KeepsBeside (L.table links.old) (L.table links.new) ((self.now ∷ (front ++ back)) ++ (rest.now ∷ t)) }
+    {
+        exchange(links, at, rest.head());
+        let last = prev_of(&*links, self.head());
+        exchange(links, at, last);
+    }
+}

@@ -1,0 +1,146 @@
+//! Walks over the objects of a ring.
+//!
+//! ```text
+//! for task in ready.iter(&links, &tasks) {
+//!     task.run();
+//! }
+//! let newest = ready.iter(&links, &tasks).next_back();
+//! ```
+
+ghost use Rattle.std.specs.Prelude.{◌≡◌, List, Option, Some, ⊤};
+ghost use Rattle.ic_unsafe_ref.specs.declared.place.Place.{Place};
+ghost use Rattle.ic_link_ops.specs.Walk.{GivesFirst, GivesLast};
+ghost use Rattle.ic_link_ops.specs.PlacedObjects.{ShowsPlaced, values_at};
+ghost use Rattle.ic_ring.specs.Rings.{Shows};
+
+use crate::ring::Ring;
+use crate::surgery::{next_of, prev_of};
+use ic_cursors::Listing;
+use ic_link_ops::LinkOps;
+use ic_link_ops::linked_list::LinkedListOps;
+use ic_unsafe_ref::{Objects, Place, Values};
+use std::alloc::AllocError;
+use std::marker::PhantomData;
+
+/// The objects of a ring that are not given out yet: from the front by `next`, and from the back by `next_back`.
+///
+/// It keeps the first place of what is left and the one behind the last, which is the head at first. Where the two are one, nothing is left.
+pub struct Iter<'a, T, L, O = Objects<T>> {
+    links: &'a L,
+    objects: &'a O,
+    of: PhantomData<&'a T>,
+    front: Place,
+    end: Place,
+}
+
+impl<T, L, O> Drop for Iter<'_, T, L, O> {
+    fn drop(self) {
+        let Iter {
+            links: _,
+            objects: _,
+            of: _,
+            front: _,
+            end: _,
+        } = self;
+    }
+}
+
+impl<'a, T, L: LinkedListOps, O: Values<T>> Iterator for Iter<'a, T, L, O> {
+    type Item = &'a T;
+
+    ghost use Rattle.std.specs.Iterator.{item_count};
+    ghost use Rattle.ic_ring.specs.Iter.{objects_left, CanWalk};
+
+    ghost can_next = { CanWalk L.neighbors L.table O.values };
+
+    ghost next_gives = { GivesFirst (objects_left L.neighbors L.table O.values) };
+
+    ghost remaining = { item_count (objects_left L.neighbors L.table O.values) };
+
+    /// The next object. O(1): one reading of an entry, and one look-up of the object.
+    fn next(&mut self) -> Option<&'a T> {
+        let place = self.front;
+        if place == self.end {
+            return None;
+        }
+        let objects: &'a O = self.objects;
+        let value = objects.value(place);
+        self.front = next_of(self.links, place);
+        Some(value)
+    }
+}
+
+impl<'a, T, L: LinkedListOps, O: Values<T>> DoubleEndedIterator for Iter<'a, T, L, O> {
+    ghost use Rattle.ic_ring.specs.Iter.{objects_left, CanWalk};
+
+    ghost can_next_back = { CanWalk L.neighbors L.table O.values };
+
+    ghost next_back_gives = { GivesLast (objects_left L.neighbors L.table O.values) };
+
+    /// The next object from the back. O(1), as `next`.
+    fn next_back(&mut self) -> Option<&'a T> {
+        if self.front == self.end {
+            return None;
+        }
+        let place = prev_of(self.links, self.end);
+        let objects: &'a O = self.objects;
+        let value = objects.value(place);
+        self.end = place;
+        Some(value)
+    }
+}
+
+impl<T, L, O> Clone for Iter<'_, T, L, O> {
+    ghost is_clone = { λ t copy. copy ≡ t };
+
+    ghost is_infallible = { λ _. ⊤ };
+
+    /// A walk over the same objects, from the same two ends. It never fails.
+    fn clone(&self) -> Result<Self, AllocError> {
+        Ok(Iter {
+            links: self.links,
+            objects: self.objects,
+            of: PhantomData,
+            front: self.front,
+            end: self.end,
+        })
+    }
+}
+
+impl<T> Ring<T> {
+    ghost use Rattle.ic_ring.specs.Iter.{objects_left, CanWalk};
+
+    /// A walk over the objects of the ring, from the front and from the back. It requires that all members are placed. O(1).
+    pub fn iter<'a, L: LinkedListOps, O: Values<T>>(
+        &self,
+        links: &'a L,
+        objects: &'a O,
+    ) -> Iter<'a, T, L, O>
+        requires placed { ShowsPlaced (Shows L.neighbors (L.table links.now) self.now) (O.values objects.now) }
+        ensures walks { (s : List Place) → Shows L.neighbors (L.table links.now) self.now s
+            → objects_left L.neighbors L.table O.values result ≡ values_at (O.values objects.now) s }
+        ensures can_walk { CanWalk L.neighbors L.table O.values result }
+    {
+        Iter {
+            links,
+            objects,
+            of: PhantomData,
+            front: next_of(links, self.head()),
+            end: self.head(),
+        }
+    }
+
+    /// A value that prints the objects of the ring, in order: `{:?}` writes `[10, 20]`, and `{:#?}` writes each object on lines of its own.
+    /// It requires that all members are placed. O(1), and no memory.
+    pub fn debug<'a, L: LinkedListOps, O: Values<T>>(
+        &self,
+        links: &'a L,
+        objects: &'a O,
+    ) -> Listing<Iter<'a, T, L, O>>
+        requires placed { ShowsPlaced (Shows L.neighbors (L.table links.now) self.now) (O.values objects.now) }
+        ensures lists { (s : List Place) → Shows L.neighbors (L.table links.now) self.now s
+            → objects_left L.neighbors L.table O.values result ≡ values_at (O.values objects.now) s }
+    {
+        Listing::new(self.iter(links, objects))
+    }
+}

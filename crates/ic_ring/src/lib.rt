@@ -1,0 +1,31 @@
+//! Rings: doubly linked lists whose head is a place of the same table.
+//!
+//! A head and its members stand in a circle, so that each place has a neighbor on either side. A member leaves, moves and gets neighbors
+//! without its ring being named, and no edit tests for an end. These are the lists of Linux (`list.h`), over places. Good where objects
+//! change their queue often, and where who removes an object does not know its queue.
+//!
+//! ```text
+//! let mut links = linked_list::LinkOps::new(rt.alloc());
+//! links.cover(3)?;                            // two objects, and a head
+//! let ready = Ring::open(&mut links, head);   // the head is linked to itself
+//! ready.push_back(&mut links, first)?;
+//! ready.push_back(&mut links, second)?;
+//! remove(&mut links, &first);                 // from whichever ring it is in
+//! ```
+#![tactic(auto)]
+
+mod beside;
+mod exchanges;
+mod iter;
+mod moves;
+mod ring;
+mod surgery;
+
+pub use beside::{insert_after, insert_before, next, prev, remove, replace};
+pub use exchanges::exchange;
+pub use ic_cursors::Listing;
+pub use ic_link_ops::linked_list::{Link, LinkOps, LinkedListOps};
+pub use iter::Iter;
+pub use moves::{move_after, move_before};
+pub use ring::Ring;
+pub use surgery::{bypass, turn_to};

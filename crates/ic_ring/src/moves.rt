@@ -1,0 +1,151 @@
+//! Objects that change their place, in their ring or to another one, and keep their link.
+//!
+//! ```text
+//! move_before(&mut links, place, &object);   // from whichever ring it is in
+//! late.move_to_back(&mut links, &object);    // and on to the back of another
+//! ```
+
+ghost use Rattle.std.specs.Prelude.{◌≡◌, ◌≢◌, ◌∷◌, ◌++◌, List, [], Some};
+ghost use Rattle.ic_unsafe_ref.specs.declared.place.Place.{Place};
+ghost use Rattle.ic_link_ops.specs.Sequences.{IsAbsent, at_front, at_back, insert};
+ghost use Rattle.ic_link_ops.specs.Tables.{IsLinked, KeepsBeside};
+ghost use Rattle.ic_link_ops.specs.LinkedList.{neighbors_at};
+ghost use Rattle.ic_ring.specs.Rings.{IsCircle, Shows, InRing, IsRingOf, ShowsBeside, OthersStay};
+
+use crate::ring::Ring;
+use crate::surgery::{bypass, next_of, prev_of, set_neighbors, turn_to};
+use ic_link_ops::LinkOps;
+use ic_link_ops::linked_list::LinkedListOps;
+use ic_unsafe_ref::{Place, UnsafeRef};
+
+// Takes the place out of its ring. It stays linked.
+#[inline]
+fn detach<L: LinkedListOps>(links: &mut L, place: Place)
+    requires ring { InRing L.neighbors (L.table links.old) place }
+    ensures taken { (r : List Place) → Shows L.neighbors (L.table links.old) place r → IsCircle L.neighbors (L.table links.new).entry r }
+    ensures no_step { L.Does links.old links.new [] }
+    ensures others { OthersStay L.neighbors (L.table links.old) (L.table links.new) (place ∷ []) }
+    ensures extent { (L.table links.new).extent ≡ (L.table links.old).extent }
+    ensures beside { (r : List Place) (q : Place) → Shows L.neighbors (L.table links.old) place r → IsAbsent q (place ∷ r)
+        → (L.table links.new).entry q ≡ (L.table links.old).entry q }
+{
+    let prev = prev_of(&*links, place);
+    let next = next_of(&*links, place);
+    bypass(links, prev, next);
+}
+
+// Puts the linked place, which is in no ring, between two neighbors of a ring.
+#[inline]
+fn insert_linked<L: LinkedListOps>(links: &mut L, before: Place, place: Place, behind: Place)
+    requires held { IsLinked L.linked (L.table links.old) place }
+    requires ring { InRing L.neighbors (L.table links.old) behind }
+    requires before { (neighbors_at L.neighbors (L.table links.old) behind).prev ≡ Some before }
+    ensures put { (s : List Place) → Shows L.neighbors (L.table links.old) behind s → IsAbsent place (behind ∷ s)
+        → IsCircle L.neighbors (L.table links.new).entry (place ∷ behind ∷ s) }
+    ensures no_step { L.Does links.old links.new [] }
+    ensures others { (r : List Place) → IsCircle L.neighbors (L.table links.old).entry r → IsAbsent place r → IsAbsent behind r
+        → IsCircle L.neighbors (L.table links.new).entry r }
+    ensures extent { (L.table links.new).extent ≡ (L.table links.old).extent }
+    ensures beside { (q : Place) → q ≢ before → q ≢ place → q ≢ behind → (L.table links.new).entry q ≡ (L.table links.old).entry q }
+{
+    set_neighbors(links, place, before, behind);
+    turn_to(links, before, place, behind);
+}
+
+/// Moves the object in front of a place that stands in a ring, from whichever ring it is in. O(1), and its link is not given up.
+///
+/// In front of a head it is the last member. It requires that both stand in rings of the table, and are two places. Linux:
+/// `list_move_tail`.
+#[inline]
+pub fn move_before<T, L: LinkedListOps>(links: &mut L, at: Place, object: &UnsafeRef<T>)
+    requires ring { InRing L.neighbors (L.table links.old) at }
+    requires member { InRing L.neighbors (L.table links.old) object.now }
+    requires other { at ≢ object.now }
+    ensures moved { (head : Place) (front back : List Place)
+        → ShowsBeside L.neighbors (L.table links.old) object.now head (front ++ at ∷ back)
+        → Shows L.neighbors (L.table links.new) head (front ++ object.now ∷ at ∷ back) }
+    ensures at_head { (s : List Place) → ShowsBeside L.neighbors (L.table links.old) object.now at s
+        → Shows L.neighbors (L.table links.new) at (s ++ object.now ∷ []) }
+    ensures left { (head : Place) (s : List Place) → ShowsBeside L.neighbors (L.table links.old) object.now head s
+        → IsAbsent at (head ∷ s) → Shows L.neighbors (L.table links.new) head s }
+    ensures no_step { L.Does links.old links.new [] }
+    ensures others { OthersStay L.neighbors (L.table links.old) (L.table links.new) (at ∷ object.now ∷ []) }
+    ensures frame { (r s : List Place) → IsRingOf L.neighbors (L.table links.old) at r
+        → IsRingOf L.neighbors (L.table links.old) object.now s → KeepsBeside (L.table links.old) (L.table links.new) (r ++ s) }
+{
+    let place = object.place();
+    detach(links, place);
+    let prev = prev_of(&*links, at);
+    insert_linked(links, prev, place, at);
+}
+
+/// Moves the object behind a place that stands in a ring, from whichever ring it is in. O(1), and its link is not given up.
+///
+/// Behind a head it is the first member. It requires what [`move_before`] does. Linux: `list_move`.
+#[inline]
+pub fn move_after<T, L: LinkedListOps>(links: &mut L, at: Place, object: &UnsafeRef<T>)
+    requires ring { InRing L.neighbors (L.table links.old) at }
+    requires member { InRing L.neighbors (L.table links.old) object.now }
+    requires other { at ≢ object.now }
+    ensures moved { (head : Place) (front back : List Place)
+        → ShowsBeside L.neighbors (L.table links.old) object.now head (front ++ at ∷ back)
+        → Shows L.neighbors (L.table links.new) head (front ++ at ∷ object.now ∷ back) }
+    ensures at_head { (s : List Place) → ShowsBeside L.neighbors (L.table links.old) object.now at s
+        → Shows L.neighbors (L.table links.new) at (object.now ∷ s) }
+    ensures left { (head : Place) (s : List Place) → ShowsBeside L.neighbors (L.table links.old) object.now head s
+        → IsAbsent at (head ∷ s) → Shows L.neighbors (L.table links.new) head s }
+    ensures no_step { L.Does links.old links.new [] }
+    ensures others { OthersStay L.neighbors (L.table links.old) (L.table links.new) (at ∷ object.now ∷ []) }
+    ensures frame { (r s : List Place) → IsRingOf L.neighbors (L.table links.old) at r
+        → IsRingOf L.neighbors (L.table links.old) object.now s → KeepsBeside (L.table links.old) (L.table links.new) (r ++ s) }
+{
+    let place = object.place();
+    detach(links, place);
+    let next = next_of(&*links, at);
+    insert_linked(links, at, place, next);
+}
+
+impl<T> Ring<T> {
+    /// Moves the object to the back of this ring, from whichever ring it is in. O(1), and its link is not given up.
+    ///
+    /// It requires that the object stands in a ring of the table, and is not the head of this one. Good for queues of what was used last.
+    /// Linux: `list_move_tail`.
+    #[inline]
+    pub fn move_to_back<L: LinkedListOps>(&self, links: &mut L, object: &UnsafeRef<T>)
+        requires shown { InRing L.neighbors (L.table links.old) self.now }
+        requires member { InRing L.neighbors (L.table links.old) object.now }
+        requires other { self.now ≢ object.now }
+        ensures moved { (s : List Place) → ShowsBeside L.neighbors (L.table links.old) object.now self.now s
+            → Shows L.neighbors (L.table links.new) self.now (insert (at_back s) object.now) }
+        ensures left { (head : Place) (s : List Place) → ShowsBeside L.neighbors (L.table links.old) object.now head s
+            → IsAbsent self.now (head ∷ s) → Shows L.neighbors (L.table links.new) head s }
+        ensures no_step { L.Does links.old links.new [] }
+        ensures others { OthersStay L.neighbors (L.table links.old) (L.table links.new) (self.now ∷ object.now ∷ []) }
+        ensures frame { (s r : List Place) → Shows L.neighbors (L.table links.old) self.now s
+            → IsRingOf L.neighbors (L.table links.old) object.now r
+            → KeepsBeside (L.table links.old) (L.table links.new) ((self.now ∷ s) ++ r) }
+    {
+        move_before(links, self.head(), object);
+    }
+
+    /// Moves the object to the front of this ring, from whichever ring it is in. O(1), and its link is not given up.
+    ///
+    /// It requires what [`Ring::move_to_back`] does. Linux: `list_move`.
+    #[inline]
+    pub fn move_to_front<L: LinkedListOps>(&self, links: &mut L, object: &UnsafeRef<T>)
+        requires shown { InRing L.neighbors (L.table links.old) self.now }
+        requires member { InRing L.neighbors (L.table links.old) object.now }
+        requires other { self.now ≢ object.now }
+        ensures moved { (s : List Place) → ShowsBeside L.neighbors (L.table links.old) object.now self.now s
+            → Shows L.neighbors (L.table links.new) self.now (insert (at_front s) object.now) }
+        ensures left { (head : Place) (s : List Place) → ShowsBeside L.neighbors (L.table links.old) object.now head s
+            → IsAbsent self.now (head ∷ s) → Shows L.neighbors (L.table links.new) head s }
+        ensures no_step { L.Does links.old links.new [] }
+        ensures others { OthersStay L.neighbors (L.table links.old) (L.table links.new) (self.now ∷ object.now ∷ []) }
+        ensures frame { (s r : List Place) → Shows L.neighbors (L.table links.old) self.now s
+            → IsRingOf L.neighbors (L.table links.old) object.now r
+            → KeepsBeside (L.table links.old) (L.table links.new) ((self.now ∷ s) ++ r) }
+    {
+        move_after(links, self.head(), object);
+    }
+}

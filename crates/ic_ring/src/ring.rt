@@ -1,0 +1,232 @@
+//! The ring.
+//!
+//! ```text
+//! ring.push_back(&mut links, object)?;
+//! let first = ring.pop_front(&mut links);
+//! ```
+
+ghost use Rattle.std.specs.Prelude.{◌≡◌, ◌≢◌, ◌∷◌, ◌++◌, ◌↔◌, List, [], IsTrue, OnOk, OnErr, IfErr, IfSome, IfNone, OnSome};
+ghost use Rattle.ic_unsafe_ref.specs.declared.place.Place.{Place};
+ghost use Rattle.ic_link_ops.specs.Sequences.{first, last, but_last, at_front, at_back, insert, remove};
+ghost use Rattle.ic_link_ops.specs.Tables.{IsCovered, ChangesOnly, KeepsBeside};
+ghost use Rattle.ic_link_ops.specs.LinkSteps.{acquires, releases, releases_each};
+ghost use Rattle.ic_ring.specs.Rings.{Shows, InRing, OthersStay};
+
+use crate::beside::{insert_between, unlink};
+use crate::surgery::{next_of, prev_of};
+use ic_link_ops::linked_list::LinkedListOps;
+use ic_link_ops::{AlreadyLinked, LinkOps};
+use ic_unsafe_ref::{Place, UnsafeRef};
+use std::marker::{Model, PhantomData};
+
+/// A ring of objects, named by its head: a place of the table at which no object is linked. Good for queues.
+///
+/// The head never changes, so no call writes the ring itself. A clause sees the head. Which members the ring has is what the table shows
+/// for it.
+pub struct Ring<T> {
+    head: Place,
+    of: PhantomData<T>,
+}
+
+impl<T> Model for Ring<T> {
+    ghost use Rattle.ic_unsafe_ref.specs.declared.place.Place.{Place};
+
+    ghost Value = { Place };
+
+    ghost view = { λ r. r.head };
+}
+
+impl<T> Drop for Ring<T> {
+    fn drop(self) {
+        let Ring { head: _, of: _ } = self;
+    }
+}
+
+impl<T> Ring<T> {
+    /// A ring with no members, at this head, unless its link is refused. O(1), and it takes no memory.
+    ///
+    /// It requires that the head is covered. The head is linked to itself, so that no list or ring of the table takes it in. Where its link
+    /// is refused, nothing has changed. Linux: `INIT_LIST_HEAD`.
+    #[inline]
+    pub fn open<L: LinkedListOps>(links: &mut L, head: Place) -> Option<Ring<T>>
+        requires covered { IsCovered (L.table links.old) head }
+        ensures opened { IfSome result (λ ring. (ring ≡ head) × Shows L.neighbors (L.table links.new) head []) }
+        ensures acquired { OnSome result (L.Does links.old links.new (acquires head ∷ [])) }
+        ensures refused { IfNone result (L.Refused links.old links.new head) }
+        ensures others { OthersStay L.neighbors (L.table links.old) (L.table links.new) [] }
+        ensures frame { ChangesOnly (L.table links.old) (L.table links.new) head }
+    {
+        if !links.link_between(head, Some(head), Some(head)) {
+            return None;
+        }
+        Some(Ring::from_head(head))
+    }
+
+    /// The ring with this head, for who keeps the heads of his rings himself. O(1).
+    ///
+    /// It requires nothing of it: which members the ring has, if any, is what a table shows for it. [`Ring::head`] reads it again.
+    #[inline]
+    pub fn from_head(head: Place) -> Ring<T>
+        ensures { result ≡ head }
+    {
+        Ring {
+            head,
+            of: PhantomData,
+        }
+    }
+
+    /// The head. O(1).
+    #[inline]
+    pub fn head(&self) -> Place
+        ensures { result ≡ self.now }
+    {
+        self.head
+    }
+
+    /// The first member, `None` in an empty ring. O(1).
+    #[inline]
+    pub fn first<L: LinkedListOps>(&self, links: &L) -> Option<Place>
+        requires shown { InRing L.neighbors (L.table links.now) self.now }
+        ensures { (s : List Place) → Shows L.neighbors (L.table links.now) self.now s → result ≡ first s }
+    {
+        let place = next_of(links, self.head);
+        if place == self.head {
+            None
+        } else {
+            Some(place)
+        }
+    }
+
+    /// The last member, `None` in an empty ring. O(1).
+    #[inline]
+    pub fn last<L: LinkedListOps>(&self, links: &L) -> Option<Place>
+        requires shown { InRing L.neighbors (L.table links.now) self.now }
+        ensures { (s : List Place) → Shows L.neighbors (L.table links.now) self.now s → result ≡ last s }
+    {
+        let place = prev_of(links, self.head);
+        if place == self.head {
+            None
+        } else {
+            Some(place)
+        }
+    }
+
+    /// Whether the ring has no members. O(1).
+    #[inline]
+    pub fn is_empty<L: LinkedListOps>(&self, links: &L) -> bool
+        requires shown { InRing L.neighbors (L.table links.now) self.now }
+        ensures { (s : List Place) → Shows L.neighbors (L.table links.now) self.now s → (IsTrue result ↔ (s ≡ [])) }
+    {
+        self.first(links).is_none()
+    }
+
+    /// Puts the object at the back of the ring, unless its link is refused. O(1), and it takes no memory.
+    ///
+    /// It requires that the object's place is covered. A refused object comes back, and nothing has changed: over a plain table that is so
+    /// exactly if the object is linked in it. Linux: `list_add_tail`.
+    #[inline]
+    pub fn push_back<L: LinkedListOps>(
+        &self,
+        links: &mut L,
+        object: UnsafeRef<T>,
+    ) -> Result<(), AlreadyLinked<T>>
+        requires covered { IsCovered (L.table links.old) object }
+        requires shown { InRing L.neighbors (L.table links.old) self.now }
+
+        ensures inserted { (s : List Place) → Shows L.neighbors (L.table links.old) self.now s
+            → OnOk result (Shows L.neighbors (L.table links.new) self.now (insert (at_back s) object)) }
+        ensures acquired { OnOk result (L.Does links.old links.new (acquires object ∷ [])) }
+        ensures refused { OnErr result (L.Refused links.old links.new object) }
+        ensures unchanged { IfErr result (λ refused. refused.0 ≡ object) }
+        ensures others { OthersStay L.neighbors (L.table links.old) (L.table links.new) (self.now ∷ []) }
+        ensures frame { (s : List Place) → Shows L.neighbors (L.table links.old) self.now s
+            → KeepsBeside (L.table links.old) (L.table links.new) (object ∷ self.now ∷ s) }
+    {
+        let last = prev_of(&*links, self.head);
+        if !insert_between(links, last, object.place(), self.head) {
+            return Err(AlreadyLinked(object));
+        }
+        Ok(())
+    }
+
+    /// Puts the object at the front of the ring, unless its link is refused. O(1), and it takes no memory.
+    ///
+    /// It requires and returns what [`Ring::push_back`] does. Good for stacks. Linux: `list_add`.
+    #[inline]
+    pub fn push_front<L: LinkedListOps>(
+        &self,
+        links: &mut L,
+        object: UnsafeRef<T>,
+    ) -> Result<(), AlreadyLinked<T>>
+        requires covered { IsCovered (L.table links.old) object }
+        requires shown { InRing L.neighbors (L.table links.old) self.now }
+
+        ensures inserted { (s : List Place) → Shows L.neighbors (L.table links.old) self.now s
+            → OnOk result (Shows L.neighbors (L.table links.new) self.now (insert (at_front s) object)) }
+        ensures acquired { OnOk result (L.Does links.old links.new (acquires object ∷ [])) }
+        ensures refused { OnErr result (L.Refused links.old links.new object) }
+        ensures unchanged { IfErr result (λ refused. refused.0 ≡ object) }
+        ensures others { OthersStay L.neighbors (L.table links.old) (L.table links.new) (self.now ∷ []) }
+        ensures frame { (s : List Place) → Shows L.neighbors (L.table links.old) self.now s
+            → KeepsBeside (L.table links.old) (L.table links.new) (object ∷ self.now ∷ s) }
+    {
+        let first = next_of(&*links, self.head);
+        if !insert_between(links, self.head, object.place(), first) {
+            return Err(AlreadyLinked(object));
+        }
+        Ok(())
+    }
+
+    /// Takes the object at the front off the ring and returns it, or `None` if the ring is empty. O(1).
+    #[inline]
+    pub fn pop_front<L: LinkedListOps>(&self, links: &mut L) -> Option<UnsafeRef<T>>
+        requires shown { InRing L.neighbors (L.table links.old) self.now }
+
+        ensures answer { (s : List Place) → Shows L.neighbors (L.table links.old) self.now s → result ≡ first s }
+        ensures removed { (s : List Place) → Shows L.neighbors (L.table links.old) self.now s
+            → Shows L.neighbors (L.table links.new) self.now (remove (at_front s)) }
+        ensures released { IfSome result (λ object. L.Does links.old links.new (releases object ∷ [])) }
+        ensures empty { IfNone result (links.new ≡ links.old) }
+        ensures others { OthersStay L.neighbors (L.table links.old) (L.table links.new) (self.now ∷ []) }
+        ensures frame { (s : List Place) → Shows L.neighbors (L.table links.old) self.now s
+            → KeepsBeside (L.table links.old) (L.table links.new) (self.now ∷ s) }
+    {
+        let front = self.first(&*links)?;
+        let next = next_of(&*links, front);
+        unlink(links, self.head, front, next);
+        Some(UnsafeRef::new(front))
+    }
+
+    /// Takes the object at the back off the ring and returns it, or `None` if the ring is empty. O(1).
+    #[inline]
+    pub fn pop_back<L: LinkedListOps>(&self, links: &mut L) -> Option<UnsafeRef<T>>
+        requires shown { InRing L.neighbors (L.table links.old) self.now }
+
+        ensures answer { (s : List Place) → Shows L.neighbors (L.table links.old) self.now s → result ≡ last s }
+        ensures removed { (s : List Place) → Shows L.neighbors (L.table links.old) self.now s
+            → Shows L.neighbors (L.table links.new) self.now (but_last s) }
+        ensures released { IfSome result (λ object. L.Does links.old links.new (releases object ∷ [])) }
+        ensures empty { IfNone result (links.new ≡ links.old) }
+        ensures others { OthersStay L.neighbors (L.table links.old) (L.table links.new) (self.now ∷ []) }
+        ensures frame { (s : List Place) → Shows L.neighbors (L.table links.old) self.now s
+            → KeepsBeside (L.table links.old) (L.table links.new) (self.now ∷ s) }
+    {
+        let back = self.last(&*links)?;
+        let prev = prev_of(&*links, back);
+        unlink(links, prev, back, self.head);
+        Some(UnsafeRef::new(back))
+    }
+
+    /// Takes all objects off the ring: each member is unlinked, and the head is linked to itself. O(n), and no memory.
+    pub fn clear<L: LinkedListOps>(&self, links: &mut L)
+        requires shown { InRing L.neighbors (L.table links.old) self.now }
+
+        ensures empty { Shows L.neighbors (L.table links.new) self.now [] }
+        ensures released { (s : List Place) → Shows L.neighbors (L.table links.old) self.now s → L.Does links.old links.new (releases_each s) }
+        ensures others { OthersStay L.neighbors (L.table links.old) (L.table links.new) (self.now ∷ []) }
+        ensures frame { (s : List Place) → Shows L.neighbors (L.table links.old) self.now s
+            → KeepsBeside (L.table links.old) (L.table links.new) (self.now ∷ s) }
+    {
+        while self.pop_front(links).is_some() {}
+    }
+}
