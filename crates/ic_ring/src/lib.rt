@@ -6,11 +6,13 @@
 //!
 //! ```text
 //! let mut links = linked_list::LinkOps::new(rt.alloc());
-//! links.cover(3)?;                            // two objects, and a head
-//! let ready = Ring::open(&mut links, head);   // the head is linked to itself
+//! links.cover(3)?;            // two objects, and a head
+//! let Some(ready) = Ring::open(&mut links, head) else {
+//!     return Err(..);         // the head is linked already
+//! };
 //! ready.push_back(&mut links, first)?;
 //! ready.push_back(&mut links, second)?;
-//! remove(&mut links, &first);                 // from whichever ring it is in
+//! remove(&mut links, &first); // from whichever ring it is in
 //! ```
 #![tactic(auto)]
 
