@@ -1,0 +1,50 @@
+-- For callers: what is held after a call.
+use Rattle.std.proofs.Common.{◌↔◌, ℕ, Bool, true, false, IsTrue, Option, Some, List, [], ◌∷◌, ◌++◌, refl, subst}
+use Rattle.std.specs.Bool.{OnFalse, ⊤}
+use Rattle.ic_unsafe_ref.specs.declared.place.Place.{Place}
+use Rattle.ic_unsafe_ref.specs.Objects.{Objects}
+use Rattle.ic_link_ops.specs.Sequences.{IsMember}
+use Rattle.ic_link_ops.specs.Tables.{Table}
+use Rattle.ic_link_ops.specs.SinglyLinkedList.{Successor}
+use Rattle.ic_link_ops.proofs.SequenceLemmas.{member_split}
+use Rattle.ic_hash_table.specs.declared.table.HashTable.{HashTable}
+use Rattle.ic_hash_table.specs.HashTable.{BelongsIn, Holds, HoldsSome, IsNew, IsShown}
+use Rattle.ic_hash_table.specs.Searches.{Finds}
+use Rattle.ic_hash_table.proofs.Chains.{chains_nothing, chains_weakened}
+
+-- EVERY TABLE OF LINKS holds nothing for a new hash table
+pub new_held : {E A B V : Type 0} (successor : E → Successor) (hash : A → V → ℕ) (fronts : B → List (Option Place)) (t : Table E) (table : HashTable A B) (objects : Objects V)
+    → IsNew fronts table → HoldsSome successor hash fronts t table objects
+new_held successor hash fronts t table objects new = (
+  [],
+  record {
+    distinct = tt;
+    chained = chains_nothing successor (BelongsIn table.slots (hash table.adapter) objects) t 0 (fronts table.buckets) new.none;
+    placed = tt;
+    counted = new.counted;
+    well_formed = new.well_formed;
+    enough = new.enough;
+  },
+)
+
+-- what is held is shown, as `clear` asks
+pub held_shown : {E A B V : Type 0} {successor : E → Successor} {hash : A → V → ℕ} {fronts : B → List (Option Place)} {t : Table E} {table : HashTable A B} {objects : Objects V} {s : List Place}
+    → Holds successor hash fronts t table objects s → IsShown successor fronts t table s
+held_shown {successor = successor} {hash = hash} {fronts = fronts} {t = t} {table = table} {objects = objects} {s = s} held = record {
+  distinct = held.distinct;
+  chained = chains_weakened successor (BelongsIn table.slots (hash table.adapter) objects) (λ i p. ⊤) (λ i p b. tt) t 0 (fronts table.buckets) s held.chained;
+  well_formed = held.well_formed;
+  enough = held.enough;
+}
+
+-- AFTER `remove`, whatever it answered: P is held before, Q after
+pub removed_some : (P Q : List Place → Type 0) {Same : Type 0} (answer : Bool) {p : Place} (s : List Place) → P s → (IsTrue answer ↔ IsMember p s)
+    → ((front back : List Place) → P (front ++ p ∷ back) → Q (front ++ back)) → OnFalse answer Same → (Same → Q s) → (u : List Place) × Q u
+removed_some P Q true {p} s held iff removed nothing same =
+    let m = member_split p s (iff.0 refl) in (m.0 ++ m.1, removed m.0 m.1 (subst P m.2 held))
+removed_some P Q false s held iff removed nothing same = (s, same nothing)
+
+-- and after `remove_by`, where it took a member out
+pub taken_some : (P Q : List Place → Type 0) {is : Place → Bool} {p : Place} (s : List Place) → P s → Finds is s (Some p) → ((front back : List Place) → P (front ++ p ∷ back) → Q (front ++ back))
+    → (u : List Place) × Q u
+taken_some P Q {p = p} s held found removed = (found.0 ++ found.1, removed found.0 found.1 (subst P found.2 held))

@@ -1,0 +1,138 @@
+-- A chain that is parted in two, one member after the other.
+use Rattle.std.proofs.Common.{◌≡◌, ◌≢◌, Bool, true, false, Option, Some, None, List, [], ◌∷◌, ◌++◌, drop, length, refl, sym, ap, ◌∙◌, subst, arith, append_assoc, append-nil}
+use Rattle.std.specs.List.{AllByRecursion}
+use Rattle.ic_unsafe_ref.specs.declared.place.Place.{Place}
+use Rattle.ic_link_ops.specs.Chains.{IsChain}
+use Rattle.ic_link_ops.specs.Sequences.{IsAbsent, IsMember, IsDistinct}
+use Rattle.ic_link_ops.specs.Tables.{Table}
+use Rattle.ic_link_ops.specs.SinglyLinkedList.{Successor, IsFollowed}
+use Rattle.ic_link_ops.proofs.Each.{all_back}
+use Rattle.ic_link_ops.proofs.SequenceLemmas.{absent_left, absent_right, absent_with, absent_without, distinct_insert, first_is, member_split}
+use Rattle.ic_hash_table.specs.Growth.{IsParted}
+use Rattle.ic_hash_table.specs.Chains.{ShowsFrom}
+use Rattle.ic_link_ops.proofs.ShownLists.{shows_beside}
+
+-- what holds of each member holds of one, and of all that are among them
+pub of_member : (P : Place → Type 0) (s : List Place) (q : Place) → AllByRecursion P s → IsMember q s → P q
+of_member P s q all member =
+    let m = member_split q s member in
+    (all_back P m.0 (q ∷ m.1) (subst (AllByRecursion P) m.2 all)).0
+
+pub of_members : (P : Place → Type 0) (s u : List Place) → ((q : Place) → IsAbsent q s → IsAbsent q u) → AllByRecursion P s → AllByRecursion P u
+of_members P s [] within all = tt
+of_members P s (x ∷ u) within all = (of_member P s x all (λ out. (within x out).0 refl), of_members P s u (λ q out. (within q out).1) all)
+
+module _ {E : Type 0} {successor : E → Successor} where
+  -- without its first, a chain is shown from what stands behind that
+  pub shows_rest : {t : Table E} {front next : Option Place} (p : Place) (s : List Place) → ShowsFrom successor t front (p ∷ s) → next ≡ (successor (t.entry p)).next → ShowsFrom successor t next s
+  shows_rest {t} p s shown is = record { distinct = shown.distinct.1; chain = whatever s shown.chain.1; head = is ∙ shown.chain.0.next; tail = refl } where
+    whatever : (s : List Place) → IsChain (IsFollowed successor) t.entry (Some p) s None → IsChain (IsFollowed successor) t.entry None s None
+    whatever [] c = tt
+    whatever (x ∷ s) c = (record { linked = c.0.linked; next = c.0.next }, c.1)
+
+  nothing_shown : (t : Table E) → ShowsFrom successor t None []
+  nothing_shown t = record { distinct = tt; chain = tt; head = refl; tail = refl }
+
+  module _ {is : Place → Bool} where
+    -- at first all are left
+    pub part_none : {t : Table E} {front : Option Place} {chain : List Place} → ShowsFrom successor t front chain → IsParted successor is t chain front None None
+    part_none {t} {front} {chain} shown = record {
+      left = chain;
+      staying = [];
+      moving = [];
+      shows_left = shown;
+      shows_staying = nothing_shown t;
+      shows_moving = nothing_shown t;
+      distinct = rw (append-nil chain) shown.distinct;
+      stay = tt;
+      move = tt;
+      within = λ q out. rw (append-nil chain) out;
+      all = λ q out. rw (append-nil chain) at out;
+      count = omega arith;
+    }
+
+    module _ {old : Table E} {chain : List Place} {stays moves : Option Place} {p : Place} (k : IsParted successor is old chain (Some p) stays moves) where
+      -- the first that is left
+      pub left_is : k.left ≡ p ∷ drop 1 k.left
+      left_is = first_is k.left k.shows_left.head
+
+      left_distinct : IsDistinct (p ∷ drop 1 k.left ++ (k.staying ++ k.moving))
+      left_distinct = subst (λ l. IsDistinct (l ++ (k.staying ++ k.moving))) left_is k.distinct
+
+      left_shown : ShowsFrom successor old (Some p) (p ∷ drop 1 k.left)
+      left_shown = subst (ShowsFrom successor old (Some p)) left_is k.shows_left
+
+      left_all : (q : Place) → q ≢ p → IsAbsent q (drop 1 k.left ++ (k.staying ++ k.moving)) → IsAbsent q chain
+      left_all q n out = k.all q (subst (λ l. IsAbsent q (l ++ (k.staying ++ k.moving))) (sym left_is) (n, out))
+
+      left_within : (q : Place) → IsAbsent q chain → IsAbsent q (p ∷ drop 1 k.left ++ (k.staying ++ k.moving))
+      left_within q out = subst (λ l. IsAbsent q (l ++ (k.staying ++ k.moving))) left_is (k.within q out)
+
+      pub left_linked : (successor (old.entry p)).linked ≡ true
+      left_linked = left_shown.chain.0.linked
+
+      -- it is a member of the chain
+      pub left_member : IsMember p chain
+      left_member out = (left_within p out).0 refl
+
+      module _ {new : Table E} {next : Option Place} (others : (q : Place) → q ≢ p → new.entry q ≡ old.entry q) (is_next : next ≡ (successor (old.entry p)).next) where
+        -- it stays
+        pub part_stays : {stays' : Option Place} → is p ≡ false → ((s : List Place) → ShowsFrom successor old stays s → IsAbsent p s → ShowsFrom successor new stays' (p ∷ s))
+            → IsParted successor is new chain next stays' moves
+        part_stays fails put =
+            let l = drop 1 k.left in
+            let out : IsAbsent p (l ++ (k.staying ++ k.moving)) = left_distinct.0 in
+            let out_parts : IsAbsent p (k.staying ++ k.moving) = absent_right p l (k.staying ++ k.moving) out in
+            record {
+              left = l;
+              staying = p ∷ k.staying;
+              moving = k.moving;
+              shows_left = shows_beside (shows_rest p l left_shown is_next) (absent_left p l (k.staying ++ k.moving) out) others;
+              shows_staying = put k.staying k.shows_staying (absent_left p k.staying k.moving out_parts);
+              shows_moving = shows_beside k.shows_moving (absent_right p k.staying k.moving out_parts) others;
+              distinct = distinct_insert l (k.staying ++ k.moving) p left_distinct.1 out;
+              stay = (fails, k.stay);
+              move = k.move;
+              within = λ q absent. let a = left_within q absent in absent_with l (k.staying ++ k.moving) p q a.0 a.1;
+              all = λ q absent. left_all q (absent_right q l (p ∷ k.staying ++ k.moving) absent).0 (absent_without l (k.staying ++ k.moving) p q absent);
+              count = omega (arith, k.count, ap length left_is);
+            }
+
+        -- it moves
+        pub part_moves : {moves' : Option Place} → is p ≡ true → ((s : List Place) → ShowsFrom successor old moves s → IsAbsent p s → ShowsFrom successor new moves' (p ∷ s))
+            → IsParted successor is new chain next stays moves'
+        part_moves passes put =
+            let l = drop 1 k.left in
+            let out : IsAbsent p (l ++ (k.staying ++ k.moving)) = left_distinct.0 in
+            let out_parts : IsAbsent p (k.staying ++ k.moving) = absent_right p l (k.staying ++ k.moving) out in
+            let with : (l ++ k.staying) ++ p ∷ k.moving ≡ l ++ (k.staying ++ p ∷ k.moving) = append_assoc l k.staying (p ∷ k.moving) in
+            let without : (l ++ k.staying) ++ k.moving ≡ l ++ (k.staying ++ k.moving) = append_assoc l k.staying k.moving in
+            record {
+              left = l;
+              staying = k.staying;
+              moving = p ∷ k.moving;
+              shows_left = shows_beside (shows_rest p l left_shown is_next) (absent_left p l (k.staying ++ k.moving) out) others;
+              shows_staying = shows_beside k.shows_staying (absent_left p k.staying k.moving out_parts) others;
+              shows_moving = put k.moving k.shows_moving (absent_right p k.staying k.moving out_parts);
+              distinct = subst IsDistinct with (distinct_insert (l ++ k.staying) k.moving p (subst IsDistinct (sym without) left_distinct.1) (subst (IsAbsent p) (sym without) out));
+              stay = k.stay;
+              move = (passes, k.move);
+              within = λ q absent. let a = left_within q absent in subst (IsAbsent q) with (absent_with (l ++ k.staying) k.moving p q a.0 (subst (IsAbsent q) (sym without) a.1));
+              all = λ q absent.
+                  let a = subst (IsAbsent q) (sym with) absent in
+                  left_all q (absent_right q (l ++ k.staying) (p ∷ k.moving) a).0 (subst (IsAbsent q) without (absent_without (l ++ k.staying) k.moving p q a));
+              count = omega (arith, k.count, ap length left_is);
+            }
+
+        -- whichever it does
+        pub part_either : {stays' moves' : Option Place} (b : Bool) → is p ≡ b
+            → (b ≡ false → (moves' ≡ moves) × ((s : List Place) → ShowsFrom successor old stays s → IsAbsent p s → ShowsFrom successor new stays' (p ∷ s)))
+            → (b ≡ true → (stays' ≡ stays) × ((s : List Place) → ShowsFrom successor old moves s → IsAbsent p s → ShowsFrom successor new moves' (p ∷ s)))
+            → (more : IsParted successor is new chain next stays' moves') × (k.left ≡ p ∷ more.left)
+        unfolding part_stays part_moves
+        part_either {stays'} {moves'} true passes stay move =
+            let m = move refl in
+            subst (λ h. (more : IsParted successor is new chain next h moves') × (k.left ≡ p ∷ more.left)) (sym m.0) (part_moves passes m.1, left_is)
+        part_either {stays'} {moves'} false fails stay move =
+            let m = stay refl in
+            subst (λ h. (more : IsParted successor is new chain next stays' h) × (k.left ≡ p ∷ more.left)) (sym m.0) (part_stays fails m.1, left_is)

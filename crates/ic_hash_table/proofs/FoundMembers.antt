@@ -1,0 +1,122 @@
+-- What a search of one chain tells of all members.
+use Rattle.std.proofs.Common.{◌≡◌, ◌≢◌, ℕ, ◌<◌, Bool, true, false, Option, Some, None, IsSome, is_some, drop, eqb-true, eq-eqb, true≢false, List, [], ◌∷◌, ◌++◌, slice_index_or, refl, sym, ap, ◌∙◌, subst, arith, append_assoc}
+use Rattle.std.specs.List.{AllByRecursion}
+use Rattle.ic_unsafe_ref.specs.declared.place.Place.{Place}
+use Rattle.ic_unsafe_ref.specs.Objects.{Objects, object_at}
+use Rattle.ic_unsafe_ref.specs.Places.{same_word}
+use Rattle.ic_link_ops.specs.Sequences.{IsAbsent, last}
+use Rattle.ic_link_ops.specs.Tables.{Table}
+use Rattle.ic_link_ops.specs.PlacedObjects.{ShowsPlaced}
+use Rattle.ic_link_ops.specs.SinglyLinkedList.{Successor}
+use Rattle.ic_link_ops.proofs.Each.{all_both, all_front, all_back, all_map}
+use Rattle.ic_link_ops.proofs.SequenceLemmas.{nothing_first, first_is}
+use Rattle.ic_hash_table.specs.declared.slots.Slots.{Slots}
+use Rattle.ic_hash_table.specs.declared.table.HashTable.{HashTable}
+use Rattle.ic_hash_table.specs.Slots.{slot_of}
+use Rattle.ic_hash_table.specs.HashTable.{BelongsIn, Holds}
+use Rattle.ic_hash_table.specs.Searches.{passes, matches, is_place, Finds, StopsAt}
+use Rattle.ic_hash_table.proofs.Chains.{Elsewhere, Between, chain_at}
+use Rattle.ic_hash_table.specs.Chains.{ShowsFrom}
+
+module _ {E A B V : Type 0} {successor : E → Successor} {hash : A → V → ℕ} {fronts : B → List (Option Place)} {t : Table E} {table : HashTable A B} {objects : Objects V} {s : List Place}
+    (held : Holds successor hash fronts t table objects s) (k : ℕ) (used : k < table.slots.used) where
+  -- the chain of a slot
+  pub chain_of : Between successor (BelongsIn table.slots (hash table.adapter) objects) t 0 k k (fronts table.buckets) s
+  chain_of = chain_at successor (BelongsIn table.slots (hash table.adapter) objects) t 0 k k (fronts table.buckets) s (omega arith) (omega (arith, used, held.enough)) held.chained
+
+  -- its members are placed
+  pub chain_placed : ShowsPlaced (ShowsFrom successor t (slice_index_or (fronts table.buckets) k None)) objects
+  chain_placed =
+      let c = chain_of in record {
+        members = c.chain;
+        shown = c.shown;
+        placed = all_front _ c.chain c.behind (all_back _ c.ahead (c.chain ++ c.behind) (subst (AllByRecursion _) c.parts held.placed));
+      }
+
+-- where equal values have their number in this chain, none elsewhere equals
+module _ {V : Type 0} (slots : Slots) (hash : V → ℕ) (objects : Objects V) {k : ℕ} {equal : V → Bool} (alike : (v : V) → equal v ≡ true → slot_of slots (hash v) ≡ k) where
+  not_here : (o : Option V) → ((v : V) → o ≡ Some v → slot_of slots (hash v) ≢ k) → passes equal o ≡ false
+  not_here None other = refl
+  not_here (Some v) other = by (equal v) refl where
+    by : (b : Bool) → equal v ≡ b → equal v ≡ false
+    by true e = absurd (other v refl (alike v e))
+    by false e = e
+
+  pub none_elsewhere : (p : Place) → Elsewhere (BelongsIn slots hash objects) k p → matches equal objects p ≡ false
+  none_elsewhere p (j, differs, belongs) = not_here (object_at objects p) (λ v there e. differs (sym (belongs v there) ∙ e))
+
+-- THE WALK ALONG ITS CHAIN FINDS IT, among all members
+pub finds : {E : Type 0} {successor : E → Successor} {Belongs : ℕ → Place → Type 0} {t : Table E} {k : ℕ} {fronts : List (Option Place)} {s : List Place} {is : Place → Bool}
+    → (c : Between successor Belongs t 0 k k fronts s) → ((p : Place) → Elsewhere Belongs k p → is p ≡ false)
+    → {before : Option Place} (at : Option Place) → StopsAt is c.chain before at → Finds is s at
+finds {is = is} c elsewhere None stop =
+    let P : Place → Type 0 = λ p. is p ≡ false in
+    let chain : AllByRecursion P c.chain =
+    subst (AllByRecursion P) stop.whole
+    (all_both P stop.gap.front stop.gap.back stop.passed (subst (AllByRecursion P) (sym (nothing_first stop.gap.back stop.here)) tt)) in
+    subst (AllByRecursion P) (sym c.parts)
+    (all_both P c.ahead (c.chain ++ c.behind) (all_map elsewhere c.ahead c.ahead_others) (all_both P c.chain c.behind chain (all_map elsewhere c.behind c.behind_others)))
+finds {is = is} c elsewhere (Some p) stop =
+    let P : Place → Type 0 = λ q. is q ≡ false in
+    let f = stop.gap.front in
+    let rest = drop 1 stop.gap.back in
+    let chain : c.chain ≡ f ++ p ∷ rest = sym stop.whole ∙ ap (λ l. f ++ l) (first_is stop.gap.back stop.here) in (
+      c.ahead ++ f,
+      rest ++ c.behind,
+      c.parts ∙ ap (λ l. c.ahead ++ (l ++ c.behind)) chain ∙ ap (λ l. c.ahead ++ l) (append_assoc f (p ∷ rest) c.behind) ∙ sym (append_assoc c.ahead f (p ∷ rest ++ c.behind)),
+      all_both P c.ahead f (all_map elsewhere c.ahead c.ahead_others) stop.passed,
+      stop.stops,
+    )
+
+-- where it stopped at a member, that stands behind the one before
+pub stops_at : {E : Type 0} {successor : E → Successor} {t : Table E} {front : Option Place} {chain : List Place} {is : Place → Bool} {before : Option Place} {p : Place} → StopsAt is chain before (Some p)
+    → ShowsFrom successor t front chain → (ahead back : List Place) × ShowsFrom successor t front (ahead ++ p ∷ back) × (before ≡ last ahead)
+stops_at {successor = successor} {t = t} {front = front} {p = p} stop shown =
+    let whole = sym stop.whole ∙ ap (λ l. stop.gap.front ++ l) (first_is stop.gap.back stop.here) in
+    (stop.gap.front, drop 1 stop.gap.back, subst (ShowsFrom successor t front) whole shown, stop.after)
+
+-- the place that is searched by itself
+pub same_if_place : (p q : Place) → is_place p q ≡ true → q ≡ p
+same_if_place p q e = same_word q p (eqb-true _ _ e)
+
+pub not_place : (p q : Place) → p ≢ q → is_place p q ≡ false
+not_place p q n = by (is_place p q) refl where
+  by : (b : Bool) → is_place p q ≡ b → is_place p q ≡ false
+  by true e = absurd (n (sym (same_if_place p q e)))
+  by false e = e
+
+pub place_absent : (p : Place) (s : List Place) → AllByRecursion (λ q. is_place p q ≡ false) s → IsAbsent p s
+place_absent p [] h = tt
+place_absent p (x ∷ s) h = ((λ e. true≢false (sym (subst (λ y. is_place p y ≡ true) e (eq-eqb p.word p.word refl)) ∙ h.0)), place_absent p s h.1)
+
+-- a place stands nowhere but in its own chain
+pub place_elsewhere : {V : Type 0} (slots : Slots) (hash : V → ℕ) (objects : Objects V) (k : ℕ) (p : Place) → IsSome (object_at objects p) → BelongsIn slots hash objects k p
+    → (q : Place) → Elsewhere (BelongsIn slots hash objects) k q → is_place p q ≡ false
+place_elsewhere slots hash objects k p placed here q (j, differs, belongs) = not_place p q (λ e. by (object_at objects p) refl placed e) where
+  by : (o : Option _) → object_at objects p ≡ o → IsSome o → p ≡ q → ⊥
+  by None there some e = absurd (true≢false (sym some))
+  by (Some v) there some e = differs (sym (belongs v (ap (object_at objects) (sym e) ∙ there)) ∙ here v there)
+
+-- which of the two it is
+pub none_of : {X : Type 0} (o : Option X) → is_some o ≡ false → o ≡ None
+none_of None e = refl
+none_of (Some x) e = absurd (true≢false e)
+
+pub some_of : {X : Type 0} (o : Option X) → is_some o ≡ true → (x : X) × (o ≡ Some x)
+some_of None e = absurd (true≢false (sym e))
+some_of (Some x) e = (x, refl)
+
+-- THE WALK TO A PLACE: where it comes to the end, the place is no member
+pub nowhere : {E : Type 0} {successor : E → Successor} {Belongs : ℕ → Place → Type 0} {t : Table E} {k : ℕ} {fronts : List (Option Place)} {s : List Place} (p : Place)
+    → (c : Between successor Belongs t 0 k k fronts s) → ((q : Place) → Elsewhere Belongs k q → is_place p q ≡ false)
+    → {before : Option Place} (at : Option Place) → StopsAt (is_place p) c.chain before at → is_some at ≡ false → IsAbsent p s
+nowhere {s = s} p c elsewhere at stop none =
+    place_absent p s (finds c elsewhere None (subst (StopsAt (is_place p) c.chain _) (none_of at none) stop))
+
+-- and where it stops, the place stands there
+pub stops_place : {E : Type 0} {successor : E → Successor} {t : Table E} {front : Option Place} {chain : List Place} {before : Option Place} {p : Place} (at : Option Place) → StopsAt (is_place p) chain before at
+    → is_some at ≡ true → ShowsFrom successor t front chain → (ahead back : List Place) × ShowsFrom successor t front (ahead ++ p ∷ back) × (before ≡ last ahead)
+stops_place {successor = successor} {t = t} {front = front} {before = before} {p = p} at stop some shown =
+    let q = some_of at some in
+    let stop' = subst (StopsAt (is_place p) _ before) q.1 stop in
+    subst (λ (x : Place). (ahead back : List Place) × ShowsFrom successor t front (ahead ++ x ∷ back) × (before ≡ last ahead)) (same_if_place p q.0 stop'.stops) (stops_at stop' shown)

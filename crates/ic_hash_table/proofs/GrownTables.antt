@@ -1,0 +1,196 @@
+-- A hash table of which one chain was parted in two.
+use Rattle.std.proofs.Common.{◌≡◌, ◌≢◌, ℕ, ◌<◌, Bool, true, false, eqb-true, eq-eqb, true≢false, Option, Some, None, IsSome, List, [], ◌∷◌, ◌++◌, length, length-append, slice_index_or, slice_set, refl, sym, ap, ◌∙◌, subst, arith}
+use Rattle.std.specs.List.{AllByRecursion}
+use Rattle.std.proofs.lemmas.List.{get_or-set_other, length-set}
+use Rattle.ic_unsafe_ref.specs.declared.place.Place.{Place}
+use Rattle.ic_unsafe_ref.specs.Objects.{Objects, object_at}
+use Rattle.ic_link_ops.specs.Sequences.{IsAbsent, IsDistinct, IsDisjoint, first}
+use Rattle.ic_link_ops.specs.Tables.{Table, KeepsBeside}
+use Rattle.ic_link_ops.specs.SinglyLinkedList.{Successor}
+use Rattle.ic_link_ops.proofs.Each.{all_front, all_back, all_map}
+use Rattle.ic_link_ops.proofs.SequenceLemmas.{absent_both, absent_left, absent_right, absent_swap, disjoint_both, disjoint_left, disjoint_right, disjoint_sym, distinct_disjoint, distinct_left, distinct_right, distinct_splice, distinct_remove, disjoint_nothing, nothing_first}
+use Rattle.ic_hash_table.specs.declared.slots.Slots.{Slots}
+use Rattle.ic_hash_table.specs.declared.table.HashTable.{HashTable}
+use Rattle.ic_hash_table.specs.Slots.{slot_of, split_of, IsWellFormed, IsSplit}
+use Rattle.ic_hash_table.specs.Chains.{AreChained}
+use Rattle.ic_hash_table.specs.HashTable.{BelongsIn, Holds}
+use Rattle.ic_hash_table.specs.Searches.{matches, passes}
+use Rattle.ic_hash_table.specs.Growth.{belongs_at, IsParted, HoldsSameMembers}
+use Rattle.ic_hash_table.proofs.Chains.{Between, chain_at}
+use Rattle.ic_hash_table.proofs.ChainParts.{of_members}
+use Rattle.ic_hash_table.proofs.SlotLemmas.{slot_used}
+
+-- a test of the object at a place, where one stands
+tested : {V : Type 0} (equal : V → Bool) (objects : Objects V) (p : Place) (v : V) → object_at objects p ≡ Some v → (b : Bool) → matches equal objects p ≡ b → equal v ≡ b
+tested equal objects p v there b is = sym (ap (λ o. passes equal o) there) ∙ is
+
+-- without a part, what is distinct is so
+without_middle : (a m b : List Place) → IsDistinct (a ++ (m ++ b)) → IsDistinct (a ++ b)
+without_middle a [] b d = d
+without_middle a (x ∷ m) b d = without_middle a m b (distinct_remove a (m ++ b) x d)
+
+-- no member of the middle stands beside it
+middle_apart : (a m b : List Place) → IsDistinct (a ++ (m ++ b)) → IsDisjoint m (a ++ b)
+middle_apart a m b d =
+    disjoint_sym (a ++ b) m (disjoint_both a b m (disjoint_left a m b (distinct_disjoint a (m ++ b) d)) (disjoint_sym m b (distinct_disjoint m b (distinct_right a (m ++ b) d))))
+
+-- another middle of members of the old one
+within_middle : (a m b u : List Place) → IsDistinct (a ++ (m ++ b)) → IsDistinct u → ((q : Place) → IsAbsent q m → IsAbsent q u) → IsDistinct (a ++ (u ++ b))
+within_middle a m b u d e within =
+    distinct_splice a u b (without_middle a m b d) e (disjoint_sym (a ++ b) u (absent_swap (a ++ b) m (disjoint_sym m (a ++ b) (middle_apart a m b d)) u within))
+
+module _ {V : Type 0} (old new : Slots) (hash : V → ℕ) (objects : Objects V) (split : IsSplit old new) where
+  -- what belongs in another chain than that which is parted belongs there still
+  others_belong : (j : ℕ) (p : Place) → j ≢ split_of new old.used → BelongsIn old hash objects j p → BelongsIn new hash objects j p
+  others_belong j p other belongs v there = split.others (hash v) (λ e. other (sym (belongs v there) ∙ split.from (hash v) e)) ∙ belongs v there
+
+  -- what belonged in that one stays there or moves
+  stays_belong : (p : Place) → matches (belongs_at new hash old.used) objects p ≡ false → BelongsIn old hash objects (split_of new old.used) p → BelongsIn new hash objects (split_of new old.used) p
+  stays_belong p is belongs v there =
+      let t = tested (belongs_at new hash old.used) objects p v there false is in
+      split.others (hash v) (λ e. true≢false (sym (eq-eqb (slot_of new (hash v)) old.used e) ∙ t)) ∙ belongs v there
+
+  moves_belong : (p : Place) → matches (belongs_at new hash old.used) objects p ≡ true → BelongsIn new hash objects old.used p
+  moves_belong p is v there = eqb-true (slot_of new (hash v)) old.used (tested (belongs_at new hash old.used) objects p v there true is)
+
+-- two facts of each
+all_two : {P Q R : Place → Type 0} → ((p : Place) → P p → Q p → R p) → (s : List Place) → AllByRecursion P s → AllByRecursion Q s → AllByRecursion R s
+all_two f [] h k = tt
+all_two f (x ∷ s) h k = (f x h.0 k.0, all_two f s h.1 k.1)
+
+module _ {E A B V : Type 0} (successor : E → Successor) (hash : A → V → ℕ) (fronts : B → List (Option Place)) where
+  -- what a chain beyond those in use has
+  beyond : {t : Table E} {table : HashTable A B} {objects : Objects V} {s : List Place} → Holds successor hash fronts t table objects s → table.slots.used < length (fronts table.buckets)
+      → slice_index_or (fronts table.buckets) table.slots.used None ≡ None
+  beyond {t} {table} {objects} {s} held room =
+      let c = chain_at successor (BelongsIn table.slots (hash table.adapter) objects) t 0 table.slots.used table.slots.used (fronts table.buckets) s (omega arith) room held.chained in
+      let placed : AllByRecursion (λ p. IsSome (object_at objects p)) c.chain =
+      all_front (λ p. IsSome (object_at objects p)) c.chain c.behind (all_back (λ p. IsSome (object_at objects p)) c.ahead (c.chain ++ c.behind) (subst (AllByRecursion (λ p. IsSome (object_at objects p))) c.parts held.placed)) in
+      c.shown.head ∙ ap first (nobody c.chain placed c.own)
+    where
+      never : (p : Place) (o : Option V) → object_at objects p ≡ o → IsSome o → BelongsIn table.slots (hash table.adapter) objects table.slots.used p → ⊥
+      never p None there some belongs = true≢false (sym some)
+      never p (Some v) there some belongs = omega (arith, belongs v there, slot_used table.slots.used table.slots.mask (omega (arith, held.well_formed.half)) (hash table.adapter v))
+
+      nobody : (chain : List Place) → AllByRecursion (λ p. IsSome (object_at objects p)) chain → AllByRecursion (BelongsIn table.slots (hash table.adapter) objects table.slots.used) chain → chain ≡ []
+      nobody [] placed own = refl
+      nobody (x ∷ chain) placed own = absurd (never x (object_at objects x) refl placed.0 own.0)
+
+  -- ONE CHAIN MORE
+  module _ {old : Table E} {table : HashTable A B} {objects : Objects V} (slots : Slots) (split : IsSplit table.slots slots)
+      (room : table.slots.used < length (fronts table.buckets)) {s : List Place} (held : Holds successor hash fronts old table objects s) where
+    -- the chain that is parted
+    pub parted_chain : Between successor (BelongsIn table.slots (hash table.adapter) objects) old 0 (split_of slots table.slots.used) (split_of slots table.slots.used) (fronts table.buckets) s
+    parted_chain = chain_at successor (BelongsIn table.slots (hash table.adapter) objects) old 0 (split_of slots table.slots.used) (split_of slots table.slots.used) (fronts table.buckets) s (omega arith) (omega (arith, split.apart, room)) held.chained
+
+    module _ {new : Table E} (middle buckets : B) {stays moves : Option Place} (well_formed : IsWellFormed slots)
+        (first_set : fronts middle ≡ slice_set (fronts table.buckets) (split_of slots table.slots.used) stays) (second_set : fronts buckets ≡ slice_set (fronts middle) table.slots.used moves)
+        (part : IsParted successor (matches (belongs_at slots (hash table.adapter) table.slots.used) objects) new parted_chain.chain None stays moves) (frame : KeepsBeside old new parted_chain.chain) where
+      no_left : part.left ≡ []
+      no_left = nothing_first part.left part.shows_left.head
+
+      distinct_parts : IsDistinct (part.staying ++ part.moving)
+      distinct_parts = subst (λ l. IsDistinct (l ++ (part.staying ++ part.moving))) no_left part.distinct
+
+      within_parts : (q : Place) → IsAbsent q parted_chain.chain → IsAbsent q (part.staying ++ part.moving)
+      within_parts q out = subst (λ l. IsAbsent q (l ++ (part.staying ++ part.moving))) no_left (part.within q out)
+
+      all_parts : (q : Place) → IsAbsent q (part.staying ++ part.moving) → IsAbsent q parted_chain.chain
+      all_parts q out = part.all q (subst (λ l. IsAbsent q (l ++ (part.staying ++ part.moving))) (sym no_left) out)
+
+      whole : IsDistinct (parted_chain.ahead ++ (parted_chain.chain ++ parted_chain.behind))
+      whole = subst IsDistinct parted_chain.parts held.distinct
+
+      -- with those alone that stay
+      chained_stays : AreChained successor (BelongsIn slots (hash table.adapter) objects) new 0 (slice_set (fronts table.buckets) (split_of slots table.slots.used) stays) (parted_chain.ahead ++ (part.staying ++ parted_chain.behind))
+      chained_stays =
+          let c = parted_chain in
+          let own = of_members (BelongsIn table.slots (hash table.adapter) objects (split_of slots table.slots.used)) c.chain part.staying (λ q out. absent_left q part.staying part.moving (within_parts q out)) c.own in
+          c.put (BelongsIn slots (hash table.adapter) objects) (others_belong table.slots slots (hash table.adapter) objects split) stays part.staying c.chain part.shows_staying
+          (all_two (stays_belong table.slots slots (hash table.adapter) objects split) part.staying part.stay own)
+          (disjoint_left c.ahead c.chain c.behind (distinct_disjoint c.ahead (c.chain ++ c.behind) whole)) (disjoint_sym c.chain c.behind (distinct_disjoint c.chain c.behind (distinct_right c.ahead (c.chain ++ c.behind) whole))) frame.others
+
+      new_chain : Between successor (BelongsIn slots (hash table.adapter) objects) new 0 table.slots.used table.slots.used (slice_set (fronts table.buckets) (split_of slots table.slots.used) stays) (parted_chain.ahead ++ (part.staying ++ parted_chain.behind))
+      new_chain =
+          chain_at successor (BelongsIn slots (hash table.adapter) objects) new 0 table.slots.used table.slots.used (slice_set (fronts table.buckets) (split_of slots table.slots.used) stays) (parted_chain.ahead ++ (part.staying ++ parted_chain.behind))
+          (omega arith) (omega (arith, room, length-set (fronts table.buckets) (split_of slots table.slots.used) stays)) chained_stays
+
+      none_yet : new_chain.chain ≡ []
+      none_yet =
+          nothing_first new_chain.chain
+          (sym (get_or-set_other (fronts table.buckets) (split_of slots table.slots.used) table.slots.used stays None (λ e. absurd (omega (arith, split.apart, e))) ∙ beyond held room) ∙ new_chain.shown.head)
+
+      new_parts : parted_chain.ahead ++ (part.staying ++ parted_chain.behind) ≡ new_chain.ahead ++ new_chain.behind
+      new_parts = subst (λ m. parted_chain.ahead ++ (part.staying ++ parted_chain.behind) ≡ new_chain.ahead ++ (m ++ new_chain.behind)) none_yet new_chain.parts
+
+      chained_moves : AreChained successor (BelongsIn slots (hash table.adapter) objects) new 0 (fronts buckets) (new_chain.ahead ++ (part.moving ++ new_chain.behind))
+      chained_moves =
+          rw (second_set, first_set)
+          (new_chain.put (BelongsIn slots (hash table.adapter) objects) (λ j p n b. b) moves part.moving [] part.shows_moving
+          (all_map (moves_belong table.slots slots (hash table.adapter) objects split) part.moving part.move) (disjoint_nothing new_chain.ahead) (disjoint_nothing new_chain.behind) (λ q out. refl))
+
+      moving_apart : IsDisjoint part.moving (parted_chain.ahead ++ (part.staying ++ parted_chain.behind))
+      moving_apart =
+          let c = parted_chain in
+          let beside = absent_swap (c.ahead ++ c.behind) c.chain (disjoint_sym c.chain (c.ahead ++ c.behind) (middle_apart c.ahead c.chain c.behind whole)) part.moving (λ q out. absent_right q part.staying part.moving (within_parts q out)) in
+          let out = disjoint_sym (c.ahead ++ c.behind) part.moving beside in
+          disjoint_sym (c.ahead ++ (part.staying ++ c.behind)) part.moving
+          (disjoint_both c.ahead (part.staying ++ c.behind) part.moving (disjoint_sym part.moving c.ahead (disjoint_left part.moving c.ahead c.behind out))
+          (disjoint_both part.staying c.behind part.moving (distinct_disjoint part.staying part.moving distinct_parts) (disjoint_sym part.moving c.behind (disjoint_right part.moving c.ahead c.behind out))))
+
+      distinct_again : IsDistinct (new_chain.ahead ++ (part.moving ++ new_chain.behind))
+      distinct_again =
+          let c = parted_chain in
+          let stays_distinct = within_middle c.ahead c.chain c.behind part.staying whole (distinct_left part.staying part.moving distinct_parts) (λ q out. absent_left q part.staying part.moving (within_parts q out)) in
+          distinct_splice new_chain.ahead part.moving new_chain.behind (subst IsDistinct new_parts stays_distinct) (distinct_right part.staying part.moving distinct_parts) (subst (IsDisjoint part.moving) new_parts moving_apart)
+
+      within_again : (q : Place) → IsAbsent q s → IsAbsent q (new_chain.ahead ++ (part.moving ++ new_chain.behind))
+      within_again q out =
+          let c = parted_chain in
+          let a = subst (IsAbsent q) c.parts out in
+          let m = within_parts q (absent_left q c.chain c.behind (absent_right q c.ahead (c.chain ++ c.behind) a)) in
+          let stay = absent_both q c.ahead (part.staying ++ c.behind) (absent_left q c.ahead (c.chain ++ c.behind) a)
+          (absent_both q part.staying c.behind (absent_left q part.staying part.moving m) (absent_right q c.chain c.behind (absent_right q c.ahead (c.chain ++ c.behind) a))) in
+          let beside = subst (IsAbsent q) new_parts stay in
+          absent_both q new_chain.ahead (part.moving ++ new_chain.behind) (absent_left q new_chain.ahead new_chain.behind beside)
+          (absent_both q part.moving new_chain.behind (absent_right q part.staying part.moving m) (absent_right q new_chain.ahead new_chain.behind beside))
+
+      all_again : (q : Place) → IsAbsent q (new_chain.ahead ++ (part.moving ++ new_chain.behind)) → IsAbsent q s
+      all_again q out =
+          let c = parted_chain in
+          let tail = absent_right q new_chain.ahead (part.moving ++ new_chain.behind) out in
+          let stay = subst (IsAbsent q) (sym new_parts) (absent_both q new_chain.ahead new_chain.behind (absent_left q new_chain.ahead (part.moving ++ new_chain.behind) out) (absent_right q part.moving new_chain.behind tail)) in
+          let rest = absent_right q c.ahead (part.staying ++ c.behind) stay in
+          let chain = all_parts q (absent_both q part.staying part.moving (absent_left q part.staying c.behind rest) (absent_left q part.moving new_chain.behind tail)) in
+          subst (IsAbsent q) (sym c.parts) (absent_both q c.ahead (c.chain ++ c.behind) (absent_left q c.ahead (part.staying ++ c.behind) stay) (absent_both q c.chain c.behind chain (absent_right q part.staying c.behind rest)))
+
+      -- IT HOLDS THE SAME MEMBERS
+      pub held_grown : HoldsSameMembers successor hash fronts new (record { adapter = table.adapter; buckets = buckets; slots = slots; len = table.len }) objects s
+      held_grown =
+          let c = parted_chain in record {
+            members = new_chain.ahead ++ (part.moving ++ new_chain.behind);
+            holds = record {
+              distinct = distinct_again;
+              chained = chained_moves;
+              placed = of_members (λ p. IsSome (object_at objects p)) s (new_chain.ahead ++ (part.moving ++ new_chain.behind)) within_again held.placed;
+              counted = omega (
+                arith,
+                held.counted,
+                ap length c.parts,
+                length-append c.ahead (c.chain ++ c.behind),
+                length-append c.chain c.behind,
+                part.count,
+                ap length no_left,
+                ap length new_parts,
+                length-append c.ahead (part.staying ++ c.behind),
+                length-append part.staying c.behind,
+                length-append new_chain.ahead new_chain.behind,
+                length-append new_chain.ahead (part.moving ++ new_chain.behind),
+                length-append part.moving new_chain.behind,
+              );
+              well_formed = well_formed;
+              enough = omega (arith, split.used, room, ap length second_set, length-set (fronts middle) table.slots.used moves, ap length first_set, length-set (fronts table.buckets) (split_of slots table.slots.used) stays);
+            };
+            within = within_again;
+            all = all_again;
+          }

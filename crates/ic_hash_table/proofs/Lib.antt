@@ -1,0 +1,12 @@
+pub mod Callers
+pub mod ChainParts
+pub mod ChainWalks
+pub mod Chains
+pub mod EmptiedChains
+pub mod FoundMembers
+pub mod GrownTables
+pub mod HeldTables
+pub mod NextMembers
+pub mod RemainingMembers
+pub mod RetainedMembers
+pub mod SlotLemmas

@@ -1,0 +1,131 @@
+-- From one member to the next, through all chains.
+use Rattle.std.proofs.Common.{◌≡◌, ℕ, zero, suc, ◌/◌, ◌<◌, ◌≤◌, Option, Some, None, is_some, IsSome, true, false, true≢false, List, [], ◌∷◌, ◌++◌, drop, length, slice_index_or, refl, sym, ap, ◌∙◌, subst, arith, append_assoc}
+use Rattle.std.specs.Bool.{⊤}
+use Rattle.std.specs.List.{AllByRecursion}
+use Rattle.std.proofs.Math.Seq.{drop-cons}
+use Rattle.ic_unsafe_ref.specs.declared.place.Place.{Place}
+use Rattle.ic_link_ops.specs.Sequences.{Cut, join, first, last, but_last, IsDistinct}
+use Rattle.ic_link_ops.specs.Tables.{Table}
+use Rattle.ic_link_ops.specs.SinglyLinkedList.{Successor, IsFollowed}
+use Rattle.ic_link_ops.proofs.SequenceLemmas.{split_last, nothing_first}
+use Rattle.ic_link_ops.specs.Sequences.{IsAbsent, IsMember}
+use Rattle.ic_unsafe_ref.specs.Objects.{Objects, object_at}
+use Rattle.ic_link_ops.proofs.Each.{all_map, all_back}
+use Rattle.ic_link_ops.proofs.ShownLists.{shows_middle}
+use Rattle.ic_hash_table.specs.declared.slots.Slots.{Slots}
+use Rattle.ic_hash_table.specs.Slots.{slot_of}
+use Rattle.ic_hash_table.proofs.SlotLemmas.{slot_used}
+use Rattle.ic_link_ops.proofs.SequenceLemmas.{absent_both, member_split, split_member, some_same}
+use Rattle.ic_hash_table.specs.declared.table.HashTable.{HashTable}
+use Rattle.ic_hash_table.specs.Chains.{AreChained, ShowsFrom}
+use Rattle.ic_hash_table.specs.HashTable.{BelongsIn, Holds}
+use Rattle.ic_hash_table.proofs.Chains.{Elsewhere, chains_weakened}
+use Rattle.ic_hash_table.proofs.FoundMembers.{chain_of, place_absent, place_elsewhere}
+use Rattle.ic_hash_table.proofs.HeldTables.{one_cut}
+
+module _ {E : Type 0} (successor : E → Successor) (t : Table E) where
+  -- the chain that is next, where there is one
+  at_next : (at : ℕ) (fronts : List (Option Place)) (s : List Place) → at < length fronts → AreChained successor (λ i p. ⊤) t at (drop at fronts) s
+      → AreChained successor (λ i p. ⊤) t at (slice_index_or fronts at None ∷ drop (suc at) fronts) s
+  at_next at fronts s within chained = subst (λ l. AreChained successor (λ i p. ⊤) t at l s) (drop-cons fronts at None within) chained
+
+  -- PAST AN EMPTY CHAIN all members are left
+  pub past_empty : (at : ℕ) (fronts : List (Option Place)) (s : List Place) → at < length fronts → slice_index_or fronts at None ≡ None → AreChained successor (λ i p. ⊤) t at (drop at fronts) s
+      → AreChained successor (λ i p. ⊤) t (suc at) (drop (suc at) fronts) s
+  past_empty at fronts s within none chained = by (at_next at fronts s within chained) where
+    by : AreChained successor (λ i p. ⊤) t at (slice_index_or fronts at None ∷ drop (suc at) fronts) s → AreChained successor (λ i p. ⊤) t (suc at) (drop (suc at) fronts) s
+    by (chain, rest, is, shown, own, more) =
+        subst (AreChained successor (λ i p. ⊤) t (suc at) (drop (suc at) fronts)) (sym (is ∙ ap (λ c. c ++ rest) (nothing_first chain (sym none ∙ shown.head)))) more
+
+  -- the first of a chain that has one is the first of all
+  pub at_first : (at : ℕ) (fronts : List (Option Place)) (s : List Place) → at < length fronts → is_some (slice_index_or fronts at None) ≡ true → AreChained successor (λ i p. ⊤) t at (drop at fronts) s
+      → slice_index_or fronts at None ≡ first s
+  at_first at fronts s within some chained = by (at_next at fronts s within chained) where
+    first_ahead : (chain rest : List Place) (f : Option Place) → f ≡ first chain → is_some f ≡ true → f ≡ first (chain ++ rest)
+    first_ahead [] rest f is some = absurd (true≢false (sym some ∙ ap is_some is))
+    first_ahead (x ∷ chain) rest f is some = is
+
+    by : AreChained successor (λ i p. ⊤) t at (slice_index_or fronts at None ∷ drop (suc at) fronts) s → slice_index_or fronts at None ≡ first s
+    by (chain, rest, is, shown, own, more) = first_ahead chain rest (slice_index_or fronts at None) shown.head some ∙ ap first (sym is)
+
+  -- beyond the last chain nothing is left
+  pub at_end : (at : ℕ) (fronts : List (Option Place)) (s : List Place) → length fronts ≤ at → AreChained successor (λ i p. ⊤) t at (drop at fronts) s → None ≡ first s
+  at_end at fronts s over chained = sym (ap first (nothing_left (subst (λ l. AreChained successor (λ i p. ⊤) t at l s) (drop_all fronts at over) chained))) where
+    drop_all : (l : List (Option Place)) (n : ℕ) → length l ≤ n → drop n l ≡ []
+    drop_all [] zero h = refl
+    drop_all [] (suc n) h = refl
+    drop_all (x ∷ l) zero h = absurd (omega (arith, h))
+    drop_all (x ∷ l) (suc n) h = drop_all l n (omega (arith, h))
+
+    nothing_left : AreChained successor (λ i p. ⊤) t at [] s → s ≡ []
+    nothing_left h = h
+
+-- all members, as the chains from the first on
+pub all_chained : {E A B V : Type 0} {successor : E → Successor} {hash : A → V → ℕ} {fronts : B → List (Option Place)} {t : Table E} {table : HashTable A B} {objects : Objects V} {s : List Place}
+    → Holds successor hash fronts t table objects s → AreChained successor (λ i p. ⊤) t 0 (drop 0 (fronts table.buckets)) s
+all_chained {successor = successor} {hash = hash} {fronts = fronts} {t = t} {table = table} {objects = objects} {s = s} held =
+    chains_weakened successor (BelongsIn table.slots (hash table.adapter) objects) (λ i p. ⊤) (λ i p b. tt) t 0 (fronts table.buckets) s held.chained
+
+-- where a place belongs, there it stands
+module _ {E A B V : Type 0} {successor : E → Successor} {hash : A → V → ℕ} {fronts : B → List (Option Place)} {t : Table E} {table : HashTable A B} {objects : Objects V} {s : List Place}
+    (held : Holds successor hash fronts t table objects s) (k : ℕ) (used : k < table.slots.used) where
+  -- the members behind one chain, as the chains from there on
+  pub behind_chained : AreChained successor (λ i p. ⊤) t (suc k) (drop (suc k) (fronts table.buckets)) (chain_of held k used).behind
+  behind_chained =
+      chains_weakened successor (BelongsIn table.slots (hash table.adapter) objects) (λ i p. ⊤) (λ i p b. tt) t (suc k) (drop (suc k) (fronts table.buckets)) (chain_of held k used).behind (chain_of held k used).more
+
+  module _ (place : Place) (placed : IsSome (object_at objects place)) (belongs : BelongsIn table.slots (hash table.adapter) objects k place) where
+    none_aside : (q : List Place) → AllByRecursion (Elsewhere (BelongsIn table.slots (hash table.adapter) objects) k) q → IsAbsent place q
+    none_aside q all = place_absent place q (all_map (place_elsewhere table.slots (hash table.adapter) objects k place placed belongs) q all)
+
+    pub in_chain : IsMember place s → IsMember place (chain_of held k used).chain
+    in_chain member out =
+        let c = chain_of held k used in
+        member (subst (IsAbsent place) (sym c.parts) (absent_both place c.ahead (c.chain ++ c.behind) (none_aside c.ahead c.ahead_others) (absent_both place c.chain c.behind out (none_aside c.behind c.behind_others))))
+
+    -- the members behind it: those of its chain, and those of the chains behind
+    pub behind_place : (front back : List Place) → s ≡ front ++ place ∷ back → (c1 c2 : List Place) × ((chain_of held k used).chain ≡ c1 ++ place ∷ c2) × (back ≡ c2 ++ (chain_of held k used).behind)
+    behind_place front back is =
+        let c = chain_of held k used in
+        let m = member_split place c.chain (in_chain (λ out. split_member front place back (subst (IsAbsent place) is out))) in
+        let whole : front ++ place ∷ back ≡ (c.ahead ++ m.0) ++ place ∷ (m.1 ++ c.behind) =
+        sym is ∙ c.parts ∙ ap (λ l. c.ahead ++ (l ++ c.behind)) m.2 ∙ ap (λ l. c.ahead ++ l) (append_assoc m.0 (place ∷ m.1) c.behind) ∙ sym (append_assoc c.ahead m.0 (place ∷ m.1 ++ c.behind)) in
+        (m.0, m.1, m.2, (one_cut front back (c.ahead ++ m.0) (m.1 ++ c.behind) place (subst IsDistinct is held.distinct) whole).1)
+
+-- a gap behind a place
+pub gap_behind : (gap : Cut) (place : Place) → Some place ≡ last gap.front → join gap ≡ but_last gap.front ++ place ∷ gap.back
+gap_behind gap place after = ap (λ l. l ++ gap.back) (split_last gap.front (sym after)) ∙ append_assoc (but_last gap.front) (place ∷ []) gap.back
+
+-- the first behind it: that of the chain, or where its chain ends that of the others
+pub first_is_chains : (next : Option Place) (c2 behind : List Place) → next ≡ first c2 → is_some next ≡ true → next ≡ first (c2 ++ behind)
+first_is_chains next [] behind is some = absurd (true≢false (sym some ∙ ap is_some is))
+first_is_chains next (x ∷ c2) behind is some = is
+
+pub first_is_others : (next : Option Place) (c2 behind : List Place) → next ≡ first c2 → is_some next ≡ false → first behind ≡ first (c2 ++ behind)
+first_is_others next [] behind is none = refl
+first_is_others next (x ∷ c2) behind is none = absurd (true≢false (sym (ap is_some is) ∙ none))
+
+-- the chain of an object
+module _ {V : Type 0} (slots : Slots) (hash : V → ℕ) (objects : Objects V) (half : slots.mask / 2 < slots.used) where
+  own_slot : (p : Place) (o : Option V) → object_at objects p ≡ o → IsSome o → (k : ℕ) × (k < slots.used) × BelongsIn slots hash objects k p
+  own_slot p None there placed = absurd (true≢false (sym placed))
+  own_slot p (Some v) there placed =
+      (slot_of slots (hash v), slot_used slots.used slots.mask half (hash v), λ w e. ap (λ x. slot_of slots (hash x)) (some_same (sym e ∙ there)))
+
+  pub slot_of_place : (p : Place) → IsSome (object_at objects p) → (k : ℕ) × (k < slots.used) × BelongsIn slots hash objects k p
+  slot_of_place p placed = own_slot p (object_at objects p) refl placed
+
+-- HOW A MEMBER STANDS: its entry names what stands behind it in its chain
+module _ {E A B V : Type 0} {successor : E → Successor} {hash : A → V → ℕ} {fronts : B → List (Option Place)} {t : Table E} {table : HashTable A B} {objects : Objects V}
+    (gap : Cut) (held : Holds successor hash fronts t table objects (join gap)) (place : Place) (after : Some place ≡ last gap.front) where
+  pub place_placed : IsSome (object_at objects place)
+  place_placed =
+      let all = subst (AllByRecursion (λ p. IsSome (object_at objects p))) (gap_behind gap place after) held.placed in
+      (all_back (λ p. IsSome (object_at objects p)) (but_last gap.front) (place ∷ gap.back) all).0
+
+  module _ (k : ℕ) (used : k < table.slots.used) (belongs : BelongsIn table.slots (hash table.adapter) objects k place) where
+    pub stands_in : (c2 : List Place) × IsFollowed successor (t.entry place) None (first c2) × (gap.back ≡ c2 ++ (chain_of held k used).behind)
+    stands_in =
+        let b = behind_place held k used place place_placed belongs (but_last gap.front) gap.back (gap_behind gap place after) in
+        let e = shows_middle b.0 b.1 ((subst (ShowsFrom successor t (slice_index_or (fronts table.buckets) k None)) b.2 (chain_of held k used).shown)) in
+        (b.1, record { linked = e.linked; next = e.next }, b.3)

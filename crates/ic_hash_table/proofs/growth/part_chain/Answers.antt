@@ -1,0 +1,56 @@
+use Rattle.std.proofs.Common.{IsSome, [], refl, sym, subst, ◌∙◌}
+use Rattle.ic_unsafe_ref.specs.Objects.{object_at}
+use Rattle.ic_link_ops.specs.Sequences.{IsAbsent}
+use Rattle.ic_link_ops.proofs.Clearing.{releases_fewer}
+use Rattle.ic_link_ops.proofs.SinglyLists.{successors_covered, members_shown}
+use Rattle.ic_hash_table.proofs.ChainParts.{of_member, part_none, left_linked, left_member, part_either}
+use Rattle.ic_hash_table.proofs.growth.part_chain.Goals as goal
+
+pub loop-rest-init : goal.loop-rest-init
+loop-rest-init g c = record {
+  each = λ chain shown. (part_none shown, record { extent = refl; others = λ q out. refl });
+  no_step = g.met.L.LinkOps.does_nothing c.args.links.now;
+}
+
+pub next-rest-requires : goal.next-rest-requires
+next-rest-requires g c =
+    let r = c.requires.placed in
+    let k = (rw c.in-Some.is at (c.loop-rest.invariant.each r.members r.shown)).0 in
+    record { linked = sym (g.met.L.SinglyLinkedListOps.linked_alike _) ∙ left_linked k }
+
+pub belongs-moves-requires-clause-placed : goal.belongs-moves-requires-clause-placed
+belongs-moves-requires-clause-placed g c =
+    let r = c.requires.placed in
+    let k = (rw c.in-Some.is at (c.loop-rest.invariant.each r.members r.shown)).0 in
+    of_member (λ q. IsSome (object_at (g.O.Values.values c.args.objects.now) q)) r.members c.in-Some.place r.placed (left_member k)
+
+pub link_either-halves-requires : goal.link_either-halves-requires
+link_either-halves-requires g c =
+    let r = c.requires.placed in
+    let k = (rw c.in-Some.is at (c.loop-rest.invariant.each r.members r.shown)).0 in
+    record { linked = sym (g.met.L.SinglyLinkedListOps.linked_alike _) ∙ left_linked k }
+
+pub loop-rest-smaller : goal.loop-rest-smaller
+loop-rest-smaller g c =
+    let s = g.L.SinglyLinkedListOps.successor in
+    let r = c.requires.placed in
+    let k = (rw c.in-Some.is at (c.loop-rest.invariant.each r.members r.shown)).0 in
+    let e = c.link_either-halves.ensures in
+    let more = part_either k {new = g.L.LinkOps.table c.link_either-halves.new.links} e.others c.next-rest.ensures c.belongs-moves.result (sym c.belongs-moves.ensures) e.stays e.moves in
+    let was = members_shown (g.L.LinkOps.table c.loop-rest.links) (successors_covered s g.L.LinkOps.table g.met.L.LinkOps.linked_is_covered g.met.L.SinglyLinkedListOps.linked_alike c.loop-rest.links) _ k.left k.shows_left in
+    let is = members_shown (g.L.LinkOps.table c.link_either-halves.new.links) (successors_covered s g.L.LinkOps.table g.met.L.LinkOps.linked_is_covered g.met.L.SinglyLinkedListOps.linked_alike c.link_either-halves.new.links) _ more.0.left more.0.shows_left in
+    rw c.in-Some.is (releases_fewer was is more.1)
+
+pub loop-rest-preserved : goal.loop-rest-preserved
+loop-rest-preserved g c = record {
+  each = λ chain shown.
+      let k = rw c.in-Some.is at (c.loop-rest.invariant.each chain shown) in
+      let e = c.link_either-halves.ensures in (
+        (part_either k.0 {new = g.L.LinkOps.table c.link_either-halves.new.links} e.others c.next-rest.ensures c.belongs-moves.result (sym c.belongs-moves.ensures) e.stays e.moves).0,
+        record {
+          extent = e.extent ∙ k.1.extent;
+          others = λ q out. e.others q (λ same. absurd (left_member k.0 (subst (λ x. IsAbsent x chain) same out))) ∙ k.1.others q out;
+        },
+      );
+  no_step = g.met.L.LinkOps.does_on c.args.links.now c.loop-rest.links c.link_either-halves.new.links [] [] c.loop-rest.invariant.no_step c.link_either-halves.ensures.no_step;
+}

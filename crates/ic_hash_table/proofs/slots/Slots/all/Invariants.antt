@@ -1,0 +1,12 @@
+use Rattle.std.proofs.Common.{◌≡◌, ◌+◌, ◌^◌, ◌<◌, ◌-◌, ◌*◌, ℕ}
+use Rattle.ic_hash_table.proofs.slots.Slots.all.Given as goal
+
+-- of the mask's numbers more than half are below the count, and the mask has all bits below one
+abbrev pub invariant-loop-mask : goal.invariant-loop-mask
+invariant-loop-mask l = record {
+  half : l.mask + 1 < 2 * l.fn.count;
+  bits : (k : ℕ) × (l.mask + 1 ≡ 2 ^ k);
+}
+
+abbrev pub decreases-loop-mask : goal.decreases-loop-mask
+decreases-loop-mask l = l.fn.count - l.mask

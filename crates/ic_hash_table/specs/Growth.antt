@@ -1,0 +1,42 @@
+-- A chain that is parted in two.
+use Rattle.std.specs.Prelude.{◌≡◌, ◌+◌, ℕ, Bool, true, false, nat_eq, Option, List, ◌++◌, length}
+use Rattle.std.specs.List.{AllByRecursion}
+use Rattle.ic_unsafe_ref.specs.declared.place.Place.{Place}
+use Rattle.ic_link_ops.specs.Sequences.{IsAbsent, IsDistinct}
+use Rattle.ic_link_ops.specs.Tables.{Table}
+use Rattle.ic_link_ops.specs.SinglyLinkedList.{Successor}
+use Rattle.ic_hash_table.specs.declared.slots.Slots.{Slots}
+use Rattle.ic_unsafe_ref.specs.Objects.{Objects}
+use Rattle.ic_hash_table.specs.declared.table.HashTable.{HashTable}
+use Rattle.ic_hash_table.specs.HashTable.{Holds}
+use Rattle.ic_hash_table.specs.Slots.{slot_of}
+use Rattle.ic_hash_table.specs.Chains.{ShowsFrom}
+
+-- whether a value belongs in chain i
+abbrev pub belongs_at : {V : Type 0} → Slots → (V → ℕ) → ℕ → V → Bool
+belongs_at slots hash i value = nat_eq (slot_of slots (hash value)) i
+
+-- `is`: whether a member moves
+module _ {E : Type 0} (successor : E → Successor) (is : Place → Bool) where
+  -- THE CHAIN IS PARTED, but for the members from `rest` on: in those that stay and those that move
+  pub record IsParted (t : Table E) (chain : List Place) (rest stays moves : Option Place) : Type 0 where
+    pub left : List Place
+    pub staying : List Place
+    pub moving : List Place
+    pub shows_left : ShowsFrom successor t rest left
+    pub shows_staying : ShowsFrom successor t stays staying
+    pub shows_moving : ShowsFrom successor t moves moving
+    pub distinct : IsDistinct (left ++ (staying ++ moving))
+    pub stay : AllByRecursion (λ p. is p ≡ false) staying
+    pub move : AllByRecursion (λ p. is p ≡ true) moving
+    pub within : (q : Place) → IsAbsent q chain → IsAbsent q (left ++ (staying ++ moving))
+    pub all : (q : Place) → IsAbsent q (left ++ (staying ++ moving)) → IsAbsent q chain
+    pub count : length left + length staying + length moving ≡ length chain
+
+-- IT HOLDS THE MEMBERS OF s, in some order
+module _ {E A B V : Type 0} (successor : E → Successor) (hash : A → V → ℕ) (fronts : B → List (Option Place)) where
+  pub record HoldsSameMembers (t : Table E) (table : HashTable A B) (objects : Objects V) (s : List Place) : Type 0 where
+    pub members : List Place
+    pub holds : Holds successor hash fronts t table objects members
+    pub within : (q : Place) → IsAbsent q s → IsAbsent q members
+    pub all : (q : Place) → IsAbsent q members → IsAbsent q s

@@ -1,0 +1,72 @@
+-- What a table of links holds for a hash table.
+use Rattle.std.specs.Prelude.{◌≡◌, ℕ, ◌≤◌, Option, None, Some, List, length, slice_index_or, ⊤}
+use Rattle.std.specs.List.{AllByRecursion}
+use Rattle.ic_unsafe_ref.specs.declared.place.Place.{Place}
+use Rattle.ic_unsafe_ref.specs.Objects.{Objects, object_at}
+use Rattle.ic_link_ops.specs.Tables.{Table}
+use Rattle.ic_link_ops.specs.SinglyLinkedList.{Successor}
+use Rattle.ic_link_ops.specs.PlacedObjects.{ArePlaced}
+use Rattle.ic_link_ops.specs.Sequences.{Cut, join, insert, IsDistinct}
+use Rattle.ic_hash_table.specs.declared.slots.Slots.{Slots}
+use Rattle.ic_hash_table.specs.declared.table.HashTable.{HashTable}
+use Rattle.ic_hash_table.specs.Slots.{slot_of, IsWellFormed}
+use Rattle.ic_hash_table.specs.Chains.{AreChained}
+
+module _ {A B : Type 0} where
+  -- the adapter that a table was made with, how many members it has counted, and in which chains it puts them
+  abbrev pub adapter_of : HashTable A B → A
+  adapter_of table = table.adapter
+
+  abbrev pub len_of : HashTable A B → ℕ
+  len_of table = table.len
+
+  abbrev pub slots_of : HashTable A B → Slots
+  slots_of table = table.slots
+
+  -- the first members of its chains, and that of the chain where a number belongs
+  abbrev pub fronts_of : (B → List (Option Place)) → HashTable A B → List (Option Place)
+  fronts_of fronts table = fronts table.buckets
+
+  abbrev pub front_at : (B → List (Option Place)) → HashTable A B → ℕ → Option Place
+  front_at fronts table i = slice_index_or (fronts table.buckets) i None
+
+  -- its chains are empty and within its buckets
+  pub record IsNew (fronts : B → List (Option Place)) (table : HashTable A B) : Type 0 where
+    pub none : AllByRecursion (λ front. front ≡ None) (fronts table.buckets)
+    pub counted : table.len ≡ 0
+    pub well_formed : IsWellFormed table.slots
+    pub enough : table.slots.used ≤ length (fronts table.buckets)
+
+-- ITS CHAINS HAVE THE MEMBERS s, whatever their keys are
+pub record IsShown {E A B : Type 0} (successor : E → Successor) (fronts : B → List (Option Place)) (t : Table E) (table : HashTable A B) (s : List Place) : Type 0 where
+  pub distinct : IsDistinct s
+  pub chained : AreChained successor (λ i p. ⊤) t 0 (fronts table.buckets) s
+  pub well_formed : IsWellFormed table.slots
+  pub enough : table.slots.used ≤ length (fronts table.buckets)
+
+-- the number of a value: that of its key
+abbrev pub number : {A V K : Type 0} → (A → V → K) → (A → K → ℕ) → A → V → ℕ
+number key_of hash_of adapter value = hash_of adapter (key_of adapter value)
+
+-- the object at the place, if any, has a number that belongs in chain i
+abbrev pub BelongsIn : {V : Type 0} → Slots → (V → ℕ) → Objects V → ℕ → Place → Type 0
+BelongsIn {V} slots hash objects i p = (value : V) → object_at objects p ≡ Some value → slot_of slots (hash value) ≡ i
+
+-- `hash`: the number of a value. `fronts`: the first members of the chains
+module _ {E A B V : Type 0} (successor : E → Successor) (hash : A → V → ℕ) (fronts : B → List (Option Place)) where
+  -- THE TABLE HOLDS s: its chains have the members s, each in the chain of its number, no place twice, and an object stands at each
+  pub record Holds (t : Table E) (table : HashTable A B) (objects : Objects V) (s : List Place) : Type 0 where
+    pub distinct : IsDistinct s
+    pub chained : AreChained successor (BelongsIn table.slots (hash table.adapter) objects) t 0 (fronts table.buckets) s
+    pub placed : ArePlaced objects s
+    pub counted : table.len ≡ length s
+    pub well_formed : IsWellFormed table.slots
+    pub enough : table.slots.used ≤ length (fronts table.buckets)
+
+  -- it holds some sequence
+  abbrev pub HoldsSome : Table E → HashTable A B → Objects V → Type 0
+  HoldsSome t table objects = (s : List Place) × Holds t table objects s
+
+  -- it holds s with p put in somewhere
+  abbrev pub HoldsWith : Table E → HashTable A B → Objects V → List Place → Place → Type 0
+  HoldsWith t table objects s p = (gap : Cut) × (join gap ≡ s) × Holds t table objects (insert gap p)

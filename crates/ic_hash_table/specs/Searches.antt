@@ -1,0 +1,50 @@
+-- What a search tells of members, and how many of them it has looked at.
+use Rattle.std.specs.Prelude.{◌≡◌, ℕ, ◌+◌, ◌≤◌, Bool, true, false, nat_eq, Option, None, Some, IfSome, List, ◌∷◌, ◌++◌, length}
+use Rattle.std.specs.List.{AllByRecursion}
+use Rattle.ic_unsafe_ref.specs.declared.place.Place.{Place}
+use Rattle.ic_unsafe_ref.specs.Objects.{Objects, object_at}
+use Rattle.ic_link_ops.specs.Sequences.{Cut, join, IsAfter, IsBefore}
+
+-- whether the value passes, if there is one
+abbrev pub passes : {V : Type 0} → (V → Bool) → Option V → Bool
+passes equal None = false
+passes equal (Some value) = equal value
+
+-- whether the object at a place passes
+abbrev pub matches : {V : Type 0} → (V → Bool) → Objects V → Place → Bool
+matches equal objects p = passes equal (object_at objects p)
+
+-- whether the key of the object at a place is this one
+abbrev pub has_key : {V K : Type 0} → (K → K → Bool) → (V → K) → K → Objects V → Place → Bool
+has_key eq key_of key objects p = matches (λ value. eq key (key_of value)) objects p
+
+-- whether it is this place
+abbrev pub is_place : Place → Place → Bool
+is_place place p = nat_eq p.word place.word
+
+module _ (is : Place → Bool) where
+  -- THE FIRST MEMBER OF s THAT PASSES, or none where none does
+  abbrev pub Finds : List Place → Option Place → Type 0
+  Finds s None = AllByRecursion (λ p. is p ≡ false) s
+  Finds s (Some p) = (front back : List Place) × (s ≡ front ++ p ∷ back) × AllByRecursion (λ q. is q ≡ false) front × (is p ≡ true)
+
+  -- a walk along s has stopped at the first member that passes, or at the end: this stands there, and that one before it
+  pub record StopsAt (s : List Place) (before at : Option Place) : Type 0 where
+    pub gap : Cut
+    pub whole : join gap ≡ s
+    pub after : IsAfter gap before
+    pub here : IsBefore gap at
+    pub passed : AllByRecursion (λ p. is p ≡ false) gap.front
+    pub stops : IfSome at (λ p. is p ≡ true)
+
+-- a probe that has counted so many can look at all members of a chain: there are fewer than 2 ^ 33 places
+abbrev pub HasRoom : ℕ → Type 0
+HasRoom count = count + 8589934591 ≤ 18446744073709551615
+
+-- THE LOOKS OF ONE SEARCH in a chain: no more than its members. The probe compares as before
+module _ {P V : Type 0} (equal : P → V → Bool) (count : P → ℕ) where
+  pub record Looks (old new : P) (chain : List Place) : Type 0 where
+    pub looks : ℕ
+    pub counted : count new ≡ count old + looks
+    pub few : looks ≤ length chain
+    pub same : equal new ≡ equal old

@@ -1,0 +1,74 @@
+//! The buckets: the first member of each chain, by the chain's number.
+//!
+//! ```text
+//! let mut buckets = Vec::new(rt.alloc());
+//! for _ in 0..1024 {
+//!     buckets.push(PlaceWord::of(None))?;
+//! }
+//! let table = HashTable::new(ById, buckets);
+//! ```
+
+ghost use Rattle.std.specs.Prelude.{◌≡◌, ◌<◌, None, Option, List, length, slice_index_or, set};
+ghost use Rattle.ic_unsafe_ref.specs.declared.place.Place.{Place};
+
+use ic_link_ops::PlaceWord;
+use ic_unsafe_ref::Place;
+use std::alloc::Allocator;
+
+/// A row of first members, of fixed length: a `Vec` that the caller has made, or an array. It has no call that could take memory.
+pub trait Buckets {
+    // The first member of each chain, none where it is empty.
+    ghost fronts: { Self → List (Option Place) };
+
+    /// How many there are. O(1).
+    fn count(&self) -> usize
+        ensures { result ≡ length (fronts self.now) };
+
+    /// The first member of chain `at`, `None` where it is empty. It requires that there is such a bucket. O(1).
+    fn front(&self, at: usize) -> Option<Place>
+        requires within { at < length (fronts self.now) }
+        ensures { result ≡ slice_index_or (fronts self.now) at None };
+
+    /// Sets the first member of chain `at`, `None` for an empty one. It requires that there is such a bucket. O(1).
+    fn set_front(&mut self, at: usize, front: Option<Place>)
+        requires within { at < length (fronts self.old) }
+        ensures { fronts self.new ≡ set (fronts self.old) at front };
+}
+
+impl<A: Allocator> Buckets for Vec<PlaceWord, A> {
+    ghost fronts = { λ v. v.items };
+
+    #[inline]
+    fn count(&self) -> usize {
+        self.len()
+    }
+
+    #[inline]
+    fn front(&self, at: usize) -> Option<Place> {
+        self[at].get()
+    }
+
+    #[inline]
+    fn set_front(&mut self, at: usize, front: Option<Place>) {
+        self[at] = PlaceWord::of(front);
+    }
+}
+
+impl<const N: usize> Buckets for [PlaceWord; N] {
+    ghost fronts = { λ a. a };
+
+    #[inline]
+    fn count(&self) -> usize {
+        N
+    }
+
+    #[inline]
+    fn front(&self, at: usize) -> Option<Place> {
+        self[at].get()
+    }
+
+    #[inline]
+    fn set_front(&mut self, at: usize, front: Option<Place>) {
+        self[at] = PlaceWord::of(front);
+    }
+}

@@ -1,0 +1,59 @@
+//! Edits of one chain: a member is put in front of it, or is taken out behind another.
+//!
+//! ```text
+//! let front = unlink_behind(&mut links, front, before, place);
+//! ```
+
+ghost use Rattle.std.specs.Prelude.{◌≡◌, ◌≢◌, Option, List, [], ◌∷◌, ◌++◌};
+ghost use Rattle.ic_unsafe_ref.specs.declared.place.Place.{Place};
+ghost use Rattle.ic_link_ops.specs.Sequences.{IsAbsent, last};
+ghost use Rattle.ic_link_ops.specs.Tables.{IsLinked, KeepsBeside};
+ghost use Rattle.ic_link_ops.specs.LinkSteps.{releases};
+ghost use Rattle.ic_hash_table.specs.Chains.{ShowsFrom};
+
+use ic_link_ops::LinkOps;
+use ic_link_ops::singly_linked_list::SinglyLinkedListOps;
+use ic_singly_linked_list::SinglyLinkedList;
+use ic_unsafe_ref::Place;
+
+// Takes the member behind `before` out of the chain and unlinks it. Returns the first member that the chain has then.
+#[inline]
+pub(crate) fn unlink_behind<L: SinglyLinkedListOps>(
+    links: &mut L,
+    front: Option<Place>,
+    before: Option<Place>,
+    place: Place,
+) -> Option<Place>
+    requires member { (ahead back : List Place) × ShowsFrom L.successor (L.table links.old) front (ahead ++ place ∷ back)
+        × (before ≡ last ahead) }
+    ensures removed { (ahead back : List Place) → ShowsFrom L.successor (L.table links.old) front (ahead ++ place ∷ back)
+        → before ≡ last ahead → ShowsFrom L.successor (L.table links.new) result (ahead ++ back) }
+    ensures released { L.Does links.old links.new (releases place ∷ []) }
+    ensures frame { (ahead back : List Place) → ShowsFrom L.successor (L.table links.old) front (ahead ++ place ∷ back)
+        → before ≡ last ahead → KeepsBeside (L.table links.old) (L.table links.new) (ahead ++ place ∷ back) }
+{
+    let mut chain: SinglyLinkedList<()> = SinglyLinkedList::from_front(front);
+    let behind = links.next(place);
+    chain.bypass(links, before, place, behind);
+    links.release_link(place);
+    chain.first()
+}
+
+// Puts a place that is linked, and in no chain, in front of one. Returns the first member, which it is.
+#[inline]
+pub(crate) fn link_front<L: SinglyLinkedListOps>(
+    links: &mut L,
+    place: Place,
+    front: Option<Place>,
+) -> Option<Place>
+    requires linked { IsLinked L.linked (L.table links.old) place }
+    ensures shows { (s : List Place) → ShowsFrom L.successor (L.table links.old) front s → IsAbsent place s
+        → ShowsFrom L.successor (L.table links.new) result (place ∷ s) }
+    ensures others { (q : Place) → q ≢ place → (L.table links.new).entry q ≡ (L.table links.old).entry q }
+    ensures extent { (L.table links.new).extent ≡ (L.table links.old).extent }
+    ensures no_step { L.Does links.old links.new [] }
+{
+    let mut chain: SinglyLinkedList<()> = SinglyLinkedList::from_front(front);
+    chain.insert_linked(links, None, place, front);
+    chain.first()
+}

@@ -1,0 +1,78 @@
+//! Walks along one chain, from its first member.
+//!
+//! ```text
+//! let (before, found) = find_in_chain(&links, &objects, &mut probe, front);
+//! ```
+
+ghost use Rattle.std.specs.Prelude.{◌≡◌, ◌+◌, ◌<◌, true, List};
+ghost use Rattle.ic_unsafe_ref.specs.declared.place.Place.{Place};
+ghost use Rattle.ic_unsafe_ref.specs.Objects.{is_placed};
+ghost use Rattle.ic_link_ops.specs.PlacedObjects.{ShowsPlaced};
+ghost use Rattle.ic_hash_table.specs.Searches.{is_place, matches, StopsAt, HasRoom, Looks};
+ghost use Rattle.ic_hash_table.specs.Chains.{ShowsFrom, ShowsFromSome};
+
+use crate::Probe;
+use ic_link_ops::LinkOps;
+use ic_link_ops::singly_linked_list::SinglyLinkedListOps;
+use ic_unsafe_ref::{Place, Values};
+
+// Whether what is searched equals the object of a member.
+#[inline]
+fn is_match<V, P: Probe<V>, O: Values<V>>(objects: &O, probe: &mut P, place: Place) -> bool
+    requires placed { is_placed (O.values objects.now) place ≡ true }
+    requires room { P.count probe.old < 18446744073709551615 }
+    ensures answer { result ≡ matches (P.equal probe.old) (O.values objects.now) place }
+    ensures counted { P.count probe.new ≡ P.count probe.old + 1 }
+    ensures same { P.equal probe.new ≡ P.equal probe.old }
+{
+    probe.is_equal(objects.value(place))
+}
+
+// Walks along a chain to the first member that equals what is searched: that member, and the one before it.
+#[inline]
+pub(crate) fn find_in_chain<V, L: SinglyLinkedListOps, P: Probe<V>, O: Values<V>>(
+    links: &L,
+    objects: &O,
+    probe: &mut P,
+    front: Option<Place>,
+) -> (Option<Place>, Option<Place>)
+    requires placed { ShowsPlaced (ShowsFrom L.successor (L.table links.now) front) (O.values objects.now) }
+    requires room { HasRoom (P.count probe.old) }
+    ensures stops { (s : List Place) → ShowsFrom L.successor (L.table links.now) front s
+        → StopsAt (matches (P.equal probe.old) (O.values objects.now)) s result.0 result.1 }
+    ensures looks { (s : List Place) → ShowsFrom L.successor (L.table links.now) front s
+        → Looks P.equal P.count probe.old probe.new s }
+{
+    let mut before = None;
+    let mut current = front;
+    while let Some(place) = current {
+        if is_match(objects, probe, place) {
+            return (before, current);
+        }
+        before = current;
+        current = links.next(place);
+    }
+    (before, None)
+}
+
+// Walks along a chain to this place: the place, if it is a member, and the member before it. No look.
+pub(crate) fn find_place_in_chain<L: SinglyLinkedListOps>(
+    links: &L,
+    front: Option<Place>,
+    place: Place,
+) -> (Option<Place>, Option<Place>)
+    requires shown { ShowsFromSome L.successor (L.table links.now) front }
+    ensures stops { (s : List Place) → ShowsFrom L.successor (L.table links.now) front s
+        → StopsAt (is_place place) s result.0 result.1 }
+{
+    let mut before = None;
+    let mut current = front;
+    while let Some(member) = current {
+        if member == place {
+            return (before, current);
+        }
+        before = current;
+        current = links.next(member);
+    }
+    (before, None)
+}

@@ -1,0 +1,140 @@
+//! Growth, one chain at a time.
+//!
+//! ```text
+//! if table.len() > 2 * table.chains() {
+//!     table.grow_one(&mut links, &objects); // splits one chain
+//! }
+//! ```
+
+ghost use Rattle.std.specs.Prelude.{◌≡◌, ◌≢◌, ◌+◌, ◌<◌, true, false, nat_eq, Option, None, Some, List, [], ◌∷◌};
+ghost use Rattle.std.specs.Bool.{OnTrue, OnFalse};
+ghost use Rattle.ic_unsafe_ref.specs.declared.place.Place.{Place};
+ghost use Rattle.ic_unsafe_ref.specs.Objects.{is_placed};
+ghost use Rattle.ic_link_ops.specs.PlacedObjects.{ShowsPlaced};
+ghost use Rattle.ic_link_ops.specs.Sequences.{IsAbsent};
+ghost use Rattle.ic_link_ops.specs.Tables.{IsLinked, KeepsBeside};
+ghost use Rattle.ic_hash_table.specs.HashTable.{number};
+ghost use Rattle.ic_hash_table.specs.Searches.{matches};
+ghost use Rattle.ic_hash_table.specs.Slots.{slot_of, IsWellFormed};
+ghost use Rattle.ic_hash_table.specs.Growth.{belongs_at, IsParted};
+ghost use Rattle.ic_hash_table.specs.Chains.{ShowsFrom};
+
+use crate::chain_edits::link_front;
+use crate::{Buckets, HashAdapter, HashTable, Slots};
+use ic_link_ops::LinkOps;
+use ic_link_ops::singly_linked_list::SinglyLinkedListOps;
+use ic_unsafe_ref::{Place, Values};
+
+// Whether the object at a place belongs in chain `to`.
+#[inline]
+fn belongs<A: HashAdapter, O: Values<A::Value>>(
+    adapter: A,
+    slots: Slots,
+    objects: &O,
+    place: Place,
+    to: usize,
+) -> bool
+    requires placed { is_placed (O.values objects.now) place ≡ true }
+    requires well_formed { IsWellFormed slots }
+    ensures { result ≡ matches (belongs_at slots (number A.key_of A.hash_of adapter) to) (O.values objects.now) place }
+{
+    let key = adapter.get_key(objects.value(place));
+    slots.slot(adapter.hash(key)) == to
+}
+
+// Puts a linked place in front of the one or the other of two chains.
+#[inline]
+fn link_either<L: SinglyLinkedListOps>(
+    links: &mut L,
+    place: Place,
+    moves: bool,
+    halves: (Option<Place>, Option<Place>),
+) -> (Option<Place>, Option<Place>)
+    requires linked { IsLinked L.linked (L.table links.old) place }
+    ensures stays { moves ≡ false → (result.1 ≡ halves.1)
+        × ((s : List Place) → ShowsFrom L.successor (L.table links.old) halves.0 s → IsAbsent place s → ShowsFrom L.successor (L.table links.new) result.0 (place ∷ s)) }
+    ensures moves { moves ≡ true → (result.0 ≡ halves.0)
+        × ((s : List Place) → ShowsFrom L.successor (L.table links.old) halves.1 s → IsAbsent place s → ShowsFrom L.successor (L.table links.new) result.1 (place ∷ s)) }
+    ensures others { (q : Place) → q ≢ place → (L.table links.new).entry q ≡ (L.table links.old).entry q }
+    ensures extent { (L.table links.new).extent ≡ (L.table links.old).extent }
+    ensures no_step { L.Does links.old links.new [] }
+{
+    if moves {
+        (halves.0, link_front(links, place, halves.1))
+    } else {
+        (link_front(links, place, halves.0), halves.1)
+    }
+}
+
+// Parts a chain in two: the first members of those that stay, and of those that belong in chain `to`. No link is acquired or released.
+pub(crate) fn part_chain<A: HashAdapter, L: SinglyLinkedListOps, O: Values<A::Value>>(
+    adapter: A,
+    slots: Slots,
+    links: &mut L,
+    objects: &O,
+    front: Option<Place>,
+    to: usize,
+) -> (Option<Place>, Option<Place>)
+    requires well_formed { IsWellFormed slots }
+    requires placed { ShowsPlaced (ShowsFrom L.successor (L.table links.old) front) (O.values objects.now) }
+    ensures parted { (chain : List Place) → ShowsFrom L.successor (L.table links.old) front chain
+        → IsParted L.successor (matches (belongs_at slots (number A.key_of A.hash_of adapter) to) (O.values objects.now))
+        (L.table links.new) chain None result.0 result.1 }
+    ensures frame { (chain : List Place) → ShowsFrom L.successor (L.table links.old) front chain
+        → KeepsBeside (L.table links.old) (L.table links.new) chain }
+    ensures no_step { L.Does links.old links.new [] }
+{
+    let mut halves = (None, None);
+    let mut rest = front;
+    while let Some(place) = rest {
+        rest = links.next(place);
+        let moves = belongs(adapter, slots, objects, place, to);
+        halves = link_either(links, place, moves, halves);
+    }
+    halves
+}
+
+impl<A: HashAdapter, B: Buckets> HashTable<A, B> {
+    ghost use Rattle.ic_hash_table.specs.HashTable.{adapter_of, len_of, slots_of, fronts_of, Holds, HoldsSome};
+    ghost use Rattle.ic_hash_table.specs.Growth.{HoldsSameMembers};
+
+    /// Takes one bucket more into use: the members of one chain are parted between that chain and a new one. False, and nothing has
+    /// changed, if all buckets are in use, or 4,294,967,295 are.
+    ///
+    /// It requires that all members are placed, with the keys that they were put in by. All members stay, in some order. O(members of that
+    /// chain): one hash and one write each, no look, no link is acquired or released, and it takes no memory.
+    pub fn grow_one<L: SinglyLinkedListOps, O: Values<A::Value>>(
+        &mut self,
+        links: &mut L,
+        objects: &O,
+    ) -> bool
+        requires held { HoldsSome L.successor (number A.key_of A.hash_of) B.fronts (L.table links.old) self.old (O.values objects.now) }
+        ensures holds { (s : List Place) → Holds L.successor (number A.key_of A.hash_of) B.fronts (L.table links.old) self.old (O.values objects.now) s
+            → OnTrue result (HoldsSameMembers L.successor (number A.key_of A.hash_of) B.fronts (L.table links.new) self.new (O.values objects.now) s) }
+        ensures used { OnTrue result ((slots_of self.new).used ≡ (slots_of self.old).used + 1) }
+        ensures full { OnFalse result ((self.new ≡ self.old) × (links.new ≡ links.old)) }
+        ensures no_step { L.Does links.old links.new [] }
+        ensures adapter { adapter_of self.new ≡ adapter_of self.old }
+        ensures frame { (s : List Place) → Holds L.successor (number A.key_of A.hash_of) B.fronts (L.table links.old) self.old (O.values objects.now) s
+            → KeepsBeside (L.table links.old) (L.table links.new) s }
+    {
+        let to = self.slots.used();
+        if to >= self.buckets.count() || to >= 4294967295 {
+            return false;
+        }
+        let slots = self.slots.grown();
+        let from = slots.split(to);
+        let (stays, moves) = part_chain(
+            self.adapter,
+            slots,
+            links,
+            objects,
+            self.buckets.front(from),
+            to,
+        );
+        self.buckets.set_front(from, stays);
+        self.buckets.set_front(to, moves);
+        self.slots = slots;
+        true
+    }
+}

@@ -1,0 +1,127 @@
+//! A walk over the objects of a hash table.
+//!
+//! ```text
+//! for task in table.iter(&links, &objects) {
+//!     task.run();
+//! }
+//! println!(rt; "{:?}", table.debug(&links, &objects))?; // [20, 10]
+//! ```
+
+ghost use Rattle.std.specs.Prelude.{◌≡◌, List, Option, Some, ⊤};
+ghost use Rattle.ic_unsafe_ref.specs.declared.place.Place.{Place};
+ghost use Rattle.ic_link_ops.specs.PlacedObjects.{values_at};
+ghost use Rattle.ic_link_ops.specs.Walk.{GivesFirst};
+ghost use Rattle.ic_hash_table.specs.HashTable.{number, Holds, HoldsSome};
+
+use crate::{Buckets, HashAdapter, HashTable};
+use ic_cursors::Listing;
+use ic_link_ops::LinkOps;
+use ic_link_ops::singly_linked_list::SinglyLinkedListOps;
+use ic_unsafe_ref::{Objects, Place, Values};
+use std::alloc::AllocError;
+use std::marker::PhantomData;
+
+/// The objects of a hash table that are not given out yet: chain by chain, each from its first member on.
+///
+/// `A::Key: 'a` holds of every key that is a part of its object: it is said for callers that are generic in the adapter.
+pub struct Iter<'a, A: HashAdapter, B, L, O = Objects<<A as HashAdapter>::Value>>
+where
+    A::Key: 'a,
+{
+    table: &'a HashTable<A, B>,
+    links: &'a L,
+    objects: &'a O,
+    of: PhantomData<&'a A::Value>,
+    at: Option<Place>,
+}
+
+impl<A: HashAdapter, B, L, O> Drop for Iter<'_, A, B, L, O> {
+    fn drop(self) {
+        let Iter {
+            table: _,
+            links: _,
+            objects: _,
+            of: _,
+            at: _,
+        } = self;
+    }
+}
+
+impl<'a, A: HashAdapter, B: Buckets, L: SinglyLinkedListOps, O: Values<A::Value>> Iterator
+    for Iter<'a, A, B, L, O> {
+    type Item = &'a A::Value;
+
+    ghost use Rattle.std.specs.Iterator.{item_count};
+    ghost use Rattle.ic_hash_table.specs.Iter.{objects_left, CanWalk};
+
+    ghost can_next = { CanWalk L.successor L.table (number A.key_of A.hash_of) B.fronts O.values };
+
+    ghost next_gives = { GivesFirst (objects_left L.successor L.table B.fronts O.values) };
+
+    ghost remaining = { item_count (objects_left L.successor L.table B.fronts O.values) };
+
+    /// The next object. In all, one step a member and one a bucket, and no look.
+    fn next(&mut self) -> Option<&'a A::Value> {
+        let place = self.table.next(self.links, self.objects, self.at)?;
+        let objects: &'a O = self.objects;
+        let value = objects.value(place);
+        self.at = Some(place);
+        Some(value)
+    }
+}
+
+impl<A: HashAdapter, B, L, O> Clone for Iter<'_, A, B, L, O> {
+    ghost is_clone = { λ t copy. copy ≡ t };
+
+    ghost is_infallible = { λ _. ⊤ };
+
+    /// A walk over the same objects, from the same one on. It never fails.
+    fn clone(&self) -> Result<Self, AllocError> {
+        Ok(Iter {
+            table: self.table,
+            links: self.links,
+            objects: self.objects,
+            of: PhantomData,
+            at: self.at,
+        })
+    }
+}
+
+impl<A: HashAdapter, B: Buckets> HashTable<A, B> {
+    ghost use Rattle.ic_hash_table.specs.Iter.{objects_left, CanWalk};
+
+    /// A walk over the objects of the table, chain by chain. It requires that all members are placed, with the keys that they were put in
+    /// by. O(1).
+    pub fn iter<'a, L: SinglyLinkedListOps, O: Values<A::Value>>(
+        &'a self,
+        links: &'a L,
+        objects: &'a O,
+    ) -> Iter<'a, A, B, L, O>
+        requires held { HoldsSome L.successor (number A.key_of A.hash_of) B.fronts (L.table links.now) self.now (O.values objects.now) }
+        ensures walks { (s : List Place) → Holds L.successor (number A.key_of A.hash_of) B.fronts (L.table links.now) self.now (O.values objects.now) s
+            → objects_left L.successor L.table B.fronts O.values result ≡ values_at (O.values objects.now) s }
+        ensures can_walk { CanWalk L.successor L.table (number A.key_of A.hash_of) B.fronts O.values result }
+    {
+        Iter {
+            table: self,
+            links,
+            objects,
+            of: PhantomData,
+            at: None,
+        }
+    }
+
+    /// A value that prints the objects of the table, chain by chain: `{:?}` writes `[10, 20]`, and `{:#?}` writes each object on lines of
+    /// its own. It requires that all members are placed, with the keys that they were put in by. O(1), and no memory.
+    pub fn debug<'a, L: SinglyLinkedListOps, O: Values<A::Value>>(
+        &'a self,
+        links: &'a L,
+        objects: &'a O,
+    ) -> Listing<Iter<'a, A, B, L, O>>
+        requires held { HoldsSome L.successor (number A.key_of A.hash_of) B.fronts (L.table links.now) self.now (O.values objects.now) }
+        ensures lists { (s : List Place) → Holds L.successor (number A.key_of A.hash_of) B.fronts (L.table links.now) self.now (O.values objects.now) s
+            → objects_left L.successor L.table B.fronts O.values result ≡ values_at (O.values objects.now) s }
+    {
+        Listing::new(self.iter(links, objects))
+    }
+}

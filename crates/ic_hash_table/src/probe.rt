@@ -1,0 +1,93 @@
+//! What a search asks the objects of a chain.
+//!
+//! ```text
+//! let mut probe = KeyProbe::new(ById, &5);
+//! let found = table.find_by(&links, &objects, &mut probe);
+//! probe.looks() // how many objects it was compared with
+//! ```
+
+ghost use Rattle.std.specs.Prelude.{◌≡◌, ℕ, ◌+◌, ◌<◌, Bool};
+ghost use Rattle.ic_hash_table.specs.KeyProbe.{adapter_of, key_of_probe, looks_of, key_equal, key_hash};
+
+use crate::HashAdapter;
+
+/// What is searched: its hash, and which values equal it. For searches by more than a key.
+///
+/// A search calls `is_equal` once for each member that it passes. Such a call is a look.
+pub trait Probe<V> {
+    // Whether what is searched equals a value.
+    ghost equal: { Self → V → Bool };
+
+    // The hash of what is searched.
+    ghost hash: { Self → ℕ };
+
+    // How many looks it has made.
+    ghost count: { Self → ℕ };
+
+    /// The hash of what is searched. O(1).
+    fn hash(&self) -> u64
+        ensures { result ≡ hash self.now };
+
+    /// Whether what is searched equals `value`: a look.
+    ///
+    /// It requires that the count of looks is below `u64::MAX`. It counts one more, and compares as before.
+    fn is_equal(&mut self, value: &V) -> bool
+        requires room { count self.old < 18446744073709551615 }
+        ensures answer { result ≡ equal self.old value.now }
+        ensures counted { count self.new ≡ count self.old + 1 }
+        ensures same { equal self.new ≡ equal self.old };
+}
+
+/// A search for a key, by the adapter of a table.
+#[derive(Drop)]
+pub struct KeyProbe<'k, A: HashAdapter>
+where
+    A::Key: 'k,
+{
+    adapter: A,
+    key: &'k A::Key,
+    looks: u64,
+}
+
+impl<'k, A: HashAdapter> KeyProbe<'k, A> {
+    /// A search for `key` that has made no look.
+    #[inline]
+    pub fn new(adapter: A, key: &'k A::Key) -> KeyProbe<'k, A>
+        ensures adapter { adapter_of result ≡ adapter }
+        ensures key { key_of_probe result ≡ key.now }
+        ensures none { looks_of result ≡ 0 }
+    {
+        KeyProbe {
+            adapter,
+            key,
+            looks: 0,
+        }
+    }
+
+    /// How many looks it has made: how many objects it was compared with.
+    #[inline]
+    pub fn looks(&self) -> u64
+        ensures { result ≡ looks_of self.now }
+    {
+        self.looks
+    }
+}
+
+impl<A: HashAdapter> Probe<A::Value> for KeyProbe<'_, A> {
+    ghost equal = { key_equal A.Key.eq A.key_of };
+
+    ghost hash = { key_hash A.hash_of };
+
+    ghost count = { looks_of };
+
+    #[inline]
+    fn hash(&self) -> u64 {
+        self.adapter.hash(self.key)
+    }
+
+    #[inline]
+    fn is_equal(&mut self, value: &A::Value) -> bool {
+        self.looks += 1;
+        self.key == self.adapter.get_key(value)
+    }
+}

@@ -1,0 +1,80 @@
+//! In which chain a hash belongs, by linear hashing (Litwin, 1980): chains come into use one at a time.
+//!
+//! ```text
+//! // With six chains in use the mask is 7. A hash that ends in binary 110 or 111 belongs in chain 2 or 3, until those are in use.
+//! let at = slots.slot(hash);
+//! ```
+
+ghost use Rattle.std.specs.Prelude.{◌≡◌, ◌<◌, ◌≤◌};
+ghost use Rattle.ic_hash_table.specs.Slots.{slot_of, split_of, IsWellFormed, IsSplit};
+
+/// How many chains are in use, and the mask of the round that is under way: more than half of its numbers are in use.
+#[derive(Clone, Copy)]
+pub struct Slots {
+    used: usize,
+    mask: usize,
+}
+
+impl Slots {
+    // All of so many chains in use.
+    pub(crate) fn all(count: usize) -> Slots
+        requires some { 1 ≤ count }
+        requires few { count ≤ 4294967296 }
+        ensures used { result.used ≡ count }
+        ensures well_formed { IsWellFormed result }
+    {
+        let mut mask = 0;
+        while mask < count - 1 {
+            mask = 2 * mask + 1;
+        }
+        Slots { used: count, mask }
+    }
+
+    /// The chain where `hash` belongs: by the bits of the mask, and where that chain is not in use yet, by those of half of it. O(1).
+    #[inline]
+    pub fn slot(&self, hash: u64) -> usize
+        requires well_formed { IsWellFormed self.now }
+        ensures slot { result ≡ slot_of self.now hash }
+        ensures within { result < self.now.used }
+        ensures few { result < 18446744073709551615 }
+    {
+        let at = hash as usize & self.mask;
+        if at < self.used {
+            at
+        } else {
+            at & (self.mask >> 1)
+        }
+    }
+
+    // With one chain more in use. Where all numbers of the mask are in use, a round with a mask twice as large begins.
+    pub(crate) fn grown(self) -> Slots
+        requires well_formed { IsWellFormed self }
+        requires few { self.used < 4294967296 }
+        ensures well_formed { IsWellFormed result }
+        ensures splits { IsSplit self result }
+    {
+        let mask = if self.used > self.mask {
+            2 * self.mask + 1
+        } else {
+            self.mask
+        };
+        Slots {
+            used: self.used + 1,
+            mask,
+        }
+    }
+
+    // The chain where the members of this one stood before it was in use.
+    pub(crate) fn split(&self, last: usize) -> usize
+        ensures { result ≡ split_of self.now last }
+    {
+        last & (self.mask >> 1)
+    }
+
+    // How many chains are in use.
+    pub(crate) fn used(&self) -> usize
+        ensures { result ≡ self.now.used }
+    {
+        self.used
+    }
+}

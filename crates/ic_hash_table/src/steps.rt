@@ -1,0 +1,70 @@
+//! From one member to the next, through all chains.
+//!
+//! ```text
+//! let mut at = table.next(&links, &objects, None); // the first member
+//! while let Some(member) = at {
+//!     at = table.next(&links, &objects, Some(member));
+//! }
+//! ```
+
+ghost use Rattle.std.specs.Prelude.{◌≡◌, ◌≤◌, List, Some, Option, drop, length, true};
+ghost use Rattle.std.specs.Bool.{⊤};
+ghost use Rattle.ic_unsafe_ref.specs.declared.place.Place.{Place};
+ghost use Rattle.ic_link_ops.specs.Sequences.{Cut, join, first, IsAfter, IsBefore};
+ghost use Rattle.ic_hash_table.specs.Chains.{AreChained};
+ghost use Rattle.ic_hash_table.specs.HashTable.{number};
+
+use crate::{Buckets, HashAdapter, HashTable};
+use ic_link_ops::LinkOps;
+use ic_link_ops::singly_linked_list::SinglyLinkedListOps;
+use ic_unsafe_ref::{Place, Values};
+
+// The first member of the first chain that has one, from number `from` on.
+fn first_from<L: SinglyLinkedListOps, B: Buckets>(
+    links: &L,
+    buckets: &B,
+    from: usize,
+) -> Option<Place>
+    ensures { (s : List Place) → AreChained L.successor (λ i p. ⊤) (L.table links.now) from (drop from (B.fronts buckets.now)) s
+        → result ≡ first s }
+{
+    let count = buckets.count();
+    let mut at = from;
+    while at < count {
+        let front = buckets.front(at);
+        if front.is_some() {
+            return front;
+        }
+        at += 1;
+    }
+    None
+}
+
+impl<A: HashAdapter, B: Buckets> HashTable<A, B> {
+    ghost use Rattle.ic_hash_table.specs.HashTable.{HoldsSome, Holds};
+
+    /// The member behind this one, through all chains; behind `None` the first one. `None` where nothing follows.
+    ///
+    /// It requires that the place is that of a member. A walk over all members makes one step a member and one a bucket, and no look.
+    pub fn next<L: SinglyLinkedListOps, O: Values<A::Value>>(
+        &self,
+        links: &L,
+        objects: &O,
+        at: Option<Place>,
+    ) -> Option<Place>
+        requires stands { (gap : Cut) × Holds L.successor (number A.key_of A.hash_of) B.fronts (L.table links.now) self.now (O.values objects.now) (join gap)
+            × IsAfter gap at }
+        ensures { (gap : Cut) → Holds L.successor (number A.key_of A.hash_of) B.fronts (L.table links.now) self.now (O.values objects.now) (join gap)
+            → IsAfter gap at → IsBefore gap result }
+    {
+        let Some(place) = at else {
+            return first_from(links, &self.buckets, 0);
+        };
+        let behind = links.next(place);
+        if behind.is_some() {
+            return behind;
+        }
+        let chain = self.slot_of_object(objects, place);
+        first_from(links, &self.buckets, chain + 1)
+    }
+}

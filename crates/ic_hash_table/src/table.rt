@@ -1,0 +1,374 @@
+//! The hash table: inserts, searches and removals.
+//!
+//! ```text
+//! table.insert(&mut links, &objects, object)?;
+//! let found = table.find(&links, &objects, &7);
+//! ```
+
+ghost use Rattle.std.specs.Prelude.{◌≡◌, ◌<◌, ◌≤◌, ◌↔◌, ◌++◌, ◌∷◌, [], List, Some, None, length, true, IsTrue, OnOk, OnErr, IfOk, IfErr, IfSome, IfNone};
+ghost use Rattle.std.specs.Bool.{OnTrue, OnFalse};
+ghost use Rattle.std.specs.List.{AllByRecursion};
+ghost use Rattle.ic_unsafe_ref.specs.declared.place.Place.{Place};
+ghost use Rattle.ic_unsafe_ref.specs.Objects.{object_at, is_placed};
+ghost use Rattle.ic_link_ops.specs.LinkSteps.{acquires, releases};
+ghost use Rattle.ic_link_ops.specs.Sequences.{IsMember, last};
+ghost use Rattle.ic_link_ops.specs.PlacedObjects.{ShowsPlaced};
+ghost use Rattle.ic_link_ops.specs.Tables.{IsCovered, KeepsBeside};
+ghost use Rattle.ic_link_ops.specs.SinglyLinkedList.{list_from, Shows};
+ghost use Rattle.ic_hash_table.specs.Slots.{slot_of};
+ghost use Rattle.ic_hash_table.specs.Searches.{matches, has_key, Finds, HasRoom, Looks};
+ghost use Rattle.ic_hash_table.specs.Chains.{ShowsFrom};
+
+use crate::chain_edits::unlink_behind;
+use crate::chain_search::{find_in_chain, find_place_in_chain};
+use crate::{Buckets, HashAdapter, KeyProbe, Probe, Slots};
+use ic_link_ops::singly_linked_list::SinglyLinkedListOps;
+use ic_link_ops::{AlreadyLinked, LinkOps};
+use ic_singly_linked_list::SinglyLinkedList;
+use ic_unsafe_ref::{Place, UnsafeRef, Values};
+
+/// An intrusive hash table: the adapter, the buckets with the first member of each chain, and how many members there are.
+///
+/// Which members it has is what a table of links holds for it. A clause sees that as one sequence, over objects that are placed with the
+/// keys that they were put in by. Change no key of a member: take it out, change it, and put it in again.
+#[derive(Drop)]
+pub struct HashTable<A, B> {
+    pub(crate) adapter: A,
+    pub(crate) buckets: B,
+    pub(crate) slots: Slots,
+    pub(crate) len: usize,
+}
+
+impl<A, B> HashTable<A, B> {
+    ghost use Rattle.ic_hash_table.specs.HashTable.{len_of, slots_of};
+
+    /// How many members it has. O(1).
+    #[inline]
+    pub fn len(&self) -> usize
+        ensures { result ≡ len_of self.now }
+    {
+        self.len
+    }
+
+    /// How many chains are in use. O(1).
+    #[inline]
+    pub fn chains(&self) -> usize
+        ensures { result ≡ (slots_of self.now).used }
+    {
+        self.slots.used()
+    }
+
+    /// Whether it has no member. O(1).
+    #[inline]
+    pub fn is_empty(&self) -> bool
+        ensures { IsTrue result ↔ (len_of self.now ≡ 0) }
+    {
+        self.len == 0
+    }
+}
+
+impl<A: HashAdapter, B: Buckets> HashTable<A, B> {
+    ghost use Rattle.ic_hash_table.specs.HashTable.{adapter_of, slots_of, front_at, number, Holds, HoldsSome, HoldsWith, IsNew};
+
+    /// A table with no member over these buckets, all in use: every table of links holds the empty sequence for it.
+    ///
+    /// It requires that the buckets are empty, and that there is one at least and at most 4,294,967,296. O(log n) of n buckets, and no memory.
+    pub fn new(adapter: A, buckets: B) -> HashTable<A, B>
+        requires some { 1 ≤ length (B.fronts buckets) }
+        requires few { length (B.fronts buckets) ≤ 4294967296 }
+        requires empty { AllByRecursion (λ front. front ≡ None) (B.fronts buckets) }
+        ensures adapter { adapter_of result ≡ adapter }
+        ensures empty { IsNew B.fronts result }
+    {
+        let used = buckets.count();
+        HashTable::with_used(adapter, buckets, used)
+    }
+
+    /// A table with no member over so many of these buckets. [`grow_one`](HashTable::grow_one) takes one more into use.
+    ///
+    /// It requires what [`new`](HashTable::new) does, and that there are so many buckets.
+    pub fn with_used(adapter: A, buckets: B, used: usize) -> HashTable<A, B>
+        requires some { 1 ≤ used }
+        requires within { used ≤ length (B.fronts buckets) }
+        requires few { used ≤ 4294967296 }
+        requires empty { AllByRecursion (λ front. front ≡ None) (B.fronts buckets) }
+        ensures adapter { adapter_of result ≡ adapter }
+        ensures empty { IsNew B.fronts result }
+        ensures used { (slots_of result).used ≡ used }
+    {
+        HashTable {
+            adapter,
+            buckets,
+            slots: Slots::all(used),
+            len: 0,
+        }
+    }
+
+    /// Chain `at` as a list, to be walked by its `iter`. It requires that the chain is in use, and that all members are placed. O(1).
+    #[inline]
+    pub fn chain<L: SinglyLinkedListOps, O: Values<A::Value>>(
+        &self,
+        links: &L,
+        objects: &O,
+        at: usize,
+    ) -> SinglyLinkedList<A::Value>
+        requires held { HoldsSome L.successor (number A.key_of A.hash_of) B.fronts (L.table links.now) self.now (O.values objects.now) }
+        requires within { at < (slots_of self.now).used }
+        ensures front { result ≡ list_from (front_at B.fronts self.now at) }
+        ensures placed { ShowsPlaced (Shows L.successor (L.table links.now) result) (O.values objects.now) }
+    {
+        SinglyLinkedList::from_front(self.buckets.front(at))
+    }
+
+    /// Puts the object in, unless its link is refused. O(1): one hash, no look, and no memory.
+    ///
+    /// It requires that the object is placed, and its place covered. A refused object comes back, and the table is as it was: over a plain
+    /// table of links that is so exactly if the object is linked in this field. Members with an equal key stay.
+    #[inline]
+    pub fn insert<L: SinglyLinkedListOps, O: Values<A::Value>>(
+        &mut self,
+        links: &mut L,
+        objects: &O,
+        object: UnsafeRef<A::Value>,
+    ) -> Result<(), AlreadyLinked<A::Value>>
+        requires covered { IsCovered (L.table links.old) object }
+        requires placed { is_placed (O.values objects.now) object ≡ true }
+        requires held { HoldsSome L.successor (number A.key_of A.hash_of) B.fronts (L.table links.old) self.old (O.values objects.now) }
+        ensures inserted { (s : List Place) → Holds L.successor (number A.key_of A.hash_of) B.fronts (L.table links.old) self.old (O.values objects.now) s
+            → OnOk result (HoldsWith L.successor (number A.key_of A.hash_of) B.fronts (L.table links.new) self.new (O.values objects.now) s object) }
+        ensures acquired { OnOk result (L.Does links.old links.new (acquires object ∷ [])) }
+        ensures adapter { adapter_of self.new ≡ adapter_of self.old }
+        ensures refused { OnErr result (L.Refused links.old links.new object) }
+        ensures unchanged { IfErr result (λ refused. (refused.0 ≡ object) × (self.new ≡ self.old)) }
+        ensures frame { (s : List Place) → Holds L.successor (number A.key_of A.hash_of) B.fronts (L.table links.old) self.old (O.values objects.now) s
+            → KeepsBeside (L.table links.old) (L.table links.new) (object ∷ s) }
+    {
+        let at = self.slot_of_object(objects, object.place());
+        self.insert_at(links, objects, at, object)
+    }
+
+    /// The first member that equals what is searched, or `None` if there is none.
+    ///
+    /// It requires that each value which equals what is searched has its hash, and that the probe's count leaves room. It makes no more
+    /// looks than one chain has members, that of the hash. No memory.
+    #[inline]
+    pub fn find_by<L: SinglyLinkedListOps, P: Probe<A::Value>, O: Values<A::Value>>(
+        &self,
+        links: &L,
+        objects: &O,
+        probe: &mut P,
+    ) -> Option<UnsafeRef<A::Value>>
+        requires held { HoldsSome L.successor (number A.key_of A.hash_of) B.fronts (L.table links.now) self.now (O.values objects.now) }
+        requires alike { (value : A.Value) → P.equal probe.old value ≡ true
+            → number A.key_of A.hash_of (adapter_of self.now) value ≡ P.hash probe.old }
+        requires room { HasRoom (P.count probe.old) }
+        ensures found { (s : List Place) → Holds L.successor (number A.key_of A.hash_of) B.fronts (L.table links.now) self.now (O.values objects.now) s
+            → Finds (matches (P.equal probe.old) (O.values objects.now)) s result }
+        ensures looks { (chain : List Place)
+            → ShowsFrom L.successor (L.table links.now) (front_at B.fronts self.now (slot_of (slots_of self.now) (P.hash probe.old))) chain
+            → Looks P.equal P.count probe.old probe.new chain }
+    {
+        let at = self.slots.slot(probe.hash());
+        let (_, found) = find_in_chain(links, objects, probe, self.buckets.front(at));
+        match found {
+            Some(place) => Some(UnsafeRef::new(place)),
+            None => None,
+        }
+    }
+
+    /// The first member with this key, or `None` if there is none: `find_by` with a `KeyProbe`.
+    ///
+    /// It makes one look for each member of one chain, up to the one that it finds.
+    #[inline]
+    pub fn find<L: SinglyLinkedListOps, O: Values<A::Value>>(
+        &self,
+        links: &L,
+        objects: &O,
+        key: &A::Key,
+    ) -> Option<UnsafeRef<A::Value>>
+        requires held { HoldsSome L.successor (number A.key_of A.hash_of) B.fronts (L.table links.now) self.now (O.values objects.now) }
+        ensures found { (s : List Place) → Holds L.successor (number A.key_of A.hash_of) B.fronts (L.table links.now) self.now (O.values objects.now) s
+            → Finds (has_key A.Key.eq (A.key_of (adapter_of self.now)) key.now (O.values objects.now)) s result }
+    {
+        self.find_by(links, objects, &mut KeyProbe::new(self.adapter, key))
+    }
+
+    /// Takes the object out, and says whether it was a member. Where it was none, nothing has changed.
+    ///
+    /// It requires that the object is placed, with the key that it was put in by. It walks along its chain: one hash, no look, and no memory.
+    pub fn remove<L: SinglyLinkedListOps, O: Values<A::Value>>(
+        &mut self,
+        links: &mut L,
+        objects: &O,
+        object: &UnsafeRef<A::Value>,
+    ) -> bool
+        requires placed { is_placed (O.values objects.now) object.now ≡ true }
+        requires held { HoldsSome L.successor (number A.key_of A.hash_of) B.fronts (L.table links.old) self.old (O.values objects.now) }
+        ensures answer { (s : List Place) → Holds L.successor (number A.key_of A.hash_of) B.fronts (L.table links.old) self.old (O.values objects.now) s
+            → IsTrue result ↔ IsMember object.now s }
+        ensures removed { (front back : List Place)
+            → Holds L.successor (number A.key_of A.hash_of) B.fronts (L.table links.old) self.old (O.values objects.now) (front ++ object.now ∷ back)
+            → Holds L.successor (number A.key_of A.hash_of) B.fronts (L.table links.new) self.new (O.values objects.now) (front ++ back) }
+        ensures released { OnTrue result (L.Does links.old links.new (releases object.now ∷ [])) }
+        ensures nothing { OnFalse result ((self.new ≡ self.old) × (links.new ≡ links.old)) }
+        ensures adapter { adapter_of self.new ≡ adapter_of self.old }
+        ensures frame { (s : List Place) → Holds L.successor (number A.key_of A.hash_of) B.fronts (L.table links.old) self.old (O.values objects.now) s
+            → KeepsBeside (L.table links.old) (L.table links.new) s }
+    {
+        let place = object.place();
+        let at = self.slot_of_object(objects, place);
+        let (before, found) = find_place_in_chain(&*links, self.buckets.front(at), place);
+        if found.is_none() {
+            return false;
+        }
+        self.remove_at(links, objects, at, before, place);
+        true
+    }
+
+    /// Puts the object in, unless a member has an equal key or its link is refused.
+    ///
+    /// It returns `Some` of the first member with an equal key, where there is one, and nothing has changed then. Else it does what
+    /// [`insert`](HashTable::insert) does, and returns `None`. It looks as `find`, and takes no memory.
+    #[inline]
+    pub fn insert_unique<L: SinglyLinkedListOps, O: Values<A::Value>>(
+        &mut self,
+        links: &mut L,
+        objects: &O,
+        object: UnsafeRef<A::Value>,
+    ) -> Result<Option<UnsafeRef<A::Value>>, AlreadyLinked<A::Value>>
+        requires covered { IsCovered (L.table links.old) object }
+        requires placed { is_placed (O.values objects.now) object ≡ true }
+        requires held { HoldsSome L.successor (number A.key_of A.hash_of) B.fronts (L.table links.old) self.old (O.values objects.now) }
+        ensures found { (value : A.Value) → object_at (O.values objects.now) object ≡ Some value
+            → (s : List Place) → Holds L.successor (number A.key_of A.hash_of) B.fronts (L.table links.old) self.old (O.values objects.now) s
+            → IfOk result (Finds (has_key A.Key.eq (A.key_of (adapter_of self.old)) (A.key_of (adapter_of self.old) value) (O.values objects.now)) s) }
+        ensures same { IfOk result (λ found. IfSome found (λ member. (self.new ≡ self.old) × (links.new ≡ links.old))) }
+        ensures inserted { (s : List Place) → Holds L.successor (number A.key_of A.hash_of) B.fronts (L.table links.old) self.old (O.values objects.now) s
+            → IfOk result (λ found. IfNone found (HoldsWith L.successor (number A.key_of A.hash_of) B.fronts (L.table links.new) self.new (O.values objects.now) s object)) }
+        ensures acquired { IfOk result (λ found. IfNone found (L.Does links.old links.new (acquires object ∷ []))) }
+        ensures adapter { adapter_of self.new ≡ adapter_of self.old }
+        ensures refused { OnErr result (L.Refused links.old links.new object) }
+        ensures unchanged { IfErr result (λ refused. (refused.0 ≡ object) × (self.new ≡ self.old)) }
+        ensures frame { (s : List Place) → Holds L.successor (number A.key_of A.hash_of) B.fronts (L.table links.old) self.old (O.values objects.now) s
+            → KeepsBeside (L.table links.old) (L.table links.new) (object ∷ s) }
+    {
+        let key = self.adapter.get_key(objects.value(object.place()));
+        if let Some(member) = self.find(&*links, objects, key) {
+            return Ok(Some(member));
+        }
+        self.insert(links, objects, object)?;
+        Ok(None)
+    }
+
+    /// Takes the first member with this key out and returns it, or `None`, and nothing has changed, if there is none.
+    ///
+    /// It looks as `find`, and takes no memory.
+    #[inline]
+    pub fn remove_by<L: SinglyLinkedListOps, O: Values<A::Value>>(
+        &mut self,
+        links: &mut L,
+        objects: &O,
+        key: &A::Key,
+    ) -> Option<UnsafeRef<A::Value>>
+        requires held { HoldsSome L.successor (number A.key_of A.hash_of) B.fronts (L.table links.old) self.old (O.values objects.now) }
+        ensures found { (s : List Place) → Holds L.successor (number A.key_of A.hash_of) B.fronts (L.table links.old) self.old (O.values objects.now) s
+            → Finds (has_key A.Key.eq (A.key_of (adapter_of self.old)) key.now (O.values objects.now)) s result }
+        ensures removed { IfSome result (λ object. (front back : List Place)
+            → Holds L.successor (number A.key_of A.hash_of) B.fronts (L.table links.old) self.old (O.values objects.now) (front ++ object ∷ back)
+            → Holds L.successor (number A.key_of A.hash_of) B.fronts (L.table links.new) self.new (O.values objects.now) (front ++ back)) }
+        ensures released { IfSome result (λ object. L.Does links.old links.new (releases object ∷ [])) }
+        ensures nothing { IfNone result ((self.new ≡ self.old) × (links.new ≡ links.old)) }
+        ensures adapter { adapter_of self.new ≡ adapter_of self.old }
+        ensures frame { (s : List Place) → Holds L.successor (number A.key_of A.hash_of) B.fronts (L.table links.old) self.old (O.values objects.now) s
+            → KeepsBeside (L.table links.old) (L.table links.new) s }
+    {
+        let mut probe = KeyProbe::new(self.adapter, key);
+        let at = self.slots.slot(self.adapter.hash(key));
+        let (before, found) = find_in_chain(&*links, objects, &mut probe, self.buckets.front(at));
+        let Some(place) = found else {
+            return None;
+        };
+        self.remove_at(links, objects, at, before, place);
+        Some(UnsafeRef::new(place))
+    }
+}
+
+impl<A: HashAdapter, B: Buckets> HashTable<A, B> {
+    ghost use Rattle.ic_hash_table.specs.Slots.{IsWellFormed};
+    ghost use Rattle.ic_hash_table.specs.HashTable.{adapter_of, len_of, slots_of, fronts_of, front_at, number, BelongsIn, Holds, HoldsSome, HoldsWith};
+
+    // The chain where the object belongs.
+    #[inline]
+    pub(crate) fn slot_of_object<O: Values<A::Value>>(&self, objects: &O, object: Place) -> usize
+        requires placed { is_placed (O.values objects.now) object ≡ true }
+        requires well_formed { IsWellFormed (slots_of self.now) }
+        ensures within { result < (slots_of self.now).used }
+        ensures few { result < 18446744073709551615 }
+        ensures belongs { BelongsIn (slots_of self.now) (number A.key_of A.hash_of (adapter_of self.now)) (O.values objects.now) result object }
+    {
+        let key = self.adapter.get_key(objects.value(object));
+        self.slots.slot(self.adapter.hash(key))
+    }
+
+    // Puts the object in front of chain `at`.
+    #[inline]
+    fn insert_at<L: SinglyLinkedListOps, O: Values<A::Value>>(
+        &mut self,
+        links: &mut L,
+        objects: &O,
+        at: usize,
+        object: UnsafeRef<A::Value>,
+    ) -> Result<(), AlreadyLinked<A::Value>>
+        requires covered { IsCovered (L.table links.old) object }
+        requires placed { is_placed (O.values objects.now) object ≡ true }
+        requires held { HoldsSome L.successor (number A.key_of A.hash_of) B.fronts (L.table links.old) self.old (O.values objects.now) }
+        requires within { at < (slots_of self.old).used }
+        requires belongs { BelongsIn (slots_of self.old) (number A.key_of A.hash_of (adapter_of self.old)) (O.values objects.now) at object }
+        ensures inserted { (s : List Place)
+            → Holds L.successor (number A.key_of A.hash_of) B.fronts (L.table links.old) self.old (O.values objects.now) s
+            → OnOk result (HoldsWith L.successor (number A.key_of A.hash_of) B.fronts (L.table links.new) self.new (O.values objects.now) s object) }
+        ensures acquired { OnOk result (L.Does links.old links.new (acquires object ∷ [])) }
+        ensures adapter { adapter_of self.new ≡ adapter_of self.old }
+        ensures refused { OnErr result (L.Refused links.old links.new object) }
+        ensures unchanged { IfErr result (λ refused. (refused.0 ≡ object) × (self.new ≡ self.old)) }
+        ensures frame { (s : List Place)
+            → Holds L.successor (number A.key_of A.hash_of) B.fronts (L.table links.old) self.old (O.values objects.now) s
+            → KeepsBeside (L.table links.old) (L.table links.new) (object ∷ s) }
+    {
+        let mut chain = SinglyLinkedList::from_front(self.buckets.front(at));
+        if let Err(refused) = chain.push_front(links, object) {
+            return Err(refused);
+        }
+        self.buckets.set_front(at, chain.first());
+        self.len += 1;
+        Ok(())
+    }
+
+    // Takes the member behind `before` out of chain `at`.
+    #[inline]
+    fn remove_at<L: SinglyLinkedListOps, O: Values<A::Value>>(
+        &mut self,
+        links: &mut L,
+        objects: &O,
+        at: usize,
+        before: Option<Place>,
+        place: Place,
+    )
+        requires held { HoldsSome L.successor (number A.key_of A.hash_of) B.fronts (L.table links.old) self.old (O.values objects.now) }
+        requires within { at < (slots_of self.old).used }
+        requires member { (ahead back : List Place)
+            × ShowsFrom L.successor (L.table links.old) (front_at B.fronts self.old at) (ahead ++ place ∷ back) × (before ≡ last ahead) }
+        ensures removed { (front back : List Place)
+            → Holds L.successor (number A.key_of A.hash_of) B.fronts (L.table links.old) self.old (O.values objects.now) (front ++ place ∷ back)
+            → Holds L.successor (number A.key_of A.hash_of) B.fronts (L.table links.new) self.new (O.values objects.now) (front ++ back) }
+        ensures released { L.Does links.old links.new (releases place ∷ []) }
+        ensures adapter { adapter_of self.new ≡ adapter_of self.old }
+        ensures frame { (s : List Place)
+            → Holds L.successor (number A.key_of A.hash_of) B.fronts (L.table links.old) self.old (O.values objects.now) s
+            → KeepsBeside (L.table links.old) (L.table links.new) s }
+    {
+        let front = unlink_behind(links, self.buckets.front(at), before, place);
+        self.buckets.set_front(at, front);
+        self.len -= 1;
+    }
+}

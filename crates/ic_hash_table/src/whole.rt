@@ -1,0 +1,95 @@
+//! Calls on a hash table as a whole.
+//!
+//! ```text
+//! table.retain(&mut links, &objects, |task| task.is_ready()); // each other member is unlinked
+//! table.clear(&mut links); // and so is each that is left
+//! ```
+
+ghost use Rattle.std.specs.Prelude.{◌≡◌, ◌<◌, None, List, length, slice_index_or, slice_set};
+ghost use Rattle.ic_unsafe_ref.specs.declared.place.Place.{Place};
+ghost use Rattle.ic_link_ops.specs.LinkSteps.{releases_each};
+ghost use Rattle.ic_link_ops.specs.Tables.{KeepsBeside};
+ghost use Rattle.ic_hash_table.specs.Chains.{ShowsFrom, ShowsFromSome};
+
+use crate::{Buckets, HashAdapter, HashTable};
+use ic_link_ops::LinkOps;
+use ic_link_ops::singly_linked_list::SinglyLinkedListOps;
+use ic_singly_linked_list::SinglyLinkedList;
+use ic_unsafe_ref::{UnsafeRef, Values};
+
+// Unlinks the members of one chain, and empties it.
+fn clear_chain<L: SinglyLinkedListOps, B: Buckets>(buckets: &mut B, links: &mut L, at: usize)
+    requires within { at < length (B.fronts buckets.old) }
+    requires shown { ShowsFromSome L.successor (L.table links.old) (slice_index_or (B.fronts buckets.old) at None) }
+    ensures empty { B.fronts buckets.new ≡ slice_set (B.fronts buckets.old) at None }
+    ensures released { (chain : List Place) → ShowsFrom L.successor (L.table links.old) (slice_index_or (B.fronts buckets.old) at None) chain
+        → L.Does links.old links.new (releases_each chain) }
+    ensures frame { (chain : List Place) → ShowsFrom L.successor (L.table links.old) (slice_index_or (B.fronts buckets.old) at None) chain
+        → KeepsBeside (L.table links.old) (L.table links.new) chain }
+{
+    let mut chain: SinglyLinkedList<()> = SinglyLinkedList::from_front(buckets.front(at));
+    chain.clear(links);
+    buckets.set_front(at, None);
+}
+
+impl<A, B: Buckets> HashTable<A, B> {
+    ghost use Rattle.ic_hash_table.specs.HashTable.{adapter_of, IsNew, IsShown};
+
+    /// Takes all members out: each is unlinked, and the table is empty.
+    ///
+    /// It requires that the links show its chains, whatever keys the members have now: they need not be placed. One step for each
+    /// member and each bucket, no look, and no memory.
+    pub fn clear<L: SinglyLinkedListOps>(&mut self, links: &mut L)
+        requires shown { (s : List Place) × IsShown L.successor B.fronts (L.table links.old) self.old s }
+        ensures empty { IsNew B.fronts self.new }
+        ensures adapter { adapter_of self.new ≡ adapter_of self.old }
+        ensures released { (s : List Place) → IsShown L.successor B.fronts (L.table links.old) self.old s
+            → L.Does links.old links.new (releases_each s) }
+        ensures frame { (s : List Place) → IsShown L.successor B.fronts (L.table links.old) self.old s
+            → KeepsBeside (L.table links.old) (L.table links.new) s }
+    {
+        let count = self.buckets.count();
+        let mut at = 0;
+        while at < count {
+            clear_chain(&mut self.buckets, links, at);
+            at += 1;
+        }
+        self.len = 0;
+    }
+}
+
+impl<A: HashAdapter, B: Buckets> HashTable<A, B> {
+    ghost use Rattle.std.specs.Fn.{FnReturnsAt};
+    ghost use Rattle.ic_hash_table.specs.HashTable.{adapter_of, number, Holds, HoldsSome};
+    ghost use Rattle.ic_hash_table.specs.Retained.{Keeps};
+
+    /// Takes each member out whose object fails the test. The others stay, in their order.
+    ///
+    /// It requires that all members are placed, with the keys that they were put in by. The test is asked once for each member, from the
+    /// first on. What was taken out is unlinked, and stays placed. One step for each member and each bucket, and a walk along its chain for
+    /// each member that goes. No look, and no memory.
+    pub fn retain<L: SinglyLinkedListOps, O: Values<A::Value>, F: Fn(&A::Value) -> bool>(
+        &mut self,
+        links: &mut L,
+        objects: &O,
+        keeps: F,
+    )
+        requires held { HoldsSome L.successor (number A.key_of A.hash_of) B.fronts (L.table links.old) self.old (O.values objects.now) }
+        requires callable { F.IsAlwaysCallable keeps }
+        ensures retained { (s : List Place) → Holds L.successor (number A.key_of A.hash_of) B.fronts (L.table links.old) self.old (O.values objects.now) s
+            → (kept gone : List Place) × Keeps (FnReturnsAt F.Fn keeps) (O.values objects.now) s kept gone
+            × Holds L.successor (number A.key_of A.hash_of) B.fronts (L.table links.new) self.new (O.values objects.now) kept
+            × L.Does links.old links.new (releases_each gone) }
+        ensures adapter { adapter_of self.new ≡ adapter_of self.old }
+        ensures frame { (s : List Place) → Holds L.successor (number A.key_of A.hash_of) B.fronts (L.table links.old) self.old (O.values objects.now) s
+            → KeepsBeside (L.table links.old) (L.table links.new) s }
+    {
+        let mut at = self.next(&*links, objects, None);
+        while let Some(place) = at {
+            at = self.next(&*links, objects, at);
+            if !keeps(objects.value(place)) {
+                self.remove(links, objects, &UnsafeRef::new(place));
+            }
+        }
+    }
+}
