@@ -6,8 +6,9 @@ use Rattle.ic_link_ops.specs.Chains.{IsChain}
 use Rattle.ic_link_ops.specs.Sequences.{IsAbsent, IsMember, IsDistinct}
 use Rattle.ic_link_ops.specs.Tables.{Table}
 use Rattle.ic_link_ops.specs.SinglyLinkedList.{Successor, IsFollowed}
+use Rattle.ic_link_ops.proofs.Chains.{chain_cut}
 use Rattle.ic_link_ops.proofs.Each.{all_back}
-use Rattle.ic_link_ops.proofs.SequenceLemmas.{absent_left, absent_right, absent_with, absent_without, distinct_insert, first_is, member_split}
+use Rattle.ic_link_ops.proofs.SequenceLemmas.{absent_left, absent_right, absent_with, absent_without, distinct_insert, distinct_right, first_is, member_split}
 use Rattle.ic_hash_table.specs.Growth.{IsParted}
 use Rattle.ic_hash_table.specs.Chains.{ShowsFrom}
 use Rattle.ic_link_ops.proofs.ShownLists.{shows_beside}
@@ -23,12 +24,16 @@ of_members P s [] within all = tt
 of_members P s (x ∷ u) within all = (of_member P s x all (λ out. (within x out).0 refl), of_members P s u (λ q out. (within q out).1) all)
 
 module _ {E : Type 0} {successor : E → Successor} where
-  -- without its first, a chain is shown from what stands behind that
-  pub shows_rest : {t : Table E} {front next : Option Place} (p : Place) (s : List Place) → ShowsFrom successor t front (p ∷ s) → next ≡ (successor (t.entry p)).next → ShowsFrom successor t next s
-  shows_rest {t} p s shown is = record { distinct = shown.distinct.1; chain = whatever s shown.chain.1; head = is ∙ shown.chain.0.next; tail = refl } where
-    whatever : (s : List Place) → IsChain (IsFollowed successor) t.entry (Some p) s None → IsChain (IsFollowed successor) t.entry None s None
-    whatever [] c = tt
-    whatever (x ∷ s) c = (record { linked = c.0.linked; next = c.0.next }, c.1)
+  -- BEHIND A MEMBER a chain is shown from what stands there
+  pub shows_behind : {t : Table E} {front next : Option Place} (c1 c2 : List Place) (p : Place) → ShowsFrom successor t front (c1 ++ p ∷ c2) → next ≡ (successor (t.entry p)).next
+      → ShowsFrom successor t next c2
+  shows_behind {t} c1 c2 p shown is =
+      let cut = (chain_cut (IsFollowed successor) t.entry None c1 (p ∷ c2) None shown.chain).1 in
+      record { distinct = (distinct_right c1 (p ∷ c2) shown.distinct).1; chain = whatever c2 cut.1; head = is ∙ cut.0.next; tail = refl }
+    where
+      whatever : (s : List Place) → IsChain (IsFollowed successor) t.entry (Some p) s None → IsChain (IsFollowed successor) t.entry None s None
+      whatever [] c = tt
+      whatever (x ∷ s) c = (record { linked = c.0.linked; next = c.0.next }, c.1)
 
   nothing_shown : (t : Table E) → ShowsFrom successor t None []
   nothing_shown t = record { distinct = tt; chain = tt; head = refl; tail = refl }
@@ -87,7 +92,7 @@ module _ {E : Type 0} {successor : E → Successor} where
               left = l;
               staying = p ∷ k.staying;
               moving = k.moving;
-              shows_left = shows_beside (shows_rest p l left_shown is_next) (absent_left p l (k.staying ++ k.moving) out) others;
+              shows_left = shows_beside (shows_behind [] l p left_shown is_next) (absent_left p l (k.staying ++ k.moving) out) others;
               shows_staying = put k.staying k.shows_staying (absent_left p k.staying k.moving out_parts);
               shows_moving = shows_beside k.shows_moving (absent_right p k.staying k.moving out_parts) others;
               distinct = distinct_insert l (k.staying ++ k.moving) p left_distinct.1 out;
@@ -111,7 +116,7 @@ module _ {E : Type 0} {successor : E → Successor} where
               left = l;
               staying = k.staying;
               moving = p ∷ k.moving;
-              shows_left = shows_beside (shows_rest p l left_shown is_next) (absent_left p l (k.staying ++ k.moving) out) others;
+              shows_left = shows_beside (shows_behind [] l p left_shown is_next) (absent_left p l (k.staying ++ k.moving) out) others;
               shows_staying = shows_beside k.shows_staying (absent_left p k.staying k.moving out_parts) others;
               shows_moving = put k.moving k.shows_moving (absent_right p k.staying k.moving out_parts);
               distinct = subst IsDistinct with (distinct_insert (l ++ k.staying) k.moving p (subst IsDistinct (sym without) left_distinct.1) (subst (IsAbsent p) (sym without) out));

@@ -45,28 +45,32 @@ module _ {V : Type 0} (slots : Slots) (hash : V → ℕ) (objects : Objects V) {
   pub none_elsewhere : (p : Place) → Elsewhere (BelongsIn slots hash objects) k p → matches equal objects p ≡ false
   none_elsewhere p (j, differs, belongs) = not_here (object_at objects p) (λ v there e. differs (sym (belongs v there) ∙ e))
 
--- THE WALK ALONG ITS CHAIN FINDS IT, among all members
+-- A WALK ALONG A CHAIN FINDS IT, among members of which no other passes
+pub finds_among : {is : Place → Bool} (ahead chain behind : List Place) → AllByRecursion (λ p. is p ≡ false) ahead → AllByRecursion (λ p. is p ≡ false) behind
+    → {before : Option Place} (at : Option Place) → StopsAt is chain before at → Finds is (ahead ++ (chain ++ behind)) at
+finds_among {is = is} ahead chain behind none_ahead none_behind None stop =
+    let P : Place → Type 0 = λ p. is p ≡ false in
+    let none : AllByRecursion P chain =
+    subst (AllByRecursion P) stop.whole
+    (all_both P stop.gap.front stop.gap.back stop.passed (subst (AllByRecursion P) (sym (nothing_first stop.gap.back stop.here)) tt)) in
+    all_both P ahead (chain ++ behind) none_ahead (all_both P chain behind none none_behind)
+finds_among {is = is} ahead chain behind none_ahead none_behind (Some p) stop =
+    let f = stop.gap.front in
+    let rest = drop 1 stop.gap.back in
+    let whole : chain ≡ f ++ p ∷ rest = sym stop.whole ∙ ap (λ l. f ++ l) (first_is stop.gap.back stop.here) in (
+      ahead ++ f,
+      rest ++ behind,
+      ap (λ l. ahead ++ (l ++ behind)) whole ∙ ap (λ l. ahead ++ l) (append_assoc f (p ∷ rest) behind) ∙ sym (append_assoc ahead f (p ∷ rest ++ behind)),
+      all_both (λ q. is q ≡ false) ahead f none_ahead stop.passed,
+      stop.stops,
+    )
+
+-- and among all members of a table
 pub finds : {E : Type 0} {successor : E → Successor} {Belongs : ℕ → Place → Type 0} {t : Table E} {k : ℕ} {fronts : List (Option Place)} {s : List Place} {is : Place → Bool}
     → (c : Between successor Belongs t 0 k k fronts s) → ((p : Place) → Elsewhere Belongs k p → is p ≡ false)
     → {before : Option Place} (at : Option Place) → StopsAt is c.chain before at → Finds is s at
-finds {is = is} c elsewhere None stop =
-    let P : Place → Type 0 = λ p. is p ≡ false in
-    let chain : AllByRecursion P c.chain =
-    subst (AllByRecursion P) stop.whole
-    (all_both P stop.gap.front stop.gap.back stop.passed (subst (AllByRecursion P) (sym (nothing_first stop.gap.back stop.here)) tt)) in
-    subst (AllByRecursion P) (sym c.parts)
-    (all_both P c.ahead (c.chain ++ c.behind) (all_map elsewhere c.ahead c.ahead_others) (all_both P c.chain c.behind chain (all_map elsewhere c.behind c.behind_others)))
-finds {is = is} c elsewhere (Some p) stop =
-    let P : Place → Type 0 = λ q. is q ≡ false in
-    let f = stop.gap.front in
-    let rest = drop 1 stop.gap.back in
-    let chain : c.chain ≡ f ++ p ∷ rest = sym stop.whole ∙ ap (λ l. f ++ l) (first_is stop.gap.back stop.here) in (
-      c.ahead ++ f,
-      rest ++ c.behind,
-      c.parts ∙ ap (λ l. c.ahead ++ (l ++ c.behind)) chain ∙ ap (λ l. c.ahead ++ l) (append_assoc f (p ∷ rest) c.behind) ∙ sym (append_assoc c.ahead f (p ∷ rest ++ c.behind)),
-      all_both P c.ahead f (all_map elsewhere c.ahead c.ahead_others) stop.passed,
-      stop.stops,
-    )
+finds {is = is} c elsewhere at stop =
+    subst (λ l. Finds is l at) (sym c.parts) (finds_among c.ahead c.chain c.behind (all_map elsewhere c.ahead c.ahead_others) (all_map elsewhere c.behind c.behind_others) at stop)
 
 -- where it stopped at a member, that stands behind the one before
 pub stops_at : {E : Type 0} {successor : E → Successor} {t : Table E} {front : Option Place} {chain : List Place} {is : Place → Bool} {before : Option Place} {p : Place} → StopsAt is chain before (Some p)

@@ -1,16 +1,17 @@
 -- From one member to the next, through all chains.
-use Rattle.std.proofs.Common.{◌≡◌, ℕ, zero, suc, ◌/◌, ◌<◌, ◌≤◌, Option, Some, None, is_some, IsSome, true, false, true≢false, List, [], ◌∷◌, ◌++◌, drop, length, slice_index_or, refl, sym, ap, ◌∙◌, subst, arith, append_assoc}
+use Rattle.std.proofs.Common.{◌≡◌, ℕ, zero, suc, ◌/◌, ◌<◌, ◌≤◌, Option, Some, None, is_some, IsSome, Bool, true, false, true≢false, List, [], ◌∷◌, ◌++◌, drop, length, slice_index_or, refl, sym, ap, ◌∙◌, subst, arith, append_assoc}
 use Rattle.std.specs.Bool.{⊤}
 use Rattle.std.specs.List.{AllByRecursion}
 use Rattle.std.proofs.Math.Seq.{drop-cons}
 use Rattle.ic_unsafe_ref.specs.declared.place.Place.{Place}
 use Rattle.ic_link_ops.specs.Sequences.{Cut, join, first, last, but_last, IsDistinct}
+use Rattle.ic_link_ops.specs.PlacedObjects.{ArePlaced}
 use Rattle.ic_link_ops.specs.Tables.{Table}
 use Rattle.ic_link_ops.specs.SinglyLinkedList.{Successor, IsFollowed}
 use Rattle.ic_link_ops.proofs.SequenceLemmas.{split_last, nothing_first}
 use Rattle.ic_link_ops.specs.Sequences.{IsAbsent, IsMember}
 use Rattle.ic_unsafe_ref.specs.Objects.{Objects, object_at}
-use Rattle.ic_link_ops.proofs.Each.{all_map, all_back}
+use Rattle.ic_link_ops.proofs.Each.{all_front, all_map, all_back}
 use Rattle.ic_link_ops.proofs.ShownLists.{shows_middle}
 use Rattle.ic_hash_table.specs.declared.slots.Slots.{Slots}
 use Rattle.ic_hash_table.specs.Slots.{slot_of}
@@ -19,8 +20,10 @@ use Rattle.ic_link_ops.proofs.SequenceLemmas.{absent_both, member_split, split_m
 use Rattle.ic_hash_table.specs.declared.table.HashTable.{HashTable}
 use Rattle.ic_hash_table.specs.Chains.{AreChained, ShowsFrom}
 use Rattle.ic_hash_table.specs.HashTable.{BelongsIn, Holds}
+use Rattle.ic_hash_table.specs.Searches.{matches, Finds, StopsAt}
 use Rattle.ic_hash_table.proofs.Chains.{Elsewhere, chains_weakened}
-use Rattle.ic_hash_table.proofs.FoundMembers.{chain_of, place_absent, place_elsewhere}
+use Rattle.ic_hash_table.proofs.ChainParts.{shows_behind}
+use Rattle.ic_hash_table.proofs.FoundMembers.{chain_of, finds_among, none_elsewhere, place_absent, place_elsewhere}
 use Rattle.ic_hash_table.proofs.HeldTables.{one_cut}
 
 module _ {E : Type 0} (successor : E → Successor) (t : Table E) where
@@ -129,3 +132,43 @@ module _ {E A B V : Type 0} {successor : E → Successor} {hash : A → V → �
         let b = behind_place held k used place place_placed belongs (but_last gap.front) gap.back (gap_behind gap place after) in
         let e = shows_middle b.0 b.1 ((subst (ShowsFrom successor t (slice_index_or (fronts table.buckets) k None)) b.2 (chain_of held k used).shown)) in
         (b.1, record { linked = e.linked; next = e.next }, b.3)
+
+-- THE REST OF A CHAIN behind the member p, of the members behind it: none of the others belongs in that chain
+pub record RestOfChain {E A B V : Type 0} (successor : E → Successor) (hash : A → V → ℕ) (t : Table E) (table : HashTable A B) (objects : Objects V) (p : Place) (back : List Place) : Type 0 where
+  pub slot : ℕ
+  pub rest : List Place
+  pub others : List Place
+  pub linked : (successor (t.entry p)).linked ≡ true
+  pub belongs : BelongsIn table.slots (hash table.adapter) objects slot p
+  pub parts : back ≡ rest ++ others
+  pub shown : ShowsFrom successor t (successor (t.entry p)).next rest
+  pub placed : ArePlaced objects rest
+  pub elsewhere : AllByRecursion (Elsewhere (BelongsIn table.slots (hash table.adapter) objects) slot) others
+
+pub rest_of_chain : {E A B V : Type 0} {successor : E → Successor} {hash : A → V → ℕ} {fronts : B → List (Option Place)} {t : Table E} {table : HashTable A B} {objects : Objects V} (front back : List Place) (p : Place)
+    → Holds successor hash fronts t table objects (front ++ p ∷ back) → RestOfChain successor hash t table objects p back
+rest_of_chain {successor = successor} {hash = hash} {fronts = fronts} {t = t} {table = table} {objects = objects} front back p held =
+    let placed = all_back (λ q. IsSome (object_at objects q)) front (p ∷ back) held.placed in
+    let k = slot_of_place table.slots (hash table.adapter) objects (omega (arith, held.well_formed.half)) p placed.0 in
+    let c = chain_of held k.0 k.1 in
+    let b = behind_place held k.0 k.1 p placed.0 k.2 front back refl in
+    let shown = subst (ShowsFrom successor t (slice_index_or (fronts table.buckets) k.0 None)) b.2 c.shown in
+    record {
+      slot = k.0;
+      rest = b.1;
+      others = c.behind;
+      linked = (shows_middle b.0 b.1 shown).linked;
+      belongs = k.2;
+      parts = b.3;
+      shown = shows_behind b.0 b.1 p shown refl;
+      placed = all_front (λ q. IsSome (object_at objects q)) b.1 c.behind (subst (AllByRecursion (λ q. IsSome (object_at objects q))) b.3 placed.1);
+      elsewhere = c.behind_others;
+    }
+
+-- A WALK ALONG THAT REST FINDS what equals the object of the member, among all members behind it
+pub finds_behind : {E A B V : Type 0} {successor : E → Successor} {hash : A → V → ℕ} {t : Table E} {table : HashTable A B} {objects : Objects V} {p : Place} {back : List Place} {equal : V → Bool}
+    → (r : RestOfChain successor hash t table objects p back) → ((v : V) → equal v ≡ true → slot_of table.slots (hash table.adapter v) ≡ r.slot)
+    → {before : Option Place} (at : Option Place) → StopsAt (matches equal objects) r.rest before at → Finds (matches equal objects) back at
+finds_behind {hash = hash} {table = table} {objects = objects} {equal = equal} r alike at stop =
+    subst (λ l. Finds (matches equal objects) l at) (sym r.parts)
+    (finds_among [] r.rest r.others tt (all_map (none_elsewhere table.slots (hash table.adapter) objects alike) r.others r.elsewhere) at stop)

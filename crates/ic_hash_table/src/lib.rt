@@ -19,6 +19,7 @@ mod adapter;
 mod buckets;
 mod chain_edits;
 mod chain_search;
+mod equal;
 mod growth;
 mod iter;
 mod probe;

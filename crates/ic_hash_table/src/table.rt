@@ -79,6 +79,7 @@ impl<A: HashAdapter, B: Buckets> HashTable<A, B> {
         requires empty { AllByRecursion (λ front. front ≡ None) (B.fronts buckets) }
         ensures adapter { adapter_of result ≡ adapter }
         ensures empty { IsNew B.fronts result }
+        ensures used { (slots_of result).used ≡ length (B.fronts buckets) }
     {
         let used = buckets.count();
         HashTable::with_used(adapter, buckets, used)
@@ -117,7 +118,8 @@ impl<A: HashAdapter, B: Buckets> HashTable<A, B> {
         ensures front { result ≡ list_from (front_at B.fronts self.now at) }
         ensures placed { ShowsPlaced (Shows L.successor (L.table links.now) result) (O.values objects.now) }
     {
-        SinglyLinkedList::from_front(self.buckets.front(at))
+        let first = self.buckets.front(at);
+        SinglyLinkedList::from_front(first)
     }
 
     /// Puts the object in, unless its link is refused. O(1): one hash, no look, and no memory.

@@ -1,0 +1,49 @@
+use Rattle.std.proofs.Common.{◌≡◌, Some, IsSome, ◌∷◌, sym, ap, ◌∙◌}
+use Rattle.ic_unsafe_ref.specs.Objects.{object_at}
+use Rattle.ic_link_ops.proofs.Each.{all_back}
+use Rattle.ic_link_ops.proofs.SequenceLemmas.{some_same}
+use Rattle.ic_hash_table.specs.Slots.{slot_of}
+use Rattle.ic_hash_table.proofs.NextMembers.{rest_of_chain, finds_behind}
+use Rattle.ic_hash_table.proofs.table.HashTable.next_equal.Goals as goal
+
+pub value-requires : goal.value-requires
+value-requires g c =
+    let m = c.requires.member in
+    record { placed = rw c.place-place.ensures (all_back (λ q. IsSome (object_at (g.O.Values.values c.args.objects.now) q)) m.front (c.args.member.now ∷ m.back) m.shown.placed).0 }
+
+pub next-requires : goal.next-requires
+next-requires g c =
+    let m = c.requires.member in
+    record { linked = rw c.place-place.ensures (sym (g.met.L.SinglyLinkedListOps.linked_alike _) ∙ (rest_of_chain m.front m.back c.args.member.now m.shown).linked) }
+
+pub find_in_chain-found-requires-clause-placed : goal.find_in_chain-found-requires-clause-placed
+find_in_chain-found-requires-clause-placed g c =
+    let m = c.requires.member in
+    let r = rest_of_chain m.front m.back c.args.member.now m.shown in
+    record { members = r.rest; shown = rw (c.next.ensures, c.place-place.ensures) r.shown; placed = r.placed }
+
+pub returns-in-Some : goal.returns-in-Some
+returns-in-Some g c = record {
+  found = λ value there front back held.
+      let is : value ≡ c.value.result.now = some_same (sym there ∙ rw c.place-place.ensures at c.value.ensures) in
+      let r = rest_of_chain front back c.args.member.now held in
+      let stop = rw (c.new-probe.ensures.adapter, c.new-probe.ensures.key, c.get_key-key.ensures) at (c.find_in_chain-found.ensures.stops r.rest (rw (c.next.ensures, c.place-place.ensures) r.shown)) in
+      let found = finds_behind r (λ v e.
+      ap (slot_of c.args.self.now.slots)
+      (sym (g.met.A.HashAdapter.equal_alike c.args.self.now.adapter (g.A.HashAdapter.key_of c.args.self.now.adapter c.value.result.now) (g.A.HashAdapter.key_of c.args.self.now.adapter v) e))
+      ∙ r.belongs c.value.result.now (there ∙ ap Some is)) c.find_in_chain-found.result.1 stop in
+      rw (is, c.new.ensures) (rw c.in-Some.is at found);
+}
+
+pub returns-in-None : goal.returns-in-None
+returns-in-None g c = record {
+  found = λ value there front back held.
+      let is : value ≡ c.value.result.now = some_same (sym there ∙ rw c.place-place.ensures at c.value.ensures) in
+      let r = rest_of_chain front back c.args.member.now held in
+      let stop = rw (c.new-probe.ensures.adapter, c.new-probe.ensures.key, c.get_key-key.ensures) at (c.find_in_chain-found.ensures.stops r.rest (rw (c.next.ensures, c.place-place.ensures) r.shown)) in
+      let found = finds_behind r (λ v e.
+      ap (slot_of c.args.self.now.slots)
+      (sym (g.met.A.HashAdapter.equal_alike c.args.self.now.adapter (g.A.HashAdapter.key_of c.args.self.now.adapter c.value.result.now) (g.A.HashAdapter.key_of c.args.self.now.adapter v) e))
+      ∙ r.belongs c.value.result.now (there ∙ ap Some is)) c.find_in_chain-found.result.1 stop in
+      rw is (rw c.in-None.is at found);
+}

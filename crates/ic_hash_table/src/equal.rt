@@ -1,0 +1,50 @@
+//! Members with equal keys.
+//!
+//! ```text
+//! let mut at = table.find(&links, &objects, &7); // the first member with the key 7
+//! while let Some(member) = at {
+//!     at = table.next_equal(&links, &objects, &member); // the next one
+//! }
+//! ```
+
+ghost use Rattle.std.specs.Prelude.{◌≡◌, ◌++◌, ◌∷◌, List, Some};
+ghost use Rattle.ic_unsafe_ref.specs.declared.place.Place.{Place};
+ghost use Rattle.ic_unsafe_ref.specs.Objects.{object_at};
+ghost use Rattle.ic_link_ops.specs.Positions.{HasMember};
+ghost use Rattle.ic_hash_table.specs.HashTable.{adapter_of, number, Holds};
+ghost use Rattle.ic_hash_table.specs.Searches.{has_key, Finds};
+
+use crate::chain_search::find_in_chain;
+use crate::{Buckets, HashAdapter, HashTable, KeyProbe};
+use ic_link_ops::LinkOps;
+use ic_link_ops::singly_linked_list::SinglyLinkedListOps;
+use ic_unsafe_ref::{UnsafeRef, Values};
+
+impl<A: HashAdapter, B: Buckets> HashTable<A, B> {
+    /// The next member behind this one that has an equal key, or `None` if none follows.
+    ///
+    /// It requires that the object is a member, with the key that it was put in by. From the one that [`find`](HashTable::find) returns on,
+    /// these are all members with that key, in their order. It makes one look for each member of one chain, from behind this one up to the
+    /// one that it finds. No memory.
+    #[inline]
+    pub fn next_equal<L: SinglyLinkedListOps, O: Values<A::Value>>(
+        &self,
+        links: &L,
+        objects: &O,
+        member: &UnsafeRef<A::Value>,
+    ) -> Option<UnsafeRef<A::Value>>
+        requires member { HasMember (Holds L.successor (number A.key_of A.hash_of) B.fronts (L.table links.now) self.now (O.values objects.now)) member.now }
+        ensures found { (value : A.Value) → object_at (O.values objects.now) member.now ≡ Some value → (front back : List Place)
+            → Holds L.successor (number A.key_of A.hash_of) B.fronts (L.table links.now) self.now (O.values objects.now) (front ++ member.now ∷ back)
+            → Finds (has_key A.Key.eq (A.key_of (adapter_of self.now)) (A.key_of (adapter_of self.now) value) (O.values objects.now)) back result }
+    {
+        let place = member.place();
+        let key = self.adapter.get_key(objects.value(place));
+        let mut probe = KeyProbe::new(self.adapter, key);
+        let (_, found) = find_in_chain(links, objects, &mut probe, links.next(place));
+        match found {
+            Some(equal) => Some(UnsafeRef::new(equal)),
+            None => None,
+        }
+    }
+}
