@@ -35,7 +35,7 @@ module _ {E : Type 0} {successor : E → Successor} where
       whatever [] c = tt
       whatever (x ∷ s) c = (record { linked = c.0.linked; next = c.0.next }, c.1)
 
-  nothing_shown : (t : Table E) → ShowsFrom successor t None []
+  pub nothing_shown : (t : Table E) → ShowsFrom successor t None []
   nothing_shown t = record { distinct = tt; chain = tt; head = refl; tail = refl }
 
   module _ {is : Place → Bool} where

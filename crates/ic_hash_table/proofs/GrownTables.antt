@@ -25,12 +25,12 @@ tested : {V : Type 0} (equal : V → Bool) (objects : Objects V) (p : Place) (v 
 tested equal objects p v there b is = sym (ap (λ o. passes equal o) there) ∙ is
 
 -- without a part, what is distinct is so
-without_middle : (a m b : List Place) → IsDistinct (a ++ (m ++ b)) → IsDistinct (a ++ b)
+pub without_middle : (a m b : List Place) → IsDistinct (a ++ (m ++ b)) → IsDistinct (a ++ b)
 without_middle a [] b d = d
 without_middle a (x ∷ m) b d = without_middle a m b (distinct_remove a (m ++ b) x d)
 
 -- no member of the middle stands beside it
-middle_apart : (a m b : List Place) → IsDistinct (a ++ (m ++ b)) → IsDisjoint m (a ++ b)
+pub middle_apart : (a m b : List Place) → IsDistinct (a ++ (m ++ b)) → IsDisjoint m (a ++ b)
 middle_apart a m b d =
     disjoint_sym (a ++ b) m (disjoint_both a b m (disjoint_left a m b (distinct_disjoint a (m ++ b) d)) (disjoint_sym m b (distinct_disjoint m b (distinct_right a (m ++ b) d))))
 

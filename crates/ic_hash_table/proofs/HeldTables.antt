@@ -33,10 +33,10 @@ one_cut (x ∷ a) b (y ∷ c) d p distinct e =
     (rw h (ap (λ (l : List Place). y ∷ l) k.0), k.1)
 
 -- the two sides of one part of distinct places
-middle_ahead : (a m b : List Place) → IsDistinct (a ++ (m ++ b)) → IsDisjoint a m
+pub middle_ahead : (a m b : List Place) → IsDistinct (a ++ (m ++ b)) → IsDisjoint a m
 middle_ahead a m b d = disjoint_left a m b (distinct_disjoint a (m ++ b) d)
 
-middle_behind : (a m b : List Place) → IsDistinct (a ++ (m ++ b)) → IsDisjoint b m
+pub middle_behind : (a m b : List Place) → IsDistinct (a ++ (m ++ b)) → IsDisjoint b m
 middle_behind a m b d = disjoint_sym m b (distinct_disjoint m b (distinct_right a (m ++ b) d))
 
 -- the table with other buckets and another count

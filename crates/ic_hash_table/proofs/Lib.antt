@@ -9,4 +9,5 @@ pub mod HeldTables
 pub mod NextMembers
 pub mod RemainingMembers
 pub mod RetainedMembers
+pub mod ShrunkTables
 pub mod SlotLemmas

@@ -1,4 +1,4 @@
-//! Edits of one chain: a member is put in front of it, or is taken out behind another.
+//! Edits of one chain: a member is put in front of it, or is taken out behind another, and a second chain is put in front of it.
 //!
 //! ```text
 //! let front = unlink_behind(&mut links, front, before, place);
@@ -6,11 +6,12 @@
 
 ghost use Rattle.std.specs.Prelude.{◌≡◌, ◌≢◌, Option, List, [], ◌∷◌, ◌++◌};
 ghost use Rattle.ic_unsafe_ref.specs.declared.place.Place.{Place};
-ghost use Rattle.ic_link_ops.specs.Sequences.{IsAbsent, last};
+ghost use Rattle.ic_link_ops.specs.Sequences.{IsAbsent, IsDisjoint, last};
 ghost use Rattle.ic_link_ops.specs.Tables.{IsLinked, KeepsBeside};
 ghost use Rattle.ic_link_ops.specs.LinkSteps.{releases};
-ghost use Rattle.ic_hash_table.specs.Chains.{ShowsFrom};
+ghost use Rattle.ic_hash_table.specs.Chains.{ShowsFrom, ShowsFromSome};
 
+use ic_cursors::{Collection, Splice};
 use ic_link_ops::LinkOps;
 use ic_link_ops::singly_linked_list::SinglyLinkedListOps;
 use ic_singly_linked_list::SinglyLinkedList;
@@ -55,5 +56,25 @@ pub(crate) fn link_front<L: SinglyLinkedListOps>(
 {
     let mut chain: SinglyLinkedList<()> = SinglyLinkedList::from_front(front);
     chain.insert_linked(links, None, place, front);
+    chain.first()
+}
+
+// Puts all members of one chain in front of those of another. Returns the first member that the second has then.
+pub(crate) fn join_chains<L: SinglyLinkedListOps>(
+    links: &mut L,
+    front: Option<Place>,
+    rest: Option<Place>,
+) -> Option<Place>
+    requires shown { ShowsFromSome L.successor (L.table links.old) front }
+    requires rest { ShowsFromSome L.successor (L.table links.old) rest }
+    ensures joined { (s t : List Place) → ShowsFrom L.successor (L.table links.old) front s → ShowsFrom L.successor (L.table links.old) rest t → IsDisjoint s t
+        → ShowsFrom L.successor (L.table links.new) result (s ++ t) }
+    ensures frame { (s t : List Place) → ShowsFrom L.successor (L.table links.old) front s → ShowsFrom L.successor (L.table links.old) rest t → IsDisjoint s t
+        → KeepsBeside (L.table links.old) (L.table links.new) (s ++ t) }
+    ensures no_step { L.Does links.old links.new [] }
+{
+    let mut chain: SinglyLinkedList<()> = SinglyLinkedList::from_front(rest);
+    let mut at = chain.null_position();
+    chain.splice_after_at(links, &mut at, SinglyLinkedList::from_front(front));
     chain.first()
 }

@@ -1,12 +1,14 @@
-//! Growth, one chain at a time.
+//! Growth and shrinking, one chain at a time.
 //!
 //! ```text
 //! if table.len() > 2 * table.chains() {
 //!     table.grow_one(&mut links, &objects); // splits one chain
+//! } else if 2 * table.len() < table.chains() {
+//!     table.shrink_one(&mut links); // joins two
 //! }
 //! ```
 
-ghost use Rattle.std.specs.Prelude.{◌≡◌, ◌≢◌, ◌+◌, ◌<◌, true, false, nat_eq, Option, None, Some, List, [], ◌∷◌};
+ghost use Rattle.std.specs.Prelude.{◌≡◌, ◌≢◌, ◌↔◌, ◌+◌, ◌<◌, ◌≤◌, length, IsTrue, true, false, nat_eq, Option, None, Some, List, [], ◌∷◌};
 ghost use Rattle.std.specs.Bool.{OnTrue, OnFalse};
 ghost use Rattle.ic_unsafe_ref.specs.declared.place.Place.{Place};
 ghost use Rattle.ic_unsafe_ref.specs.Objects.{is_placed};
@@ -19,7 +21,7 @@ ghost use Rattle.ic_hash_table.specs.Slots.{slot_of, IsWellFormed};
 ghost use Rattle.ic_hash_table.specs.Growth.{belongs_at, IsParted};
 ghost use Rattle.ic_hash_table.specs.Chains.{ShowsFrom};
 
-use crate::chain_edits::link_front;
+use crate::chain_edits::{join_chains, link_front};
 use crate::{Buckets, HashAdapter, HashTable, Slots};
 use ic_link_ops::LinkOps;
 use ic_link_ops::singly_linked_list::SinglyLinkedListOps;
@@ -95,7 +97,8 @@ pub(crate) fn part_chain<A: HashAdapter, L: SinglyLinkedListOps, O: Values<A::Va
 }
 
 impl<A: HashAdapter, B: Buckets> HashTable<A, B> {
-    ghost use Rattle.ic_hash_table.specs.HashTable.{adapter_of, len_of, slots_of, fronts_of, Holds, HoldsSome};
+    ghost use Rattle.ic_hash_table.specs.HashTable.{adapter_of, slots_of, fronts_of, Holds, HoldsSome, IsShown};
+    ghost use Rattle.ic_unsafe_ref.specs.Objects.{Objects};
     ghost use Rattle.ic_hash_table.specs.Growth.{HoldsSameMembers};
 
     /// Takes one bucket more into use: the members of one chain are parted between that chain and a new one. False, and nothing has
@@ -111,6 +114,7 @@ impl<A: HashAdapter, B: Buckets> HashTable<A, B> {
         requires held { HoldsSome L.successor (number A.key_of A.hash_of) B.fronts (L.table links.old) self.old (O.values objects.now) }
         ensures holds { (s : List Place) → Holds L.successor (number A.key_of A.hash_of) B.fronts (L.table links.old) self.old (O.values objects.now) s
             → OnTrue result (HoldsSameMembers L.successor (number A.key_of A.hash_of) B.fronts (L.table links.new) self.new (O.values objects.now) s) }
+        ensures answer { IsTrue result ↔ (((slots_of self.old).used < length (fronts_of B.fronts self.old)) × ((slots_of self.old).used < 4294967295)) }
         ensures used { OnTrue result ((slots_of self.new).used ≡ (slots_of self.old).used + 1) }
         ensures full { OnFalse result ((self.new ≡ self.old) × (links.new ≡ links.old)) }
         ensures no_step { L.Does links.old links.new [] }
@@ -134,6 +138,36 @@ impl<A: HashAdapter, B: Buckets> HashTable<A, B> {
         );
         self.buckets.set_front(from, stays);
         self.buckets.set_front(to, moves);
+        self.slots = slots;
+        true
+    }
+
+    /// Takes the last bucket out of use: its members go back to the chain that growth parted them from. False, and nothing has changed, if
+    /// one bucket alone is in use. It undoes [`grow_one`](HashTable::grow_one), but for the order of the members.
+    ///
+    /// It requires that the links show its chains, and reads no object. All members stay, in some order. O(members of that chain): no hash,
+    /// no look, no link is acquired or released, and it takes no memory.
+    pub fn shrink_one<L: SinglyLinkedListOps>(&mut self, links: &mut L) -> bool
+        requires shown { (s : List Place) × IsShown L.successor B.fronts (L.table links.old) self.old s }
+        ensures holds { (objects : Objects A.Value) (s : List Place) → Holds L.successor (number A.key_of A.hash_of) B.fronts (L.table links.old) self.old objects s
+            → OnTrue result (HoldsSameMembers L.successor (number A.key_of A.hash_of) B.fronts (L.table links.new) self.new objects s) }
+        ensures answer { IsTrue result ↔ (2 ≤ (slots_of self.old).used) }
+        ensures used { OnTrue result ((slots_of self.old).used ≡ (slots_of self.new).used + 1) }
+        ensures last { OnFalse result ((self.new ≡ self.old) × (links.new ≡ links.old)) }
+        ensures no_step { L.Does links.old links.new [] }
+        ensures adapter { adapter_of self.new ≡ adapter_of self.old }
+        ensures frame { (s : List Place) → IsShown L.successor B.fronts (L.table links.old) self.old s
+            → KeepsBeside (L.table links.old) (L.table links.new) s }
+    {
+        if self.slots.used() < 2 {
+            return false;
+        }
+        let slots = self.slots.shrunk();
+        let last = slots.used();
+        let to = self.slots.split(last);
+        let front = join_chains(links, self.buckets.front(last), self.buckets.front(to));
+        self.buckets.set_front(last, None);
+        self.buckets.set_front(to, front);
         self.slots = slots;
         true
     }

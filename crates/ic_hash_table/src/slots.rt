@@ -64,6 +64,25 @@ impl Slots {
         }
     }
 
+    // With one chain less in use, which undoes `grown`.
+    pub(crate) fn shrunk(self) -> Slots
+        requires well_formed { IsWellFormed self }
+        requires more { 2 ≤ self.used }
+        ensures well_formed { IsWellFormed result }
+        ensures splits { IsSplit result self }
+    {
+        let half = self.mask >> 1;
+        let mask = if self.used == half + 2 {
+            half
+        } else {
+            self.mask
+        };
+        Slots {
+            used: self.used - 1,
+            mask,
+        }
+    }
+
     // The chain where the members of this one stood before it was in use.
     pub(crate) fn split(&self, last: usize) -> usize
         ensures { result ≡ split_of self.now last }

@@ -1,0 +1,162 @@
+-- A hash table of which the last chain was joined to the one that growth would part it from.
+use Rattle.std.proofs.Common.{◌≡◌, ◌≢◌, ℕ, ◌<◌, Option, None, IsSome, List, [], ◌++◌, length, length-append, slice_index_or, slice_set, refl, sym, ap, ◌∙◌, subst, arith, append_assoc}
+use Rattle.std.proofs.lemmas.List.{get_or-set_other, length-set}
+use Rattle.ic_unsafe_ref.specs.declared.place.Place.{Place}
+use Rattle.ic_unsafe_ref.specs.Objects.{Objects, object_at}
+use Rattle.ic_link_ops.specs.Sequences.{IsAbsent, IsDistinct, IsDisjoint}
+use Rattle.ic_link_ops.specs.Tables.{Table, KeepsBeside}
+use Rattle.ic_link_ops.specs.SinglyLinkedList.{Successor}
+use Rattle.ic_link_ops.proofs.Each.{all_both, all_map}
+use Rattle.ic_link_ops.proofs.SequenceLemmas.{absent_both, absent_left, absent_right, distinct_disjoint, distinct_left, distinct_right, distinct_splice, disjoint_nothing}
+use Rattle.ic_hash_table.specs.declared.slots.Slots.{Slots}
+use Rattle.ic_hash_table.specs.declared.table.HashTable.{HashTable}
+use Rattle.ic_hash_table.specs.Slots.{split_of, IsWellFormed, IsSplit}
+use Rattle.ic_hash_table.specs.Chains.{AreChained, ShowsFrom}
+use Rattle.ic_hash_table.specs.HashTable.{BelongsIn, Holds}
+use Rattle.ic_hash_table.specs.Growth.{HoldsSameMembers}
+use Rattle.ic_hash_table.proofs.Chains.{Between, chain_at}
+use Rattle.ic_hash_table.proofs.ChainParts.{of_members, nothing_shown}
+use Rattle.ic_hash_table.proofs.GrownTables.{without_middle, middle_apart}
+use Rattle.ic_hash_table.proofs.HeldTables.{middle_ahead, middle_behind}
+
+-- THE LAST CHAIN, AND THE ONE THAT IT IS JOINED TO. `others`: what belongs in another chain than the last belongs there still. `moved`: what
+-- belonged in the last belongs in that one
+module _ {E : Type 0} (successor : E → Successor) (Belongs Fewer : ℕ → Place → Type 0) (last to : ℕ) (less : to < last) (others : (j : ℕ) (p : Place) → j ≢ last → Belongs j p → Fewer j p)
+    (moved : (p : Place) → Belongs last p → Fewer to p) (old : Table E) (fronts : List (Option Place)) (s : List Place) (distinct : IsDistinct s) (chained : AreChained successor Belongs old 0 fronts s)
+    (within : last < length fronts) where
+  pub last_chain : Between successor Belongs old 0 last last fronts s
+  last_chain = chain_at successor Belongs old 0 last last fronts s (omega arith) within chained
+
+  without_last : AreChained successor Fewer old 0 (slice_set fronts last None) (last_chain.ahead ++ last_chain.behind)
+  without_last = last_chain.put Fewer others None [] [] (nothing_shown old) tt (disjoint_nothing last_chain.ahead) (disjoint_nothing last_chain.behind) (λ q out. refl)
+
+  pub joined_chain : Between successor Fewer old 0 to to (slice_set fronts last None) (last_chain.ahead ++ last_chain.behind)
+  joined_chain = chain_at successor Fewer old 0 to to (slice_set fronts last None) (last_chain.ahead ++ last_chain.behind) (omega arith) (omega (arith, less, within, length-set fronts last None)) without_last
+
+  pub joined_shown : ShowsFrom successor old (slice_index_or fronts to None) joined_chain.chain
+  joined_shown = subst (λ f. ShowsFrom successor old f joined_chain.chain) (get_or-set_other fronts last to None None (λ e. absurd (omega (arith, less, e)))) joined_chain.shown
+
+  -- the members, with those of the last chain in front of those of the other
+  abbrev pub joined : List Place
+  joined = joined_chain.ahead ++ ((last_chain.chain ++ joined_chain.chain) ++ joined_chain.behind)
+
+  whole : IsDistinct (last_chain.ahead ++ (last_chain.chain ++ last_chain.behind))
+  whole = subst IsDistinct last_chain.parts distinct
+
+  pub joined_distinct : IsDistinct joined
+  joined_distinct =
+      let l = last_chain in
+      let j = joined_chain in
+      subst (λ m. IsDistinct (j.ahead ++ m)) (sym (append_assoc l.chain j.chain j.behind))
+      (distinct_splice j.ahead l.chain (j.chain ++ j.behind) (subst IsDistinct j.parts (without_middle l.ahead l.chain l.behind whole))
+      (distinct_left l.chain l.behind (distinct_right l.ahead (l.chain ++ l.behind) whole)) (subst (IsDisjoint l.chain) j.parts (middle_apart l.ahead l.chain l.behind whole)))
+
+  -- the two share no member
+  pub chains_apart : IsDisjoint last_chain.chain joined_chain.chain
+  chains_apart =
+      let l = last_chain in
+      let j = joined_chain in
+      distinct_disjoint l.chain j.chain (distinct_left (l.chain ++ j.chain) j.behind (distinct_right j.ahead ((l.chain ++ j.chain) ++ j.behind) joined_distinct))
+
+  -- and all members are the old ones
+  pub joined_within : (q : Place) → IsAbsent q s → IsAbsent q joined
+  joined_within q out =
+      let l = last_chain in
+      let j = joined_chain in
+      let a = subst (IsAbsent q) l.parts out in
+      let tail = absent_right q l.ahead (l.chain ++ l.behind) a in
+      let rest = subst (IsAbsent q) j.parts (absent_both q l.ahead l.behind (absent_left q l.ahead (l.chain ++ l.behind) a) (absent_right q l.chain l.behind tail)) in
+      let end = absent_right q j.ahead (j.chain ++ j.behind) rest in
+      absent_both q j.ahead ((l.chain ++ j.chain) ++ j.behind) (absent_left q j.ahead (j.chain ++ j.behind) rest)
+      (absent_both q (l.chain ++ j.chain) j.behind (absent_both q l.chain j.chain (absent_left q l.chain l.behind tail) (absent_left q j.chain j.behind end)) (absent_right q j.chain j.behind end))
+
+  pub joined_all : (q : Place) → IsAbsent q joined → IsAbsent q s
+  joined_all q out =
+      let l = last_chain in
+      let j = joined_chain in
+      let tail = absent_right q j.ahead ((l.chain ++ j.chain) ++ j.behind) out in
+      let both = absent_left q (l.chain ++ j.chain) j.behind tail in
+      let rest = absent_both q j.ahead (j.chain ++ j.behind) (absent_left q j.ahead ((l.chain ++ j.chain) ++ j.behind) out)
+      (absent_both q j.chain j.behind (absent_right q l.chain j.chain both) (absent_right q (l.chain ++ j.chain) j.behind tail)) in
+      let beside = subst (IsAbsent q) (sym j.parts) rest in
+      subst (IsAbsent q) (sym l.parts)
+      (absent_both q l.ahead (l.chain ++ l.behind) (absent_left q l.ahead l.behind beside) (absent_both q l.chain l.behind (absent_left q l.chain j.chain both) (absent_right q l.ahead l.behind beside)))
+
+  pub joined_frame : {new : Table E} → KeepsBeside old new (last_chain.chain ++ joined_chain.chain) → KeepsBeside old new s
+  joined_frame frame =
+      let l = last_chain in
+      let j = joined_chain in record {
+        extent = frame.extent;
+        others = λ q out. frame.others q (absent_left q (l.chain ++ j.chain) j.behind (absent_right q j.ahead ((l.chain ++ j.chain) ++ j.behind) (joined_within q out)));
+      }
+
+  pub joined_length : length joined ≡ length s
+  joined_length =
+      let l = last_chain in
+      let j = joined_chain in
+      omega (
+        arith,
+        ap length l.parts,
+        length-append l.ahead (l.chain ++ l.behind),
+        length-append l.chain l.behind,
+        ap length j.parts,
+        length-append l.ahead l.behind,
+        length-append j.ahead (j.chain ++ j.behind),
+        length-append j.chain j.behind,
+        length-append j.ahead ((l.chain ++ j.chain) ++ j.behind),
+        length-append (l.chain ++ j.chain) j.behind,
+        length-append l.chain j.chain,
+      )
+
+  pub joined_chained : {new : Table E} {front : Option Place} → ShowsFrom successor new front (last_chain.chain ++ joined_chain.chain) → KeepsBeside old new (last_chain.chain ++ joined_chain.chain)
+      → AreChained successor Fewer new 0 (slice_set (slice_set fronts last None) to front) joined
+  joined_chained {front = front} shown frame =
+      let l = last_chain in
+      let j = joined_chain in
+      j.put Fewer (λ i p n b. b) front (l.chain ++ j.chain) (l.chain ++ j.chain) shown (all_both (Fewer to) l.chain j.chain (all_map moved l.chain l.own) j.own)
+      (middle_ahead j.ahead (l.chain ++ j.chain) j.behind joined_distinct) (middle_behind j.ahead (l.chain ++ j.chain) j.behind joined_distinct) frame.others
+
+-- where fewer chains are in use, what belongs in another than the last belongs there still, and what belonged in the last goes back
+module _ {V : Type 0} (small large : Slots) (hash : V → ℕ) (objects : Objects V) (split : IsSplit small large) where
+  pub others_belong : (j : ℕ) (p : Place) → j ≢ small.used → BelongsIn large hash objects j p → BelongsIn small hash objects j p
+  others_belong j p other belongs v there = sym (split.others (hash v) (λ e. other (sym (belongs v there) ∙ e))) ∙ belongs v there
+
+  pub last_belong : (p : Place) → BelongsIn large hash objects small.used p → BelongsIn small hash objects (split_of large small.used) p
+  last_belong p belongs v there = split.from (hash v) (belongs v there)
+
+module _ {E A B V : Type 0} (successor : E → Successor) (hash : A → V → ℕ) (fronts : B → List (Option Place)) {old : Table E} {table : HashTable A B} {objects : Objects V}
+    (slots : Slots) (split : IsSplit slots table.slots) {s : List Place} (held : Holds successor hash fronts old table objects s) (within : slots.used < length (fronts table.buckets)) where
+  -- IT HOLDS THE SAME MEMBERS
+  module _ (middle buckets : B) {new : Table E} {front : Option Place} (well_formed : IsWellFormed slots)
+      (last_set : fronts middle ≡ slice_set (fronts table.buckets) slots.used None) (joined_set : fronts buckets ≡ slice_set (fronts middle) (split_of table.slots slots.used) front)
+      (join : (s t : List Place) → ShowsFrom successor old (slice_index_or (fronts table.buckets) slots.used None) s → ShowsFrom successor old (slice_index_or (fronts table.buckets) (split_of table.slots slots.used) None) t
+      → IsDisjoint s t → ShowsFrom successor new front (s ++ t))
+      (frame : (s t : List Place) → ShowsFrom successor old (slice_index_or (fronts table.buckets) slots.used None) s → ShowsFrom successor old (slice_index_or (fronts table.buckets) (split_of table.slots slots.used) None) t
+      → IsDisjoint s t → KeepsBeside old new (s ++ t)) where
+    pub held_shrunk : HoldsSameMembers successor hash fronts new (record { adapter = table.adapter; buckets = buckets; slots = slots; len = table.len }) objects s
+    held_shrunk =
+        let Old = BelongsIn table.slots (hash table.adapter) objects in
+        let New = BelongsIn slots (hash table.adapter) objects in
+        let others = others_belong slots table.slots (hash table.adapter) objects split in
+        let moved = last_belong slots table.slots (hash table.adapter) objects split in
+        let to = split_of table.slots slots.used in
+        let l = last_chain successor Old New slots.used to split.apart others moved old (fronts table.buckets) s held.distinct held.chained within in
+        let j = joined_chain successor Old New slots.used to split.apart others moved old (fronts table.buckets) s held.distinct held.chained within in
+        let j_shown = joined_shown successor Old New slots.used to split.apart others moved old (fronts table.buckets) s held.distinct held.chained within in
+        let apart = chains_apart successor Old New slots.used to split.apart others moved old (fronts table.buckets) s held.distinct held.chained within in
+        record {
+          members = joined successor Old New slots.used to split.apart others moved old (fronts table.buckets) s held.distinct held.chained within;
+          holds = record {
+            distinct = joined_distinct successor Old New slots.used to split.apart others moved old (fronts table.buckets) s held.distinct held.chained within;
+            chained = subst (λ f. AreChained successor New new 0 f (joined successor Old New slots.used to split.apart others moved old (fronts table.buckets) s held.distinct held.chained within))
+                (sym (joined_set ∙ ap (λ f. slice_set f to front) last_set))
+                (joined_chained successor Old New slots.used to split.apart others moved old (fronts table.buckets) s held.distinct held.chained within (join l.chain j.chain l.shown j_shown apart) (frame l.chain j.chain l.shown j_shown apart));
+            placed = of_members (λ p. IsSome (object_at objects p)) s (joined successor Old New slots.used to split.apart others moved old (fronts table.buckets) s held.distinct held.chained within)
+                (joined_within successor Old New slots.used to split.apart others moved old (fronts table.buckets) s held.distinct held.chained within) held.placed;
+            counted = held.counted ∙ sym (joined_length successor Old New slots.used to split.apart others moved old (fronts table.buckets) s held.distinct held.chained within);
+            well_formed = well_formed;
+            enough = omega (arith, split.used, held.enough, ap length joined_set, length-set (fronts middle) to front, ap length last_set, length-set (fronts table.buckets) slots.used None);
+          };
+          within = joined_within successor Old New slots.used to split.apart others moved old (fronts table.buckets) s held.distinct held.chained within;
+          all = joined_all successor Old New slots.used to split.apart others moved old (fronts table.buckets) s held.distinct held.chained within;
+        }

@@ -1,0 +1,42 @@
+use Rattle.std.proofs.Common.{◌<◌, length, arith}
+use Rattle.std.specs.Bool.{⊤}
+use Rattle.ic_hash_table.specs.HashTable.{number}
+use Rattle.ic_hash_table.specs.Slots.{split_of}
+use Rattle.ic_hash_table.proofs.ShrunkTables.{last_chain, joined_chain, joined_shown, chains_apart, joined_frame, held_shrunk}
+use Rattle.ic_hash_table.proofs.table.HashTable.shrink_one.Goals as goal
+
+pub join_chains-front-requires-clause-shown : goal.join_chains-front-requires-clause-shown
+join_chains-front-requires-clause-shown g c =
+    let shown = c.requires.shown.1 in
+    let split = c.shrunk-slots.ensures.splits in
+    let l = last_chain g.L.SinglyLinkedListOps.successor (λ i p. ⊤) (λ i p. ⊤) c.shrunk-slots.result.used (split_of c.args.self.now.slots c.shrunk-slots.result.used) split.apart (λ j p n b. tt) (λ p b. tt) _ _ _ shown.distinct shown.chained
+    (omega (arith, split.used, shown.enough)) in
+    (l.chain, rw (c.front.ensures, c.used-last.ensures) l.shown)
+
+pub join_chains-front-requires-clause-rest : goal.join_chains-front-requires-clause-rest
+join_chains-front-requires-clause-rest g c =
+    let shown = c.requires.shown.1 in
+    let split = c.shrunk-slots.ensures.splits in
+    let within : c.shrunk-slots.result.used < length (g.B.Buckets.fronts c.args.self.now.buckets) = omega (arith, split.used, shown.enough) in
+    let j = joined_chain g.L.SinglyLinkedListOps.successor (λ i p. ⊤) (λ i p. ⊤) c.shrunk-slots.result.used (split_of c.args.self.now.slots c.shrunk-slots.result.used) split.apart (λ j p n b. tt) (λ p b. tt) _ _ _ shown.distinct shown.chained within in
+    let j_shown = joined_shown g.L.SinglyLinkedListOps.successor (λ i p. ⊤) (λ i p. ⊤) c.shrunk-slots.result.used (split_of c.args.self.now.slots c.shrunk-slots.result.used) split.apart (λ j p n b. tt) (λ p b. tt) _ _ _ shown.distinct shown.chained within in
+    (j.chain, rw (c.front-2.ensures, c.split-to.ensures, c.used-last.ensures) j_shown)
+
+pub returns-clause-holds : goal.returns-clause-holds
+returns-clause-holds g c objects s held =
+    let split = c.shrunk-slots.ensures.splits in
+    held_shrunk g.L.SinglyLinkedListOps.successor (number g.A.HashAdapter.key_of g.A.HashAdapter.hash_of) g.B.Buckets.fronts c.shrunk-slots.result split held (omega (arith, split.used, held.enough))
+    c.set_front.new.self c.set_front-2.new.self c.shrunk-slots.ensures.well_formed (rw c.used-last.ensures at c.set_front.ensures) (rw (c.split-to.ensures, c.used-last.ensures) at c.set_front-2.ensures)
+    (λ l j l_shown j_shown apart. c.join_chains-front.ensures.joined l j (rw (c.front.ensures, c.used-last.ensures) l_shown) (rw (c.front-2.ensures, c.split-to.ensures, c.used-last.ensures) j_shown) apart)
+    (λ l j l_shown j_shown apart. c.join_chains-front.ensures.frame l j (rw (c.front.ensures, c.used-last.ensures) l_shown) (rw (c.front-2.ensures, c.split-to.ensures, c.used-last.ensures) j_shown) apart)
+
+pub returns-clause-frame : goal.returns-clause-frame
+returns-clause-frame g c s shown =
+    let split = c.shrunk-slots.ensures.splits in
+    let within : c.shrunk-slots.result.used < length (g.B.Buckets.fronts c.args.self.now.buckets) = omega (arith, split.used, shown.enough) in
+    let l = last_chain g.L.SinglyLinkedListOps.successor (λ i p. ⊤) (λ i p. ⊤) c.shrunk-slots.result.used (split_of c.args.self.now.slots c.shrunk-slots.result.used) split.apart (λ j p n b. tt) (λ p b. tt) _ _ _ shown.distinct shown.chained within in
+    let j = joined_chain g.L.SinglyLinkedListOps.successor (λ i p. ⊤) (λ i p. ⊤) c.shrunk-slots.result.used (split_of c.args.self.now.slots c.shrunk-slots.result.used) split.apart (λ j p n b. tt) (λ p b. tt) _ _ _ shown.distinct shown.chained within in
+    let j_shown = joined_shown g.L.SinglyLinkedListOps.successor (λ i p. ⊤) (λ i p. ⊤) c.shrunk-slots.result.used (split_of c.args.self.now.slots c.shrunk-slots.result.used) split.apart (λ j p n b. tt) (λ p b. tt) _ _ _ shown.distinct shown.chained within in
+    let apart = chains_apart g.L.SinglyLinkedListOps.successor (λ i p. ⊤) (λ i p. ⊤) c.shrunk-slots.result.used (split_of c.args.self.now.slots c.shrunk-slots.result.used) split.apart (λ j p n b. tt) (λ p b. tt) _ _ _ shown.distinct shown.chained within in
+    joined_frame g.L.SinglyLinkedListOps.successor (λ i p. ⊤) (λ i p. ⊤) c.shrunk-slots.result.used (split_of c.args.self.now.slots c.shrunk-slots.result.used) split.apart (λ j p n b. tt) (λ p b. tt) _ _ _ shown.distinct shown.chained within
+    (c.join_chains-front.ensures.frame l.chain j.chain (rw (c.front.ensures, c.used-last.ensures) l.shown) (rw (c.front-2.ensures, c.split-to.ensures, c.used-last.ensures) j_shown) apart)
