@@ -9,6 +9,7 @@
 //! | `linked_list` | the doubly linked list |
 //! | `singly_linked_list` | the singly linked list |
 //! | `xor_linked_list` | the XOR list: both neighbors in one word |
+//! | `ring` | rings, whose heads are places of their tables: `Ring` |
 //! | `atomic` | claims on places, which threads share, and tables of links over them: `linked_list::AtomicLinkOps` and its three kin |
 //! | `rbtree` | the red-black tree, in an order that cursors or keys make |
 //! | `rbtree_cached` | the tree that keeps its first and its last member: `RBTreeCached` |
@@ -40,6 +41,8 @@ pub use ic_rbtree::key_adapter::{Bound, KeyAdapter};
 pub use ic_rbtree::{RBTree, key_adapter, rbtree_keys};
 pub use ic_rbtree_cached as rbtree_cached;
 pub use ic_rbtree_cached::RBTreeCached;
+pub use ic_ring as ring;
+pub use ic_ring::Ring;
 pub use ic_singly_linked_list::SinglyLinkedList;
 pub use ic_unsafe_ref as unsafe_ref;
 pub use ic_unsafe_ref::UnsafeRef;
