@@ -3,6 +3,6 @@
 pub use ic_atomic::rbtree::AtomicLinkOps;
 pub use ic_rbtree::{
     Bound, Color, Cursor, CursorMut, CursorOwning, Entry, InsertCursor, IntoIter, Iter, KeyAdapter,
-    KeyProbe, Link, LinkOps, Listing, Probe, RBTree, RBTreeOps, RefusedInsert, key_adapter,
-    rbtree_keys,
+    KeyProbe, Link, LinkOps, Listing, Probe, RBTree, RBTreeBuilder, RBTreeOps, RefusedInsert,
+    key_adapter, rbtree_keys,
 };
