@@ -9,7 +9,6 @@ ghost use Rattle.ic_ffi.specs.Seen.{named_within};
 ghost use Rattle.ic_ffi.specs.Tree.{lent_table};
 ghost use Rattle.ic_ffi.specs.Words.{place_in};
 
-use crate::number::place_in;
 use crate::table::RawTable;
 use crate::words::RawThree;
 use ic_link_ops::Color;
@@ -27,17 +26,19 @@ pub struct Seen {
 }
 
 impl RawTable<'_, RawThree> {
-    // The place that a word of `place` names, `place` itself where the table has none of that number.
+    // The place that a word names, none where the table has no such place. The number in the word is compared, which takes no shift, and a
+    // number of no place of the table counts as 0, so that one test tells both.
     #[inline]
-    fn named(&self, place: Place, word: u64) -> Option<Place>
-        ensures { result ≡ named_within (lent_table self.now).extent.places place (place_in word) }
+    fn named(&self, word: u64) -> Option<Place>
+        ensures { result ≡ named_within (lent_table self.now).extent.places (place_in word) }
     {
-        let named = place_in(word)?;
-        if self.covers(named) {
-            Some(named)
+        let number = word / 8 % 8_589_934_592 * 8;
+        let within = if number <= 8 * self.entries.len() as u64 {
+            number
         } else {
-            Some(place)
-        }
+            0
+        };
+        Place::from_word(within)
     }
 }
 
@@ -58,17 +59,17 @@ impl Nodes for RawTable<'_, RawThree> {
 
     #[inline]
     fn left(&self, place: Place) -> Option<Place> {
-        self.named(place, self.at(place).left)
+        self.named(self.at(place).left)
     }
 
     #[inline]
     fn right(&self, place: Place) -> Option<Place> {
-        self.named(place, self.at(place).right)
+        self.named(self.at(place).right)
     }
 
     #[inline]
     fn parent(&self, place: Place) -> Option<Place> {
-        self.named(place, self.at(place).parent)
+        self.named(self.at(place).parent)
     }
 
     #[inline]
@@ -118,9 +119,13 @@ impl Nodes for RawTable<'_, RawThree> {
         words.parent = Place::to_word(parent) + black;
     }
 
-    ghost quiet_still = { λ t. record { extent = refl; marks = λ q. refl } };
+    ghost quiet_still = { λ t. record { extent = refl; marks = λ q. refl; names = λ q h. h } };
 
-    ghost quiet_on = { λ a b c x y. record { extent = y.extent ∙ x.extent; marks = λ q. y.marks q ∙ x.marks q } };
+    ghost quiet_on = { λ a b c x y. record {
+      extent = y.extent ∙ x.extent;
+      marks = λ q. y.marks q ∙ x.marks q;
+      names = λ q h. y.names q (x.names q h);
+    } };
 
     ghost quiet_keeps = { λ old new same q. ap (λ x. nat_lt (index_of q) x.places) same.extent };
 }

@@ -5,17 +5,20 @@
 //! ```
 
 ghost use Rattle.std.specs.Prelude.{◌≡◌, ◌≢◌, ◌⊎◌, ◌≤◌, ◌∷◌, [], List, Option, Some, length, None, true, false};
-ghost use Rattle.std.specs.Ordering.{nat_cmp};
 ghost use Rattle.ic_unsafe_ref.specs.declared.place.Place.{Place};
+ghost use Rattle.ic_unsafe_ref.specs.Objects.{is_placed, at_indexes};
 ghost use Rattle.ic_link_ops.specs.Tables.{IsCovered, IsLinked};
+ghost use Rattle.ic_link_ops.specs.Frames.{child_on};
 ghost use Rattle.ic_link_ops.specs.RedBlackTree as trees;
-ghost use Rattle.ic_rbtree.specs.Descents.{EndsAt};
+ghost use Rattle.ic_rbtree.specs.Closed.{IsIn};
+ghost use Rattle.ic_rbtree.specs.Comparing.{goes_left};
+ghost use Rattle.ic_rbtree.specs.Descents.{gap_in, side_of};
 ghost use Rattle.ic_rbtree.specs.Ordered.{InsertsInOrder};
 ghost use Rattle.ic_rbtree.specs.Tree.{root_of};
 ghost use Rattle.ic_ffi.specs.Answers.{HandsOut, refusal};
 ghost use Rattle.ic_ffi.specs.Gaps.{Stands};
-ghost use Rattle.ic_ffi.specs.Keys.{against, key_of, keys_fault, IsTarget};
-ghost use Rattle.ic_ffi.specs.Seen.{seen, seen_node};
+ghost use Rattle.ic_ffi.specs.Keys.{against, key_of, keys_fault, at_root, past, EndsIn, IsTarget};
+ghost use Rattle.ic_ffi.specs.Seen.{seen, seen_node, has_place};
 ghost use Rattle.ic_ffi.specs.Tables.{IsFree, place_fault};
 ghost use Rattle.ic_ffi.specs.Tree.{Shows, lent_table};
 ghost use Rattle.ic_ffi.specs.Words.{is_linked_three, place_of, HasNumber};
@@ -24,10 +27,13 @@ use crate::status::{BROKEN, NONE, OUT_OF_RANGE};
 use crate::table::RawTable;
 use crate::tree::{self, Tree};
 use crate::words::RawThree;
-use ic_link_ops::Side;
-use ic_rbtree::{Descent, Probe};
-use ic_unsafe_ref::Place;
+use ic_link_ops::{PlaceWord, Side};
+use ic_rbtree::Nodes;
+use ic_unsafe_ref::{Place, Values};
 use std::cmp::Ordering;
+
+// A search makes no more looks. In a tree of the right shape no way down is as long.
+const LOOKS: u32 = 66;
 
 /// Which member a search is for.
 #[derive(Clone, Copy)]
@@ -40,23 +46,15 @@ pub enum Target {
     AtMost,
 }
 
-/// A key that is searched, and how many others it was compared with.
-#[derive(Clone, Copy)]
-pub struct Wanted {
-    key: u64,
-    looks: u64,
-}
-
-impl Probe<u64> for Wanted {
-    ghost order = { λ wanted. nat_cmp wanted.key };
-
-    ghost count = { λ wanted. wanted.looks };
-
-    #[inline]
-    fn compare(&mut self, value: &u64) -> Ordering {
-        self.looks += 1;
-        self.key.cmp(value)
-    }
+/// Where a search from the root has come to: a gap between two members.
+#[derive(Drop)]
+pub struct Way {
+    // The member below which the gap is, none in an empty tree, and the side of that member.
+    parent: PlaceWord,
+    side: Side,
+    // The members in front of the gap, and behind it.
+    front: PlaceWord,
+    back: PlaceWord,
 }
 
 // Whether there is a key for each place, and the root is none or linked.
@@ -100,22 +98,94 @@ pub(crate) fn refusal_of(links: &RawTable<'_, RawThree>, keys: &[u64], place: u3
     links.refusal(NONE, place)
 }
 
-// Goes down to the gap to which the key sends, past equal ones to this side.
+// How a key stands to that of a place.
 #[inline]
-fn descend(
-    links: &RawTable<'_, RawThree>,
-    tree: &Tree,
-    keys: &[u64],
-    key: u64,
-    equals: Side,
-) -> Descent
+fn compare_at(keys: &[u64], key: u64, place: Place) -> Ordering
+    requires { is_placed (at_indexes keys.now) place ≡ true }
+    ensures { result ≡ against key keys.now place }
+{
+    key.cmp(keys.value(place))
+}
+
+// Whether the search goes left at a member to which the key stands so, past equal ones to this side.
+#[inline]
+fn goes_left(order: Ordering, equals: Side) -> bool
+    ensures { result ≡ goes_left equals order }
+{
+    match equals {
+        Side::Left => order.is_le(),
+        Side::Right => order.is_lt(),
+    }
+}
+
+// The left child, or the right one.
+#[inline]
+fn below(links: &RawTable<'_, RawThree>, place: Place, left: bool) -> Option<Place>
+    requires { has_place (lent_table links.now) place ≡ true }
+    ensures { result ≡ child_on (side_of left) (seen_node ((seen (lent_table links.now)).entry place)) }
+{
+    if left {
+        links.left(place)
+    } else {
+        links.right(place)
+    }
+}
+
+impl Way {
+    // At the root, past no member.
+    #[inline]
+    fn new() -> Way
+        ensures { result ≡ at_root }
+    {
+        Way {
+            parent: PlaceWord::of(None),
+            side: Side::Left,
+            front: PlaceWord::of(None),
+            back: PlaceWord::of(None),
+        }
+    }
+
+    // Goes past a member to one side of it.
+    #[inline]
+    fn pass(&mut self, place: Place, left: bool)
+        ensures { self.new ≡ past self.old place left }
+    {
+        self.parent = PlaceWord::of(Some(place));
+        if left {
+            self.side = Side::Left;
+            self.back = PlaceWord::of(Some(place));
+        } else {
+            self.side = Side::Right;
+            self.front = PlaceWord::of(Some(place));
+        }
+    }
+}
+
+// Goes down from the root to the gap to which the key sends, past equal ones to this side. [`RBTree::search`](ic_rbtree::RBTree::search) does
+// so for any probe, and keeps the last equal member as well, which takes more instructions a look.
+#[inline]
+fn descend(links: &RawTable<'_, RawThree>, tree: &Tree, keys: &[u64], key: u64, equals: Side) -> Way
     requires keys { (lent_table links.now).extent.places ≤ length keys.now }
     requires root { Stands is_linked_three (lent_table links.now) (root_of tree.now) }
-    ensures { (s : List Place) (h : trees.Shows seen_node (seen (lent_table links.now)) (root_of tree.now) s)
-        → EndsAt seen_node (seen (lent_table links.now)) (against key keys.now) equals h.tree result }
+    ensures ends { (s : List Place) (h : trees.Shows seen_node (seen (lent_table links.now)) (root_of tree.now) s)
+        → EndsIn (lent_table links.now) (gap_in (λ p. goes_left equals (against key keys.now p)) h.tree) result }
+    ensures within { IsIn (has_place (lent_table links.now)) result.back }
 {
-    let mut wanted = Wanted { key, looks: 0 };
-    tree.search(links, &keys, &mut wanted, equals)
+    let mut way = Way::new();
+    let Some(root) = tree.root() else {
+        return way;
+    };
+    let mut place = root;
+    for _ in 0..LOOKS {
+        let left = goes_left(compare_at(keys, key, place), equals);
+        way.pass(place, left);
+        let Some(next) = below(links, place, left) else {
+            return way;
+        };
+        place = next;
+    }
+    // No tree shows so long a way. What is handed out is not `way`, so that the compiler keeps both ends of the loop apart.
+    Way::new()
 }
 
 // The member that is searched.
@@ -133,11 +203,14 @@ pub(crate) fn find(
 {
     match target {
         Target::Equal => {
-            let descent = descend(links, tree, keys, key, Side::Left);
-            if !descent.is_equal() {
+            let Some(member) = descend(links, tree, keys, key, Side::Left).back.get() else {
                 return None;
+            };
+            if compare_at(keys, key, member).is_eq() {
+                Some(member)
+            } else {
+                None
             }
-            descent.back.get()
         }
         Target::AtLeast => descend(links, tree, keys, key, Side::Left).back.get(),
         Target::AtMost => descend(links, tree, keys, key, Side::Right).front.get(),
@@ -196,6 +269,6 @@ pub(crate) fn insert(
     if !links.covers(own) {
         return false;
     }
-    let descent = descend(&*links, &*tree, keys, keys[own.index()], Side::Right);
-    tree::insert(links, tree, descent.side, descent.parent.get(), place)
+    let way = descend(&*links, &*tree, keys, keys[own.index()], Side::Right);
+    tree::insert(links, tree, way.side, way.parent.get(), place)
 }

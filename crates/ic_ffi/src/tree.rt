@@ -7,7 +7,7 @@
 ghost use Rattle.std.specs.Prelude.{◌≡◌, ◌≢◌, ◌↔◌, ◌⊎◌, ◌++◌, ◌∷◌, [], List, Option, Some, None, true, false};
 ghost use Rattle.ic_unsafe_ref.specs.declared.place.Place.{Place};
 ghost use Rattle.ic_link_ops.specs.Sequences.{Cut, join};
-ghost use Rattle.ic_link_ops.specs.Tables.{IsLinked, IsUnlinked};
+ghost use Rattle.ic_link_ops.specs.Tables.{IsLinked, IsUnlinked, ChangesOnly};
 ghost use Rattle.ic_link_ops.specs.Edits.{Inserts, Removes, Replaces};
 ghost use Rattle.ic_link_ops.specs.RedBlackTree.{node_at};
 ghost use Rattle.ic_link_ops.specs.Frames.{across, child_on};
@@ -15,6 +15,7 @@ ghost use Rattle.ic_rbtree.specs.Sides.{IsBeside};
 ghost use Rattle.ic_rbtree.specs.Tree.{root_of};
 ghost use Rattle.ic_ffi.specs.Answers.{IsStatus, IsFound, refusal};
 ghost use Rattle.ic_ffi.specs.Gaps.{Stands, before};
+ghost use Rattle.ic_ffi.specs.Seen.{IsWithin};
 ghost use Rattle.ic_ffi.specs.Tables.{IsFree, member_fault};
 ghost use Rattle.ic_ffi.specs.Words.{is_linked_three, place_of, HasNumber};
 ghost use Rattle.ic_ffi.specs.Tree.{Shows, IsHole, TellsHole, lent_table, node};
@@ -75,6 +76,28 @@ fn is_hole(links: &RawTable<'_, RawThree>, tree: &Tree, side: Side, at: Option<P
     }
 }
 
+// Links the place and gives it, if it is one of the table and not linked. Its words name no other place then.
+#[inline]
+fn acquire(links: &mut RawTable<'_, RawThree>, place: Option<Place>) -> Option<Place>
+    ensures accepted { (p : Place) → place ≡ Some p → IsFree is_linked_three (lent_table links.old) p → result ≡ Some p }
+    ensures same { (p : Place) → result ≡ Some p → place ≡ Some p }
+    ensures free { (p : Place) → result ≡ Some p → IsFree is_linked_three (lent_table links.old) p }
+    ensures linked { (p : Place) → result ≡ Some p → IsLinked is_linked_three (lent_table links.new) p }
+    ensures bare { (p : Place) → result ≡ Some p → IsWithin (lent_table links.new) p }
+    ensures frame { (p : Place) → result ≡ Some p → ChangesOnly (lent_table links.old) (lent_table links.new) p }
+    ensures refused { result ≡ None → links.new ≡ links.old }
+{
+    let Some(place) = links.acquire(place) else {
+        return None;
+    };
+    links.entries[place.index()] = RawThree {
+        left: 1,
+        right: 0,
+        parent: 0,
+    };
+    Some(place)
+}
+
 // Puts the place in on this side of a member, at none as the only one, and says whether it could.
 #[inline(always)]
 pub(crate) fn insert(
@@ -97,7 +120,7 @@ pub(crate) fn insert(
     if !is_hole(&*links, &*tree, side, at) {
         return false;
     }
-    let Some(place) = links.acquire(place) else {
+    let Some(place) = acquire(links, place) else {
         return false;
     };
     tree.attach(links, at, side, place);
@@ -144,7 +167,7 @@ pub(crate) fn replace(
     if !stand(&*links, &*tree, Some(member)) {
         return false;
     }
-    let Some(place) = links.acquire(place) else {
+    let Some(place) = acquire(links, place) else {
         return false;
     };
     tree.take_place(links, member, place);

@@ -1,30 +1,52 @@
-use Rattle.std.proofs.Common.{None, cond, sym, ap, ◌∙◌}
+use Rattle.std.proofs.Common.{Some, None, cond, sym, ap, ◌∙◌}
+use Rattle.std.specs.Ordering.{is_eq, is_lt}
+use Rattle.ic_link_ops.specs.Sequences.{Cut, last}
+use Rattle.ic_rbtree.specs.Borders.{if_passes, equal_at}
+use Rattle.ic_rbtree.specs.Comparing.{is_beyond}
 use Rattle.ic_rbtree.specs.declared.keys.key_adapter.Bound.TheVariants.{Included}
-use Rattle.ic_rbtree.proofs.Sending.{finds, lower_border, upper_border, beyond_included}
+use Rattle.ic_rbtree.proofs.Closed.{in_there}
+use Rattle.ic_rbtree.proofs.Gaps.{gap_same}
+use Rattle.ic_rbtree.proofs.Sending.{lower_border, upper_border, not_ge}
 use Rattle.ic_ffi.specs.Keys.{against}
-use Rattle.ic_ffi.specs.Seen.{seen_node}
+use Rattle.ic_ffi.specs.Seen.{seen_node, has_place}
 use Rattle.ic_ffi.specs.Tree.{lent_table}
+use Rattle.ic_ffi.proofs.Keys.{keyed, finds}
 use Rattle.ic_ffi.proofs.Trees.{in_range, seen_shows}
 use Rattle.ic_ffi.proofs.search.find.Goals as goal
 
-pub returns-then-not-is_equal : goal.returns-then-not-is_equal
-returns-then-not-is_equal c s shown =
-    let h = seen_shows (lent_table c.args.links.now) (in_range c.args.links.now) shown in
-    let d = c.descend-descent.result in
-    rw c.in-Equal.is (finds seen_node h (c.descend-descent.ensures s h) (ap (λ x. cond x d.back None) (sym c.if-not-is_equal.true ∙ c.is_equal.ensures)))
+pub compare_at-requires : goal.compare_at-requires
+compare_at-requires c =
+    let t = lent_table c.args.links.now in
+    keyed t c.args.keys.now c.requires.keys c.in-Some.member (in_there (has_place t) c.descend.ensures.within (sym c.get.ensures ∙ c.in-Some.is))
 
-pub returns-else-not-is_equal : goal.returns-else-not-is_equal
-returns-else-not-is_equal c s shown =
+pub returns-in_default : goal.returns-in_default
+returns-in_default c s shown =
     let h = seen_shows (lent_table c.args.links.now) (in_range c.args.links.now) shown in
-    let d = c.descend-descent.result in
-    rw c.in-Equal.is (finds seen_node h (c.descend-descent.ensures s h) (c.get.ensures ∙ ap (λ x. cond x d.back None) (sym c.if-not-is_equal.false ∙ c.is_equal.ensures)))
+    let at = against c.args.key c.args.keys.now in
+    rw c.in-Equal.is (finds h (c.descend.ensures.ends s h) (ap (if_passes (equal_at at)) (sym c.in_default.is ∙ c.get.ensures)))
+
+pub returns-then-is_eq : goal.returns-then-is_eq
+returns-then-is_eq c s shown =
+    let h = seen_shows (lent_table c.args.links.now) (in_range c.args.links.now) shown in
+    let at = against c.args.key c.args.keys.now in
+    let equal = sym c.if-is_eq.true ∙ c.is_eq.ensures ∙ ap is_eq c.compare_at.ensures in
+    rw c.in-Equal.is (finds h (c.descend.ensures.ends s h) (ap (λ b. cond b (Some c.in-Some.member) None) equal ∙ ap (if_passes (equal_at at)) (sym c.in-Some.is ∙ c.get.ensures)))
+
+pub returns-else-is_eq : goal.returns-else-is_eq
+returns-else-is_eq c s shown =
+    let h = seen_shows (lent_table c.args.links.now) (in_range c.args.links.now) shown in
+    let at = against c.args.key c.args.keys.now in
+    let other = sym c.if-is_eq.false ∙ c.is_eq.ensures ∙ ap is_eq c.compare_at.ensures in
+    rw c.in-Equal.is (finds h (c.descend.ensures.ends s h) (ap (λ b. cond b (Some c.in-Some.member) None) other ∙ ap (if_passes (equal_at at)) (sym c.in-Some.is ∙ c.get.ensures)))
 
 pub returns-in-AtLeast : goal.returns-in-AtLeast
 returns-in-AtLeast c s shown =
     let h = seen_shows (lent_table c.args.links.now) (in_range c.args.links.now) shown in
-    rw c.in-AtLeast.is (lower_border seen_node h (Included (against c.args.key c.args.keys.now)) (c.get-in-AtLeast.ensures ∙ (c.descend.ensures s h).back_is))
+    rw c.in-AtLeast.is (lower_border seen_node h (Included (against c.args.key c.args.keys.now)) (c.get-in-AtLeast.ensures ∙ (c.descend-in-AtLeast.ensures.ends s h).back_is))
 
 pub returns-in-AtMost : goal.returns-in-AtMost
 returns-in-AtMost c s shown =
     let h = seen_shows (lent_table c.args.links.now) (in_range c.args.links.now) shown in
-    rw c.in-AtMost.is (upper_border seen_node h (Included (against c.args.key c.args.keys.now)) (beyond_included seen_node h (c.descend-in-AtMost.ensures s h) c.get-in-AtMost.ensures))
+    let at = against c.args.key c.args.keys.now in
+    rw c.in-AtMost.is (upper_border seen_node h (Included at) (c.get-in-AtMost.ensures ∙ (c.descend-in-AtMost.ensures.ends s h).front_is
+    ∙ ap (λ (g : Cut). last g.front) (gap_same (λ p. is_lt (at p)) (is_beyond (Included at)) (λ p. not_ge (at p)) h.tree)))

@@ -16,7 +16,7 @@ returns-clause-inserted c s p shown is enough free =
     let keys = c.args.keys.now in
     let one : p ≡ c.in-Some.own = some_same (sym is ∙ c.in-Some.is) in
     let key : slice_index keys c.index.result ≡ key_of keys p = ap (λ i. slice_index keys i) (c.index.ensures.value ∙ sym (ap index_of one)) in
-    let f = fits (lent_table c.args.links.now) (in_range c.args.links.now) c.descend-descent.result shown c.get.ensures c.descend-descent.ensures in
+    let f = fits (lent_table c.args.links.now) (in_range c.args.links.now) c.descend-way.result shown c.get.ensures c.descend-way.ensures.ends in
     let put = c.insert.ensures.inserted f.gap p f.shown f.hole (sym c.in-Some.is ∙ is) free in
     rw (← key) (put.0, record { gap = f.gap; same = f.same; border = f.border; inserted = put.1 })
 

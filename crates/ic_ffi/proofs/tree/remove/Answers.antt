@@ -1,14 +1,14 @@
-use Rattle.std.proofs.Common.{[], refl, ◌∙◌}
+use Rattle.std.proofs.Common.{[], refl}
 use Rattle.ic_link_ops.specs.declared.side.Side.TheVariants.{Left}
 use Rattle.ic_link_ops.proofs.SequenceLemmas.{absent_without, distinct_middle}
-use Rattle.ic_link_ops.proofs.ShownTrees.{shows_beside, holds_linked}
+use Rattle.ic_link_ops.proofs.ShownTrees.{shows_beside}
 use Rattle.ic_rbtree.proofs.Removing.{shown_of, shows_of, removes}
 use Rattle.ic_ffi.specs.Gaps.{before}
 use Rattle.ic_ffi.specs.Tree.{node, lent_table}
 use Rattle.ic_ffi.specs.Seen.{seen, seen_node, has_place}
 use Rattle.ic_ffi.proofs.Gaps.{never}
 use Rattle.ic_ffi.proofs.Seen.{seen_changes}
-use Rattle.ic_ffi.proofs.Trees.{in_range, has, end_in, closed, beside_stands, seen_shown, told, frame_told}
+use Rattle.ic_ffi.proofs.Trees.{in_range, has, end_in, closed, beside_stands, seen_shown, told_kept, members_told, told, frame_told}
 use Rattle.ic_ffi.proofs.tree.remove.Goals as goal
 
 pub returns-then-not-stand-clause-removed : goal.returns-then-not-stand-clause-removed
@@ -30,7 +30,7 @@ returns-clause-removed c front back shown =
     let old = seen_shown v (in_range c.args.links.now) [] (shown_of node shown) tt in
     let new = c.unlink.ensures.taken (seen v) front back [] old in
     let released = c.release_link.ensures in
-    let stays = told w (shows_of seen_node new) (λ q m. c.unlink.ensures.quiet.marks q ∙ holds_linked shown.held (λ out. m (absent_without front back member q out))) in (
+    let stays = told w (shows_of seen_node new) (λ q m. told_kept c.unlink.ensures.quiet q (members_told v (in_range c.args.links.now) shown q (λ out. m (absent_without front back member q out)))) in (
       refl,
       record {
         shows = shows_beside {new = z} stays (distinct_middle front back member shown.held.distinct) released.frame.others;

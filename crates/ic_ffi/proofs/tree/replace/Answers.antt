@@ -13,7 +13,7 @@ use Rattle.ic_ffi.specs.Tree.{node, lent_table}
 use Rattle.ic_ffi.specs.Seen.{seen, seen_node, has_place}
 use Rattle.ic_ffi.proofs.Gaps.{never}
 use Rattle.ic_ffi.proofs.Seen.{seen_changes}
-use Rattle.ic_ffi.proofs.Trees.{in_range, in_kept, has, end_in, closed, beside_stands, linked_with, seen_shown, told, frame_told}
+use Rattle.ic_ffi.proofs.Trees.{in_range, in_kept, has, end_in, closed, beside_stands, seen_shown, told_kept, told_with, told, frame_told}
 use Rattle.ic_ffi.proofs.tree.replace.Goals as goal
 
 pub returns-then-not-stand-clause-replaced : goal.returns-then-not-stand-clause-replaced
@@ -23,7 +23,7 @@ returns-then-not-stand-clause-replaced c front back p shown is free =
 pub take_place-requires-clause-safe : goal.take_place-requires-clause-safe
 take_place-requires-clause-safe c =
     let old = lent_table c.args.links.now in
-    let mid = lent_table c.acquire.new.self in
+    let mid = lent_table c.acquire.new.links in
     let law = in_range c.args.links.now in
     let ok = c.if-not-stand.false in
     let taken = c.in-Some.is in
@@ -32,7 +32,7 @@ take_place-requires-clause-safe c =
       weaker seen_node (closed mid _ (in_kept old mid _ extent (end_in old law _ (c.stand.ensures.root ok)))) (Some c.in-Some.place),
       (
         in_kept old mid (Some c.args.member) extent (end_in old law _ (c.stand.ensures.at ok)),
-        (has mid (in_range c.acquire.new.self) c.in-Some.place (c.acquire.ensures.linked _ taken), tt),
+        (has mid (in_range c.acquire.new.links) c.in-Some.place (c.acquire.ensures.linked _ taken), tt),
       ),
     )
 
@@ -43,7 +43,7 @@ returns-clause-replaced c front back p shown is free =
     let taken = c.in-Some.is in
     let one : p ≡ place = some_same (sym is ∙ c.acquire.ensures.same _ taken) in
     let old = lent_table c.args.links.now in
-    let mid = lent_table c.acquire.new.self in
+    let mid = lent_table c.acquire.new.links in
     let new = lent_table c.take_place.new.nodes in
     let last = lent_table c.release_link.new.self in
     let root = c.args.tree.now.root in
@@ -51,11 +51,11 @@ returns-clause-replaced c front back p shown is free =
     let on = c.acquire.ensures.linked _ taken in
     let only = c.acquire.ensures.frame _ taken in
     let beside = acquired_shown node is_linked_three (λ e. refl) old mid root (front ++ member ∷ back) place shown was on only in
-    let there = spot seen_node front member back (seen_shown mid (in_range c.acquire.new.self) (loose place ∷ []) beside (has mid (in_range c.acquire.new.self) place on, tt)) in
+    let there = spot seen_node front member back (seen_shown mid (in_range c.acquire.new.links) (loose place ∷ []) beside (has mid (in_range c.acquire.new.links) place on, tt)) in
     let after = placed seen_node place there c.take_place.ensures.taken in
     let released = c.release_link.ensures in
-    let stays = told new (shows_of seen_node after) (λ q m. c.take_place.ensures.quiet.marks q
-    ∙ linked_with front place back (shows_of node beside) on (λ z out. absent_without front back member z out) q m) in
+    let stays = told new (shows_of seen_node after) (λ q m. told_kept c.take_place.ensures.quiet q
+    (told_with mid (in_range c.acquire.new.links) front place back (shows_of node beside) (on, c.acquire.ensures.bare _ taken) (λ z out. absent_without front back member z out) q m)) in
     rw one (
       refl,
       record {

@@ -1,7 +1,7 @@
 use Rattle.std.proofs.Common.{length, slice_index_or}
 use Rattle.ic_ffi.specs.Words.{no_tree_words}
 use Rattle.ic_ffi.specs.Tables.{raw_entries}
-use Rattle.ic_ffi.proofs.Seen.{seen_changes, says_written, right_set}
+use Rattle.ic_ffi.proofs.Seen.{seen_changes, says_written, right_set, right_quiet, keeps_marks}
 use Rattle.ic_ffi.proofs.Entries.{changes_only}
 use Rattle.ic_ffi.proofs.nodes.RawTableRawThreeNodes.set_right.Goals as goal
 
@@ -13,3 +13,9 @@ returns-clause-set c =
 
 pub returns-clause-frame : goal.returns-clause-frame
 returns-clause-frame c = seen_changes _ _ _ (changes_only _ _ _ _ _ c.index.ensures.value)
+
+pub returns-clause-quiet : goal.returns-clause-quiet
+returns-clause-quiet c =
+    let es = raw_entries c.args.self.now in
+    keeps_marks es c.args.place _ _ _ c.index.ensures.value c.requires.linked
+    (right_quiet c.args.place (length es) (slice_index_or es c.index.result no_tree_words) c.args.right c.requires.named _ c.to_word-words.ensures.value)

@@ -1,0 +1,19 @@
+use Rattle.std.proofs.Common.{◌≡◌, Some, true, List}
+use Rattle.ic_unsafe_ref.specs.declared.place.Place.{Place}
+use Rattle.ic_link_ops.specs.RedBlackTree.{Shows}
+use Rattle.ic_rbtree.specs.Closed.{IsIn}
+use Rattle.ic_ffi.specs.Keys.{against}
+use Rattle.ic_ffi.specs.Seen.{seen, seen_node, has_place}
+use Rattle.ic_ffi.specs.Tree.{lent_table}
+use Rattle.ic_ffi.proofs.Keys.{Comes}
+use Rattle.ic_ffi.proofs.search.descend.Given as goal
+
+-- the search has come past as many members as it has looked at, in each tree that is shown
+abbrev pub invariant-loop : goal.invariant-loop
+invariant-loop l =
+    let t = lent_table l.fn.links in
+    record {
+      each : (s : List Place) (h : Shows seen_node (seen t) l.fn.tree.root s) → Comes t l.fn.tree.root (against l.key l.fn.keys) l.equals h.tree (Some l.place) l.way l.counter;
+      here : has_place t l.place ≡ true;
+      back : IsIn (has_place t) l.way.back;
+    }
