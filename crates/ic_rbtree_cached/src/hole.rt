@@ -1,8 +1,8 @@
 //! Where an object comes in.
 //!
 //! ```text
-//! let hole = hole_for(&tree, last, &links, &objects, &mut probe);     // one look, or one and a descent
-//! let hole = hole_near(&tree, hint, &links, &objects, &mut probe);    // two looks, or at most two and a descent
+//! let hole = hole_for(&tree, first, last, &links, &objects, &mut probe); // one look, or one and a descent
+//! let hole = hole_near(&tree, hint, &links, &objects, &mut probe); // two looks, or two at most and a descent
 //! ```
 
 ghost use Rattle.std.specs.Prelude.{◌≡◌, ◌+◌, ◌<◌, ◌≤◌, true, ℕ, Option, Some, IfSome, IfNone, List};

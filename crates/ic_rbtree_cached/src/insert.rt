@@ -150,9 +150,9 @@ impl<A: KeyAdapter> RBTreeCached<A> {
     /// [`insert_by`](RBTreeCached::insert_by). The answer is the same with every hint, in a tree that is sorted for the probe.
     ///
     /// It requires that the object's place is covered, that all members are placed, and that the probe's count is at most
-    /// `u64::MAX - 68`. A refused object comes back, nothing is looked at, and the tree and its links are as they were. O(log n), and
-    /// O(1) on average over inserts whose hints are right: v looks in a tree of n members, where `2^v <= 2 * (n + 1)^2`. It takes a hint
-    /// as `insert(hint, value)` of Boost.Intrusive and `emplace_hint` of C++ do.
+    /// `u64::MAX - 68`. A refused object comes back, nothing is looked at, and the tree and its links are as they were. It takes a hint as
+    /// `insert(hint, value)` of Boost.Intrusive and `emplace_hint` of C++ do. O(log n): v looks in a tree of n members, where
+    /// `2^v <= 2 * (n + 1)^2`, and two looks, a step back and the repair where the hint is right.
     #[inline]
     pub fn insert_with_hint_by<L: RBTreeOps, P: Probe<A::Value>, O: Values<A::Value>>(
         &mut self,
@@ -187,7 +187,7 @@ impl<A: KeyAdapter> RBTreeCached<A> {
     }
 
     /// Inserts the object where its own key belongs, behind members with the same key, with a hint: `insert_with_hint_by` with a
-    /// `KeyProbe`. It requires that the object is placed, too. O(log n), and O(1) on average over inserts whose hints are right.
+    /// `KeyProbe`. It requires that the object is placed, too. O(log n), and two looks at most where the hint is right.
     #[inline]
     pub fn insert_with_hint<L: RBTreeOps, O: Values<A::Value>>(
         &mut self,
