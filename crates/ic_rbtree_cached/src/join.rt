@@ -78,7 +78,7 @@ impl<A: KeyAdapter> RBTreeCached<A> {
     /// Keeps the members in front of the object, which has to be a member, and hands out the object and all behind it, as a tree with
     /// the same adapter. It looks at no key, and no link is acquired or released.
     ///
-    /// Trees that share no member with this one stay. O(log n * log n), as [`RBTree::split_off`](ic_rbtree::RBTree::split_off).
+    /// Trees that share no member with this one stay. O(log n), as [`RBTree::split_off`](ic_rbtree::RBTree::split_off).
     pub fn split_off<L: RBTreeOps>(
         &mut self,
         links: &mut L,
