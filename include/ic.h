@@ -25,8 +25,8 @@
  *   - It writes to nothing but table[0 .. places - 1], the lists, the tree and the out parameter that it is handed.
  *   - If the status is not IC_OK, it has changed nothing, out parameters included. The status says what is wrong with the first member
  *     that is named, else with the next one, else with the place to insert, else that the words do not fit together (IC_BROKEN).
- *   - It takes at most a fixed number of steps, but for ic_stack_splice_after and ic_list_clear, ic_stack_clear and ic_xor_clear, which take
- *     at most a few more for each place of the table. Any other call of a list takes a few, and a call of a tree O(log n).
+ *   - It takes at most a fixed number of steps, but for ic_stack_splice_after and the calls whose names end with fill or clear, which take
+ *     at most a fixed number more for each place of the table. Any other call of a list takes a few, and of a tree O(log n).
  *
  * Where the table holds the list or tree, and the member that you name is one of its members, the call makes the edit that its comment
  * says. Every other list and tree of the table stays as it was. A member of another list of the same table is refused with IC_BROKEN where
@@ -188,7 +188,7 @@ static inline uint32_t ic_place_within(size_t places, uint64_t word) {
     for (uint32_t place = (first), follower = (next), ic_rounds_##place = ic_bound(places); \
          (is_member) && ic_rounds_##place--; place = follower, follower = (next))
 
-/* ---- Doubly linked lists: 16 bytes a place, all calls O(1) but ic_list_clear -------------------------------------------------------
+/* ---- Doubly linked lists: 16 bytes a place, all calls O(1) but ic_list_fill and ic_list_clear ---------------------------------------
  *
  * Good for queues, and for caches, from whose middle objects leave.
  */
@@ -315,6 +315,12 @@ uint32_t ic_list_splice_before(struct ic_link2 *table, size_t places, struct ic_
 IC_NODISCARD
 uint32_t ic_list_append(struct ic_link2 *table, size_t places, struct ic_list *list, struct ic_list *given);
 
+/* Links `count` places, `first` and those behind it, and puts them at the back in the order of their numbers. O(count). With `count` 0 it
+ * changes nothing.
+ * IC_OUT_OF_RANGE or IC_LINKED: of the first of these places that is. IC_BROKEN: the last member is none of this table. */
+IC_NODISCARD
+uint32_t ic_list_fill(struct ic_link2 *table, size_t places, struct ic_list *list, uint32_t first, uint32_t count);
+
 /* Takes all members off. O(n).
  * IC_BROKEN: the links do not lead from the first member to the last, each to the next and back. */
 IC_NODISCARD
@@ -329,7 +335,7 @@ uint32_t ic_list_split_after(struct ic_link2 *table, size_t places, struct ic_li
 IC_NODISCARD
 uint32_t ic_list_split_before(struct ic_link2 *table, size_t places, struct ic_list *list, uint32_t at, struct ic_list *rest);
 
-/* ---- Singly linked lists: 8 bytes a place, all calls O(1) but ic_stack_splice_after and ic_stack_clear ------------------------------
+/* ---- Singly linked lists: 8 bytes a place, all calls O(1) but ic_stack_fill, ic_stack_splice_after and ic_stack_clear -----------------
  *
  * Good for stacks and free lists. What is edited is behind the member `at`, or at the front where `at` is IC_NONE. With the last member
  * kept beside it, a list is a queue: insert behind it, and pop at the front.
@@ -417,12 +423,18 @@ uint32_t ic_stack_splice_after(struct ic_link1 *table, size_t places, struct ic_
 IC_NODISCARD
 uint32_t ic_stack_split_after(struct ic_link1 *table, size_t places, struct ic_stack *list, uint32_t at, struct ic_stack *rest);
 
+/* Links `count` places, `first` and those behind it, and puts them at the front in the order of their numbers: `first` is the first member
+ * then. O(count). With `count` 0 it changes nothing.
+ * IC_OUT_OF_RANGE or IC_LINKED: of the first of these places that is. IC_BROKEN: the first member is not linked. */
+IC_NODISCARD
+uint32_t ic_stack_fill(struct ic_link1 *table, size_t places, struct ic_stack *list, uint32_t first, uint32_t count);
+
 /* Takes all members off. O(n).
  * IC_BROKEN: the links lead to no end within `places` steps. */
 IC_NODISCARD
 uint32_t ic_stack_clear(struct ic_link1 *table, size_t places, struct ic_stack *list);
 
-/* ---- XOR lists: 8 bytes a place, all calls O(1) but ic_xor_clear ------------------------------------------------------------------
+/* ---- XOR lists: 8 bytes a place, all calls O(1) but ic_xor_fill and ic_xor_clear ---------------------------------------------------
  *
  * Good for lists that are used at both ends and walked both ways, where memory is scarce. A member alone does not tell its neighbors, so
  * a gap is named by both members beside it: `before` is the member in front of it, or IC_NONE at the front, and `behind` is the member
@@ -546,6 +558,12 @@ uint32_t ic_xor_splice_between(struct ic_link1 *table, size_t places, struct ic_
 IC_NODISCARD
 uint32_t ic_xor_append(struct ic_link1 *table, size_t places, struct ic_xor_list *list, struct ic_xor_list *given);
 
+/* Links `count` places, `first` and those behind it, and puts them at the back in the order of their numbers. O(count). With `count` 0 it
+ * changes nothing.
+ * IC_OUT_OF_RANGE or IC_LINKED: of the first of these places that is. IC_BROKEN: the last member is none of this table. */
+IC_NODISCARD
+uint32_t ic_xor_fill(struct ic_link1 *table, size_t places, struct ic_xor_list *list, uint32_t first, uint32_t count);
+
 /* Takes all members off. O(n).
  * IC_BROKEN: an end of the list is none of this table, or the links do not lead from one end to the other within `places` steps. */
 IC_NODISCARD
@@ -561,7 +579,7 @@ uint32_t ic_xor_split_between(struct ic_link1 *table, size_t places, struct ic_x
 /* Reverses the list. It reads and writes no table. IC_OK always. */
 uint32_t ic_xor_reverse(struct ic_xor_list *list);
 
-/* ---- Red-black trees: 24 bytes a place, all calls O(log n) ------------------------------------------------------------------------
+/* ---- Red-black trees: 24 bytes a place, all calls O(log n) but ic_tree_clear ------------------------------------------------------
  *
  * Good for timers, priorities and indices: objects in order that come and leave anywhere, and are searched for. n is how many members
  * there are. You order them in one of two ways:
@@ -634,6 +652,12 @@ uint32_t ic_tree_remove(struct ic_link3 *table, size_t places, struct ic_tree *t
  * IC_BROKEN: the root is none of this table. */
 IC_NODISCARD
 uint32_t ic_tree_replace(struct ic_link3 *table, size_t places, struct ic_tree *tree, uint32_t at, uint32_t place);
+
+/* Takes all members off. O(n).
+ * IC_BROKEN: the root is none of this table, or the steps of ic_tree_next from the first member come to a place that is not linked, or to no
+ * end within `places` steps. */
+IC_NODISCARD
+uint32_t ic_tree_clear(struct ic_link3 *table, size_t places, struct ic_tree *tree);
 
 /* ---- Trees by keys ----
  *

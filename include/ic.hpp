@@ -88,6 +88,7 @@ struct doubly {
     using head = ic_list;
     using source = words<link, head>;
     static constexpr bool is_bidirectional = true, needs_from = false;
+    static constexpr auto clear = ic_list_clear, fill = ic_list_fill;
     static constexpr auto push_front = ic_list_push_front, push_back = ic_list_push_back;
     static constexpr auto pop_front = ic_list_pop_front, pop_back = ic_list_pop_back;
 
@@ -109,6 +110,7 @@ struct singly {
     using head = ic_stack;
     using source = words<link, head>;
     static constexpr bool is_bidirectional = false, needs_from = true;
+    static constexpr auto clear = ic_stack_clear, fill = ic_stack_fill;
     static constexpr auto push_front = ic_stack_push_front;
     static constexpr auto pop_front = ic_stack_pop_front;
 
@@ -127,6 +129,7 @@ struct xored {
     using head = ic_xor_list;
     using source = words<link, head>;
     static constexpr bool is_bidirectional = true, needs_from = true;
+    static constexpr auto clear = ic_xor_clear, fill = ic_xor_fill;
     static constexpr auto push_front = ic_xor_push_front, push_back = ic_xor_push_back;
     static constexpr auto pop_front = ic_xor_pop_front, pop_back = ic_xor_pop_back;
 
@@ -146,6 +149,7 @@ struct red_black {
     using head = ic_tree;
     using source = words<link, head>;
     static constexpr bool is_bidirectional = true, needs_from = false;
+    static constexpr auto clear = ic_tree_clear;
 
     static bool is_linked(const source &in, std::uint32_t at) noexcept { return ic_tree_is_linked(in.table, in.places, at) != 0; }
     static bool is_empty(const source &in) noexcept { return ic_tree_is_empty(in.head) != 0; }
@@ -349,11 +353,8 @@ public:
         return remove_if([&](std::uint32_t place) { return !is_wanted(place); });
     }
 
-    /// Takes all members off, one after another. ic::status::broken: some were left.
-    status clear() const noexcept {
-        const status done = remove_if([](std::uint32_t) { return true; });
-        return done == status::ok && !this->empty() ? status::broken : done;
-    }
+    /// Takes all members off. ic::status::broken: they are no list or tree of this table, and nothing is changed.
+    status clear() const noexcept { return edit(kind::clear); }
 
 protected:
     template <class Call, class... Arguments>
@@ -378,7 +379,7 @@ protected:
     head *head_;
 };
 
-/// Edits a list at its front.
+/// Edits a list at its front, and fills it.
 template <class Base>
 class front_edits : public edits<Base> {
 public:
@@ -389,6 +390,10 @@ public:
 
     /// Takes the first member off. std::nullopt: there is none, or, if the list is not empty(), it is none of this table.
     [[nodiscard]] std::optional<std::uint32_t> pop_front() const noexcept { return this->taken(kind::pop_front); }
+
+    /// Links `count` places, `first` and those behind it, in the order of their numbers: at the back, and of a singly linked list at the
+    /// front. If one of them is refused, none is linked.
+    status fill(std::uint32_t first, std::uint32_t count) const noexcept { return this->edit(kind::fill, first, count); }
 };
 
 /// Edits a list at both ends.
@@ -428,9 +433,6 @@ public:
     status move_to_front(std::uint32_t place) const noexcept { return edit(ic_list_move_to_front, place); }
     status move_to_back(std::uint32_t place) const noexcept { return edit(ic_list_move_to_back, place); }
 
-    /// Takes all members off. ic::status::broken: they are no list of this table, and nothing is changed.
-    status clear() const noexcept { return edit(ic_list_clear); }
-
     /// Moves all members of `given` in front of an iterator's member, and to the back if that is end(). This and the next five return
     /// ic::status::broken of this list itself, and of a list of another table.
     status splice(iterator at, list_view given) const noexcept { return splice_before(*at, given); }
@@ -464,9 +466,6 @@ public:
         return taken(ic_stack_replace_after, at, place);
     }
 
-    /// Takes all members off. ic::status::broken: they are no list of this table, and nothing is changed.
-    status clear() const noexcept { return edit(ic_stack_clear); }
-
     /// This and the next return ic::status::broken of this list itself, and of a list of another table.
     status splice_after(std::uint32_t at, stack_view given) const noexcept {
         return edit_both(given, ic_stack_splice_after, at, given.head_);
@@ -493,9 +492,6 @@ public:
         return edit(ic_xor_replace, before, at, place);
     }
     void reverse() const noexcept { ic_xor_reverse(head_); }
-
-    /// Takes all members off. ic::status::broken: they are no list of this table, and nothing is changed.
-    status clear() const noexcept { return edit(ic_xor_clear); }
 
     /// Moves all members of `given` in front of an iterator's member, and to the back if that is end(). This and the next three return
     /// ic::status::broken of this list itself, and of a list of another table.

@@ -183,6 +183,7 @@ export class List extends Collection {
   moveBefore(at, place) { this.edit(this.library.calls.ic_list_move_before, at, place); }
   moveToFront(place) { this.edit(this.library.calls.ic_list_move_to_front, place); }
   moveToBack(place) { this.edit(this.library.calls.ic_list_move_to_back, place); }
+  fill(first, count) { this.edit(this.library.calls.ic_list_fill, first, count); }
   clear() { this.edit(this.library.calls.ic_list_clear); }
 }
 
@@ -204,6 +205,7 @@ export class Stack extends Collection {
   }
   spliceAfter(at, given) { this.edit(this.library.calls.ic_stack_splice_after, at, this.given(given)); }
   splitAfter(at) { return this.split(this.library.calls.ic_stack_split_after, at); }
+  fill(first, count) { this.edit(this.library.calls.ic_stack_fill, first, count); }
   clear() { this.edit(this.library.calls.ic_stack_clear); }
 }
 
@@ -230,6 +232,7 @@ export class XorList extends Collection {
   spliceBetween(before, given, behind) { this.edit(this.library.calls.ic_xor_splice_between, before, this.given(given), behind); }
   splitBetween(before, behind) { return this.split(this.library.calls.ic_xor_split_between, before, behind); }
   append(given) { this.edit(this.library.calls.ic_xor_append, this.given(given)); }
+  fill(first, count) { this.edit(this.library.calls.ic_xor_fill, first, count); }
   clear() { this.edit(this.library.calls.ic_xor_clear); }
   reverse() { this.library.done(this.library.calls.ic_xor_reverse(this.self)); }
 }
@@ -255,6 +258,7 @@ export class Tree extends Collection {
   insert(place) { this.library.done(this.library.calls.ic_tree_insert(this.table, this.places, this.keysAt, this.keyCount, this.self, number(place))); }
   remove(at) { this.edit(this.library.calls.ic_tree_remove, at); }
   replace(at, place) { this.edit(this.library.calls.ic_tree_replace, at, place); }
+  clear() { this.edit(this.library.calls.ic_tree_clear); }
   find(key) { return this.search(this.library.calls.ic_tree_find, key); }
   lowerBound(key) { return this.search(this.library.calls.ic_tree_lower_bound, key); }
   upperBound(key) { return this.search(this.library.calls.ic_tree_upper_bound, key); }

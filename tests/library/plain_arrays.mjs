@@ -16,6 +16,12 @@ const replace = (plain, index, place) => (index >= 0 && accepts(plain, [], place
 const remove = (plain, index) => (index < 0 ? REFUSED : (plain.splice(index, 1), null));
 const clear = (plain) => ((plain.length = 0), null);
 
+/** A run of places goes in at an index, if none of them is refused. */
+function fill(plain, index, first, count) {
+  const run = Array.from({ length: count }, (_, i) => first + i);
+  return run.every((place) => accepts(plain, [], place)) ? (plain.splice(index, 0, ...run), null) : REFUSED;
+}
+
 /** A member goes in front of the others from `index` on, which counts them without it. */
 function move(plain, named, place, index) {
   if (!areMembers(plain, [...named, place])) return REFUSED;
@@ -57,7 +63,7 @@ function putInFront(plain, index, rest, splice) {
 function doubly(ic, turns) {
   const list = new List(ic.links2(PLACES)), plain = [];
   play(list, plain, turns, (turn) => {
-    const place = random(PLACES + 2), at = random(9) === 0 ? null : random(PLACES + 1);
+    const place = random(PLACES + 2), at = random(9) === 0 ? null : random(PLACES + 1), count = random(4);
     if (plain.includes(at) && turn % 50 === 0) {
       const rest = list.splitAfter(at);
       putInFront(plain, plain.indexOf(at) + 1, rest, () => list.spliceAfter(null, rest));
@@ -80,6 +86,7 @@ function doubly(ic, turns) {
       ["insertBefore", [at, place], () => insert(plain, [at], at === null ? plain.length : index, place)],
       ["replace", [at, place], () => replace(plain, index, place)],
       ["remove", [at], () => remove(plain, index)],
+      ["fill", [place, count], () => fill(plain, plain.length, place, count)],
       ["moveToFront", [place], () => move(plain, [], place, () => 0)],
       ["moveToBack", [place], () => move(plain, [], place, () => plain.length)],
       ["moveAfter", [at, place], () => move(plain, [at], place, () => (own < 0 ? plain.indexOf(at) + 1 : own))],
@@ -92,7 +99,7 @@ function doubly(ic, turns) {
 function singly(ic, turns) {
   const list = new Stack(ic.links1(PLACES)), plain = [];
   play(list, plain, turns, (turn) => {
-    const place = random(PLACES + 2), at = random(9) === 0 ? null : random(PLACES + 1);
+    const place = random(PLACES + 2), at = random(9) === 0 ? null : random(PLACES + 1), count = random(4);
     if (plain.includes(at) && turn % 50 === 0) {
       const rest = list.splitAfter(at);
       putInFront(plain, plain.indexOf(at) + 1, rest, () => list.spliceAfter(null, rest));
@@ -101,6 +108,7 @@ function singly(ic, turns) {
     return [
       ["pushFront", [place], () => insert(plain, [], 0, place)],
       ["popFront", [], () => orNull(plain.shift())],
+      ["fill", [place, count], () => fill(plain, 0, place, count)],
       ["insertAfter", [at, place], () => insert(plain, [at], index + 1, place)],
       ["removeAfter", [at], () => (at !== null && index < 0 ? REFUSED : orNull(plain.splice(index + 1, 1)[0]))],
       ...(turn % 60 === 0 ? [["clear", [], () => clear(plain)]] : []),
@@ -111,7 +119,7 @@ function singly(ic, turns) {
 function xor(ic, turns) {
   const list = new XorList(ic.links1(PLACES)), plain = [];
   play(list, plain, turns, (turn) => {
-    const place = random(PLACES + 1), index = random(plain.length + 1), gap = [orNull(plain[index - 1]), orNull(plain[index])];
+    const place = random(PLACES + 1), count = random(4), index = random(plain.length + 1), gap = [orNull(plain[index - 1]), orNull(plain[index])];
     if (turn % 50 === 0) {
       const rest = list.splitBetween(...gap);
       putInFront(plain, index, rest, () => list.spliceBetween(null, rest, orNull(plain[0])));
@@ -127,6 +135,7 @@ function xor(ic, turns) {
     return [
       ["pushFront", [place], () => insert(plain, [], 0, place)],
       ["popBack", [], () => orNull(plain.pop())],
+      ["fill", [place, count], () => fill(plain, plain.length, place, count)],
       ["insertBetween", [gap[0], place, gap[1]], () => insert(plain, [], index, place)],
       ["remove", gap, () => (gap[1] === null ? REFUSED : remove(plain, index))],
     ];
@@ -136,7 +145,7 @@ function xor(ic, turns) {
 function tree(ic, turns) {
   const keys = ic.keys(PLACES), made = new Tree(ic.links3(PLACES), keys), plain = [];
   const key = (place) => Number(keys.word(place));
-  play(made, plain, turns, () => {
+  play(made, plain, turns, (turn) => {
     const place = random(PLACES), sought = random(12);
     if (!plain.includes(place)) keys.words[place] = BigInt(random(12));
     const behind = plain.findIndex((it) => key(it) > key(place));
@@ -144,6 +153,7 @@ function tree(ic, turns) {
     return [
       ["insert", [place], () => insert(plain, [], behind < 0 ? plain.length : behind, place)],
       ["remove", [place], () => remove(plain, plain.indexOf(place))],
+      ...(turn % 60 === 0 ? [["clear", [], () => clear(plain)]] : []),
       ["find", [sought], () => orNull(plain.find((it) => key(it) === sought))],
       ["lowerBound", [sought], () => orNull(plain.find((it) => key(it) >= sought))],
       ["upperBound", [sought], () => orNull(plain.findLast((it) => key(it) <= sought))],

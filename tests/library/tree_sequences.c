@@ -7,7 +7,7 @@
  * Prints for each call how often it returned each status.
  */
 #define CALLS(X)                                                                           \
-    X(tree_insert_left) X(tree_insert_right) X(tree_remove) X(tree_replace)                \
+    X(tree_insert_left) X(tree_insert_right) X(tree_remove) X(tree_replace) X(tree_clear)  \
     X(tree_insert) X(tree_find) X(tree_lower_bound) X(tree_upper_bound)                    \
     X(tree_next) X(tree_prev)
 
@@ -173,6 +173,21 @@ static void step_replace(int t, uint32_t i) {
     }
 }
 
+/* All members, unless the root is none of the table. */
+static void step_clear(int t) {
+    struct sequence *plain = &sequences[t];
+    int is_short = plain->count && below(2);
+    fault(is_short, IC_BROKEN);
+    if (!made(ic_tree_clear(table, is_short ? ic_tree_root(&trees[t]) : PLACES, &trees[t])))
+        return;
+    for (uint32_t i = 0; i < plain->count; i++) {
+        owner[plain->members[i]] = NOBODY;
+        table_was[plain->members[i]] = table[plain->members[i]];
+    }
+    plain->count = 0;
+    check_others(t, IC_NONE, IC_NONE);
+}
+
 /* What a call that reads gave is a member, and nothing if it refused. */
 static void check_found(uint32_t status, uint32_t found, uint32_t expected) {
     expect(found == (made(status) ? expected : UNSET), "gave another member");
@@ -213,6 +228,7 @@ static void step(void) {
     case CALL_tree_insert_right: step_insert_at(t, i); break;
     case CALL_tree_remove: step_remove(t, i); break;
     case CALL_tree_replace: step_replace(t, i); break;
+    case CALL_tree_clear: step_clear(t); break;
     case CALL_tree_insert: step_insert(t); break;
     case CALL_tree_find:
     case CALL_tree_lower_bound:
@@ -231,7 +247,8 @@ static enum call choose(void) {
     int inserts = call == CALL_tree_insert_left || call == CALL_tree_insert_right || call == CALL_tree_insert;
     if (!below(512))
         is_growing = !is_growing;
-    return (is_growing ? call == CALL_tree_remove : inserts) && below(8) ? choose() : call;
+    int is_rare = call == CALL_tree_clear && below(64);
+    return is_rare || ((is_growing ? call == CALL_tree_remove : inserts) && below(8)) ? choose() : call;
 }
 
 int main(int count, char **words) {

@@ -11,6 +11,7 @@ list.spliceBefore(null, rest);
 list.append(rest);
 list.moveAfter(null, 7);
 list.moveToBack(7);
+list.fill(0, 3);
 list.clear();
 const stack = new Stack(ic.links1(100));
 const others = new XorList(ic.links1(100));
@@ -18,6 +19,7 @@ const keys = ic.keys(4);
 const tree = new Tree(ic.links3(4), keys);
 keys.words[3] = 50n;
 tree.insert(3);
+tree.clear();
 for (const place of tree) console.log(place + 1, tree.find(50n), tree.lowerBound(20));
 try {
   others.insertBetween(null, 3, null);
@@ -26,6 +28,8 @@ try {
 }
 // @ts-expect-error: a list of another kind
 list.spliceAfter(null, stack);
+// @ts-expect-error: no count of places
+list.fill(3);
 // @ts-expect-error: no place to move
 list.moveBefore(3);
 // @ts-expect-error: there may be no member

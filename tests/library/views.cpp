@@ -253,11 +253,28 @@ void edit_own(lists<ic::xor_view> &it, int which, std::uint32_t index) {
         other.splice(other.begin(), plain, std::next(plain.begin(), index), plain.end());
 }
 
+/// Links a run of places, which the first one of them that is refused refuses.
+template <class View>
+void fill(lists<View> &it, int which) {
+    const View view = it.view(which);
+    auto &plain = it.plain[which];
+    const std::uint32_t first = below(places + 1), count = below(4);
+    ic::status linking = ic::status::ok;
+    for (std::uint32_t place = first; place < first + count && linking == ic::status::ok; place++)
+        linking = to_link(view, place);
+    const auto behind = View::kind::is_bidirectional ? plain.end() : plain.begin();
+    if (made(view.fill(first, count), linking))
+        for (std::uint32_t place = first; place < first + count; place++)
+            plain.insert(behind, place);
+}
+
 template <class View>
 void step(lists<View> &it) {
     const int which = static_cast<int>(below(2));
     const std::uint32_t index = below(static_cast<std::uint32_t>(it.plain[which].size()) + 1), call = below(11);
-    if (call < 6)
+    if (below(12) == 0)
+        fill(it, which);
+    else if (call < 6)
         edit(it, which, index, call);
     else if (call == 6)
         edit_own(it, which, index);
@@ -372,6 +389,10 @@ void step(trees &it) {
             search(it, which);
         break;
     case 4: replace(it, which, member); break;
+    case 5:
+        if (below(8) == 0 && made(view.clear(), ic::status::ok))
+            plain.clear();
+        break;
     default: insert(it, which);
     }
     it.check_both();

@@ -27,7 +27,7 @@ faultless is_linked t (Some p) stands = ap (λ b. cond b 0 (cond (nat_lt (index_
 
 -- at an end a place has no fault but its own: that of the view is that of the words that were lent
 module _ {W : Type 0} (is_linked : W → Bool) (unlinked : W) (t : RawTable W) where
-  place_fault_back : (place : Option Place) → place_fault is_linked (raw_table unlinked t) place ≡ place_fault is_linked (table_of unlinked t.entries.now) place
+  pub place_fault_back : (place : Option Place) → place_fault is_linked (raw_table unlinked t) place ≡ place_fault is_linked (table_of unlinked t.entries.now) place
   place_fault_back None = refl
   place_fault_back (Some p) = refl
 

@@ -12,3 +12,5 @@ pub mod Xor
 pub mod Seen
 pub mod Trees
 pub mod Keys
+pub mod Runs
+pub mod TreeWalks

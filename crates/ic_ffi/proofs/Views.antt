@@ -5,7 +5,7 @@ use Rattle.ic_unsafe_ref.specs.declared.place.Place.{Place}
 use Rattle.ic_link_ops.specs.Sequences.{Cut}
 use Rattle.ic_link_ops.specs.Tables.{Table, KeepsBeside, IsUnlinked}
 use Rattle.ic_link_ops.specs.PlainTables.{entry_at, table_of}
-use Rattle.ic_link_ops.specs.Edits.{Inserts, Removes, Replaces}
+use Rattle.ic_link_ops.specs.Edits.{Inserts, Removes, Replaces, Splices}
 use Rattle.ic_rbtree.specs.Ordered.{InsertsInOrder}
 use Rattle.ic_ffi.specs.declared.table.RawTable.{RawTable}
 use Rattle.ic_ffi.specs.Calls.{Clears}
@@ -58,6 +58,13 @@ module _ {W : Type 0} (unlinked : W) where
         → Replaces Shows (raw_table unlinked a) (raw_table unlinked b) h cut p → Replaces Shows (table_of unlinked es) (table_of unlinked fs) h' cut p
     replaced_back a b {h} {cut} {p} e f k r =
         let back : Replaces Shows (table_of unlinked (raw_entries a)) (table_of unlinked (raw_entries b)) h cut p =
+        record { shows = kept _ _ _ _ r.shows (λ q. refl); frame = frame_back a b r.frame } in
+        rw (← e, f, k) back
+
+    pub spliced_back : (a b : RawTable W) {es fs : List W} {h h' : H} {cut : Cut} {t : List Place} → raw_entries a ≡ es → fs ≡ raw_entries b → h' ≡ h
+        → Splices Shows (raw_table unlinked a) (raw_table unlinked b) h cut t → Splices Shows (table_of unlinked es) (table_of unlinked fs) h' cut t
+    spliced_back a b {h} {cut} {t} e f k r =
+        let back : Splices Shows (table_of unlinked (raw_entries a)) (table_of unlinked (raw_entries b)) h cut t =
         record { shows = kept _ _ _ _ r.shows (λ q. refl); frame = frame_back a b r.frame } in
         rw (← e, f, k) back
 

@@ -20,6 +20,7 @@ use Rattle.ic_ffi.specs.Gaps.{Stands}
 use Rattle.ic_ffi.specs.Words.{place_in, no_words, is_linked_two, next_of_two, prev_of_two}
 use Rattle.ic_ffi.specs.Tables.{raw_table, neighbors_of}
 use Rattle.ic_ffi.specs.Calls as calls
+use Rattle.ic_ffi.specs.Fills as fills
 
 -- the words of a table, and those that are lent, as clauses see them
 abbrev pub table_of : List RawTwo → Table RawTwo
@@ -125,3 +126,10 @@ Split Before old new list list' status rest cut = calls.Split Shows is_linked_tw
 
 abbrev pub Cleared : (old new : List RawTwo) (list list' : RawEnds) (status : ℕ) → List Place → Type 0
 Cleared = calls.Cleared Shows is_linked_two no_words ends_of
+
+abbrev pub Filled : (old new : List RawTwo) (list list' : RawEnds) (status : ℕ) → Cut → (first count : ℕ) → Type 0
+Filled = fills.Filled Shows is_linked_two no_words ends_of
+
+-- the run of so many places from this number on is free in the table of these words
+abbrev pub IsFreeRunIn : List RawTwo → (first count : ℕ) → Type 0
+IsFreeRunIn words = fills.IsFreeRun is_linked_two (table_of words)

@@ -9,3 +9,5 @@ pub mod Xor
 pub mod Tree
 pub mod Seen
 pub mod Keys
+pub mod Fills
+pub mod WholeTree

@@ -13,6 +13,7 @@ use Rattle.ic_ffi.specs.declared.table.RawTable.{RawTable}
 use Rattle.ic_ffi.specs.Words.{place_in, no_word, is_linked_one, next_of_one}
 use Rattle.ic_ffi.specs.Tables.{raw_table, successor_of}
 use Rattle.ic_ffi.specs.Calls as calls
+use Rattle.ic_ffi.specs.Fills as fills
 
 -- the words of a table, and those that are lent, as clauses see them
 abbrev pub table_of : List RawOne → Table RawOne
@@ -79,3 +80,10 @@ Split old new list list' status rest cut = calls.Split Shows is_linked_one no_wo
 
 abbrev pub Cleared : (old new : List RawOne) (list list' : RawFront) (status : ℕ) → List Place → Type 0
 Cleared = calls.Cleared Shows is_linked_one no_word list_of
+
+abbrev pub Filled : (old new : List RawOne) (list list' : RawFront) (status : ℕ) → Cut → (first count : ℕ) → Type 0
+Filled = fills.Filled Shows is_linked_one no_word list_of
+
+-- the run of so many places from this number on is free in the table of these words
+abbrev pub IsFreeRunIn : List RawOne → (first count : ℕ) → Type 0
+IsFreeRunIn words = fills.IsFreeRun is_linked_one (table_of words)

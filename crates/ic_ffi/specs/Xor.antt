@@ -11,6 +11,7 @@ use Rattle.ic_ffi.specs.Words.{no_word, is_linked_one, next_of_one}
 use Rattle.ic_ffi.specs.Tables.{joins_of, other_of}
 use Rattle.ic_ffi.specs.Doubly.{ends_of}
 use Rattle.ic_ffi.specs.Calls as calls
+use Rattle.ic_ffi.specs.Fills as fills
 
 -- an entry's place stands between these two
 abbrev pub Joins : RawOne → Option Place → Option Place → Type 0
@@ -99,3 +100,6 @@ Split old new list list' status rest cut = calls.Split Shows is_linked_one no_wo
 
 abbrev pub Cleared : (old new : List RawOne) (list list' : RawEnds) (status : ℕ) → List Place → Type 0
 Cleared = calls.Cleared Shows is_linked_one no_word ends_of
+
+abbrev pub Filled : (old new : List RawOne) (list list' : RawEnds) (status : ℕ) → Cut → (first count : ℕ) → Type 0
+Filled = fills.Filled Shows is_linked_one no_word ends_of

@@ -15,6 +15,8 @@
 //! place to insert, or else [`BROKEN`]. [`NULL`] says that no place was named where one is needed, or that a call has looked and found none.
 #![tactic(auto)]
 
+mod fill;
+mod fill_calls;
 mod gap;
 mod list;
 mod list_calls;
@@ -29,6 +31,7 @@ mod status;
 mod table;
 mod tree;
 mod tree_calls;
+mod tree_clear;
 mod whole;
 mod words;
 mod xor_calls;

@@ -25,7 +25,7 @@ use ic_singly_linked_list::SinglyLinkedList;
 
 // The list of its word.
 #[inline]
-fn stack_of(words: &RawFront) -> stack::Stack
+pub(crate) fn stack_of(words: &RawFront) -> stack::Stack
     ensures { result ≡ list_from (front_of words.now) }
 {
     SinglyLinkedList::from_front(place_in(words.head))

@@ -33,7 +33,7 @@ use std::mem;
 
 // The list of its two words.
 #[inline]
-fn list_of(words: &RawEnds) -> xor_list::List
+pub(crate) fn list_of(words: &RawEnds) -> xor_list::List
     ensures { result ≡ ends_of words.now }
 {
     XorLinkedList::from_ends(place_in(words.head), place_in(words.tail))

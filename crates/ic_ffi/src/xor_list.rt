@@ -67,7 +67,7 @@ fn faces(
 
 // Whether the words tell of a gap between two places, which are none beyond an end.
 #[inline]
-fn is_gap(
+pub(crate) fn is_gap(
     links: &RawTable<'_, RawOne>,
     list: &List,
     before: Option<Place>,

@@ -132,6 +132,7 @@ extern "C" {
         given: *mut ic_list,
     ) -> u32;
     pub fn ic_list_append(table: *mut ic_link2, places: usize, list: *mut ic_list, given: *mut ic_list) -> u32;
+    pub fn ic_list_fill(table: *mut ic_link2, places: usize, list: *mut ic_list, first: u32, count: u32) -> u32;
     pub fn ic_list_clear(table: *mut ic_link2, places: usize, list: *mut ic_list) -> u32;
     pub fn ic_list_split_after(
         table: *mut ic_link2,
@@ -172,6 +173,7 @@ extern "C" {
         at: u32,
         given: *mut ic_stack,
     ) -> u32;
+    pub fn ic_stack_fill(table: *mut ic_link1, places: usize, list: *mut ic_stack, first: u32, count: u32) -> u32;
     pub fn ic_stack_clear(table: *mut ic_link1, places: usize, list: *mut ic_stack) -> u32;
     pub fn ic_stack_split_after(
         table: *mut ic_link1,
@@ -202,6 +204,7 @@ extern "C" {
         place: u32,
     ) -> u32;
     pub fn ic_xor_append(table: *mut ic_link1, places: usize, list: *mut ic_xor_list, given: *mut ic_xor_list) -> u32;
+    pub fn ic_xor_fill(table: *mut ic_link1, places: usize, list: *mut ic_xor_list, first: u32, count: u32) -> u32;
     pub fn ic_xor_clear(table: *mut ic_link1, places: usize, list: *mut ic_xor_list) -> u32;
     pub fn ic_xor_splice_between(
         table: *mut ic_link1,
@@ -224,6 +227,7 @@ extern "C" {
     pub fn ic_tree_insert_right(table: *mut ic_link3, places: usize, tree: *mut ic_tree, at: u32, place: u32) -> u32;
     pub fn ic_tree_remove(table: *mut ic_link3, places: usize, tree: *mut ic_tree, at: u32) -> u32;
     pub fn ic_tree_replace(table: *mut ic_link3, places: usize, tree: *mut ic_tree, at: u32, place: u32) -> u32;
+    pub fn ic_tree_clear(table: *mut ic_link3, places: usize, tree: *mut ic_tree) -> u32;
     pub fn ic_tree_insert(
         table: *mut ic_link3,
         places: usize,

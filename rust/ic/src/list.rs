@@ -247,6 +247,19 @@ impl List {
         done(unsafe { ic_list_append(links, places, &mut self.0, &mut given.0) })
     }
 
+    /// Links `count` places, `first` and those behind it, and puts them at the back in the order of their numbers. O(count). With `count` 0 it changes
+    /// nothing.
+    ///
+    /// # Errors
+    ///
+    /// [`Error::OutOfRange`] or [`Error::Linked`] of the first of these places that is. [`Error::Broken`] if the last member is none of
+    /// this table.
+    #[inline]
+    pub fn fill(&mut self, table: &mut [Link2], first: u32, count: u32) -> Result<(), Error> {
+        let (links, places) = Link2::parts(table);
+        done(unsafe { ic_list_fill(links, places, &mut self.0, first, count) })
+    }
+
     /// Unlinks all members. O(n).
     ///
     /// # Errors

@@ -131,6 +131,19 @@ impl Stack {
         done(unsafe { ic_stack_splice_after(links, places, &mut self.0, number(at), &mut given.0) })
     }
 
+    /// Links `count` places, `first` and those behind it, and puts them at the front in the order of their numbers. O(count). With `count` 0 it changes
+    /// nothing.
+    ///
+    /// # Errors
+    ///
+    /// [`Error::OutOfRange`] or [`Error::Linked`] of the first of these places that is. [`Error::Broken`] if the first member is not
+    /// linked.
+    #[inline]
+    pub fn fill(&mut self, table: &mut [Link1], first: u32, count: u32) -> Result<(), Error> {
+        let (links, places) = Link1::parts(table);
+        done(unsafe { ic_stack_fill(links, places, &mut self.0, first, count) })
+    }
+
     /// Unlinks all members. O(n).
     ///
     /// # Errors

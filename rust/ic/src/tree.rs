@@ -138,14 +138,16 @@ impl Tree {
         done(unsafe { ic_tree_remove(links, places, &mut self.0, at) })
     }
 
-    /// Unlinks all members, one after the other. O(n log n).
+    /// Unlinks all members. O(n).
     ///
     /// # Errors
     ///
-    /// As [`retain`](Self::retain).
+    /// [`Error::Broken`] if the root is none of this table, or steps from the first member on come to a place that is not linked, or to no end
+    /// within as many steps as the table has places.
     #[inline]
     pub fn clear(&mut self, table: &mut [Link3]) -> Result<(), Error> {
-        self.retain(table, |_| false)
+        let (links, places) = Link3::parts(table);
+        done(unsafe { ic_tree_clear(links, places, &mut self.0) })
     }
 
     /// Links a place where the member `at` is, which is unlinked. O(1). Nothing is compared, so hand in a place that belongs there.

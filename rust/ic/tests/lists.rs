@@ -74,6 +74,31 @@ fn list_moves_members() {
 }
 
 #[test]
+fn lists_are_filled() {
+    let mut links = [Link2::UNLINKED; 8];
+    let mut list = List::new();
+    list.fill(&mut links, 4, 3).unwrap();
+    list.fill(&mut links, 0, 2).unwrap();
+    assert!(list.iter(&links).eq([4, 5, 6, 0, 1]));
+    assert_eq!(list.fill(&mut links, 2, 3), Err(Error::Linked));
+    assert_eq!(list.fill(&mut links, 7, 2), Err(Error::OutOfRange));
+    assert_eq!(list.fill(&mut links, u32::MAX, 1), Err(Error::OutOfRange));
+    assert_eq!(list.fill(&mut links[..1], 0, 0), Ok(()));
+    assert!(list.iter(&links).eq([4, 5, 6, 0, 1]) && !links[2].is_linked() && !links[7].is_linked());
+
+    let mut links = [Link1::UNLINKED; 8];
+    let (mut one, mut stack) = (XorList::new(), Stack::new());
+    one.fill(&mut links, 2, 2).unwrap();
+    one.fill(&mut links, 0, 2).unwrap();
+    assert!(one.iter(&links).eq([2, 3, 0, 1]));
+    stack.fill(&mut links, 6, 2).unwrap();
+    stack.fill(&mut links, 4, 2).unwrap();
+    assert!(stack.iter(&links).eq([4, 5, 6, 7]));
+    assert_eq!(one.fill(&mut links, 0, 8), Err(Error::Linked));
+    assert_eq!(stack.fill(&mut links, 8, 1), Err(Error::OutOfRange));
+}
+
+#[test]
 fn lists_are_appended_and_cleared() {
     let mut links = [Link2::UNLINKED; 8];
     let (mut list, mut other) = (List::new(), List::new());

@@ -88,6 +88,20 @@ fn tree_refuses() {
 }
 
 #[test]
+fn tree_is_cleared() {
+    let mut links = [Link3::UNLINKED; 8];
+    let (mut tree, mut other) = (by_keys(&mut links, [0, 1, 2, 3]), by_keys(&mut links, [4, 5]));
+    let root = tree.root().unwrap() as usize;
+    assert_eq!(tree.clear(&mut links[..root]), Err(Error::Broken));
+    assert!(tree.iter(&links).eq([1, 3, 0, 2]));
+    tree.clear(&mut links).unwrap();
+    assert!(tree.is_empty() && links[..4].iter().all(|link| !link.is_linked()));
+    assert!(other.iter(&links).eq([5, 4]));
+    other.insert(&mut links, &KEYS, 0).unwrap();
+    assert!(other.iter(&links).eq([5, 0, 4]));
+}
+
+#[test]
 fn tree_iterators_meet_in_the_middle() {
     let mut links = [Link3::UNLINKED; 8];
     let tree = by_keys(&mut links, [5, 1, 0, 6, 2]);
