@@ -14,6 +14,7 @@
 //! | `rbtree` | the red-black tree, in an order that cursors or keys make |
 //! | `rbtree_cached` | the tree that keeps its first and its last member: `RBTreeCached` |
 //! | `augmented` | trees with a summary over each subtree: lengths, positions, overlaps of intervals |
+//! | `hash_table` | the hash table: `HashTable`, over buckets that the caller hands in |
 //! | `key_adapter` | where the key of an object stands, and bounds of keys |
 //! | `rbtree_keys` | searches in a tree, which count their looks |
 //! | `world` | objects, fields and collections whose calls test every condition themselves |
@@ -28,6 +29,8 @@ pub mod xor_linked_list;
 pub use ic_atomic as atomic;
 pub use ic_augmented as augmented;
 pub use ic_chain as chain;
+pub use ic_hash_table as hash_table;
+pub use ic_hash_table::{HashAdapter, HashTable};
 pub use ic_link_ops as link_ops;
 pub use ic_link_ops::LinkOps;
 pub use ic_link_ops::linked_list::Link as LinkedListLink;
