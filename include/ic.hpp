@@ -88,7 +88,8 @@ struct doubly {
     using head = ic_list;
     using source = words<link, head>;
     static constexpr bool is_bidirectional = true, needs_from = false;
-    static constexpr auto clear = ic_list_clear, fill = ic_list_fill;
+    static constexpr auto clear = ic_list_clear;
+    static constexpr auto fill = ic_list_fill;
     static constexpr auto push_front = ic_list_push_front, push_back = ic_list_push_back;
     static constexpr auto pop_front = ic_list_pop_front, pop_back = ic_list_pop_back;
 
@@ -110,7 +111,8 @@ struct singly {
     using head = ic_stack;
     using source = words<link, head>;
     static constexpr bool is_bidirectional = false, needs_from = true;
-    static constexpr auto clear = ic_stack_clear, fill = ic_stack_fill;
+    static constexpr auto clear = ic_stack_clear;
+    static constexpr auto fill = ic_stack_fill;
     static constexpr auto push_front = ic_stack_push_front;
     static constexpr auto pop_front = ic_stack_pop_front;
 
@@ -129,7 +131,8 @@ struct xored {
     using head = ic_xor_list;
     using source = words<link, head>;
     static constexpr bool is_bidirectional = true, needs_from = true;
-    static constexpr auto clear = ic_xor_clear, fill = ic_xor_fill;
+    static constexpr auto clear = ic_xor_clear;
+    static constexpr auto fill = ic_xor_fill;
     static constexpr auto push_front = ic_xor_push_front, push_back = ic_xor_push_back;
     static constexpr auto pop_front = ic_xor_pop_front, pop_back = ic_xor_pop_back;
 
