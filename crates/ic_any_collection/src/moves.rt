@@ -34,7 +34,7 @@ impl<T> AnyCollection<T> {
     ghost use Rattle.ic_any_collection.specs.Edits.{AtGap, Moves};
     ghost use Rattle.ic_any_collection.specs.Refusals.{refusal_in, refusal_of_kind};
 
-    /// Moves the cursor to null. It reads no table, and asks nothing. O(1).
+    /// Moves the cursor to null. It reads no table, and requires nothing. O(1).
     #[inline]
     pub fn go_null(&mut self)
         ensures kept { (t : Table Entry) (s : List Place) → Keeps t self.old s → Keeps t self.new s }

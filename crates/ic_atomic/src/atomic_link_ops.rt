@@ -42,7 +42,7 @@ impl<'c, L: PlainLinkOps, A: Allocator> AtomicLinkOps<'c, L, A> {
 
     /// The table, as one whose places its holder claims.
     ///
-    /// It asks that the holder was made with the claims and holds nothing, and that the table links nothing and covers no
+    /// It requires that the holder was made with the claims and holds nothing, and that the table links nothing and covers no
     /// more than the claims' places. O(1).
     pub fn new(claims: &'c Claims<A>, holder: Holder, links: L) -> AtomicLinkOps<'c, L, A>
         requires made { IsOf claims.now holder }
@@ -68,7 +68,7 @@ impl<'c, L: PlainLinkOps, A: Allocator> AtomicLinkOps<'c, L, A> {
         self.links.covers()
     }
 
-    /// Whether this table's holder holds `place`: whether it is linked here. It asks that the place is covered. O(1).
+    /// Whether this table's holder holds `place`: whether it is linked here. It requires that the place is covered. O(1).
     #[inline]
     pub fn holds(&self, place: Place) -> bool
         requires covered { IsCovered (L.table (links_of self.now)) place }
@@ -80,7 +80,7 @@ impl<'c, L: PlainLinkOps, A: Allocator> AtomicLinkOps<'c, L, A> {
 
     /// Whether anybody holds `place`, this holder or another, living or dropped: a look of the holder.
     ///
-    /// It asks that the place is covered. The answer may be out of date when it comes, unless this holder holds the place.
+    /// It requires that the place is covered. The answer may be out of date when it comes, unless this holder holds the place.
     /// One load, O(1), which waits for nobody.
     #[inline]
     pub fn is_linked(&mut self, place: Place) -> bool
@@ -99,7 +99,7 @@ impl<'c, L: PlainLinkOps, A: Allocator> AtomicLinkOps<'c, L, A> {
 
     /// Unlinks `place`, which this holder holds, and gives it up: by one release.
     ///
-    /// It asks that the holder holds the place. Every other entry stays, so each collection of which the place is no member
+    /// It requires that the holder holds the place. Every other entry stays, so each collection of which the place is no member
     /// keeps its sequence. O(1).
     #[inline]
     pub fn force_unlink(&mut self, place: Place)

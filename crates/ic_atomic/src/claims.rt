@@ -142,7 +142,7 @@ impl<A: Allocator> Claims<A> {
 
     /// Claims `place`, if nobody holds it, and says whether it did.
     ///
-    /// It asks that the place is one of these claims' places, and that the holder was made with them. The answer is
+    /// It requires that the place is one of these claims' places, and that the holder was made with them. The answer is
     /// false exactly if some holder, living or dropped, held the place at that step, also if it was this one; then
     /// nothing but the record is changed. One compare-exchange, O(1), which waits for nobody.
     #[inline]
@@ -162,7 +162,7 @@ impl<A: Allocator> Claims<A> {
 
     /// Gives up `place`, which anybody may claim then.
     ///
-    /// It asks that this holder holds the place, and that it was made with these claims. One store, O(1), which waits
+    /// It requires that this holder holds the place, and that it was made with these claims. One store, O(1), which waits
     /// for nobody.
     #[inline]
     pub fn release(&self, holder: &mut Holder, place: Place)
@@ -180,7 +180,7 @@ impl<A: Allocator> Claims<A> {
 
     /// Whether anybody holds `place`, this holder or another, living or dropped.
     ///
-    /// It asks that the place is one of these claims' places, and that the holder was made with them. The answer may
+    /// It requires that the place is one of these claims' places, and that the holder was made with them. The answer may
     /// be out of date when it comes, unless this holder holds the place. One load, O(1), which waits for nobody.
     #[inline]
     pub fn look(&self, holder: &mut Holder, place: Place) -> bool
@@ -199,7 +199,7 @@ impl<A: Allocator> Claims<A> {
     /// Proves to its caller that the records of these holders are parts of one list of steps.
     ///
     /// It is the list of all holders of the claims, and these are the whole of it where they are all there are. No place is held by
-    /// two of them. It is for whoever has holders of several threads together, as after a join. It asks that each holder was made
+    /// two of them. It is for whoever has holders of several threads together, as after a join. It requires that each holder was made
     /// with these claims; which of them are there, and in which order, is free. Neither a word nor a record is changed,
     /// and it is never refused. Four loads a holder and two more, O(holders). It waits for nobody, and it takes no memory.
     pub fn audit<B: Allocator>(&self, holders: &mut Vec<Holder, B>)

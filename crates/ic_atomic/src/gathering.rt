@@ -26,7 +26,7 @@ pub trait Gate {
 
     /// Takes note that the worker of this number has had so many answers.
     ///
-    /// It asks that these are none, or one more than the gate was told of this worker before.
+    /// It requires that these are none, or one more than the gate was told of this worker before.
     fn passed(&self, worker: usize, answered: usize)
         requires in_order { IsNext (Told self.now worker) answered }
         ensures told { Told self.now worker answered };
@@ -34,7 +34,7 @@ pub trait Gate {
 
 /// Puts each offered object whose place nobody holds at the back of this party's list, and returns how many it put there.
 ///
-/// It asks that the offered places are covered, and that the table shows a sequence for the list. It claims each place once,
+/// It requires that the offered places are covered, and that the table shows a sequence for the list. It claims each place once,
 /// in the order in which they are offered; what some party holds already, also this one, stays where it is. The gate is told
 /// 0 before the first claim, and i after the i-th, in this order. O(offered), no memory, and it waits for nobody but the gate.
 pub fn gather<T, L: PlainLinkOps + LinkedListOps, A: Allocator, G: Gate>(

@@ -20,7 +20,7 @@ pub trait PlainLinkOps: LinkOps {
     fn covers(&self) -> usize
         ensures { result ≡ (Self.table self.now).extent.places };
 
-    /// Whether `place` is linked. It asks that the place is covered. O(1).
+    /// Whether `place` is linked. It requires that the place is covered. O(1).
     fn is_linked(&self, place: Place) -> bool
         requires covered { IsCovered (Self.table self.now) place }
         ensures { result ≡ Self.linked ((Self.table self.now).entry place) };

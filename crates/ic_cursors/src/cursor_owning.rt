@@ -110,7 +110,7 @@ impl<C: Collection> CursorOwning<C> {
         self.current = at;
     }
 
-    /// Moves to null, from wherever the cursor is. It reads no entry, and asks nothing. O(1).
+    /// Moves to null, from wherever the cursor is. It reads no entry, and requires nothing. O(1).
     #[inline]
     pub fn go_null(&mut self)
         ensures list { list_of self.new ≡ list_of self.old }

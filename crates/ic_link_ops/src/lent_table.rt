@@ -58,7 +58,7 @@ impl<W: Words, V: LinkValue> LentTable<'_, W, V> {
         self.entries.len()
     }
 
-    /// The link of `place`. It asks that the place is covered. O(1).
+    /// The link of `place`. It requires that the place is covered. O(1).
     #[inline]
     pub fn link(&self, place: Place) -> &Link<W, V>
         requires covered { IsCovered (lent_table W.unlinked V.initial V.told self.now) place }
@@ -68,7 +68,7 @@ impl<W: Words, V: LinkValue> LentTable<'_, W, V> {
         &entries[place.index()]
     }
 
-    /// Whether `place` is linked. It asks that the place is covered. O(1).
+    /// Whether `place` is linked. It requires that the place is covered. O(1).
     #[inline]
     pub fn is_linked(&self, place: Place) -> bool
         requires covered { IsCovered (lent_table W.unlinked V.initial V.told self.now) place }

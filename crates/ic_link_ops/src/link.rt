@@ -52,12 +52,12 @@ pub trait NextWord: Words {
 
     ghost use Rattle.ic_link_ops.specs.Words.{bits_of};
 
-    /// The word for what follows. It asks that the place is linked.
+    /// The word for what follows. It requires that the place is linked.
     fn next_word(&self) -> Word
         requires linked { Self.is_linked self.now ≡ true }
         ensures { bits_of result ≡ next_word self.now };
 
-    /// Replaces the word for what follows. It asks that the place is linked, and leaves it so.
+    /// Replaces the word for what follows. It requires that the place is linked, and leaves it so.
     fn set_next_word(&mut self, word: Word)
         requires linked { Self.is_linked self.old ≡ true }
         ensures set { next_word self.new ≡ bits_of word }

@@ -44,14 +44,14 @@ pub trait LinkOps {
 
     /// Links `place`, unless it is refused, and says whether it did.
     ///
-    /// It asks that the place is covered. O(1).
+    /// It requires that the place is covered. O(1).
     fn acquire_link(&mut self, place: Place) -> bool
         requires covered { IsCovered (table self.old) place }
         ensures acquired { OnTrue result (Does self.old self.new (acquires place ∷ [])) }
         ensures refused { OnFalse result (Refused self.old self.new place) }
         ensures frame { ChangesOnly (table self.old) (table self.new) place };
 
-    /// Unlinks `place`. It asks that the place is linked. O(1).
+    /// Unlinks `place`. It requires that the place is linked. O(1).
     fn release_link(&mut self, place: Place)
         requires linked { IsLinked linked (table self.old) place }
         ensures released { Does self.old self.new (releases place ∷ []) }

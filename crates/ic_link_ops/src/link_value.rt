@@ -69,7 +69,7 @@ pub trait LinkValues<V>: LinkOps + Values<V> {
     // Two entries say the same of their place's link.
     ghost LinksAlike: { Self.Entry → Self.Entry → Type 0 };
 
-    /// Sets the value beside the link of `place`, linked or not. It asks that the place is covered. O(1).
+    /// Sets the value beside the link of `place`, linked or not. It requires that the place is covered. O(1).
     ///
     /// The links stay. A tree finds its members by their keys, so set the key of a place that is no member.
     fn set_value(&mut self, place: Place, value: V)

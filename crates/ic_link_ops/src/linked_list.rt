@@ -29,17 +29,17 @@ pub trait LinkedListOps: link_ops::LinkOps {
     // What an entry says: whether its place is linked, and between which places.
     ghost neighbors: { Self.Entry → Neighbors };
 
-    /// The place behind `place`. It asks that the place is linked. O(1).
+    /// The place behind `place`. It requires that the place is linked. O(1).
     fn next(&self, place: Place) -> Option<Place>
         requires linked { IsLinked Self.linked (Self.table self.now) place }
         ensures { result ≡ (neighbors_at neighbors (Self.table self.now) place).next };
 
-    /// The place before `place`. It asks that the place is linked. O(1).
+    /// The place before `place`. It requires that the place is linked. O(1).
     fn prev(&self, place: Place) -> Option<Place>
         requires linked { IsLinked Self.linked (Self.table self.now) place }
         ensures { result ≡ (neighbors_at neighbors (Self.table self.now) place).prev };
 
-    /// Sets the place behind `place`. It asks that the place is linked. O(1).
+    /// Sets the place behind `place`. It requires that the place is linked. O(1).
     fn set_next(&mut self, place: Place, next: Option<Place>)
         requires linked { IsLinked Self.linked (Self.table self.old) place }
         ensures set { neighbors_at neighbors (Self.table self.new) place
@@ -47,7 +47,7 @@ pub trait LinkedListOps: link_ops::LinkOps {
         ensures frame { ChangesOnly (Self.table self.old) (Self.table self.new) place }
         ensures no_step { Self.Does self.old self.new [] };
 
-    /// Sets the place before `place`. It asks that the place is linked. O(1).
+    /// Sets the place before `place`. It requires that the place is linked. O(1).
     fn set_prev(&mut self, place: Place, prev: Option<Place>)
         requires linked { IsLinked Self.linked (Self.table self.old) place }
         ensures set { neighbors_at neighbors (Self.table self.new) place
@@ -55,7 +55,7 @@ pub trait LinkedListOps: link_ops::LinkOps {
         ensures frame { ChangesOnly (Self.table self.old) (Self.table self.new) place }
         ensures no_step { Self.Does self.old self.new [] };
 
-    /// Links `place` between two others, unless it is refused, and says whether it did. It asks that the place is covered. O(1).
+    /// Links `place` between two others, unless it is refused, and says whether it did. It requires that the place is covered. O(1).
     ///
     /// It is `acquire_link` and both setters in one, for a table that can write each word once.
     #[inline]

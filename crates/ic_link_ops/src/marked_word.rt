@@ -48,7 +48,7 @@ impl MarkedWord {
         self.bits != MarkedWord::MARK
     }
 
-    /// The word that was kept. It asks that there is one, and not the mark.
+    /// The word that was kept. It requires that there is one, and not the mark.
     #[inline]
     pub fn word(self) -> Word
         requires word { is_word self ≡ true }

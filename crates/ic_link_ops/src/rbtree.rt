@@ -30,27 +30,27 @@ pub trait RBTreeOps: link_ops::LinkOps {
     // What an entry says: whether its place is linked, between which places, and in which color.
     ghost node: { Self.Entry → Node };
 
-    /// The left child of `place`. It asks that the place is linked. O(1).
+    /// The left child of `place`. It requires that the place is linked. O(1).
     fn left(&self, place: Place) -> Option<Place>
         requires linked { IsLinked Self.linked (Self.table self.now) place }
         ensures { result ≡ (node_at node (Self.table self.now) place).left };
 
-    /// The right child of `place`. It asks that the place is linked. O(1).
+    /// The right child of `place`. It requires that the place is linked. O(1).
     fn right(&self, place: Place) -> Option<Place>
         requires linked { IsLinked Self.linked (Self.table self.now) place }
         ensures { result ≡ (node_at node (Self.table self.now) place).right };
 
-    /// The parent of `place`. It asks that the place is linked. O(1).
+    /// The parent of `place`. It requires that the place is linked. O(1).
     fn parent(&self, place: Place) -> Option<Place>
         requires linked { IsLinked Self.linked (Self.table self.now) place }
         ensures { result ≡ (node_at node (Self.table self.now) place).parent };
 
-    /// The color of `place`. It asks that the place is linked. O(1).
+    /// The color of `place`. It requires that the place is linked. O(1).
     fn color(&self, place: Place) -> Color
         requires linked { IsLinked Self.linked (Self.table self.now) place }
         ensures { result ≡ (node_at node (Self.table self.now) place).color };
 
-    /// Sets the left child of `place`. It asks that the place is linked. O(1).
+    /// Sets the left child of `place`. It requires that the place is linked. O(1).
     fn set_left(&mut self, place: Place, left: Option<Place>)
         requires linked { IsLinked Self.linked (Self.table self.old) place }
         ensures set { node_at node (Self.table self.new) place
@@ -58,7 +58,7 @@ pub trait RBTreeOps: link_ops::LinkOps {
         ensures frame { ChangesOnly (Self.table self.old) (Self.table self.new) place }
         ensures no_step { Self.Does self.old self.new [] };
 
-    /// Sets the right child of `place`. It asks that the place is linked. O(1).
+    /// Sets the right child of `place`. It requires that the place is linked. O(1).
     fn set_right(&mut self, place: Place, right: Option<Place>)
         requires linked { IsLinked Self.linked (Self.table self.old) place }
         ensures set { node_at node (Self.table self.new) place
@@ -66,7 +66,7 @@ pub trait RBTreeOps: link_ops::LinkOps {
         ensures frame { ChangesOnly (Self.table self.old) (Self.table self.new) place }
         ensures no_step { Self.Does self.old self.new [] };
 
-    /// Sets the parent of `place`. It asks that the place is linked. O(1).
+    /// Sets the parent of `place`. It requires that the place is linked. O(1).
     fn set_parent(&mut self, place: Place, parent: Option<Place>)
         requires linked { IsLinked Self.linked (Self.table self.old) place }
         ensures set { node_at node (Self.table self.new) place
@@ -74,7 +74,7 @@ pub trait RBTreeOps: link_ops::LinkOps {
         ensures frame { ChangesOnly (Self.table self.old) (Self.table self.new) place }
         ensures no_step { Self.Does self.old self.new [] };
 
-    /// Sets the color of `place`. It asks that the place is linked. O(1).
+    /// Sets the color of `place`. It requires that the place is linked. O(1).
     fn set_color(&mut self, place: Place, color: Color)
         requires linked { IsLinked Self.linked (Self.table self.old) place }
         ensures set { node_at node (Self.table self.new) place
@@ -82,7 +82,7 @@ pub trait RBTreeOps: link_ops::LinkOps {
         ensures frame { ChangesOnly (Self.table self.old) (Self.table self.new) place }
         ensures no_step { Self.Does self.old self.new [] };
 
-    /// Sets the parent and the color of `place`, at once. It asks that the place is linked. O(1).
+    /// Sets the parent and the color of `place`, at once. It requires that the place is linked. O(1).
     fn set_parent_and_color(&mut self, place: Place, parent: Option<Place>, color: Color)
         requires linked { IsLinked Self.linked (Self.table self.old) place }
         ensures set { node_at node (Self.table self.new) place

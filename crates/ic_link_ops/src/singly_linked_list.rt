@@ -27,12 +27,12 @@ pub trait SinglyLinkedListOps: link_ops::LinkOps {
     // What an entry says: whether its place is linked, and what stands behind it.
     ghost successor: { Self.Entry → Successor };
 
-    /// The place behind `place`. It asks that the place is linked. O(1).
+    /// The place behind `place`. It requires that the place is linked. O(1).
     fn next(&self, place: Place) -> Option<Place>
         requires linked { IsLinked Self.linked (Self.table self.now) place }
         ensures { result ≡ (successor_at successor (Self.table self.now) place).next };
 
-    /// Sets the place behind `place`. It asks that the place is linked. O(1).
+    /// Sets the place behind `place`. It requires that the place is linked. O(1).
     fn set_next(&mut self, place: Place, next: Option<Place>)
         requires linked { IsLinked Self.linked (Self.table self.old) place }
         ensures set { successor_at successor (Self.table self.new) place
@@ -40,7 +40,7 @@ pub trait SinglyLinkedListOps: link_ops::LinkOps {
         ensures frame { ChangesOnly (Self.table self.old) (Self.table self.new) place }
         ensures no_step { Self.Does self.old self.new [] };
 
-    /// Links `place` in front of another, unless it is refused, and says whether it did. It asks that the place is covered. O(1).
+    /// Links `place` in front of another, unless it is refused, and says whether it did. It requires that the place is covered. O(1).
     ///
     /// It is `acquire_link` and `set_next` in one, for a table that can write the word once.
     #[inline]

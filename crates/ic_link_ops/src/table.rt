@@ -47,7 +47,7 @@ impl<W: Words, A: Allocator, V: LinkValue> PlainTable<W, A, V> {
         self.entries.len()
     }
 
-    /// The link of `place`. It asks that the place is covered. O(1).
+    /// The link of `place`. It requires that the place is covered. O(1).
     #[inline]
     pub fn link(&self, place: Place) -> &Link<W, V>
         requires covered { IsCovered (table_beside W.unlinked V.initial V.told self.now) place }
@@ -56,7 +56,7 @@ impl<W: Words, A: Allocator, V: LinkValue> PlainTable<W, A, V> {
         &self.entries[place.index()]
     }
 
-    /// Whether `place` is linked. It asks that the place is covered. O(1).
+    /// Whether `place` is linked. It requires that the place is covered. O(1).
     #[inline]
     pub fn is_linked(&self, place: Place) -> bool
         requires covered { IsCovered (table_beside W.unlinked V.initial V.told self.now) place }
@@ -65,7 +65,7 @@ impl<W: Words, A: Allocator, V: LinkValue> PlainTable<W, A, V> {
         self.entries[place.index()].is_linked()
     }
 
-    /// Unlinks `place`, whoever linked it. An unlinked place stays so. It asks that the place is covered. O(1).
+    /// Unlinks `place`, whoever linked it. An unlinked place stays so. It requires that the place is covered. O(1).
     ///
     /// Every other entry stays, so each collection of which the place is no member keeps its sequence. For what
     /// `fast_clear` leaves; a collection of which the place is a member is broken by it.

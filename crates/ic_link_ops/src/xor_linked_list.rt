@@ -31,17 +31,17 @@ pub trait XorLinkedListOps: link_ops::LinkOps {
     // The neighbor on the other side of the one that is told.
     ghost other: { Self.Entry → Option Place → Option Place };
 
-    /// The place behind `place`, if `prev` stands before it. It asks that the place is linked. O(1).
+    /// The place behind `place`, if `prev` stands before it. It requires that the place is linked. O(1).
     fn next(&self, place: Place, prev: Option<Place>) -> Option<Place>
         requires linked { IsLinked Self.linked (Self.table self.now) place }
         ensures { result ≡ other ((Self.table self.now).entry place) prev };
 
-    /// The place before `place`, if `next` stands behind it. It asks that the place is linked. O(1).
+    /// The place before `place`, if `next` stands behind it. It requires that the place is linked. O(1).
     fn prev(&self, place: Place, next: Option<Place>) -> Option<Place>
         requires linked { IsLinked Self.linked (Self.table self.now) place }
         ensures { result ≡ other ((Self.table self.now).entry place) next };
 
-    /// Sets both neighbors of `place`. It asks that the place is linked. O(1).
+    /// Sets both neighbors of `place`. It requires that the place is linked. O(1).
     fn set(&mut self, place: Place, prev: Option<Place>, next: Option<Place>)
         requires linked { IsLinked Self.linked (Self.table self.old) place }
         ensures set { Joins ((Self.table self.new).entry place) prev next }
@@ -49,7 +49,7 @@ pub trait XorLinkedListOps: link_ops::LinkOps {
         ensures frame { ChangesOnly (Self.table self.old) (Self.table self.new) place }
         ensures no_step { Self.Does self.old self.new [] };
 
-    /// Puts `new` where `old` stood beside `place`. It asks that the place is linked. O(1).
+    /// Puts `new` where `old` stood beside `place`. It requires that the place is linked. O(1).
     fn replace_next_or_prev(&mut self, place: Place, old: Option<Place>, new: Option<Place>)
         requires linked { IsLinked Self.linked (Self.table self.old) place }
         ensures replaced { (x : Option Place) → Joins ((Self.table self.old).entry place) old x
@@ -58,7 +58,7 @@ pub trait XorLinkedListOps: link_ops::LinkOps {
         ensures frame { ChangesOnly (Self.table self.old) (Self.table self.new) place }
         ensures no_step { Self.Does self.old self.new [] };
 
-    /// Links `place` between two others, unless it is refused, and says whether it did. It asks that the place is covered. O(1).
+    /// Links `place` between two others, unless it is refused, and says whether it did. It requires that the place is covered. O(1).
     ///
     /// It is `acquire_link` and `set` in one, for a table that can write the word once.
     #[inline]

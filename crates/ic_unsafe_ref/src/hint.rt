@@ -8,8 +8,9 @@ ghost use Rattle.std.specs.Prelude.{◌≡◌, true};
 
 /// The value, where the compiler may count on a condition that is proved.
 ///
-/// It asks that the condition holds. The program does not test it: the branch in which it fails reads the first of no references, and since
-/// no index is tested, the compiler drops that branch and knows the condition from there on. In front of `unreachable!()` the test stays.
+/// It requires that the condition holds. The program does not test it: the branch in which it fails reads the first of no references, and
+/// since no index is tested, the compiler drops that branch and knows the condition from there on. In front of `unreachable!()` the test
+/// stays.
 #[inline(always)]
 pub(crate) fn known<T: Copy>(value: T, holds: bool) -> T
     requires holds { holds ≡ true }

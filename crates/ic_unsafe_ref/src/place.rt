@@ -67,7 +67,7 @@ impl Place {
 
     /// The place that a word names: none at 0. One test.
     ///
-    /// Tables and collections keep neighbors and ends as such words, which take no decoding to copy. It asks for a
+    /// Tables and collections keep neighbors and ends as such words, which take no decoding to copy. It requires a
     /// multiple of 8 below `2^36`, as [`Place::to_word`] answers and as the exclusive or of two such words is.
     #[inline]
     #[tactic(auto, using(crate::proofs::PlaceLemmas::place_at_other))]

@@ -58,7 +58,7 @@ impl<T> UnsafeRef<T> {
 
     /// Places `value` where [`Objects::next_place`] says, and returns the reference to it.
     ///
-    /// It asks that there is such a place. Where no memory is found the value comes back and nothing has changed.
+    /// It requires that there is such a place. Where no memory is found the value comes back and nothing has changed.
     pub fn from_box<A: Allocator>(
         objects: &mut Objects<T, A>,
         value: T,
@@ -76,7 +76,7 @@ impl<T> UnsafeRef<T> {
     /// Takes the object out of its place and returns it. The place is vacant then, and may be given again: another
     /// reference to it names what stands there next.
     ///
-    /// It asks that an object stands there. Links are kept apart from objects: one that is linked stays so. O(1), and it
+    /// It requires that an object stands there. Links are kept apart from objects: one that is linked stays so. O(1), and it
     /// takes no memory.
     pub fn into_box<A: Allocator>(self, objects: &mut Objects<T, A>) -> T
         requires placed { is_placed objects.old self ≡ true }

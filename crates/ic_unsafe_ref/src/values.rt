@@ -21,7 +21,7 @@ pub trait Values<V> {
     // The values by place.
     ghost values: { Self → Objects V };
 
-    /// The value at `place`. It asks that one stands there. One look-up, O(1).
+    /// The value at `place`. It requires that one stands there. One look-up, O(1).
     fn value(&self, place: Place) -> &V
         requires placed { is_placed (values self.now) place ≡ true }
         ensures { object_at (values self.now) place ≡ Some result.now };

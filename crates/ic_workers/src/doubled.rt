@@ -45,7 +45,7 @@ fn lists_with<A: Allocator>(lists: &[Vec<Place, A>], index: usize) -> usize
 
 /// How many of the first `places` places stand in more than one of the lists.
 ///
-/// It asks that each list rises, as those of [`fan_out`](crate::fan_out) do. O(places * lists * log(places)), and no memory.
+/// It requires that each list rises, as those of [`fan_out`](crate::fan_out) do. O(places * lists * log(places)), and no memory.
 pub fn doubles<A: Allocator>(places: usize, lists: &[Vec<Place, A>]) -> usize
     requires rises { All (Rises 0 places) (places_in lists.now) }
     ensures { result ≡ doubles_below places (places_in lists.now) }
