@@ -1,0 +1,194 @@
+// The play page: calls on two lists, a stack and a tree, over the module that stands above as `MODULES`, by the classes of ic.mjs.
+const PLACES = 16;
+const REASONS = {
+  OUT_OF_RANGE: "the place is not one of the table",
+  LINKED: "the place is linked already",
+  NOT_LINKED: "a place that is named is not linked",
+  BROKEN: "the links beside the place do not lead to each other",
+};
+
+const bytes = (text) => Uint8Array.from(atob(text), (it) => it.charCodeAt(0));
+const isWide = hasMemory64() && !location.search.includes("narrow");
+const ic = await open(bytes(isWide ? MODULES.wide : MODULES.narrow));
+const count = Object.keys(ic.calls).filter((it) => it.startsWith("ic_")).length;
+document.querySelector("#module").textContent = `${count} calls, with a memory of ${isWide ? 64 : 32} bits`;
+
+const ARROW = '<defs><marker id="tip" viewBox="0 0 8 8" refX="7" refY="4" markerWidth="7" markerHeight="7" orient="auto"><path d="M0 0 8 4 0 8z" fill="currentColor"/></marker></defs>';
+const svg = (width, height, parts, kind) => `<svg viewBox="0 0 ${width} ${height}" role="img" class="${kind}">${ARROW}${parts.join("")}</svg>`;
+const text = (x, y, words, kind = "") => `<text x="${x}" y="${y}" class="${kind}">${words}</text>`;
+const shown = (place) => (place === null ? "-" : place);
+
+// The table: a column for each place, a row for each word.
+function drawTable(links, rows) {
+  const width = 34, parts = [];
+  rows.forEach(([name, cell], row) => {
+    parts.push(text(2, 17 + 22 * row, name, "head"));
+    for (let place = 0; place < links.length; place++) {
+      const x = 66 + width * place, isLinked = links.isLinked(place);
+      parts.push(`<rect x="${x}" y="${1 + 22 * row}" width="${width}" height="22" class="cell${isLinked ? " on" : ""}"/>`);
+      parts.push(text(x + width / 2, 17 + 22 * row, cell(place), row && !isLinked ? "pale" : ""));
+    }
+  });
+  return svg(68 + width * links.length, 4 + 22 * rows.length, parts, "table");
+}
+
+// The members in order, ten in a row. A list of two directions has an arrow each way.
+function drawList(list, isTwoWay) {
+  const members = [...list], step = 58, parts = [];
+  members.forEach((place, at) => {
+    const x = 12 + step * (at % 10), y = 14 + 52 * Math.floor(at / 10);
+    parts.push(`<rect x="${x}" y="${y}" width="34" height="28" rx="4" class="box on"/>`, text(x + 17, y + 19, place));
+    if (at + 1 === members.length) return;
+    if (at % 10 === 9) {
+      parts.push(`<path d="M${x + 17} ${y + 28}v9H29v14" class="edge" marker-end="url(#tip)"/>`);
+      return;
+    }
+    parts.push(`<path d="M${x + 35} ${y + (isTwoWay ? 10 : 14)}h21" class="edge" marker-end="url(#tip)"/>`);
+    if (isTwoWay) parts.push(`<path d="M${x + 57} ${y + 19}h-21" class="edge" marker-end="url(#tip)"/>`);
+  });
+  if (!members.length) parts.push(text(60, 34, "no members"));
+  return svg(612, 118, parts, "members");
+}
+
+// The tree, each member by its key, in its color.
+function drawTree(tree) {
+  const at = new Map(), parts = [];
+  let column = 0, deepest = 0;
+  const visit = (place, depth) => {
+    if (place === null || depth > 8) return;
+    visit(tree.left(place), depth + 1);
+    at.set(place, [22 + 37 * column++, 20 + 40 * depth]);
+    deepest = Math.max(deepest, depth);
+    visit(tree.right(place), depth + 1);
+  };
+  visit(tree.root, 0);
+  for (const [place, [x, y]] of at) {
+    const above = at.get(tree.parent(place));
+    if (above) parts.unshift(`<path d="M${above[0]} ${above[1]}L${x} ${y}" class="edge"/>`);
+    parts.push(`<circle cx="${x}" cy="${y}" r="14" class="${tree.isBlack(place) ? "black" : "red"}"/>`, text(x, y + 4, tree.keys.word(place)));
+  }
+  if (!at.size) parts.push(text(60, 34, "no members"));
+  return svg(612, 44 + 40 * Math.max(deepest, 3), parts, "members");
+}
+
+// What a call did, in words.
+function outcome(call, numbers) {
+  try {
+    const member = call(...numbers);
+    return [member === undefined ? "done" : member === null ? "there is none" : `returns place ${member}`, "done"];
+  } catch (error) {
+    if (!(error instanceof Refused)) throw error;
+    return [`is refused (${error.message}): ${REASONS[error.message] ?? "there is none"}. Nothing has changed.`, "refused"];
+  }
+}
+
+// Runs one line, and returns what the log has of it.
+function run(calls, line) {
+  const [name, ...words] = line.trim().split(/\s+/);
+  const call = Object.hasOwn(calls, name) ? calls[name] : null;
+  const numbers = words.map((it) => (it === "-" ? null : Number(it)));
+  if (!call) return [`is not a call. The calls are ${Object.keys(calls).join(", ")}.`, "refused"];
+  if (numbers.length !== call.length || numbers.some((it) => it !== null && !(Number.isInteger(it) && it >= 0 && it < NONE))) {
+    return [`needs ${call.length} numbers`, "refused"];
+  }
+  return outcome(call, numbers);
+}
+
+// A section of the page. Returns what plays a line on it.
+function panel(name, title, calls, hints, draw) {
+  const section = document.createElement("section");
+  section.id = name;
+  section.innerHTML = `<h2>${title}</h2><form><input spellcheck="false" aria-label="a call"><button>Call</button></form><div class="hints"></div><div class="drawn"></div><div class="log" aria-live="polite"></div>`;
+  document.querySelector("#panels").append(section);
+  const input = section.querySelector("input"), log = section.querySelector(".log"), drawn = section.querySelector(".drawn");
+  const play = (line) => {
+    if (!line.trim()) return;
+    const [words, kind] = run(calls, line), row = document.createElement("div");
+    row.className = kind;
+    row.textContent = `${line.trim()}: ${words}`;
+    log.append(row);
+    log.scrollTop = log.scrollHeight;
+    drawn.innerHTML = draw();
+  };
+  section.querySelector("form").onsubmit = (event) => {
+    event.preventDefault();
+    input.value.split(";").forEach(play);
+    input.select();
+  };
+  for (const hint of hints) {
+    const button = document.createElement("button");
+    button.textContent = hint;
+    button.onclick = () => hint.split(";").forEach(play);
+    section.querySelector(".hints").append(button);
+  }
+  drawn.innerHTML = draw();
+  return play;
+}
+
+const links = ic.links2(PLACES), list = new List(links);
+const ones = ic.links1(PLACES), xor = new XorList(ones);
+const nexts = ic.links1(PLACES), stack = new Stack(nexts);
+const nodes = ic.links3(PLACES), keys = ic.keys(PLACES), tree = new Tree(nodes, keys);
+const numbered = ["place", (it) => it];
+
+const plays = {
+  list: panel("list", "A doubly linked list, with two words a place", {
+    push_front: (place) => list.pushFront(place),
+    push_back: (place) => list.pushBack(place),
+    pop_front: () => list.popFront(),
+    pop_back: () => list.popBack(),
+    insert_after: (at, place) => list.insertAfter(at, place),
+    insert_before: (at, place) => list.insertBefore(at, place),
+    remove: (at) => list.remove(at),
+    replace: (at, place) => list.replace(at, place),
+    move_to_front: (at) => list.moveToFront(at),
+    move_to_back: (at) => list.moveToBack(at),
+    fill: (first, count) => list.fill(first, count),
+    clear: () => list.clear(),
+  }, ["push_back 7", "push_front 3", "insert_after 3 5", "insert_before - 9", "move_to_front 9", "remove 5", "pop_front", "push_back 7", "push_back 99", "clear"],
+  () => drawList(list, true) + drawTable(links, [numbered, ["next", (it) => shown(links.place(it, 0))], ["prev", (it) => shown(links.place(it, 1))]])),
+  xor: panel("xor", "An XOR list, with one word a place", {
+    push_front: (place) => xor.pushFront(place),
+    push_back: (place) => xor.pushBack(place),
+    pop_front: () => xor.popFront(),
+    pop_back: () => xor.popBack(),
+    insert_between: (before, place, behind) => xor.insertBetween(before, place, behind),
+    remove: (before, at) => xor.remove(before, at),
+    replace: (before, at, place) => xor.replace(before, at, place),
+    reverse: () => xor.reverse(),
+    clear: () => xor.clear(),
+  }, ["push_back 1; push_back 4; push_back 6", "insert_between 1 2 4", "reverse", "remove 6 4", "insert_between 6 9 1", "pop_back", "clear"],
+  () => drawList(xor, true) + drawTable(ones, [numbered, ["word", (it) => ones.word(it) >> 3n]])),
+  stack: panel("stack", "A singly linked list, with one word a place", {
+    push_front: (place) => stack.pushFront(place),
+    pop_front: () => stack.popFront(),
+    insert_after: (at, place) => stack.insertAfter(at, place),
+    remove_after: (at) => stack.removeAfter(at),
+    replace_after: (at, place) => stack.replaceAfter(at, place),
+    fill: (first, count) => stack.fill(first, count),
+    clear: () => stack.clear(),
+  }, ["fill 0 16", "pop_front", "push_front 0", "remove_after 3", "remove_after 15", "clear"],
+  () => drawList(stack, false) + drawTable(nexts, [numbered, ["next", (it) => shown(nexts.place(it, 0))]])),
+  tree: panel("tree", "A red-black tree by keys, with three words a place", {
+    insert: (place, key) => {
+      // A member keeps its key.
+      if (key !== null && place !== null && place < PLACES && !nodes.isLinked(place)) keys.words[place] = BigInt(key);
+      tree.insert(place);
+    },
+    remove: (at) => tree.remove(at),
+    find: (key) => tree.find(key),
+    lower_bound: (key) => tree.lowerBound(key),
+    upper_bound: (key) => tree.upperBound(key),
+    next: (at) => tree.next(at),
+    prev: (at) => tree.prev(at),
+    clear: () => tree.clear(),
+  }, ["insert 0 50", "insert 1 20", "insert 2 80", "insert 3 10; insert 4 30; insert 5 60; insert 6 90", "remove 1", "find 60", "lower_bound 55", "next -", "find 1", "clear"],
+  () => drawTree(tree) + drawTable(nodes, [numbered, ["key", (it) => keys.word(it)], ["left", (it) => shown(nodes.place(it, 0))], ["right", (it) => shown(nodes.place(it, 1))],
+    ["parent", (it) => shown(nodes.place(it, 2))], ["color", (it) => (!nodes.isLinked(it) ? "" : tree.isBlack(it) ? "B" : "R")]])),
+};
+
+// An address plays calls: play.html#list=push_back 1;push_back 2&tree=insert 0 50
+for (const [name, lines] of new URLSearchParams(location.hash.slice(1))) {
+  if (Object.hasOwn(plays, name)) lines.split(";").forEach(plays[name]);
+}
+document.body.dataset.ready = "yes";
