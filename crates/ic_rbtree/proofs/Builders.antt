@@ -4,17 +4,17 @@ use Rattle.std.proofs.lemmas.Nat.{pow-add}
 use Rattle.ic_unsafe_ref.specs.declared.place.Place.{Place}
 use Rattle.ic_link_ops.specs.declared.color.Color.TheVariants.{Black}
 use Rattle.ic_link_ops.specs.declared.side.Side.TheVariants.{Left, Right}
-use Rattle.ic_link_ops.specs.Chains.{Ends, list_head}
-use Rattle.ic_link_ops.specs.Edits.{Inserts}
+use Rattle.ic_link_ops.specs.Chains.{Ends, list_head, end_of}
+use Rattle.ic_link_ops.specs.Edits.{Inserts, Removes}
 use Rattle.ic_link_ops.specs.RedBlackTree.{Node, Shows}
-use Rattle.ic_link_ops.specs.Sequences.{Cut, join, IsAbsent, IsDistinct, first, last, at_back}
+use Rattle.ic_link_ops.specs.Sequences.{Cut, join, IsAbsent, IsDistinct, first, last, at_front, at_back}
 use Rattle.ic_link_ops.specs.Shape.{top_color}
 use Rattle.ic_link_ops.specs.SinglyLinkedList.{IsFollowed, IsWalk}
 use Rattle.ic_link_ops.specs.Tables.{Table, ChangesOnly, IsUnlinked}
 use Rattle.ic_link_ops.specs.Trees.{Tree, in_order}
 use Rattle.ic_link_ops.specs.Turns.{TurnsBehind}
 use Rattle.ic_link_ops.proofs.Chains.{chain_absent, chain_last, last_between}
-use Rattle.ic_link_ops.proofs.SequenceLemmas.{absent_left, absent_both, distinct_insert, disjoint_sym, last_not, last_of_push, none_not, nothing_last}
+use Rattle.ic_link_ops.proofs.SequenceLemmas.{absent_left, absent_both, distinct_insert, disjoint_sym, last_not, last_of_push, none_not, nothing_last, some_same}
 use Rattle.ic_link_ops.proofs.SinglyLists.{successor_turns}
 use Rattle.ic_link_ops.proofs.Trees.{one_tree}
 use Rattle.ic_link_ops.proofs.Walks.{few_places}
@@ -24,12 +24,17 @@ use Rattle.ic_rbtree.specs.Sides.{IsBeside}
 use Rattle.ic_rbtree.specs.Vines.{along, IsVine, ShowsVine, IsVineOf, IsTreeOf, BecomesTree, BecomesVine, Rearranges}
 use Rattle.ic_rbtree.proofs.Low.{shown_low}
 use Rattle.ic_rbtree.proofs.Members.{stands_of}
-use Rattle.ic_rbtree.proofs.Vines.{nothing_black, vine_glue, vine_beside}
+use Rattle.ic_rbtree.proofs.Vines.{nothing_black, vine_from, vine_glue, vine_beside}
 
 -- what follows a sequence that has a last member changes nothing of its first
 first_still : (s : List Place) (q : Place) (t : List Place) → last s ≡ Some q → first (s ++ t) ≡ first s
 first_still [] q t e = absurd (none_not q e)
 first_still (x ∷ s) q t e = refl
+
+-- the last of a sequence without its first member
+last_behind : (next back : Option Place) (q : Place) (r : List Place) → next ≡ first r → back ≡ last (q ∷ r) → end_of next None back ≡ last r
+last_behind next back q [] is tail = ap (λ o. end_of o None back) is
+last_behind next back q (y ∷ r) is tail = ap (λ o. end_of o None back) is ∙ tail
 
 black_top : (h : ℕ) (t : Tree) → (1 ≤ h → top_color t ≡ Black) → (h ≡ 0 → length (in_order t) ≡ 0) → top_color t ≡ Black
 black_top zero t high low = nothing_black t (low refl)
@@ -89,6 +94,25 @@ module _ {E : Type 0} (n : E → Node) where
           };
           frame = record { extent = only2.extent ∙ only1.extent; others = others };
         }
+
+  -- THE FIRST MEMBER IS TAKEN OFF: the others stay where no entry but its own is changed
+  pub front_taken : {v w : Table E} {front back next : Option Place} (s : List Place) → ShowsVine n v (list_head front back) s → {p : Place} → front ≡ Some p
+      → next ≡ (n (v.entry p)).right → ChangesOnly v w p → Removes (ShowsVine n) v w (list_head next (end_of next None back)) (at_front s)
+  front_taken [] x {p} is read only = absurd (none_not p (sym x.head ∙ is))
+  front_taken {v} {w} {front} {back} {next} (q ∷ r) x {p} is read only' =
+      let same : p ≡ q = some_same (sym is ∙ x.head) in
+      let only = subst (λ z. ChangesOnly v w z) same only' in
+      let follows : next ≡ first r = read ∙ (ap (λ z. (n (v.entry z)).right) same ∙ x.chain.0.next) in
+      record {
+        shows = record {
+          distinct = x.distinct.1;
+          chain = vine_beside n v w r None (q ∷ []) (disjoint_sym (q ∷ []) r (x.distinct.0, tt)) (record { extent = only.extent; others = λ z o. only.others z o.0 })
+              (vine_from n v.entry (Some q) None r None x.chain.1);
+          head = follows;
+          tail = last_behind next back q r follows x.tail;
+        };
+        frame = record { extent = only.extent; others = λ z o. only.others z o.0 };
+      }
 
   -- a place that has just been linked stands on no vine that was shown
   pub vine_acquired : (linked : E → Bool) → ((e : E) → (n e).linked ≡ linked e) → {old v : Table E} {ends : Ends} {s : List Place} {p : Place} → ShowsVine n old ends s

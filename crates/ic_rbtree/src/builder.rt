@@ -7,13 +7,13 @@
 //! let builder = tree.into_builder(&mut links);
 //! ```
 
-ghost use Rattle.std.specs.Prelude.{◌≡◌, Some, None, OnOk, OnErr, IfErr, List, [], ◌∷◌};
+ghost use Rattle.std.specs.Prelude.{◌≡◌, Some, None, OnOk, OnErr, IfErr, IfSome, IfNone, List, [], ◌∷◌};
 ghost use Rattle.ic_unsafe_ref.specs.declared.place.Place.{Place};
 ghost use Rattle.ic_link_ops.specs.Chains.{no_members, list_head};
-ghost use Rattle.ic_link_ops.specs.Edits.{Inserts};
-ghost use Rattle.ic_link_ops.specs.LinkSteps.{acquires};
+ghost use Rattle.ic_link_ops.specs.Edits.{Inserts, Removes};
+ghost use Rattle.ic_link_ops.specs.LinkSteps.{acquires, releases};
 ghost use Rattle.ic_link_ops.specs.RedBlackTree.{Shows, ShowsSome};
-ghost use Rattle.ic_link_ops.specs.Sequences.{at_back};
+ghost use Rattle.ic_link_ops.specs.Sequences.{first, at_front, at_back};
 ghost use Rattle.ic_link_ops.specs.Tables.{IsCovered};
 ghost use Rattle.ic_rbtree.specs.Builder.{ends_of, builder_adapter_of};
 ghost use Rattle.ic_rbtree.specs.Height.{IsLowest};
@@ -21,8 +21,9 @@ ghost use Rattle.ic_rbtree.specs.Tree.{root_of, adapter_of};
 ghost use Rattle.ic_rbtree.specs.Vines.{ShowsVine, ShowsVineSome, Rearranges};
 
 use crate::nodes::Nodes;
+use crate::readings::child;
 use crate::repair::TURNS;
-use crate::vine::{hang_behind, tree_to_vine, vine_length, vine_to_tree};
+use crate::vine::{end_beyond, hang_behind, tree_to_vine, vine_length, vine_to_tree};
 use crate::{KeyAdapter, RBTree};
 use ic_link_ops::rbtree::RBTreeOps;
 use ic_link_ops::{AlreadyLinked, LinkOps, PlaceWord, Side};
@@ -139,6 +140,27 @@ impl<A: KeyAdapter> RBTreeBuilder<A> {
         hang_behind(links, &mut self.front, self.back.get(), place);
         self.back = PlaceWord::of(Some(place));
         Ok(())
+    }
+
+    /// Takes the object at the front off the vine and returns it, or `None` if the builder has no members.
+    ///
+    /// It requires that the table shows the members, of which the others stay in their order. It looks at no key. O(1).
+    pub fn pop_front<L: RBTreeOps>(&mut self, links: &mut L) -> Option<UnsafeRef<A::Value>>
+        requires shown { ShowsVineSome L.node (L.table links.old) (ends_of self.old) }
+        ensures answer { (s : List Place) → ShowsVine L.node (L.table links.old) (ends_of self.old) s → result ≡ first s }
+        ensures removed { (s : List Place) → ShowsVine L.node (L.table links.old) (ends_of self.old) s
+            → Removes (ShowsVine L.node) (L.table links.old) (L.table links.new) (ends_of self.new) (at_front s) }
+        ensures released { IfSome result (λ object. L.Does links.old links.new (releases object ∷ [])) }
+        ensures empty { IfNone result ((self.new ≡ self.old) × (links.new ≡ links.old)) }
+        ensures adapter { builder_adapter_of self.new ≡ builder_adapter_of self.old }
+    {
+        let front = self.front.get()?;
+        let next = child(&*links, front, Side::Right);
+        let last = end_beyond(next, self.back.get());
+        links.release_link(front);
+        self.front = PlaceWord::of(next);
+        self.back = PlaceWord::of(last);
+        Some(UnsafeRef::new(front))
     }
 }
 

@@ -11,7 +11,7 @@
 
 ghost use Rattle.std.specs.Prelude.{◌≡◌, ◌≤◌, ◌+◌, ◌-◌, Option, Some, None, List, length};
 ghost use Rattle.ic_unsafe_ref.specs.declared.place.Place.{Place};
-ghost use Rattle.ic_link_ops.specs.Chains.{list_head};
+ghost use Rattle.ic_link_ops.specs.Chains.{list_head, end_of};
 ghost use Rattle.ic_link_ops.specs.Edits.{Inserts};
 ghost use Rattle.ic_link_ops.specs.Sequences.{IsAbsent, at_back};
 ghost use Rattle.ic_link_ops.specs.Shape.{weight};
@@ -59,6 +59,17 @@ pub(crate) fn hang_behind<N: Nodes>(
     match back {
         Some(last) => links.set_right(last, Some(place)),
         None => *front = PlaceWord::of(Some(place)),
+    }
+}
+
+// The end of a vine, whose member at the other end has `neighbor` beside it now: there is none left where that is none.
+#[inline]
+pub(crate) fn end_beyond(neighbor: Option<Place>, end: Option<Place>) -> Option<Place>
+    ensures { result ≡ end_of neighbor None end }
+{
+    match neighbor {
+        None => None,
+        Some(_) => end,
     }
 }
 
