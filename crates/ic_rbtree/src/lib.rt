@@ -52,3 +52,4 @@ pub use keys::key_adapter::{Bound, KeyAdapter};
 pub use keys::probe::{KeyProbe, Probe};
 pub use nodes::Nodes;
 pub use tree::RBTree;
+pub use within::step_within;

@@ -6,11 +6,14 @@
 
 ghost use Rattle.std.specs.Prelude.{◌≡◌, []};
 ghost use Rattle.ic_link_ops.specs.Tables.{Table, ChangesOnly};
+ghost use Rattle.ic_link_ops.specs.Frames.{child_on};
 ghost use Rattle.ic_link_ops.specs.RedBlackTree.{Node, node_at};
+ghost use Rattle.ic_link_ops.specs.Walk.{is_end};
 ghost use Rattle.ic_rbtree.specs.Closed.{IsNode, IsNamed, KeepsNodes};
 
-use ic_link_ops::Color;
+use crate::readings::is_at;
 use ic_link_ops::rbtree::RBTreeOps;
+use ic_link_ops::{Color, Side};
 use ic_unsafe_ref::Place;
 
 /// Entries that name two children and a parent and have a color, for whoever keeps them: what the surgery of a tree requires.
@@ -48,6 +51,20 @@ pub trait Nodes {
     fn color(&self, place: Place) -> Color
         requires linked { IsNode node (table self.now) place }
         ensures { result ≡ (node_at node (table self.now) place).color };
+
+    /// Whether `place` is the child of `above` on this side. It requires that both are linked. O(1).
+    #[inline]
+    fn is_child(&self, place: Place, above: Place, side: Side) -> bool
+        requires above { IsNode node (table self.now) above }
+        requires place { IsNode node (table self.now) place }
+        ensures { result ≡ is_end (child_on side (node_at node (table self.now) above)) place }
+    {
+        let child = match side {
+            Side::Left => self.left(above),
+            Side::Right => self.right(above),
+        };
+        is_at(child, place)
+    }
 
     /// Sets the left child of `place`. It requires that the place is linked, and what it names too. O(1).
     fn set_left(&mut self, place: Place, left: Option<Place>)

@@ -17,7 +17,7 @@ ghost use Rattle.ic_rbtree.specs.Sides.{IsBeside, IsOutermostWithin, IsNearestAb
 use crate::Probe;
 use crate::keys::descent::Descent;
 use crate::nodes::Nodes;
-use crate::readings::{child, is_at, other};
+use crate::readings::{child, other};
 use crate::repair::TURNS;
 use ic_link_ops::Side;
 use ic_unsafe_ref::{Place, Values};
@@ -42,34 +42,47 @@ pub(crate) fn outermost_within<N: Nodes>(nodes: &N, place: Place, side: Side) ->
     place
 }
 
-// The lowest member above a place that stands on this side of it, `None` if there is none.
+// The lowest member above a place that stands on this side of it, `None` if there is none. Of each member above both words are read
+// one after the other, and turns are counted behind the test: so written, a turn takes half as many instructions.
 #[inline]
 fn above_within<N: Nodes>(nodes: &N, place: Place, side: Side) -> Option<Place>
     requires { (root : Option Place) × IsSafe N.node (N.table nodes.now) root (Some place ∷ []) }
-    ensures { IsNearestAboveWithin N.node (N.table nodes.now) place side result }
+    ensures nearest { IsNearestAboveWithin N.node (N.table nodes.now) place side result }
+    ensures safe { (root : Option Place) → StaysClosed N.node (N.table nodes.now) (N.table nodes.now) root root (Some place ∷ []) (result ∷ []) }
 {
     let mut place = place;
-    for _ in 0..TURNS {
-        let above = nodes.parent(place)?;
-        if !is_at(child(nodes, above, side), place) {
+    let mut parent = nodes.parent(place);
+    let mut turns = TURNS;
+    while let Some(above) = parent {
+        if !nodes.is_child(place, above, side) {
             return Some(above);
         }
+        if turns == 0 {
+            return None;
+        }
+        turns -= 1;
         place = above;
+        parent = nodes.parent(above);
     }
     None
 }
 
-// Where a step to a side leads from a position: from null to the end on the other side.
+/// Where a step to a side leads from a position in the tree with this root: to the member beside it, from null to the end on the other
+/// side, from that end to null.
+///
+/// It requires a closed set that has the position, and leads out of none. It ends whatever the words say. O(log n), and O(1) on
+/// average over a walk. [`RBTree::step`](crate::RBTree::step) is the same of a tree.
 #[inline]
-pub(crate) fn step_within<N: Nodes>(
+pub fn step_within<N: Nodes>(
     nodes: &N,
     root: Option<Place>,
     current: Option<Place>,
     side: Side,
 ) -> Option<Place>
     requires { IsSafe N.node (N.table nodes.now) root (current ∷ []) }
-    ensures { (gap : Cut) → Shows N.node (N.table nodes.now) root (join gap) → IsBeside side gap current
+    ensures leads { (gap : Cut) → Shows N.node (N.table nodes.now) root (join gap) → IsBeside side gap current
         → IsBeside (across side) gap result }
+    ensures safe { (S : Place → Bool) → IsClosed N.node (N.table nodes.now) root S → IsIn S current → IsIn S result }
 {
     let below = match current {
         None => root,
