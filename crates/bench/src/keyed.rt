@@ -17,6 +17,7 @@ ghost use Rattle.ic_rbtree.specs.PlainTrees.{plain_table, PlainShows, PlainShows
 ghost use Rattle.ic_rbtree.specs.Tree.{root_of};
 ghost use Rattle.ic_rbtree.specs.SortedObjects.{ShowsSorted, StaysSorted};
 
+use crate::parts::{timed_rebuild, timed_split};
 use crate::random::Random;
 use crate::room::{Size, Watch, value_at};
 use ic_link_ops::rbtree::{LinkOps, RBTreeOps};
@@ -402,6 +403,8 @@ fn work<L: RBTreeOps, O: Values<u64>>(
         "lower_bound" => return timed_lower_bound(&*tree, &*links, objects, size),
         "tree_iter" => return timed_tree_iter(&*tree, &*links, objects, size.rounds()),
         "turn" => timed_turn(tree, links, objects, size),
+        "split" => timed_split(tree, links, objects, size),
+        "rebuild" => timed_rebuild(tree, links, objects, size.rounds()),
         _ => {}
     }
     0

@@ -17,6 +17,7 @@ mod ends;
 mod keyed;
 mod lines;
 mod lists;
+mod parts;
 mod random;
 mod room;
 mod singly;
@@ -28,7 +29,7 @@ use room::{Size, Watch};
 use std::{env, io};
 use workloads::checksum;
 
-const WORKLOADS: [&str; 34] = [
+const WORKLOADS: [&str; 38] = [
     "pair",
     "pair-lent",
     "touch",
@@ -58,6 +59,10 @@ const WORKLOADS: [&str; 34] = [
     "queue",
     "queue-keyed",
     "queue-ends",
+    "split",
+    "split-flat",
+    "rebuild",
+    "rebuild-flat",
     "tree_step",
     "tree_iter",
     "tree_iter-flat",
