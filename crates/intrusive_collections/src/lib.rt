@@ -15,6 +15,7 @@
 //! | `rbtree_cached` | the tree that keeps its first and its last member: `RBTreeCached` |
 //! | `augmented` | trees with a summary over each subtree: lengths, positions, overlaps of intervals |
 //! | `hash_table` | the hash table: `HashTable`, over buckets that the caller hands in |
+//! | `check` | checks of lists and trees of whose words nobody vouches |
 //! | `key_adapter` | where the key of an object stands, and bounds of keys |
 //! | `rbtree_keys` | searches in a tree, which count their looks |
 //! | `world` | objects, fields and collections whose calls test every condition themselves |
@@ -29,6 +30,7 @@ pub mod xor_linked_list;
 pub use ic_atomic as atomic;
 pub use ic_augmented as augmented;
 pub use ic_chain as chain;
+pub use ic_check as check;
 pub use ic_hash_table as hash_table;
 pub use ic_hash_table::{HashAdapter, HashTable};
 pub use ic_link_ops as link_ops;

@@ -1,0 +1,77 @@
+//! The kinds of lists that a walk from the front checks.
+//!
+//! ```text
+//! DoublyLinked::stands_behind(&links, place, prev) // whether the entry of the place names `prev`
+//! ```
+
+ghost use Rattle.std.specs.Prelude.{◌≡◌, Option};
+ghost use Rattle.std.specs.Bool.{Decides};
+ghost use Rattle.std.proofs.Common.{refl};
+ghost use Rattle.ic_unsafe_ref.specs.declared.place.Place.{Place};
+ghost use Rattle.ic_link_ops.specs.Tables.{IsLinked};
+
+use ic_chain::{Chain, ForwardLinks};
+use ic_link_ops::LinkOps;
+use ic_link_ops::linked_list::LinkedListOps;
+use ic_link_ops::singly_linked_list::SinglyLinkedListOps;
+use ic_linked_list::DoublyLinked;
+use ic_singly_linked_list::SinglyLinked;
+use ic_unsafe_ref::Place;
+
+/// A kind of lists whose entries tell what stands behind by themselves, so that a walk which ends has met no place twice.
+///
+/// Doubly and singly linked lists are such. An XOR list is none: between other neighbors an entry leads elsewhere.
+pub trait NamesItsNext<L: LinkOps>: ForwardLinks<L> {
+    /// Whether `place` stands behind `prev`, as its entry says. It requires that the place is linked. At most one reading.
+    fn stands_behind(links: &L, place: Place, prev: Option<Place>) -> bool
+        requires linked { IsLinked L.linked (L.table links.now) place }
+        ensures { Decides result (Self.Between ((L.table links.now).entry place) prev (Self.step ((L.table links.now).entry place) prev)) };
+
+    /// Whether the list keeps `last` as its last member, if it keeps one. It reads no links.
+    fn ends_with<T>(list: &Chain<Self, T>, last: Option<Place>) -> bool
+        ensures { Decides result (list.now.tail ≡ Self.kept last) };
+
+    // The law: what stands behind is told, whatever stands in front.
+    ghost tells_behind: { (e : L.Entry) (b c : Option Place) → Self.step e b ≡ Self.step e c };
+}
+
+impl<L: LinkedListOps> NamesItsNext<L> for DoublyLinked {
+    #[inline]
+    fn stands_behind(links: &L, place: Place, prev: Option<Place>) -> bool {
+        is_same(links.prev(place), prev)
+    }
+
+    #[inline]
+    fn ends_with<T>(list: &Chain<DoublyLinked, T>, last: Option<Place>) -> bool {
+        is_same(list.last(), last)
+    }
+
+    ghost tells_behind = { λ e b c. refl };
+}
+
+impl<L: SinglyLinkedListOps> NamesItsNext<L> for SinglyLinked {
+    #[inline]
+    fn stands_behind(links: &L, place: Place, prev: Option<Place>) -> bool {
+        let _ = links;
+        let _ = place;
+        let _ = prev;
+        true
+    }
+
+    #[inline]
+    fn ends_with<T>(list: &Chain<SinglyLinked, T>, last: Option<Place>) -> bool {
+        let _ = list;
+        let _ = last;
+        true
+    }
+
+    ghost tells_behind = { λ e b c. refl };
+}
+
+// Whether two places, or none, are one: one comparison of words.
+#[inline]
+pub(crate) fn is_same(a: Option<Place>, b: Option<Place>) -> bool
+    ensures { Decides result (a ≡ b) }
+{
+    Place::to_word(a) == Place::to_word(b)
+}

@@ -1,0 +1,23 @@
+//! Whether a table shows a sequence for a collection, of whose words nobody vouches.
+//!
+//! A table that was read from a file, or that others write too, may hold anything. A check walks the words once, and says how many members
+//! the collection has, or that the table shows no sequence for it. It requires nothing of the words. Where it answers a number, every
+//! contract of the collection holds of the table.
+//!
+//! ```text
+//! let Some(members) = check(&list, &links) else {
+//!     return Err(..); // the words are no list
+//! };
+//! list.push_back(&mut links, object)?;
+//! ```
+#![tactic(auto)]
+
+mod kinds;
+mod list;
+mod tells;
+mod tree;
+
+pub use kinds::NamesItsNext;
+pub use list::check;
+pub use tells::TellsLinks;
+pub use tree::check_tree;

@@ -1,0 +1,45 @@
+//! The check of a list.
+//!
+//! ```text
+//! check(&list, &links) // Some(3): the table shows three members for the list
+//! ```
+
+ghost use Rattle.std.specs.Prelude.{MatchOption};
+ghost use Rattle.ic_link_ops.specs.Chains.{ShowsChain};
+ghost use Rattle.ic_check.specs.Checked.{IsShown, ShowsNone};
+
+use crate::kinds::NamesItsNext;
+use crate::tells::TellsLinks;
+use ic_chain::Chain;
+
+/// How many members the table shows for the list, `None` if it shows no sequence for it.
+///
+/// It requires nothing of the words. O(n) for n members, and at most as many steps as the table covers places. It takes no memory.
+pub fn check<K: NamesItsNext<L>, T, L: TellsLinks>(list: &Chain<K, T>, links: &L) -> Option<usize>
+    ensures { MatchOption result (ShowsNone (ShowsChain K.Between K.kept (L.table links.now) list.now))
+        (IsShown (ShowsChain K.Between K.kept (L.table links.now) list.now)) }
+{
+    let mut count: usize = 0;
+    let mut before = None;
+    let mut current = list.first();
+    while let Some(member) = current {
+        if count >= links.covered_places() {
+            return None;
+        }
+        if !links.tells_linked(member) {
+            return None;
+        }
+        if !K::stands_behind(links, member, before) {
+            return None;
+        }
+        let behind = K::next(links, member, before);
+        before = current;
+        current = behind;
+        count += 1;
+    }
+    if K::ends_with(list, before) {
+        Some(count)
+    } else {
+        None
+    }
+}

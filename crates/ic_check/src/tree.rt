@@ -1,0 +1,142 @@
+//! The check of a tree.
+//!
+//! ```text
+//! check_tree(&tree, &links) // Some(3): the table shows a red-black tree of three members
+//! ```
+
+ghost use Rattle.std.specs.Prelude.{◌≡◌, ◌<◌, ◌≤◌, ◌+◌, MatchOption};
+ghost use Rattle.std.specs.Bool.{Decides};
+ghost use Rattle.ic_link_ops.specs.RedBlackTree.{Shows};
+ghost use Rattle.ic_link_ops.specs.Shape.{weight};
+ghost use Rattle.ic_rbtree.specs.Tree.{root_of};
+ghost use Rattle.ic_check.specs.Checked.{IsShown, ShowsNone};
+ghost use Rattle.ic_check.specs.Subtrees.{AreApart, AreNoRedPair, AreUnlike, IsJoined, HasPathUp, IsTreeBelow, HasNoTree};
+
+use crate::kinds::is_same;
+use crate::tells::TellsLinks;
+use ic_link_ops::Color;
+use ic_link_ops::rbtree::RBTreeOps;
+use ic_rbtree::RBTree;
+use ic_unsafe_ref::Place;
+
+// No tree of the right shape is higher: one of n members and height h has 2^h <= (n + 1)^2, and there are fewer than 2^33 places.
+const HIGHEST: u32 = 66;
+
+// What is found of a subtree: its members, the black ones on each way down, and the color of its root.
+#[derive(Clone, Copy, Drop)]
+struct Subtree {
+    members: usize,
+    blacks: u32,
+    color: Color,
+}
+
+/// How many members the table shows for the tree, `None` if it shows no tree of the right shape with its root.
+///
+/// It requires nothing of the words. Each child has to name the member above it as its parent, so no place is met twice: O(n) for n
+/// members that it meets, at most 67 calls deep. It takes no memory.
+pub fn check_tree<A, L: RBTreeOps + TellsLinks>(tree: &RBTree<A>, links: &L) -> Option<usize>
+    ensures { MatchOption result (ShowsNone (Shows L.node (L.table links.now) (root_of tree.now)))
+        (IsShown (Shows L.node (L.table links.now) (root_of tree.now))) }
+{
+    let Some(found) = check_below(links, tree.root(), None, HIGHEST) else {
+        return None;
+    };
+    match found.color {
+        Color::Red => None,
+        Color::Black => Some(found.members),
+    }
+}
+
+// What is found of the subtree below `parent` that begins at `place`, `None` if no tree of the right shape stands there that has at
+// most so many levels.
+fn check_below<L: RBTreeOps + TellsLinks>(
+    links: &L,
+    place: Option<Place>,
+    parent: Option<Place>,
+    levels: u32,
+) -> Option<Subtree>
+    requires path { HasPathUp L.node (L.table links.now).entry parent }
+    ensures { MatchOption result (HasNoTree L.node (L.table links.now).entry levels parent place)
+        (IsTreeBelow L.node (L.table links.now).entry levels parent place) }
+{
+    let Some(place) = place else {
+        return Some(Subtree {
+            members: 0,
+            blacks: 0,
+            color: Color::Black,
+        });
+    };
+    if levels == 0 {
+        return None;
+    }
+    if !links.tells_linked(place) {
+        return None;
+    }
+    if !is_same(links.parent(place), parent) {
+        return None;
+    }
+    let left = links.left(place);
+    let right = links.right(place);
+    if !are_apart(left, right) {
+        return None;
+    }
+    let Some(left) = check_below(links, left, Some(place), levels - 1) else {
+        return None;
+    };
+    let Some(right) = check_below(links, right, Some(place), levels - 1) else {
+        return None;
+    };
+    join(links.color(place), left, right)
+}
+
+// What is found of a member of this color with these subtrees, `None` if they make no subtree of the right shape.
+fn join(color: Color, left: Subtree, right: Subtree) -> Option<Subtree>
+    requires few { left.members + right.members ≤ 8589934591 }
+    requires low { left.blacks < 4294967295 }
+    ensures { MatchOption result (AreUnlike color left right) (IsJoined color left right) }
+{
+    if left.blacks != right.blacks {
+        return None;
+    }
+    if !are_no_red_pair(color, left.color, right.color) {
+        return None;
+    }
+    Some(Subtree {
+        members: left.members + right.members + 1,
+        blacks: weight_of(color) + left.blacks,
+        color,
+    })
+}
+
+// Whether the two ends are no one place.
+fn are_apart(left: Option<Place>, right: Option<Place>) -> bool
+    ensures { Decides result (AreApart left right) }
+{
+    left.is_none() || !is_same(left, right)
+}
+
+// Whether a member of this color may have children of the other two.
+fn are_no_red_pair(color: Color, left: Color, right: Color) -> bool
+    ensures { Decides result (AreNoRedPair color left right) }
+{
+    match color {
+        Color::Black => true,
+        Color::Red => match left {
+            Color::Red => false,
+            Color::Black => match right {
+                Color::Red => false,
+                Color::Black => true,
+            },
+        },
+    }
+}
+
+// 1 for a black member.
+fn weight_of(color: Color) -> u32
+    ensures { result ≡ weight color }
+{
+    match color {
+        Color::Red => 0,
+        Color::Black => 1,
+    }
+}
