@@ -1,0 +1,85 @@
+//! The queue.
+//!
+//! ```text
+//! let mut queue = JobQueue::new(rt.alloc());
+//! queue.add(Job { number: 1, seconds: 30 })?;
+//! queue.add(Job { number: 2, seconds: 5 })?;
+//! queue.take_next(); // Some(Job { number: 1, seconds: 30 })
+//! ```
+
+ghost use Rattle.std.specs.Prelude.{◌≡◌, ◌++◌, ◌∷◌, [], OnOk, IfErr, IfSome, IfNone};
+ghost use Rattle.ic_pool.specs.Refusals.{value_of};
+
+use ic_link_ops::linked_list::LinkOps;
+use ic_linked_list::LinkedList;
+use ic_pool::{PlaceError, Pool};
+use std::alloc::{Allocator, Global};
+use std::marker::Model;
+
+/// A job that waits to be run.
+#[derive(Drop, PartialEq, Eq, Debug)]
+pub struct Job {
+    /// By which its owner knows it.
+    pub number: u64,
+    /// How long it will run.
+    pub seconds: u32,
+}
+
+/// Jobs that wait, in the order in which they were added.
+///
+/// A clause sees them as a list.
+#[derive(Drop)]
+pub struct JobQueue<A: Allocator = Global> {
+    pool: Pool<Job, LinkOps<A>, A>,
+    waiting: LinkedList<Job>,
+}
+
+impl<A: Allocator> Model for JobQueue<A> {
+    ghost use Rattle.std.specs.Prelude.{List};
+    ghost use Rattle.job_queue.specs.declared.queue.Job.{Job};
+    ghost use Rattle.job_queue.specs.Kept.{jobs_of, IsKept};
+
+    ghost Value = { List Job };
+
+    ghost view = { λ queue. jobs_of queue.pool.objects queue.pool.links queue.waiting };
+
+    ghost invariant = { λ queue. IsKept queue.pool.objects queue.pool.links queue.waiting };
+}
+
+impl<A: Allocator> JobQueue<A> {
+    /// Makes a queue in which no job waits. It takes no memory.
+    pub fn new(alloc: A) -> JobQueue<A>
+    where
+        A: Copy,
+        ensures { result ≡ [] }
+    {
+        JobQueue {
+            pool: Pool::new(alloc, LinkOps::new(alloc)),
+            waiting: LinkedList::new(),
+        }
+    }
+
+    /// Adds a job, which waits behind all others. O(1), and it takes memory only if the pool grows.
+    ///
+    /// If it is refused, the job comes back and the queue is as it was: `NoPlaceLeft` says that there are 4,294,967,296
+    /// places and no more, and `OutOfMemory` that there is no memory.
+    pub fn add(&mut self, job: Job) -> Result<(), PlaceError<Job>>
+        ensures added { OnOk result (self.new ≡ self.old ++ job ∷ []) }
+        ensures refused { IfErr result (λ refused. (value_of refused ≡ job) × (self.new ≡ self.old)) }
+    {
+        let object = self.pool.place(job)?; // with room for its link
+        self.waiting
+            .push_back(&mut self.pool.links, object)
+            .unwrap(); // proved: a new object is not linked
+        Ok(())
+    }
+
+    /// Takes the job out that waits longest, or returns `None` if no job waits. O(1), and it takes no memory.
+    pub fn take_next(&mut self) -> Option<Job>
+        ensures taken { IfSome result (λ job. self.old ≡ job ∷ self.new) }
+        ensures none { IfNone result ((self.old ≡ []) × (self.new ≡ [])) }
+    {
+        let object = self.waiting.pop_front(&mut self.pool.links)?;
+        Some(self.pool.remove(object)) // proved: it is linked nowhere now
+    }
+}
