@@ -13,6 +13,7 @@ mod tests {
         number: 1,
         seconds: 30,
     };
+
     const SECOND: Job = Job {
         number: 2,
         seconds: 5,
