@@ -5,7 +5,7 @@ use Rattle.std.proofs.lemmas.Bool.{false_from_ne_true}
 use Rattle.ic_unsafe_ref.specs.declared.place.Place.{Place}
 use Rattle.ic_unsafe_ref.specs.Objects.{Objects, Frees, object_at}
 use Rattle.ic_link_ops.specs.Chains.{Ends, no_members}
-use Rattle.ic_link_ops.specs.DoublyEntries.{DoublyLinkOps, is_linked, members_of, neighbors_of, plain_table, PlainShows}
+use Rattle.ic_link_ops.specs.DoublyEntries.{DoublyLinkOps, is_linked, neighbors_of, plain_table, PlainShows}
 use Rattle.ic_link_ops.specs.PlacedObjects.{values_at}
 use Rattle.ic_link_ops.specs.Sequences.{first}
 use Rattle.ic_link_ops.specs.Tables.{Unlinks}

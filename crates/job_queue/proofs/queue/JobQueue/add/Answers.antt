@@ -13,7 +13,7 @@ pub returns-in_err-object-clause-refused : goal.returns-in_err-object-clause-ref
 returns-in_err-object-clause-refused g c =
     let e = c.in_err-object.ensures in
     let same : jobs_of c.place.new.self.objects c.place.new.self.links c.self.inside.waiting ≡ jobs_of c.self.inside.pool.objects c.self.inside.pool.links c.self.inside.waiting =
-        rw e.refused.1 (jobs_are c.place.new.self.links (has_covered e.keeps.entries c.self.invariant)) in
+    rw e.refused.1 (jobs_are c.place.new.self.links (has_covered e.keeps.entries c.self.invariant)) in
     passed_on _ c.from_residual.result c.from_residual.ensures (e.refused.0, rw (← c.self.view_is) same)
 
 -- it waits behind all others
@@ -21,10 +21,10 @@ pub invariant_of-self-2 : goal.invariant_of-self-2
 invariant_of-self-2 g c =
     let placed = c.in_ok-object.ensures in
     let push = c.push_back.ensures in
-    kept c.push_back.new.links (has_pushed _ _ (has_covered placed.keeps.entries c.self.invariant) placed.placed push.inserted push.acquired push.refused refl)
+    kept c.push_back.new.links (has_pushed {new = c.place.new.self.objects} _ _ (has_covered placed.keeps.entries c.self.invariant) placed.placed push.inserted push.acquired push.refused refl)
 
 pub returns-clause-added : goal.returns-clause-added
 returns-clause-added g c =
     let placed = c.in_ok-object.ensures in
     let push = c.push_back.ensures in
-    rw (← c.self.view_is) (jobs_are c.push_back.new.links (has_pushed _ _ (has_covered placed.keeps.entries c.self.invariant) placed.placed push.inserted push.acquired push.refused refl))
+    rw (← c.self.view_is) (jobs_are c.push_back.new.links (has_pushed {new = c.place.new.self.objects} _ _ (has_covered placed.keeps.entries c.self.invariant) placed.placed push.inserted push.acquired push.refused refl))

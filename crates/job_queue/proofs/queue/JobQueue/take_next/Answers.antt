@@ -16,5 +16,5 @@ returns-clause-taken g c =
     let taken = c.remove.ensures in
     let next = takes_next c.self.inside.pool.links c.self.invariant c.pop_front.new.links pop.answer pop.removed pop.released taken.value taken.freed in
     let left : jobs_of c.remove.new.self.objects c.remove.new.self.links c.pop_front.new.self ≡ drop 1 (jobs_of c.self.inside.pool.objects c.self.inside.pool.links c.self.inside.waiting) =
-        rw taken.links (jobs_are c.pop_front.new.links next.1) in
+    rw taken.links (jobs_are c.pop_front.new.links next.1) in
     rw (← c.self.view_is) (next.0 ∙ ap (λ (jobs : List Job). c.remove.result ∷ jobs) (sym left))
