@@ -1,19 +1,20 @@
 -- What is held after an edit of one chain.
-use Rattle.std.proofs.Common.{◌≡◌, ℕ, ◌+◌, ◌<◌, ◌≤◌, Bool, Option, Some, None, IsSome, List, [], ◌∷◌, ◌++◌, length, length-append, slice_index_or, slice_set, refl, sym, ap, ◌∙◌, subst, arith, append_assoc}
+use Rattle.std.proofs.Common.{◌≡◌, ℕ, ◌+◌, ◌<◌, ◌≤◌, Bool, Option, Some, None, IsSome, IfSome, Result, Ok, Err, OnOk, List, [], ◌∷◌, ◌++◌, length, length-append, slice_index_or, slice_set, refl, sym, ap, ◌∙◌, subst, arith, append_assoc}
 use Rattle.std.specs.List.{AllByRecursion}
 use Rattle.std.proofs.lemmas.List.{length-set}
 use Rattle.ic_unsafe_ref.specs.declared.place.Place.{Place}
 use Rattle.ic_unsafe_ref.specs.Objects.{Objects, object_at}
-use Rattle.ic_link_ops.specs.Sequences.{IsAbsent, IsDistinct, IsDisjoint}
+use Rattle.ic_link_ops.specs.Sequences.{Cut, join, insert, first, IsAbsent, IsDistinct, IsDisjoint}
 use Rattle.ic_link_ops.specs.Tables.{Table, KeepsBeside}
 use Rattle.ic_link_ops.specs.SinglyLinkedList.{Successor}
 use Rattle.ic_link_ops.proofs.CollectionLaws.{IsKind}
 use Rattle.ic_link_ops.proofs.Each.{all_with, all_without}
-use Rattle.ic_link_ops.proofs.SequenceLemmas.{absent_left, absent_right, disjoint_cons, disjoint_left, disjoint_sym, distinct_disjoint, distinct_right, distinct_insert, distinct_remove}
+use Rattle.ic_link_ops.proofs.SequenceLemmas.{absent_left, absent_right, disjoint_cons, disjoint_left, disjoint_sym, distinct_disjoint, distinct_right, distinct_insert, distinct_remove, none_not}
 use Rattle.ic_hash_table.specs.declared.table.HashTable.{HashTable}
 use Rattle.ic_hash_table.specs.Slots.{slot_of}
 use Rattle.ic_hash_table.specs.Chains.{AreChained, ShowsFrom}
-use Rattle.ic_hash_table.specs.HashTable.{BelongsIn, Holds, HoldsWith, IsNew}
+use Rattle.ic_hash_table.specs.HashTable.{BelongsIn, Holds, HoldsAt, HoldsInFront, HoldsWith, IsNew}
+use Rattle.ic_hash_table.specs.Searches.{Finds, StopsAt}
 use Rattle.ic_hash_table.proofs.Chains.{Between, chain_one, chains_frame, chains_free, chains_one, chains_nothing}
 use Rattle.ic_hash_table.proofs.FoundMembers.{chain_of}
 
@@ -39,6 +40,16 @@ middle_ahead a m b d = disjoint_left a m b (distinct_disjoint a (m ++ b) d)
 pub middle_behind : (a m b : List Place) → IsDistinct (a ++ (m ++ b)) → IsDisjoint b m
 middle_behind a m b d = disjoint_sym m b (distinct_disjoint m b (distinct_right a (m ++ b) d))
 
+-- four parts in two pairs, or the two in the middle as one
+regrouped : (a f y z : List Place) → (a ++ f) ++ (y ++ z) ≡ a ++ ((f ++ y) ++ z)
+regrouped a f y z = append_assoc a f (y ++ z) ∙ ap (λ (l : List Place). a ++ l) (sym (append_assoc f y z))
+
+-- the first of the first part is that of both
+first_ahead : (found : Option Place) (back behind : List Place) → found ≡ first back → IfSome found (λ q. Some q ≡ first (back ++ behind))
+first_ahead None back behind here = tt
+first_ahead (Some q) [] behind here = absurd (none_not q (sym here))
+first_ahead (Some q) (x ∷ back) behind here = here
+
 -- the table with other buckets and another count
 abbrev pub with_buckets : {A B : Type 0} → HashTable A B → B → ℕ → HashTable A B
 with_buckets table buckets len = record { adapter = table.adapter; buckets = buckets; slots = table.slots; len = len }
@@ -46,30 +57,39 @@ with_buckets table buckets len = record { adapter = table.adapter; buckets = buc
 module _ {E A B V : Type 0} (successor : E → Successor) (hash : A → V → ℕ) (fronts : B → List (Option Place)) where
   module _ {old new : Table E} {table : HashTable A B} {objects : Objects V} {k : ℕ} {front : Option Place} (p : Place) (buckets : B) (len : ℕ) (used : k < table.slots.used)
       (set : fronts buckets ≡ slice_set (fronts table.buckets) k front) where
-    -- ONE MORE, in front of chain k
+    -- ONE MORE, at a gap of chain k
     pub held_put : {s : List Place} → Holds successor hash fronts old table objects s → IsSome (object_at objects p) → ((v : V) → object_at objects p ≡ Some v → slot_of table.slots (hash table.adapter v) ≡ k)
-        → IsAbsent p s → ((chain : List Place) → ShowsFrom successor old (slice_index_or (fronts table.buckets) k None) chain → ShowsFrom successor new front (p ∷ chain))
-        → ((chain : List Place) → ShowsFrom successor old (slice_index_or (fronts table.buckets) k None) chain → KeepsBeside old new (p ∷ chain))
-        → len ≡ table.len + 1 → HoldsWith successor hash fronts new (with_buckets table buckets len) objects s p
-    held_put {s} held placed belongs out shows frame counted =
+        → IsAbsent p s → (gap : Cut) → ShowsFrom successor old (slice_index_or (fronts table.buckets) k None) (join gap) → ShowsFrom successor new front (insert gap p)
+        → KeepsBeside old new (p ∷ join gap) → len ≡ table.len + 1 → HoldsAt successor hash fronts new (with_buckets table buckets len) objects s gap p
+    held_put {s} held placed belongs out gap was shows frame counted =
         let c = chain_of held k used in
-        let d = subst IsDistinct c.parts held.distinct in
-        let out' = subst (IsAbsent p) c.parts out in (
-          record { front = c.ahead; back = c.chain ++ c.behind },
-          sym c.parts,
-          record {
-            distinct = distinct_insert c.ahead (c.chain ++ c.behind) p d out';
-            chained = subst (λ l. AreChained successor (BelongsIn table.slots (hash table.adapter) objects) new 0 l (c.ahead ++ (p ∷ c.chain ++ c.behind))) (sym set)
-                (c.put (BelongsIn table.slots (hash table.adapter) objects) (λ j q n b. b) front (p ∷ c.chain) (p ∷ c.chain) (shows c.chain c.shown) (belongs, c.own)
-                (disjoint_cons p c.ahead c.chain (absent_left p c.ahead (c.chain ++ c.behind) out') (middle_ahead c.ahead c.chain c.behind d))
-                (disjoint_cons p c.behind c.chain (absent_right p c.chain c.behind (absent_right p c.ahead (c.chain ++ c.behind) out')) (middle_behind c.ahead c.chain c.behind d))
-                (frame c.chain c.shown).others);
-            placed = all_with (λ q. IsSome (object_at objects q)) c.ahead p (c.chain ++ c.behind) placed (subst (AllByRecursion (λ q. IsSome (object_at objects q))) c.parts held.placed);
-            counted = omega (arith, counted, held.counted, ap length c.parts, length-append c.ahead (c.chain ++ c.behind), length-append c.ahead (p ∷ c.chain ++ c.behind));
+        let f = gap.front in
+        let b = gap.back in
+        let Own : Place → Type 0 = BelongsIn table.slots (hash table.adapter) objects k in
+        let Placed : Place → Type 0 = λ q. IsSome (object_at objects q) in
+        let is : c.chain ≡ f ++ b = chain_one c.shown was in
+        let parts : s ≡ c.ahead ++ ((f ++ b) ++ c.behind) = subst (λ m. s ≡ c.ahead ++ (m ++ c.behind)) is c.parts in
+        let flat : s ≡ (c.ahead ++ f) ++ (b ++ c.behind) = parts ∙ sym (regrouped c.ahead f b c.behind) in
+        let d = subst IsDistinct parts held.distinct in
+        let out' = subst (IsAbsent p) parts out in
+        record {
+          ahead = c.ahead;
+          behind = c.behind;
+          parts = flat;
+          holds = record {
+            distinct = distinct_insert (c.ahead ++ f) (b ++ c.behind) p (subst IsDistinct flat held.distinct) (subst (IsAbsent p) flat out);
+            chained = subst (λ l. AreChained successor (BelongsIn table.slots (hash table.adapter) objects) new 0 l ((c.ahead ++ f) ++ p ∷ (b ++ c.behind))) (sym set)
+                (subst (AreChained successor (BelongsIn table.slots (hash table.adapter) objects) new 0 (slice_set (fronts table.buckets) k front)) (sym (regrouped c.ahead f (p ∷ b) c.behind))
+                (c.put (BelongsIn table.slots (hash table.adapter) objects) (λ j q n own. own) front (f ++ p ∷ b) (p ∷ (f ++ b)) shows (all_with Own f p b belongs (subst (AllByRecursion Own) is c.own))
+                (disjoint_cons p c.ahead (f ++ b) (absent_left p c.ahead ((f ++ b) ++ c.behind) out') (middle_ahead c.ahead (f ++ b) c.behind d))
+                (disjoint_cons p c.behind (f ++ b) (absent_right p (f ++ b) c.behind (absent_right p c.ahead ((f ++ b) ++ c.behind) out')) (middle_behind c.ahead (f ++ b) c.behind d))
+                frame.others));
+            placed = all_with Placed (c.ahead ++ f) p (b ++ c.behind) placed (subst (AllByRecursion Placed) flat held.placed);
+            counted = omega (arith, counted, held.counted, ap length flat, length-append (c.ahead ++ f) (b ++ c.behind), length-append (c.ahead ++ f) (p ∷ (b ++ c.behind)));
             well_formed = held.well_formed;
             enough = omega (arith, held.enough, ap length set, length-set (fronts table.buckets) k front);
-          },
-        )
+          };
+        }
 
     -- ONE LESS, wherever it stood in chain k
     pub held_taken : (a b : List Place) → Holds successor hash fronts old table objects (a ++ p ∷ b)
@@ -104,8 +124,35 @@ module _ {E : Type 0} {successor : E → Successor} {Belongs : ℕ → Place →
   pub frame_put : {new : Table E} {p : Place} → KeepsBeside t new (p ∷ c.chain) → KeepsBeside t new (p ∷ s)
   frame_put frame = record { extent = frame.extent; others = λ q out. frame.others q (out.0, absent_chain q out.1) }
 
+  -- where that chain is seen at a gap
+  pub frame_at : {new : Table E} {p : Place} (gap : Cut) → ShowsFrom successor t (slice_index_or fronts k None) (join gap) → KeepsBeside t new (p ∷ join gap) → KeepsBeside t new (p ∷ s)
+  frame_at {new} {p} gap was frame = frame_put (subst (λ l. KeepsBeside t new (p ∷ l)) (sym (chain_one c.shown was)) frame)
+
   pub frame_taken : {new : Table E} {chain : List Place} → ShowsFrom successor t (slice_index_or fronts k None) chain → KeepsBeside t new chain → KeepsBeside t new s
   frame_taken {chain = chain} was frame = record { extent = frame.extent; others = λ q out. frame.others q (subst (IsAbsent q) (chain_one c.shown was) (absent_chain q out)) }
+
+-- put in at a gap of a chain, it is put in somewhere
+pub held_with : {E A B V : Type 0} {successor : E → Successor} {hash : A → V → ℕ} {fronts : B → List (Option Place)} {t : Table E} {table : HashTable A B} {objects : Objects V} {s : List Place} {gap : Cut} {p : Place}
+    → HoldsAt successor hash fronts t table objects s gap p → HoldsWith successor hash fronts t table objects s p
+held_with {gap = gap} h = (record { front = h.ahead ++ gap.front; back = gap.back ++ h.behind }, sym h.parts, h.holds)
+
+-- where a walk along its chain stopped, it is put in in front of the first member that passes
+pub held_in_front : {E A B V : Type 0} {successor : E → Successor} {hash : A → V → ℕ} {fronts : B → List (Option Place)} {t : Table E} {table : HashTable A B} {objects : Objects V} {is : Place → Bool}
+    {s chain : List Place} {p : Place} {before : Option Place} (found : Option Place) (stop : StopsAt is chain before found) → Finds is s found
+    → HoldsAt successor hash fronts t table objects s stop.gap p → HoldsInFront successor hash fronts t table objects is s p
+held_in_front found stop finds h = record {
+  gap = record { front = h.ahead ++ stop.gap.front; back = stop.gap.back ++ h.behind };
+  whole = sym h.parts;
+  holds = h.holds;
+  found = found;
+  finds = finds;
+  in_front = first_ahead found stop.gap.back h.behind stop.here;
+}
+
+-- what follows of an answer follows where it is one
+pub on_ok : {A X P Q : Type 0} (r : Result A X) → (P → Q) → OnOk r P → OnOk r Q
+on_ok (Ok a) follows holds = follows holds
+on_ok (Err e) follows holds = tt
 
 -- where a chain has a member, one at least is counted
 pub some_counted : {E A B V : Type 0} {successor : E → Successor} {hash : A → V → ℕ} {fronts : B → List (Option Place)} {t : Table E} {table : HashTable A B} {objects : Objects V} {s : List Place}

@@ -1,16 +1,17 @@
 -- What a table of links holds for a hash table.
-use Rattle.std.specs.Prelude.{◌≡◌, ℕ, ◌≤◌, Option, None, Some, List, length, slice_index_or, ⊤}
+use Rattle.std.specs.Prelude.{◌≡◌, ℕ, ◌≤◌, Bool, Option, None, Some, IfSome, List, ◌∷◌, ◌++◌, length, slice_index_or, ⊤}
 use Rattle.std.specs.List.{AllByRecursion}
 use Rattle.ic_unsafe_ref.specs.declared.place.Place.{Place}
 use Rattle.ic_unsafe_ref.specs.Objects.{Objects, object_at}
 use Rattle.ic_link_ops.specs.Tables.{Table}
 use Rattle.ic_link_ops.specs.SinglyLinkedList.{Successor}
 use Rattle.ic_link_ops.specs.PlacedObjects.{ArePlaced}
-use Rattle.ic_link_ops.specs.Sequences.{Cut, join, insert, IsDistinct}
+use Rattle.ic_link_ops.specs.Sequences.{Cut, join, insert, IsBefore, IsDistinct}
 use Rattle.ic_hash_table.specs.declared.slots.Slots.{Slots}
 use Rattle.ic_hash_table.specs.declared.table.HashTable.{HashTable}
 use Rattle.ic_hash_table.specs.Slots.{slot_of, IsWellFormed}
 use Rattle.ic_hash_table.specs.Chains.{AreChained}
+use Rattle.ic_hash_table.specs.Searches.{Finds}
 
 module _ {A B : Type 0} where
   -- the adapter that a table was made with, how many members it has counted, and in which chains it puts them
@@ -70,3 +71,19 @@ module _ {E A B V : Type 0} (successor : E → Successor) (hash : A → V → �
   -- it holds s with p put in somewhere
   abbrev pub HoldsWith : Table E → HashTable A B → Objects V → List Place → Place → Type 0
   HoldsWith t table objects s p = (gap : Cut) × (join gap ≡ s) × Holds t table objects (insert gap p)
+
+  -- it holds s with p put in at this gap of one of its chains
+  pub record HoldsAt (t : Table E) (table : HashTable A B) (objects : Objects V) (s : List Place) (gap : Cut) (p : Place) : Type 0 where
+    pub ahead : List Place
+    pub behind : List Place
+    pub parts : s ≡ (ahead ++ gap.front) ++ (gap.back ++ behind)
+    pub holds : Holds t table objects ((ahead ++ gap.front) ++ p ∷ (gap.back ++ behind))
+
+  -- it holds s with p put in: directly in front of the first member that passes, where one does
+  pub record HoldsInFront (t : Table E) (table : HashTable A B) (objects : Objects V) (is : Place → Bool) (s : List Place) (p : Place) : Type 0 where
+    pub gap : Cut
+    pub whole : join gap ≡ s
+    pub holds : Holds t table objects (insert gap p)
+    pub found : Option Place
+    pub finds : Finds is s found
+    pub in_front : IfSome found (λ q. IsBefore gap (Some q))

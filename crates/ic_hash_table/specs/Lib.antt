@@ -4,5 +4,6 @@ pub mod Chains
 pub mod HashTable
 pub mod Searches
 pub mod Growth
+pub mod Entry
 pub mod Iter
 pub mod Retained

@@ -5,19 +5,22 @@
 //! while let Some(member) = at {
 //!     at = table.next_equal(&links, &objects, &member); // the next one
 //! }
+//! table.insert_equal(&mut links, &objects, object)?; // beside the members that have its key
 //! ```
 
-ghost use Rattle.std.specs.Prelude.{◌≡◌, ◌++◌, ◌∷◌, List, Some};
+ghost use Rattle.std.specs.Prelude.{◌≡◌, ◌++◌, ◌∷◌, [], List, Some, true, OnOk, OnErr, IfErr};
 ghost use Rattle.ic_unsafe_ref.specs.declared.place.Place.{Place};
-ghost use Rattle.ic_unsafe_ref.specs.Objects.{object_at};
+ghost use Rattle.ic_unsafe_ref.specs.Objects.{object_at, is_placed};
+ghost use Rattle.ic_link_ops.specs.LinkSteps.{acquires};
 ghost use Rattle.ic_link_ops.specs.Positions.{HasMember};
-ghost use Rattle.ic_hash_table.specs.HashTable.{adapter_of, number, Holds};
+ghost use Rattle.ic_link_ops.specs.Tables.{IsCovered, KeepsBeside};
+ghost use Rattle.ic_hash_table.specs.HashTable.{adapter_of, number, Holds, HoldsSome, HoldsInFront};
 ghost use Rattle.ic_hash_table.specs.Searches.{has_key, Finds};
 
 use crate::chain_search::find_in_chain;
 use crate::{Buckets, HashAdapter, HashTable, KeyProbe};
-use ic_link_ops::LinkOps;
 use ic_link_ops::singly_linked_list::SinglyLinkedListOps;
+use ic_link_ops::{AlreadyLinked, LinkOps};
 use ic_unsafe_ref::{UnsafeRef, Values};
 
 impl<A: HashAdapter, B: Buckets> HashTable<A, B> {
@@ -46,5 +49,37 @@ impl<A: HashAdapter, B: Buckets> HashTable<A, B> {
             Some(equal) => Some(UnsafeRef::new(equal)),
             None => None,
         }
+    }
+
+    /// Puts the object in, directly in front of the first member with an equal key where there is one, unless its link is refused.
+    ///
+    /// So members with equal keys stand side by side, the newest first, where each was put in by this call. It requires and refuses what
+    /// [`insert`](HashTable::insert) does, looks as [`find`](HashTable::find), and takes no memory.
+    #[inline]
+    pub fn insert_equal<L: SinglyLinkedListOps, O: Values<A::Value>>(
+        &mut self,
+        links: &mut L,
+        objects: &O,
+        object: UnsafeRef<A::Value>,
+    ) -> Result<(), AlreadyLinked<A::Value>>
+        requires covered { IsCovered (L.table links.old) object }
+        requires placed { is_placed (O.values objects.now) object ≡ true }
+        requires held { HoldsSome L.successor (number A.key_of A.hash_of) B.fronts (L.table links.old) self.old (O.values objects.now) }
+        ensures inserted { (value : A.Value) → object_at (O.values objects.now) object ≡ Some value
+            → (s : List Place) → Holds L.successor (number A.key_of A.hash_of) B.fronts (L.table links.old) self.old (O.values objects.now) s
+            → OnOk result (HoldsInFront L.successor (number A.key_of A.hash_of) B.fronts (L.table links.new) self.new (O.values objects.now)
+            (has_key A.Key.eq (A.key_of (adapter_of self.old)) (A.key_of (adapter_of self.old) value) (O.values objects.now)) s object) }
+        ensures acquired { OnOk result (L.Does links.old links.new (acquires object ∷ [])) }
+        ensures adapter { adapter_of self.new ≡ adapter_of self.old }
+        ensures refused { OnErr result (L.Refused links.old links.new object) }
+        ensures unchanged { IfErr result (λ refused. (refused.0 ≡ object) × (self.new ≡ self.old)) }
+        ensures frame { (s : List Place) → Holds L.successor (number A.key_of A.hash_of) B.fronts (L.table links.old) self.old (O.values objects.now) s
+            → KeepsBeside (L.table links.old) (L.table links.new) (object ∷ s) }
+    {
+        let key = self.adapter.get_key(objects.value(object.place()));
+        let at = self.slots.slot(self.adapter.hash(key));
+        let mut probe = KeyProbe::new(self.adapter, key);
+        let neighbors = find_in_chain(&*links, objects, &mut probe, self.buckets.front(at));
+        self.insert_at(links, objects, at, neighbors, object)
     }
 }

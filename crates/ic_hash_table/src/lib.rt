@@ -19,6 +19,7 @@ mod adapter;
 mod buckets;
 mod chain_edits;
 mod chain_search;
+mod entry;
 mod equal;
 mod growth;
 mod iter;
@@ -30,6 +31,7 @@ mod whole;
 
 pub use adapter::HashAdapter;
 pub use buckets::Buckets;
+pub use entry::{Entry, OccupiedEntry, VacantEntry};
 pub use iter::Iter;
 pub use probe::{KeyProbe, Probe};
 pub use slots::Slots;

@@ -11,7 +11,7 @@ ghost use Rattle.std.specs.List.{AllByRecursion};
 ghost use Rattle.ic_unsafe_ref.specs.declared.place.Place.{Place};
 ghost use Rattle.ic_unsafe_ref.specs.Objects.{object_at, is_placed};
 ghost use Rattle.ic_link_ops.specs.LinkSteps.{acquires, releases};
-ghost use Rattle.ic_link_ops.specs.Sequences.{IsMember, last};
+ghost use Rattle.ic_link_ops.specs.Sequences.{Cut, join, IsAfter, IsBefore, IsMember, last};
 ghost use Rattle.ic_link_ops.specs.PlacedObjects.{ShowsPlaced};
 ghost use Rattle.ic_link_ops.specs.Tables.{IsCovered, KeepsBeside};
 ghost use Rattle.ic_link_ops.specs.SinglyLinkedList.{list_from, Shows};
@@ -146,7 +146,8 @@ impl<A: HashAdapter, B: Buckets> HashTable<A, B> {
             → KeepsBeside (L.table links.old) (L.table links.new) (object ∷ s) }
     {
         let at = self.slot_of_object(objects, object.place());
-        self.insert_at(links, objects, at, object)
+        let front = self.buckets.front(at);
+        self.insert_at(links, objects, at, (None, front), object)
     }
 
     /// The first member that equals what is searched, or `None` if there is none.
@@ -297,7 +298,7 @@ impl<A: HashAdapter, B: Buckets> HashTable<A, B> {
 
 impl<A: HashAdapter, B: Buckets> HashTable<A, B> {
     ghost use Rattle.ic_hash_table.specs.Slots.{IsWellFormed};
-    ghost use Rattle.ic_hash_table.specs.HashTable.{adapter_of, len_of, slots_of, fronts_of, front_at, number, BelongsIn, Holds, HoldsSome, HoldsWith};
+    ghost use Rattle.ic_hash_table.specs.HashTable.{adapter_of, len_of, slots_of, fronts_of, front_at, number, BelongsIn, Holds, HoldsAt, HoldsSome};
 
     // The chain where the object belongs.
     #[inline]
@@ -312,13 +313,14 @@ impl<A: HashAdapter, B: Buckets> HashTable<A, B> {
         self.slots.slot(self.adapter.hash(key))
     }
 
-    // Puts the object in front of chain `at`.
+    // Puts the object between two neighbors of chain `at`.
     #[inline]
-    fn insert_at<L: SinglyLinkedListOps, O: Values<A::Value>>(
+    pub(crate) fn insert_at<L: SinglyLinkedListOps, O: Values<A::Value>>(
         &mut self,
         links: &mut L,
         objects: &O,
         at: usize,
+        neighbors: (Option<Place>, Option<Place>),
         object: UnsafeRef<A::Value>,
     ) -> Result<(), AlreadyLinked<A::Value>>
         requires covered { IsCovered (L.table links.old) object }
@@ -326,9 +328,12 @@ impl<A: HashAdapter, B: Buckets> HashTable<A, B> {
         requires held { HoldsSome L.successor (number A.key_of A.hash_of) B.fronts (L.table links.old) self.old (O.values objects.now) }
         requires within { at < (slots_of self.old).used }
         requires belongs { BelongsIn (slots_of self.old) (number A.key_of A.hash_of (adapter_of self.old)) (O.values objects.now) at object }
-        ensures inserted { (s : List Place)
+        requires gap { (gap : Cut) × ShowsFrom L.successor (L.table links.old) (front_at B.fronts self.old at) (join gap)
+            × IsAfter gap neighbors.0 × IsBefore gap neighbors.1 }
+        ensures inserted { (s : List Place) (gap : Cut)
             → Holds L.successor (number A.key_of A.hash_of) B.fronts (L.table links.old) self.old (O.values objects.now) s
-            → OnOk result (HoldsWith L.successor (number A.key_of A.hash_of) B.fronts (L.table links.new) self.new (O.values objects.now) s object) }
+            → ShowsFrom L.successor (L.table links.old) (front_at B.fronts self.old at) (join gap) → IsAfter gap neighbors.0 → IsBefore gap neighbors.1
+            → OnOk result (HoldsAt L.successor (number A.key_of A.hash_of) B.fronts (L.table links.new) self.new (O.values objects.now) s gap object) }
         ensures acquired { OnOk result (L.Does links.old links.new (acquires object ∷ [])) }
         ensures adapter { adapter_of self.new ≡ adapter_of self.old }
         ensures refused { OnErr result (L.Refused links.old links.new object) }
@@ -337,9 +342,12 @@ impl<A: HashAdapter, B: Buckets> HashTable<A, B> {
             → Holds L.successor (number A.key_of A.hash_of) B.fronts (L.table links.old) self.old (O.values objects.now) s
             → KeepsBeside (L.table links.old) (L.table links.new) (object ∷ s) }
     {
-        let mut chain = SinglyLinkedList::from_front(self.buckets.front(at));
-        if let Err(refused) = chain.push_front(links, object) {
-            return Err(refused);
+        let (before, behind) = neighbors;
+        let mut chain: SinglyLinkedList<A::Value> = SinglyLinkedList::from_front(
+            self.buckets.front(at),
+        );
+        if !chain.insert_between(links, before, object.place(), behind) {
+            return Err(AlreadyLinked(object));
         }
         self.buckets.set_front(at, chain.first());
         self.len += 1;
@@ -348,7 +356,7 @@ impl<A: HashAdapter, B: Buckets> HashTable<A, B> {
 
     // Takes the member behind `before` out of chain `at`.
     #[inline]
-    fn remove_at<L: SinglyLinkedListOps, O: Values<A::Value>>(
+    pub(crate) fn remove_at<L: SinglyLinkedListOps, O: Values<A::Value>>(
         &mut self,
         links: &mut L,
         objects: &O,

@@ -1,0 +1,54 @@
+-- What clauses see of an entry: the first member with a key, or the chain where an object with it belongs.
+use Rattle.std.specs.Prelude.{◌≡◌, ℕ, ◌<◌, ⊤, Option, List, ◌∷◌, ◌++◌}
+use Rattle.std.specs.Borrow.{MutBor}
+use Rattle.ic_unsafe_ref.specs.declared.place.Place.{Place}
+use Rattle.ic_unsafe_ref.specs.Objects.{Objects}
+use Rattle.ic_link_ops.specs.Sequences.{last}
+use Rattle.ic_link_ops.specs.Tables.{Table}
+use Rattle.ic_link_ops.specs.SinglyLinkedList.{Successor}
+use Rattle.ic_hash_table.specs.declared.entry.Entry.{Entry}
+use Rattle.ic_hash_table.specs.declared.entry.Entry.TheVariants.{Occupied, Vacant}
+use Rattle.ic_hash_table.specs.declared.entry.OccupiedEntry.{OccupiedEntry}
+use Rattle.ic_hash_table.specs.declared.entry.VacantEntry.{VacantEntry}
+use Rattle.ic_hash_table.specs.declared.table.HashTable.{HashTable}
+use Rattle.ic_hash_table.specs.Chains.{ShowsFrom}
+use Rattle.ic_hash_table.specs.HashTable.{adapter_of, slots_of, front_at, BelongsIn}
+use Rattle.ic_hash_table.specs.Slots.{slot_of}
+
+module _ {A B L : Type 0} where
+  -- what holds of the member, if the entry is occupied, and of the chain, if it is vacant
+  abbrev pub IfOccupied : Entry A B L → (OccupiedEntry A B L → Type 0) → Type 0
+  IfOccupied (Occupied e) P = P e
+  IfOccupied (Vacant e) P = ⊤
+
+  abbrev pub IfVacant : Entry A B L → (VacantEntry A B L → Type 0) → Type 0
+  IfVacant (Occupied e) P = ⊤
+  IfVacant (Vacant e) P = P e
+
+  -- the member
+  abbrev pub member_of : OccupiedEntry A B L → Place
+  member_of e = e.place
+
+  -- it is of this hash table and this table of links, which are as they were
+  abbrev pub IsFoundIn : MutBor (HashTable A B) → MutBor L → OccupiedEntry A B L → Type 0
+  IsFoundIn hash links e =
+      (e.table.ghost_name ≡ hash.ghost_name) × (e.links.ghost_name ≡ links.ghost_name) × (e.table.now ≡ hash.now) × (e.links.now ≡ links.now)
+
+  abbrev pub IsVacantIn : MutBor (HashTable A B) → MutBor L → VacantEntry A B L → Type 0
+  IsVacantIn hash links e =
+      (e.table.ghost_name ≡ hash.ghost_name) × (e.links.ghost_name ≡ links.ghost_name) × (e.table.now ≡ hash.now) × (e.links.now ≡ links.now)
+
+  -- THE MEMBER CAN BE TAKEN OUT: it stands in that chain, behind the one that the entry names
+  abbrev pub CanRemove : {E : Type 0} → (E → Successor) → (L → Table E) → (B → List (Option Place)) → OccupiedEntry A B L → Type 0
+  CanRemove successor table fronts e =
+      (e.at < (slots_of e.table.now).used)
+      × ((ahead back : List Place) × ShowsFrom successor (table e.links.now) (front_at fronts e.table.now e.at) (ahead ++ e.place ∷ back) × (e.before ≡ last ahead))
+
+  -- it is the chain of this hash
+  abbrev pub IsChainFor : ℕ → VacantEntry A B L → Type 0
+  IsChainFor hash e = (e.at < (slots_of e.table.now).used) × (e.at ≡ slot_of (slots_of e.table.now) hash)
+
+  -- THE OBJECT CAN BE PUT IN: its chain is in use, and it belongs there
+  abbrev pub CanInsert : {V : Type 0} → (A → V → ℕ) → Objects V → VacantEntry A B L → Place → Type 0
+  CanInsert hash objects e p =
+      (e.at < (slots_of e.table.now).used) × BelongsIn (slots_of e.table.now) (hash (adapter_of e.table.now)) objects e.at p

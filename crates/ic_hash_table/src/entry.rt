@@ -1,0 +1,188 @@
+//! The first member with a key, or the chain where an object with that key belongs: one search for both.
+//!
+//! ```text
+//! match table.entry(&mut links, &objects, &7) {
+//!     Entry::Occupied(found) => tasks_done.push(found.remove(&objects))?,
+//!     Entry::Vacant(chain) => chain.insert(&objects, task)?, // no second search
+//! }
+//! ```
+
+ghost use Rattle.std.specs.Prelude.{◌≡◌, ◌∷◌, ◌++◌, [], List, Some, None, true, OnOk, OnErr, IfErr};
+ghost use Rattle.ic_unsafe_ref.specs.declared.place.Place.{Place};
+ghost use Rattle.ic_unsafe_ref.specs.Objects.{is_placed};
+ghost use Rattle.ic_link_ops.specs.LinkSteps.{acquires, releases};
+ghost use Rattle.ic_link_ops.specs.Tables.{IsCovered, KeepsBeside};
+ghost use Rattle.ic_hash_table.specs.Entry.{IfOccupied, IfVacant, member_of, CanRemove, CanInsert, IsChainFor, IsFoundIn, IsVacantIn};
+ghost use Rattle.ic_hash_table.specs.HashTable.{adapter_of, number, Holds, HoldsSome, HoldsWith};
+ghost use Rattle.ic_hash_table.specs.Searches.{has_key, Finds};
+
+use crate::chain_search::find_in_chain;
+use crate::{Buckets, HashAdapter, HashTable, KeyProbe};
+use ic_link_ops::singly_linked_list::SinglyLinkedListOps;
+use ic_link_ops::{AlreadyLinked, LinkOps};
+use ic_unsafe_ref::{Place, UnsafeRef, Values};
+
+/// The first member with a key, with its table and the table of its links.
+pub struct OccupiedEntry<'a, A, B, L> {
+    table: &'a mut HashTable<A, B>,
+    links: &'a mut L,
+    at: usize,
+    before: Option<Place>,
+    place: Place,
+}
+
+impl<A, B, L> Drop for OccupiedEntry<'_, A, B, L> {
+    fn drop(self)
+        ensures table { self.exit.0.now ≡ self.entry.table.now }
+        ensures links { self.exit.1.0.now ≡ self.entry.links.now }
+    {
+        let OccupiedEntry {
+            table: _,
+            links: _,
+            at: _,
+            before: _,
+            place: _,
+        } = self;
+    }
+}
+
+/// The chain where objects with a key belong that no member has, with its table and the table of its links.
+pub struct VacantEntry<'a, A, B, L> {
+    table: &'a mut HashTable<A, B>,
+    links: &'a mut L,
+    at: usize,
+}
+
+impl<A, B, L> Drop for VacantEntry<'_, A, B, L> {
+    fn drop(self)
+        ensures table { self.exit.0.now ≡ self.entry.table.now }
+        ensures links { self.exit.1.0.now ≡ self.entry.links.now }
+    {
+        let VacantEntry {
+            table: _,
+            links: _,
+            at: _,
+        } = self;
+    }
+}
+
+/// What [`entry`](HashTable::entry) finds.
+#[derive(Drop)]
+pub enum Entry<'a, A, B, L> {
+    /// A member has the key.
+    Occupied(OccupiedEntry<'a, A, B, L>),
+    /// No member has it.
+    Vacant(VacantEntry<'a, A, B, L>),
+}
+
+impl<A: HashAdapter, B: Buckets> HashTable<A, B> {
+    /// The first member with this key, or the chain where an object with it belongs.
+    ///
+    /// It requires that all members are placed, with the keys that they were put in by. It looks as [`find`](HashTable::find), and takes no
+    /// memory.
+    #[inline]
+    pub fn entry<'a, L: SinglyLinkedListOps, O: Values<A::Value>>(
+        &'a mut self,
+        links: &'a mut L,
+        objects: &O,
+        key: &A::Key,
+    ) -> Entry<'a, A, B, L>
+        requires held { HoldsSome L.successor (number A.key_of A.hash_of) B.fronts (L.table links.old) self.old (O.values objects.now) }
+        ensures occupied { (s : List Place) → Holds L.successor (number A.key_of A.hash_of) B.fronts (L.table links.old) self.old (O.values objects.now) s
+            → IfOccupied result (λ e. Finds (has_key A.Key.eq (A.key_of (adapter_of self.old)) key.now (O.values objects.now)) s (Some (member_of e))) }
+        ensures vacant { (s : List Place) → Holds L.successor (number A.key_of A.hash_of) B.fronts (L.table links.old) self.old (O.values objects.now) s
+            → IfVacant result (λ e. Finds (has_key A.Key.eq (A.key_of (adapter_of self.old)) key.now (O.values objects.now)) s None) }
+        ensures can_remove { IfOccupied result (CanRemove L.successor L.table B.fronts) }
+        ensures belongs { IfVacant result (IsChainFor (A.hash_of (adapter_of self.old) key.now)) }
+        ensures occupied_borrows { IfOccupied result (IsFoundIn self.entry links.entry) }
+        ensures vacant_borrows { IfVacant result (IsVacantIn self.entry links.entry) }
+    {
+        let at = self.slots.slot(self.adapter.hash(key));
+        let mut probe = KeyProbe::new(self.adapter, key);
+        let (before, found) = find_in_chain(&*links, objects, &mut probe, self.buckets.front(at));
+        match found {
+            Some(place) => Entry::Occupied(OccupiedEntry {
+                table: self,
+                links,
+                at,
+                before,
+                place,
+            }),
+            None => Entry::Vacant(VacantEntry {
+                table: self,
+                links,
+                at,
+            }),
+        }
+    }
+}
+
+impl<A: HashAdapter, B: Buckets, L: SinglyLinkedListOps> OccupiedEntry<'_, A, B, L> {
+    /// The member. O(1).
+    #[inline]
+    pub fn get(&self) -> UnsafeRef<A::Value>
+        ensures { result ≡ member_of self.now }
+    {
+        UnsafeRef::new(self.place)
+    }
+
+    /// Takes the member out and returns it. O(1): no hash, no look, and no memory.
+    ///
+    /// It requires that the table holds its members still, and that the entry is one that [`entry`](HashTable::entry) found in it.
+    #[inline]
+    pub fn remove<O: Values<A::Value>>(self, objects: &O) -> UnsafeRef<A::Value>
+        requires held { HoldsSome L.successor (number A.key_of A.hash_of) B.fronts (L.table self.links.now) self.table.now (O.values objects.now) }
+        requires found { CanRemove L.successor L.table B.fronts self }
+        ensures member { result ≡ member_of self.entry }
+        ensures removed { (front back : List Place)
+            → Holds L.successor (number A.key_of A.hash_of) B.fronts (L.table self.entry.links.now) self.entry.table.now (O.values objects.now) (front ++ result ∷ back)
+            → Holds L.successor (number A.key_of A.hash_of) B.fronts (L.table self.exit.1.0.now) self.exit.0.now (O.values objects.now) (front ++ back) }
+        ensures released { L.Does self.entry.links.now self.exit.1.0.now (releases result ∷ []) }
+        ensures adapter { adapter_of self.exit.0.now ≡ adapter_of self.entry.table.now }
+        ensures frame { (s : List Place)
+            → Holds L.successor (number A.key_of A.hash_of) B.fronts (L.table self.entry.links.now) self.entry.table.now (O.values objects.now) s
+            → KeepsBeside (L.table self.entry.links.now) (L.table self.exit.1.0.now) s }
+    {
+        let OccupiedEntry {
+            table,
+            links,
+            at,
+            before,
+            place,
+        } = self;
+        table.remove_at(links, objects, at, before, place);
+        UnsafeRef::new(place)
+    }
+}
+
+impl<A: HashAdapter, B: Buckets, L: SinglyLinkedListOps> VacantEntry<'_, A, B, L> {
+    /// Puts the object in, unless its link is refused. O(1): no hash, no look, and no memory.
+    ///
+    /// It requires that the object is placed, that its place is covered, and that the chain is the one of its key, as it is if its key
+    /// equals the one that was searched. A refused object comes back, and the table is as it was.
+    #[inline]
+    pub fn insert<O: Values<A::Value>>(
+        self,
+        objects: &O,
+        object: UnsafeRef<A::Value>,
+    ) -> Result<(), AlreadyLinked<A::Value>>
+        requires covered { IsCovered (L.table self.links.now) object }
+        requires placed { is_placed (O.values objects.now) object ≡ true }
+        requires held { HoldsSome L.successor (number A.key_of A.hash_of) B.fronts (L.table self.links.now) self.table.now (O.values objects.now) }
+        requires belongs { CanInsert (number A.key_of A.hash_of) (O.values objects.now) self object }
+        ensures inserted { (s : List Place)
+            → Holds L.successor (number A.key_of A.hash_of) B.fronts (L.table self.entry.links.now) self.entry.table.now (O.values objects.now) s
+            → OnOk result (HoldsWith L.successor (number A.key_of A.hash_of) B.fronts (L.table self.exit.1.0.now) self.exit.0.now (O.values objects.now) s object) }
+        ensures acquired { OnOk result (L.Does self.entry.links.now self.exit.1.0.now (acquires object ∷ [])) }
+        ensures adapter { adapter_of self.exit.0.now ≡ adapter_of self.entry.table.now }
+        ensures refused { OnErr result (L.Refused self.entry.links.now self.exit.1.0.now object) }
+        ensures unchanged { IfErr result (λ refused. (refused.0 ≡ object) × (self.exit.0.now ≡ self.entry.table.now)) }
+        ensures frame { (s : List Place)
+            → Holds L.successor (number A.key_of A.hash_of) B.fronts (L.table self.entry.links.now) self.entry.table.now (O.values objects.now) s
+            → KeepsBeside (L.table self.entry.links.now) (L.table self.exit.1.0.now) (object ∷ s) }
+    {
+        let VacantEntry { table, links, at } = self;
+        let front = table.buckets.front(at);
+        table.insert_at(links, objects, at, (None, front), object)
+    }
+}
