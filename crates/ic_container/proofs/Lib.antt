@@ -1,0 +1,6 @@
+pub mod EditLemmas
+pub mod RowLemmas
+pub mod HoldsLemmas
+pub mod ValueLemmas
+pub mod TreeLemmas
+pub mod ListedLemmas

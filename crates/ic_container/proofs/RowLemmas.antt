@@ -1,0 +1,165 @@
+-- Rows where each place is at home, after one place more or less.
+use Rattle.std.proofs.Common.{◌≡◌, ◌≢◌, ℕ, zero, suc, Option, Some, None, List, [], ◌∷◌, ◌++◌, inl, inr, refl, sym, ap, ◌∙◌, subst, append-nil, true, is_some, IsSome, true≢false}
+use Rattle.std.proofs.lemmas.Bool.Decides.{eqb_tells}
+use Rattle.std.specs.List.{AllByRecursion}
+use Rattle.ic_unsafe_ref.specs.declared.place.Place.{Place}
+use Rattle.ic_unsafe_ref.specs.Objects.{Objects, Places, Frees, object_at, is_placed}
+use Rattle.ic_unsafe_ref.proofs.Placing.{placed_there, others_placed, gone_there, others_left}
+use Rattle.ic_link_ops.specs.PlacedObjects.{ArePlaced}
+use Rattle.ic_link_ops.specs.Sequences.{first, last, IsAbsent, IsMember, IsDisjoint, IsDistinct}
+use Rattle.ic_link_ops.proofs.Each.{all_map, all_with, all_without}
+use Rattle.ic_link_ops.proofs.LinkedSets.{everywhere}
+use Rattle.ic_link_ops.proofs.SequenceLemmas.{absent_with, absent_without, distinct_middle, distinct_right, last_not, last_or-append, none_not, some_same, split_member}
+use Rattle.ic_container.specs.Rows.{Rows, Joins, Leaves, PutsFront, PutsBack, Moves, Stays, IsHoused, home_or, home_of, to_one, alone}
+
+-- what holds at k and at every other number holds at each
+pub at_row : (P : ℕ → Type 0) (k i : ℕ) → P k → (i ≢ k → P i) → P i
+at_row P k i here other = elim (eqb_tells k i) [ inl e ↦ subst P e.1 here | inr n ↦ other (λ e. n.1 (sym e)) ]
+
+-- one thing alone was changed
+pub alone_others : {X : Type 0} (none x y : X) (i : ℕ) → i ≢ 0 → alone none y i ≡ alone none x i
+alone_others none x y zero other = absurd (other refl)
+alone_others none x y (suc i) other = refl
+
+pub alone_none : {X : Type 0} (none x : X) → x ≡ none → (i : ℕ) → alone none x i ≡ none
+alone_none none x is zero = is
+alone_none none x is (suc i) = refl
+
+-- an object is at home in the only row
+pub home_one : {T : Type 0} (objects : Objects T) (p : Place) → is_placed objects p ≡ true → home_of to_one objects p ≡ Some 0
+home_one {T} objects p is = by (object_at objects p) is where
+  by : (o : Option T) → is_some o ≡ true → home_or to_one o ≡ Some 0
+  by None h = absurd (true≢false (sym h))
+  by (Some v) h = refl
+
+-- what is at home somewhere is placed
+pub rows_placed : {T : Type 0} (objects : Objects T) (k : ℕ) (s : List Place) → AllByRecursion (λ p. home_of to_one objects p ≡ Some k) s → ArePlaced objects s
+rows_placed objects k [] own = tt
+rows_placed {T} objects k (x ∷ s) own = (by (object_at objects x) own.0, rows_placed objects k s own.1) where
+  by : (o : Option T) → home_or to_one o ≡ Some k → IsSome o
+  by None h = absurd (none_not k h)
+  by (Some v) h = refl
+
+-- WHERE PLACES ARE AT HOME after an object was placed, freed or changed: those beside it stay
+module _ {T : Type 0} (belongs : T → Option ℕ) {old new : Objects T} {p : Place} where
+  pub home_placed : {v : T} → Places old new p v → home_of belongs new p ≡ belongs v
+  home_placed places = ap (home_or belongs) (placed_there places)
+
+  pub homes_placed : {v : T} → Places old new p v → (q : Place) → q ≢ p → home_of belongs new q ≡ home_of belongs old q
+  homes_placed places q n = ap (home_or belongs) (others_placed places q n)
+
+  pub home_freed : Frees old new p → home_of belongs new p ≡ None
+  home_freed frees = ap (home_or belongs) (gone_there frees)
+
+  pub homes_freed : Frees old new p → (q : Place) → q ≢ p → home_of belongs new q ≡ home_of belongs old q
+  homes_freed frees q n = ap (home_or belongs) (others_left frees q n)
+
+module _ {home : Place → Option ℕ} {rows : Rows} (h : IsHoused home rows) where
+  absent_from : {i j : ℕ} → i ≢ j → (p : Place) → home p ≡ Some i → (s : List Place) → AllByRecursion (λ q. home q ≡ Some j) s → IsAbsent p s
+  absent_from apart p at [] own = tt
+  absent_from {i} apart p at (x ∷ s) own = (λ e. apart (some_same (sym at ∙ ap home e ∙ own.0)), absent_from apart p at s own.1)
+
+  all_apart : {i j : ℕ} → i ≢ j → (s t : List Place) → AllByRecursion (λ q. home q ≡ Some i) s → AllByRecursion (λ q. home q ≡ Some j) t → IsDisjoint s t
+  all_apart apart [] t own other = tt
+  all_apart apart (x ∷ s) t own other = (absent_from apart x own.0 t other, all_apart apart s t own.1 other)
+
+  -- two rows share no member
+  pub rows_apart : (i j : ℕ) → i ≢ j → IsDisjoint (rows i) (rows j)
+  rows_apart i j n = all_apart n (rows i) (rows j) (h.own i) (h.own j)
+
+  all_at : {i : ℕ} (front : List Place) (p : Place) (back : List Place) → AllByRecursion (λ q. home q ≡ Some i) (front ++ p ∷ back) → home p ≡ Some i
+  all_at [] p back own = own.0
+  all_at (x ∷ front) p back own = all_at front p back own.1
+
+  -- a member is at home
+  pub member_home : (k : ℕ) (front : List Place) (p : Place) (back : List Place) → rows k ≡ front ++ p ∷ back → home p ≡ Some k
+  member_home k front p back was = all_at front p back (subst (AllByRecursion (λ q. home q ≡ Some k)) was (h.own k))
+
+  pub housed_same : {other : Place → Option ℕ} → ((p : Place) → other p ≡ home p) → IsHoused other rows
+  housed_same same = record { own = λ i. all_map (λ q at. same q ∙ at) (rows i) (h.own i); all = λ p i at. h.all p i (sym (same p) ∙ at) }
+
+  module _ {p : Place} {other : Place → Option ℕ} (beside : (q : Place) → q ≢ p → other q ≡ home q) where
+    still : (i : ℕ) (s : List Place) → IsAbsent p s → AllByRecursion (λ q. home q ≡ Some i) s → AllByRecursion (λ q. other q ≡ Some i) s
+    still i [] out own = tt
+    still i (x ∷ s) out own = (beside x (λ e. out.0 (sym e)) ∙ own.0, still i s out.1 own.1)
+
+  module _ {k : ℕ} {front : List Place} {p : Place} {back : List Place} {new : Rows} {other : Place → Option ℕ} (beside : (q : Place) → q ≢ p → other q ≡ home q) where
+    -- ONE PLACE MORE, that was no member
+    pub housed_joined : Joins k front p back rows new → other p ≡ Some k → ((i : ℕ) → IsAbsent p (rows i)) → IsHoused other new
+    housed_joined joins here out = record {
+      own = λ i. at_row (λ i. AllByRecursion (λ q. other q ≡ Some i) (new i)) k i
+          (subst (AllByRecursion (λ q. other q ≡ Some k)) (sym joins.is) (all_with (λ q. other q ≡ Some k) front p back here (subst (AllByRecursion (λ q. other q ≡ Some k)) joins.was (still beside k (rows k) (out k) (h.own k)))))
+          (λ n. subst (AllByRecursion (λ q. other q ≡ Some i)) (sym (joins.others i n)) (still beside i (rows i) (out i) (h.own i)));
+      all = λ q i. everywhere (λ q. other q ≡ Some i → IsMember q (new i)) p q
+          (λ at. subst (λ (j : ℕ). IsMember p (new j)) (some_same (sym here ∙ at)) (subst (IsMember p) (sym joins.is) (split_member front p back)))
+          (λ n at. at_row (λ i. IsMember q (rows i) → IsMember q (new i)) k i
+          (λ was absent. was (subst (IsAbsent q) (sym joins.was) (absent_without front back p q (subst (IsAbsent q) joins.is absent))))
+          (λ m was. subst (IsMember q) (sym (joins.others i m)) was) (h.all q i (sym (beside q n) ∙ at)));
+    }
+
+    -- ONE PLACE LESS
+    pub housed_left : Leaves k front p back rows new → other p ≡ None → IsDistinct (rows k) → IsHoused other new
+    housed_left leaves gone distinct = record {
+      own = λ i. at_row (λ i. AllByRecursion (λ q. other q ≡ Some i) (new i)) k i
+          (subst (AllByRecursion (λ q. other q ≡ Some k)) (sym leaves.is) (still beside k (front ++ back) (distinct_middle front back p (subst IsDistinct leaves.was distinct))
+          (all_without (λ q. home q ≡ Some k) front p back (subst (AllByRecursion (λ q. home q ≡ Some k)) leaves.was (h.own k)))))
+          (λ n. subst (AllByRecursion (λ q. other q ≡ Some i)) (sym (leaves.others i n)) (still beside i (rows i) (absent_from (λ e. n (sym e)) p (member_home k front p back leaves.was) (rows i) (h.own i)) (h.own i)));
+      all = λ q i. everywhere (λ q. other q ≡ Some i → IsMember q (new i)) p q
+          (λ at. absurd (none_not i (sym gone ∙ at)))
+          (λ n at. at_row (λ i. IsMember q (rows i) → IsMember q (new i)) k i
+          (λ was absent. was (subst (IsAbsent q) (sym leaves.was) (absent_with front back p q n (subst (IsAbsent q) leaves.is absent))))
+          (λ m was. subst (IsMember q) (sym (leaves.others i m)) was) (h.all q i (sym (beside q n) ∙ at)));
+    }
+
+  -- ONE PLACE ELSEWHERE in its row
+  pub housed_moved : {k : ℕ} {front : List Place} {p : Place} {back before behind : List Place} {new : Rows} → Moves k front p back before behind rows new → IsHoused home new
+  housed_moved {k} {front} {p} {back} {before} {behind} {new} moves =
+      let at = member_home k front p back moves.was in
+      record {
+        own = λ i. at_row (λ i. AllByRecursion (λ q. home q ≡ Some i) (new i)) k i
+            (subst (AllByRecursion (λ q. home q ≡ Some k)) (sym moves.is) (all_with (λ q. home q ≡ Some k) before p behind at
+            (subst (AllByRecursion (λ q. home q ≡ Some k)) moves.rest (all_without (λ q. home q ≡ Some k) front p back (subst (AllByRecursion (λ q. home q ≡ Some k)) moves.was (h.own k))))))
+            (λ n. subst (AllByRecursion (λ q. home q ≡ Some i)) (sym (moves.others i n)) (h.own i));
+        all = λ q i. everywhere (λ q. home q ≡ Some i → IsMember q (new i)) p q
+            (λ is. subst (λ (j : ℕ). IsMember p (new j)) (some_same (sym at ∙ is)) (subst (IsMember p) (sym moves.is) (split_member before p behind)))
+            (λ n is. at_row (λ i. IsMember q (rows i) → IsMember q (new i)) k i
+            (λ was absent. was (subst (IsAbsent q) (sym moves.was) (absent_with front back p q n (subst (IsAbsent q) (sym moves.rest) (absent_without before behind p q (subst (IsAbsent q) moves.is absent))))))
+            (λ m was. subst (IsMember q) (sym (moves.others i m)) was) (h.all q i is));
+      }
+
+-- FROM ROWS THAT STAYED
+pub joins_from : {k : ℕ} {front : List Place} {p : Place} {back : List Place} {a b c : Rows} → Stays a b → Joins k front p back b c → Joins k front p back a c
+joins_from {k} same j = record { was = sym (same k) ∙ j.was; is = j.is; others = λ i n. j.others i n ∙ same i }
+
+-- AT AN END of its row
+pub puts_front : {k : ℕ} {p : Place} {s : List Place} {a b : Rows} → Joins k [] p s a b → PutsFront k p a b
+puts_front {p = p} j = record { is = j.is ∙ ap (λ (l : List Place). p ∷ l) (sym j.was); others = j.others }
+
+pub puts_back : {k : ℕ} {p : Place} {s : List Place} {a b : Rows} → Joins k s p [] a b → PutsBack k p a b
+puts_back {p = p} {s} j = record { is = j.is ∙ ap (λ (l : List Place). l ++ p ∷ []) (sym (append-nil s) ∙ sym j.was); others = j.others }
+
+-- ROWS THAT ARE THE SAME, seen as others
+module _ {k : ℕ} {p : Place} {a b : Rows} (x y : Rows) (same : Stays a x) (alike : Stays b y) where
+  pub back_seen : PutsBack k p a b → PutsBack k p x y
+  back_seen j = record { is = alike k ∙ j.is ∙ ap (λ (l : List Place). l ++ p ∷ []) (sym (same k)); others = λ i n. alike i ∙ j.others i n ∙ sym (same i) }
+
+  pub front_seen : PutsFront k p a b → PutsFront k p x y
+  front_seen j = record { is = alike k ∙ j.is ∙ ap (λ (l : List Place). p ∷ l) (sym (same k)); others = λ i n. alike i ∙ j.others i n ∙ sym (same i) }
+
+  pub leaves_seen : {front back : List Place} → Leaves k front p back a b → Leaves k front p back x y
+  leaves_seen j = record { was = same k ∙ j.was; is = alike k ∙ j.is; others = λ i n. alike i ∙ j.others i n ∙ sym (same i) }
+
+-- what stands first has nothing in front
+pub no_front : (p : Place) (s : List Place) → IsDistinct s → Some p ≡ first s → (front back : List Place) → s ≡ front ++ p ∷ back → front ≡ []
+no_front p s distinct is [] back same = refl
+no_front p s distinct is (x ∷ front) back same =
+    let d = subst IsDistinct same distinct in
+    let one : p ≡ x = some_same (is ∙ ap first same) in
+    absurd (split_member front p back (subst (λ (z : Place). IsAbsent z (front ++ p ∷ back)) (sym one) d.0))
+
+-- and what stands last nothing behind
+pub without_last : {p : Place} (s : List Place) → IsDistinct s → last s ≡ Some p → (front back : List Place) → s ≡ front ++ p ∷ back → back ≡ []
+without_last s distinct is front [] same = refl
+without_last {p} s distinct is front (y ∷ back) same =
+    let d = distinct_right front (p ∷ y ∷ back) (subst IsDistinct same distinct) in
+    absurd (last_not (Some y) back p (λ e. d.0.0 (sym (some_same e))) d.0.1 (sym (last_or-append None front (p ∷ y ∷ back)) ∙ ap last (sym same) ∙ is))

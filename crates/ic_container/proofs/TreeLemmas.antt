@@ -1,0 +1,156 @@
+-- For callers: a tree that has each object of a container, after each kind of step, and what a search of it finds.
+use Rattle.std.proofs.Common.{◌≡◌, ℕ, Bool, true, false, cond, Option, None, Some, is_some, List, [], ◌∷◌, ◌++◌, map, filter, length, ◌≤◌, refl, sym, ap, ◌∙◌, subst, arith, true≢false}
+use Rattle.std.proofs.lemmas.Bool.{false_from_ne_true}
+use Rattle.std.proofs.lemmas.Cmp.{nat_cmp_total, ranked, tied_itself}
+use Rattle.std.specs.Ordering.{nat_cmp, is_eq}
+use Rattle.std.specs.declared.cmp.Ordering.{Ordering}
+use Rattle.std.specs.declared.cmp.Ordering.TheVariants.{Less, Equal, Greater}
+use Rattle.ic_unsafe_ref.specs.declared.place.Place.{Place}
+use Rattle.ic_unsafe_ref.specs.Objects.{Objects, Places, Frees, object_at, is_placed}
+use Rattle.ic_unsafe_ref.proofs.Placing.{Puts, put_there, put_others, leaves, without}
+use Rattle.ic_link_ops.specs.PlacedObjects.{ShowsPlaced}
+use Rattle.ic_link_ops.specs.Positions.{HasMember}
+use Rattle.ic_link_ops.specs.Sequences.{IsMember, first}
+use Rattle.ic_link_ops.specs.Tables.{IsCovered, IsUnlinked, KeepsBeside, LinksAlso, Unlinks}
+use Rattle.ic_link_ops.proofs.Calling.{has_member}
+use Rattle.ic_link_ops.proofs.Covering.{still_covered}
+use Rattle.ic_link_ops.proofs.SequenceLemmas.{none_not}
+use Rattle.ic_pool.specs.Pooled.{Grows}
+use Rattle.ic_rbtree.specs.Borders.{Finds, IsSorted, equal_at}
+use Rattle.ic_rbtree.specs.Comparing.{answer_at, compared, order_of, own_order}
+use Rattle.ic_rbtree.specs.Ordered.{InsertsInOrder}
+use Rattle.ic_rbtree.specs.PlainTrees.{TreeLinkOps, ShowsTree, PlainShows, is_linked, plain_table, members_of}
+use Rattle.ic_rbtree.proofs.EachObject.{each_none, each_covered, each_linked, each_ready, each_new, each_taken, each_changed, vacant_free}
+use Rattle.ic_rbtree.proofs.Passing.{passed}
+use Rattle.ic_rbtree.proofs.PlainTrees.{plain_covered, plain_members, plain_trees}
+use Rattle.ic_rbtree.proofs.SortedAnswers.{found_first}
+use Rattle.ic_container.specs.Orders.{IsWhole}
+use Rattle.ic_container.specs.Trees.{HasAll, IsFound}
+use Rattle.ic_container.proofs.ValueLemmas.{member_placed, no_more}
+
+-- A TABLE WITH NO PLACE links nothing
+pub tree_off : {A : Type 0} (links : TreeLinkOps A) → (plain_table links).extent.places ≡ 0 → (p : Place) → IsUnlinked is_linked (plain_table links) p
+tree_off links none p = false_from_ne_true _ (λ linked. let within = plain_covered links p linked in absurd (omega (arith, within, none)))
+
+-- none of what a filter leaves out is its first
+none_pass : (test : Place → Bool) (s : List Place) → None ≡ first (filter test s) → (q : Place) → IsMember q s → test q ≡ false
+none_pass test [] none q member = absurd (member tt)
+none_pass test (x ∷ s) none q member = by (test x) refl none (λ none. none_pass test s none q) where
+  other : (b : Bool) → test q ≡ b → test x ≡ false → (IsMember q s → test q ≡ false) → test q ≡ false
+  other false f e rest = f
+  other true f e rest = rest (λ out. member ((λ same. true≢false (sym f ∙ ap test same ∙ e)), out))
+
+  by : (b : Bool) → test x ≡ b → None ≡ first (cond b (x ∷ filter test s) (filter test s)) → (None ≡ first (filter test s) → IsMember q s → test q ≡ false) → test q ≡ false
+  by true e none rest = absurd (none_not x none)
+  by false e none rest = other (test q) refl e (rest none)
+
+module _ {T : Type 0} (key : T → ℕ) (objects : Objects T) (k : ℕ) where
+  -- whether an object of the key stands at a place, as a search compares it
+  abbrev has_it : Place → Bool
+  has_it p = equal_at (compared (order_of nat_cmp key k) objects) p
+
+  same_key : (l : ℕ) (r : Ordering) → r ≡ nat_cmp k l → is_eq r ≡ true → l ≡ k
+  same_key l Less e h = absurd (true≢false (sym h))
+  same_key l Equal e h = sym (ranked k l Equal e)
+  same_key l Greater e h = absurd (true≢false (sym h))
+
+  there_by : (p : Place) → has_it p ≡ true → (v : T) × (object_at objects p ≡ Some v) × (key v ≡ k)
+  there_by p h = by (object_at objects p) refl h where
+    by : (o : Option T) → object_at objects p ≡ o → is_eq (answer_at (order_of nat_cmp key k) o) ≡ true → (v : T) × (object_at objects p ≡ Some v) × (key v ≡ k)
+    by None e h = absurd (true≢false (sym h))
+    by (Some v) e h = (v, e, same_key (key v) (nat_cmp k (key v)) refl h)
+
+  by_there : (p : Place) (v : T) → object_at objects p ≡ Some v → key v ≡ k → has_it p ≡ true
+  by_there p v there same =
+      ap (λ (o : Option T). is_eq (answer_at (order_of nat_cmp key k) o)) there ∙ ap (λ (l : ℕ). is_eq (nat_cmp k l)) same ∙ ap is_eq (tied_itself nat_cmp_total k)
+
+keys_same : {T : Type 0} (key : T → ℕ) {r out : T} → key r ≡ key out → (front back : List T) → map key (front ++ r ∷ back) ≡ map key (front ++ out ∷ back)
+keys_same key same [] back = ap (λ (k : ℕ). k ∷ map key back) same
+keys_same key same (x ∷ front) back = ap (λ (l : List ℕ). key x ∷ l) (keys_same key same front back)
+
+module _ {T A : Type 0} (key : T → ℕ) (objects : Objects T) where
+  -- AT FIRST
+  pub all_first : (links : TreeLinkOps A) (root : Option Place) → (plain_table links).extent.places ≡ 0 → root ≡ None → ((p : Place) → object_at objects p ≡ None) → HasAll key links root objects
+  all_first links root none empty vacant = record { values = []; each = each_none (tree_off links none) empty vacant }
+
+  module _ {links : TreeLinkOps A} {root : Option Place} (a : HasAll key links root objects) where
+    -- an object is a member, and members are placed
+    pub all_stands : (p : Place) {v : T} → object_at objects p ≡ Some v → HasMember (PlainShows links root) p
+    all_stands p there = has_member (PlainShows links root) a.each.sorted.members a.each.sorted.shown (λ absent. true≢false (sym (each_linked a.each p there) ∙ a.each.sorted.only p absent))
+
+    pub all_member : {p : Place} → is_placed objects p ≡ true → HasMember (PlainShows links root) p
+    all_member {p} is = by (object_at objects p) refl is where
+      by : (o : Option T) → object_at objects p ≡ o → is_some o ≡ true → HasMember (PlainShows links root) p
+      by None e h = absurd (true≢false (sym h))
+      by (Some v) e h = all_stands p e
+
+    -- what was taken off is covered still: `frame` is the call's clause
+    pub all_covered : (p : Place) {v : T} (new : TreeLinkOps A) → object_at objects p ≡ Some v → ((s : List Place) → PlainShows links root s → KeepsBeside (plain_table links) (plain_table new) s) → IsCovered (plain_table new) p
+    all_covered p new there frame = still_covered p (frame a.each.sorted.members a.each.sorted.shown) (plain_covered links p (each_linked a.each p there))
+
+    pub all_shown : PlainShows links root (members_of links root)
+    all_shown = subst (PlainShows links root) (sym (plain_members links a.each.sorted.shown)) a.each.sorted.shown
+
+    pub all_placed : ShowsPlaced (PlainShows links root) objects
+    all_placed = record { members = a.each.sorted.members; shown = a.each.sorted.shown; placed = a.each.sorted.stand.placed }
+
+    -- WHAT A SEARCH FINDS: `found` is its clause
+    pub all_found : (k : ℕ) (position : Option Place) → ((s : List Place) → PlainShows links root s → Finds (compared (order_of nat_cmp key k) objects) s position) → IsFound key objects k position
+    all_found k position found = by position refl where
+      f : Finds (compared (order_of nat_cmp key k) objects) a.each.sorted.members position
+      f = found a.each.sorted.members a.each.sorted.shown
+
+      by : (o : Option Place) → position ≡ o → IsFound key objects k o
+      by (Some p) e = there_by key objects k p (passed (has_it key objects k) (first f.gap.back) p (sym e ∙ f.answer)).1
+      by None e = λ p v there same.
+          let rises = subst (λ (l : List T). IsSorted nat_cmp (map key l)) (sym a.each.sorted.stand.are) a.each.sorted.sorted in
+          let is = found_first nat_cmp_total (λ (adapter : ℕ). key) 0 objects a.each.sorted.stand.placed rises k f in
+          true≢false (sym (by_there key objects k p v there same) ∙ none_pass (has_it key objects k) a.each.sorted.members (sym e ∙ is) p
+          (λ absent. true≢false (sym (each_linked a.each p there) ∙ a.each.sorted.only p absent)))
+
+    -- THE TREE HAS AS MANY MEMBERS as an order has places
+    pub as_many_keys : (s : List Place) → IsWhole (record { order = s; values = objects }) → length (members_of links root) ≡ length s
+    as_many_keys s w = omega (arith, ap length (plain_members links a.each.sorted.shown), up, down) where
+      up : length a.each.sorted.members ≤ length s
+      up = no_more a.each.sorted.members s (plain_trees.distinct (plain_table links) root a.each.sorted.members a.each.sorted.shown)
+          (λ q member. w.all q (member_placed objects a.each.sorted.members a.each.sorted.stand.placed q member))
+
+      down : length s ≤ length a.each.sorted.members
+      down = no_more s a.each.sorted.members w.once (λ q member absent. true≢false (sym (member_placed objects s w.placed q member) ∙ sym (a.each.exact q) ∙ a.each.sorted.only q absent))
+
+    -- AFTER `place`, whatever it answered
+    pub all_grown : (grown : TreeLinkOps A) → Grows (plain_table links) (plain_table grown) → HasAll key grown root objects
+    all_grown grown grows = record { values = a.values; each = each_covered a.each grown grows.entries }
+
+    -- A NEW OBJECT: members are placed still, it is not linked,
+    module _ {more : Objects T} {p : Place} {v : T} (places : Places objects more p v) where
+      pub all_ready : ShowsPlaced (PlainShows links root) more
+      all_ready = each_ready a.each places
+
+      pub all_off : IsUnlinked is_linked (plain_table links) p
+      all_off = vacant_free a.each p places.vacant
+
+      -- and is inserted: `inserted` and `acquired` are the clauses of its call
+      pub all_new : (new : TreeLinkOps A) (top : Option Place) → ((s : List Place) → PlainShows links root s → InsertsInOrder ShowsTree (compared (own_order nat_cmp key more p) more) (plain_table links) (plain_table new) top s p)
+          → LinksAlso is_linked (plain_table links) (plain_table new) p → HasAll key new top more
+      all_new new top inserted acquired = let n = each_new a.each places inserted acquired in record { values = n.0; each = n.2 }
+
+    -- AN OBJECT taken off, and out
+    module _ {p : Place} {out : T} (there : object_at objects p ≡ Some out) where
+      pub all_freed : (new : TreeLinkOps A) (top : Option Place) {less : Objects T} → ((front back : List Place) → PlainShows links root (front ++ p ∷ back) → PlainShows new top (front ++ back))
+          → Unlinks is_linked (plain_table links) (plain_table new) p → Frees objects less p → HasAll key new top less
+      all_freed new top removed off frees = let t = each_taken a.each p there removed off frees in record { values = t.0 ++ t.1; each = t.3 }
+
+      -- ANOTHER VALUE with the same key in its place
+      pub all_alike : {new : Objects T} {value : T} → Puts objects new p value → key value ≡ key out → HasAll key links root new
+      all_alike {new} {value} puts same =
+          let c = each_changed a.each p there (put_there puts) (put_others puts) in
+          record {
+            values = c.0 ++ value ∷ c.1;
+            each = c.3 (subst (IsSorted nat_cmp) (sym (keys_same key same c.0 c.1)) (subst (λ (l : List T). IsSorted nat_cmp (map key l)) c.2 a.each.sorted.sorted));
+          }
+
+      -- and with any key: taken off, changed, and inserted where it belongs
+      pub all_less : (new : TreeLinkOps A) (top : Option Place) (value : T) → ((front back : List Place) → PlainShows links root (front ++ p ∷ back) → PlainShows new top (front ++ back))
+          → Unlinks is_linked (plain_table links) (plain_table new) p → HasAll key new top (without objects p value)
+      all_less new top value removed off = all_freed new top removed off (leaves objects p value)

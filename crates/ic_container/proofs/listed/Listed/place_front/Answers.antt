@@ -1,0 +1,24 @@
+use Rattle.ic_container.proofs.ListedLemmas.{listed_grown, listed_new, listed_off, order_grown, order_new}
+use Rattle.ic_container.proofs.listed.Listed.place_front.Goals as goal
+
+pub invariant_of-self : goal.invariant_of-self
+invariant_of-self g c = let e = c.in-Err.ensures in rw e.refused.1 (listed_grown c.self.invariant c.place.new.self.links e.keeps)
+
+pub returns-in-Err-clause-refused : goal.returns-in-Err-clause-refused
+returns-in-Err-clause-refused g c = let e = c.in-Err.ensures in rw (← c.self.view_is, e.refused.1) (e.refused.0, order_grown c.self.invariant c.place.new.self.links e.keeps)
+
+pub push_front-requires-clause-unlinked : goal.push_front-requires-clause-unlinked
+push_front-requires-clause-unlinked g c = let e = c.in-Ok.ensures in rw c.place-2.ensures (listed_off c.self.invariant c.place.new.self.links e.keeps e.placed)
+
+pub push_front-requires-clause-shown : goal.push_front-requires-clause-shown
+push_front-requires-clause-shown g c = (_, (listed_grown c.self.invariant c.place.new.self.links c.in-Ok.ensures.keeps).holds.shown 0)
+
+pub invariant_of-self-2 : goal.invariant_of-self-2
+invariant_of-self-2 g c =
+    let e = c.in-Ok.ensures in
+    listed_new c.self.invariant c.place.new.self.links e.keeps e.placed c.push_front.new.links c.push_front.new.list (rw c.place-2.ensures at c.push_front.ensures)
+
+pub returns-clause-front : goal.returns-clause-front
+returns-clause-front g c =
+    let e = c.in-Ok.ensures in
+    rw (← c.self.view_is) (order_new c.self.invariant c.place.new.self.links e.keeps e.placed c.push_front.new.links c.push_front.new.list (rw c.place-2.ensures at c.push_front.ensures))

@@ -1,0 +1,69 @@
+-- Rows: sequences of places by number, and where each place is at home.
+use Rattle.std.specs.Prelude.{◌≡◌, ◌≢◌, ℕ, zero, suc, Option, Some, None, List, [], ◌∷◌, ◌++◌, slice_index_or}
+use Rattle.std.specs.List.{AllByRecursion}
+use Rattle.ic_unsafe_ref.specs.declared.place.Place.{Place}
+use Rattle.ic_unsafe_ref.specs.Objects.{Objects, object_at}
+use Rattle.ic_link_ops.specs.Sequences.{IsMember}
+
+-- a sequence of places for each number
+abbrev pub Rows : Type 0
+Rows = ℕ → List Place
+
+-- ONE PLACE MORE in row k, between these. The other rows stay
+pub record Joins (k : ℕ) (front : List Place) (p : Place) (back : List Place) (old new : Rows) : Type 0 where
+  pub was : old k ≡ front ++ back
+  pub is : new k ≡ front ++ p ∷ back
+  pub others : (i : ℕ) → i ≢ k → new i ≡ old i
+
+-- ONE PLACE LESS
+pub record Leaves (k : ℕ) (front : List Place) (p : Place) (back : List Place) (old new : Rows) : Type 0 where
+  pub was : old k ≡ front ++ p ∷ back
+  pub is : new k ≡ front ++ back
+  pub others : (i : ℕ) → i ≢ k → new i ≡ old i
+
+-- THE SAME PLACES, of which this one stands elsewhere in row k now
+pub record Moves (k : ℕ) (front : List Place) (p : Place) (back : List Place) (before behind : List Place) (old new : Rows) : Type 0 where
+  pub was : old k ≡ front ++ p ∷ back
+  pub rest : front ++ back ≡ before ++ behind
+  pub is : new k ≡ before ++ p ∷ behind
+  pub others : (i : ℕ) → i ≢ k → new i ≡ old i
+
+-- one place more at an end of row k
+pub record PutsFront (k : ℕ) (p : Place) (old new : Rows) : Type 0 where
+  pub is : new k ≡ p ∷ old k
+  pub others : (i : ℕ) → i ≢ k → new i ≡ old i
+
+pub record PutsBack (k : ℕ) (p : Place) (old new : Rows) : Type 0 where
+  pub is : new k ≡ old k ++ p ∷ []
+  pub others : (i : ℕ) → i ≢ k → new i ≡ old i
+
+-- THE ROWS STAY
+abbrev pub Stays : Rows → Rows → Type 0
+Stays old new = (i : ℕ) → new i ≡ old i
+
+-- EACH PLACE IS AT HOME: what has a home is a member of its row, and nothing else is a member
+pub record IsHoused (home : Place → Option ℕ) (rows : Rows) : Type 0 where
+  pub own : (i : ℕ) → AllByRecursion (λ p. home p ≡ Some i) (rows i)
+  pub all : (p : Place) (i : ℕ) → home p ≡ Some i → IsMember p (rows i)
+
+module _ {T : Type 0} (belongs : T → Option ℕ) where
+  -- where an object belongs, at a vacant place nowhere
+  abbrev pub home_or : Option T → Option ℕ
+  home_or None = None
+  home_or (Some value) = belongs value
+
+  abbrev pub home_of : Objects T → Place → Option ℕ
+  home_of objects p = home_or (object_at objects p)
+
+-- every object belongs to row 0
+abbrev pub to_one : {T : Type 0} → T → Option ℕ
+to_one value = Some 0
+
+-- one thing under the number 0, and no other
+abbrev pub alone : {X : Type 0} → X → X → ℕ → X
+alone none x zero = x
+alone none x (suc i) = none
+
+-- the things of a list by their numbers, and beyond it none
+abbrev pub listed : {X : Type 0} → X → List X → ℕ → X
+listed none list i = slice_index_or list i none

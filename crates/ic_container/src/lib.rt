@@ -1,0 +1,16 @@
+//! What a container keeps: objects, and the collections of a table that they are in.
+//!
+//! ```text
+//! let mut listed = Listed::new(rt.alloc());
+//! let job = listed.place_front(10)?;
+//! listed.move_to_front(job.place());
+//! ```
+//!
+//! For containers of your own there is a record for the invariant, `Holds` (specs/Holds.antt), with lemmas that give it back after each
+//! edit (proofs/HoldsLemmas.antt), and `lists`, whose calls return an edit as one value and are never refused.
+#![tactic(auto)]
+
+mod listed;
+pub mod lists;
+
+pub use listed::Listed;

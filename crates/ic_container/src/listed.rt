@@ -1,0 +1,138 @@
+//! Objects that are all in one list: a pool, its table and the list, as one value.
+//!
+//! ```text
+//! let object = listed.place_front(10)?;
+//! listed.move_to_front(object.place());
+//! listed.remove(object.place()) // 10
+//! ```
+
+ghost use Rattle.std.specs.Prelude.{◌≡◌, ◌++◌, ◌∷◌, [], true, None, Some, List, IfOk, IfErr, IfSome};
+ghost use Rattle.std.specs.Option.{option_copied};
+ghost use Rattle.ic_unsafe_ref.specs.declared.place.Place.{Place};
+ghost use Rattle.ic_unsafe_ref.specs.Objects.{Frees, Places, is_placed, object_at, with_object};
+ghost use Rattle.ic_link_ops.specs.Sequences.{first, last};
+ghost use Rattle.ic_pool.specs.Refusals.{value_of};
+ghost use Rattle.ic_container.specs.Values.{Without};
+
+use crate::lists;
+use ic_link_ops::linked_list::LinkOps;
+use ic_linked_list::LinkedList;
+use ic_pool::{PlaceError, Pool};
+use ic_unsafe_ref::{Place, UnsafeRef};
+use std::alloc::{Allocator, Global};
+use std::marker::Model;
+use std::mem;
+
+/// Objects that are all in one list.
+///
+/// A clause sees their places from the front, and the object at each (`Order`).
+#[derive(Drop)]
+pub struct Listed<T, A: Allocator = Global> {
+    pool: Pool<T, LinkOps<A>, A>,
+    list: LinkedList<T>,
+}
+
+impl<T, A: Allocator> Model for Listed<T, A> {
+    ghost use Rattle.ic_container.specs.Orders.{Order, order_code, order_of, IsListed};
+
+    ghost Value = { Order T };
+
+    ghost coded = { order_code T.code };
+
+    ghost view = { λ l. order_of l.pool.objects l.pool.links l.list };
+
+    ghost invariant = { λ l. IsListed l.pool.objects l.pool.links l.list };
+}
+
+impl<T, A: Allocator> Listed<T, A> {
+    /// No objects. It takes no memory.
+    pub fn new(alloc: A) -> Listed<T, A>
+    where
+        A: Copy,
+        ensures order { result.order ≡ [] }
+        ensures vacant { (place : Place) → object_at result.values place ≡ None }
+    {
+        Listed {
+            pool: Pool::new(alloc, LinkOps::new(alloc)),
+            list: LinkedList::new(),
+        }
+    }
+
+    /// Adds an object in front of all others. Where there is no room for it, the value comes back, and nothing has changed. O(1), and at
+    /// most two requests for memory.
+    pub fn place_front(&mut self, value: T) -> Result<UnsafeRef<T>, PlaceError<T>>
+        ensures placed { IfOk result (λ object. Places self.old.values self.new.values object value) }
+        ensures front { IfOk result (λ object. self.new.order ≡ object ∷ self.old.order) }
+        ensures refused { IfErr result (λ refused. (value_of refused ≡ value) × (self.new ≡ self.old)) }
+    {
+        let object = match self.pool.place(value) {
+            Ok(object) => object,
+            Err(refused) => return Err(refused),
+        };
+        lists::push_front(&mut self.list, &mut self.pool.links, object.place());
+        Ok(object)
+    }
+
+    /// Puts the object in front of all others, which keep their order. It requires that an object stands at the place. O(1), and it takes
+    /// no memory.
+    pub fn move_to_front(&mut self, place: Place)
+        requires placed { is_placed self.old.values place ≡ true }
+        ensures moved { (others : List Place) × Without place self.old.order others × (self.new.order ≡ place ∷ others) }
+        ensures values { self.new.values ≡ self.old.values }
+    {
+        lists::move_to_front(&mut self.list, &mut self.pool.links, place);
+    }
+
+    /// Puts another value in the place of the object, which comes back. It requires that an object stands there. The order stays. O(1),
+    /// and it takes no memory.
+    pub fn replace(&mut self, place: Place, value: T) -> T
+        requires placed { is_placed self.old.values place ≡ true }
+        ensures value { object_at self.old.values place ≡ Some result }
+        ensures values { self.new.values ≡ with_object self.old.values place value }
+        ensures order { self.new.order ≡ self.old.order }
+    {
+        mem::replace(self.pool.objects.get_mut(place).unwrap(), value) // proved: one stands there
+    }
+
+    /// Takes the object out. It requires that an object stands at the place. The others keep their order. O(1), and it takes no memory.
+    pub fn remove(&mut self, place: Place) -> T
+        requires placed { is_placed self.old.values place ≡ true }
+        ensures value { object_at self.old.values place ≡ Some result }
+        ensures freed { Frees self.old.values self.new.values place }
+        ensures removed { Without place self.old.order self.new.order }
+    {
+        lists::remove(&mut self.list, &mut self.pool.links, place);
+        self.pool.remove(UnsafeRef::new(place))
+    }
+
+    /// The object of a reference, `None` if none stands at its place. O(1).
+    pub fn get(&self, object: &UnsafeRef<T>) -> Option<&T>
+        ensures { option_copied result ≡ object_at self.now.values object.now }
+    {
+        self.pool.get(object)
+    }
+
+    /// Whether an object stands at the place of a reference. O(1).
+    pub fn is_placed(&self, object: &UnsafeRef<T>) -> bool
+        ensures { result ≡ is_placed self.now.values object.now }
+    {
+        self.pool.is_placed(object)
+    }
+
+    /// The place of the first object, `None` if there is no object. O(1).
+    pub fn first(&self) -> Option<Place>
+        ensures first { result ≡ first self.now.order }
+        ensures placed { IfSome result (λ place. is_placed self.now.values place ≡ true) }
+    {
+        self.list.first()
+    }
+
+    /// The place of the last object, `None` if there is no object. O(1).
+    pub fn last(&self) -> Option<Place>
+        ensures last { result ≡ last self.now.order }
+        ensures placed { IfSome result (λ place. is_placed self.now.values place ≡ true) }
+        ensures behind { (front back : List Place) (place : Place) → result ≡ Some place → self.now.order ≡ front ++ place ∷ back → back ≡ [] }
+    {
+        self.list.last()
+    }
+}

@@ -1,0 +1,2 @@
+pub mod JobBoard
+pub mod JobLanes
