@@ -8,8 +8,9 @@ use Rattle.std.proofs.lemmas.List.Folds.{find-append}
 use Rattle.std.specs.List.{AllByRecursion, slice_get}
 use Rattle.std.specs.Option.{option_or}
 use Rattle.ic_link_ops.proofs.SequenceLemmas.{none_not}
-use Rattle.ic_link_ops.proofs.Each.{all_map}
+use Rattle.ic_link_ops.proofs.Each.{all_both, all_map, all_without}
 use Rattle.ic_rbtree.proofs.KeyLaws.{filter_front, filter_pass}
+use Rattle.ic_container.specs.Values.{Without}
 use Rattle.lru_cache.specs.declared.entry.Entry.{Entry}
 use Rattle.lru_cache.specs.Kept.{oldest}
 use Rattle.lru_cache.specs.Cache.{Cache, key_of, has_key, entry_with, without, touched, inserted, leaves, HaveOwnKeys}
@@ -36,39 +37,6 @@ module _ {V : Type 0} where
   found_none key [] lack = refl
   found_none key (x ∷ entries) lack = rw lack.0 (found_none key entries lack.1)
 
-  -- THE ENTRY OF A KEY, between others that have other ones
-  pub record Parts (key : ℕ) (entries : List (Entry V)) (entry : Entry V) : Type 0 where
-    pub front : List (Entry V)
-    pub back : List (Entry V)
-    pub was : entries ≡ front ++ entry ∷ back
-    pub has : has_key key entry ≡ true
-    pub lack_front : Lack key front
-    pub lack_back : Lack key back
-
-  module _ {key : ℕ} {entries : List (Entry V)} {entry : Entry V} (k : Parts key entries entry) where
-    -- it is found,
-    pub found_part : entry_with key entries ≡ Some entry
-    found_part =
-        ap (entry_with key) k.was ∙ find-append (has_key key) k.front (entry ∷ k.back)
-        ∙ ap (λ (o : Option (Entry V)). option_or o (entry_with key (entry ∷ k.back))) (found_none key k.front k.lack_front) ∙ rw k.has refl
-
-    -- the others are left without it,
-    pub without_part : without key entries ≡ k.front ++ k.back
-    without_part =
-        let test : Entry V → Bool = λ entry. not (has_key key entry) in
-        ap (without key) k.was ∙ filter-append test k.front (entry ∷ k.back) ∙ rw (without_none key k.front k.lack_front, k.has, without_none key k.back k.lack_back) refl
-
-    -- it goes in front of them,
-    pub touched_part : touched key entries ≡ entry ∷ k.front ++ k.back
-    touched_part =
-        let first : filter (has_key key) entries ≡ entry ∷ [] =
-        ap (filter (has_key key)) k.was ∙ filter-append (has_key key) k.front (entry ∷ k.back) ∙ rw (with_none key k.front k.lack_front, k.has, with_none key k.back k.lack_back) refl in
-        ap (λ (l : List (Entry V)). l ++ without key entries) first ∙ ap (λ (l : List (Entry V)). entry ∷ l) without_part
-
-    -- and there is one less of them
-    pub length_part : length (without key entries) + 1 ≡ length entries
-    length_part = omega (arith, ap length without_part, ap length k.was, length-append k.front k.back, length-append k.front (entry ∷ k.back))
-
   -- one key is another, either way round
   other_way : (a b : Entry V) → has_key (key_of a) b ≡ false → has_key (key_of b) a ≡ false
   other_way a b h = ne_eqb (key_of a) (key_of b) (λ same. eqb-false (key_of b) (key_of a) h (sym same))
@@ -85,31 +53,64 @@ module _ {V : Type 0} where
   own_back [] entry back own = own.0
   own_back (x ∷ front) entry back own = own_back front entry back own.1
 
-  -- AN ENTRY ANYWHERE among entries with their own keys
-  pub part_at : (front : List (Entry V)) (entry : Entry V) (back : List (Entry V)) {entries : List (Entry V)} → entries ≡ front ++ entry ∷ back → HaveOwnKeys entries → Parts (key_of entry) entries entry
-  part_at front entry back is own =
-      let all = subst HaveOwnKeys is own in
-      record { front = front; back = back; was = is; has = itself (key_of entry); lack_front = own_front front entry back all; lack_back = own_back front entry back all }
+  own_rest : (front : List (Entry V)) (entry : Entry V) (back : List (Entry V)) → HaveOwnKeys (front ++ entry ∷ back) → HaveOwnKeys (front ++ back)
+  own_rest [] entry back own = own.1
+  own_rest (x ∷ front) entry back own = (all_without (λ other. has_key (key_of x) other ≡ false) front entry back own.0, own_rest front entry back own.1)
 
-  without_at : (front : List (Entry V)) (entry : Entry V) (back : List (Entry V)) {entries : List (Entry V)} → entries ≡ front ++ entry ∷ back → HaveOwnKeys entries → without (key_of entry) entries ≡ front ++ back
-  unfolding part_at
-  without_at front entry back is own = without_part (part_at front entry back is own)
+  -- ONE ENTRY OF THOSE, which have their own keys
+  module _ {entry : Entry V} {entries rest : List (Entry V)} (w : Without entry entries rest) where
+    pub length_rest : length rest + 1 ≡ length entries
+    length_rest = omega (arith, ap length w.is, ap length w.was, length-append w.front w.back, length-append w.front (entry ∷ w.back))
 
-  find_split : (key : ℕ) (entries : List (Entry V)) {entry : Entry V} → entry_with key entries ≡ Some entry → (front : List (Entry V)) × (back : List (Entry V)) × (entries ≡ front ++ entry ∷ back) × (has_key key entry ≡ true)
-  find_split key [] {entry} e = absurd (none_not entry e)
-  find_split key (x ∷ entries) {entry} e = by (has_key key x) refl e (find_split key entries) where
-    by : (b : Bool) → has_key key x ≡ b → cond b (Some x) (entry_with key entries) ≡ Some entry
-        → (entry_with key entries ≡ Some entry → (front : List (Entry V)) × (back : List (Entry V)) × (entries ≡ front ++ entry ∷ back) × (has_key key entry ≡ true))
-        → (front : List (Entry V)) × (back : List (Entry V)) × (x ∷ entries ≡ front ++ entry ∷ back) × (has_key key entry ≡ true)
-    by true h e rest = let same = same_Some _ _ e in ([], entries, ap (λ (z : Entry V). z ∷ entries) same, ap (has_key key) (sym same) ∙ h)
-    by false h e rest = let r = rest e in (x ∷ r.0, r.1, ap (λ (l : List (Entry V)). x ∷ l) r.2, r.3)
+    -- none of the others has a key that none has
+    pub still_lack : (key : ℕ) → Lack key entries → Lack key rest
+    still_lack key lack =
+        subst (Lack key) (sym w.is) (all_without (λ other. has_key key other ≡ false) w.front entry w.back (subst (Lack key) w.was lack))
 
-  -- WHAT IS FOUND has the key, and is one of them
+    module _ (own : HaveOwnKeys entries) where
+      lack_front : Lack (key_of entry) w.front
+      lack_front = own_front w.front entry w.back (subst HaveOwnKeys w.was own)
+
+      lack_back : Lack (key_of entry) w.back
+      lack_back = own_back w.front entry w.back (subst HaveOwnKeys w.was own)
+
+      pub rest_own : HaveOwnKeys rest
+      rest_own = subst HaveOwnKeys (sym w.is) (own_rest w.front entry w.back (subst HaveOwnKeys w.was own))
+
+      pub rest_lack : Lack (key_of entry) rest
+      rest_lack = subst (Lack (key_of entry)) (sym w.is) (all_both (λ other. has_key (key_of entry) other ≡ false) w.front w.back lack_front lack_back)
+
+      -- it is found,
+      pub found_it : entry_with (key_of entry) entries ≡ Some entry
+      found_it =
+          ap (entry_with (key_of entry)) w.was ∙ find-append (has_key (key_of entry)) w.front (entry ∷ w.back)
+          ∙ ap (λ (o : Option (Entry V)). option_or o (entry_with (key_of entry) (entry ∷ w.back))) (found_none (key_of entry) w.front lack_front) ∙ rw (itself (key_of entry)) refl
+
+      -- the others are left without it,
+      pub without_it : without (key_of entry) entries ≡ rest
+      without_it =
+          let test : Entry V → Bool = λ other. not (has_key (key_of entry) other) in
+          ap (without (key_of entry)) w.was ∙ filter-append test w.front (entry ∷ w.back)
+          ∙ rw (without_none (key_of entry) w.front lack_front, itself (key_of entry), without_none (key_of entry) w.back lack_back) (sym w.is)
+
+      -- and it goes in front of them
+      pub touched_it : touched (key_of entry) entries ≡ entry ∷ rest
+      touched_it =
+          let first : filter (has_key (key_of entry)) entries ≡ entry ∷ [] =
+          ap (filter (has_key (key_of entry))) w.was ∙ filter-append (has_key (key_of entry)) w.front (entry ∷ w.back)
+          ∙ rw (with_none (key_of entry) w.front lack_front, itself (key_of entry), with_none (key_of entry) w.back lack_back) refl in
+          ap (λ (l : List (Entry V)). l ++ without (key_of entry) entries) first ∙ ap (λ (l : List (Entry V)). entry ∷ l) without_it
+
+  found_has : (key : ℕ) (entries : List (Entry V)) {entry : Entry V} → entry_with key entries ≡ Some entry → has_key key entry ≡ true
+  found_has key [] {entry} e = absurd (none_not entry e)
+  found_has key (x ∷ entries) {entry} e = by (has_key key x) refl e (found_has key entries) where
+    by : (b : Bool) → has_key key x ≡ b → cond b (Some x) (entry_with key entries) ≡ Some entry → (entry_with key entries ≡ Some entry → has_key key entry ≡ true) → has_key key entry ≡ true
+    by true h e rest = ap (has_key key) (sym (same_Some _ _ e)) ∙ h
+    by false h e rest = rest e
+
+  -- WHAT IS FOUND has the key
   pub found_key : (key : ℕ) (entries : List (Entry V)) {entry : Entry V} → entry_with key entries ≡ Some entry → key_of entry ≡ key
-  found_key key entries {entry} e = eqb-true (key_of entry) key (find_split key entries e).3
-
-  pub part_found : (key : ℕ) (entries : List (Entry V)) {entry : Entry V} → HaveOwnKeys entries → entry_with key entries ≡ Some entry → Parts (key_of entry) entries entry
-  part_found key entries {entry} own e = let s = find_split key entries e in part_at s.0 entry s.1 s.2 own
+  found_key key entries {entry} e = eqb-true (key_of entry) key (found_has key entries e)
 
   -- none is found where none has the key
   pub lack_found : (key : ℕ) (entries : List (Entry V)) → entry_with key entries ≡ None → Lack key entries
@@ -130,10 +131,12 @@ module _ {V : Type 0} where
   oldest_none (x ∷ []) e = absurd (none_not x (sym e))
   oldest_none (x ∷ y ∷ entries) e = let r = ap length (oldest_none (y ∷ entries) e) in absurd (omega (arith, r))
 
-  pub without_oldest : (entries : List (Entry V)) {entry : Entry V} → HaveOwnKeys entries → oldest entries ≡ Some entry → entries ≡ without (key_of entry) entries ++ entry ∷ []
-  without_oldest entries {entry} own e =
+  -- the others stand in front of it
+  pub without_oldest : {entries rest : List (Entry V)} {entry : Entry V} → HaveOwnKeys entries → Without entry entries rest → oldest entries ≡ Some entry → entries ≡ rest ++ entry ∷ []
+  without_oldest {entries} {rest} {entry} own w e =
       let s = oldest_last entries e in
-      s.1 ∙ ap (λ (l : List (Entry V)). l ++ entry ∷ []) (sym (append-nil s.0) ∙ sym (without_at s.0 entry [] s.1 own))
+      let r : Without entry entries s.0 = record { front = s.0; back = []; was = s.1; is = sym (append-nil s.0) } in
+      s.1 ∙ ap (λ (l : List (Entry V)). l ++ entry ∷ []) (sym (without_it r own) ∙ without_it w own)
 
   -- WHICH ONE LEAVES: the one at the end of a full cache
   slice_last : (entries : List (Entry V)) (n : ℕ) → length entries ≡ suc n → slice_get entries n ≡ oldest entries
@@ -161,51 +164,42 @@ module _ {V : Type 0} where
     pub leaves_is : leaves entry cache ≡ option_or (entry_with (key_of entry) cache.entries) (oldest_of_full cache)
     leaves_is = ap (option_or (entry_with (key_of entry) cache.entries)) (slice_is entry cache.entries cache.capacity (eqb (length cache.entries) cache.capacity) refl few some)
 
-    -- it leaves, and the others have room with the new one
-    pub inserted_for : {gone : Entry V} → Some gone ≡ option_or (entry_with (key_of entry) cache.entries) (oldest_of_full cache)
-        → (entry ∷ without (key_of gone) cache.entries ≡ inserted entry cache) × (length (without (key_of gone) cache.entries) + 1 ≡ length cache.entries)
-    inserted_for {gone} leaving = by (entry_with (key_of entry) cache.entries) refl leaving where
-      one_less : Parts (key_of gone) cache.entries gone → length (without (key_of gone) cache.entries) + 1 ≡ length cache.entries
-      one_less part = length_part part
+    -- ONE LEAVES for it: the others have room with the new one, and none of them has its key
+    module _ {gone : Entry V} {rest : List (Entry V)} (w : Without gone cache.entries rest) where
+      pub inserted_for : Some gone ≡ option_or (entry_with (key_of entry) cache.entries) (oldest_of_full cache) → (entry ∷ rest ≡ inserted entry cache) × Lack (key_of entry) rest
+      inserted_for leaving = by (entry_with (key_of entry) cache.entries) refl leaving where
+        full : (b : Bool) → eqb (length cache.entries) cache.capacity ≡ b → entry_with (key_of entry) cache.entries ≡ None → Some gone ≡ cond b (oldest cache.entries) None → (entry ∷ rest ≡ inserted entry cache) × Lack (key_of entry) rest
+        full false e none leaving = absurd (none_not gone (sym leaving))
+        full true e none leaving =
+            let lack = lack_found (key_of entry) cache.entries none in
+            let all = without_none (key_of entry) cache.entries lack ∙ without_oldest own w (sym leaving) in
+            let room : length (entry ∷ rest) ≡ cache.capacity = omega (arith, eqb-true _ _ e, length_rest w) in (
+              sym (take_all cache.capacity (entry ∷ rest) (omega (arith, room))) ∙ sym (take-append-le cache.capacity (entry ∷ rest) (gone ∷ []) (omega (arith, room)))
+                  ∙ ap (λ (l : List (Entry V)). take cache.capacity (entry ∷ l)) (sym all),
+              still_lack w (key_of entry) lack,
+            )
 
-      full : (b : Bool) → eqb (length cache.entries) cache.capacity ≡ b → entry_with (key_of entry) cache.entries ≡ None → Some gone ≡ cond b (oldest cache.entries) None
-          → (entry ∷ without (key_of gone) cache.entries ≡ inserted entry cache) × (length (without (key_of gone) cache.entries) + 1 ≡ length cache.entries)
-      full false e none leaving = absurd (none_not gone (sym leaving))
-      full true e none leaving =
-          let s = oldest_last cache.entries (sym leaving) in
-          let part = part_at s.0 gone [] s.1 own in
-          let rest : without (key_of gone) cache.entries ≡ s.0 = without_at s.0 gone [] s.1 own ∙ append-nil s.0 in
-          let same = without_none (key_of entry) cache.entries (lack_found (key_of entry) cache.entries none) in
-          let room : length (entry ∷ s.0) ≡ cache.capacity = omega (arith, eqb-true _ _ e, ap length s.1, length-append s.0 (gone ∷ [])) in (
-            ap (λ (l : List (Entry V)). entry ∷ l) rest ∙ sym (take_all cache.capacity (entry ∷ s.0) (omega (arith, room))) ∙ sym (take-append-le cache.capacity (entry ∷ s.0) (gone ∷ []) (omega (arith, room)))
-                ∙ ap (λ (l : List (Entry V)). take cache.capacity (entry ∷ l)) (sym s.1 ∙ sym same),
-            one_less part,
-          )
-
-      by : (o : Option (Entry V)) → entry_with (key_of entry) cache.entries ≡ o → Some gone ≡ option_or o (oldest_of_full cache)
-          → (entry ∷ without (key_of gone) cache.entries ≡ inserted entry cache) × (length (without (key_of gone) cache.entries) + 1 ≡ length cache.entries)
-      by None e leaving = full (eqb (length cache.entries) cache.capacity) refl e leaving
-      by (Some old) e leaving =
-          let same = same_Some _ _ leaving in
-          let found : entry_with (key_of entry) cache.entries ≡ Some gone = e ∙ ap Some (sym same) in
-          let less = length_part (part_found (key_of entry) cache.entries own found) in (
-            sym (take_all cache.capacity (entry ∷ without (key_of gone) cache.entries) (omega (arith, less, few)))
-                ∙ ap (λ (k : ℕ). take cache.capacity (entry ∷ without k cache.entries)) (found_key (key_of entry) cache.entries found),
-            less,
-          )
+        by : (o : Option (Entry V)) → entry_with (key_of entry) cache.entries ≡ o → Some gone ≡ option_or o (oldest_of_full cache) → (entry ∷ rest ≡ inserted entry cache) × Lack (key_of entry) rest
+        by None e leaving = full (eqb (length cache.entries) cache.capacity) refl e leaving
+        by (Some old) e leaving =
+            let same = found_key (key_of entry) cache.entries (e ∙ sym leaving) in (
+              sym (take_all cache.capacity (entry ∷ rest) (omega (arith, length_rest w, few))) ∙ ap (λ (l : List (Entry V)). take cache.capacity (entry ∷ l)) (sym (without_it w own) ∙ ap (λ (k : ℕ). without k cache.entries) same),
+              subst (λ (k : ℕ). Lack k rest) same (rest_lack w own),
+            )
 
     -- none leaves, and there is room for one more
-    pub inserted_more : None ≡ option_or (entry_with (key_of entry) cache.entries) (oldest_of_full cache) → (entry ∷ cache.entries ≡ inserted entry cache) × (length cache.entries + 1 ≤ cache.capacity)
+    pub inserted_more : None ≡ option_or (entry_with (key_of entry) cache.entries) (oldest_of_full cache) → (entry ∷ cache.entries ≡ inserted entry cache) × (length cache.entries + 1 ≤ cache.capacity) × Lack (key_of entry) cache.entries
     inserted_more leaving = by (entry_with (key_of entry) cache.entries) refl leaving where
       full : (b : Bool) → eqb (length cache.entries) cache.capacity ≡ b → entry_with (key_of entry) cache.entries ≡ None → None ≡ cond b (oldest cache.entries) None
-          → (entry ∷ cache.entries ≡ inserted entry cache) × (length cache.entries + 1 ≤ cache.capacity)
+          → (entry ∷ cache.entries ≡ inserted entry cache) × (length cache.entries + 1 ≤ cache.capacity) × Lack (key_of entry) cache.entries
       full true e none leaving = absurd (some (sym (eqb-true _ _ e) ∙ ap length (oldest_none cache.entries (sym leaving))))
       full false e none leaving =
           let apart = eqb-false _ _ e in
           let room : length cache.entries + 1 ≤ cache.capacity = omega (arith, few, apart) in
-          let same = without_none (key_of entry) cache.entries (lack_found (key_of entry) cache.entries none) in
-          (sym (take_all cache.capacity (entry ∷ cache.entries) (omega (arith, room))) ∙ ap (λ (l : List (Entry V)). take cache.capacity (entry ∷ l)) (sym same), room)
+          let lack = lack_found (key_of entry) cache.entries none in
+          let same = without_none (key_of entry) cache.entries lack in
+          (sym (take_all cache.capacity (entry ∷ cache.entries) (omega (arith, room))) ∙ ap (λ (l : List (Entry V)). take cache.capacity (entry ∷ l)) (sym same), room, lack)
 
-      by : (o : Option (Entry V)) → entry_with (key_of entry) cache.entries ≡ o → None ≡ option_or o (oldest_of_full cache) → (entry ∷ cache.entries ≡ inserted entry cache) × (length cache.entries + 1 ≤ cache.capacity)
+      by : (o : Option (Entry V)) → entry_with (key_of entry) cache.entries ≡ o → None ≡ option_or o (oldest_of_full cache) → (entry ∷ cache.entries ≡ inserted entry cache) × (length cache.entries + 1 ≤ cache.capacity) × Lack (key_of entry) cache.entries
       by None e leaving = full (eqb (length cache.entries) cache.capacity) refl e leaving
       by (Some old) e leaving = absurd (none_not old leaving)

@@ -13,7 +13,8 @@ ghost use Rattle.std.specs.Option.{option_copied, option_map};
 
 use crate::InsertError;
 use crate::entry::Entry;
-use crate::store::Store;
+use crate::store::{Store, find, leaving};
+use ic_indexed::Indexed;
 use std::alloc::{Allocator, Global};
 use std::marker::Model;
 
@@ -54,7 +55,7 @@ impl<V, A: Allocator> LruCache<V, A> {
         ensures capacity { result.capacity ≡ capacity }
     {
         LruCache {
-            store: Store::new(alloc),
+            store: Indexed::new(alloc),
             len: 0,
             capacity,
         }
@@ -91,9 +92,9 @@ impl<V, A: Allocator> LruCache<V, A> {
         ensures looks { IsFewLooks result.1 self.now.entries }
         ensures sound { IsSound self.now }
     {
-        let (place, looks) = self.store.find(key);
+        let (place, looks) = find(&self.store, key);
         match place {
-            Some(place) => (Some(&self.store.entry(place).value), looks),
+            Some(place) => (Some(&self.store.at(place).value), looks),
             None => (None, looks),
         }
     }
@@ -111,9 +112,9 @@ impl<V, A: Allocator> LruCache<V, A> {
         ensures* touches { sem 𝓛 (EndsAs V.row A.row A.Allocator self.entry (touched key self.old.entries)) }
         ensures value { option_copied result ≡ value_with key self.old.entries }
     {
-        let place = self.store.find(key).0?;
-        self.store.touch(place);
-        Some(&self.store.entry(place).value)
+        let place = find(&self.store, key).0?;
+        self.store.move_to_front(place);
+        Some(&self.store.at(place).value)
     }
 
     /// Takes the entry of the key out, if there is one. O(log n), and it takes no memory.
@@ -121,7 +122,7 @@ impl<V, A: Allocator> LruCache<V, A> {
         ensures value { result ≡ value_with key self.old.entries }
         ensures removed { self.new ≡ with_entries self.old (without key self.old.entries) }
     {
-        let place = self.store.find(key).0?;
+        let place = find(&self.store, key).0?;
         let entry = self.store.remove(place);
         self.len -= 1;
         Some(entry.value)
@@ -134,7 +135,7 @@ impl<V, A: Allocator> LruCache<V, A> {
         ensures none { IfNone result (self.new ≡ self.old) }
         ensures capacity { self.new.capacity ≡ self.old.capacity }
     {
-        let place = self.store.oldest()?;
+        let place = self.store.last()?;
         let entry = self.store.remove(place);
         self.len -= 1;
         Some((entry.key, entry.value))
@@ -158,17 +159,17 @@ impl<V, A: Allocator> LruCache<V, A> {
         }
         let entry = Entry { key, value };
         let is_full = self.len == self.capacity;
-        match self.store.leaving(key, is_full) {
+        match leaving(&self.store, key, is_full) {
             Some(place) => {
                 let left = self.store.renew(place, entry);
                 Ok(Some((left.key, left.value)))
             }
-            None => match self.store.add(entry) {
-                Ok(()) => {
+            None => match self.store.place_front(entry) {
+                Ok(_) => {
                     self.len += 1;
                     Ok(None)
                 }
-                Err(refused) => Err(InsertError(refused.value)),
+                Err(refused) => Err(InsertError(refused.into_value().value)),
             },
         }
     }

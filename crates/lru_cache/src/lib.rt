@@ -10,11 +10,9 @@
 //! found, and in the list of ages, whose last one leaves first.
 #![tactic(auto)]
 
-mod ages;
 mod cache;
 mod entry;
 mod insert_error;
-mod keys;
 mod store;
 
 pub use cache::LruCache;

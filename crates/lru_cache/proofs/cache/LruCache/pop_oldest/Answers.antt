@@ -1,20 +1,15 @@
-use Rattle.std.proofs.Common.{[], ◌∷◌, ◌++◌, sym, ap, ◌∙◌}
+use Rattle.std.proofs.Common.{sym, ◌∙◌}
 use Rattle.lru_cache.specs.Kept.{entries_of}
 use Rattle.lru_cache.proofs.Entries.{oldest_none, without_oldest}
-use Rattle.lru_cache.proofs.Counting.{sound, part_last, counted_removed}
+use Rattle.lru_cache.proofs.Counting.{counted_removed}
 use Rattle.lru_cache.proofs.cache.LruCache.pop_oldest.Goals as goal
 
 pub returns-in_err-place-clause-oldest : goal.returns-in_err-place-clause-oldest
-returns-in_err-place-clause-oldest g c = rw (c.from_residual.ensures, ← c.self.view_is) (oldest_none (entries_of c.self.inside.store) (sym c.in_err-place.ensures.oldest))
+returns-in_err-place-clause-oldest g c = rw (c.from_residual.ensures, ← c.self.view_is) (oldest_none (entries_of c.self.inside.store) (sym c.in_err-place.ensures.last))
 
 pub invariant_of-self : goal.invariant_of-self
-invariant_of-self g c =
-    let e = c.remove-entry.ensures in
-    counted_removed c.self.invariant (part_last c.self.invariant (sym c.in_ok-place.ensures.oldest ∙ e.value)) e.kept e.removed
+invariant_of-self g c = let e = c.remove-entry.ensures in counted_removed c.self.invariant e.removed
 
 pub returns-clause-oldest : goal.returns-clause-oldest
 returns-clause-oldest g c =
-    let e = c.remove-entry.ensures in
-    let own = (sound c.self.invariant).own in
-    rw (← c.self.view_is)
-    (without_oldest (entries_of c.self.inside.store) own (sym c.in_ok-place.ensures.oldest ∙ e.value) ∙ ap (λ l. l ++ c.remove-entry.result ∷ []) (sym e.removed))
+    let e = c.remove-entry.ensures in rw (← c.self.view_is) (without_oldest c.self.invariant.own e.removed (sym c.in_ok-place.ensures.last ∙ e.value))

@@ -1,0 +1,155 @@
+//! Objects that are found by their keys and stand in an order: a pool, its two tables, the tree and the list, as one value.
+//!
+//! ```text
+//! indexed.place_front(job)?;
+//! let (place, looks) = indexed.find(7);
+//! indexed.move_to_front(place?); // in front of all others
+//! ```
+
+ghost use Rattle.std.specs.Prelude.{◌≡◌, ◌∷◌, [], true, None, Some, List, length, OnOk, IfOk, IfErr, IfSome};
+ghost use Rattle.ic_unsafe_ref.specs.declared.place.Place.{Place};
+ghost use Rattle.ic_unsafe_ref.specs.Objects.{Frees, Places, is_placed, object_at, with_object};
+ghost use Rattle.ic_link_ops.specs.Positions.{object_there};
+ghost use Rattle.ic_pool.specs.Refusals.{value_of};
+ghost use Rattle.ic_container.specs.Orders.{values_of, IsWhole};
+ghost use Rattle.ic_container.specs.Trees.{IsFound};
+ghost use Rattle.ic_container.specs.Values.{last_value, Without};
+ghost use Rattle.ic_indexed.specs.Indexed.{IsFewLooks};
+
+use crate::{ByKey, HasKey, keys};
+use ic_container::lists;
+use ic_link_ops::{linked_list, rbtree};
+use ic_linked_list::LinkedList;
+use ic_pool::{PlaceError, Pool};
+use ic_rbtree::RBTree;
+use ic_unsafe_ref::{Place, UnsafeRef};
+use std::alloc::{Allocator, Global};
+use std::marker::Model;
+
+/// Objects, each in a tree by its key and in a list. Several can have one key.
+///
+/// A clause sees the objects by their places, and the places along the list (`Order`). `values_of` are the objects themselves
+/// along the list.
+#[derive(Drop)]
+pub struct Indexed<T: HasKey, A: Allocator = Global> {
+    pool: Pool<T, (rbtree::LinkOps<A>, linked_list::LinkOps<A>), A>,
+    by_key: RBTree<ByKey<T>>,
+    in_order: LinkedList<T>,
+}
+
+impl<T: HasKey, A: Allocator> Model for Indexed<T, A> {
+    ghost use Rattle.ic_rbtree.specs.Tree.{root_of};
+    ghost use Rattle.ic_container.specs.Orders.{Order, order_code, order_of};
+    ghost use Rattle.ic_indexed.specs.Indexed.{IsIndexed};
+
+    ghost Value = { Order T };
+
+    ghost coded = { order_code T.code };
+
+    ghost view = { λ i. order_of i.pool.objects i.pool.links.1 i.in_order };
+
+    ghost invariant = { λ i. IsIndexed T.key_of i.pool.objects i.pool.links.0 (root_of i.by_key) i.pool.links.1 i.in_order };
+}
+
+impl<T: HasKey, A: Allocator> Indexed<T, A> {
+    /// No objects. It takes no memory.
+    pub fn new(alloc: A) -> Indexed<T, A>
+    where
+        A: Copy,
+        ensures empty { values_of result ≡ [] }
+        ensures vacant { (place : Place) → object_at result.values place ≡ None }
+    {
+        let links = (
+            rbtree::LinkOps::new(alloc),
+            linked_list::LinkOps::new(alloc),
+        );
+        Indexed {
+            pool: Pool::new(alloc, links),
+            by_key: RBTree::new(ByKey::new()),
+            in_order: LinkedList::new(),
+        }
+    }
+
+    /// Where an object of the key stands, if there is one, and how many objects the search looked at. O(log n): v looks among n
+    /// objects, where `2^v <= (n + 1)^2`.
+    pub fn find(&self, key: u64) -> (Option<Place>, u64)
+        ensures found { IsFound T.key_of self.now.values key result.0 }
+        ensures looks { IsFewLooks result.1 (length (values_of self.now)) }
+        ensures whole { IsWhole self.now }
+    {
+        keys::locate(&self.by_key, &self.pool.links.0, &self.pool.objects, key)
+    }
+
+    /// The object at a place. It requires that one stands there. O(1).
+    #[inline]
+    pub fn at(&self, place: Place) -> &T
+        requires placed { is_placed self.now.values place ≡ true }
+        ensures { Some result.now ≡ object_at self.now.values place }
+    {
+        self.pool.objects.get(place).unwrap() // proved: one stands there
+    }
+
+    /// The place of the last object, `None` if there is no object. O(1).
+    pub fn last(&self) -> Option<Place>
+        ensures last { object_there self.now.values result ≡ last_value (values_of self.now) }
+        ensures placed { IfSome result (λ place. is_placed self.now.values place ≡ true) }
+    {
+        self.in_order.last()
+    }
+
+    /// Moves the object at a place in front of all others, which keep their order. It requires that one stands there. O(1), and it
+    /// takes no memory.
+    pub fn move_to_front(&mut self, place: Place)
+        requires placed { is_placed self.old.values place ≡ true }
+        ensures values { self.new.values ≡ self.old.values }
+        ensures moved { (value : T) → object_at self.old.values place ≡ Some value
+            → (rest : List T) × Without value (values_of self.old) rest × (values_of self.new ≡ value ∷ rest) }
+    {
+        lists::move_to_front(&mut self.in_order, &mut self.pool.links.1, place);
+    }
+
+    /// Takes the object at a place out. It requires that one stands there. The others keep their order. O(log n), and it takes no
+    /// memory.
+    pub fn remove(&mut self, place: Place) -> T
+        requires placed { is_placed self.old.values place ≡ true }
+        ensures value { object_at self.old.values place ≡ Some result }
+        ensures freed { Frees self.old.values self.new.values place }
+        ensures removed { Without result (values_of self.old) (values_of self.new) }
+    {
+        let object = UnsafeRef::new(place);
+        self.by_key.remove(&mut self.pool.links.0, &object);
+        lists::remove(&mut self.in_order, &mut self.pool.links.1, place);
+        self.pool.remove(object)
+    }
+
+    /// Puts a value in the place of the object there, which comes back, and in front of all others. It requires that one stands
+    /// there. O(log n), and it takes no memory.
+    pub fn renew(&mut self, place: Place, value: T) -> T
+        requires placed { is_placed self.old.values place ≡ true }
+        ensures value { object_at self.old.values place ≡ Some result }
+        ensures values { self.new.values ≡ with_object self.old.values place value }
+        ensures renewed { (rest : List T) × Without result (values_of self.old) rest × (values_of self.new ≡ value ∷ rest) }
+    {
+        let (objects, links) = (&mut self.pool.objects, &mut self.pool.links.0);
+        let gone = keys::renew(&mut self.by_key, links, objects, place, value);
+        lists::move_to_front(&mut self.in_order, &mut self.pool.links.1, place);
+        gone
+    }
+
+    /// Adds an object in front of all others. Where there is no room for it, the value comes back, and nothing has changed. O(log n),
+    /// and at most three requests for memory.
+    pub fn place_front(&mut self, value: T) -> Result<UnsafeRef<T>, PlaceError<T>>
+        ensures placed { IfOk result (λ object. Places self.old.values self.new.values object value) }
+        ensures added { OnOk result (values_of self.new ≡ value ∷ values_of self.old) }
+        ensures refused { IfErr result (λ refused. (value_of refused ≡ value) × (self.new ≡ self.old)) }
+    {
+        let object = match self.pool.place(value) {
+            Ok(object) => object,
+            Err(refused) => return Err(refused),
+        };
+        let (objects, links) = (&self.pool.objects, &mut self.pool.links.0);
+        keys::put(&mut self.by_key, links, objects, object.place());
+        lists::push_front(&mut self.in_order, &mut self.pool.links.1, object.place());
+        Ok(object)
+    }
+}
