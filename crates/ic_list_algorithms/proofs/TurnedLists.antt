@@ -1,0 +1,31 @@
+-- A list that is cut behind its first members, and put together the other way round.
+use Rattle.std.proofs.Common.{◌≡◌, ℕ, Option, List, [], ◌++◌, drop, refl, sym, ◌∙◌, ap, subst, append-nil}
+use Rattle.std.specs.Prelude.{take}
+use Rattle.std.proofs.lemmas.List.{take-append-drop}
+use Rattle.ic_unsafe_ref.specs.declared.place.Place.{Place}
+use Rattle.ic_link_ops.specs.Sequences.{IsAbsent, IsDistinct, IsDisjoint}
+use Rattle.ic_link_ops.specs.Tables.{Table, KeepsBeside}
+use Rattle.ic_link_ops.specs.Chains.{ListHead, ShowsChain}
+use Rattle.ic_link_ops.proofs.SequenceLemmas.{absent_left, absent_right, absent_both, distinct_disjoint}
+
+module _ {E W : Type 0} {between : E → Option Place → Option Place → Type 0} {kept : Option Place → W} {t : Table E} {list : ListHead W} {s : List Place} (n : ℕ)
+    (shown : ShowsChain between kept t list s) where
+  -- what is shown, cut
+  pub cut_shown : ShowsChain between kept t list (take n s ++ drop n s)
+  cut_shown = subst (λ (l : List Place). ShowsChain between kept t list l) (sym (take-append-drop n s)) shown
+
+  -- its parts share no member
+  pub parts_apart : IsDisjoint (take n s) (drop n s ++ [])
+  parts_apart = subst (λ (l : List Place). IsDisjoint (take n s) l) (sym (append-nil (drop n s))) (distinct_disjoint (take n s) (drop n s) cut_shown.distinct)
+
+module _ {E : Type 0} {old mid new : Table E} (n : ℕ) (s : List Place) where
+  -- nothing but entries of members is changed, first by the cut, and then by the splice
+  pub turned_frame : KeepsBeside old mid (take n s ++ drop n s) → KeepsBeside mid new (drop n s ++ (take n s ++ [])) → KeepsBeside old new s
+  turned_frame cut spliced = record {
+    extent = spliced.extent ∙ cut.extent;
+    others = λ q out.
+        let parts : IsAbsent q (take n s ++ drop n s) = subst (IsAbsent q) (sym (take-append-drop n s)) out in
+        let front = absent_left q (take n s) (drop n s) parts in
+        let back = absent_right q (take n s) (drop n s) parts in
+        spliced.others q (absent_both q (drop n s) (take n s ++ []) back (absent_both q (take n s) [] front tt)) ∙ cut.others q parts;
+  }

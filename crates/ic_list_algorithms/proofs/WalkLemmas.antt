@@ -1,0 +1,215 @@
+-- A walk over a list from its front, member by member, and what it has found so far.
+use Rattle.std.specs.Prelude.{take}
+use Rattle.std.proofs.Common.{◌≡◌, ◌+◌, ◌-◌, ◌<◌, ◌≤◌, ℕ, zero, suc, Bool, true, false, not, ◌&&◌, Option, Some, None, List, [], ◌∷◌, ◌++◌, drop, length, length-append, append_assoc, append-nil, refl, sym, ◌∙◌, ap, subst, arith}
+use Rattle.std.specs.Prelude.{IsTrue, ◌↔◌}
+use Rattle.std.specs.List.{AllByRecursion}
+use Rattle.std.specs.Cmp.{IsStrictWeakOrder}
+use Rattle.ic_unsafe_ref.specs.declared.place.Place.{Place}
+use Rattle.ic_unsafe_ref.specs.Objects.{Objects, object_at}
+use Rattle.ic_link_ops.specs.Sequences.{IsDistinct, first, last}
+use Rattle.ic_link_ops.specs.Tables.{Table, IsCovered}
+use Rattle.ic_link_ops.specs.Walk.{walked}
+use Rattle.ic_link_ops.specs.Chains.{ListHead, IsChain, ShowsChain}
+use Rattle.ic_link_ops.proofs.Each.{all_map, all_both}
+use Rattle.ic_link_ops.proofs.SequenceLemmas.{distinct_right, first_is, last_of_push, nothing_first}
+use Rattle.ic_link_ops.proofs.Walks.{stretch_through}
+use Rattle.ic_list_algorithms.specs.Ordered.{IsOrdered}
+use Rattle.ic_list_algorithms.specs.Walks.{test_at, HoldsNowhere, stands_behind, ordered_from, are_neighbors_ordered}
+
+-- what holds of each holds of one in the middle, and of the last in front
+pub middle_holds : (P : Place → Type 0) (front back : List Place) {p : Place} → AllByRecursion P (front ++ p ∷ back) → P p
+middle_holds P [] back h = h.0
+middle_holds P (x ∷ front) back h = middle_holds P front back h.1
+
+pub last_holds : (P : Place → Type 0) (front back : List Place) {q : Place} → last front ≡ Some q → AllByRecursion P (front ++ back) → P q
+last_holds P [] back e h = absurd (cc)
+last_holds P (x ∷ []) back {q} e h = let same : x ≡ q = cc in subst P same h.0
+last_holds P (x ∷ y ∷ front) back e h = last_holds P (y ∷ front) back e h.1
+
+module _ {E : Type 0} (between : E → Option Place → Option Place → Type 0) where
+  -- THE WALK has passed a front of s, and comes to `current`, with `prev` in front of that
+  pub record WalksTo (t : Table E) (s : List Place) (prev current : Option Place) : Type 0 where
+    pub done : List Place
+    pub rest : List Place
+    pub parts : s ≡ done ++ rest
+    pub chain : IsChain between t.entry (last done) rest None
+    pub at : current ≡ first rest
+    pub keeps : prev ≡ last done
+
+module _ {E : Type 0} {between : E → Option Place → Option Place → Type 0} where
+  -- at first it is on the first member
+  pub walk_begins : {W : Type 0} {kept : Option Place → W} {t : Table E} {list : ListHead W} {s : List Place} {current : Option Place} → ShowsChain between kept t list s
+      → current ≡ list.head → (k : WalksTo between t s None current) × (k.done ≡ []) × (k.rest ≡ s)
+  walk_begins {s = s} shown on = (record { done = []; rest = s; parts = refl; chain = shown.chain; at = on ∙ shown.head; keeps = refl }, refl, refl)
+
+  -- at the end it has passed all
+  pub walk_ends : {t : Table E} {s : List Place} {prev current : Option Place} (k : WalksTo between t s prev current) → current ≡ None → (k.rest ≡ []) × (k.done ≡ s)
+  walk_ends {s = s} k over =
+      let none : k.rest ≡ [] = nothing_first k.rest (sym over ∙ k.at) in
+      (none, sym (k.parts ∙ ap (λ (l : List Place). k.done ++ l) none ∙ append-nil k.done))
+
+  -- the member that it comes to, in its place
+  pub walk_at : {t : Table E} {s : List Place} {prev current : Option Place} {p : Place} (k : WalksTo between t s prev current) → current ≡ Some p
+      → (k.rest ≡ p ∷ drop 1 k.rest) × (s ≡ k.done ++ p ∷ drop 1 k.rest)
+  walk_at k on = let is = first_is k.rest (sym on ∙ k.at) in (is, k.parts ∙ ap (λ (l : List Place). k.done ++ l) is)
+
+  -- it is linked: how it stands
+  pub walk_between : {t : Table E} {s : List Place} {prev current : Option Place} {p : Place} (k : WalksTo between t s prev current) → current ≡ Some p
+      → between (t.entry p) (last k.done) (first (drop 1 k.rest))
+  walk_between {t} {p = p} k on = (subst (λ (l : List Place). IsChain between t.entry (last k.done) l None) (walk_at k on).0 k.chain).0
+
+  -- what holds of each member holds of this one, and of the one in front of it
+  pub walk_holds : (P : Place → Type 0) {t : Table E} {s : List Place} {prev current : Option Place} {p : Place} (k : WalksTo between t s prev current) → current ≡ Some p
+      → AllByRecursion P s → P p
+  walk_holds P {p = p} k on all = middle_holds P k.done (drop 1 k.rest) (subst (AllByRecursion P) (walk_at k on).1 all)
+
+  pub walk_held : (P : Place → Type 0) {t : Table E} {s : List Place} {prev current : Option Place} {q : Place} (k : WalksTo between t s prev current) → prev ≡ Some q
+      → AllByRecursion P s → P q
+  walk_held P k on all = last_holds P k.done k.rest (sym k.keeps ∙ on) (subst (AllByRecursion P) k.parts all)
+
+  -- `leads`: the law that an entry leads on
+  module _ (step : E → Option Place → Option Place) (leads : (e : E) (b a : Option Place) → between e b a → step e b ≡ a) where
+    -- ONE STEP
+    pub walk_goes : {t : Table E} {s : List Place} {prev current next : Option Place} {p : Place} (k : WalksTo between t s prev current) → current ≡ Some p
+        → next ≡ step (t.entry p) prev → (m : WalksTo between t s (Some p) next) × (k.rest ≡ p ∷ m.rest) × (m.done ≡ k.done ++ p ∷ [])
+    walk_goes {t} {s} {p = p} k on read =
+        let at = walk_at k on in
+        let chain : IsChain between t.entry (last k.done) (p ∷ drop 1 k.rest) None = subst (λ (l : List Place). IsChain between t.entry (last k.done) l None) at.0 k.chain in (
+          record {
+            done = k.done ++ p ∷ [];
+            rest = drop 1 k.rest;
+            parts = at.1 ∙ sym (append_assoc k.done (p ∷ []) (drop 1 k.rest));
+            chain = rw (last_of_push k.done p) chain.1;
+            at = read ∙ ap (step (t.entry p)) k.keeps ∙ leads _ _ _ chain.0;
+            keeps = sym (last_of_push k.done p);
+          },
+          at.0,
+          refl,
+        )
+
+    -- what is left, as the entries lead through it
+    walk_left : (t : Table E) → ((q : Place) (b a : Option Place) → between (t.entry q) b a → IsCovered t q) → {s : List Place} → IsDistinct s
+        → {prev current : Option Place} (k : WalksTo between t s prev current) → length (walked step t prev current None) ≡ length k.rest
+    walk_left t covered distinct {prev} {current} k =
+        ap length (rw k.keeps (stretch_through step leads t covered {b = last k.done} {from = current} {to = last k.rest}
+        (record { distinct = distinct_right k.done k.rest (subst IsDistinct k.parts distinct); chain = k.chain; starts = k.at; ends = refl })))
+
+    -- and each step leaves one less
+    pub walk_fewer : (t : Table E) → ((q : Place) (b a : Option Place) → between (t.entry q) b a → IsCovered t q) → {s : List Place} → IsDistinct s
+        → {prev current next : Option Place} {p : Place} (k : WalksTo between t s prev current) → current ≡ Some p → next ≡ step (t.entry p) prev
+        → length (walked step t (Some p) next None) < length (walked step t prev current None)
+    walk_fewer t covered distinct k on read =
+        let m = walk_goes k on read in
+        omega (arith, walk_left t covered distinct k, walk_left t covered distinct m.0, ap length m.1)
+
+-- HOW MANY were passed
+pub one_more : (done : List Place) (p : Place) {n : ℕ} {more : List Place} → n ≡ length done → more ≡ done ++ p ∷ [] → n + 1 ≡ length more
+one_more done p e m = omega (arith, e, ap length m, length-append done (p ∷ []))
+
+pub one_left : (done : List Place) (p : Place) {n left : ℕ} {more : List Place} → n ≡ length done + left → more ≡ done ++ p ∷ [] → 1 ≤ left → n ≡ length more + (left - 1)
+one_left done p e m some = omega (arith, e, some, ap length m, length-append done (p ∷ []))
+
+-- what is behind the first n, and these
+pub drop_passed : (done rest : List Place) (n : ℕ) → n ≡ length done → drop n (done ++ rest) ≡ rest
+drop_passed [] rest n e = rw e refl
+drop_passed (x ∷ done) rest n e = rw e (drop_passed done rest (length done) refl)
+
+pub take_passed : (done rest : List Place) (n : ℕ) → n ≡ length done → take n (done ++ rest) ≡ done
+take_passed [] rest n e = rw e refl
+take_passed (x ∷ done) rest n e = rw e (ap (λ (l : List Place). x ∷ l) (take_passed done rest (length done) refl))
+
+nothing_dropped : (n : ℕ) → drop {A = Place} n [] ≡ []
+nothing_dropped zero = refl
+nothing_dropped (suc n) = refl
+
+pub drop_beyond : (s : List Place) (n : ℕ) → length s ≤ n → drop n s ≡ []
+drop_beyond [] n h = nothing_dropped n
+drop_beyond (x ∷ s) zero h = absurd (omega (arith, h))
+drop_beyond (x ∷ s) (suc n) h = drop_beyond s n (omega (arith, h))
+
+nothing_taken : (n : ℕ) → take {A = Place} n [] ≡ []
+nothing_taken zero = refl
+nothing_taken (suc n) = refl
+
+pub take_beyond : (s : List Place) (n : ℕ) → length s ≤ n → take n s ≡ s
+take_beyond [] n h = nothing_taken n
+take_beyond (x ∷ s) zero h = absurd (omega (arith, h))
+take_beyond (x ∷ s) (suc n) h = ap (λ (l : List Place). x ∷ l) (take_beyond s n (omega (arith, h)))
+
+module _ {E : Type 0} {between : E → Option Place → Option Place → Type 0} {t : Table E} {s : List Place} {prev current : Option Place} {n : ℕ} (k : WalksTo between t s prev current) where
+  -- THE NTH is here, where n were passed,
+  pub nth_here : n ≡ length k.done → current ≡ first (drop n s)
+  nth_here e = k.at ∙ ap first (sym (ap (drop n) k.parts ∙ drop_passed k.done k.rest n e))
+
+  pub nth_is : {p : Place} → current ≡ Some p → n ≡ length k.done → Some p ≡ first (drop n s)
+  nth_is on e = sym on ∙ nth_here e
+
+  -- with the gap behind the first n,
+  pub gap_here : n ≡ length k.done → prev ≡ last (take n s)
+  gap_here e = k.keeps ∙ ap last (sym (ap (take n) k.parts ∙ take_passed k.done k.rest n e))
+
+  -- and beyond the end where all were passed
+  pub all_few : (left : ℕ) → current ≡ None → n ≡ length k.done + left → length s ≤ n
+  all_few left over e = omega (arith, e, ap length (walk_ends k over).1)
+
+  pub nth_beyond : current ≡ None → length s ≤ n → None ≡ first (drop n s)
+  nth_beyond over few = ap first (sym (drop_beyond s n few))
+
+  pub gap_beyond : current ≡ None → length s ≤ n → prev ≡ last (take n s)
+  gap_beyond over few = k.keeps ∙ ap last ((walk_ends k over).1 ∙ sym (take_beyond s n few))
+
+module _ (holds : Place → Bool) where
+  -- NOWHERE so far, nor at this one
+  pub nowhere_more : (done : List Place) {more : List Place} {p : Place} → HoldsNowhere holds done → holds p ≡ false → more ≡ done ++ p ∷ [] → HoldsNowhere holds more
+  nowhere_more done {p = p} h here is = subst (HoldsNowhere holds) (sym is) (all_both (λ x. holds x ≡ false) done (p ∷ []) h (here, tt))
+
+  -- and so in all of it
+  pub nowhere_all : {done s : List Place} → done ≡ s → HoldsNowhere holds done → HoldsNowhere holds s
+  nowhere_all same h = subst (HoldsNowhere holds) same h
+
+-- the test of a place where an object stands
+pub test_there : {V : Type 0} (holds : V → Bool) (objects : Objects V) (p : Place) {v : V} {b : Bool} → object_at objects p ≡ Some v → holds v ≡ b → test_at holds objects p ≡ b
+test_there holds objects p is e = rw is e
+
+module _ {X : Type 0} (lt : X → X → Bool) {answer : Bool} (prev : Option X) {rest : List X} (so_far : answer ≡ ordered_from lt prev rest) where
+  -- NEIGHBORS IN ORDER so far: what follows of one more,
+  pub order_goes : {p : X} {r : List X} → rest ≡ p ∷ r → stands_behind lt prev p ≡ true → answer ≡ ordered_from lt (Some p) r
+  order_goes is behind = let whole = rw is at so_far in rw behind at whole
+
+  pub order_breaks : {p : X} {r : List X} → rest ≡ p ∷ r → stands_behind lt prev p ≡ false → false ≡ answer
+  order_breaks is behind = let whole = rw is at so_far in sym (rw behind at whole)
+
+  -- and at the end
+  pub order_ends : rest ≡ [] → true ≡ answer
+  order_ends none = sym (rw none at so_far)
+
+module _ {X : Type 0} (lt : X → X → Bool) where
+  -- IN ORDER beside each other, and so in order, by an order
+  module _ (order : IsStrictWeakOrder lt) where
+    from_neighbors : (p : X) (s : List X) → ordered_from lt (Some p) s ≡ true → AllByRecursion (λ y. lt y p ≡ false) s × IsOrdered lt s
+    from_neighbors p [] e = (tt, tt)
+    from_neighbors p (x ∷ s) e = by (lt x p) refl (λ rest. from_neighbors x s rest) where
+      by : (b : Bool) → lt x p ≡ b → (ordered_from lt (Some x) s ≡ true → AllByRecursion (λ y. lt y x ≡ false) s × IsOrdered lt s)
+          → AllByRecursion (λ y. lt y p ≡ false) (x ∷ s) × IsOrdered lt (x ∷ s)
+      by true less behind =
+          let both : (not (lt x p) && ordered_from lt (Some x) s) ≡ true = e in
+          let never : false ≡ true = rw less at both in absurd (cc)
+      by false less behind =
+          let both : (not (lt x p) && ordered_from lt (Some x) s) ≡ true = e in
+          let k = behind (rw less at both) in
+          ((less, all_map (λ y h. order.chain y x p h less) s k.0), (k.0, k.1))
+
+    to_neighbors : (prev : Option X) (s : List X) → AllByRecursion (λ y. stands_behind lt prev y ≡ true) s → IsOrdered lt s → ordered_from lt prev s ≡ true
+    to_neighbors prev [] h k = refl
+    to_neighbors prev (x ∷ s) h k = rw (h.0, to_neighbors (Some x) s (all_map (λ y e. rw e refl) s k.0) k.1) refl
+
+    pub in_order : (s : List X) → are_neighbors_ordered lt s ≡ true → IsOrdered lt s
+    in_order [] e = tt
+    in_order (x ∷ s) e = from_neighbors x s e
+
+    all_first : (s : List X) → AllByRecursion (λ y. stands_behind lt None y ≡ true) s
+    all_first [] = tt
+    all_first (x ∷ s) = (refl, all_first s)
+
+    pub tells_order : {r : Bool} (s : List X) → r ≡ are_neighbors_ordered lt s → IsTrue r ↔ IsOrdered lt s
+    tells_order {r} s is = ((λ yes. in_order s (sym is ∙ yes)), (λ k. is ∙ to_neighbors None s (all_first s) k))

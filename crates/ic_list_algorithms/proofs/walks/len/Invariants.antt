@@ -1,0 +1,15 @@
+use Rattle.std.proofs.Common.{◌≡◌, None, List, length}
+use Rattle.ic_unsafe_ref.specs.declared.place.Place.{Place}
+use Rattle.ic_link_ops.specs.Chains.{ShowsChain}
+use Rattle.ic_link_ops.specs.Walk.{walked}
+use Rattle.ic_list_algorithms.proofs.WalkLemmas.{WalksTo}
+use Rattle.ic_list_algorithms.proofs.walks.len.Given as goal
+
+abbrev pub invariant-loop-current : goal.invariant-loop-current
+invariant-loop-current g l = record {
+  passed : (s : List Place) → ShowsChain g.K.ForwardLinks.Between g.K.ListKind.kept (g.L.LinkOps.table l.fn.links) l.fn.list s
+      → (k : WalksTo g.K.ForwardLinks.Between (g.L.LinkOps.table l.fn.links) s l.prev l.current) × (l.count ≡ length k.done);
+}
+
+abbrev pub decreases-loop-current : goal.decreases-loop-current
+decreases-loop-current g l = length (walked g.K.ForwardLinks.step (g.L.LinkOps.table l.fn.links) l.prev l.current None)

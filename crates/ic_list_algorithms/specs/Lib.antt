@@ -1,0 +1,4 @@
+pub mod Ordered
+pub mod Runs
+pub mod TwoLists
+pub mod Walks

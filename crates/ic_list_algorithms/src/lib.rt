@@ -1,0 +1,25 @@
+//! Algorithms over lists: a stable sort and a merge in place, walks, and edits of many members.
+//!
+//! Each is a function over a list of any kind that can: `sort_by` and `merge_by` go over doubly and singly linked lists. They take no
+//! memory, and no link is acquired or released by a sort or a merge: members change their neighbors alone.
+//!
+//! ```text
+//! let mut by_deadline = By::new(|a: &Task, b: &Task| a.deadline.cmp(&b.deadline));
+//! sort_by(&mut ready, &mut links, &tasks, &mut by_deadline);          // tasks with the same deadline keep their order
+//! merge_by(&mut ready, &mut links, &tasks, &mut by_deadline, woken);  // and those that were in `ready` go first
+//! ```
+#![tactic(auto)]
+
+mod following;
+mod merge;
+mod precedes;
+mod sort;
+mod walks;
+mod whole;
+
+pub use following::Following;
+pub use merge::merge_by;
+pub use precedes::{By, Natural, Precedes};
+pub use sort::sort_by;
+pub use walks::{find, is_sorted_by, len, nth, position};
+pub use whole::{append, append_walking, rotate_left};

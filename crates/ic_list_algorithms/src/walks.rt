@@ -1,0 +1,171 @@
+//! Walks over a list: how many members it has, which is the nth, the first for which a test holds, and whether it is in order.
+//!
+//! ```text
+//! let members = len(&list, &links);
+//! let third = nth(&list, &links, 2);
+//! let late = find(&list, &links, &tasks, |task: &Task| task.deadline < now);
+//! ```
+
+ghost use Rattle.std.specs.Prelude.{◌≡◌, ◌↔◌, ℕ, Bool, true, Some, IsTrue, MatchOption, List, length, drop};
+ghost use Rattle.std.specs.Fn.{ComputesKey};
+ghost use Rattle.ic_unsafe_ref.specs.declared.place.Place.{Place};
+ghost use Rattle.ic_unsafe_ref.specs.Objects.{is_placed};
+ghost use Rattle.ic_link_ops.specs.Sequences.{first};
+ghost use Rattle.ic_link_ops.specs.Chains.{ShowsChain, ShowsSomeChain};
+ghost use Rattle.ic_link_ops.specs.PlacedObjects.{ShowsPlaced};
+ghost use Rattle.ic_list_algorithms.specs.Ordered.{GoesBy, IsOrdered};
+ghost use Rattle.ic_list_algorithms.specs.Runs.{less_at};
+ghost use Rattle.ic_list_algorithms.specs.Walks.{test_at, HoldsNowhere, HoldsFirst, stands_behind, are_neighbors_ordered};
+
+use crate::precedes::Precedes;
+use crate::whole::gap_at;
+use ic_chain::{Chain, ForwardLinks};
+use ic_link_ops::LinkOps;
+use ic_unsafe_ref::{Place, UnsafeRef, Values};
+
+/// How many members the list has. It walks from the front: O(n), one reading for each.
+pub fn len<K: ForwardLinks<L>, T, L: LinkOps>(list: &Chain<K, T>, links: &L) -> usize
+    requires shown { ShowsSomeChain K.Between K.kept (L.table links.now) list.now }
+    ensures { (s : List Place) → ShowsChain K.Between K.kept (L.table links.now) list.now s → result ≡ length s }
+{
+    let mut count = 0;
+    let mut current = list.first();
+    let mut prev = None;
+    while let Some(member) = current {
+        count += 1;
+        current = K::next(links, member, prev);
+        prev = Some(member);
+    }
+    count
+}
+
+/// The member at position `n`, counted from 0, or `None` if there are no more than n. It walks from the front: O(n).
+pub fn nth<K: ForwardLinks<L>, T, L: LinkOps>(
+    list: &Chain<K, T>,
+    links: &L,
+    n: usize,
+) -> Option<UnsafeRef<T>>
+    requires shown { ShowsSomeChain K.Between K.kept (L.table links.now) list.now }
+    ensures { (s : List Place) → ShowsChain K.Between K.kept (L.table links.now) list.now s → result ≡ first (drop n s) }
+{
+    let (_, behind) = gap_at::<K, T, L>(list, links, n);
+    match behind {
+        Some(place) => Some(UnsafeRef::new(place)),
+        None => None,
+    }
+}
+
+/// The position of the first member for which the test holds, counted from 0, or `None` if it holds for none.
+///
+/// It requires that all members are placed. It walks from the front, and calls the test once for each member up to that one.
+pub fn position<K: ForwardLinks<L>, T, V, L: LinkOps, O: Values<V>, F: FnMut(&V) -> bool>(
+    list: &Chain<K, T>,
+    links: &L,
+    objects: &O,
+    test: F,
+) -> Option<usize>
+    requires callable { F.IsAlwaysCallable test }
+    requires placed { ShowsPlaced (ShowsChain K.Between K.kept (L.table links.now) list.now) (O.values objects.now) }
+    ensures found { (s : List Place) (holds : V → Bool) → ShowsChain K.Between K.kept (L.table links.now) list.now s → ComputesKey F.FnMut holds test
+        → MatchOption result (HoldsNowhere (test_at holds (O.values objects.now)) s)
+        (λ at. (q : Place) × HoldsFirst (test_at holds (O.values objects.now)) s at q) }
+{
+    let (at, _) = find_first(list, links, objects, test)?;
+    Some(at)
+}
+
+/// The first member for which the test holds, or `None` if it holds for none. It requires and costs what [`position`] does.
+pub fn find<K: ForwardLinks<L>, T, V, L: LinkOps, O: Values<V>, F: FnMut(&V) -> bool>(
+    list: &Chain<K, T>,
+    links: &L,
+    objects: &O,
+    test: F,
+) -> Option<UnsafeRef<T>>
+    requires callable { F.IsAlwaysCallable test }
+    requires placed { ShowsPlaced (ShowsChain K.Between K.kept (L.table links.now) list.now) (O.values objects.now) }
+    ensures found { (s : List Place) (holds : V → Bool) → ShowsChain K.Between K.kept (L.table links.now) list.now s → ComputesKey F.FnMut holds test
+        → MatchOption result (HoldsNowhere (test_at holds (O.values objects.now)) s)
+        (λ object. (at : ℕ) × HoldsFirst (test_at holds (O.values objects.now)) s at object) }
+{
+    let (_, place) = find_first(list, links, objects, test)?;
+    Some(UnsafeRef::new(place))
+}
+
+// The first member for which the test holds, and its position.
+fn find_first<K: ForwardLinks<L>, T, V, L: LinkOps, O: Values<V>, F: FnMut(&V) -> bool>(
+    list: &Chain<K, T>,
+    links: &L,
+    objects: &O,
+    test: F,
+) -> Option<(usize, Place)>
+    requires callable { F.IsAlwaysCallable test }
+    requires placed { ShowsPlaced (ShowsChain K.Between K.kept (L.table links.now) list.now) (O.values objects.now) }
+    ensures found { (s : List Place) (holds : V → Bool) → ShowsChain K.Between K.kept (L.table links.now) list.now s → ComputesKey F.FnMut holds test
+        → MatchOption result (HoldsNowhere (test_at holds (O.values objects.now)) s)
+        (λ found. HoldsFirst (test_at holds (O.values objects.now)) s found.0 found.1) }
+{
+    let mut test = test;
+    let mut at = 0;
+    let mut current = list.first();
+    let mut prev = None;
+    while let Some(member) = current {
+        let found = test(objects.value(member));
+        if found {
+            return Some((at, member));
+        }
+        at += 1;
+        current = K::next(links, member, prev);
+        prev = Some(member);
+    }
+    None
+}
+
+/// Whether no member goes before the one in front of it. It walks from the front, with one comparison for each pair of neighbors.
+///
+/// It requires that all members are placed. By an order of values the list is in order then: no member goes before any in front of it.
+pub fn is_sorted_by<K: ForwardLinks<L>, T, V, L: LinkOps, O: Values<V>, C: Precedes<V>>(
+    list: &Chain<K, T>,
+    links: &L,
+    objects: &O,
+    order: &mut C,
+) -> bool
+    requires ready { C.ready order.old }
+    requires placed { ShowsPlaced (ShowsChain K.Between K.kept (L.table links.now) list.now) (O.values objects.now) }
+    ensures neighbors { (s : List Place) (lt : V → V → Bool) → ShowsChain K.Between K.kept (L.table links.now) list.now s → C.obeys order.old lt
+        → result ≡ are_neighbors_ordered (less_at lt (O.values objects.now)) s }
+    ensures ordered { (s : List Place) (lt : V → V → Bool) → ShowsChain K.Between K.kept (L.table links.now) list.now s → GoesBy C.obeys order.old lt
+        → IsTrue result ↔ IsOrdered (less_at lt (O.values objects.now)) s }
+    ensures again { C.ready order.new }
+    ensures obeys { (lt : V → V → Bool) → C.obeys order.old lt → C.obeys order.new lt }
+{
+    let mut current = list.first();
+    let mut prev = None;
+    while let Some(member) = current {
+        if !may_stand_behind::<V, O, C>(objects, order, prev, member) {
+            return false;
+        }
+        current = K::next(links, member, prev);
+        prev = Some(member);
+    }
+    true
+}
+
+// Whether the member does not go before the one in front of it, if there is one.
+fn may_stand_behind<V, O: Values<V>, C: Precedes<V>>(
+    objects: &O,
+    order: &mut C,
+    prev: Option<Place>,
+    member: Place,
+) -> bool
+    requires ready { C.ready order.old }
+    requires placed { is_placed (O.values objects.now) member ≡ true }
+    requires prev { (q : Place) → prev ≡ Some q → is_placed (O.values objects.now) q ≡ true }
+    ensures answer { (lt : V → V → Bool) → C.obeys order.old lt → result ≡ stands_behind (less_at lt (O.values objects.now)) prev member }
+    ensures again { C.ready order.new }
+    ensures obeys { (lt : V → V → Bool) → C.obeys order.old lt → C.obeys order.new lt }
+{
+    let Some(before) = prev else {
+        return true;
+    };
+    !order.precedes(objects.value(member), objects.value(before))
+}
