@@ -14,6 +14,8 @@
 //! | `rbtree` | the red-black tree, in an order that cursors or keys make |
 //! | `rbtree_cached` | the tree that keeps its first and its last member: `RBTreeCached` |
 //! | `augmented` | trees with a summary over each subtree: lengths, positions, overlaps of intervals |
+//! | `container` | what a container keeps of its objects and collections: `Listed`, `lists` |
+//! | `indexed` | objects in a tree by their keys and in a list: `Indexed` |
 //! | `hash_table` | the hash table: `HashTable`, over buckets that the caller hands in |
 //! | `check` | checks of lists and trees of whose words nobody vouches |
 //! | `key_adapter` | where the key of an object stands, and bounds of keys |
@@ -31,8 +33,12 @@ pub use ic_atomic as atomic;
 pub use ic_augmented as augmented;
 pub use ic_chain as chain;
 pub use ic_check as check;
+pub use ic_container as container;
+pub use ic_container::Listed;
 pub use ic_hash_table as hash_table;
 pub use ic_hash_table::{HashAdapter, HashTable};
+pub use ic_indexed as indexed;
+pub use ic_indexed::{HasKey, Indexed};
 pub use ic_link_ops as link_ops;
 pub use ic_link_ops::LinkOps;
 pub use ic_link_ops::linked_list::Link as LinkedListLink;
