@@ -1,0 +1,191 @@
+//! Checks of collections: what calls have made is accepted, and is refused once a member's link is gone. A list whose neighbors a file
+//! named is used once it is checked.
+
+ghost use Rattle.std.specs.Prelude.{◌≡◌, ◌<◌, ◌≤◌, length, IfSome};
+ghost use Rattle.ic_unsafe_ref.specs.Places.{index_of};
+ghost use Rattle.ic_link_ops.specs.DoublyEntries as doubly;
+ghost use Rattle.ic_link_ops.specs.PlainTables.{table};
+
+use ic_chain::Chain;
+use ic_check::{NamesItsNext, TellsLinks, check, check_tree};
+use ic_link_ops::linked_list::LinkedListOps;
+use ic_link_ops::{OneWord, PlainTable, Words, linked_list, rbtree, singly_linked_list};
+use ic_linked_list::{DoublyLinked, LinkedList};
+use ic_rbtree::{KeyAdapter, RBTree};
+use ic_singly_linked_list::SinglyLinked;
+use ic_test_support::answers::object;
+use ic_test_support::notes::{Answer, Text};
+use ic_unsafe_ref::{Place, UnsafeRef};
+use std::alloc::Global;
+use std::process::Abort;
+
+// The place of that index.
+fn place(index: usize) -> Place
+    requires { index < 3 }
+    ensures { index_of result ≡ index }
+{
+    Place::new(index).unwrap()
+}
+
+// Notes how many members a check has found.
+fn write_found(notes: &mut Text, found: Option<usize>) {
+    let answer = match found {
+        Some(count) => Answer::Number(count as u64),
+        None => Answer::Nothing,
+    };
+    notes.add(answer, " ");
+}
+
+// Asserts that the notes have these words.
+fn same(rt: &impl Abort, alloc: Global, notes: &Text, wanted: &str) {
+    let mut found = String::new(alloc);
+    let shown = notes.show(&mut found);
+    assert!(rt; shown.is_ok() && found.split_whitespace().eq(wanted.split_whitespace()));
+}
+
+// A list of the objects at the first three places.
+fn list_of_three<K: NamesItsNext<PlainTable<W>>, W: Words>(
+    links: &mut PlainTable<W>,
+) -> Chain<K, u64>
+    requires covered { (table W.unlinked links.old).extent.places ≡ 3 }
+    ensures covers { (table W.unlinked links.new).extent.places ≡ 3 }
+{
+    let mut list = Chain::new();
+    for index in 0..3 {
+        let _ = list.push_front(links, UnsafeRef::new(place(index)));
+    }
+    list
+}
+
+// Notes what a check of a list of three members finds, and what it finds once the second of them is unlinked.
+fn write_list<K: NamesItsNext<PlainTable<W>>, W: Words>(
+    rt: &impl Abort,
+    alloc: Global,
+    notes: &mut Text,
+) {
+    let mut links = PlainTable::new(alloc);
+    let _ = links.cover(3);
+    assert!(rt; links.covers() == 3);
+    let list: Chain<K, u64> = list_of_three(&mut links);
+    write_found(notes, check(&list, &links));
+    links.force_unlink(place(1));
+    notes.add(Answer::Truth(links.tells_linked(place(1))), " ");
+    write_found(notes, check(&list, &links));
+    notes.add(Answer::Number(links.covered_places() as u64), " ");
+}
+
+#[test]
+fn a_doubly_linked_list_is_checked(rt: HostRuntime) {
+    let alloc = rt.alloc();
+    let mut notes = Text::new(alloc);
+    write_list::<DoublyLinked, linked_list::TwoWords>(&rt, alloc, &mut notes);
+    same(&rt, alloc, &notes, "3 no none 3");
+}
+
+#[test]
+fn a_singly_linked_list_is_checked(rt: HostRuntime) {
+    let alloc = rt.alloc();
+    let mut notes = Text::new(alloc);
+    write_list::<SinglyLinked, OneWord<singly_linked_list::Singly>>(&rt, alloc, &mut notes);
+    same(&rt, alloc, &notes, "3 no none 3");
+}
+
+// Says that a number is its own key.
+#[derive(Clone, Copy, Default)]
+struct OwnKey;
+
+impl KeyAdapter for OwnKey {
+    type Value = u64;
+
+    type Key = u64;
+
+    ghost key_of = { λ _ value. value };
+
+    fn get_key<'v>(&self, value: &'v u64) -> &'v u64 {
+        value
+    }
+}
+
+// A tree of the objects at the first three places.
+fn tree_of_three(links: &mut rbtree::LinkOps) -> RBTree<OwnKey> {
+    let mut tree = RBTree::new(OwnKey);
+    for index in 0..3 {
+        if index < links.covers() {
+            let mut cursor = tree.cursor_mut(links);
+            let _ = cursor.insert_before(UnsafeRef::new(place(index)));
+        }
+    }
+    tree
+}
+
+#[test]
+fn a_tree_is_checked(rt: HostRuntime) {
+    let alloc = rt.alloc();
+    let mut notes = Text::new(alloc);
+    let mut links = rbtree::LinkOps::new(alloc);
+    let _ = links.cover(3);
+    let tree = tree_of_three(&mut links);
+    assert!(rt; links.covers() == 3);
+    write_found(&mut notes, check_tree(&tree, &links));
+    links.force_unlink(place(1));
+    write_found(&mut notes, check_tree(&tree, &links));
+    same(&rt, alloc, &notes, "3 none");
+}
+
+// The end that a file names: 0 for none, else one more than the place's index.
+fn end_of(word: usize) -> Option<Place> {
+    if word == 0 {
+        return None;
+    }
+    Place::new(word - 1)
+}
+
+// Links each place between the two neighbors that a file names for it.
+fn read_links(links: &mut linked_list::LinkOps, words: &[(usize, usize)])
+    requires covered { length words.now ≤ (doubly.plain_table links.old).extent.places }
+{
+    for index in 0..words.len() {
+        if let Some(place) = Place::new(index) {
+            let (prev, next) = words[index];
+            let _ = links.link_between(place, end_of(prev), end_of(next));
+        }
+    }
+}
+
+// The list with these ends, if its words are those of a list.
+fn list_from_file(
+    links: &linked_list::LinkOps,
+    first: Option<Place>,
+    last: Option<Place>,
+) -> Option<LinkedList<u64>>
+    ensures { IfSome result (λ list. doubly.PlainShowsSome links.now list) }
+{
+    let list = LinkedList::from_ends(first, last);
+    if check(&list, links).is_none() {
+        return None;
+    }
+    Some(list)
+}
+
+// Notes the member that is taken off a list of two, whose words are these.
+fn write_from_file(rt: &impl Abort, alloc: Global, notes: &mut Text, words: &[(usize, usize)])
+    requires { length words.now ≡ 2 }
+{
+    let mut links = linked_list::LinkOps::new(alloc);
+    let _ = links.cover(2);
+    assert!(rt; links.covers() == 2);
+    read_links(&mut links, words);
+    match list_from_file(&links, end_of(1), end_of(2)) {
+        Some(mut list) => notes.add(object(list.pop_front(&mut links)), " "),
+        None => notes.add(Answer::Nothing, " "),
+    }
+}
+
+#[test]
+fn a_list_from_a_file_is_checked(rt: HostRuntime) {
+    let alloc = rt.alloc();
+    let mut notes = Text::new(alloc);
+    write_from_file(&rt, alloc, &mut notes, &[(0, 2), (1, 0)]);
+    write_from_file(&rt, alloc, &mut notes, &[(0, 2), (2, 0)]);
+    same(&rt, alloc, &notes, "0 none");
+}
