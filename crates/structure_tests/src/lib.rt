@@ -1,4 +1,7 @@
-//! What a user builds of the collections, with its contracts, each run by a test.
+//! The structures over the collections: what a user builds of them, with contracts, and each call of them as a caller makes it. Each is run
+//! by a test.
 #![tactic(auto)]
 
+#[cfg(test)]
+mod check;
 pub mod containers;
