@@ -2,6 +2,7 @@ pub mod BackLinks
 pub mod MergedSequences
 pub mod MergeSteps
 pub mod RunLemmas
+pub mod SiftLemmas
 pub mod SortedFronts
 pub mod TurnedLists
 pub mod WalkLemmas

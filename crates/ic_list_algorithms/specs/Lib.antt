@@ -1,4 +1,5 @@
 pub mod Ordered
 pub mod Runs
+pub mod Sifts
 pub mod TwoLists
 pub mod Walks

@@ -11,8 +11,10 @@
 #![tactic(auto)]
 
 mod following;
+mod keeps;
 mod merge;
 mod precedes;
+mod sift;
 mod sort;
 mod walks;
 mod whole;
@@ -20,6 +22,7 @@ mod whole;
 pub use following::Following;
 pub use merge::merge_by;
 pub use precedes::{By, Natural, Precedes};
+pub use sift::{dedup_by, retain};
 pub use sort::sort_by;
 pub use walks::{find, is_sorted_by, len, nth, position};
 pub use whole::{append, append_walking, rotate_left};

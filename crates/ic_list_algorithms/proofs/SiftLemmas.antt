@@ -1,0 +1,213 @@
+-- A list of which some members are kept, one after the other, and the others unlinked.
+use Rattle.std.proofs.Common.{◌≡◌, ◌+◌, ◌<◌, ℕ, Bool, true, false, not, cond, inl, inr, Option, Some, None, List, [], ◌∷◌, ◌++◌, drop, length, append_assoc, append-nil, refl, sym, ◌∙◌, ap, subst, arith}
+use Rattle.std.specs.List.{AllByRecursion, filter}
+use Rattle.ic_unsafe_ref.specs.declared.place.Place.{Place}
+use Rattle.ic_unsafe_ref.specs.Objects.{Objects, object_at}
+use Rattle.ic_link_ops.specs.Sequences.{IsAbsent, IsDistinct, first, last}
+use Rattle.ic_link_ops.specs.Tables.{Table, IsCovered, KeepsBeside}
+use Rattle.ic_link_ops.specs.LinkSteps.{LinkStep, releases_each}
+use Rattle.ic_link_ops.specs.Walk.{walked}
+use Rattle.ic_link_ops.specs.Chains.{ListHead, IsChain, ShowsChain}
+use Rattle.ic_link_ops.specs.PlacedObjects.{ArePlaced, ShowsPlaced}
+use Rattle.ic_chain.proofs.Standing.{one_shown}
+use Rattle.ic_link_ops.proofs.Each.{all_both, all_front, all_back}
+use Rattle.ic_link_ops.proofs.SequenceLemmas.{absent_left, absent_right, absent_both, distinct_right, first_is, last_of_push, nothing_first}
+use Rattle.ic_link_ops.proofs.Chains.{chain_cut}
+use Rattle.ic_link_ops.proofs.StepLemmas.{releases_append}
+use Rattle.ic_link_ops.proofs.Walks.{stretch_through}
+use Rattle.ic_list_algorithms.specs.Walks.{passes, test_at}
+use Rattle.ic_list_algorithms.proofs.WalkLemmas.{middle_holds, last_holds}
+use Rattle.ic_list_algorithms.specs.Sifts.{sift, sift_out, IsMix, by_itself, object_there, keep_of, keep_at, SiftsTo, SiftsOne}
+
+-- no test at all, where a sequence is wanted and no test
+abbrev pub no_keep : {V : Type 0} → Option V → V → Bool
+no_keep prev x = false
+
+-- a sequence is shown and placed, whichever it is
+pub placed_here : {E W V : Type 0} {between : E → Option Place → Option Place → Type 0} {kept : Option Place → W} {step : E → Option Place → Option Place}
+    → ((e : E) (b a : Option Place) → between e b a → step e b ≡ a) → {t : Table E} {list : ListHead W} {objects : Objects V} {s : List Place}
+    → ShowsPlaced (ShowsChain between kept t list) objects → ShowsChain between kept t list s → ArePlaced objects s
+placed_here leads {objects = objects} p shown = subst (ArePlaced objects) (one_shown leads p.shown shown) p.placed
+
+-- what is kept by the test of a member alone is kept by that of its place
+same_test : {V : Type 0} (holds : V → Bool) (before here : Option V) → keep_of (by_itself holds) before here ≡ passes holds here
+same_test holds before None = refl
+same_test holds before (Some v) = refl
+
+-- one that is picked by two tests that say the same
+picked : (a b : Bool) (x : Place) {with_it without with_it' without' : List Place} → a ≡ b → with_it ≡ with_it' → without ≡ without'
+    → (cond a (x ∷ with_it) without ≡ cond b (x ∷ with_it') without')
+picked true true x e h k = ap (λ (l : List Place). x ∷ l) h
+picked true false x e h k = absurd (cc)
+picked false true x e h k = absurd (cc)
+picked false false x e h k = k
+
+picked_out : (a b : Bool) (x : Place) {with_it without with_it' without' : List Place} → a ≡ b → with_it ≡ with_it' → without ≡ without'
+    → (cond a with_it (x ∷ without) ≡ cond (not b) (x ∷ without') with_it')
+picked_out true true x e h k = h
+picked_out true false x e h k = absurd (cc)
+picked_out false true x e h k = absurd (cc)
+picked_out false false x e h k = ap (λ (l : List Place). x ∷ l) k
+
+-- a test that looks at nothing but the member filters
+module _ {V : Type 0} (holds : V → Bool) (objects : Objects V) where
+  pub kept_filtered : (prev : Option Place) (s : List Place) → sift (keep_at (by_itself holds) objects) prev s ≡ filter (test_at holds objects) s
+  kept_filtered prev [] = refl
+  kept_filtered prev (x ∷ s) =
+      picked (keep_at (by_itself holds) objects prev x) (test_at holds objects x) x (same_test holds (object_there objects prev) (object_at objects x)) (kept_filtered (Some x) s) (kept_filtered prev s)
+
+  pub out_filtered : (prev : Option Place) (s : List Place) → sift_out (keep_at (by_itself holds) objects) prev s ≡ filter (λ q. not (test_at holds objects q)) s
+  out_filtered prev [] = refl
+  out_filtered prev (x ∷ s) =
+      picked_out (keep_at (by_itself holds) objects prev x) (test_at holds objects x) x (same_test holds (object_there objects prev) (object_at objects x)) (out_filtered (Some x) s) (out_filtered prev s)
+
+-- `Does`: the steps of the table. `Holds`: what holds of each member. `Lawful`, `keep`: what is asked for the answers to be those of the test
+module _ {L E W : Type 0} (between : E → Option Place → Option Place → Type 0) (kept : Option Place → W) (table : L → Table E) (Does : L → L → List LinkStep → Type 0)
+    (Holds : Place → Type 0) (Lawful : Type 0) (keep : Option Place → Place → Bool) where
+  -- the members of a front of s are kept, `done`, or unlinked, `out`; the rest is as it was
+  pub record Sifting (old new : L) (list : ListHead W) (s : List Place) (prev current : Option Place) : Type 0 where
+    pub done : List Place
+    pub rest : List Place
+    pub out : List Place
+    pub shown : ShowsChain between kept (table new) list (done ++ rest)
+    pub keeps : prev ≡ last done
+    pub at : current ≡ first rest
+    pub within : (q : Place) → IsAbsent q s → IsAbsent q (done ++ rest)
+    pub holds : AllByRecursion Holds (done ++ rest)
+    pub mixes : (k o : List Place) → IsMix k o rest → IsMix (done ++ k) (out ++ o) s
+    pub by_test : Lawful → (sift keep None s ≡ done ++ sift keep prev rest) × (sift_out keep None s ≡ out ++ sift_out keep prev rest)
+    pub released : Does old new (releases_each out)
+    pub frame : KeepsBeside (table old) (table new) s
+
+  -- AT FIRST
+  pub sift_begins : {t : L} {list : ListHead W} {s : List Place} {current : Option Place} → Does t t [] → ShowsChain between kept (table t) list s → current ≡ list.head
+      → AllByRecursion Holds s → Sifting t t list s None current
+  sift_begins {s = s} nothing shown on holds = record {
+    done = [];
+    rest = s;
+    out = [];
+    shown = shown;
+    keeps = refl;
+    at = on ∙ shown.head;
+    within = λ q h. h;
+    holds = holds;
+    mixes = λ k o m. m;
+    by_test = λ law. (refl, refl);
+    released = nothing;
+    frame = record { extent = refl; others = λ q out. refl };
+  }
+
+  module _ {old new : L} {list : ListHead W} {s : List Place} {prev current : Option Place} (k : Sifting old new list s prev current) where
+    -- the member that is next, in its place
+    pub sift_at : {p : Place} → current ≡ Some p → k.rest ≡ p ∷ drop 1 k.rest
+    sift_at on = first_is k.rest (sym on ∙ k.at)
+
+    pub sift_shown : {p : Place} → current ≡ Some p → ShowsChain between kept (table new) list (k.done ++ p ∷ drop 1 k.rest)
+    sift_shown on = subst (λ (l : List Place). ShowsChain between kept (table new) list (k.done ++ l)) (sift_at on) k.shown
+
+    pub sift_holds : {p : Place} → current ≡ Some p → Holds p
+    sift_holds on = middle_holds Holds k.done (drop 1 k.rest) (subst (λ (l : List Place). AllByRecursion Holds (k.done ++ l)) (sift_at on) k.holds)
+
+    pub sift_held : {q : Place} → prev ≡ Some q → Holds q
+    sift_held on = last_holds Holds k.done k.rest (sym k.keeps ∙ on) k.holds
+
+    -- AT THE END
+    pub sift_ends : current ≡ None → SiftsTo (ShowsChain between kept) table Does Lawful old new list s (sift keep None s) (sift_out keep None s)
+    sift_ends over =
+        let none : k.rest ≡ [] = nothing_first k.rest (sym over ∙ k.at) in
+        let by = k.by_test in
+        record {
+          kept = k.done;
+          out = k.out;
+          shown = rw (none, append-nil) at k.shown;
+          released = k.released;
+          mixed = rw (append-nil, append-nil) at (k.mixes [] [] (rw none (refl, refl)));
+          by_test = λ law. (sym ((by law).0 ∙ rw none (append-nil k.done)), sym ((by law).1 ∙ rw none (append-nil k.out)));
+          frame = k.frame;
+        }
+
+  -- what is left, as the entries lead through it: each turn leaves one less. `leads`: the law that an entry leads on
+  module _ (step : E → Option Place → Option Place) (leads : (e : E) (b a : Option Place) → between e b a → step e b ≡ a)
+      (covered : (t : L) (q : Place) (b a : Option Place) → between ((table t).entry q) b a → IsCovered (table t) q) where
+    sift_left : {old new : L} {list : ListHead W} {s : List Place} {prev current : Option Place} (k : Sifting old new list s prev current)
+        → length (walked step (table new) prev current None) ≡ length k.rest
+    sift_left {new = new} {current = current} k =
+        let chain = (chain_cut between (table new).entry None k.done k.rest None k.shown.chain).1 in
+        ap length (rw k.keeps (stretch_through step leads (table new) (covered new) {b = last k.done} {from = current} {to = last k.rest}
+        (record { distinct = distinct_right k.done k.rest k.shown.distinct; chain = chain; starts = k.at; ends = refl })))
+
+    pub sift_fewer : {old mid new : L} {list list' : ListHead W} {s : List Place} {prev current prev' next : Option Place} (k : Sifting old mid list s prev current)
+        (m : Sifting old new list' s prev' next) → length m.rest < length k.rest
+        → length (walked step (table new) prev' next None) < length (walked step (table mid) prev current None)
+    sift_fewer k m fewer = omega (arith, sift_left k, sift_left m, fewer)
+
+  -- ONE TURN
+  module _ (does_on : (a b c : L) (s t : List LinkStep) → Does a b s → Does b c t → Does a c (s ++ t))
+      {old mid : L} {list : ListHead W} {s : List Place} {prev current : Option Place} {p : Place} {r : List Place} (k : Sifting old mid list s prev current) (is : k.rest ≡ p ∷ r) where
+    pub sift_turns : {new : L} {list' : ListHead W} {prev' next : Option Place} (kept_here : Bool) → (Lawful → keep prev p ≡ kept_here)
+        → SiftsOne (ShowsChain between kept) table Does kept_here mid new list' k.done p r prev' next
+        → (m : Sifting old new list' s prev' next) × (length m.rest < length k.rest)
+    sift_turns {new} {list'} {prev'} {next} true tells one = (
+      record {
+        done = k.done ++ p ∷ [];
+        rest = r;
+        out = k.out;
+        shown = one.shown;
+        keeps = one.last_kept;
+        at = one.behind;
+        within = λ q h. rw (append_assoc k.done (p ∷ []) r) (rw is at (k.within q h));
+        holds = rw (append_assoc k.done (p ∷ []) r) (rw is at k.holds);
+        mixes = λ x o m. rw (append_assoc k.done (p ∷ []) x) (k.mixes (p ∷ x) o (rw is (inl (x, refl, m))));
+        by_test = λ law.
+            let by = rw is at (k.by_test law) in
+            let then = rw (tells law) at by in
+            let last_one : prev' ≡ Some p = one.last_kept ∙ last_of_push k.done p in
+            rw last_one (then.0 ∙ sym (append_assoc k.done (p ∷ []) (sift keep (Some p) r)), then.1);
+        released = rw append-nil at (does_on old mid new (releases_each k.out) [] k.released one.released);
+        frame = record {
+          extent = one.frame.extent ∙ k.frame.extent;
+          others = λ q h. one.frame.others q (rw is at (k.within q h)) ∙ k.frame.others q h;
+        };
+      },
+      omega (arith, ap length is),
+    )
+    sift_turns {new} {list'} {prev'} {next} false tells one = (
+      record {
+        done = k.done;
+        rest = r;
+        out = k.out ++ p ∷ [];
+        shown = rw append-nil at one.shown;
+        keeps = rw append-nil at one.last_kept;
+        at = one.behind;
+        within = λ q h. let h' : IsAbsent q (k.done ++ p ∷ r) = rw is at (k.within q h) in absent_both q k.done r (absent_left q k.done (p ∷ r) h') (absent_right q k.done (p ∷ r) h').1;
+        holds =
+            let h' : AllByRecursion Holds (k.done ++ p ∷ r) = rw is at k.holds in
+            all_both Holds k.done r (all_front Holds k.done (p ∷ r) h') (all_back Holds k.done (p ∷ r) h').1;
+        mixes = λ x o m. rw (append_assoc k.out (p ∷ []) o) (k.mixes x (p ∷ o) (rw is (inr (o, refl, m))));
+        by_test = λ law.
+            let by = rw is at (k.by_test law) in
+            let then = rw (tells law) at by in
+            let same : prev' ≡ prev = (rw append-nil at one.last_kept) ∙ sym k.keeps in
+            rw same (then.0, then.1 ∙ sym (append_assoc k.out (p ∷ []) (sift_out keep prev r)));
+        released = rw (releases_append k.out (p ∷ [])) (does_on old mid new (releases_each k.out) (releases_each (p ∷ [])) k.released one.released);
+        frame = record {
+          extent = one.frame.extent ∙ k.frame.extent;
+          others = λ q h. one.frame.others q (rw is at (k.within q h)) ∙ k.frame.others q h;
+        };
+      },
+      omega (arith, ap length is),
+    )
+
+-- SIFTED by a test that says the same, where less is asked for
+pub sifts_as : {L E H : Type 0} {Shows : Table E → H → List Place → Type 0} {table : L → Table E} {Does : L → L → List LinkStep → Type 0} {Lawful Asked : Type 0} {old new : L} {head : H}
+    {s kept_by out_by kept_by' out_by' : List Place} → (Asked → Lawful) → kept_by ≡ kept_by' → out_by ≡ out_by' → SiftsTo Shows table Does Lawful old new head s kept_by out_by
+    → SiftsTo Shows table Does Asked old new head s kept_by' out_by'
+sifts_as law same same_out k = record {
+  kept = k.kept;
+  out = k.out;
+  shown = k.shown;
+  released = k.released;
+  mixed = k.mixed;
+  by_test = λ asked. ((k.by_test (law asked)).0 ∙ same, (k.by_test (law asked)).1 ∙ same_out);
+  frame = k.frame;
+}

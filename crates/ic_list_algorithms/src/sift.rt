@@ -1,0 +1,133 @@
+//! Edits that keep some members of a list and unlink the others: `retain`, and `dedup_by` of neighbors that are the same.
+//!
+//! ```text
+//! retain(&mut list, &mut links, &tasks, |task: &Task| !task.is_done());
+//! dedup_by(&mut list, &mut links, &tasks, |a: &Task, b: &Task| a.name == b.name);
+//! ```
+
+ghost use Rattle.std.specs.Prelude.{◌≡◌, ◌∷◌, ◌++◌, Bool, true, not, Option, Some, None, List};
+ghost use Rattle.std.specs.List.{filter};
+ghost use Rattle.std.specs.Fn.{ComputesKey, ComputesOnPairs};
+ghost use Rattle.ic_unsafe_ref.specs.declared.place.Place.{Place};
+ghost use Rattle.ic_unsafe_ref.specs.Objects.{is_placed};
+ghost use Rattle.ic_link_ops.specs.Sequences.{last};
+ghost use Rattle.ic_link_ops.specs.Chains.{ShowsChain};
+ghost use Rattle.ic_link_ops.specs.PlacedObjects.{ShowsPlaced};
+ghost use Rattle.ic_list_algorithms.specs.Walks.{test_at};
+ghost use Rattle.ic_list_algorithms.specs.Sifts.{sift as sifted, sift_out, keep_at, dedup, duplicates, SiftsTo, SiftsOne};
+
+use crate::keeps::{Differs, Keeps, Passes};
+use ic_chain::{Chain, ForwardLinks};
+use ic_link_ops::LinkOps;
+use ic_unsafe_ref::{Place, Values};
+
+/// Keeps the members for which the test holds, in their order, and unlinks the others.
+///
+/// It requires that all members are placed. It walks from the front, and calls the test once for each member. O(n), and no memory.
+pub fn retain<K: ForwardLinks<L>, T, V, L: LinkOps, O: Values<V>, F: FnMut(&V) -> bool>(
+    list: &mut Chain<K, T>,
+    links: &mut L,
+    objects: &O,
+    test: F,
+)
+    requires callable { F.IsAlwaysCallable test }
+    requires placed { ShowsPlaced (ShowsChain K.Between K.kept (L.table links.old) list.old) (O.values objects.now) }
+    ensures retained { (s : List Place) (holds : V → Bool) → ShowsChain K.Between K.kept (L.table links.old) list.old s
+        → SiftsTo (ShowsChain K.Between K.kept) L.table L.Does (ComputesKey F.FnMut holds test) links.old links.new list.new s
+        (filter (test_at holds (O.values objects.now)) s) (filter (λ q. not (test_at holds (O.values objects.now) q)) s) }
+{
+    let mut keep = Passes::new(test);
+    sift::<K, T, V, L, O, Passes<F>>(list, links, objects, &mut keep);
+}
+
+/// Of members that stand beside each other and are the same, keeps the first, and unlinks the others.
+///
+/// The test is handed the member that was kept last, and the one behind it. It requires that all members are placed. O(n), with one test for
+/// each member but the first, and no memory.
+pub fn dedup_by<K: ForwardLinks<L>, T, V, L: LinkOps, O: Values<V>, F: FnMut(&V, &V) -> bool>(
+    list: &mut Chain<K, T>,
+    links: &mut L,
+    objects: &O,
+    same: F,
+)
+    requires callable { F.IsAlwaysCallable same }
+    requires placed { ShowsPlaced (ShowsChain K.Between K.kept (L.table links.old) list.old) (O.values objects.now) }
+    ensures firsts_stay { (s : List Place) (alike : V → V → Bool) → ShowsChain K.Between K.kept (L.table links.old) list.old s
+        → SiftsTo (ShowsChain K.Between K.kept) L.table L.Does (ComputesOnPairs F.FnMut alike same) links.old links.new list.new s
+        (dedup alike (O.values objects.now) s) (duplicates alike (O.values objects.now) s) }
+{
+    let mut keep = Differs::new(same);
+    sift::<K, T, V, L, O, Differs<F>>(list, links, objects, &mut keep);
+}
+
+// Keeps the members that are to be kept, and unlinks the others.
+fn sift<K: ForwardLinks<L>, T, V, L: LinkOps, O: Values<V>, S: Keeps<V>>(
+    list: &mut Chain<K, T>,
+    links: &mut L,
+    objects: &O,
+    keep: &mut S,
+)
+    requires ready { S.ready keep.old }
+    requires placed { ShowsPlaced (ShowsChain K.Between K.kept (L.table links.old) list.old) (O.values objects.now) }
+    ensures sifted { (s : List Place) (test : Option V → V → Bool) → ShowsChain K.Between K.kept (L.table links.old) list.old s
+        → SiftsTo (ShowsChain K.Between K.kept) L.table L.Does (S.obeys keep.old test) links.old links.new list.new s
+        (sifted (keep_at test (O.values objects.now)) None s) (sift_out (keep_at test (O.values objects.now)) None s) }
+{
+    let mut current = list.first();
+    let mut prev = None;
+    while let Some(member) = current {
+        let (last_kept, behind) = sift_one::<K, T, V, L, O, S>(
+            list, links, objects, keep, prev, member,
+        );
+        prev = last_kept;
+        current = behind;
+    }
+}
+
+// Keeps the member, or unlinks it. It returns the member that was kept last, and the one behind.
+fn sift_one<K: ForwardLinks<L>, T, V, L: LinkOps, O: Values<V>, S: Keeps<V>>(
+    list: &mut Chain<K, T>,
+    links: &mut L,
+    objects: &O,
+    keep: &mut S,
+    prev: Option<Place>,
+    member: Place,
+) -> (Option<Place>, Option<Place>)
+    requires ready { S.ready keep.old }
+    requires shown { (front back : List Place) × ShowsChain K.Between K.kept (L.table links.old) list.old (front ++ member ∷ back) × (prev ≡ last front) }
+    requires placed { is_placed (O.values objects.now) member ≡ true }
+    requires prev_placed { (q : Place) → prev ≡ Some q → is_placed (O.values objects.now) q ≡ true }
+    ensures sifted { (kept : Bool) × ((test : Option V → V → Bool) → S.obeys keep.old test → keep_at test (O.values objects.now) prev member ≡ kept)
+        × ((front back : List Place) → ShowsChain K.Between K.kept (L.table links.old) list.old (front ++ member ∷ back) → prev ≡ last front
+        → SiftsOne (ShowsChain K.Between K.kept) L.table L.Does kept links.old links.new list.new front member back result.0 result.1) }
+    ensures again { S.ready keep.new }
+    ensures obeys { (test : Option V → V → Bool) → S.obeys keep.old test → S.obeys keep.new test }
+{
+    let behind = K::next(&*links, member, prev);
+    if is_kept::<V, O, S>(objects, keep, prev, member) {
+        return (Some(member), behind);
+    }
+    list.bypass(links, prev, member, behind);
+    links.release_link(member);
+    (prev, behind)
+}
+
+// Whether the member is kept, where that one was kept last.
+fn is_kept<V, O: Values<V>, S: Keeps<V>>(
+    objects: &O,
+    keep: &mut S,
+    prev: Option<Place>,
+    member: Place,
+) -> bool
+    requires ready { S.ready keep.old }
+    requires placed { is_placed (O.values objects.now) member ≡ true }
+    requires prev_placed { (q : Place) → prev ≡ Some q → is_placed (O.values objects.now) q ≡ true }
+    ensures answer { (test : Option V → V → Bool) → S.obeys keep.old test → keep_at test (O.values objects.now) prev member ≡ result }
+    ensures again { S.ready keep.new }
+    ensures obeys { (test : Option V → V → Bool) → S.obeys keep.old test → S.obeys keep.new test }
+{
+    match prev {
+        None => keep.keeps_first(objects.value(member)),
+        Some(prev) => keep.keeps(objects.value(prev), objects.value(member)),
+    }
+}
