@@ -1,13 +1,13 @@
 -- A list of which some members are kept, one after the other, and the others unlinked.
-use Rattle.std.proofs.Common.{◌≡◌, ◌+◌, ◌<◌, ℕ, Bool, true, false, not, cond, inl, inr, Option, Some, None, List, [], ◌∷◌, ◌++◌, drop, length, append_assoc, append-nil, refl, sym, ◌∙◌, ap, subst, arith}
+use Rattle.std.proofs.Common.{◌≡◌, ◌<◌, Bool, true, false, not, cond, inl, inr, Option, Some, None, List, [], ◌∷◌, ◌++◌, drop, length, append_assoc, append-nil, refl, sym, ◌∙◌, ap, subst, arith}
 use Rattle.std.specs.List.{AllByRecursion, filter}
 use Rattle.ic_unsafe_ref.specs.declared.place.Place.{Place}
 use Rattle.ic_unsafe_ref.specs.Objects.{Objects, object_at}
-use Rattle.ic_link_ops.specs.Sequences.{IsAbsent, IsDistinct, first, last}
+use Rattle.ic_link_ops.specs.Sequences.{IsAbsent, first, last}
 use Rattle.ic_link_ops.specs.Tables.{Table, IsCovered, KeepsBeside}
 use Rattle.ic_link_ops.specs.LinkSteps.{LinkStep, releases_each}
 use Rattle.ic_link_ops.specs.Walk.{walked}
-use Rattle.ic_link_ops.specs.Chains.{ListHead, IsChain, ShowsChain}
+use Rattle.ic_link_ops.specs.Chains.{ListHead, ShowsChain}
 use Rattle.ic_link_ops.specs.PlacedObjects.{ArePlaced, ShowsPlaced}
 use Rattle.ic_chain.proofs.Standing.{one_shown}
 use Rattle.ic_link_ops.proofs.Each.{all_both, all_front, all_back}

@@ -9,6 +9,7 @@
 //! | `linked_list` | the doubly linked list |
 //! | `singly_linked_list` | the singly linked list |
 //! | `xor_linked_list` | the XOR list: both neighbors in one word |
+//! | `list_algorithms` | algorithms over lists: `sort_by`, `merge_by`, walks, `retain` |
 //! | `ring` | rings, whose heads are places of their tables: `Ring` |
 //! | `atomic` | claims on places, which threads share, and tables of links over them: `linked_list::AtomicLinkOps` and its three kin |
 //! | `rbtree` | the red-black tree, in an order that cursors or keys make |
@@ -46,6 +47,7 @@ pub use ic_link_ops::rbtree::Link as RBTreeLink;
 pub use ic_link_ops::singly_linked_list::Link as SinglyLinkedListLink;
 pub use ic_link_ops::xor_linked_list::Link as XorLinkedListLink;
 pub use ic_linked_list::LinkedList;
+pub use ic_list_algorithms as list_algorithms;
 pub use ic_pool as pool;
 pub use ic_pool::{PlaceError, Pool, Tables};
 pub use ic_rbtree::key_adapter::{Bound, KeyAdapter};

@@ -1,5 +1,4 @@
-use Rattle.std.proofs.Common.{IsSome, drop, length, refl, sym, ap, ◌∙◌, arith}
-use Rattle.std.specs.Prelude.{not}
+use Rattle.std.proofs.Common.{IsSome, drop}
 use Rattle.ic_unsafe_ref.specs.Objects.{object_at}
 use Rattle.ic_list_algorithms.specs.Sifts.{keep_at}
 use Rattle.ic_list_algorithms.proofs.SiftLemmas.{no_keep, sift_begins, sift_at, sift_shown, sift_holds, sift_held, sift_ends, sift_turns, sift_fewer, placed_here}

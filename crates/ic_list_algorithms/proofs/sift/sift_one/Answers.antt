@@ -1,4 +1,4 @@
-use Rattle.std.proofs.Common.{true, false, [], ◌∷◌, ◌++◌, refl, sym, ◌∙◌, append-nil, append_assoc}
+use Rattle.std.proofs.Common.{true, false, [], ◌∷◌, refl, sym, ◌∙◌, append-nil, append_assoc}
 use Rattle.ic_link_ops.proofs.SequenceLemmas.{absent_right, beside_not, distinct_middle, last_of_push}
 use Rattle.ic_link_ops.proofs.ShownLists.{shows_middle, shows_beside, gap_linked, next_linked}
 use Rattle.ic_chain.proofs.Standing.{next_is}

@@ -1,4 +1,4 @@
-use Rattle.std.proofs.Common.{◌≡◌, ◌∷◌, IsSome, drop, length, length-append, refl, sym, ap, ◌∙◌, arith, of_calls}
+use Rattle.std.proofs.Common.{◌≡◌, IsSome, drop, length, length-append, sym, ap, ◌∙◌, arith, of_calls}
 use Rattle.std.proofs.slice.Orders.{answers_next}
 use Rattle.ic_unsafe_ref.specs.Objects.{object_at}
 use Rattle.ic_link_ops.proofs.Walks.{few_places}

@@ -1,4 +1,4 @@
-use Rattle.std.proofs.Common.{IsSome, true, false, not, refl, sym, ap, ◌∙◌}
+use Rattle.std.proofs.Common.{IsSome, refl, sym}
 use Rattle.ic_unsafe_ref.specs.Objects.{object_at}
 use Rattle.ic_list_algorithms.specs.Runs.{less_at}
 use Rattle.ic_list_algorithms.proofs.SortedFronts.{places_are_ordered}

@@ -1,4 +1,4 @@
-use Rattle.std.proofs.Common.{length, length-append, refl, sym, ap, ◌∙◌, arith}
+use Rattle.std.proofs.Common.{length, length-append, sym, ap, ◌∙◌, arith}
 use Rattle.ic_link_ops.proofs.Walks.{few_places}
 use Rattle.ic_list_algorithms.proofs.WalkLemmas.{walk_begins, walk_ends, walk_between, walk_goes, walk_fewer, one_more}
 use Rattle.ic_list_algorithms.proofs.walks.len.Goals as goal

@@ -1,4 +1,4 @@
-use Rattle.std.proofs.Common.{◌≡◌, [], None, Bool, true, false, Option, inr, refl, sym, ◌∙◌, append-nil, subst}
+use Rattle.std.proofs.Common.{[], None, inr, refl, sym, ◌∙◌, append-nil, subst}
 use Rattle.ic_link_ops.specs.Sequences.{at_back, last}
 use Rattle.ic_link_ops.proofs.ShownLists.{last_linked, gap_behind_linked}
 use Rattle.ic_chain.specs.Walk.{WalkEnds}

@@ -1,4 +1,4 @@
-use Rattle.std.proofs.Common.{[], ◌∷◌, ◌++◌, drop, length, refl, sym, ap, ◌∙◌, arith}
+use Rattle.std.proofs.Common.{length, ap, arith}
 use Rattle.ic_list_algorithms.proofs.WalkLemmas.{walk_begins, walk_between, walk_goes, walk_fewer, nth_is, gap_here, all_few, nth_beyond, gap_beyond, one_left}
 use Rattle.ic_list_algorithms.proofs.whole.gap_at.Goals as goal
 

@@ -1,4 +1,4 @@
-use Rattle.std.proofs.Common.{sym, ap, ◌∙◌, arith}
+use Rattle.std.proofs.Common.{ap, ◌∙◌, arith}
 use Rattle.ic_link_ops.specs.Sequences.{last}
 use Rattle.ic_link_ops.proofs.Walks.{few_places}
 use Rattle.ic_list_algorithms.proofs.WalkLemmas.{take_beyond}

@@ -1,4 +1,4 @@
-use Rattle.std.proofs.Common.{◌≡◌, ◌∙◌}
+use Rattle.std.proofs.Common.{◌≡◌}
 use Rattle.std.proofs.slice.Orders.{answers_next}
 use Rattle.ic_list_algorithms.proofs.keeps.PassesKeeps.keeps.Goals as goal
 

@@ -1,0 +1,20 @@
+use Rattle.ic_unsafe_ref.specs.Places.{index_of}
+use Rattle.ic_link_ops.specs.EntryLaws.{linked_in_range}
+use Rattle.ic_link_ops.specs.Links.{link_of}
+use Rattle.ic_link_ops.specs.PlainTables.{entries, table, linked_by}
+use Rattle.structure_tests.proofs.PlacedChains.{chain_placed}
+use Rattle.structure_tests.proofs.algorithms.eight.Goals as goal
+
+pub returns : goal.returns
+returns g c =
+    let i = c.filled-list.ensures in
+    let covered = linked_in_range (linked_by g.W.Words.is_linked) (link_of g.W.Words.unlinked) g.met.W.Words.starts_unlinked (entries c.filled-list.new.links) in
+    record {
+      shown = record {
+        members = i.shown.0;
+        shown = i.shown.1;
+        placed = chain_placed g.K.ForwardLinks.Between (table g.W.Words.unlinked c.filled-list.new.links).entry c.eight_objects-objects.result.0
+            (λ q a b k. c.eight_objects-objects.ensures.placed q (rw (← i.covers) (covered (index_of q) (g.met.K.ForwardLinks.between_linked _ a b k)))) _ i.shown.0 i.shown.1.chain;
+      };
+      some = i.shown;
+    }

@@ -1,0 +1,240 @@
+//! The algorithms over lists, each called once at a list of eight objects, or of two lists of four.
+
+ghost use Rattle.std.specs.Prelude.{◌≡◌, ◌≤◌, ◌<◌, true};
+ghost use Rattle.ic_unsafe_ref.specs.declared.place.Place.{Place};
+ghost use Rattle.ic_unsafe_ref.specs.Objects.{is_placed};
+ghost use Rattle.ic_unsafe_ref.specs.Places.{index_of};
+ghost use Rattle.ic_link_ops.specs.Chains.{ShowsChain, ShowsSomeChain};
+ghost use Rattle.ic_link_ops.specs.PlacedObjects.{ShowsPlaced};
+ghost use Rattle.ic_link_ops.specs.PlainTables.{table};
+ghost use Rattle.ic_list_algorithms.specs.Runs.{TwoShown};
+ghost use Rattle.ic_list_algorithms.specs.TwoLists.{TwoLists};
+
+use ic_chain::{Chain, DoubleEnded, ForwardLinks, ListKind, SingleEnded};
+use ic_link_ops::linked_list::TwoWords;
+use ic_link_ops::singly_linked_list::Singly;
+use ic_link_ops::{LinkOps, OneWord, PlainTable, Words};
+use ic_linked_list::DoublyLinked;
+use ic_list_algorithms as algorithms;
+use ic_list_algorithms::{By, Following, Natural};
+use ic_singly_linked_list::SinglyLinked;
+use ic_test_support::answers::placed;
+use ic_test_support::tables::are_placed;
+use ic_unsafe_ref::{Objects, Place, UnsafeRef};
+use std::alloc::Global;
+use std::process::Abort;
+
+// A list, the table of its links, which covers the places 0 to 7, and its objects: 10 to 80 stand there, in this order.
+#[derive(Drop)]
+struct Fixture<K: ListKind, W: Words> {
+    objects: Objects<u64>,
+    links: PlainTable<W>,
+    list: Chain<K, u64>,
+}
+
+// The objects 10 to 80, in this order, and a table of links that covers their places, 0 to 7.
+fn eight_objects<W: Words>(rt: &impl Abort, alloc: Global) -> (Objects<u64>, PlainTable<W>)
+    ensures covers { (table W.unlinked result.1).extent.places ≡ 8 }
+    ensures placed { (q : Place) → index_of q < 8 → is_placed result.0 q ≡ true }
+{
+    let mut objects = Objects::new(alloc);
+    for tens in 1..9 {
+        let _ = placed(&mut objects, tens * 10);
+    }
+    let mut links = PlainTable::new(alloc);
+    let _ = links.cover(8);
+    assert!(rt; links.covers() == 8);
+    assert!(rt; are_placed(&links, &objects));
+    (objects, links)
+}
+
+// Puts the objects at the first places into a new list, as many as that and in their order.
+fn filled<K: ForwardLinks<PlainTable<W>>, W: Words>(
+    links: &mut PlainTable<W>,
+    members: usize,
+) -> Chain<K, u64>
+    requires covered { (table W.unlinked links.old).extent.places ≡ 8 }
+    requires few { members ≤ 8 }
+    ensures covers { (table W.unlinked links.new).extent.places ≡ 8 }
+    ensures shown { ShowsSomeChain K.Between K.kept (table W.unlinked links.new) result }
+{
+    let mut list = Chain::new();
+    for given in 0..members {
+        let place = Place::new(members - 1 - given).unwrap();
+        let _ = list.push_front(links, UnsafeRef::new(place));
+    }
+    list
+}
+
+// A list of all eight objects, in their order.
+fn eight<K: ForwardLinks<PlainTable<W>>, W: Words>(rt: &impl Abort, alloc: Global) -> Fixture<K, W>
+    ensures shown { ShowsPlaced (ShowsChain K.Between K.kept (table W.unlinked result.links) result.list) result.objects }
+    ensures some { ShowsSomeChain K.Between K.kept (table W.unlinked result.links) result.list }
+{
+    let (objects, mut links) = eight_objects(rt, alloc);
+    let list = filled(&mut links, 8);
+    Fixture {
+        objects,
+        links,
+        list,
+    }
+}
+
+// Sorts a list of numbers, the largest first.
+fn sort_down<K: Following<L>, L: LinkOps>(
+    list: &mut Chain<K, u64>,
+    links: &mut L,
+    objects: &Objects<u64>,
+)
+    requires placed { ShowsPlaced (ShowsChain K.Between K.kept (L.table links.old) list.old) objects.now }
+    ensures shown { ShowsSomeChain K.Between K.kept (L.table links.new) list.new }
+{
+    let mut largest_first = By::new(|a: &u64, b: &u64| b.cmp(a));
+    algorithms::sort_by(list, links, objects, &mut largest_first);
+}
+
+// Whether a list is in order, and how many members it has, which is the fourth, and which is the first above 40.
+fn walked<K: ForwardLinks<L>, L: LinkOps>(
+    list: &Chain<K, u64>,
+    links: &L,
+    objects: &Objects<u64>,
+) -> (bool, usize, Option<usize>, Option<usize>, Option<usize>)
+    requires placed { ShowsPlaced (ShowsChain K.Between K.kept (L.table links.now) list.now) objects.now }
+{
+    (
+        algorithms::is_sorted_by(list, links, objects, &mut Natural),
+        algorithms::len(list, links),
+        index(algorithms::nth(list, links, 3)),
+        algorithms::position(list, links, objects, |value: &u64| *value > 40),
+        index(algorithms::find(list, links, objects, |value: &u64| *value > 40)),
+    )
+}
+
+// The index of a member's place.
+fn index(object: Option<UnsafeRef<u64>>) -> Option<usize> {
+    match object {
+        Some(object) => Some(object.place().index()),
+        None => None,
+    }
+}
+
+// Merges an empty list into one, puts one behind it, and turns it behind its first two members: it answers the member that is first then.
+fn merged<K: Following<L>, L: LinkOps>(
+    list: &mut Chain<K, u64>,
+    links: &mut L,
+    objects: &Objects<u64>,
+) -> Option<usize>
+    requires placed { ShowsPlaced (ShowsChain K.Between K.kept (L.table links.old) list.old) objects.now }
+{
+    algorithms::merge_by(list, links, objects, &mut Natural, Chain::new());
+    turned(list, links)
+}
+
+// Turns a list behind its first two members, and answers the member that is first then.
+fn turned<K: ForwardLinks<L>, L: LinkOps>(list: &mut Chain<K, u64>, links: &mut L) -> Option<usize>
+    requires shown { ShowsSomeChain K.Between K.kept (L.table links.old) list.old }
+{
+    algorithms::rotate_left(list, links, 2);
+    index_of_first(list)
+}
+
+// Keeps the numbers above 30, and answers the first member.
+fn sifted<K: ForwardLinks<L>, L: LinkOps>(
+    list: &mut Chain<K, u64>,
+    links: &mut L,
+    objects: &Objects<u64>,
+) -> Option<usize>
+    requires placed { ShowsPlaced (ShowsChain K.Between K.kept (L.table links.old) list.old) objects.now }
+{
+    algorithms::retain(list, links, objects, |value: &u64| *value > 30);
+    index_of_first(list)
+}
+
+// Of the numbers that have the same hundreds keeps the first: it answers how many members there are then.
+fn deduped<K: ForwardLinks<L>, L: LinkOps>(
+    list: &mut Chain<K, u64>,
+    links: &mut L,
+    objects: &Objects<u64>,
+) -> usize
+    requires placed { ShowsPlaced (ShowsChain K.Between K.kept (L.table links.old) list.old) objects.now }
+{
+    algorithms::dedup_by(
+        list,
+        links,
+        objects,
+        |a: &u64, b: &u64| *a / 100 == *b / 100,
+    );
+    algorithms::len(list, links)
+}
+
+// Puts an empty list behind this one.
+fn appended<K: DoubleEnded + ForwardLinks<L>, L: LinkOps>(
+    list: &mut Chain<K, u64>,
+    links: &mut L,
+) -> bool
+    requires shown { ShowsSomeChain K.Between K.kept (L.table links.old) list.old }
+{
+    let mut other = Chain::new();
+    algorithms::append(list, links, &mut other);
+    other.is_empty()
+}
+
+// The same, by a walk.
+fn appended_walking<K: SingleEnded + ForwardLinks<L>, L: LinkOps>(
+    list: &mut Chain<K, u64>,
+    links: &mut L,
+) -> bool
+    requires shown { ShowsSomeChain K.Between K.kept (L.table links.old) list.old }
+{
+    let mut other = Chain::new();
+    algorithms::append_walking(list, links, &mut other);
+    other.is_empty()
+}
+
+// The index of the first member's place.
+fn index_of_first<K: ListKind>(list: &Chain<K, u64>) -> Option<usize> {
+    match list.first() {
+        Some(place) => Some(place.index()),
+        None => None,
+    }
+}
+
+#[test]
+fn algorithms_over_doubly_lists(rt: HostRuntime) {
+    let alloc = rt.alloc();
+    let mut eight_there: Fixture<DoublyLinked, TwoWords> = eight(&rt, alloc);
+    let found = walked(&eight_there.list, &eight_there.links, &eight_there.objects);
+    assert!(rt; found.0 && found.1 == 8);
+    assert!(rt; found.2 == Some(3) && found.3 == Some(4) && found.4 == Some(4));
+    sort_down(
+        &mut eight_there.list,
+        &mut eight_there.links,
+        &eight_there.objects,
+    );
+    assert!(rt; index_of_first(&eight_there.list) == Some(7));
+    assert!(rt; turned(&mut eight_there.list, &mut eight_there.links) == Some(5));
+    let mut other: Fixture<DoublyLinked, TwoWords> = eight(&rt, alloc);
+    assert!(rt; merged(&mut other.list, &mut other.links, &other.objects) == Some(2));
+    let mut other: Fixture<DoublyLinked, TwoWords> = eight(&rt, alloc);
+    assert!(rt; sifted(&mut other.list, &mut other.links, &other.objects) == Some(3));
+    let mut other: Fixture<DoublyLinked, TwoWords> = eight(&rt, alloc);
+    assert!(rt; deduped(&mut other.list, &mut other.links, &other.objects) == 1);
+    let mut other: Fixture<DoublyLinked, TwoWords> = eight(&rt, alloc);
+    assert!(rt; appended(&mut other.list, &mut other.links));
+}
+
+#[test]
+fn algorithms_over_singly_lists(rt: HostRuntime) {
+    let alloc = rt.alloc();
+    let mut eight_there: Fixture<SinglyLinked, OneWord<Singly>> = eight(&rt, alloc);
+    sort_down(
+        &mut eight_there.list,
+        &mut eight_there.links,
+        &eight_there.objects,
+    );
+    assert!(rt; index_of_first(&eight_there.list) == Some(7));
+    let mut other: Fixture<SinglyLinked, OneWord<Singly>> = eight(&rt, alloc);
+    assert!(rt; merged(&mut other.list, &mut other.links, &other.objects) == Some(2));
+    let mut other: Fixture<SinglyLinked, OneWord<Singly>> = eight(&rt, alloc);
+    assert!(rt; appended_walking(&mut other.list, &mut other.links));
+}
