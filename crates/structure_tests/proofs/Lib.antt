@@ -1,1 +1,2 @@
 pub mod JobQueueLemmas
+pub mod PlacedChains

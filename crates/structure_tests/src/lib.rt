@@ -3,5 +3,7 @@
 #![tactic(auto)]
 
 #[cfg(test)]
+mod algorithms;
+#[cfg(test)]
 mod check;
 pub mod containers;
