@@ -12,11 +12,13 @@ use Rattle.ic_ffi.specs.declared.words.RawTwo.{RawTwo}
 use Rattle.ic_ffi.specs.declared.table.RawTable.{RawTable}
 use Rattle.ic_ffi.specs.declared.gap.Side.{Side}
 use Rattle.ic_ffi.specs.declared.gap.Side.TheVariants.{After, Before}
-use Rattle.ic_ffi.specs.Words.{is_linked_two}
-use Rattle.ic_ffi.specs.Gaps.{IsBeside, Stands}
+use Rattle.ic_ffi.specs.declared.words.RawEnds.{RawEnds}
+use Rattle.ic_ffi.specs.Words.{is_linked_two, no_words}
+use Rattle.ic_ffi.specs.Gaps.{IsBeside, Stands, gap_of, outermost}
 use Rattle.ic_ffi.specs.Tables.{raw_entries}
-use Rattle.ic_ffi.specs.Doubly.{Shows, TellsGap, neighbors, next_from, prev_from, table_of, lent_table}
-use Rattle.ic_ffi.proofs.Lists.{before_stands, behind_stands}
+use Rattle.ic_ffi.specs.Doubly.{Shows, ShowsList, Split, SplitsBeside, TellsGap, ends_of, neighbors, next_from, prev_from, table_of, lent_table}
+use Rattle.ic_ffi.proofs.Lists.{before_stands, behind_stands, kept}
+use Rattle.ic_ffi.proofs.Views.{splits_back}
 
 -- what stands between two others is linked
 pub law : (e : RawTwo) (b a : Option Place) → IsBetween neighbors e b a → is_linked_two e ≡ true
@@ -32,6 +34,11 @@ module _ {t : Table RawTwo} {list : Ends} (front back : List Place) (shown : Sho
   prev_shown None e = shown.tail ∙ last_of_front front back e
   prev_shown (Some q) e = (behind_gap front back shown e).prev
 
+-- a gap beside none is the outermost one of all
+pub outermost_is : (side : Side) (cut : Cut) → IsBeside side cut None → gap_of (outermost side (join cut)) ≡ gap_of cut
+outermost_is After cut e = λ k. record { before = e k; behind = first_of_back cut.front cut.back e k }
+outermost_is Before cut e = λ k. record { before = last_of_front cut.front cut.back e k; behind = e k }
+
 -- what a call is told stands
 pub beside_stands : (side : Side) {t : Table RawTwo} {list : Ends} (cut : Cut) {at : Option Place} → Shows t list (join cut) → IsBeside side cut at → Stands is_linked_two t at
 beside_stands After cut shown e = before_stands law cut.front cut.back shown e
@@ -44,6 +51,22 @@ told_back After t list at e told =
     let back : TellsGap After (table_of (raw_entries t)) list at = told in subst (λ es. TellsGap After (table_of es) list at) e back
 told_back Before t list at e told =
     let back : TellsGap Before (table_of (raw_entries t)) list at = told in subst (λ es. TellsGap Before (table_of es) list at) e back
+
+-- A CUT OF A VIEW is one of its words, once both lists are kept
+pub split_back : (side : Side) (a b : RawTable RawTwo) {es fs : List RawTwo} (list list' rest : RawEnds) {keeps handed : Ends} (cut : Cut)
+    → raw_entries a ≡ es → fs ≡ raw_entries b → ends_of list' ≡ keeps → ends_of rest ≡ handed
+    → (ShowsList es list (join cut) → SplitsBeside side (lent_table a) (lent_table b) keeps handed cut) → Split side es fs list list' 0 rest cut
+split_back After a b list list' rest cut e f k l does = λ shown. record { accepted = refl; done = splits_back no_words kept a b e f k l (does shown) }
+split_back Before a b list list' rest cut e f k l does = λ shown. record { accepted = refl; done = splits_back no_words kept a b e f k l (does shown) }
+
+-- THE WORDS TELL OF A GAP where what stands on one side of a place leads back to it
+pub told_after : (t : Table RawTwo) (list : Ends) (at next : Option Place) → next_from t list at ≡ next → Stands is_linked_two t next → prev_from t list next ≡ at
+    → TellsGap After t list at
+told_after t list at next e stands back = (rw e stands, rw e back)
+
+pub told_before : (t : Table RawTwo) (list : Ends) (at prev : Option Place) → prev_from t list at ≡ prev → Stands is_linked_two t prev → next_from t list prev ≡ at
+    → TellsGap Before t list at
+told_before t list at prev e stands back = (rw e stands, rw e back)
 
 -- the gap behind a member
 abbrev pub behind : Place → (front back : List Place) → Cut

@@ -5,7 +5,7 @@ use Rattle.ic_unsafe_ref.specs.declared.place.Place.{Place}
 use Rattle.ic_link_ops.specs.Sequences.{Cut}
 use Rattle.ic_link_ops.specs.Tables.{Table, KeepsBeside, IsUnlinked}
 use Rattle.ic_link_ops.specs.PlainTables.{entry_at, table_of}
-use Rattle.ic_link_ops.specs.Edits.{Inserts, Removes, Replaces, Splices}
+use Rattle.ic_link_ops.specs.Edits.{Inserts, Removes, Replaces, Splices, Splits}
 use Rattle.ic_rbtree.specs.Ordered.{InsertsInOrder}
 use Rattle.ic_ffi.specs.declared.table.RawTable.{RawTable}
 use Rattle.ic_ffi.specs.Calls.{Clears}
@@ -67,6 +67,13 @@ module _ {W : Type 0} (unlinked : W) where
         let back : Splices Shows (table_of unlinked (raw_entries a)) (table_of unlinked (raw_entries b)) h cut t =
         record { shows = kept _ _ _ _ r.shows (λ q. refl); frame = frame_back a b r.frame } in
         rw (← e, f, k) back
+
+    pub splits_back : (a b : RawTable W) {es fs : List W} {h h' g g' : H} {s t : List Place} → raw_entries a ≡ es → fs ≡ raw_entries b → h' ≡ h → g' ≡ g
+        → Splits Shows (raw_table unlinked a) (raw_table unlinked b) h g s t → Splits Shows (table_of unlinked es) (table_of unlinked fs) h' g' s t
+    splits_back a b {h} {g = g} {s} {t} e f k l r =
+        let back : Splits Shows (table_of unlinked (raw_entries a)) (table_of unlinked (raw_entries b)) h g s t =
+        record { keeps = kept _ _ _ _ r.keeps (λ q. refl); hands_out = kept _ _ _ _ r.hands_out (λ q. refl); frame = frame_back a b r.frame } in
+        rw (← e, f, k, l) back
 
   pub clears_back : (is_linked : W → Bool) (a b : RawTable W) {es fs : List W} {s : List Place} → raw_entries a ≡ es → fs ≡ raw_entries b
       → Clears is_linked (raw_table unlinked a) (raw_table unlinked b) s → Clears is_linked (table_of unlinked es) (table_of unlinked fs) s

@@ -10,26 +10,22 @@ ghost use Rattle.ic_link_ops.specs.Sequences.{Cut, join, at_back};
 ghost use Rattle.ic_link_ops.specs.Chains.{ShowsChain};
 ghost use Rattle.ic_link_ops.specs.Edits.{Splices};
 ghost use Rattle.ic_ffi.specs.declared.gap.Gap.{Gap};
-ghost use Rattle.ic_ffi.specs.declared.gap.Side.TheVariants.{Before};
 ghost use Rattle.ic_ffi.specs.Answers.{IsStatus, refusal};
 ghost use Rattle.ic_ffi.specs.Fills.{IsFreeRun, run_faults, first_fault};
 ghost use Rattle.ic_ffi.specs.Gaps.{StandBeside, gap_of};
 ghost use Rattle.ic_ffi.specs.Tables.{raw_table, place_fault};
-ghost use Rattle.ic_ffi.specs.Words.{is_linked_one, is_linked_two};
-ghost use Rattle.ic_ffi.specs.Doubly.{Shows, TellsGap, lent_table};
+ghost use Rattle.ic_ffi.specs.Words.{is_linked_one};
 ghost use Rattle.ic_ffi.specs.Singly as singly;
 ghost use Rattle.ic_ffi.specs.Xor as xor;
 
 use crate::gap::Gap;
-use crate::list::List;
 use crate::number::place_of;
 use crate::status::{BROKEN, OK};
 use crate::table::RawTable;
-use crate::words::{RawOne, RawTwo};
+use crate::words::RawOne;
 use crate::xor_list;
 use ic_chain::{Chain, ForwardLinks};
 use ic_link_ops::Words;
-use ic_link_ops::linked_list::LinkedListOps;
 use ic_unsafe_ref::Place;
 
 // The first fault of `count` places from this number on, [`OK`] where each is one of the table and not linked.
@@ -110,33 +106,6 @@ pub(crate) fn fill<'a, W: Words, K: ForwardLinks<RawTable<'a, W>>>(
     };
     link_run(links, list, gap, first, count);
     OK
-}
-
-/// The gap behind the last member of a doubly linked list. None where the words tell of none.
-pub(crate) fn gap_behind_last(links: &RawTable<'_, RawTwo>, list: &List) -> Option<Gap>
-    ensures told { (gap : Gap) → result ≡ Some gap → TellsGap Before (lent_table links.now) list.now None }
-    ensures stand { (gap : Gap) → result ≡ Some gap → StandBeside is_linked_two (lent_table links.now) gap }
-    ensures shown { (s : List Place) → Shows (lent_table links.now) list.now (join (at_back s)) → result ≡ Some (gap_of (at_back s)) }
-{
-    let Some(last) = list.last() else {
-        if !list.is_empty() {
-            return None;
-        }
-        return Some(Gap {
-            before: None,
-            behind: None,
-        });
-    };
-    if !links.is_linked(last) {
-        return None;
-    }
-    if let Some(_) = links.next(last) {
-        return None;
-    }
-    Some(Gap {
-        before: Some(last),
-        behind: None,
-    })
 }
 
 /// The gap behind the last member of an XOR list. None where the words tell of none.

@@ -18,10 +18,12 @@ ghost use Rattle.ic_ffi.specs.Singly as singly;
 ghost use Rattle.ic_ffi.specs.Singly.{front_of, word_of_front};
 ghost use Rattle.ic_ffi.specs.Xor as xor;
 
-use crate::fill::{fill, gap_behind_last, gap_behind_last_of_xor};
-use crate::list_calls::list_of;
+use crate::fill::{fill, gap_behind_last_of_xor};
+use crate::gap::Side;
+use crate::list::gap_at;
+use crate::list_calls::{list_of, write_back};
 use crate::stack::gap_after;
-use crate::stack_calls::stack_of;
+use crate::stack_calls::{self, stack_of};
 use crate::status::OK;
 use crate::table::RawTable;
 use crate::words::{RawEnds, RawFront, RawOne, RawTwo};
@@ -52,12 +54,12 @@ pub extern "C" fn ic_list_fill(
     }
     let mut links = RawTable::new(table);
     let mut edited = list_of(&*list);
-    let gap = gap_behind_last(&links, &edited);
+    let gap = gap_at(&links, &edited, Side::Before, None);
     let status = fill(&mut links, &mut edited, gap, first, count);
     if status != OK {
         return status;
     }
-    list.set(edited.first(), edited.last());
+    write_back(list, edited);
     OK
 }
 
@@ -91,7 +93,7 @@ pub extern "C" fn ic_stack_fill(
     if status != OK {
         return status;
     }
-    list.set(edited.first());
+    stack_calls::write_back(list, edited);
     OK
 }
 
@@ -125,6 +127,6 @@ pub extern "C" fn ic_xor_fill(
     if status != OK {
         return status;
     }
-    list.set(edited.first(), edited.last());
+    xor_calls::write_back(list, edited);
     OK
 }

@@ -21,6 +21,7 @@ mod gap;
 mod list;
 mod list_calls;
 mod move_calls;
+mod moving;
 mod nodes;
 mod number;
 mod search;

@@ -7,15 +7,16 @@
 ghost use Rattle.std.specs.Prelude.{◌≡◌, ◌≢◌, ◌++◌, ◌∷◌, [], List, Option, Some, None, true, false};
 ghost use Rattle.ic_unsafe_ref.specs.declared.place.Place.{Place};
 ghost use Rattle.ic_link_ops.specs.Sequences.{Cut, join, first, last, at_back, IsDisjoint};
-ghost use Rattle.ic_link_ops.specs.Tables.{IsUnlinked, KeepsLinked};
+ghost use Rattle.ic_link_ops.specs.Tables.{IsUnlinked};
 ghost use Rattle.ic_link_ops.specs.Chains.{Ends};
 ghost use Rattle.ic_link_ops.specs.Edits.{Inserts, Removes, Replaces, Splices};
 ghost use Rattle.ic_ffi.specs.declared.gap.Gap.{Gap};
 ghost use Rattle.ic_ffi.specs.declared.gap.Side.TheVariants.{After, Before};
-ghost use Rattle.ic_ffi.specs.Gaps.{IsBeside, Stands, StandBeside, before, gap_of, outermost, toward};
+ghost use Rattle.ic_ffi.specs.Gaps.{IsBeside, Stands, StandBeside, before, gap_of, outermost};
 ghost use Rattle.ic_ffi.specs.Tables.{IsFree};
 ghost use Rattle.ic_ffi.specs.Words.{is_linked_two};
-ghost use Rattle.ic_ffi.specs.Doubly.{Shows, SplitsBeside, TellsGap, gap_from, IsEnd, end_on, lent_table, next_from, prev_from};
+ghost use Rattle.ic_link_ops.specs.LinkedList.{neighbors_at};
+ghost use Rattle.ic_ffi.specs.Doubly.{Shows, SplitsBeside, TellsGap, gap_from, IsEnd, end_on, lent_table, neighbors, next_from, prev_from};
 
 use crate::gap::{Gap, Side, begin_alike};
 use crate::table::RawTable;
@@ -55,7 +56,7 @@ fn prev_of(links: &RawTable<'_, RawTwo>, list: &List, place: Option<Place>) -> O
 
 // Whether `place` is linked, or none, and `next` stands behind it.
 #[inline]
-fn leads(
+pub(crate) fn leads(
     links: &RawTable<'_, RawTwo>,
     list: &List,
     place: Option<Place>,
@@ -98,7 +99,12 @@ pub(crate) fn follows(
 
 // The gap beside a place, at none the outermost one. None where the words tell of no gap.
 #[inline]
-fn gap_at(links: &RawTable<'_, RawTwo>, list: &List, side: Side, at: Option<Place>) -> Option<Gap>
+pub(crate) fn gap_at(
+    links: &RawTable<'_, RawTwo>,
+    list: &List,
+    side: Side,
+    at: Option<Place>,
+) -> Option<Gap>
     ensures at { (gap : Gap) → result ≡ Some gap → Stands is_linked_two (lent_table links.now) at }
     ensures stands { (gap : Gap) → result ≡ Some gap → StandBeside is_linked_two (lent_table links.now) gap }
     ensures told { (gap : Gap) → result ≡ Some gap → TellsGap side (lent_table links.now) list.now at }
@@ -128,7 +134,7 @@ fn gap_at(links: &RawTable<'_, RawTwo>, list: &List, side: Side, at: Option<Plac
 
 // The places on both sides of a member, at none the last one and the first. None where the words tell of no such places.
 #[inline]
-fn beside(links: &RawTable<'_, RawTwo>, list: &List, at: Option<Place>) -> Option<Gap>
+pub(crate) fn beside(links: &RawTable<'_, RawTwo>, list: &List, at: Option<Place>) -> Option<Gap>
     ensures at { (gap : Gap) → result ≡ Some gap → Stands is_linked_two (lent_table links.now) at }
     ensures stands { (gap : Gap) → result ≡ Some gap → StandBeside is_linked_two (lent_table links.now) gap }
     ensures before { (gap : Gap) → result ≡ Some gap → TellsGap Before (lent_table links.now) list.now at }
@@ -152,9 +158,27 @@ fn beside(links: &RawTable<'_, RawTwo>, list: &List, at: Option<Place>) -> Optio
     Some(Gap { before, behind })
 }
 
+// Whether the place is one of the table and linked, with `next` behind it, by words such as a call writes.
+#[inline]
+pub(crate) fn is_before(links: &RawTable<'_, RawTwo>, place: Place, next: Option<Place>) -> bool
+    ensures stands { result ≡ true → Stands is_linked_two (lent_table links.now) (Some place) }
+    ensures next { result ≡ true → (neighbors_at neighbors (lent_table links.now) place).next ≡ next }
+{
+    links.covers(place) && links.at(place).is_before(next)
+}
+
+// Whether the place is one of the table and linked, with `prev` before it, by words such as a call writes.
+#[inline]
+pub(crate) fn is_behind(links: &RawTable<'_, RawTwo>, place: Place, prev: Option<Place>) -> bool
+    ensures stands { result ≡ true → Stands is_linked_two (lent_table links.now) (Some place) }
+    ensures prev { result ≡ true → (neighbors_at neighbors (lent_table links.now) place).prev ≡ prev }
+{
+    links.covers(place) && links.at(place).is_behind(prev)
+}
+
 // The places on both sides of a member that has one on either, where their words are such as a call writes. Else none.
 #[inline]
-fn between(links: &RawTable<'_, RawTwo>, member: Place) -> Option<Gap>
+pub(crate) fn between(links: &RawTable<'_, RawTwo>, member: Place) -> Option<Gap>
     ensures member { (gap : Gap) → result ≡ Some gap → Stands is_linked_two (lent_table links.now) (Some member) }
     ensures stands { (gap : Gap) → result ≡ Some gap → StandBeside is_linked_two (lent_table links.now) gap }
     ensures before { (gap : Gap) (list : Ends) → result ≡ Some gap → TellsGap Before (lent_table links.now) list (Some member) }
@@ -173,10 +197,7 @@ fn between(links: &RawTable<'_, RawTwo>, member: Place) -> Option<Gap>
     let Some(behind) = links.next(member) else {
         return None;
     };
-    if !links.covers(before) || !links.at(before).is_before(member) {
-        return None;
-    }
-    if !links.covers(behind) || !links.at(behind).is_behind(member) {
+    if !is_before(links, before, Some(member)) || !is_behind(links, behind, Some(member)) {
         return None;
     }
     Some(Gap {
@@ -187,7 +208,7 @@ fn between(links: &RawTable<'_, RawTwo>, member: Place) -> Option<Gap>
 
 // The outermost gap on a side of none, beyond a member whose words are such as a call writes. Else none.
 #[inline]
-fn gap_at_end(links: &RawTable<'_, RawTwo>, list: &List, side: Side) -> Option<Gap>
+pub(crate) fn gap_at_end(links: &RawTable<'_, RawTwo>, list: &List, side: Side) -> Option<Gap>
     ensures told { (gap : Gap) → result ≡ Some gap → TellsGap side (lent_table links.now) list.now None }
     ensures stands { (gap : Gap) → result ≡ Some gap → StandBeside is_linked_two (lent_table links.now) gap }
     ensures end { (gap : Gap) → result ≡ Some gap → (q : Place) × (end_on side list.now ≡ Some q) }
@@ -198,7 +219,7 @@ fn gap_at_end(links: &RawTable<'_, RawTwo>, list: &List, side: Side) -> Option<G
             let Some(first) = list.first() else {
                 return None;
             };
-            if !links.covers(first) || !links.at(first).is_first() {
+            if !is_behind(links, first, None) {
                 return None;
             }
             Some(Gap {
@@ -210,7 +231,7 @@ fn gap_at_end(links: &RawTable<'_, RawTwo>, list: &List, side: Side) -> Option<G
             let Some(last) = list.last() else {
                 return None;
             };
-            if !links.covers(last) || !links.at(last).is_last() {
+            if !is_before(links, last, None) {
                 return None;
             }
             Some(Gap {
@@ -219,152 +240,6 @@ fn gap_at_end(links: &RawTable<'_, RawTwo>, list: &List, side: Side) -> Option<G
             })
         }
     }
-}
-
-// Whether the member is at the end beside the outermost gap on this side of none, with another one beyond it, and their words are such as a
-// call writes.
-#[inline]
-pub(crate) fn is_at_end(
-    links: &RawTable<'_, RawTwo>,
-    list: &List,
-    side: Side,
-    member: Place,
-) -> bool
-    ensures end { result ≡ true → end_on side list.now ≡ Some member }
-    ensures told { result ≡ true → TellsGap side (lent_table links.now) list.now None }
-    ensures member { result ≡ true → Stands is_linked_two (lent_table links.now) (Some member) }
-    ensures before { result ≡ true → TellsGap Before (lent_table links.now) list.now (Some member) }
-    ensures behind { result ≡ true → TellsGap After (lent_table links.now) list.now (Some member) }
-{
-    let at = Some(member);
-    match side {
-        Side::After => {
-            if !leads(links, list, None, at)
-                || !links.covers(member)
-                || !links.at(member).is_first()
-            {
-                return false;
-            }
-            let Some(second) = links.next(member) else {
-                return false;
-            };
-            links.covers(second) && links.at(second).is_behind(member)
-        }
-        Side::Before => {
-            if !follows(links, list, None, at)
-                || !links.covers(member)
-                || !links.at(member).is_last()
-            {
-                return false;
-            }
-            let Some(second) = links.prev(member) else {
-                return false;
-            };
-            links.covers(second) && links.at(second).is_before(member)
-        }
-    }
-}
-
-// The places on both sides of the last member where the side is that of the first, and of the first one where it is that of the last, if
-// there is another one, and their words are such as a call writes. Else none.
-#[inline]
-fn beside_other_end(
-    links: &RawTable<'_, RawTwo>,
-    list: &List,
-    side: Side,
-    member: Place,
-) -> Option<Gap>
-    ensures member { (gap : Gap) → result ≡ Some gap → Stands is_linked_two (lent_table links.now) (Some member) }
-    ensures stands { (gap : Gap) → result ≡ Some gap → StandBeside is_linked_two (lent_table links.now) gap }
-    ensures before { (gap : Gap) → result ≡ Some gap → TellsGap Before (lent_table links.now) list.now (Some member) }
-    ensures behind { (gap : Gap) → result ≡ Some gap → TellsGap After (lent_table links.now) list.now (Some member) }
-    ensures toward { (gap : Gap) → result ≡ Some gap → (q : Place) × (toward side gap ≡ Some q) }
-    ensures shown { (gap : Gap) (front back : List Place) → result ≡ Some gap → Shows (lent_table links.now) list.now (front ++ member ∷ back)
-        → gap ≡ gap_of (record { front = front; back = back }) }
-{
-    match side {
-        Side::After => {
-            if !is_at_end(links, list, Side::Before, member) {
-                return None;
-            }
-            let Some(before) = links.prev(member) else {
-                return None;
-            };
-            Some(Gap {
-                before: Some(before),
-                behind: links.next(member),
-            })
-        }
-        Side::Before => {
-            if !is_at_end(links, list, Side::After, member) {
-                return None;
-            }
-            let Some(behind) = links.next(member) else {
-                return None;
-            };
-            Some(Gap {
-                before: links.prev(member),
-                behind: Some(behind),
-            })
-        }
-    }
-}
-
-// What `gaps_to_move` gives of a member that has one on both sides and goes to an end, where all these words are such as a call writes. Else
-// none.
-#[inline]
-pub(crate) fn gaps_to_end(
-    links: &RawTable<'_, RawTwo>,
-    list: &List,
-    side: Side,
-    member: Place,
-) -> Option<(Gap, Gap)>
-    ensures shown { (from to : Gap) (front back : List Place) → result ≡ Some (from, to)
-        → Shows (lent_table links.now) list.now (front ++ member ∷ back)
-        → (from ≡ gap_of (record { front = front; back = back })) × (to ≡ gap_of (outermost side (front ++ back))) }
-    ensures inner { (from to : Gap) → result ≡ Some (from, to) → (q : Place) × (toward side from ≡ Some q) }
-    ensures told { (from to : Gap) → result ≡ Some (from, to) → TellsGap side (lent_table links.now) list.now None }
-    ensures to { (from to : Gap) → result ≡ Some (from, to) → StandBeside is_linked_two (lent_table links.now) to }
-    ensures member { (from to : Gap) → result ≡ Some (from, to) → Stands is_linked_two (lent_table links.now) (Some member) }
-    ensures before { (from to : Gap) → result ≡ Some (from, to) → TellsGap Before (lent_table links.now) list.now (Some member) }
-    ensures behind { (from to : Gap) → result ≡ Some (from, to) → TellsGap After (lent_table links.now) list.now (Some member) }
-    ensures from { (from to : Gap) → result ≡ Some (from, to) → StandBeside is_linked_two (lent_table links.now) from }
-{
-    let Some(from) = between(links, member) else {
-        return None;
-    };
-    let Some(to) = gap_at_end(links, list, side) else {
-        return None;
-    };
-    Some((from, to))
-}
-
-// The same of a member at the other end.
-#[inline]
-pub(crate) fn gaps_from_other_end(
-    links: &RawTable<'_, RawTwo>,
-    list: &List,
-    side: Side,
-    member: Place,
-) -> Option<(Gap, Gap)>
-    ensures shown { (from to : Gap) (front back : List Place) → result ≡ Some (from, to)
-        → Shows (lent_table links.now) list.now (front ++ member ∷ back)
-        → (from ≡ gap_of (record { front = front; back = back })) × (to ≡ gap_of (outermost side (front ++ back))) }
-    ensures inner { (from to : Gap) → result ≡ Some (from, to) → (q : Place) × (toward side from ≡ Some q) }
-    ensures told { (from to : Gap) → result ≡ Some (from, to) → TellsGap side (lent_table links.now) list.now None }
-    ensures to { (from to : Gap) → result ≡ Some (from, to) → StandBeside is_linked_two (lent_table links.now) to }
-    ensures member { (from to : Gap) → result ≡ Some (from, to) → Stands is_linked_two (lent_table links.now) (Some member) }
-    ensures before { (from to : Gap) → result ≡ Some (from, to) → TellsGap Before (lent_table links.now) list.now (Some member) }
-    ensures behind { (from to : Gap) → result ≡ Some (from, to) → TellsGap After (lent_table links.now) list.now (Some member) }
-    ensures from { (from to : Gap) → result ≡ Some (from, to) → StandBeside is_linked_two (lent_table links.now) from }
-{
-    let Some(from) = beside_other_end(links, list, side, member) else {
-        return None;
-    };
-    let Some(to) = gap_at_end(links, list, side) else {
-        return None;
-    };
-    Some((from, to))
 }
 
 // Puts a place behind the last member, where its words are such as a call writes. Else it changes nothing, and says so.
@@ -409,13 +284,13 @@ pub(crate) fn pop_before_second(links: &mut RawTable<'_, RawTwo>, list: &mut Lis
     let Some(first) = list.first() else {
         return None;
     };
-    if !links.covers(first) || !links.at(first).is_first() {
+    if !is_behind(&*links, first, None) {
         return None;
     }
     let Some(second) = links.next(first) else {
         return None;
     };
-    if !links.covers(second) || !links.at(second).is_behind(first) {
+    if !is_behind(&*links, second, Some(first)) {
         return None;
     }
     list.bypass(links, None, first, Some(second));
@@ -497,13 +372,16 @@ pub(crate) fn remove(links: &mut RawTable<'_, RawTwo>, list: &mut List, member: 
 
 // The gap beside a member that has another one on its other side, where their words are such as a call writes. Else none.
 #[inline(always)]
-fn gap_inside(links: &RawTable<'_, RawTwo>, side: Side, at: Place) -> Option<Gap>
-    ensures at { (gap : Gap) → result ≡ Some gap → Stands is_linked_two (lent_table links.now) (Some at) }
+pub(crate) fn gap_inside(links: &RawTable<'_, RawTwo>, side: Side, at: Option<Place>) -> Option<Gap>
+    ensures at { (gap : Gap) → result ≡ Some gap → Stands is_linked_two (lent_table links.now) at }
     ensures stands { (gap : Gap) → result ≡ Some gap → StandBeside is_linked_two (lent_table links.now) gap }
-    ensures told { (gap : Gap) (list : Ends) → result ≡ Some gap → TellsGap side (lent_table links.now) list (Some at) }
+    ensures told { (gap : Gap) (list : Ends) → result ≡ Some gap → TellsGap side (lent_table links.now) list at }
     ensures shown { (gap : Gap) (list : Ends) (cut : Cut) → result ≡ Some gap → Shows (lent_table links.now) list (join cut)
-        → IsBeside side cut (Some at) → gap ≡ gap_of cut }
+        → IsBeside side cut at → gap ≡ gap_of cut }
 {
+    let Some(at) = at else {
+        return None;
+    };
     if !links.is_linked(at) {
         return None;
     }
@@ -512,7 +390,7 @@ fn gap_inside(links: &RawTable<'_, RawTwo>, side: Side, at: Place) -> Option<Gap
             let Some(behind) = links.next(at) else {
                 return None;
             };
-            if !links.covers(behind) || !links.at(behind).is_behind(at) {
+            if !is_behind(links, behind, Some(at)) {
                 return None;
             }
             Some(Gap {
@@ -524,7 +402,7 @@ fn gap_inside(links: &RawTable<'_, RawTwo>, side: Side, at: Place) -> Option<Gap
             let Some(before) = links.prev(at) else {
                 return None;
             };
-            if !links.covers(before) || !links.at(before).is_before(at) {
+            if !is_before(links, before, Some(at)) {
                 return None;
             }
             Some(Gap {
@@ -533,90 +411,6 @@ fn gap_inside(links: &RawTable<'_, RawTwo>, side: Side, at: Place) -> Option<Gap
             })
         }
     }
-}
-
-// What `gaps_to_move` gives of a member that has one on both sides and goes between two others, where all these words are such as a call
-// writes. Else none.
-#[inline(always)]
-pub(crate) fn gaps_inside(
-    links: &RawTable<'_, RawTwo>,
-    side: Side,
-    at: Option<Place>,
-    member: Place,
-) -> Option<(Gap, Gap)>
-    ensures shown { (from to : Gap) (list : Ends) (front back : List Place) (cut : Cut) → result ≡ Some (from, to)
-        → Shows (lent_table links.now) list (front ++ member ∷ back) → join cut ≡ front ++ member ∷ back → IsBeside side cut at
-        → (from ≡ gap_of (record { front = front; back = back })) × (to ≡ gap_of cut) }
-    ensures at { (from to : Gap) → result ≡ Some (from, to) → Stands is_linked_two (lent_table links.now) at }
-    ensures told { (from to : Gap) (list : Ends) → result ≡ Some (from, to) → TellsGap side (lent_table links.now) list at }
-    ensures to { (from to : Gap) → result ≡ Some (from, to) → StandBeside is_linked_two (lent_table links.now) to }
-    ensures member { (from to : Gap) → result ≡ Some (from, to) → Stands is_linked_two (lent_table links.now) (Some member) }
-    ensures before { (from to : Gap) (list : Ends) → result ≡ Some (from, to) → TellsGap Before (lent_table links.now) list (Some member) }
-    ensures behind { (from to : Gap) (list : Ends) → result ≡ Some (from, to) → TellsGap After (lent_table links.now) list (Some member) }
-    ensures from { (from to : Gap) → result ≡ Some (from, to) → StandBeside is_linked_two (lent_table links.now) from }
-{
-    let Some(at) = at else {
-        return None;
-    };
-    let Some(from) = between(links, member) else {
-        return None;
-    };
-    let Some(to) = gap_inside(links, side, at) else {
-        return None;
-    };
-    Some((from, to))
-}
-
-// The places on both sides of a member, and the gap beside another one, where the member is to go. None where the words tell of no such
-// member, or of no such gap.
-#[inline]
-pub(crate) fn gaps_to_move(
-    links: &RawTable<'_, RawTwo>,
-    list: &List,
-    side: Side,
-    at: Option<Place>,
-    member: Place,
-) -> Option<(Gap, Gap)>
-    ensures shown { (front back : List Place) (cut : Cut) → Shows (lent_table links.now) list.now (front ++ member ∷ back)
-        → join cut ≡ front ++ member ∷ back → IsBeside side cut at
-        → result ≡ Some (gap_of (record { front = front; back = back }), gap_of cut) }
-    ensures at { (from to : Gap) → result ≡ Some (from, to) → Stands is_linked_two (lent_table links.now) at }
-    ensures told { (from to : Gap) → result ≡ Some (from, to) → TellsGap side (lent_table links.now) list.now at }
-    ensures to { (from to : Gap) → result ≡ Some (from, to) → StandBeside is_linked_two (lent_table links.now) to }
-    ensures member { (from to : Gap) → result ≡ Some (from, to) → Stands is_linked_two (lent_table links.now) (Some member) }
-    ensures before { (from to : Gap) → result ≡ Some (from, to) → TellsGap Before (lent_table links.now) list.now (Some member) }
-    ensures behind { (from to : Gap) → result ≡ Some (from, to) → TellsGap After (lent_table links.now) list.now (Some member) }
-    ensures from { (from to : Gap) → result ≡ Some (from, to) → StandBeside is_linked_two (lent_table links.now) from }
-{
-    let Some(to) = gap_at(links, list, side, at) else {
-        return None;
-    };
-    let Some(from) = beside(links, list, Some(member)) else {
-        return None;
-    };
-    Some((from, to))
-}
-
-// Moves a member, which is between these two places, into a gap that it is not beside. It stays linked.
-#[inline]
-pub(crate) fn relocate(
-    links: &mut RawTable<'_, RawTwo>,
-    list: &mut List,
-    from: Gap,
-    member: Place,
-    to: Gap,
-)
-    requires member { Stands is_linked_two (lent_table links.old) (Some member) }
-    requires from { StandBeside is_linked_two (lent_table links.old) from }
-    requires to { StandBeside is_linked_two (lent_table links.old) to }
-    ensures moved { (front back : List Place) (cut : Cut) → Shows (lent_table links.old) list.old (front ++ member ∷ back)
-        → join cut ≡ front ++ back → from ≡ gap_of (record { front = front; back = back }) → to ≡ gap_of cut
-        → Inserts Shows (lent_table links.old) (lent_table links.new) list.new cut member }
-    ensures linked { KeepsLinked is_linked_two (lent_table links.old) (lent_table links.new) }
-    ensures extent { (lent_table links.new).extent ≡ (lent_table links.old).extent }
-{
-    list.bypass(links, from.before, member, from.behind);
-    list.insert_linked(links, to.before, member, to.behind);
 }
 
 // The member at an end, which the outermost gap on this side of none is in front of, and the places on both sides of it. None where
@@ -743,47 +537,70 @@ pub(crate) fn splice(
     ensures refused { result ≡ false → (links.new ≡ links.old) × (list.new ≡ list.old) }
     ensures extent { (lent_table links.new).extent ≡ (lent_table links.old).extent }
 {
-    if begin_alike(&*list, &given) {
-        return false;
-    }
     let Some(gap) = gap_at(&*links, &*list, side, at) else {
         return false;
     };
     let Some(ends) = beside(&*links, &given, None) else {
         return false;
     };
+    if begin_alike(&*list, &given) {
+        return false;
+    }
     list.splice_between(links, gap.before, given, ends.before, gap.behind);
     true
 }
 
-// Cuts the list at the gap beside a place. It keeps what is in front of the cut, and the rest is handed out.
-#[inline]
-pub(crate) fn split(
+// Puts all of the given list at none into the outermost gap on this side of it, where both lists have members, and the words of their ends
+// are such as a call writes. Else it changes nothing, and says so.
+#[inline(always)]
+pub(crate) fn splice_at_end(
     links: &mut RawTable<'_, RawTwo>,
     list: &mut List,
     side: Side,
     at: Option<Place>,
-    rest: &mut List,
+    given: List,
 ) -> bool
-    ensures split { (cut : Cut) → Shows (lent_table links.old) list.old (join cut) → IsBeside side cut at
-        → (result ≡ true) × SplitsBeside side (lent_table links.old) (lent_table links.new) list.new rest.new cut }
-    ensures stands { result ≡ true → Stands is_linked_two (lent_table links.old) at }
-    ensures told { result ≡ true → TellsGap side (lent_table links.old) list.old at }
-    ensures refused { result ≡ false → (links.new ≡ links.old) × (list.new ≡ list.old) × (rest.new ≡ rest.old) }
+    ensures spliced { (cut : Cut) (t : List Place) → result ≡ true → Shows (lent_table links.old) list.old (join cut) → IsBeside side cut at
+        → Shows (lent_table links.old) given t → IsDisjoint t (join cut)
+        → Splices Shows (lent_table links.old) (lent_table links.new) list.new cut t }
+    ensures none { result ≡ true → at ≡ None }
+    ensures told { result ≡ true → TellsGap side (lent_table links.old) list.old None }
+    ensures front { result ≡ true → TellsGap After (lent_table links.old) given None }
+    ensures back { result ≡ true → TellsGap Before (lent_table links.old) given None }
+    ensures apart { result ≡ true → (p : Place) → given.head ≡ Some p → list.old.head ≢ Some p }
+    ensures refused { result ≡ false → (links.new ≡ links.old) × (list.new ≡ list.old) }
     ensures extent { (lent_table links.new).extent ≡ (lent_table links.old).extent }
 {
-    let Some(gap) = gap_at(&*links, &*list, side, at) else {
+    if at.is_some() {
+        return false;
+    }
+    let Some(gap) = gap_at_end(&*links, &*list, side) else {
         return false;
     };
+    let Some(_) = gap_at_end(&*links, &given, Side::After) else {
+        return false;
+    };
+    let Some(end) = gap_at_end(&*links, &given, Side::Before) else {
+        return false;
+    };
+    if begin_alike(&*list, &given) {
+        return false;
+    }
+    list.splice_between(links, gap.before, given, end.before, gap.behind);
+    true
+}
+
+// Cuts the list at a gap, and gives the part that is on this side of it. The list keeps the other.
+#[inline]
+pub(crate) fn split(links: &mut RawTable<'_, RawTwo>, list: &mut List, side: Side, gap: Gap) -> List
+    requires gap { StandBeside is_linked_two (lent_table links.old) gap }
+    ensures split { (cut : Cut) → Shows (lent_table links.old) list.old (join cut) → gap ≡ gap_of cut
+        → SplitsBeside side (lent_table links.old) (lent_table links.new) list.new result cut }
+    ensures extent { (lent_table links.new).extent ≡ (lent_table links.old).extent }
+{
     let back = list.split_between(links, gap.before, gap.behind);
     match side {
-        Side::After => {
-            *rest = back;
-            true
-        }
-        Side::Before => {
-            *rest = mem::replace(list, back);
-            true
-        }
+        Side::After => back,
+        Side::Before => mem::replace(list, back),
     }
 }

@@ -35,6 +35,15 @@ pub(crate) fn list_of(words: &RawEnds) -> list::List
     LinkedList::from_ends(place_in(words.head), place_in(words.tail))
 }
 
+// Writes the ends of the list as its two words.
+#[inline]
+pub(crate) fn write_back(words: &mut RawEnds, list: list::List)
+    ensures set { ends_of words.new ≡ list }
+    ensures words { words.new ≡ words_of (ends_of words.new) }
+{
+    words.set(list.first(), list.last());
+}
+
 // Puts the place with that number into the gap beside another one.
 #[inline]
 fn insert_at(table: &mut [RawTwo], list: &mut RawEnds, side: Side, at: u32, place: u32) -> u32
@@ -54,7 +63,7 @@ fn insert_at(table: &mut [RawTwo], list: &mut RawEnds, side: Side, at: u32, plac
     if !list::insert(&mut links, &mut edited, side, place_of(at), place_of(place)) {
         return links.refusal(at, place);
     }
-    list.set(edited.first(), edited.last());
+    write_back(list, edited);
     OK
 }
 
@@ -76,7 +85,7 @@ fn pop(table: &mut [RawTwo], list: &mut RawEnds, side: Side, popped: &mut u32) -
     let Some(member) = list::pop(&mut links, &mut edited, side) else {
         return refusal_to_pop(&*list, side);
     };
-    list.set(edited.first(), edited.last());
+    write_back(list, edited);
     *popped = number_of(member);
     OK
 }
@@ -99,14 +108,15 @@ fn refusal_to_pop(list: &RawEnds, side: Side) -> u32
     }
 }
 
-// Puts all of the given list into the gap beside a place.
-#[inline(always)]
-fn splice_at(
+// Puts all of the given list into the gap beside a place of any list, or says why not.
+#[cold]
+#[inline(never)]
+fn splice_any(
     table: &mut [RawTwo],
     list: &mut RawEnds,
-    side: Side,
     at: u32,
     given: &mut RawEnds,
+    side: Side,
 ) -> u32
     ensures spliced { (cut : Cut) (t : List Place) → IsBeside side cut (place_of at)
         → Spliced table.old table.new list.old list.new result given.old cut t }
@@ -127,19 +137,53 @@ fn splice_at(
     if !list::splice(&mut links, &mut edited, side, place_of(at), other) {
         return links.refusal_at(at);
     }
-    list.set(edited.first(), edited.last());
+    write_back(list, edited);
     given.set(None, None);
     OK
 }
 
-// Cuts the list at the gap beside a place, and hands out the part on that side of it.
-#[inline]
-fn split_at(
+// Puts all of the given list into the gap beside a place.
+#[inline(always)]
+fn splice_at(
     table: &mut [RawTwo],
     list: &mut RawEnds,
+    at: u32,
+    given: &mut RawEnds,
     side: Side,
+) -> u32
+    ensures spliced { (cut : Cut) (t : List Place) → IsBeside side cut (place_of at)
+        → Spliced table.old table.new list.old list.new result given.old cut t }
+    ensures emptied { result ≡ 0 → given.new ≡ words_of no_members }
+    ensures stands { result ≡ 0 → StandsIn table.old (place_of at) }
+    ensures told { result ≡ 0 → TellsGap side (table_of table.old) (ends_of list.old) (place_of at) }
+    ensures front { result ≡ 0 → TellsGap After (table_of table.old) (ends_of given.old) None }
+    ensures back { result ≡ 0 → TellsGap Before (table_of table.old) (ends_of given.old) None }
+    ensures apart { result ≡ 0 → (p : Place) → (ends_of given.old).head ≡ Some p → (ends_of list.old).head ≢ Some p }
+    ensures words { result ≡ 0 → list.new ≡ words_of (ends_of list.new) }
+    ensures refused { result ≢ 0 → (table.new ≡ table.old) × (list.new ≡ list.old) × (given.new ≡ given.old) }
+    ensures why { result ≢ 0 → result ≡ refusal (fault_at table.old (place_of at) ∷ []) }
+    ensures status { IsStatus result }
+{
+    let mut links = RawTable::new(table);
+    let mut edited = list_of(&*list);
+    let other = list_of(&*given);
+    if list::splice_at_end(&mut links, &mut edited, side, place_of(at), other) {
+        write_back(list, edited);
+        given.set(None, None);
+        return OK;
+    }
+    splice_any(links.entries, list, at, given, side)
+}
+
+// Cuts any list at the gap beside a place, and hands out the part on that side of it, or says why not.
+#[cold]
+#[inline(never)]
+fn split_any(
+    table: &mut [RawTwo],
+    list: &mut RawEnds,
     at: u32,
     rest: &mut RawEnds,
+    side: Side,
 ) -> u32
     ensures split { (cut : Cut) → IsBeside side cut (place_of at) → ends_of rest.old ≡ no_members
         → Split side table.old table.new list.old list.new result rest.new cut }
@@ -154,13 +198,48 @@ fn split_at(
 {
     let mut links = RawTable::new(table);
     let mut edited = list_of(&*list);
-    let mut part = LinkedList::new();
-    if !rest.is_empty() || !list::split(&mut links, &mut edited, side, place_of(at), &mut part) {
-        return links.refusal_at(at);
+    if rest.is_empty() {
+        if let Some(gap) = list::gap_at(&links, &edited, side, place_of(at)) {
+            let part = list::split(&mut links, &mut edited, side, gap);
+            write_back(list, edited);
+            write_back(rest, part);
+            return OK;
+        }
     }
-    list.set(edited.first(), edited.last());
-    rest.set(part.first(), part.last());
-    OK
+    links.refusal_at(at)
+}
+
+// Cuts the list at the gap beside a place, and hands out the part on that side of it.
+#[inline(always)]
+fn split_at(
+    table: &mut [RawTwo],
+    list: &mut RawEnds,
+    at: u32,
+    rest: &mut RawEnds,
+    side: Side,
+) -> u32
+    ensures split { (cut : Cut) → IsBeside side cut (place_of at) → ends_of rest.old ≡ no_members
+        → Split side table.old table.new list.old list.new result rest.new cut }
+    ensures empty { result ≡ 0 → ends_of rest.old ≡ no_members }
+    ensures stands { result ≡ 0 → StandsIn table.old (place_of at) }
+    ensures told { result ≡ 0 → TellsGap side (table_of table.old) (ends_of list.old) (place_of at) }
+    ensures words { result ≡ 0 → list.new ≡ words_of (ends_of list.new) }
+    ensures rest { result ≡ 0 → rest.new ≡ words_of (ends_of rest.new) }
+    ensures refused { result ≢ 0 → (table.new ≡ table.old) × (list.new ≡ list.old) × (rest.new ≡ rest.old) }
+    ensures why { result ≢ 0 → result ≡ refusal (fault_at table.old (place_of at) ∷ []) }
+    ensures status { IsStatus result }
+{
+    let mut links = RawTable::new(table);
+    let mut edited = list_of(&*list);
+    if rest.is_empty() {
+        if let Some(gap) = list::gap_inside(&links, side, place_of(at)) {
+            let part = list::split(&mut links, &mut edited, side, gap);
+            write_back(list, edited);
+            write_back(rest, part);
+            return OK;
+        }
+    }
+    split_any(links.entries, list, at, rest, side)
 }
 
 /// Puts a place in front of all members. O(1).
@@ -179,26 +258,6 @@ pub extern "C" fn ic_list_push_front(table: &mut [RawTwo], list: &mut RawEnds, p
     ensures status { IsStatus result }
 {
     insert_at(table, list, Side::After, NONE, place)
-}
-
-// Puts a place behind the last member, where its words are such as a call writes. Else it changes nothing, and says so.
-#[inline]
-fn push_behind_last(table: &mut [RawTwo], list: &mut RawEnds, place: u32) -> bool
-    ensures inserted { (s : List Place) (p : Place) → place_of place ≡ Some p → result ≡ true
-        → Inserted table.old table.new list.old list.new 0 (at_back s) p }
-    ensures free { (p : Place) → place_of place ≡ Some p → result ≡ true → FreeIn table.old p }
-    ensures none { place_of place ≡ None → result ≡ false }
-    ensures told { result ≡ true → TellsGap Before (table_of table.old) (ends_of list.old) None }
-    ensures words { list.old ≡ words_of (ends_of list.old) → list.new ≡ words_of (ends_of list.new) }
-    ensures refused { result ≡ false → (table.new ≡ table.old) × (list.new ≡ list.old) }
-{
-    let mut links = RawTable::new(table);
-    let mut edited = list_of(&*list);
-    if !list::push_behind_last(&mut links, &mut edited, place_of(place)) {
-        return false;
-    }
-    list.set_last(edited.last());
-    true
 }
 
 // Puts a place behind all members of any list, or says why not.
@@ -233,10 +292,13 @@ pub extern "C" fn ic_list_push_back(table: &mut [RawTwo], list: &mut RawEnds, pl
     ensures why { result ≢ 0 → result ≡ refusal (fault_of table.old (place_of place) ∷ []) }
     ensures status { IsStatus result }
 {
-    if push_behind_last(table, list, place) {
+    let mut links = RawTable::new(table);
+    let mut edited = list_of(&*list);
+    if list::push_behind_last(&mut links, &mut edited, place_of(place)) {
+        list.set_last(edited.last());
         return OK;
     }
-    push_back_any(table, list, place)
+    push_back_any(links.entries, list, place)
 }
 
 // Takes the first member off any list, or says why not.
@@ -377,7 +439,7 @@ fn remove_any(table: &mut [RawTwo], list: &mut RawEnds, at: u32) -> u32
     if !list::remove(&mut links, &mut edited, member) {
         return links.refusal_at(at);
     }
-    list.set(edited.first(), edited.last());
+    write_back(list, edited);
     OK
 }
 
@@ -436,7 +498,7 @@ pub extern "C" fn ic_list_replace(
     if !list::replace(&mut links, &mut edited, member, place_of(place)) {
         return links.refusal(at, place);
     }
-    list.set(edited.first(), edited.last());
+    write_back(list, edited);
     OK
 }
 
@@ -463,7 +525,7 @@ pub extern "C" fn ic_list_splice_after(
     ensures why { result ≢ 0 → result ≡ refusal (fault_at table.old (place_of at) ∷ []) }
     ensures status { IsStatus result }
 {
-    splice_at(table, list, Side::After, at, given)
+    splice_at(table, list, at, given, Side::After)
 }
 
 /// Puts all of the given list in front of the member `at`, at [`NONE`] behind all, and leaves the given one empty. O(1).
@@ -489,7 +551,7 @@ pub extern "C" fn ic_list_splice_before(
     ensures why { result ≢ 0 → result ≡ refusal (fault_at table.old (place_of at) ∷ []) }
     ensures status { IsStatus result }
 {
-    splice_at(table, list, Side::Before, at, given)
+    splice_at(table, list, at, given, Side::Before)
 }
 
 /// Puts all of the given list behind all members, and leaves the given one empty. O(1).
@@ -512,7 +574,7 @@ pub extern "C" fn ic_list_append(
     ensures why { result ≢ 0 → result ≡ 5 }
     ensures status { IsStatus result }
 {
-    splice_at(table, list, Side::Before, NONE, given)
+    splice_at(table, list, NONE, given, Side::Before)
 }
 
 /// Hands out what stands behind the member `at`, at [`NONE`] all of the list. O(1).
@@ -536,7 +598,7 @@ pub extern "C" fn ic_list_split_after(
     ensures why { result ≢ 0 → result ≡ refusal (fault_at table.old (place_of at) ∷ []) }
     ensures status { IsStatus result }
 {
-    split_at(table, list, Side::After, at, rest)
+    split_at(table, list, at, rest, Side::After)
 }
 
 /// Hands out what stands in front of the member `at`, at [`NONE`] all of the list. O(1).
@@ -560,7 +622,7 @@ pub extern "C" fn ic_list_split_before(
     ensures why { result ≢ 0 → result ≡ refusal (fault_at table.old (place_of at) ∷ []) }
     ensures status { IsStatus result }
 {
-    split_at(table, list, Side::Before, at, rest)
+    split_at(table, list, at, rest, Side::Before)
 }
 
 /// Takes all members off, which are unlinked then. O(n).

@@ -16,8 +16,9 @@ ghost use Rattle.ic_ffi.specs.Doubly.{StandsIn, TellsGap, IsEnd, table_of, ends_
 ghost use Rattle.ic_ffi.specs.Answers.{IsStatus, refusal};
 
 use crate::gap::Side;
-use crate::list;
-use crate::list_calls::list_of;
+use crate::list::{between, gap_at_end};
+use crate::list_calls::{list_of, write_back};
+use crate::moving;
 use crate::number::place_of;
 use crate::status::{NONE, NULL, OK};
 use crate::table::RawTable;
@@ -51,14 +52,14 @@ fn move_any(table: &mut [RawTwo], list: &mut RawEnds, side: Side, at: u32, place
     };
     let mut links = RawTable::new(table);
     let mut edited = list_of(&*list);
-    let Some((from, to)) = list::gaps_to_move(&links, &edited, side, place_of(at), member) else {
+    let Some((from, to)) = moving::gaps_to_move(&links, &edited, side, place_of(at), member) else {
         return links.refusal_at_both(at, place);
     };
     if !to.is_apart(member) {
         return OK;
     }
-    list::relocate(&mut links, &mut edited, from, member, to);
-    list.set(edited.first(), edited.last());
+    moving::relocate(&mut links, &mut edited, from, member, to);
+    write_back(list, edited);
     OK
 }
 
@@ -88,14 +89,14 @@ fn move_at(table: &mut [RawTwo], list: &mut RawEnds, side: Side, at: u32, place:
     };
     let mut links = RawTable::new(table);
     let mut edited = list_of(&*list);
-    let Some((from, to)) = list::gaps_inside(&links, side, place_of(at), member) else {
+    let Some((from, to)) = moving::gaps_inside(&links, side, place_of(at), member) else {
         return move_any(links.entries, list, side, at, place);
     };
     if !to.is_apart(member) {
         return OK;
     }
-    list::relocate(&mut links, &mut edited, from, member, to);
-    list.set(edited.first(), edited.last());
+    moving::relocate(&mut links, &mut edited, from, member, to);
+    write_back(list, edited);
     OK
 }
 
@@ -123,10 +124,12 @@ fn move_to_end_any(table: &mut [RawTwo], list: &mut RawEnds, side: Side, place: 
     };
     let mut links = RawTable::new(table);
     let mut edited = list_of(&*list);
-    if let Some((from, to)) = list::gaps_from_other_end(&links, &edited, side, member) {
-        list::relocate(&mut links, &mut edited, from, member, to);
-        list.set(edited.first(), edited.last());
-        return OK;
+    if let Some(from) = moving::beside_other_end(&links, &edited, side, member) {
+        if let Some(to) = gap_at_end(&links, &edited, side) {
+            moving::relocate(&mut links, &mut edited, from, member, to);
+            write_back(list, edited);
+            return OK;
+        }
     }
     move_any(links.entries, list, side, NONE, place)
 }
@@ -154,12 +157,14 @@ fn move_to_end(table: &mut [RawTwo], list: &mut RawEnds, side: Side, place: u32)
     };
     let mut links = RawTable::new(table);
     let mut edited = list_of(&*list);
-    if let Some((from, to)) = list::gaps_to_end(&links, &edited, side, member) {
-        list::relocate(&mut links, &mut edited, from, member, to);
-        list.set(edited.first(), edited.last());
-        return OK;
+    if let Some(from) = between(&links, member) {
+        if let Some(to) = gap_at_end(&links, &edited, side) {
+            moving::relocate(&mut links, &mut edited, from, member, to);
+            write_back(list, edited);
+            return OK;
+        }
     }
-    if list::is_at_end(&links, &edited, side, member) {
+    if moving::is_at_end(&links, &edited, side, member) {
         return OK;
     }
     move_to_end_any(links.entries, list, side, place)

@@ -31,6 +31,15 @@ pub(crate) fn stack_of(words: &RawFront) -> stack::Stack
     SinglyLinkedList::from_front(place_in(words.head))
 }
 
+// Writes the front of the list as its word.
+#[inline]
+pub(crate) fn write_back(words: &mut RawFront, list: stack::Stack)
+    ensures set { front_of words.new ≡ list.head }
+    ensures words { words.new ≡ word_of_front (front_of words.new) }
+{
+    words.set(list.first());
+}
+
 /// Puts a place in front of all members. O(1).
 ///
 /// The place has to be one of the table, and not linked. Where the first member is not linked, it returns [`BROKEN`].
@@ -51,7 +60,7 @@ pub extern "C" fn ic_stack_push_front(table: &mut [RawOne], list: &mut RawFront,
     if !stack::insert(&mut links, &mut edited, None, place_of(place)) {
         return refusal_at_end(links.entries, place);
     }
-    list.set(edited.first());
+    write_back(list, edited);
     OK
 }
 
@@ -94,7 +103,7 @@ pub extern "C" fn ic_stack_pop_front(
     if let Some(member) = edited.first() {
         if links.is_linked(member) {
             stack::remove(&mut links, &mut edited, None, member);
-            list.set(edited.first());
+            write_back(list, edited);
             *popped = number_of(member);
             return OK;
         }
@@ -129,7 +138,7 @@ pub extern "C" fn ic_stack_insert_after(
     if !stack::insert(&mut links, &mut edited, place_of(at), place_of(place)) {
         return links.refusal(at, place);
     }
-    list.set(edited.first());
+    write_back(list, edited);
     OK
 }
 
@@ -164,7 +173,7 @@ pub extern "C" fn ic_stack_remove_after(
         return NULL;
     };
     stack::remove(&mut links, &mut edited, gap.before, member);
-    list.set(edited.first());
+    write_back(list, edited);
     *removed = number_of(member);
     OK
 }
@@ -208,7 +217,7 @@ pub extern "C" fn ic_stack_replace_after(
     if !stack::replace(&mut links, &mut edited, gap.before, member, place_of(place)) {
         return links.refusal(at, place);
     }
-    list.set(edited.first());
+    write_back(list, edited);
     *replaced = number_of(member);
     OK
 }
@@ -242,7 +251,7 @@ pub extern "C" fn ic_stack_splice_after(
     if !stack::splice(&mut links, &mut edited, place_of(at), other) {
         return links.refusal_at(at);
     }
-    list.set(edited.first());
+    write_back(list, edited);
     given.set(None);
     OK
 }
@@ -275,8 +284,8 @@ pub extern "C" fn ic_stack_split_after(
     if filled || !stack::split(&mut links, &mut edited, place_of(at), &mut part) {
         return links.refusal_at(at);
     }
-    list.set(edited.first());
-    rest.set(part.first());
+    write_back(list, edited);
+    write_back(rest, part);
     OK
 }
 

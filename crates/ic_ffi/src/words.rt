@@ -208,40 +208,22 @@ impl RawTwo {
 
 // What a call writes, by one comparison of a word. Other bits are looked at more closely, by the calls that take any words.
 impl RawTwo {
-    // Whether these are the words of a linked place with none behind it.
-    #[inline]
-    pub(crate) fn is_last(&self) -> bool
-        ensures linked { result ≡ true → is_linked_two self.now ≡ true }
-        ensures next { result ≡ true → place_in self.now.next ≡ None }
-    {
-        self.next == 1
-    }
-
-    // Whether these are the words of a linked place with none before it.
-    #[inline]
-    pub(crate) fn is_first(&self) -> bool
-        ensures linked { result ≡ true → is_linked_two self.now ≡ true }
-        ensures prev { result ≡ true → place_in self.now.prev ≡ None }
-    {
-        self.prev == 0 && self.next % 2 == 1
-    }
-
     // Whether these are the words of a linked place, with `next` behind it.
     #[inline]
-    pub(crate) fn is_before(&self, next: Place) -> bool
+    pub(crate) fn is_before(&self, next: Option<Place>) -> bool
         ensures linked { result ≡ true → is_linked_two self.now ≡ true }
-        ensures next { result ≡ true → place_in self.now.next ≡ Some next }
+        ensures next { result ≡ true → place_in self.now.next ≡ next }
     {
-        self.next == Place::to_word(Some(next)) + 1
+        self.next == Place::to_word(next) + 1
     }
 
     // Whether these are the words of a linked place, with `prev` before it.
     #[inline]
-    pub(crate) fn is_behind(&self, prev: Place) -> bool
+    pub(crate) fn is_behind(&self, prev: Option<Place>) -> bool
         ensures linked { result ≡ true → is_linked_two self.now ≡ true }
-        ensures prev { result ≡ true → place_in self.now.prev ≡ Some prev }
+        ensures prev { result ≡ true → place_in self.now.prev ≡ prev }
     {
-        self.prev == Place::to_word(Some(prev)) && self.next % 2 == 1
+        self.prev == Place::to_word(prev) && self.next % 2 == 1
     }
 }
 

@@ -39,6 +39,15 @@ pub(crate) fn list_of(words: &RawEnds) -> xor_list::List
     XorLinkedList::from_ends(place_in(words.head), place_in(words.tail))
 }
 
+// Writes the ends of the list as its two words.
+#[inline]
+pub(crate) fn write_back(words: &mut RawEnds, list: xor_list::List)
+    ensures set { ends_of words.new ≡ list }
+    ensures words { words.new ≡ words_of (ends_of words.new) }
+{
+    words.set(list.first(), list.last());
+}
+
 // Why a place does not go in at two members: by the first fault of the three, or as [`BROKEN`].
 #[cold]
 #[inline(never)]
@@ -80,7 +89,7 @@ fn put(
     if !xor_list::insert(&mut links, &mut edited, before, place, behind) {
         return false;
     }
-    list.set(edited.first(), edited.last());
+    write_back(list, edited);
     true
 }
 
@@ -191,7 +200,7 @@ fn take(table: &mut [RawOne], list: &mut RawEnds, before: Option<Place>, member:
     if !xor_list::remove(&mut links, &mut edited, before, member) {
         return false;
     }
-    list.set(edited.first(), edited.last());
+    write_back(list, edited);
     true
 }
 
@@ -210,7 +219,7 @@ fn take_last(table: &mut [RawOne], list: &mut RawEnds, member: Place) -> bool
     if !xor_list::remove_last(&mut links, &mut edited, member) {
         return false;
     }
-    list.set(edited.first(), edited.last());
+    write_back(list, edited);
     true
 }
 
@@ -389,7 +398,7 @@ pub extern "C" fn ic_xor_replace(
     if !xor_list::replace(&mut links, &mut edited, neighbor, member, new) {
         return refusal_with_both(&links, at, before, place);
     }
-    list.set(edited.first(), edited.last());
+    write_back(list, edited);
     OK
 }
 
@@ -419,7 +428,7 @@ fn splice(
     if !xor_list::splice(&mut links, &mut edited, before, list_of(&*given), behind) {
         return false;
     }
-    list.set(edited.first(), edited.last());
+    write_back(list, edited);
     given.set(None, None);
     true
 }
@@ -512,8 +521,8 @@ pub extern "C" fn ic_xor_split_between(
     if !rest.is_empty() || !xor_list::split(&mut links, &mut edited, front, back, &mut part) {
         return links.refusal_at_both(before, behind);
     }
-    list.set(edited.first(), edited.last());
-    rest.set(part.first(), part.last());
+    write_back(list, edited);
+    write_back(rest, part);
     OK
 }
 

@@ -21,7 +21,7 @@ pub returns-then-status-ne-OK-clause-filled : goal.returns-then-status-ne-OK-cla
 returns-then-status-ne-OK-clause-filled c s shown free =
     let view = c.new-links.ensures.1 in
     let seen : Shows (lent_table c.new-links.result) c.list_of-edited.result (join (at_back s)) = rw c.list_of-edited.ensures (viewed no_words kept c.new-links.result view shown) in
-    let gap = c.gap_behind_last-gap.ensures.shown s seen in
+    let gap = c.gap_at-gap.ensures.shown (at_back s) seen refl in
     absurd (c.if-status-ne-OK.true (c.fill-status.ensures.filled law (at_back s) (run_viewed is_linked_two no_words c.new-links.result view free) seen gap).0)
 
 pub returns-then-status-ne-OK-clause-why : goal.returns-then-status-ne-OK-clause-why
@@ -32,7 +32,7 @@ unfolding run_viewed
 returns-clause-filled c s shown free =
     let view = c.new-links.ensures.1 in
     let seen : Shows (lent_table c.new-links.result) c.list_of-edited.result (join (at_back s)) = rw c.list_of-edited.ensures (viewed no_words kept c.new-links.result view shown) in
-    let gap = c.gap_behind_last-gap.ensures.shown s seen in
+    let gap = c.gap_at-gap.ensures.shown (at_back s) seen refl in
     let done = (c.fill-status.ensures.filled law (at_back s) (run_viewed is_linked_two no_words c.new-links.result view free) seen gap).1 in
     record { accepted = refl; done = spliced_back no_words kept c.new-links.result c.fill-status.new.links view (search rules) (search rules) done }
 
@@ -43,5 +43,5 @@ pub returns-clause-told : goal.returns-clause-told
 returns-clause-told c made some =
     let gap = c.fill-status.ensures.gap c.if-status-ne-OK.false in
     let there : TellsGap Before (lent_table c.new-links.result) (ends_of c.args.list.now) None =
-    subst (λ (list : Ends). TellsGap Before (lent_table c.new-links.result) list None) c.list_of-edited.ensures (c.gap_behind_last-gap.ensures.told gap.0 gap.1) in
+    subst (λ (list : Ends). TellsGap Before (lent_table c.new-links.result) list None) c.list_of-edited.ensures (c.gap_at-gap.ensures.told gap.0 gap.1) in
     told_back Before c.new-links.result (ends_of c.args.list.now) None c.new-links.ensures.1 there

@@ -1,6 +1,8 @@
-use Rattle.std.proofs.Common.{sym, ap, ◌∙◌}
+use Rattle.std.proofs.Common.{Some, sym, ap, ◌∙◌}
 use Rattle.ic_link_ops.proofs.SequenceLemmas.{some_same}
 use Rattle.ic_link_ops.proofs.ShownLists.{shows_middle}
+use Rattle.ic_ffi.specs.Doubly.{lent_table}
+use Rattle.ic_ffi.proofs.Doubly.{told_after, told_before}
 use Rattle.ic_ffi.proofs.Gaps.{gap_is}
 use Rattle.ic_ffi.proofs.list.between.Goals as goal
 
@@ -14,3 +16,13 @@ returns-clause-prev c gap is = (c.in-Some.before, sym (ap (λ g. g.before) (some
 
 pub returns-clause-next : goal.returns-clause-next
 returns-clause-next c gap is = (c.in-Some-next.behind, sym (ap (λ g. g.behind) (some_same is)))
+
+pub returns-clause-before : goal.returns-clause-before
+returns-clause-before c gap list is =
+    told_before (lent_table c.args.links.now) list (Some c.args.member) (Some c.in-Some.before) (sym c.prev.ensures ∙ c.in-Some.is)
+    (c.is_before.ensures.stands c.if-not-is_before.false) (c.is_before.ensures.next c.if-not-is_before.false)
+
+pub returns-clause-behind : goal.returns-clause-behind
+returns-clause-behind c gap list is =
+    told_after (lent_table c.args.links.now) list (Some c.args.member) (Some c.in-Some-next.behind) (sym c.next.ensures ∙ c.in-Some-next.is)
+    (c.is_behind.ensures.stands c.if-not-is_behind.false) (c.is_behind.ensures.prev c.if-not-is_behind.false)

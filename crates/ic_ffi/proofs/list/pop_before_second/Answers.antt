@@ -1,7 +1,9 @@
-use Rattle.std.proofs.Common.{◌≡◌, [], refl, sym, ◌∙◌}
+use Rattle.std.proofs.Common.{◌≡◌, Some, None, [], refl, sym, subst, ◌∙◌}
 use Rattle.ic_link_ops.proofs.SequenceLemmas.{some_same}
 use Rattle.ic_link_ops.proofs.ShownLists.{shows_middle}
-use Rattle.ic_ffi.proofs.Doubly.{last_kept}
+use Rattle.ic_ffi.specs.declared.gap.Side.TheVariants.{After}
+use Rattle.ic_ffi.specs.Doubly.{TellsGap, lent_table}
+use Rattle.ic_ffi.proofs.Doubly.{last_kept, told_after}
 use Rattle.ic_ffi.proofs.Lists.{removed}
 use Rattle.ic_ffi.proofs.list.pop_before_second.Goals as goal
 
@@ -23,3 +25,15 @@ returns-clause-tail c p q s some shown' =
     let shown = rw one at shown' in
     let behind = sym c.in-Some-next.is ∙ c.next.ensures ∙ (shows_middle [] s shown).next in
     (c.bypass.ensures.shows [] s shown refl behind).tail ∙ sym (shown.tail ∙ last_kept [] c.in-Some.first s behind)
+
+pub returns-clause-outer : goal.returns-clause-outer
+returns-clause-outer c q is =
+    told_after (lent_table c.args.links.now) c.args.list.now None (Some c.in-Some.first) (sym c.first.ensures ∙ c.in-Some.is) (c.is_behind.ensures.stands c.if-not-is_behind.false)
+    (c.is_behind.ensures.prev c.if-not-is_behind.false)
+
+pub returns-clause-inner : goal.returns-clause-inner
+returns-clause-inner c q is =
+    let told : TellsGap After (lent_table c.args.links.now) c.args.list.now (Some c.in-Some.first) =
+    told_after (lent_table c.args.links.now) c.args.list.now (Some c.in-Some.first) (Some c.in-Some-next.second) (sym c.next.ensures ∙ c.in-Some-next.is)
+    (c.is_behind-2.ensures.stands c.if-not-is_behind-2.false) (c.is_behind-2.ensures.prev c.if-not-is_behind-2.false) in
+    subst (λ p. TellsGap After (lent_table c.args.links.now) c.args.list.now (Some p)) (some_same is) told

@@ -1,31 +1,52 @@
 use Rattle.std.proofs.Common.{◌≡◌, Some, ◌∷◌, ◌++◌, refl, sym, ap, subst, ◌∙◌, rules}
 use Rattle.ic_link_ops.proofs.SequenceLemmas.{some_same}
 use Rattle.ic_ffi.specs.Gaps.{outermost, toward}
-use Rattle.ic_ffi.specs.Words.{no_words}
-use Rattle.ic_ffi.specs.Doubly.{Shows, end_on, lent_table}
+use Rattle.ic_ffi.specs.declared.gap.Side.TheVariants.{After, Before}
+use Rattle.ic_ffi.specs.Words.{no_words, place_of}
+use Rattle.ic_ffi.specs.Doubly.{Shows, TellsGap, end_on, ends_of, lent_table}
+use Rattle.ic_ffi.proofs.Doubly.{told_back}
 use Rattle.ic_ffi.proofs.Views.{viewed, inserted_back}
 use Rattle.ic_ffi.proofs.Lists.{kept}
-use Rattle.ic_ffi.proofs.Moves.{ends, end_inserted, outermost_whole, not_inner, stands_at_end}
+use Rattle.ic_ffi.proofs.Moves.{ends, end_inserted, end_left, outermost_whole, not_inner, stands_at_end, toward_either}
 use Rattle.ic_ffi.proofs.move_calls.move_to_end.Goals as goal
 
-pub returns-in-Some-gaps_to_end-clause-moved : goal.returns-in-Some-gaps_to_end-clause-moved
-returns-in-Some-gaps_to_end-clause-moved c front back p is shown' =
+pub returns-in-Some-gap_at_end-clause-moved : goal.returns-in-Some-gap_at_end-clause-moved
+returns-in-Some-gap_at_end-clause-moved c front back p is shown' =
     let one : p ≡ c.in-Some.member = some_same (sym is ∙ sym c.place_of.ensures ∙ c.in-Some.is) in
     let seen : Shows (lent_table c.new-links.result) c.list_of-edited.result (front ++ c.in-Some.member ∷ back) = rw c.list_of-edited.ensures (viewed no_words kept c.new-links.result c.new-links.ensures.1 (rw one at shown')) in
-    let gaps = c.gaps_to_end.ensures.shown _ _ front back c.in-Some-gaps_to_end.is seen in
+    let side = c.args.side in
+    let found = c.in-Some-between.is in
+    let from = c.between.ensures.shown _ c.list_of-edited.result front back found seen in
+    let inner = sym (toward_either side _ (c.between.ensures.prev _ found) (c.between.ensures.next _ found)).1 ∙ ap (toward side) from in
+    let to = c.gap_at_end.ensures.shown _ (front ++ c.in-Some.member ∷ back) c.in-Some-gap_at_end.is seen ∙ end_left side front c.in-Some.member back inner in
     rw one (record {
       accepted = refl;
       done = inserted_back no_words kept c.new-links.result c.relocate.new.links c.new-links.ensures.1 (search rules) (search rules)
-          (c.relocate.ensures.moved front back (outermost c.args.side (front ++ back)) seen (outermost_whole c.args.side (front ++ back)) gaps.0 gaps.1);
+          (c.relocate.ensures.moved front back (outermost side (front ++ back)) seen (outermost_whole side (front ++ back)) from to);
     })
 
-pub returns-in-Some-gaps_to_end-clause-there : goal.returns-in-Some-gaps_to_end-clause-there
-returns-in-Some-gaps_to_end-clause-there c front back p end is shown' =
+pub returns-in-Some-gap_at_end-clause-there : goal.returns-in-Some-gap_at_end-clause-there
+returns-in-Some-gap_at_end-clause-there c front back p end is shown' =
     let one : p ≡ c.in-Some.member = some_same (sym is ∙ sym c.place_of.ensures ∙ c.in-Some.is) in
     let seen : Shows (lent_table c.new-links.result) c.list_of-edited.result (front ++ c.in-Some.member ∷ back) = rw c.list_of-edited.ensures (viewed no_words kept c.new-links.result c.new-links.ensures.1 (rw one at shown')) in
-    let gaps = c.gaps_to_end.ensures.shown _ _ front back c.in-Some-gaps_to_end.is seen in
-    let inner = c.gaps_to_end.ensures.inner _ _ c.in-Some-gaps_to_end.is in
-    absurd (not_inner c.args.side front back end (sym inner.1 ∙ ap (toward c.args.side) gaps.0))
+    let side = c.args.side in
+    let found = c.in-Some-between.is in
+    let from = c.between.ensures.shown _ c.list_of-edited.result front back found seen in
+    absurd (not_inner side front back end (sym (toward_either side _ (c.between.ensures.prev _ found) (c.between.ensures.next _ found)).1 ∙ ap (toward side) from))
+
+pub returns-in-Some-gap_at_end-clause-before : goal.returns-in-Some-gap_at_end-clause-before
+returns-in-Some-gap_at_end-clause-before c made =
+    let list = ends_of c.args.list.now in
+    let told = c.between.ensures.before _ list c.in-Some-between.is in
+    told_back Before c.new-links.result list (place_of c.args.place) c.new-links.ensures.1
+    (subst (λ at. TellsGap Before (lent_table c.new-links.result) list at) (sym c.in-Some.is ∙ c.place_of.ensures) told)
+
+pub returns-in-Some-gap_at_end-clause-behind : goal.returns-in-Some-gap_at_end-clause-behind
+returns-in-Some-gap_at_end-clause-behind c made =
+    let list = ends_of c.args.list.now in
+    let told = c.between.ensures.behind _ list c.in-Some-between.is in
+    told_back After c.new-links.result list (place_of c.args.place) c.new-links.ensures.1
+    (subst (λ at. TellsGap After (lent_table c.new-links.result) list at) (sym c.in-Some.is ∙ c.place_of.ensures) told)
 
 -- a member that is at the end stays there
 

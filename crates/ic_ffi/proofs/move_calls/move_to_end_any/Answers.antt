@@ -7,27 +7,31 @@ use Rattle.ic_ffi.specs.Doubly.{Shows, TellsGap, ends_of, fault_at, lent_table, 
 use Rattle.ic_ffi.proofs.Numbers.{none_named}
 use Rattle.ic_ffi.proofs.Views.{viewed, inserted_back}
 use Rattle.ic_ffi.proofs.Lists.{kept}
-use Rattle.ic_ffi.proofs.Moves.{end_beside, not_inner, outermost_beside, outermost_whole}
+use Rattle.ic_ffi.proofs.Moves.{end_beside, end_left, not_inner, outermost_beside, outermost_whole}
 use Rattle.ic_ffi.proofs.move_calls.move_to_end_any.Goals as goal
 
-pub returns-in-Some-gaps_from_other_end-clause-moved : goal.returns-in-Some-gaps_from_other_end-clause-moved
-returns-in-Some-gaps_from_other_end-clause-moved c front back p is shown' =
+pub returns-in-Some-gap_at_end-clause-moved : goal.returns-in-Some-gap_at_end-clause-moved
+returns-in-Some-gap_at_end-clause-moved c front back p is shown' =
     let one : p ≡ c.in-Some.member = some_same (sym is ∙ sym c.place_of.ensures ∙ c.in-Some.is) in
     let seen : Shows (lent_table c.new-links.result) c.list_of-edited.result (front ++ c.in-Some.member ∷ back) = rw c.list_of-edited.ensures (viewed no_words kept c.new-links.result c.new-links.ensures.1 (rw one at shown')) in
-    let gaps = c.gaps_from_other_end.ensures.shown _ _ front back c.in-Some-gaps_from_other_end.is seen in
+    let side = c.args.side in
+    let found = c.in-Some-beside_other_end.is in
+    let from = c.beside_other_end.ensures.shown _ front back found seen in
+    let inner = sym (c.beside_other_end.ensures.toward _ found).1 ∙ ap (toward side) from in
+    let to = c.gap_at_end.ensures.shown _ (front ++ c.in-Some.member ∷ back) c.in-Some-gap_at_end.is seen ∙ end_left side front c.in-Some.member back inner in
     rw one (record {
       accepted = refl;
       done = inserted_back no_words kept c.new-links.result c.relocate.new.links c.new-links.ensures.1 (search rules) (search rules)
-          (c.relocate.ensures.moved front back (outermost c.args.side (front ++ back)) seen (outermost_whole c.args.side (front ++ back)) gaps.0 gaps.1);
+          (c.relocate.ensures.moved front back (outermost side (front ++ back)) seen (outermost_whole side (front ++ back)) from to);
     })
 
-pub returns-in-Some-gaps_from_other_end-clause-there : goal.returns-in-Some-gaps_from_other_end-clause-there
-returns-in-Some-gaps_from_other_end-clause-there c front back p end is shown' =
+pub returns-in-Some-gap_at_end-clause-there : goal.returns-in-Some-gap_at_end-clause-there
+returns-in-Some-gap_at_end-clause-there c front back p end is shown' =
     let one : p ≡ c.in-Some.member = some_same (sym is ∙ sym c.place_of.ensures ∙ c.in-Some.is) in
     let seen : Shows (lent_table c.new-links.result) c.list_of-edited.result (front ++ c.in-Some.member ∷ back) = rw c.list_of-edited.ensures (viewed no_words kept c.new-links.result c.new-links.ensures.1 (rw one at shown')) in
-    let gaps = c.gaps_from_other_end.ensures.shown _ _ front back c.in-Some-gaps_from_other_end.is seen in
-    let inner = c.gaps_from_other_end.ensures.inner _ _ c.in-Some-gaps_from_other_end.is in
-    absurd (not_inner c.args.side front back end (sym inner.1 ∙ ap (toward c.args.side) gaps.0))
+    let found = c.in-Some-beside_other_end.is in
+    let from = c.beside_other_end.ensures.shown _ front back found seen in
+    absurd (not_inner c.args.side front back end (sym (c.beside_other_end.ensures.toward _ found).1 ∙ ap (toward c.args.side) from))
 
 pub returns-clause-moved : goal.returns-clause-moved
 returns-clause-moved c front back p is =

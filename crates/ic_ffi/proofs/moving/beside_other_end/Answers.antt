@@ -2,7 +2,7 @@ use Rattle.std.proofs.Common.{sym, ap, ◌∙◌}
 use Rattle.ic_link_ops.proofs.SequenceLemmas.{some_same}
 use Rattle.ic_link_ops.proofs.ShownLists.{shows_middle}
 use Rattle.ic_ffi.proofs.Gaps.{gap_is}
-use Rattle.ic_ffi.proofs.list.beside_other_end.Goals as goal
+use Rattle.ic_ffi.proofs.moving.beside_other_end.Goals as goal
 
 pub returns-in-Some-clause-toward : goal.returns-in-Some-clause-toward
 returns-in-Some-clause-toward c gap is = rw c.in-After.is (c.in-Some.before, sym (ap (λ g. g.before) (some_same is)))

@@ -1,6 +1,6 @@
 use Rattle.std.proofs.Common.{ap}
 use Rattle.ic_ffi.proofs.Lists.{moved}
-use Rattle.ic_ffi.proofs.list.relocate.Goals as goal
+use Rattle.ic_ffi.proofs.moving.relocate.Goals as goal
 
 pub returns-clause-moved : goal.returns-clause-moved
 returns-clause-moved c front back cut shown same from to =

@@ -1,6 +1,6 @@
 use Rattle.std.proofs.Common.{Some, refl, sym, ◌∙◌}
 use Rattle.ic_link_ops.proofs.SequenceLemmas.{some_same, none_not}
-use Rattle.ic_ffi.proofs.list.gaps_to_move.Goals as goal
+use Rattle.ic_ffi.proofs.moving.gaps_to_move.Goals as goal
 
 pub returns-in_default-clause-shown : goal.returns-in_default-clause-shown
 returns-in_default-clause-shown c front back cut shown same beside =
