@@ -1,0 +1,29 @@
+-- Hash tables after a call of a test: they hold some sequence still.
+use Rattle.std.proofs.Common.{◌≡◌, Bool, true, false, Option, Some, None, List, [], ◌∷◌, ◌++◌, Result, Ok, Err, OnOk, OnErr, IfOk, IfErr, IfSome, IfNone, refl, sym, subst}
+use Rattle.std.specs.Bool.{OnTrue, OnFalse}
+use Rattle.ic_unsafe_ref.specs.declared.place.Place.{Place}
+use Rattle.ic_link_ops.specs.Sequences.{Cut, join, first, IsAfter}
+use Rattle.ic_hash_table.specs.Searches.{Finds}
+
+-- WHATEVER AN INSERT OF A NEW KEY ANSWERED
+pub unique_either : {Y X P Q R S Goal : Type 0} (W : X → Type 0) (r : Result (Option Y) X) → IfOk r (λ found. IfSome found (λ member. Q)) → IfOk r (λ found. IfNone found P) → OnErr r R
+    → IfErr r (λ e. W e × S) → (P → Goal) → (Q → Goal) → (R → S → Goal) → Goal
+unique_either W (Ok None) same inserted refused unchanged puts keeps refuses = puts inserted
+unique_either W (Ok (Some y)) same inserted refused unchanged puts keeps refuses = keeps same
+unique_either W (Err e) same inserted refused unchanged puts keeps refuses = refuses refused unchanged.1
+
+-- whatever a removal by a key answered: H is held before, and J after
+pub taken_either : (H J : List Place → Type 0) (is : Place → Bool) {Same : Type 0} (r : Option Place) (s : List Place) → H s → Finds is s r
+    → IfSome r (λ p. (front back : List Place) → H (front ++ p ∷ back) → J (front ++ back)) → IfNone r Same → (Same → J s) → (u : List Place) × J u
+taken_either H J is None s held found removed nothing same = (s, same nothing)
+taken_either H J is (Some p) s held found removed nothing same = (found.0 ++ found.1, removed found.0 found.1 (subst H found.2 held))
+
+-- whatever a call answered that tells whether it did something
+pub told_either : {P Q Goal : Type 0} (b : Bool) → OnTrue b P → OnFalse b Q → (P → Goal) → (Q → Goal) → Goal
+told_either true did not_done does keeps = does did
+told_either false did not_done does keeps = keeps not_done
+
+-- the gap behind the first member, or where there is none the one at null
+pub gap_behind_first : (s : List Place) (r : Option Place) → r ≡ first s → (gap : Cut) × (join gap ≡ s) × IsAfter gap r
+gap_behind_first [] r is = (record { front = []; back = [] }, refl, is)
+gap_behind_first (x ∷ s) r is = (record { front = x ∷ []; back = s }, refl, is)

@@ -1,0 +1,81 @@
+-- Rings after a call of a test: what the members are then, and that each object is placed.
+use Rattle.std.proofs.Common.{◌≡◌, ◌≢◌, ◌<◌, ℕ, true, Bool, false, Option, Some, List, [], ◌∷◌, ◌++◌, Result, Ok, Err, OnOk, OnErr, drop, refl, sym, ap, ◌∙◌, subst, append_assoc}
+use Rattle.std.specs.List.{AllByRecursion}
+use Rattle.ic_unsafe_ref.specs.declared.place.Place.{Place}
+use Rattle.ic_unsafe_ref.specs.Places.{index_of}
+use Rattle.ic_unsafe_ref.specs.Objects.{Objects, is_placed}
+use Rattle.ic_link_ops.specs.Sequences.{IsAbsent, IsDisjoint, first, last, but_last}
+use Rattle.ic_link_ops.specs.Tables.{Table, Extent, IsCovered}
+use Rattle.ic_link_ops.specs.LinkedList.{Neighbors, IsBetween, IsChain}
+use Rattle.ic_link_ops.specs.PlacedObjects.{ArePlaced, ShowsPlaced}
+use Rattle.ic_link_ops.proofs.SequenceLemmas.{first_is, split_last, disjoint_sym, absent_right, absent_swap, absent_turned, last_of_push}
+use Rattle.ic_ring.specs.Rings.{IsCircle, Shows, InRing, ShowsBeside}
+use Rattle.ic_ring.proofs.Circles.{circles_apart, seen_from, rotated}
+
+-- WHATEVER A CALL ANSWERED that may refuse an object
+pub either_way : {A X P Q Goal : Type 0} (r : Result A X) → OnOk r P → OnErr r Q → (P → Goal) → (Q → Goal) → Goal
+either_way (Ok a) holds refused accepts refuses = accepts holds
+either_way (Err e) holds refused accepts refuses = refuses refused
+
+module _ {E : Type 0} (n : E → Neighbors) (t : Table E) where
+  -- the ring, cut behind its first member, and read from that
+  pub first_of : {h p : Place} (s : List Place) → Shows n t h s → Some p ≡ first s → Shows n t h (p ∷ drop 1 s)
+  first_of {h} s shown is = subst (Shows n t h) (first_is s is) shown
+
+  pub first_in_ring : {h p : Place} (s : List Place) → Shows n t h s → Some p ≡ first s → InRing n t p
+  first_in_ring {h} {p} s shown is = (drop 1 s ++ h ∷ [], seen_from [] p (drop 1 s) (first_of s shown is))
+
+  -- and in front of its last one
+  pub last_of : {h p : Place} (s : List Place) → Shows n t h s → Some p ≡ last s → Shows n t h (but_last s ++ p ∷ [])
+  last_of {h} s shown is = subst (Shows n t h) (split_last s (sym is)) shown
+
+  pub last_in_ring : {h p : Place} (s : List Place) → Shows n t h s → Some p ≡ last s → InRing n t p
+  last_in_ring {h} {p} s shown is = ([] ++ h ∷ but_last s, seen_from (but_last s) p [] (last_of s shown is))
+
+  -- two heads that are apart: neither is in the other's ring
+  pub heads_apart : {h k : Place} (s u : List Place) → Shows n t h s → Shows n t k u → IsAbsent h (k ∷ u) → IsAbsent k (h ∷ s)
+  heads_apart {h} {k} s u c d out = (disjoint_sym (h ∷ s) (k ∷ u) (circles_apart (k ∷ u) h s d c out)).0
+
+  -- where an object stands at each covered place, one stands at each place of a ring
+  module _ (covered : (q : Place) → (n (t.entry q)).linked ≡ true → IsCovered t q) {T : Type 0} (o : Objects T) (all : (q : Place) → index_of q < 8 → is_placed o q ≡ true)
+      (covers : t.extent.places ≡ 8) where
+    chain_placed : (b a : Option Place) (s : List Place) → IsChain n t.entry b s a → ArePlaced o s
+    chain_placed b a [] k = tt
+    chain_placed b a (x ∷ s) k = (all x (subst (λ places. index_of x < places) covers (covered x k.0.linked)), chain_placed (Some x) a s k.1)
+
+    pub ring_placed : (h : Place) → InRing n t h → ShowsPlaced (Shows n t h) o
+    ring_placed h (s, shown) = record { members = s; shown = shown; placed = (chain_placed (last (h ∷ s)) (first (h ∷ s)) (h ∷ s) shown.chain).1 }
+
+  -- the last member is not the head
+  pub last_other : {h p : Place} (s : List Place) → Shows n t h (s ++ p ∷ []) → h ≢ p
+  last_other {h} {p} s shown = (absent_right h s (p ∷ []) shown.distinct.0).0
+
+  -- a member of the second ring is not in the first one
+  pub member_apart : {h k p : Place} (s u : List Place) → Shows n t h s → Shows n t k (p ∷ u) → IsAbsent h (k ∷ p ∷ u) → IsAbsent p (h ∷ s)
+  member_apart {h} {k} {p} s u c d out = (disjoint_sym (h ∷ s) (k ∷ p ∷ u) (circles_apart (k ∷ p ∷ u) h s d c out)).1.0
+
+  -- HEADS EXCHANGED what stands behind them: the first ring has all places of the second one
+  pub joined_heads : (new : Table E) {h k : Place} (s u : List Place) → Shows n t h s → Shows n t k u → IsAbsent h (k ∷ u)
+      → ((r v : List Place) → IsCircle n t.entry r → IsCircle n t.entry v → IsDisjoint r v → Some h ≡ last r → Some k ≡ last v → IsCircle n new.entry (r ++ v))
+      → InRing n new h
+  joined_heads new {h} {k} s u c d out joins =
+      let r = s ++ h ∷ [] in
+      let v = u ++ k ∷ [] in
+      let apart = circles_apart (k ∷ u) h s d c out in
+      let one = absent_swap (h ∷ s) (k ∷ u) apart v (λ q o. absent_turned q u (k ∷ []) o) in
+      let two = absent_swap v (h ∷ s) (disjoint_sym (h ∷ s) v one) r (λ q o. absent_turned q s (h ∷ []) o) in
+      let whole = joins r v (rotated (h ∷ []) s c) (rotated (k ∷ []) u d) (disjoint_sym v r two) (sym (last_of_push s h)) (sym (last_of_push u k)) in
+      (v ++ s, rotated s (h ∷ v) (rw (append_assoc s (h ∷ []) v) at whole))
+
+-- what is absent from a ring, seen behind its first member
+pub first_absent : {q h p : Place} (s : List Place) → Some p ≡ first s → IsAbsent q (h ∷ s) → IsAbsent q (h ∷ p ∷ drop 1 s)
+first_absent {q} {h} s is out = subst (λ s. IsAbsent q (h ∷ s)) (first_is s is) out
+
+-- as many places as before
+pub places_of : {old new : Extent} → new ≡ old → old.places ≡ 8 → new.places ≡ 8
+places_of same covers = ap (λ (e : Extent). e.places) same ∙ covers
+
+-- two facts of one answer
+pub both_ways : {A X : Type 0} (P Q : Type 0) (r : Result A X) → OnOk r P → OnOk r Q → OnOk r (P × Q)
+both_ways P Q (Ok a) p q = (p, q)
+both_ways P Q (Err e) p q = tt

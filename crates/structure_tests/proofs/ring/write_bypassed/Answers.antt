@@ -1,0 +1,27 @@
+use Rattle.std.proofs.Common.{[], ◌∙◌}
+use Rattle.ic_ring.proofs.Circles.{head_linked}
+use Rattle.structure_tests.proofs.ring.write_bypassed.Goals as goal
+
+pub bypass-requires : goal.bypass-requires
+bypass-requires g c = record {
+  before = head_linked g.met.L.LinkedListOps.linked_alike c.prev-before.ensures.ring.1;
+  behind = head_linked g.met.L.LinkedListOps.linked_alike c.next-behind.ensures.ring.1;
+}
+
+pub next-requires : goal.next-requires
+next-requires g c = record {
+  linked = rw c.head-head.ensures (g.met.L.LinkOps.does_replay _ _ [] c.bypass.ensures.no_step _ ∙ head_linked g.met.L.LinkedListOps.linked_alike c.requires.1);
+}
+
+pub turn_to-requires : goal.turn_to-requires
+turn_to-requires g c = record {
+  before = g.met.L.LinkOps.does_replay _ _ [] c.bypass.ensures.no_step _ ∙ head_linked g.met.L.LinkedListOps.linked_alike c.prev-before.ensures.ring.1;
+  behind = g.met.L.LinkOps.does_replay _ _ [] c.bypass.ensures.no_step _ ∙ head_linked g.met.L.LinkedListOps.linked_alike c.next-behind.ensures.ring.1;
+}
+
+pub next-requires-2 : goal.next-requires-2
+next-requires-2 g c = record {
+  linked = rw c.head-head.ensures
+      (g.met.L.LinkOps.does_replay _ _ [] c.turn_to.ensures.no_step _
+      ∙ (g.met.L.LinkOps.does_replay _ _ [] c.bypass.ensures.no_step _ ∙ head_linked g.met.L.LinkedListOps.linked_alike c.requires.1));
+}
