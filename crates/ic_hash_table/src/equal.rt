@@ -53,8 +53,8 @@ impl<A: HashAdapter, B: Buckets> HashTable<A, B> {
 
     /// Puts the object in, directly in front of the first member with an equal key where there is one, unless its link is refused.
     ///
-    /// So members with equal keys stand side by side, the newest first, where each was put in by this call. It requires and refuses what
-    /// [`insert`](HashTable::insert) does, looks as [`find`](HashTable::find), and takes no memory.
+    /// Then it is the first one with its key, and [`next_equal`](HashTable::next_equal) finds the others right behind it, where they stand
+    /// side by side. It requires and refuses what [`insert`](HashTable::insert) does, looks as [`find`](HashTable::find), and takes no memory.
     #[inline]
     pub fn insert_equal<L: SinglyLinkedListOps, O: Values<A::Value>>(
         &mut self,
