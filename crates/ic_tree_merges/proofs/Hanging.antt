@@ -1,0 +1,56 @@
+-- A place that is put behind a vine, and what else stands in the table.
+use Rattle.std.proofs.Common.{◌≡◌, ◌+◌, true, Some, None, List, [], ◌∷◌, ◌++◌, sym, ap, subst, append_assoc}
+use Rattle.ic_unsafe_ref.specs.declared.place.Place.{Place}
+use Rattle.ic_link_ops.specs.Chains.{Ends, no_members}
+use Rattle.ic_link_ops.specs.Edits.{Inserts}
+use Rattle.ic_link_ops.specs.RedBlackTree.{Node}
+use Rattle.ic_link_ops.specs.Sequences.{IsAbsent, IsDistinct, IsDisjoint, at_back, first}
+use Rattle.ic_link_ops.specs.Tables.{Table, KeepsBeside}
+use Rattle.ic_link_ops.proofs.SequenceLemmas.{absent_left, absent_right, absent_both, distinct_middle, distinct_insert, distinct_remove, disjoint_cons}
+use Rattle.ic_rbtree.specs.Vines.{IsVine, ShowsVine}
+use Rattle.ic_rbtree.proofs.Vines.{apart_at, vine_beside, vine_from}
+
+-- a member moved to the front of two parts
+pub distinct_moved : (f x : List Place) (z : Place) (y : List Place) → IsDistinct (f ++ (x ++ z ∷ y)) → IsDistinct (f ++ z ∷ (x ++ y))
+distinct_moved f x z y d =
+    let d' : IsDistinct ((f ++ x) ++ z ∷ y) = subst IsDistinct (sym (append_assoc f x (z ∷ y))) d in
+    distinct_insert f (x ++ y) z (subst IsDistinct (append_assoc f x y) (distinct_remove (f ++ x) y z d'))
+    (subst (IsAbsent z) (append_assoc f x y) (distinct_middle (f ++ x) y z d'))
+
+pub absent_moved : (q : Place) (f x : List Place) (z : Place) (y : List Place) → IsAbsent q (f ++ (x ++ z ∷ y)) → IsAbsent q (f ++ z ∷ (x ++ y))
+absent_moved q f x z y h =
+    let b = absent_right q f (x ++ z ∷ y) h in
+    let c = absent_right q x (z ∷ y) b in
+    absent_both q f (z ∷ (x ++ y)) (absent_left q f (x ++ z ∷ y) h) (c.0, absent_both q x y (absent_left q x (z ∷ y) b) c.1)
+
+pub disjoint_front : (s t z : List Place) → IsDisjoint (s ++ t) z → IsDisjoint s z
+disjoint_front [] t z d = tt
+disjoint_front (x ∷ s) t z d = (d.0, disjoint_front s t z d.1)
+
+pub disjoint_back : (s t z : List Place) → IsDisjoint (s ++ t) z → IsDisjoint t z
+disjoint_back [] t z d = d
+disjoint_back (x ∷ s) t z d = disjoint_back s t z d.1
+
+-- what stands behind is apart from the vine and the place
+pub behind_apart : (done : List Place) (p : Place) (rest : List Place) → IsDistinct (done ++ p ∷ rest) → IsDisjoint rest (p ∷ done)
+behind_apart done p rest d = let a = apart_at done p rest d in disjoint_cons p rest done a.not_back a.back_front
+
+module _ {E : Type 0} (n : E → Node) where
+  -- nothing is a vine with no members
+  pub vine_none : (t : Table E) {ends : Ends} → ends ≡ no_members → ShowsVine n t ends []
+  vine_none t is = record { distinct = tt; chain = tt; head = ap (λ (e : Ends). e.head) is; tail = ap (λ (e : Ends). e.tail) is }
+
+  module _ {old new : Table E} {ends : Ends} {done : List Place} {p : Place} (h : Inserts (ShowsVine n) old new ends (at_back done) p) where
+    -- THE FRAME of one place put behind
+    pub hung_frame : KeepsBeside old new (p ∷ done)
+    hung_frame = record { extent = h.frame.extent; others = λ q o. h.frame.others q (o.0, absent_both q done [] o.1 tt) }
+
+    pub run_still : (x : List Place) → IsDisjoint x (p ∷ done) → IsVine n old.entry x None → IsVine n new.entry x None
+    run_still x d c = vine_beside n old new x None (p ∷ done) d hung_frame c
+
+    pub vine_still : {other : Ends} {t : List Place} → IsDisjoint t (p ∷ done) → ShowsVine n old other t → ShowsVine n new other t
+    vine_still {other} {t} d c = record { distinct = c.distinct; chain = run_still t d c.chain; head = c.head; tail = c.tail }
+
+  -- a run without its first
+  pub run_rest : (t : Table E) (p : Place) (x : List Place) → IsVine n t.entry (p ∷ x) None → ((n (t.entry p)).linked ≡ true) × ((n (t.entry p)).right ≡ first x) × IsVine n t.entry x None
+  run_rest t p x c = (c.0.linked, c.0.next, vine_from n t.entry (Some p) None x None c.1)

@@ -1,0 +1,47 @@
+use Rattle.ic_link_ops.proofs.SequenceLemmas.{disjoint_sym}
+use Rattle.ic_tree_merges.proofs.MergedTrees.{placed_first, other_still, vine_run, rest_still, parted_tree}
+use Rattle.ic_tree_merges.proofs.parting.part.Goals as goal
+
+pub into_builder-run-requires : goal.into_builder-run-requires
+into_builder-run-requires g c = let two = c.requires.two in record { shown = (two.first, two.shown) }
+
+pub part_run-requires : goal.part_run-requires
+part_run-requires g c =
+    let two = c.requires.two in
+    let one = c.into_builder-run.ensures.taken_apart two.first two.shown in
+    record {
+      run = (two.first, two.second, vine_run one c.first-front.ensures two.placed, two.shown.held.distinct, other_still one two.apart two.other, two.other_placed, disjoint_sym two.first two.second two.apart);
+    }
+
+pub build-common-requires : goal.build-common-requires
+build-common-requires g c =
+    let two = c.requires.two in
+    let one = c.into_builder-run.ensures.taken_apart two.first two.shown in
+    let m = c.part_run.ensures.parted two.first two.second (vine_run one c.first-front.ensures two.placed) two.shown.held.distinct (other_still one two.apart two.other) (disjoint_sym two.first two.second two.apart) in
+    record { shown = (m.0.common, rw c.from_ends-common_builder.ensures.ends m.0.common_shown) }
+
+pub build-rest-requires : goal.build-rest-requires
+build-rest-requires g c =
+    let two = c.requires.two in
+    let one = c.into_builder-run.ensures.taken_apart two.first two.shown in
+    let m = c.part_run.ensures.parted two.first two.second (vine_run one c.first-front.ensures two.placed) two.shown.held.distinct (other_still one two.apart two.other) (disjoint_sym two.first two.second two.apart) in
+    let built = c.build-common.ensures.built m.0.common (rw c.from_ends-common_builder.ensures.ends m.0.common_shown) in
+    record { shown = (m.0.rest, rw c.from_ends-rest_builder.ensures.ends (rest_still m built)) }
+
+pub returns-clause-parted : goal.returns-clause-parted
+returns-clause-parted g c s u shown other apart =
+    let two = c.requires.two in
+    let one = c.into_builder-run.ensures.taken_apart s shown in
+    let m = c.part_run.ensures.parted s u (vine_run one c.first-front.ensures (placed_first two shown)) shown.held.distinct (other_still one apart other) (disjoint_sym s u apart) in
+    let built = c.build-common.ensures.built m.0.common (rw c.from_ends-common_builder.ensures.ends m.0.common_shown) in
+    parted_tree one m built (c.build-rest.ensures.built m.0.rest (rw c.from_ends-rest_builder.ensures.ends (rest_still m built)))
+
+pub returns-clause-few : goal.returns-clause-few
+returns-clause-few g c s u shown other apart =
+    let one = c.into_builder-run.ensures.taken_apart s shown in
+    c.part_run.ensures.few s u (vine_run one c.first-front.ensures (placed_first c.requires.two shown)) shown.held.distinct (other_still one apart other) (disjoint_sym s u apart)
+
+pub returns-clause-quiet : goal.returns-clause-quiet
+returns-clause-quiet g c =
+    let on = g.met.N.Nodes.quiet_on in
+    on _ _ _ (on _ _ _ (on _ _ _ c.into_builder-run.ensures.quiet c.part_run.ensures.quiet) c.build-common.ensures.quiet) c.build-rest.ensures.quiet

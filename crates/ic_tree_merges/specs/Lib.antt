@@ -1,0 +1,4 @@
+pub mod Merges
+pub mod TwoTrees
+pub mod Compares
+pub mod Vines

@@ -1,0 +1,199 @@
+//! A tree that is parted by another: what both have, and the rest.
+//!
+//! ```text
+//! let rest = intersection(&mut tree, &mut links, &objects, &mut order, &other); // `tree` keeps what `other` has, too
+//! let common = difference(&mut tree, &mut links, &objects, &mut order, &other); // `tree` keeps what `other` has not
+//! let doubles = union(&mut tree, &mut links, &objects, &mut order, other); // `tree` has each key of both
+//! ```
+
+ghost use Rattle.std.specs.Prelude.{◌≡◌, ◌≤◌, ◌+◌, ◌*◌, List, length, true, IfSome};
+ghost use Rattle.ic_unsafe_ref.specs.declared.place.Place.{Place};
+ghost use Rattle.ic_unsafe_ref.specs.Objects.{is_placed};
+ghost use Rattle.ic_link_ops.specs.PlacedObjects.{ArePlaced};
+ghost use Rattle.ic_link_ops.specs.RedBlackTree.{Shows};
+ghost use Rattle.ic_link_ops.specs.Sequences.{IsDistinct, IsDisjoint};
+ghost use Rattle.ic_rbtree.specs.Tree.{root_of, adapter_of};
+ghost use Rattle.ic_tree_merges.specs.Merges.{compared_at};
+ghost use Rattle.ic_tree_merges.specs.TwoTrees.{TwoShown, PartsTo, UnitesTo};
+ghost use Rattle.ic_tree_merges.specs.Vines.{ends_of, standing, looks_between, IsRun, PartsRun};
+
+use crate::compares::Compares;
+use crate::merging::merge;
+use crate::vine::Vine;
+use ic_link_ops::Side;
+use ic_rbtree::{Nodes, RBTree, RBTreeBuilder};
+use ic_unsafe_ref::{Place, Values};
+use std::cmp::Ordering;
+
+// How a member stands to one that may be there: it goes before, if there is none.
+#[inline]
+fn standing<V, O: Values<V>, C: Compares<V>>(
+    objects: &O,
+    order: &mut C,
+    place: Place,
+    other: Option<Place>,
+) -> Ordering
+    requires placed { is_placed (O.values objects.now) place ≡ true }
+    requires other_placed { IfSome other (λ p. is_placed (O.values objects.now) p ≡ true) }
+    ensures answer { result ≡ standing (compared_at (C.order order.old) (O.values objects.now)) place other }
+    ensures counted { C.looks order.new ≤ C.looks order.old + 1 }
+    ensures same { C.order order.new ≡ C.order order.old }
+{
+    match other {
+        Some(other) => order.compare(objects.value(place), objects.value(other)),
+        None => Ordering::Less,
+    }
+}
+
+// Makes two vines of a run: of what the other tree has, too, and of the rest.
+fn part_run<V, B, N: Nodes, O: Values<V>, C: Compares<V>>(
+    nodes: &mut N,
+    objects: &O,
+    order: &mut C,
+    first: Option<Place>,
+    other: &RBTree<B>,
+) -> (Vine, Vine)
+    requires run { (s u : List Place) × IsRun N.node (O.values objects.now) (N.table nodes.old) first s × IsDistinct s
+        × Shows N.node (N.table nodes.old) (root_of other.now) u × ArePlaced (O.values objects.now) u × IsDisjoint u s }
+    ensures parted { (s u : List Place) → IsRun N.node (O.values objects.now) (N.table nodes.old) first s → IsDistinct s
+        → Shows N.node (N.table nodes.old) (root_of other.now) u → IsDisjoint u s
+        → PartsRun N.node (compared_at (C.order order.old) (O.values objects.now)) (N.table nodes.old) (N.table nodes.new)
+        (ends_of result.0) (ends_of result.1) s u }
+    ensures few { (s u : List Place) → IsRun N.node (O.values objects.now) (N.table nodes.old) first s → IsDistinct s
+        → Shows N.node (N.table nodes.old) (root_of other.now) u → IsDisjoint u s
+        → C.looks order.new ≤ C.looks order.old + (length s + length u) }
+    ensures same { C.order order.new ≡ C.order order.old }
+    ensures quiet { N.Quiet nodes.old nodes.new }
+{
+    let mut left = first;
+    let mut right = other.step(&*nodes, None, Side::Right);
+    let mut common = Vine::new();
+    let mut rest = Vine::new();
+    for _count in 0..u64::MAX {
+        let Some(place) = left else {
+            return (common, rest);
+        };
+        match standing(objects, order, place, right) {
+            Ordering::Less => left = rest.push_back(nodes, place),
+            Ordering::Equal => left = common.push_back(nodes, place),
+            Ordering::Greater => right = other.step(&*nodes, right, Side::Right),
+        }
+    }
+    (common, rest)
+}
+
+// Takes the tree apart: what the other tree has, too, and the rest.
+fn part<A: Copy + Drop, B, V, N: Nodes, O: Values<V>, C: Compares<V>>(
+    tree: RBTree<A>,
+    nodes: &mut N,
+    objects: &O,
+    order: &mut C,
+    other: &RBTree<B>,
+) -> (RBTree<A>, RBTree<A>)
+    requires two { TwoShown (Shows N.node) (O.values objects.now) (N.table nodes.old) (root_of tree) (root_of other.now) }
+    ensures parted { (s u : List Place) → Shows N.node (N.table nodes.old) (root_of tree) s → Shows N.node (N.table nodes.old) (root_of other.now) u
+        → IsDisjoint s u → PartsTo (Shows N.node) (compared_at (C.order order.old) (O.values objects.now)) (N.table nodes.old) (N.table nodes.new)
+        (root_of result.0) (root_of result.1) s u }
+    ensures few { (s u : List Place) → Shows N.node (N.table nodes.old) (root_of tree) s → Shows N.node (N.table nodes.old) (root_of other.now) u
+        → IsDisjoint s u → C.looks order.new ≤ C.looks order.old + (length s + length u) }
+    ensures same { C.order order.new ≡ C.order order.old }
+    ensures quiet { N.Quiet nodes.old nodes.new }
+    ensures adapter { adapter_of result.0 ≡ adapter_of tree }
+    ensures rest_adapter { adapter_of result.1 ≡ adapter_of tree }
+{
+    let adapter = tree.adapter();
+    let run = tree.into_builder(nodes);
+    let front = run.first();
+    let (common_vine, rest_vine) = part_run(nodes, objects, order, front, other);
+    let common_builder = RBTreeBuilder::from_ends(adapter, common_vine.first, common_vine.last);
+    let common = common_builder.build(nodes);
+    let rest_builder = RBTreeBuilder::from_ends(adapter, rest_vine.first, rest_vine.last);
+    let rest = rest_builder.build(nodes);
+    (common, rest)
+}
+
+/// Keeps the members that are equal to one of the other tree, and hands out the rest, in order.
+///
+/// It requires that the two trees share no member, and that an object stands at each. If both were in order, exactly those are kept that are
+/// equal to one of the other. That one stays as it is. It takes no memory, no link is acquired or released, and trees that share no member
+/// with this one stay. At most n + m looks, and O(n + m).
+pub fn intersection<A: Copy + Drop, B, V, N: Nodes, O: Values<V>, C: Compares<V>>(
+    tree: &mut RBTree<A>,
+    nodes: &mut N,
+    objects: &O,
+    order: &mut C,
+    other: &RBTree<B>,
+) -> RBTree<A>
+    requires two { TwoShown (Shows N.node) (O.values objects.now) (N.table nodes.old) (root_of tree.old) (root_of other.now) }
+    ensures parted { (s u : List Place) → Shows N.node (N.table nodes.old) (root_of tree.old) s → Shows N.node (N.table nodes.old) (root_of other.now) u
+        → IsDisjoint s u → PartsTo (Shows N.node) (compared_at (C.order order.old) (O.values objects.now)) (N.table nodes.old) (N.table nodes.new)
+        (root_of tree.new) (root_of result) s u }
+    ensures few { (s u : List Place) → Shows N.node (N.table nodes.old) (root_of tree.old) s → Shows N.node (N.table nodes.old) (root_of other.now) u
+        → IsDisjoint s u → C.looks order.new ≤ C.looks order.old + (length s + length u) }
+    ensures same { C.order order.new ≡ C.order order.old }
+    ensures quiet { N.Quiet nodes.old nodes.new }
+    ensures adapter { adapter_of tree.new ≡ adapter_of tree.old }
+    ensures rest_adapter { adapter_of result ≡ adapter_of tree.old }
+{
+    let whole = tree.take();
+    let (common, rest) = part(whole, nodes, objects, order, other);
+    *tree = common;
+    rest
+}
+
+/// Keeps the members that are equal to none of the other tree, and hands out the others, in order.
+///
+/// It requires that the two trees share no member, and that an object stands at each. If both were in order, exactly those are handed out that
+/// are equal to one of the other. That one stays as it is. It takes no memory, no link is acquired or released, and trees that share no member
+/// with this one stay. At most n + m looks, and O(n + m).
+pub fn difference<A: Copy + Drop, B, V, N: Nodes, O: Values<V>, C: Compares<V>>(
+    tree: &mut RBTree<A>,
+    nodes: &mut N,
+    objects: &O,
+    order: &mut C,
+    other: &RBTree<B>,
+) -> RBTree<A>
+    requires two { TwoShown (Shows N.node) (O.values objects.now) (N.table nodes.old) (root_of tree.old) (root_of other.now) }
+    ensures parted { (s u : List Place) → Shows N.node (N.table nodes.old) (root_of tree.old) s → Shows N.node (N.table nodes.old) (root_of other.now) u
+        → IsDisjoint s u → PartsTo (Shows N.node) (compared_at (C.order order.old) (O.values objects.now)) (N.table nodes.old) (N.table nodes.new)
+        (root_of result) (root_of tree.new) s u }
+    ensures few { (s u : List Place) → Shows N.node (N.table nodes.old) (root_of tree.old) s → Shows N.node (N.table nodes.old) (root_of other.now) u
+        → IsDisjoint s u → C.looks order.new ≤ C.looks order.old + (length s + length u) }
+    ensures same { C.order order.new ≡ C.order order.old }
+    ensures quiet { N.Quiet nodes.old nodes.new }
+    ensures adapter { adapter_of tree.new ≡ adapter_of tree.old }
+    ensures common_adapter { adapter_of result ≡ adapter_of tree.old }
+{
+    let whole = tree.take();
+    let (common, rest) = part(whole, nodes, objects, order, other);
+    *tree = rest;
+    common
+}
+
+/// Moves the members of the other tree that are equal to none of this one into this tree, and hands out the others, in order.
+///
+/// It requires that the two trees share no member, and that an object stands at each. If both were in order, so is what comes out, and exactly
+/// those are handed out that are equal to one of this tree. It takes no memory, no link is acquired or released, and trees that share no
+/// member with either stay. At most 2 (n + m) looks, and O(n + m).
+pub fn union<A: Copy + Drop, V, N: Nodes, O: Values<V>, C: Compares<V>>(
+    tree: &mut RBTree<A>,
+    nodes: &mut N,
+    objects: &O,
+    order: &mut C,
+    other: RBTree<A>,
+) -> RBTree<A>
+    requires two { TwoShown (Shows N.node) (O.values objects.now) (N.table nodes.old) (root_of tree.old) (root_of other) }
+    ensures united { (s u : List Place) → Shows N.node (N.table nodes.old) (root_of tree.old) s → Shows N.node (N.table nodes.old) (root_of other) u
+        → IsDisjoint s u → UnitesTo (Shows N.node) (compared_at (C.order order.old) (O.values objects.now)) (N.table nodes.old) (N.table nodes.new)
+        (root_of tree.new) (root_of result) s u }
+    ensures few { (s u : List Place) → Shows N.node (N.table nodes.old) (root_of tree.old) s → Shows N.node (N.table nodes.old) (root_of other) u
+        → IsDisjoint s u → C.looks order.new ≤ C.looks order.old + 2 * (length s + length u) }
+    ensures same { C.order order.new ≡ C.order order.old }
+    ensures quiet { N.Quiet nodes.old nodes.new }
+    ensures adapter { adapter_of tree.new ≡ adapter_of tree.old }
+    ensures doubles_adapter { adapter_of result ≡ adapter_of other }
+{
+    let (doubles, added) = part(other, nodes, objects, order, &*tree);
+    merge(tree, nodes, objects, order, added);
+    doubles
+}

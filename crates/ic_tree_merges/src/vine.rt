@@ -1,0 +1,57 @@
+//! A vine that grows at its back.
+//!
+//! ```text
+//! let mut vine = Vine::new();
+//! let next = vine.push_back(nodes, place); // what stood behind the place before
+//! ```
+
+ghost use Rattle.std.specs.Prelude.{◌≡◌, List};
+ghost use Rattle.ic_link_ops.specs.Chains.{no_members};
+ghost use Rattle.ic_link_ops.specs.Edits.{Inserts};
+ghost use Rattle.ic_link_ops.specs.RedBlackTree.{node_at};
+ghost use Rattle.ic_link_ops.specs.Sequences.{IsAbsent, at_back};
+ghost use Rattle.ic_rbtree.specs.Closed.{IsNode};
+ghost use Rattle.ic_rbtree.specs.Vines.{ShowsVine, ShowsVineSome};
+ghost use Rattle.ic_tree_merges.specs.Vines.{ends_of};
+
+use ic_rbtree::Nodes;
+use ic_unsafe_ref::Place;
+
+/// The ends of a vine.
+#[derive(Clone, Copy)]
+pub(crate) struct Vine {
+    pub(crate) first: Option<Place>,
+    pub(crate) last: Option<Place>,
+}
+
+impl Vine {
+    // A vine with no member.
+    pub(crate) fn new() -> Vine
+        ensures { ends_of result ≡ no_members }
+    {
+        Vine {
+            first: None,
+            last: None,
+        }
+    }
+
+    // Puts a linked place behind the last member, and returns the right child that it had.
+    #[inline]
+    pub(crate) fn push_back<N: Nodes>(&mut self, nodes: &mut N, place: Place) -> Option<Place>
+        requires linked { IsNode N.node (N.table nodes.old) place }
+        requires shown { ShowsVineSome N.node (N.table nodes.old) (ends_of self.old) }
+        ensures hung { (s : List Place) → ShowsVine N.node (N.table nodes.old) (ends_of self.old) s → IsAbsent place s
+            → Inserts (ShowsVine N.node) (N.table nodes.old) (N.table nodes.new) (ends_of self.new) (at_back s) place }
+        ensures behind { result ≡ (node_at N.node (N.table nodes.old) place).right }
+        ensures quiet { N.Quiet nodes.old nodes.new }
+    {
+        let behind = nodes.right(place);
+        nodes.set_right(place, None);
+        match self.last {
+            Some(last) => nodes.set_right(last, Some(place)),
+            None => self.first = Some(place),
+        }
+        self.last = Some(place);
+        behind
+    }
+}
