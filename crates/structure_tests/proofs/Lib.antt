@@ -1,2 +1,4 @@
+pub mod HashTables
 pub mod JobQueueLemmas
 pub mod PlacedChains
+pub mod Rings

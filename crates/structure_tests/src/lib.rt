@@ -7,3 +7,9 @@ mod algorithms;
 #[cfg(test)]
 mod check;
 pub mod containers;
+#[cfg(test)]
+mod hash_table;
+#[cfg(test)]
+mod objects;
+#[cfg(test)]
+mod ring;
