@@ -14,6 +14,7 @@
 //! | `atomic` | claims on places, which threads share, and tables of links over them: `linked_list::AtomicLinkOps` and its three kin |
 //! | `rbtree` | the red-black tree, in an order that cursors or keys make |
 //! | `rbtree_cached` | the tree that keeps its first and its last member: `RBTreeCached` |
+//! | `tree_merges` | two trees merged, and a tree parted by another: `merge`, `union`, `intersection`, `difference` |
 //! | `augmented` | trees with a summary over each subtree: lengths, positions, overlaps of intervals |
 //! | `container` | what a container keeps of its objects and collections: `Listed`, `lists` |
 //! | `indexed` | objects in a tree by their keys and in a list: `Indexed` |
@@ -57,6 +58,7 @@ pub use ic_rbtree_cached::RBTreeCached;
 pub use ic_ring as ring;
 pub use ic_ring::Ring;
 pub use ic_singly_linked_list::SinglyLinkedList;
+pub use ic_tree_merges as tree_merges;
 pub use ic_unsafe_ref as unsafe_ref;
 pub use ic_unsafe_ref::UnsafeRef;
 pub use ic_world as world;
