@@ -10,7 +10,7 @@ use Rattle.ic_link_ops.proofs.Chains.{chain_cut, chain_glue}
 use Rattle.ic_link_ops.proofs.Walks.{stretch_length}
 
 -- a place is a member, or none
-absent_or : (q : Place) (s : List Place) → IsAbsent q s ⊎ IsMember q s
+pub absent_or : (q : Place) (s : List Place) → IsAbsent q s ⊎ IsMember q s
 absent_or q [] = inl tt
 absent_or q (x ∷ s) = elim (same_or_not q x) [
   | inl e ↦ inr (λ out. out.0 e)

@@ -1,2 +1,4 @@
 mod Checking
 mod Subtrees
+mod Marking
+mod SortedTrees

@@ -14,10 +14,14 @@
 
 mod kinds;
 mod list;
+mod sorted;
 mod tells;
 mod tree;
+mod whole;
 
 pub use kinds::NamesItsNext;
 pub use list::check;
+pub use sorted::is_sorted;
 pub use tells::TellsLinks;
 pub use tree::check_tree;
+pub use whole::check_all;

@@ -1,0 +1,64 @@
+-- Two walks side by side, the one a value behind the other: all is sorted exactly if what the one behind has left is.
+use Rattle.std.proofs.Common.{◌≡◌, true, Option, Some, None, List, [], ◌∷◌, map, refl, sym, ◌∙◌, ap, subst}
+use Rattle.std.specs.Borrow.{Bor}
+use Rattle.std.specs.Option.{IfSome, is_some}
+use Rattle.std.specs.declared.cmp.Ordering.{Ordering}
+use Rattle.std.specs.declared.cmp.Ordering.TheVariants.{Greater}
+use Rattle.ic_link_ops.specs.Walk.{GivesFirst}
+use Rattle.ic_rbtree.specs.Borders.{IsSorted}
+
+-- a call that gave a value
+pub on_some : {T : Type 0} {P : Type 0} (r : Option T) → is_some r ≡ true → IfSome r (λ x. P) → P
+on_some None some h = absurd (cc)
+on_some (Some x) some h = h
+
+pub first_given : {S V : Type 0} (rest : S → List V) (s t : S) (r : Option (Bor V)) → is_some r ≡ true → GivesFirst rest s r t → (value : V) × (rest s ≡ value ∷ rest t)
+first_given rest s t None some h = absurd (cc)
+first_given rest s t (Some x) some h = (x.now, h.0)
+
+module _ {V K : Type 0} (cmp : K → K → Ordering) (key : V → K) where
+  -- the keys of these never fall
+  abbrev pub Rise : List V → Type 0
+  Rise s = IsSorted cmp (map key s)
+
+  -- one walk is a value behind the other, and all are sorted exactly if what it has left is
+  pub record GoesOn (all behind left : List V) : Type 0 where
+    pub value : V
+    pub is : behind ≡ value ∷ left
+    pub down : Rise all → Rise behind
+    pub up : Rise behind → Rise all
+
+  pub goes : {all behind left : List V} {value : V} → behind ≡ all → all ≡ value ∷ left → GoesOn all behind left
+  goes {all} {behind} {left} {value} same is = record { value = value; is = same ∙ is; down = subst Rise (sym same); up = subst Rise same }
+
+  rest_same : {x y : V} {s t : List V} → x ∷ s ≡ y ∷ t → s ≡ t
+  rest_same e = cc
+
+  first_same : {x y : V} {s t : List V} → x ∷ s ≡ y ∷ t → x ≡ y
+  first_same e = cc
+
+  module _ {all behind left rest others : List V} {last value : V} (g : GoesOn all behind left) (is : left ≡ value ∷ rest) (was : behind ≡ last ∷ others) where
+    both : behind ≡ last ∷ value ∷ rest
+    both = was ∙ ap (λ (s : List V). last ∷ s) (rest_same (sym was ∙ g.is) ∙ is)
+
+    -- ONE VALUE MORE that is not less
+    pub goes_on : (cmp (key last) (key value) ≡ Greater → ⊥) → GoesOn all others rest
+    goes_on rises =
+        let here : others ≡ value ∷ rest = rest_same (sym was ∙ both) in
+        record {
+          value = value;
+          is = here;
+          down = λ h. subst Rise (sym here) (subst Rise both (g.down h)).1;
+          up = λ h. g.up (subst Rise (sym both) (rises, subst Rise here h));
+        }
+
+    -- one that is less
+    pub goes_down : cmp (key last) (key value) ≡ Greater → Rise all → ⊥
+    goes_down falls h = (subst Rise both (g.down h)).0 falls
+
+  -- the end
+  pub goes_through : {all behind left : List V} → GoesOn all behind left → left ≡ [] → Rise all
+  goes_through {all} {behind} {left} g over = let one : behind ≡ g.value ∷ [] = g.is ∙ ap (λ (s : List V). g.value ∷ s) over in g.up (subst Rise (sym one) tt)
+
+  pub goes_always : {all behind left : List V} → GoesOn all behind left → behind ≡ [] → ⊥
+  goes_always g over = let e = sym g.is ∙ over in absurd (cc)

@@ -1,0 +1,16 @@
+use Rattle.std.proofs.Common.{◌≡◌, List, ◌∷◌, map}
+use Rattle.ic_unsafe_ref.specs.declared.place.Place.{Place}
+use Rattle.ic_link_ops.specs.PlacedObjects.{values_at}
+use Rattle.ic_link_ops.specs.RedBlackTree.{Shows}
+use Rattle.ic_rbtree.specs.Iter.{objects_left}
+use Rattle.ic_rbtree.specs.Tree.{root_of, adapter_of}
+use Rattle.ic_check.proofs.SortedTrees.{GoesOn}
+use Rattle.ic_check.proofs.sorted.is_sorted.Given as goal
+
+abbrev pub invariant-loop-value : goal.invariant-loop-value
+invariant-loop-value g l =
+    let i = goal.iterator-loop-value g in
+    let left = objects_left g.L.RBTreeOps.node g.L.LinkOps.table g.O.Values.values in
+    i.can_next l.walk × i.is_finite l.walk × i.can_next l.behind × i.is_finite l.behind
+    × ((s : List Place) → Shows g.L.RBTreeOps.node (g.L.LinkOps.table l.links) (root_of l.tree) s
+    → GoesOn g.A.Key.Ord.cmp (g.A.KeyAdapter.key_of (adapter_of l.tree)) (values_at (g.O.Values.values l.objects) s) (left l.behind) (left l.walk))

@@ -1,0 +1,57 @@
+//! Whether a tree is in the order of its keys.
+//!
+//! ```text
+//! is_sorted(&tree, &links, &objects) // true: from one member to the next no key falls
+//! ```
+
+ghost use Rattle.std.specs.Prelude.{◌≡◌, List, map};
+ghost use Rattle.std.specs.Bool.{Decides};
+ghost use Rattle.std.specs.declared.cmp.Ordering.TheVariants.{Greater};
+ghost use Rattle.ic_unsafe_ref.specs.declared.place.Place.{Place};
+ghost use Rattle.ic_link_ops.specs.PlacedObjects.{ShowsPlaced, values_at};
+ghost use Rattle.ic_link_ops.specs.RedBlackTree.{Shows};
+ghost use Rattle.ic_rbtree.specs.Borders.{IsSorted};
+ghost use Rattle.ic_rbtree.specs.Tree.{root_of, adapter_of};
+
+use ic_link_ops::rbtree::RBTreeOps;
+use ic_rbtree::{KeyAdapter, RBTree};
+use ic_unsafe_ref::Values;
+use std::cmp::Ordering;
+
+/// Whether the keys of neighbors in the tree never fall, as each search by key requires.
+///
+/// It requires that all members are placed. O(n) for n members, with n - 1 comparisons at most, and no memory: two walks go side by side.
+pub fn is_sorted<A: KeyAdapter, L: RBTreeOps, O: Values<A::Value>>(
+    tree: &RBTree<A>,
+    links: &L,
+    objects: &O,
+) -> bool
+    requires placed { ShowsPlaced (Shows L.node (L.table links.now) (root_of tree.now)) (O.values objects.now) }
+    ensures { (s : List Place) → Shows L.node (L.table links.now) (root_of tree.now) s
+        → Decides result (IsSorted A.Key.cmp (map (A.key_of (adapter_of tree.now)) (values_at (O.values objects.now) s))) }
+{
+    let mut walk = tree.iter(links, objects);
+    if walk.next().is_none() {
+        return true;
+    }
+    let mut behind = tree.iter(links, objects);
+    while let Some(value) = walk.next() {
+        let Some(last) = behind.next() else {
+            return true;
+        };
+        if falls(tree.adapter(), last, value) {
+            return false;
+        }
+    }
+    true
+}
+
+// Whether the key of the second value is less than that of the first.
+fn falls<A: KeyAdapter>(adapter: A, first: &A::Value, second: &A::Value) -> bool
+    ensures { Decides result (A.Key.cmp (A.key_of adapter first.now) (A.key_of adapter second.now) ≡ Greater) }
+{
+    match adapter.get_key(first).cmp(adapter.get_key(second)) {
+        Ordering::Greater => true,
+        Ordering::Less | Ordering::Equal => false,
+    }
+}
