@@ -1,4 +1,4 @@
-use Rattle.std.proofs.Common.{sym, ◌∙◌}
+use Rattle.std.proofs.Common.{◌∙◌}
 use Rattle.ic_rbtree.proofs.Builders.{back_linked, hung_alone, hung_last}
 use Rattle.ic_tree_merges.proofs.vine.Vine.push_back.Goals as goal
 use Rattle.ic_tree_merges.proofs.vine.Vine.push_back.Goals.{in-Some, in-None}
