@@ -1,5 +1,5 @@
 -- Hash tables after a call of a test: they hold some sequence still.
-use Rattle.std.proofs.Common.{◌≡◌, Bool, true, false, Option, Some, None, List, [], ◌∷◌, ◌++◌, Result, Ok, Err, OnOk, OnErr, IfOk, IfErr, IfSome, IfNone, refl, sym, subst}
+use Rattle.std.proofs.Common.{◌≡◌, Bool, true, false, Option, Some, None, List, [], ◌∷◌, ◌++◌, Result, Ok, Err, OnErr, IfOk, IfErr, IfSome, IfNone, refl, subst}
 use Rattle.std.specs.Bool.{OnTrue, OnFalse}
 use Rattle.ic_unsafe_ref.specs.declared.place.Place.{Place}
 use Rattle.ic_link_ops.specs.Sequences.{Cut, join, first, IsAfter}

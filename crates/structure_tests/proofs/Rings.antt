@@ -1,15 +1,14 @@
 -- Rings after a call of a test: what the members are then, and that each object is placed.
-use Rattle.std.proofs.Common.{◌≡◌, ◌≢◌, ◌<◌, ℕ, true, Bool, false, Option, Some, List, [], ◌∷◌, ◌++◌, Result, Ok, Err, OnOk, OnErr, drop, refl, sym, ap, ◌∙◌, subst, append_assoc}
-use Rattle.std.specs.List.{AllByRecursion}
+use Rattle.std.proofs.Common.{◌≡◌, ◌≢◌, ◌<◌, true, Option, Some, List, [], ◌∷◌, ◌++◌, Result, Ok, Err, OnOk, OnErr, drop, sym, ap, ◌∙◌, subst, append_assoc}
 use Rattle.ic_unsafe_ref.specs.declared.place.Place.{Place}
 use Rattle.ic_unsafe_ref.specs.Places.{index_of}
 use Rattle.ic_unsafe_ref.specs.Objects.{Objects, is_placed}
 use Rattle.ic_link_ops.specs.Sequences.{IsAbsent, IsDisjoint, first, last, but_last}
 use Rattle.ic_link_ops.specs.Tables.{Table, Extent, IsCovered}
-use Rattle.ic_link_ops.specs.LinkedList.{Neighbors, IsBetween, IsChain}
+use Rattle.ic_link_ops.specs.LinkedList.{Neighbors, IsChain}
 use Rattle.ic_link_ops.specs.PlacedObjects.{ArePlaced, ShowsPlaced}
 use Rattle.ic_link_ops.proofs.SequenceLemmas.{first_is, split_last, disjoint_sym, absent_right, absent_swap, absent_turned, last_of_push}
-use Rattle.ic_ring.specs.Rings.{IsCircle, Shows, InRing, ShowsBeside}
+use Rattle.ic_ring.specs.Rings.{IsCircle, Shows, InRing}
 use Rattle.ic_ring.proofs.Circles.{circles_apart, seen_from, rotated}
 
 -- WHATEVER A CALL ANSWERED that may refuse an object

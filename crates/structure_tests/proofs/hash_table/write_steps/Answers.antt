@@ -1,4 +1,4 @@
-use Rattle.std.proofs.Common.{[], refl, sym}
+use Rattle.std.proofs.Common.{[], refl}
 use Rattle.structure_tests.proofs.HashTables.{gap_behind_first}
 use Rattle.structure_tests.proofs.hash_table.write_steps.Goals as goal
 

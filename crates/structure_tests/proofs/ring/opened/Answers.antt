@@ -1,4 +1,4 @@
-use Rattle.std.proofs.Common.{ap, ◌∙◌, sym, [], ◌∷◌}
+use Rattle.std.proofs.Common.{[], ◌∷◌}
 use Rattle.ic_link_ops.specs.LinkSteps.{acquires}
 use Rattle.ic_ring.proofs.Circles.{free_outside}
 use Rattle.structure_tests.proofs.Rings.{places_of}

@@ -1,4 +1,4 @@
-use Rattle.std.proofs.Common.{[], ◌∙◌}
+use Rattle.std.proofs.Common.{◌∙◌}
 use Rattle.structure_tests.proofs.Rings.{places_of}
 use Rattle.structure_tests.proofs.ring.pop_ends.Goals as goal
 

@@ -1,4 +1,3 @@
-use Rattle.std.proofs.Common.{ap, ◌∙◌}
 use Rattle.structure_tests.proofs.Rings.{either_way, places_of}
 use Rattle.structure_tests.proofs.ring.put_front.Goals as goal
 
