@@ -5,17 +5,20 @@ ghost use Rattle.std.specs.Prelude.{◌≡◌, ◌<◌, ◌≤◌, length, IfSom
 ghost use Rattle.ic_unsafe_ref.specs.Places.{index_of};
 ghost use Rattle.ic_link_ops.specs.DoublyEntries as doubly;
 ghost use Rattle.ic_link_ops.specs.PlainTables.{table};
+ghost use Rattle.ic_rbtree.specs.PlainTrees.{PlainShowsSome};
+ghost use Rattle.ic_rbtree.specs.Tree.{root_of};
 
 use ic_chain::Chain;
-use ic_check::{NamesItsNext, TellsLinks, check, check_tree};
+use ic_check::{NamesItsNext, TellsLinks, check, check_all, check_tree, is_sorted};
 use ic_link_ops::linked_list::LinkedListOps;
 use ic_link_ops::{OneWord, PlainTable, Words, linked_list, rbtree, singly_linked_list};
 use ic_linked_list::{DoublyLinked, LinkedList};
 use ic_rbtree::{KeyAdapter, RBTree};
 use ic_singly_linked_list::SinglyLinked;
-use ic_test_support::answers::object;
+use ic_test_support::answers::{object, placed};
 use ic_test_support::notes::{Answer, Text};
-use ic_unsafe_ref::{Place, UnsafeRef};
+use ic_test_support::tables::are_placed;
+use ic_unsafe_ref::{Objects, Place, UnsafeRef};
 use std::alloc::Global;
 use std::process::Abort;
 
@@ -90,6 +93,21 @@ fn a_singly_linked_list_is_checked(rt: HostRuntime) {
     same(&rt, alloc, &notes, "3 no none 3");
 }
 
+#[test]
+fn a_whole_table_is_checked(rt: HostRuntime) {
+    let alloc = rt.alloc();
+    let mut notes = Text::new(alloc);
+    let mut links = linked_list::LinkOps::new(alloc);
+    let _ = links.cover(3);
+    assert!(rt; links.covers() == 3);
+    let list: LinkedList<u64> = list_of_three(&mut links);
+    let mut marks = [true; 3];
+    write_found(&mut notes, check_all(&[list], &links, &mut marks));
+    let none: [LinkedList<u64>; 0] = [];
+    write_found(&mut notes, check_all(&none, &links, &mut marks));
+    same(&rt, alloc, &notes, "3 none");
+}
+
 // Says that a number is its own key.
 #[derive(Clone, Copy, Default)]
 struct OwnKey;
@@ -107,7 +125,9 @@ impl KeyAdapter for OwnKey {
 }
 
 // A tree of the objects at the first three places.
-fn tree_of_three(links: &mut rbtree::LinkOps) -> RBTree<OwnKey> {
+fn tree_of_three(links: &mut rbtree::LinkOps) -> RBTree<OwnKey>
+    ensures shown { PlainShowsSome links.new (root_of result) }
+{
     let mut tree = RBTree::new(OwnKey);
     for index in 0..3 {
         if index < links.covers() {
@@ -130,6 +150,28 @@ fn a_tree_is_checked(rt: HostRuntime) {
     links.force_unlink(place(1));
     write_found(&mut notes, check_tree(&tree, &links));
     same(&rt, alloc, &notes, "3 none");
+}
+
+// Notes whether a tree of three objects with these keys is in their order.
+fn write_sorted(rt: &impl Abort, alloc: Global, notes: &mut Text, keys: &[u64]) {
+    let mut objects = Objects::new(alloc);
+    for key in keys {
+        let _ = placed(&mut objects, *key);
+    }
+    let mut links = rbtree::LinkOps::new(alloc);
+    let _ = links.cover(3);
+    let tree = tree_of_three(&mut links);
+    assert!(rt; are_placed(&links, &objects));
+    notes.add(Answer::Truth(is_sorted(&tree, &links, &objects)), " ");
+}
+
+#[test]
+fn the_order_of_a_tree_is_checked(rt: HostRuntime) {
+    let alloc = rt.alloc();
+    let mut notes = Text::new(alloc);
+    write_sorted(&rt, alloc, &mut notes, &[10, 20, 20]);
+    write_sorted(&rt, alloc, &mut notes, &[10, 30, 20]);
+    same(&rt, alloc, &notes, "yes no");
 }
 
 // The end that a file names: 0 for none, else one more than the place's index.
