@@ -7,7 +7,7 @@ use Rattle.std.specs.declared.cmp.Ordering.{Ordering}
 use Rattle.std.specs.declared.cmp.Ordering.TheVariants.{Less, Equal, Greater}
 use Rattle.ic_unsafe_ref.specs.declared.place.Place.{Place}
 use Rattle.ic_unsafe_ref.specs.Objects.{Objects, Places, Frees, object_at, is_placed}
-use Rattle.ic_unsafe_ref.proofs.Placing.{Puts, put_there, put_others, leaves, without}
+use Rattle.ic_unsafe_ref.proofs.Placing.{leaves, without}
 use Rattle.ic_link_ops.specs.PlacedObjects.{ShowsPlaced}
 use Rattle.ic_link_ops.specs.Positions.{HasMember}
 use Rattle.ic_link_ops.specs.Sequences.{IsMember, first}
@@ -15,12 +15,11 @@ use Rattle.ic_link_ops.specs.Tables.{IsCovered, IsUnlinked, KeepsBeside, LinksAl
 use Rattle.ic_link_ops.proofs.Calling.{has_member}
 use Rattle.ic_link_ops.proofs.Covering.{still_covered}
 use Rattle.ic_link_ops.proofs.SequenceLemmas.{none_not}
-use Rattle.ic_pool.specs.Pooled.{Grows}
 use Rattle.ic_rbtree.specs.Borders.{Finds, IsSorted, equal_at}
 use Rattle.ic_rbtree.specs.Comparing.{answer_at, compared, order_of, own_order}
 use Rattle.ic_rbtree.specs.Ordered.{InsertsInOrder}
 use Rattle.ic_rbtree.specs.PlainTrees.{TreeLinkOps, ShowsTree, PlainShows, is_linked, plain_table, members_of}
-use Rattle.ic_rbtree.proofs.EachObject.{each_none, each_covered, each_linked, each_ready, each_new, each_taken, each_changed, vacant_free}
+use Rattle.ic_rbtree.proofs.EachObject.{each_none, each_linked, each_ready, each_new, each_taken, vacant_free}
 use Rattle.ic_rbtree.proofs.Passing.{passed}
 use Rattle.ic_rbtree.proofs.PlainTrees.{plain_covered, plain_members, plain_trees}
 use Rattle.ic_rbtree.proofs.SortedAnswers.{found_first}
@@ -63,10 +62,6 @@ module _ {T : Type 0} (key : T → ℕ) (objects : Objects T) (k : ℕ) where
   by_there : (p : Place) (v : T) → object_at objects p ≡ Some v → key v ≡ k → has_it p ≡ true
   by_there p v there same =
       ap (λ (o : Option T). is_eq (answer_at (order_of nat_cmp key k) o)) there ∙ ap (λ (l : ℕ). is_eq (nat_cmp k l)) same ∙ ap is_eq (tied_itself nat_cmp_total k)
-
-keys_same : {T : Type 0} (key : T → ℕ) {r out : T} → key r ≡ key out → (front back : List T) → map key (front ++ r ∷ back) ≡ map key (front ++ out ∷ back)
-keys_same key same [] back = ap (λ (k : ℕ). k ∷ map key back) same
-keys_same key same (x ∷ front) back = ap (λ (l : List ℕ). key x ∷ l) (keys_same key same front back)
 
 module _ {T A : Type 0} (key : T → ℕ) (objects : Objects T) where
   -- AT FIRST
@@ -118,10 +113,6 @@ module _ {T A : Type 0} (key : T → ℕ) (objects : Objects T) where
       down : length s ≤ length a.each.sorted.members
       down = no_more s a.each.sorted.members w.once (λ q member absent. true≢false (sym (member_placed objects s w.placed q member) ∙ sym (a.each.exact q) ∙ a.each.sorted.only q absent))
 
-    -- AFTER `place`, whatever it answered
-    pub all_grown : (grown : TreeLinkOps A) → Grows (plain_table links) (plain_table grown) → HasAll key grown root objects
-    all_grown grown grows = record { values = a.values; each = each_covered a.each grown grows.entries }
-
     -- A NEW OBJECT: members are placed still, it is not linked,
     module _ {more : Objects T} {p : Place} {v : T} (places : Places objects more p v) where
       pub all_ready : ShowsPlaced (PlainShows links root) more
@@ -141,16 +132,7 @@ module _ {T A : Type 0} (key : T → ℕ) (objects : Objects T) where
           → Unlinks is_linked (plain_table links) (plain_table new) p → Frees objects less p → HasAll key new top less
       all_freed new top removed off frees = let t = each_taken a.each p there removed off frees in record { values = t.0 ++ t.1; each = t.3 }
 
-      -- ANOTHER VALUE with the same key in its place
-      pub all_alike : {new : Objects T} {value : T} → Puts objects new p value → key value ≡ key out → HasAll key links root new
-      all_alike {new} {value} puts same =
-          let c = each_changed a.each p there (put_there puts) (put_others puts) in
-          record {
-            values = c.0 ++ value ∷ c.1;
-            each = c.3 (subst (IsSorted nat_cmp) (sym (keys_same key same c.0 c.1)) (subst (λ (l : List T). IsSorted nat_cmp (map key l)) c.2 a.each.sorted.sorted));
-          }
-
-      -- and with any key: taken off, changed, and inserted where it belongs
+      -- ANOTHER VALUE with any key in its place: taken off, changed, and inserted where it belongs
       pub all_less : (new : TreeLinkOps A) (top : Option Place) (value : T) → ((front back : List Place) → PlainShows links root (front ++ p ∷ back) → PlainShows new top (front ++ back))
           → Unlinks is_linked (plain_table links) (plain_table new) p → HasAll key new top (without objects p value)
       all_less new top value removed off = all_freed new top removed off (leaves objects p value)

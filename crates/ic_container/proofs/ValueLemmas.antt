@@ -1,5 +1,5 @@
 -- For callers: the values of a row, after one place more, less or elsewhere.
-use Rattle.std.proofs.Common.{◌≡◌, ◌≢◌, ℕ, Option, Some, List, [], ◌∷◌, ◌++◌, refl, sym, ap, ◌∙◌, subst, Bool, true, false, IsSome, None, length, ◌≤◌, arith, length-append, true≢false, inl, inr}
+use Rattle.std.proofs.Common.{◌≡◌, ◌≢◌, ℕ, Option, Some, List, [], ◌∷◌, ◌++◌, refl, sym, ap, ◌∙◌, subst, Bool, true, false, is_some, IsSome, None, length, ◌≤◌, arith, length-append, true≢false, inl, inr}
 use Rattle.std.proofs.lemmas.List.Elements.{filter_map-append}
 use Rattle.std.specs.List.{cons_option}
 use Rattle.ic_unsafe_ref.specs.declared.place.Place.{Place}
@@ -57,6 +57,13 @@ module _ {T : Type 0} (objects : Objects T) where
     by : (o : Option T) → IsSome o → length (values_at objects s) ≡ length s → length (cons_option o (values_at objects s)) ≡ length (x ∷ s)
     by None h rest = absurd (true≢false (sym h))
     by (Some v) h rest = omega (arith, rest)
+
+  -- what is placed stands there
+  pub there_is : (p : Place) → is_placed objects p ≡ true → (value : T) × (object_at objects p ≡ Some value)
+  there_is p is = by (object_at objects p) refl is where
+    by : (o : Option T) → object_at objects p ≡ o → is_some o ≡ true → (value : T) × (object_at objects p ≡ Some value)
+    by None e h = absurd (true≢false (sym h))
+    by (Some value) e h = (value, e)
 
   -- a member is placed
   pub member_placed : (s : List Place) → ArePlaced objects s → (q : Place) → IsMember q s → is_placed objects q ≡ true

@@ -1,1 +1,3 @@
 pub mod Indexed
+pub mod HashIndex
+pub mod HashLaws

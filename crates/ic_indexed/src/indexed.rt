@@ -1,4 +1,4 @@
-//! Objects that are found by their keys and stand in an order: a pool, its two tables, the tree and the list, as one value.
+//! Objects that are found by their keys and stand in an order: a pool, its two tables, the index and the list, as one value.
 //!
 //! ```text
 //! indexed.place_front(job)?;
@@ -6,7 +6,8 @@
 //! indexed.move_to_front(place?); // in front of all others
 //! ```
 
-ghost use Rattle.std.specs.Prelude.{◌≡◌, ◌∷◌, [], true, None, Some, List, length, OnOk, IfOk, IfErr, IfSome};
+ghost use Rattle.std.specs.Prelude.{◌≡◌, ◌≤◌, ◌∷◌, [], true, None, Some, List, length, OnOk, IfOk, IfErr, IfSome};
+ghost use Rattle.std.specs.List.{AllByRecursion};
 ghost use Rattle.ic_unsafe_ref.specs.declared.place.Place.{Place};
 ghost use Rattle.ic_unsafe_ref.specs.Objects.{Frees, Places, is_placed, object_at, with_object};
 ghost use Rattle.ic_link_ops.specs.Positions.{object_there};
@@ -14,11 +15,12 @@ ghost use Rattle.ic_pool.specs.Refusals.{value_of};
 ghost use Rattle.ic_container.specs.Orders.{values_of, IsWhole};
 ghost use Rattle.ic_container.specs.Trees.{IsFound};
 ghost use Rattle.ic_container.specs.Values.{last_value, Without};
-ghost use Rattle.ic_indexed.specs.Indexed.{IsFewLooks};
 
-use crate::{ByKey, HasKey, keys};
+use crate::renew::renew;
+use crate::{ByHash, ByKey, HasKey, Index};
 use ic_container::lists;
-use ic_link_ops::{linked_list, rbtree};
+use ic_hash_table::{Buckets, HashTable};
+use ic_link_ops::{linked_list, rbtree, singly_linked_list};
 use ic_linked_list::LinkedList;
 use ic_pool::{PlaceError, Pool};
 use ic_rbtree::RBTree;
@@ -26,19 +28,24 @@ use ic_unsafe_ref::{Place, UnsafeRef};
 use std::alloc::{Allocator, Global};
 use std::marker::Model;
 
-/// Objects, each in a tree by its key and in a list. Several can have one key.
+/// Objects, each in an index by its key and in a list. Several can have one key.
 ///
 /// A clause sees the objects by their places, and the places along the list (`Order`). `values_of` are the objects themselves
 /// along the list.
 #[derive(Drop)]
-pub struct Indexed<T: HasKey, A: Allocator = Global> {
-    pool: Pool<T, (rbtree::LinkOps<A>, linked_list::LinkOps<A>), A>,
-    by_key: RBTree<ByKey<T>>,
+pub struct Indexed<T: HasKey, I: Index<T, A>, A: Allocator = Global> {
+    pool: Pool<T, (I::Links, linked_list::LinkOps<A>), A>,
+    index: I,
     in_order: LinkedList<T>,
 }
 
-impl<T: HasKey, A: Allocator> Model for Indexed<T, A> {
-    ghost use Rattle.ic_rbtree.specs.Tree.{root_of};
+/// Objects in a tree by their keys and in a list.
+pub type TreeIndexed<T, A = Global> = Indexed<T, RBTree<ByKey<T>>, A>;
+
+/// Objects in a hash table by their keys and in a list.
+pub type HashIndexed<T, B, A = Global> = Indexed<T, HashTable<ByHash<T>, B>, A>;
+
+impl<T: HasKey, I: Index<T, A>, A: Allocator> Model for Indexed<T, I, A> {
     ghost use Rattle.ic_container.specs.Orders.{Order, order_code, order_of};
     ghost use Rattle.ic_indexed.specs.Indexed.{IsIndexed};
 
@@ -48,12 +55,12 @@ impl<T: HasKey, A: Allocator> Model for Indexed<T, A> {
 
     ghost view = { λ i. order_of i.pool.objects i.pool.links.1 i.in_order };
 
-    ghost invariant = { λ i. IsIndexed T.key_of i.pool.objects i.pool.links.0 (root_of i.by_key) i.pool.links.1 i.in_order };
+    ghost invariant = { λ i. IsIndexed (I.Has i.index i.pool.links.0) i.pool.objects i.pool.links.1 i.in_order };
 }
 
-impl<T: HasKey, A: Allocator> Indexed<T, A> {
-    /// No objects. It takes no memory.
-    pub fn new(alloc: A) -> Indexed<T, A>
+impl<T: HasKey, A: Allocator> Indexed<T, RBTree<ByKey<T>>, A> {
+    /// No objects, with a tree as the index. It takes no memory.
+    pub fn new(alloc: A) -> TreeIndexed<T, A>
     where
         A: Copy,
         ensures empty { values_of result ≡ [] }
@@ -65,19 +72,48 @@ impl<T: HasKey, A: Allocator> Indexed<T, A> {
         );
         Indexed {
             pool: Pool::new(alloc, links),
-            by_key: RBTree::new(ByKey::new()),
+            index: RBTree::new(ByKey::new()),
             in_order: LinkedList::new(),
         }
     }
+}
 
+impl<T: HasKey, B: Buckets + Drop, A: Allocator> Indexed<T, HashTable<ByHash<T>, B>, A> {
+    /// No objects, with a hash table over these buckets as the index. It takes no memory.
+    ///
+    /// It requires that the buckets are empty, and that there is one at least and at most 4,294,967,296. With as many buckets as there
+    /// are objects a search looks at one or two objects on average.
+    pub fn with_buckets(alloc: A, buckets: B) -> HashIndexed<T, B, A>
+    where
+        A: Copy,
+        requires some { 1 ≤ length (B.fronts buckets) }
+        requires few { length (B.fronts buckets) ≤ 4294967296 }
+        requires empty { AllByRecursion (λ front. front ≡ None) (B.fronts buckets) }
+        ensures empty { values_of result ≡ [] }
+        ensures vacant { (place : Place) → object_at result.values place ≡ None }
+    {
+        let links = (
+            singly_linked_list::LinkOps::new(alloc),
+            linked_list::LinkOps::new(alloc),
+        );
+        Indexed {
+            pool: Pool::new(alloc, links),
+            index: HashTable::new(ByHash::new(), buckets),
+            in_order: LinkedList::new(),
+        }
+    }
+}
+
+impl<T: HasKey, I: Index<T, A>, A: Allocator> Indexed<T, I, A> {
     /// Where an object of the key stands, if there is one, and how many objects the search looked at. O(log n): v looks among n
     /// objects, where `2^v <= (n + 1)^2`.
     pub fn find(&self, key: u64) -> (Option<Place>, u64)
         ensures found { IsFound T.key_of self.now.values key result.0 }
-        ensures looks { IsFewLooks result.1 (length (values_of self.now)) }
+        ensures looks { I.IsFew result.1 (length (values_of self.now)) }
         ensures whole { IsWhole self.now }
     {
-        keys::locate(&self.by_key, &self.pool.links.0, &self.pool.objects, key)
+        self.index
+            .find_key(&self.pool.links.0, &self.pool.objects, key)
     }
 
     /// The object at a place. It requires that one stands there. O(1).
@@ -117,7 +153,8 @@ impl<T: HasKey, A: Allocator> Indexed<T, A> {
         ensures removed { Without result (values_of self.old) (values_of self.new) }
     {
         let object = UnsafeRef::new(place);
-        self.by_key.remove(&mut self.pool.links.0, &object);
+        self.index
+            .remove_place(&mut self.pool.links.0, &self.pool.objects, place);
         lists::remove(&mut self.in_order, &mut self.pool.links.1, place);
         self.pool.remove(object)
     }
@@ -131,7 +168,7 @@ impl<T: HasKey, A: Allocator> Indexed<T, A> {
         ensures renewed { (rest : List T) × Without result (values_of self.old) rest × (values_of self.new ≡ value ∷ rest) }
     {
         let (objects, links) = (&mut self.pool.objects, &mut self.pool.links.0);
-        let gone = keys::renew(&mut self.by_key, links, objects, place, value);
+        let gone = renew(&mut self.index, links, objects, place, value);
         lists::move_to_front(&mut self.in_order, &mut self.pool.links.1, place);
         gone
     }
@@ -148,7 +185,7 @@ impl<T: HasKey, A: Allocator> Indexed<T, A> {
             Err(refused) => return Err(refused),
         };
         let (objects, links) = (&self.pool.objects, &mut self.pool.links.0);
-        keys::put(&mut self.by_key, links, objects, object.place());
+        self.index.insert_place(links, objects, object.place());
         lists::push_front(&mut self.in_order, &mut self.pool.links.1, object.place());
         Ok(object)
     }

@@ -13,12 +13,12 @@ ghost use Rattle.lru_cache.specs.Cache.{entry_with, HaveOwnKeys, IsFewLooks};
 ghost use Rattle.lru_cache.specs.Kept.{oldest, entries_of};
 
 use crate::entry::Entry;
-use ic_indexed::Indexed;
+use ic_indexed::TreeIndexed;
 use ic_unsafe_ref::Place;
 use std::alloc::Allocator;
 
 /// The entries, each in the tree of keys and in the list of ages.
-pub(crate) type Store<V, A> = Indexed<Entry<V>, A>;
+pub(crate) type Store<V, A> = TreeIndexed<Entry<V>, A>;
 
 // Where the entry of the key stands, if there is one, and how many entries were looked at.
 pub(crate) fn find<V, A: Allocator>(store: &Store<V, A>, key: u64) -> (Option<Place>, u64)

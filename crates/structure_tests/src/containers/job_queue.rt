@@ -5,7 +5,7 @@
 //! let first = queue.pop(); // 1
 //! ```
 
-ghost use Rattle.std.specs.Prelude.{◌≡◌, ◌<◌, ℕ, None, IfOk, IfErr, IfSome, IfNone, []};
+ghost use Rattle.std.specs.Prelude.{◌≡◌, ◌<◌, ℕ, None, IfOk, IfErr, IfSome, IfNone, [], List};
 
 use crate::containers::lanes::{Lanes, first_of, no_lanes, put_behind, take_out};
 use ic_link_ops::linked_list::LinkOps;

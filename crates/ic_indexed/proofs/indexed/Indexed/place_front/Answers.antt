@@ -1,5 +1,4 @@
 use Rattle.ic_container.proofs.ListedLemmas.{listed_grown, listed_new, listed_off, listed_values_new, order_grown}
-use Rattle.ic_container.proofs.TreeLemmas.{all_grown}
 use Rattle.ic_indexed.proofs.indexed.Indexed.place_front.Goals as goal
 
 -- no object was placed
@@ -7,20 +6,23 @@ pub invariant_of-self : goal.invariant_of-self
 invariant_of-self g c =
     let k = c.self.invariant in
     let e = c.in-Err.ensures in
-    rw e.refused.1 (record { keyed = all_grown g.T.HasKey.key_of c.self.inside.pool.objects k.keyed c.place.new.self.links.0 e.keeps.0; listed = listed_grown k.listed c.place.new.self.links.1 e.keeps.1 })
+    rw e.refused.1 (record {
+      keyed = g.met.I.Index.has_grown c.self.inside.index c.self.inside.pool.links.0 c.place.new.self.links.0 c.self.inside.pool.objects e.keeps.0 k.keyed;
+      listed = listed_grown k.listed c.place.new.self.links.1 e.keeps.1;
+    })
 
 pub returns-in-Err-clause-refused : goal.returns-in-Err-clause-refused
 returns-in-Err-clause-refused g c = let e = c.in-Err.ensures in rw (← c.self.view_is, e.refused.1) (e.refused.0, order_grown c.self.invariant.listed c.place.new.self.links.1 e.keeps.1)
 
 -- one was
-pub put-requires-clause-lacks : goal.put-requires-clause-lacks
-put-requires-clause-lacks g c =
+pub insert_place-requires-clause-lacks : goal.insert_place-requires-clause-lacks
+insert_place-requires-clause-lacks g c =
     let e = c.in-Ok.ensures in
     rw c.place-2.ensures (record {
       less = c.self.inside.pool.objects;
       value = c.args.value;
       places = e.placed;
-      all = all_grown g.T.HasKey.key_of c.self.inside.pool.objects c.self.invariant.keyed c.place.new.self.links.0 e.keeps.0;
+      all = g.met.I.Index.has_grown c.self.inside.index c.self.inside.pool.links.0 c.place.new.self.links.0 c.self.inside.pool.objects e.keeps.0 c.self.invariant.keyed;
     })
 
 pub push_front-requires-clause-unlinked : goal.push_front-requires-clause-unlinked
@@ -33,7 +35,7 @@ pub invariant_of-self-2 : goal.invariant_of-self-2
 invariant_of-self-2 g c =
     let e = c.in-Ok.ensures in
     record {
-      keyed = c.put.ensures;
+      keyed = c.insert_place.ensures;
       listed = listed_new c.self.invariant.listed c.place.new.self.links.1 e.keeps.1 e.placed c.push_front.new.links c.push_front.new.list (rw c.place-3.ensures at c.push_front.ensures);
     }
 

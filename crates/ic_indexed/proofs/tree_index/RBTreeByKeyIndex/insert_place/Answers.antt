@@ -3,7 +3,7 @@ use Rattle.ic_unsafe_ref.proofs.Placing.{placed_there}
 use Rattle.ic_link_ops.proofs.Calling.{accepted}
 use Rattle.ic_rbtree.specs.Tree.{root_of}
 use Rattle.ic_container.proofs.TreeLemmas.{all_ready, all_off, all_new}
-use Rattle.ic_indexed.proofs.keys.put.Goals as goal
+use Rattle.ic_indexed.proofs.tree_index.RBTreeByKeyIndex.insert_place.Goals as goal
 
 pub insert-requires-clause-placed : goal.insert-requires-clause-placed
 insert-requires-clause-placed g c = let l = c.requires.lacks in all_ready g.T.HasKey.key_of l.less l.all l.places

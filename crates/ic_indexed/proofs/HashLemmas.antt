@@ -1,0 +1,159 @@
+-- A hash table that has each object, after each kind of step, and what a search of it finds.
+use Rattle.std.proofs.Common.{◌≡◌, ◌≢◌, ℕ, suc, ◌+◌, ◌≤◌, ◌<◌, Bool, true, false, Option, None, Some, IsSome, is_some, List, [], ◌∷◌, ◌++◌, length, length-append, refl, sym, ap, ◌∙◌, subst, arith, true≢false}
+use Rattle.std.proofs.lemmas.Bool.{false_from_ne_true}
+use Rattle.std.specs.Bool.{⊤, OnTrue}
+use Rattle.std.specs.List.{AllByRecursion}
+use Rattle.ic_unsafe_ref.specs.declared.place.Place.{Place}
+use Rattle.ic_unsafe_ref.specs.Places.{index_of}
+use Rattle.ic_unsafe_ref.specs.Objects.{Objects, Places, Frees, object_at, is_placed}
+use Rattle.ic_unsafe_ref.proofs.Placing.{gone_there, others_left, others_placed, placed_there}
+use Rattle.ic_link_ops.specs.declared.one_word.OneWord.{OneWord}
+use Rattle.ic_link_ops.specs.declared.table.PlainTable.{PlainTable}
+use Rattle.ic_link_ops.specs.EntryLaws.{linked_in_range}
+use Rattle.ic_link_ops.specs.Links.{link_of}
+use Rattle.ic_link_ops.specs.OneWord.{no_word}
+use Rattle.ic_link_ops.specs.PlainTables.{entries}
+use Rattle.ic_link_ops.specs.Sequences.{IsAbsent, IsDistinct, IsMember}
+use Rattle.ic_link_ops.specs.SinglyLinkedList.{Successor}
+use Rattle.ic_link_ops.specs.Tables.{Table, IsCovered, IsLinked, IsUnlinked, LinksAlso, Unlinks}
+use Rattle.ic_link_ops.proofs.LinkedSets.{everywhere}
+use Rattle.ic_link_ops.proofs.PlacedValues.{all_beside}
+use Rattle.ic_link_ops.proofs.SequenceLemmas.{absent_left, absent_right, absent_with, absent_without, distinct_middle, member_split, none_not, split_member}
+use Rattle.ic_hash_table.specs.declared.slots.Slots.{Slots}
+use Rattle.ic_hash_table.specs.declared.table.HashTable.{HashTable}
+use Rattle.ic_hash_table.specs.Chains.{AreChained, ShowsFrom}
+use Rattle.ic_hash_table.specs.HashTable.{front_at, BelongsIn, Holds, HoldsWith, IsNew}
+use Rattle.ic_hash_table.specs.Searches.{matches, passes, Finds}
+use Rattle.ic_hash_table.specs.Slots.{slot_of}
+use Rattle.ic_hash_table.proofs.Callers.{new_held}
+use Rattle.ic_hash_table.proofs.Chains.{chains_free}
+use Rattle.ic_hash_table.proofs.FoundMembers.{chain_of}
+use Rattle.ic_hash_table.proofs.SlotLemmas.{slot_used}
+use Rattle.ic_container.specs.Trees.{IsFound}
+use Rattle.ic_container.proofs.ValueLemmas.{member_placed, no_more}
+use Rattle.ic_indexed.specs.Indexed.{IsOrderOf}
+use Rattle.ic_indexed.specs.HashIndex.{is_linked, plain_table, HoldsAll}
+
+-- only covered places are linked, and so none where no place is
+pub singly_covered : {K A : Type 0} (links : PlainTable (OneWord K) A ⊤) (p : Place) → IsLinked is_linked (plain_table links) p → IsCovered (plain_table links) p
+singly_covered links p is = linked_in_range is_linked (link_of no_word) refl (entries links) (index_of p) is
+
+pub singly_off : {K A : Type 0} (links : PlainTable (OneWord K) A ⊤) → (plain_table links).extent.places ≡ 0 → (p : Place) → IsUnlinked is_linked (plain_table links) p
+singly_off links none p = false_from_ne_true _ (λ is. let within = singly_covered links p is in absurd (omega (arith, within, none)))
+
+-- what holds where an answer is true
+pub on_true : {X : Type 0} (answer : Bool) → OnTrue answer X → answer ≡ true → X
+on_true true h e = h
+on_true false h e = absurd (true≢false (sym e))
+
+-- what holds of each holds of a member
+at_member : (P : Place → Type 0) (s : List Place) → AllByRecursion P s → (q : Place) → IsMember q s → P q
+at_member P s all q member = let m = member_split q s member in at m.0 m.1 (subst (AllByRecursion P) m.2 all) where
+  at : (front back : List Place) → AllByRecursion P (front ++ q ∷ back) → P q
+  at [] back all = all.0
+  at (x ∷ front) back all = at front back all.1
+
+-- AN OBJECT BESIDE: what stands at p alone is another one
+belongs_beside : {T : Type 0} (slots : Slots) (hash : T → ℕ) (objects new : Objects T) (p : Place) → ((q : Place) → q ≢ p → object_at new q ≡ object_at objects q) → (i : ℕ) (s : List Place) → IsAbsent p s
+    → AllByRecursion (BelongsIn slots hash objects i) s → AllByRecursion (BelongsIn slots hash new i) s
+belongs_beside slots hash objects new p same i [] out own = tt
+belongs_beside slots hash objects new p same i (x ∷ s) out own = (λ v there. own.0 v (sym (same x (λ e. out.0 (sym e))) ∙ there), belongs_beside slots hash objects new p same i s out.1 own.1)
+
+chains_beside : {E T : Type 0} (succ : E → Successor) (slots : Slots) (hash : T → ℕ) (objects new : Objects T) (p : Place) → ((q : Place) → q ≢ p → object_at new q ≡ object_at objects q) → (t : Table E) (i : ℕ) (row : List (Option Place))
+    (s : List Place) → IsAbsent p s → AreChained succ (BelongsIn slots hash objects) t i row s → AreChained succ (BelongsIn slots hash new) t i row s
+chains_beside succ slots hash objects new p same t i [] s out h = h
+chains_beside succ slots hash objects new p same t i (f ∷ fs) s out (chain, rest, is, shown, own, more) =
+    let o = subst (IsAbsent p) is out in (
+      chain,
+      rest,
+      is,
+      shown,
+      belongs_beside slots hash objects new p same i chain (absent_left p chain rest o) own,
+      chains_beside succ slots hash objects new p same t (suc i) fs rest (absent_right p chain rest o) more,
+    )
+
+held_beside : {E A B T : Type 0} {succ : E → Successor} {hash : A → T → ℕ} {fronts : B → List (Option Place)} {t : Table E} {table : HashTable A B} {objects new : Objects T} (p : Place)
+    → ((q : Place) → q ≢ p → object_at new q ≡ object_at objects q) → (s : List Place) → IsAbsent p s → Holds succ hash fronts t table objects s → Holds succ hash fronts t table new s
+held_beside {succ = succ} {hash} {fronts} {t} {table} {objects} {new} p same s out held = record {
+  distinct = held.distinct;
+  chained = chains_beside succ table.slots (hash table.adapter) objects new p same t 0 (fronts table.buckets) s out held.chained;
+  placed = all_beside objects new p same IsSome s out held.placed;
+  counted = held.counted;
+  well_formed = held.well_formed;
+  enough = held.enough;
+}
+
+-- AT FIRST
+pub hash_first : {E A B T : Type 0} (succ : E → Successor) (linked : E → Bool) (hash : A → T → ℕ) (fronts : B → List (Option Place)) (t : Table E) (table : HashTable A B) (objects : Objects T)
+    → IsNew fronts table → ((p : Place) → object_at objects p ≡ None) → ((p : Place) → IsUnlinked linked t p) → HoldsAll succ linked hash fronts t table objects
+hash_first succ linked hash fronts t table objects new vacant off =
+    let n = new_held succ hash fronts t table objects new in
+    record { members = n.0; held = n.1; all = λ p is. absurd (true≢false (sym is ∙ ap is_some (vacant p))); only = λ p none. off p }
+
+module _ {E A B T : Type 0} {succ : E → Successor} {linked : E → Bool} (alike : (e : E) → (succ e).linked ≡ linked e) {hash : A → T → ℕ} {fronts : B → List (Option Place)} where
+  module _ {t : Table E} {table : HashTable A B} {objects : Objects T} (a : HoldsAll succ linked hash fronts t table objects) where
+    -- what is vacant is no member
+    pub hash_absent : (p : Place) → object_at objects p ≡ None → IsAbsent p a.members
+    hash_absent p none = chains_free succ (BelongsIn table.slots (hash table.adapter) objects) alike t 0 (fronts table.buckets) a.members p a.held.chained (a.only p none)
+
+    -- A NEW OBJECT: it is not linked, and the members are held still
+    module _ {more : Objects T} {p : Place} {v : T} (places : Places objects more p v) where
+      pub hash_ready : Holds succ hash fronts t table more a.members
+      hash_ready = held_beside p (others_placed places) a.members (hash_absent p places.vacant) a.held
+
+      -- and is inserted
+      pub hash_new : {new : Table E} {after : HashTable A B} → HoldsWith succ hash fronts new after more a.members p → LinksAlso linked t new p → HoldsAll succ linked hash fronts new after more
+      hash_new {new} with also =
+          let front = with.0.front in
+          let back = with.0.back in
+          record {
+            members = front ++ p ∷ back;
+            held = with.2;
+            all = λ q. everywhere (λ q. is_placed more q ≡ true → IsMember q (front ++ p ∷ back)) p q (λ is. split_member front p back)
+                (λ n is out. a.all q (sym (ap is_some (others_placed places q n)) ∙ is) (subst (IsAbsent q) with.1 (absent_without front back p q out)));
+            only = λ q. everywhere (λ q. object_at more q ≡ None → IsUnlinked linked new q) p q (λ none. absurd (none_not v (sym none ∙ placed_there places)))
+                (λ n none. also.others q n ∙ a.only q (sym (others_placed places q n) ∙ none));
+          }
+
+    -- A CHAIN HAS NO MORE MEMBERS than an order has places
+    pub hash_few : (k : ℕ) (used : k < table.slots.used) (order : List Place) → IsOrderOf objects order → length (chain_of a.held k used).chain ≤ length order
+    hash_few k used order whole =
+        let c = chain_of a.held k used in
+        let few = no_more a.members order a.held.distinct (λ q member. whole.all q (member_placed objects a.members a.held.placed q member)) in
+        omega (arith, ap length c.parts, length-append c.ahead (c.chain ++ c.behind), length-append c.chain c.behind, few)
+
+    -- the chain where a hash belongs
+    pub hash_chain : (h : ℕ) → (chain : List Place) × ShowsFrom succ t (front_at fronts table (slot_of table.slots h)) chain × ((order : List Place) → IsOrderOf objects order → length chain ≤ length order)
+    hash_chain h =
+        let used = slot_used table.slots.used table.slots.mask (omega (arith, a.held.well_formed.half)) h in
+        let c = chain_of a.held (slot_of table.slots h) used in
+        (c.chain, c.shown, λ order whole. hash_few (slot_of table.slots h) used order whole)
+
+    -- AN OBJECT IS A MEMBER,
+    module _ (p : Place) (is : is_placed objects p ≡ true) where
+      pub hash_cut : (front : List Place) × (back : List Place) × (a.members ≡ front ++ p ∷ back)
+      hash_cut = member_split p a.members (a.all p is)
+
+      -- and is taken off, and out
+      pub hash_freed : {new : Table E} {after : HashTable A B} {less : Objects T}
+          → ((front back : List Place) → Holds succ hash fronts t table objects (front ++ p ∷ back) → Holds succ hash fronts new after objects (front ++ back))
+          → Unlinks linked t new p → Frees objects less p → HoldsAll succ linked hash fronts new after less
+      hash_freed {new} {after} {less} removed off frees =
+          let c = hash_cut in
+          let out = distinct_middle c.0 c.1 p (subst IsDistinct c.2 a.held.distinct) in
+          record {
+            members = c.0 ++ c.1;
+            held = held_beside p (others_left frees) (c.0 ++ c.1) out (removed c.0 c.1 (subst (Holds succ hash fronts t table objects) c.2 a.held));
+            all = λ q. everywhere (λ q. is_placed less q ≡ true → IsMember q (c.0 ++ c.1)) p q (λ is. absurd (true≢false (sym is ∙ ap is_some (gone_there frees))))
+                (λ n is out. a.all q (sym (ap is_some (others_left frees q n)) ∙ is) (subst (IsAbsent q) (sym c.2) (absent_with c.0 c.1 p q n out)));
+            only = λ q. everywhere (λ q. object_at less q ≡ None → IsUnlinked linked new q) p q (λ none. off.is) (λ n none. off.others q n ∙ a.only q (sym (others_left frees q n) ∙ none));
+          }
+
+-- WHAT A SEARCH FINDS, of which the test tells the key
+module _ {T : Type 0} (key : T → ℕ) (objects : Objects T) (k : ℕ) (equal : T → Bool) (tells : (v : T) → equal v ≡ true → key v ≡ k) (passed : (v : T) → key v ≡ k → equal v ≡ true) where
+  pub hash_found : (s : List Place) (position : Option Place) → ((p : Place) → is_placed objects p ≡ true → IsMember p s) → Finds (matches equal objects) s position → IsFound key objects k position
+  hash_found s None all none = λ p v there same. true≢false (sym (ap (passes equal) there ∙ passed v same) ∙ at_member (λ q. matches equal objects q ≡ false) s none p (all p (ap is_some there)))
+  hash_found s (Some p) all found = by (object_at objects p) refl found.4 where
+    by : (o : Option T) → object_at objects p ≡ o → passes equal o ≡ true → (v : T) × (object_at objects p ≡ Some v) × (key v ≡ k)
+    by None e h = absurd (true≢false (sym h))
+    by (Some v) e h = (v, e, tells v h)

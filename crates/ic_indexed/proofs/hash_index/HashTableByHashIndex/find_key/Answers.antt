@@ -1,0 +1,35 @@
+use Rattle.std.proofs.Common.{None, Some, sym, ap, eqb-true, eq-eqb, arith}
+use Rattle.ic_indexed.specs.HashIndex.{mixed}
+use Rattle.ic_indexed.specs.HashLaws.{singly_alike}
+use Rattle.ic_indexed.proofs.HashLemmas.{hash_chain, hash_found}
+use Rattle.ic_indexed.proofs.hash_index.HashTableByHashIndex.find_key.Goals as goal
+
+pub find_by-requires-clause-held : goal.find_by-requires-clause-held
+find_by-requires-clause-held g c = (c.requires.all.members, c.requires.all.held)
+
+pub find_by-requires-clause-alike : goal.find_by-requires-clause-alike
+find_by-requires-clause-alike g c value same = ap mixed (sym (eqb-true _ _ same))
+
+pub returns-in-Some-clause-found : goal.returns-in-Some-clause-found
+returns-in-Some-clause-found g c =
+    let a = c.requires.all in
+    let found = rw c.new-probe.ensures.key at (c.in-Some.ensures.found a.members a.held) in
+    rw c.place.ensures (hash_found g.T.HasKey.key_of c.args.objects.now c.args.key _ (λ v h. sym (eqb-true _ _ h)) (λ v e. eq-eqb _ _ (sym e)) a.members (Some c.in-Some.object) a.all found)
+
+pub returns-in-None-clause-found : goal.returns-in-None-clause-found
+returns-in-None-clause-found g c =
+    let a = c.requires.all in
+    let found = rw c.new-probe.ensures.key at (c.in-None.ensures.found a.members a.held) in
+    hash_found g.T.HasKey.key_of c.args.objects.now c.args.key _ (λ v h. sym (eqb-true _ _ h)) (λ v e. eq-eqb _ _ (sym e)) a.members None a.all found
+
+pub returns-in-Some-clause-looks : goal.returns-in-Some-clause-looks
+returns-in-Some-clause-looks g c order whole =
+    let chain = hash_chain singly_alike c.requires.all _ in
+    let l = c.in-Some.ensures.looks chain.0 chain.1 in
+    omega (arith, l.counted, l.few, c.looks.ensures, c.new-probe.ensures.none, chain.2 order whole)
+
+pub returns-in-None-clause-looks : goal.returns-in-None-clause-looks
+returns-in-None-clause-looks g c order whole =
+    let chain = hash_chain singly_alike c.requires.all _ in
+    let l = c.in-None.ensures.looks chain.0 chain.1 in
+    omega (arith, l.counted, l.few, c.looks-in-None.ensures, c.new-probe.ensures.none, chain.2 order whole)

@@ -1,0 +1,43 @@
+//! A tree finds objects by their keys.
+ghost use Rattle.ic_rbtree.specs.Tree.{root_of};
+ghost use Rattle.ic_container.specs.Trees.{HasAll};
+ghost use Rattle.ic_container.specs.TreeLaws.{all_grown, all_alike};
+ghost use Rattle.ic_indexed.specs.Indexed.{IsFewLooks};
+
+use crate::{ByKey, HasKey, Index};
+use ic_link_ops::rbtree::LinkOps;
+use ic_rbtree::{KeyProbe, RBTree};
+use ic_unsafe_ref::{Objects, Place, UnsafeRef};
+use std::alloc::Allocator;
+
+impl<T: HasKey, A: Allocator> Index<T, A> for RBTree<ByKey<T>> {
+    type Links = LinkOps<A>;
+
+    ghost Has = { λ tree links objects. HasAll T.key_of links (root_of tree) objects };
+
+    ghost IsFew = { IsFewLooks };
+
+    fn find_key(
+        &self,
+        links: &LinkOps<A>,
+        objects: &Objects<T, A>,
+        key: u64,
+    ) -> (Option<Place>, u64) {
+        let mut probe = KeyProbe::new(ByKey::new(), &key);
+        let place = self.find_by(links, objects, &mut probe).get_ptr();
+        (place, probe.looks())
+    }
+
+    fn insert_place(&mut self, links: &mut LinkOps<A>, objects: &Objects<T, A>, place: Place) {
+        let _ = self.insert(links, objects, UnsafeRef::new(place)); // proved: it is not linked
+    }
+
+    fn remove_place(&mut self, links: &mut LinkOps<A>, objects: &Objects<T, A>, place: Place) {
+        let _ = objects;
+        self.remove(links, &UnsafeRef::new(place));
+    }
+
+    ghost has_grown = { λ tree old new objects grows all. all_grown T.key_of objects all new grows };
+
+    ghost has_alike = { λ tree links old new place out value there puts same all. all_alike T.key_of old all there puts same };
+}
