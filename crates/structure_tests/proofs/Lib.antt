@@ -2,3 +2,4 @@ pub mod HashTables
 pub mod JobQueueLemmas
 pub mod PlacedChains
 pub mod Rings
+mod Trees
