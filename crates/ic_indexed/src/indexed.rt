@@ -105,8 +105,9 @@ impl<T: HasKey, B: Buckets + Drop, A: Allocator> Indexed<T, HashTable<ByHash<T>,
 }
 
 impl<T: HasKey, I: Index<T, A>, A: Allocator> Indexed<T, I, A> {
-    /// Where an object of the key stands, if there is one, and how many objects the search looked at. O(log n): v looks among n
-    /// objects, where `2^v <= (n + 1)^2`.
+    /// Where an object of the key stands, if there is one, and how many objects the search looked at.
+    ///
+    /// By a tree O(log n): v looks among n objects, where `2^v <= (n + 1)^2`. By a hash table O(1) on average, and n looks at most.
     pub fn find(&self, key: u64) -> (Option<Place>, u64)
         ensures found { IsFound T.key_of self.now.values key result.0 }
         ensures looks { I.IsFew result.1 (length (values_of self.now)) }
@@ -144,8 +145,9 @@ impl<T: HasKey, I: Index<T, A>, A: Allocator> Indexed<T, I, A> {
         lists::move_to_front(&mut self.in_order, &mut self.pool.links.1, place);
     }
 
-    /// Takes the object at a place out. It requires that one stands there. The others keep their order. O(log n), and it takes no
-    /// memory.
+    /// Takes the object at a place out. It requires that one stands there. The others keep their order.
+    ///
+    /// It costs about as much as a search of the index, O(log n) by a tree, and takes no memory.
     pub fn remove(&mut self, place: Place) -> T
         requires placed { is_placed self.old.values place ≡ true }
         ensures value { object_at self.old.values place ≡ Some result }
@@ -160,7 +162,9 @@ impl<T: HasKey, I: Index<T, A>, A: Allocator> Indexed<T, I, A> {
     }
 
     /// Puts a value in the place of the object there, which comes back, and in front of all others. It requires that one stands
-    /// there. O(log n), and it takes no memory.
+    /// there.
+    ///
+    /// It costs about as much as two searches of the index, O(log n) by a tree, and takes no memory.
     pub fn renew(&mut self, place: Place, value: T) -> T
         requires placed { is_placed self.old.values place ≡ true }
         ensures value { object_at self.old.values place ≡ Some result }
@@ -173,8 +177,9 @@ impl<T: HasKey, I: Index<T, A>, A: Allocator> Indexed<T, I, A> {
         gone
     }
 
-    /// Adds an object in front of all others. Where there is no room for it, the value comes back, and nothing has changed. O(log n),
-    /// and at most three requests for memory.
+    /// Adds an object in front of all others. Where there is no room for it, the value comes back, and nothing has changed.
+    ///
+    /// It costs about as much as a search of the index, O(log n) by a tree, and at most three requests for memory.
     pub fn place_front(&mut self, value: T) -> Result<UnsafeRef<T>, PlaceError<T>>
         ensures placed { IfOk result (λ object. Places self.old.values self.new.values object value) }
         ensures added { OnOk result (values_of self.new ≡ value ∷ values_of self.old) }
