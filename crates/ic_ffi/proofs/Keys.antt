@@ -1,5 +1,5 @@
 -- Members that searches find.
-use Rattle.std.proofs.Common.{◌≡◌, ℕ, ◌+◌, ◌<◌, ◌≤◌, Bool, true, false, cond, Option, Some, None, List, length, refl, sym, ap, ◌∙◌, subst, arith}
+use Rattle.std.proofs.Common.{◌≡◌, ℕ, ◌+◌, ◌<◌, ◌≤◌, Bool, true, false, cond, Option, Some, None, List, [], ◌∷◌, length, refl, sym, ap, ◌∙◌, subst, arith}
 use Rattle.std.proofs.lemmas.Bool.{ltb-true, lt-ltb, le-ltb}
 use Rattle.std.specs.Ordering.{is_eq}
 use Rattle.std.specs.declared.cmp.Ordering.{Ordering}
@@ -14,7 +14,7 @@ use Rattle.ic_link_ops.specs.Frames.{child_on}
 use Rattle.ic_link_ops.specs.Tables.{Table, IsCovered}
 use Rattle.ic_link_ops.specs.RedBlackTree as trees
 use Rattle.ic_link_ops.specs.Trees.{Tree}
-use Rattle.ic_rbtree.specs.Closed.{IsIn}
+use Rattle.ic_rbtree.specs.Closed.{AreIn}
 use Rattle.ic_rbtree.specs.Borders.{IsBorder, Finds, less_at, at_most_at, if_passes, equal_at}
 use Rattle.ic_rbtree.specs.Descents as descents
 use Rattle.ic_rbtree.specs.Comparing.{goes_left}
@@ -86,10 +86,11 @@ finds {at = at} h ends is = record {
   answer = is ∙ ap (if_passes (equal_at at)) ends.back_is;
 }
 
--- what was behind the gap is in a set, and so is what stands there then
-pub past_within : (S : Place → Bool) (way : Way) (p : Place) (left : Bool) → S p ≡ true → IsIn S way.back → IsIn S (past way p left).back
-past_within S way p true here back = here
-past_within S way p false here back = back
+-- all that a way keeps is in a set, and so it is past one more place of it
+pub past_within : (S : Place → Bool) (way : Way) (p : Place) (left : Bool) → S p ≡ true → AreIn S (way.parent ∷ way.front ∷ way.back ∷ [])
+    → AreIn S ((past way p left).parent ∷ (past way p left).front ∷ (past way p left).back ∷ [])
+past_within S way p true here ends = (here, (ends.1.0, (here, tt)))
+past_within S way p false here ends = (here, (here, (ends.1.1.0, tt)))
 
 -- there are too few keys, or enough
 pub lacking : (keys : List ℕ) (places : ℕ) → length keys < places → 1 ≡ keys_fault keys places

@@ -1,16 +1,17 @@
 -- What is seen of a caller's words, as they are written.
-use Rattle.std.proofs.Common.{◌≡◌, ℕ, ◌+◌, ◌*◌, ◌/◌, ◌%◌, ◌<◌, ◌≤◌, List, length, true, cond, nat_eq, nat_lt, Option, Some, None, slice_set, slice_index_or, refl, sym, ap, ◌∙◌, subst, inl, inr, arith}
+use Rattle.std.proofs.Common.{◌≡◌, ℕ, ◌+◌, ◌*◌, ◌/◌, ◌%◌, ◌<◌, ◌≤◌, List, length, Bool, true, false, cond, nat_eq, nat_lt, Option, Some, None, slice_set, slice_index_or, refl, sym, ap, ◌∙◌, subst, inl, inr, arith, ne_eqb}
 use Rattle.std.proofs.lemmas.Bool.{ltb-true, lt-ltb, le-ltb}
 use Rattle.std.proofs.lemmas.List.{length-set}
 use Rattle.ic_unsafe_ref.specs.declared.place.Place.{Place}
 use Rattle.ic_unsafe_ref.specs.Places.{index_of, word_of, place_at}
-use Rattle.ic_unsafe_ref.proofs.PlaceLemmas.{place_at_word, word_fits, same_or_not}
+use Rattle.ic_unsafe_ref.proofs.PlaceLemmas.{place_at_word, word_fits, same_or_not, word_is, word_tells}
 use Rattle.ic_link_ops.specs.declared.color.Color.{Color}
 use Rattle.ic_link_ops.specs.declared.color.Color.TheVariants.{Red, Black}
 use Rattle.ic_link_ops.specs.Tables.{Table, ChangesOnly}
 use Rattle.ic_link_ops.specs.PlainTables.{entry_at, table_with}
 use Rattle.ic_link_ops.specs.RedBlackTree.{Node}
 use Rattle.ic_link_ops.specs.TreeWords.{one_if_black}
+use Rattle.ic_link_ops.specs.Walk.{is_end}
 use Rattle.ic_link_ops.proofs.EntryLemmas.{entry_same, entry_read}
 use Rattle.ic_ffi.specs.declared.words.RawThree.{RawThree}
 use Rattle.ic_ffi.specs.Words.{number_in, place_in, is_marked, is_linked_three, no_tree_words}
@@ -77,6 +78,27 @@ number_beyond places v beyond = by (place_in v) refl where
   by : (o : Option Place) → place_in v ≡ o → None ≡ named_within places o
   by None e = refl
   by (Some q) e = ap (λ b. cond b (Some q) None) (sym (le-ltb (index_of q) places (omega (arith, beyond, index_in v q e))))
+
+-- words tell whether an end is a place
+same_words : (end : Option Place) (p : Place) → nat_eq (word_of end) (word_of (Some p)) ≡ is_end end p
+same_words None p = ne_eqb 0 (8 * (index_of p + 1)) (λ e. absurd (omega (arith, e)))
+same_words (Some q) p =
+    let words : nat_eq (8 * (index_of q + 1)) (8 * (index_of p + 1)) ≡ nat_eq q.word p.word =
+    ap (λ (m : ℕ). nat_eq m (8 * (index_of p + 1))) (sym (word_is q)) ∙ ap (λ (m : ℕ). nat_eq q.word m) (sym (word_is p)) in
+    words ∙ word_tells q p
+
+-- an end that is none of the table's places is no place that the table has
+end_within : (places : ℕ) (q p : Place) (b : Bool) → nat_lt (index_of q) places ≡ b → nat_lt (index_of p) places ≡ true → is_end (Some q) p ≡ is_end (cond b (Some q) None) p
+end_within places q p true e has = refl
+end_within places q p false e has =
+    ne_eqb (index_of q) (index_of p) (λ same. let other : nat_lt (index_of p) places ≡ false = subst (λ (i : ℕ). nat_lt i places ≡ false) same e in cc)
+
+-- A WORD NAMES A PLACE that the table has if their numbers are the same
+pub number_names : (places v : ℕ) (p : Place) → nat_lt (index_of p) places ≡ true → nat_eq (number_in v) (word_of (Some p)) ≡ is_end (named_within places (place_in v)) p
+number_names places v p has = ap (λ (m : ℕ). nat_eq m (word_of (Some p))) (sym (number_read v)) ∙ same_words (place_in v) p ∙ by (place_in v) where
+  by : (o : Option Place) → is_end o p ≡ is_end (named_within places o) p
+  by None = refl
+  by (Some q) = end_within places q p (nat_lt (index_of q) places) refl has
 
 -- the words of a place that names no other
 pub bare_within : (places : ℕ) → NamesWithin places (record { left = 1; right = 0; parent = 0 })

@@ -4,14 +4,15 @@
 //! tree.unlink(&mut links, place); // whatever the words say, it writes to no place but those of the table
 //! ```
 
-ghost use Rattle.std.specs.Prelude.{◌≡◌};
-ghost use Rattle.ic_ffi.specs.Seen.{named_within};
+ghost use Rattle.std.specs.Prelude.{◌≡◌, true};
+ghost use Rattle.ic_link_ops.specs.Walk.{is_end};
+ghost use Rattle.ic_ffi.specs.Seen.{named_within, has_place};
 ghost use Rattle.ic_ffi.specs.Tree.{lent_table};
 ghost use Rattle.ic_ffi.specs.Words.{place_in};
 
 use crate::table::RawTable;
 use crate::words::RawThree;
-use ic_link_ops::Color;
+use ic_link_ops::{Color, Side};
 use ic_rbtree::Nodes;
 use ic_unsafe_ref::Place;
 
@@ -39,6 +40,15 @@ impl RawTable<'_, RawThree> {
             0
         };
         Place::from_word(within)
+    }
+
+    // Whether a word names that place of the table. The numbers are compared, since one that names none of the table is another.
+    #[inline]
+    fn is_named(&self, word: u64, place: Place) -> bool
+        requires { has_place (lent_table self.now) place ≡ true }
+        ensures { result ≡ is_end (named_within (lent_table self.now).extent.places (place_in word)) place }
+    {
+        word / 8 % 8_589_934_592 * 8 == Place::to_word(Some(place))
     }
 }
 
@@ -78,6 +88,14 @@ impl Nodes for RawTable<'_, RawThree> {
             Color::Black
         } else {
             Color::Red
+        }
+    }
+
+    #[inline]
+    fn is_child(&self, place: Place, above: Place, side: Side) -> bool {
+        match side {
+            Side::Left => self.is_named(self.at(above).left, place),
+            Side::Right => self.is_named(self.at(above).right, place),
         }
     }
 

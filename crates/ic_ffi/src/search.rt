@@ -7,12 +7,12 @@
 ghost use Rattle.std.specs.Prelude.{◌≡◌, ◌≢◌, ◌⊎◌, ◌≤◌, ◌∷◌, [], List, Option, Some, length, None, true, false};
 ghost use Rattle.ic_unsafe_ref.specs.declared.place.Place.{Place};
 ghost use Rattle.ic_unsafe_ref.specs.Objects.{is_placed, at_indexes};
+ghost use Rattle.ic_link_ops.specs.Sequences.{Cut, join};
 ghost use Rattle.ic_link_ops.specs.Tables.{IsCovered, IsLinked};
-ghost use Rattle.ic_link_ops.specs.Frames.{child_on};
 ghost use Rattle.ic_link_ops.specs.RedBlackTree as trees;
-ghost use Rattle.ic_rbtree.specs.Closed.{IsIn};
+ghost use Rattle.ic_rbtree.specs.Closed.{IsIn, AreIn};
 ghost use Rattle.ic_rbtree.specs.Comparing.{goes_left};
-ghost use Rattle.ic_rbtree.specs.Descents.{gap_in, side_of};
+ghost use Rattle.ic_rbtree.specs.Descents.{gap_in};
 ghost use Rattle.ic_rbtree.specs.Ordered.{InsertsInOrder};
 ghost use Rattle.ic_rbtree.specs.Tree.{root_of};
 ghost use Rattle.ic_ffi.specs.Answers.{HandsOut, refusal};
@@ -20,14 +20,14 @@ ghost use Rattle.ic_ffi.specs.Gaps.{Stands};
 ghost use Rattle.ic_ffi.specs.Keys.{against, key_of, keys_fault, at_root, past, EndsIn, IsTarget};
 ghost use Rattle.ic_ffi.specs.Seen.{seen, seen_node, has_place};
 ghost use Rattle.ic_ffi.specs.Tables.{IsFree, place_fault};
-ghost use Rattle.ic_ffi.specs.Tree.{Shows, lent_table};
+ghost use Rattle.ic_ffi.specs.Tree.{Shows, IsHole, lent_table};
 ghost use Rattle.ic_ffi.specs.Words.{is_linked_three, place_of, HasNumber};
 
 use crate::status::{BROKEN, NONE, OUT_OF_RANGE};
 use crate::table::RawTable;
 use crate::tree::{self, Tree};
 use crate::words::RawThree;
-use ic_link_ops::{PlaceWord, Side};
+use ic_link_ops::{PlaceWord, Side, Words};
 use ic_rbtree::Nodes;
 use ic_unsafe_ref::{Place, Values};
 use std::cmp::Ordering;
@@ -118,19 +118,6 @@ fn goes_left(order: Ordering, equals: Side) -> bool
     }
 }
 
-// The left child, or the right one.
-#[inline]
-fn below(links: &RawTable<'_, RawThree>, place: Place, left: bool) -> Option<Place>
-    requires { has_place (lent_table links.now) place ≡ true }
-    ensures { result ≡ child_on (side_of left) (seen_node ((seen (lent_table links.now)).entry place)) }
-{
-    if left {
-        links.left(place)
-    } else {
-        links.right(place)
-    }
-}
-
 impl Way {
     // At the root, past no member.
     #[inline]
@@ -159,6 +146,19 @@ impl Way {
             self.front = PlaceWord::of(Some(place));
         }
     }
+
+    // Whether a place can go into the gap: below a linked place, or into a tree without a root.
+    #[inline]
+    fn is_open(&self, links: &RawTable<'_, RawThree>, tree: &Tree) -> bool
+        requires { IsIn (has_place (lent_table links.now)) self.now.parent }
+        ensures { (cut : Cut) → Shows (lent_table links.now) (root_of tree.now) (join cut)
+            → IsHole self.now.side (lent_table links.now) self.now.parent cut → result ≡ true }
+    {
+        match self.parent.get() {
+            None => tree.root().is_none(),
+            Some(parent) => links.at(parent).is_linked(),
+        }
+    }
 }
 
 // Goes down from the root to the gap to which the key sends, past equal ones to this side. [`RBTree::search`](ic_rbtree::RBTree::search) does
@@ -169,7 +169,7 @@ fn descend(links: &RawTable<'_, RawThree>, tree: &Tree, keys: &[u64], key: u64, 
     requires root { Stands is_linked_three (lent_table links.now) (root_of tree.now) }
     ensures ends { (s : List Place) (h : trees.Shows seen_node (seen (lent_table links.now)) (root_of tree.now) s)
         → EndsIn (lent_table links.now) (gap_in (λ p. goes_left equals (against key keys.now p)) h.tree) result }
-    ensures within { IsIn (has_place (lent_table links.now)) result.back }
+    ensures within { AreIn (has_place (lent_table links.now)) (result.parent ∷ result.front ∷ result.back ∷ []) }
 {
     let mut way = Way::new();
     let Some(root) = tree.root() else {
@@ -179,10 +179,18 @@ fn descend(links: &RawTable<'_, RawThree>, tree: &Tree, keys: &[u64], key: u64, 
     for _ in 0..LOOKS {
         let left = goes_left(compare_at(keys, key, place), equals);
         way.pass(place, left);
-        let Some(next) = below(links, place, left) else {
-            return way;
-        };
-        place = next;
+        // Each side has code of its own, in which one test tells that the table has no place there.
+        if left {
+            let Some(next) = links.left(place) else {
+                return way;
+            };
+            place = next;
+        } else {
+            let Some(next) = links.right(place) else {
+                return way;
+            };
+            place = next;
+        }
     }
     // No tree shows so long a way. What is handed out is not `way`, so that the compiler keeps both ends of the loop apart.
     Way::new()
@@ -199,7 +207,8 @@ pub(crate) fn find(
 ) -> Option<Place>
     requires keys { (lent_table links.now).extent.places ≤ length keys.now }
     requires root { Stands is_linked_three (lent_table links.now) (root_of tree.now) }
-    ensures { (s : List Place) → Shows (lent_table links.now) (root_of tree.now) s → IsTarget target (against key keys.now) s result }
+    ensures found { (s : List Place) → Shows (lent_table links.now) (root_of tree.now) s → IsTarget target (against key keys.now) s result }
+    ensures within { IsIn (has_place (lent_table links.now)) result }
 {
     match target {
         Target::Equal => {
@@ -270,5 +279,8 @@ pub(crate) fn insert(
         return false;
     }
     let way = descend(&*links, &*tree, keys, keys[own.index()], Side::Right);
-    tree::insert(links, tree, way.side, way.parent.get(), place)
+    if !way.is_open(&*links, &*tree) {
+        return false;
+    }
+    tree::put(links, tree, way.side, way.parent.get(), place)
 }

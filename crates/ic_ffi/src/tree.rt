@@ -11,11 +11,12 @@ ghost use Rattle.ic_link_ops.specs.Tables.{IsLinked, IsUnlinked, ChangesOnly};
 ghost use Rattle.ic_link_ops.specs.Edits.{Inserts, Removes, Replaces};
 ghost use Rattle.ic_link_ops.specs.RedBlackTree.{node_at};
 ghost use Rattle.ic_link_ops.specs.Frames.{across, child_on};
+ghost use Rattle.ic_rbtree.specs.Closed.{IsIn, AreIn};
 ghost use Rattle.ic_rbtree.specs.Sides.{IsBeside};
 ghost use Rattle.ic_rbtree.specs.Tree.{root_of};
 ghost use Rattle.ic_ffi.specs.Answers.{IsStatus, IsFound, refusal};
 ghost use Rattle.ic_ffi.specs.Gaps.{Stands, before};
-ghost use Rattle.ic_ffi.specs.Seen.{IsWithin};
+ghost use Rattle.ic_ffi.specs.Seen.{IsWithin, has_place};
 ghost use Rattle.ic_ffi.specs.Tables.{IsFree, member_fault};
 ghost use Rattle.ic_ffi.specs.Words.{is_linked_three, place_of, HasNumber};
 ghost use Rattle.ic_ffi.specs.Tree.{Shows, IsHole, TellsHole, lent_table, node};
@@ -24,8 +25,8 @@ use crate::number::{number_of, place_in, place_of};
 use crate::status::{BROKEN, NULL, OK};
 use crate::table::RawTable;
 use crate::words::RawThree;
-use ic_link_ops::{LinkOps, Side};
-use ic_rbtree::RBTree;
+use ic_link_ops::{LinkOps, Side, Words};
+use ic_rbtree::{RBTree, step_within};
 use ic_unsafe_ref::Place;
 
 /// A tree of the caller's.
@@ -98,6 +99,31 @@ fn acquire(links: &mut RawTable<'_, RawThree>, place: Option<Place>) -> Option<P
     Some(place)
 }
 
+// Puts the place in on this side of a place of the table, at none as the root, if it is one of the table and not linked, and says whether
+// it could.
+#[inline(always)]
+pub(crate) fn put(
+    links: &mut RawTable<'_, RawThree>,
+    tree: &mut Tree,
+    side: Side,
+    at: Option<Place>,
+    place: Option<Place>,
+) -> bool
+    requires { AreIn (has_place (lent_table links.old)) (at ∷ root_of tree.old ∷ []) }
+    ensures inserted { (cut : Cut) (p : Place) → Shows (lent_table links.old) (root_of tree.old) (join cut)
+        → IsHole side (lent_table links.old) at cut → place ≡ Some p → IsFree is_linked_three (lent_table links.old) p
+        → (result ≡ true) × Inserts Shows (lent_table links.old) (lent_table links.new) (root_of tree.new) cut p }
+    ensures free { result ≡ true → (p : Place) × (place ≡ Some p) × IsFree is_linked_three (lent_table links.old) p }
+    ensures refused { result ≡ false → (links.new ≡ links.old) × (tree.new ≡ tree.old) }
+    ensures extent { (lent_table links.new).extent ≡ (lent_table links.old).extent }
+{
+    let Some(place) = acquire(links, place) else {
+        return false;
+    };
+    tree.attach(links, at, side, place);
+    true
+}
+
 // Puts the place in on this side of a member, at none as the only one, and says whether it could.
 #[inline(always)]
 pub(crate) fn insert(
@@ -120,11 +146,7 @@ pub(crate) fn insert(
     if !is_hole(&*links, &*tree, side, at) {
         return false;
     }
-    let Some(place) = acquire(links, place) else {
-        return false;
-    };
-    tree.attach(links, at, side, place);
-    true
+    put(links, tree, side, at, place)
 }
 
 // Takes the member off, and says whether it could.
@@ -182,6 +204,7 @@ pub(crate) fn hand_out(
     member: Option<Place>,
     found: &mut u32,
 ) -> u32
+    requires { IsIn (has_place (lent_table links.now)) member }
     ensures found { Stands is_linked_three (lent_table links.now) member → IsFound member result found.new }
     ensures linked { result ≡ 0 → (q : Place) × IsLinked is_linked_three (lent_table links.now) q × HasNumber q found.new }
     ensures refused { result ≢ 0 → found.new ≡ found.old }
@@ -191,14 +214,40 @@ pub(crate) fn hand_out(
     let Some(place) = member else {
         return NULL;
     };
-    if !links.is_linked(place) {
+    if !links.at(place).is_linked() {
         return BROKEN;
     }
     *found = number_of(place);
     OK
 }
 
-// Hands out the member on this side of another one, from none the outermost one on the other side.
+// Hands out the member on this side of the position with that number.
+#[inline(always)]
+fn step_from(
+    links: &RawTable<'_, RawThree>,
+    tree: &Tree,
+    side: Side,
+    at: u32,
+    member: Option<Place>,
+    found: &mut u32,
+) -> u32
+    requires { place_of at ≡ member }
+    ensures found { (cut : Cut) (member : Option Place) → Shows (lent_table links.now) (root_of tree.now) (join cut)
+        → IsBeside side cut (place_of at) → IsBeside (across side) cut member → IsFound member result found.new }
+    ensures linked { result ≡ 0 → (q : Place) × IsLinked is_linked_three (lent_table links.now) q × HasNumber q found.new }
+    ensures refused { result ≢ 0 → found.new ≡ found.old }
+    ensures looked { (result ≡ 0) ⊎ (result ≡ 4) → Stands is_linked_three (lent_table links.now) (place_of at)
+        × Stands is_linked_three (lent_table links.now) (root_of tree.now) }
+    ensures why { result ≢ 0 → result ≢ 4 → result ≡ refusal (member_fault is_linked_three (lent_table links.now) (place_of at) ∷ []) }
+{
+    if !stand(links, tree, member) {
+        return links.refusal_at(at);
+    }
+    hand_out(links, step_within(links, tree.root(), member, side), found)
+}
+
+// Hands out the member on this side of another one, from none the outermost one on the other side. Each of the two has code of its own, in
+// which none is not tested for again.
 #[inline(always)]
 pub(crate) fn step(
     links: &RawTable<'_, RawThree>,
@@ -215,10 +264,8 @@ pub(crate) fn step(
         × Stands is_linked_three (lent_table links.now) (root_of tree.now) }
     ensures why { result ≢ 0 → result ≢ 4 → result ≡ refusal (member_fault is_linked_three (lent_table links.now) (place_of at) ∷ []) }
 {
-    let member = place_of(at);
-    if !stand(links, tree, member) {
-        return links.refusal_at(at);
+    match place_of(at) {
+        None => step_from(links, tree, side, at, None, found),
+        Some(member) => step_from(links, tree, side, at, Some(member), found),
     }
-    let member = tree.step(links, member, side);
-    hand_out(links, member, found)
 }

@@ -1,7 +1,7 @@
-use Rattle.std.proofs.Common.{◌≡◌, Some, true, List}
+use Rattle.std.proofs.Common.{◌≡◌, Some, true, List, [], ◌∷◌}
 use Rattle.ic_unsafe_ref.specs.declared.place.Place.{Place}
 use Rattle.ic_link_ops.specs.RedBlackTree.{Shows}
-use Rattle.ic_rbtree.specs.Closed.{IsIn}
+use Rattle.ic_rbtree.specs.Closed.{AreIn}
 use Rattle.ic_ffi.specs.Keys.{against}
 use Rattle.ic_ffi.specs.Seen.{seen, seen_node, has_place}
 use Rattle.ic_ffi.specs.Tree.{lent_table}
@@ -15,5 +15,5 @@ invariant-loop l =
     record {
       each : (s : List Place) (h : Shows seen_node (seen t) l.fn.tree.root s) → Comes t l.fn.tree.root (against l.key l.fn.keys) l.equals h.tree (Some l.place) l.way l.counter;
       here : has_place t l.place ≡ true;
-      back : IsIn (has_place t) l.way.back;
+      ends : AreIn (has_place t) (l.way.parent ∷ l.way.front ∷ l.way.back ∷ []);
     }

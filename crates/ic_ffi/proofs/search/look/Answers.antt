@@ -10,9 +10,12 @@ returns-then-not-is_searchable-clause-found c s shown enough = absurd (never c.i
 
 pub returns-clause-found : goal.returns-clause-found
 returns-clause-found c s shown enough =
-    let is = c.find-member.ensures s shown in
+    let is = c.find-member.ensures.found s shown in
     (c.find-member.result, is, c.hand_out.ensures.found (target_stands c.args.target (against c.args.key c.args.keys.now) shown is))
 
 pub returns-clause-why : goal.returns-clause-why
 returns-clause-why c made found =
     c.hand_out.ensures.why made found ∙ by_others [] (enough c.args.keys.now _ (c.is_searchable.ensures.keys c.if-not-is_searchable.false)) refl
+
+pub hand_out-requires : goal.hand_out-requires
+hand_out-requires c = c.find-member.ensures.within
