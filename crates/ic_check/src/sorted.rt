@@ -18,7 +18,7 @@ use ic_rbtree::{KeyAdapter, RBTree};
 use ic_unsafe_ref::Values;
 use std::cmp::Ordering;
 
-/// Whether the keys of neighbors in the tree never fall, as each search by key requires.
+/// Whether the keys of neighbors in the tree never fall. Of such a tree `find` returns the first member with a key.
 ///
 /// It requires that all members are placed. O(n) for n members, with n - 1 comparisons at most, and no memory: two walks go side by side.
 pub fn is_sorted<A: KeyAdapter, L: RBTreeOps, O: Values<A::Value>>(
