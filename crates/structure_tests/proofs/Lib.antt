@@ -1,5 +1,9 @@
+pub mod Builders
 pub mod HashTables
 pub mod JobQueueLemmas
+pub mod KeyedTrees
 pub mod PlacedChains
+pub mod Positions
+pub mod Ready
 pub mod Rings
 mod Trees

@@ -1,2 +1,3 @@
 pub mod JobBoard
 pub mod JobLanes
+pub mod Ready

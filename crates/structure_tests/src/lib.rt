@@ -5,10 +5,16 @@
 #[cfg(test)]
 mod algorithms;
 #[cfg(test)]
+mod augmented;
+#[cfg(test)]
+mod builder;
+#[cfg(test)]
 mod check;
 pub mod containers;
 #[cfg(test)]
 mod hash_table;
+#[cfg(test)]
+mod keyed;
 #[cfg(test)]
 mod objects;
 #[cfg(test)]

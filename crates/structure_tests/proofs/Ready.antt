@@ -1,0 +1,46 @@
+-- That a tree without members is ready, and that the room for summaries stays.
+use Rattle.std.proofs.Common.{◌≡◌, ◌<◌, Option, None, [], refl, subst, true, sym, ◌∙◌, Bool, false, Result, Ok, Err, OnOk, OnErr, IfErr, arith}
+use Rattle.std.specs.Result.{is_ok}
+use Rattle.ic_unsafe_ref.specs.declared.place.Place.{Place}
+use Rattle.ic_unsafe_ref.specs.Places.{index_of}
+use Rattle.ic_link_ops.specs.RedBlackTree.{Node}
+use Rattle.ic_link_ops.specs.Tables.{Table, Extent, IsCovered, IsLinked}
+use Rattle.ic_link_ops.specs.Trees.{leaf}
+use Rattle.ic_rbtree.specs.Closed.{IsNode}
+use Rattle.ic_augmented.specs.Consistent.{ShowsConsistent, ShowsSummed}
+use Rattle.ic_augmented.specs.Sums.{Sums}
+
+-- nothing is shown, summed, of a tree with no root
+pub nothing_summed : {E S : Type 0} {n : E → Node} (z : Sums S) (t : Table E) {root : Option Place} → root ≡ None → ShowsSummed n z t root []
+nothing_summed {n = n} z t e = rw e (record {
+  shows = record {
+    tree = leaf;
+    held = record { order = refl; distinct = tt; entries = tt };
+    starts = refl;
+    shape = record { black_root = refl; no_red_pair = tt; even = tt };
+  };
+  summed = tt;
+})
+
+-- and it is consistent
+pub nothing_consistent : {E S : Type 0} {n : E → Node} (z : Sums S) (t : Table E) {root : Option Place} → root ≡ None → ShowsConsistent n z t root []
+nothing_consistent {n = n} z t e = ((nothing_summed {n = n} z t e).shows, λ q member but x fresh. absurd (omega (arith, member)))
+
+-- what holds of `Ok` holds where the answer is one
+pub on_ok : {X Y P : Type 0} (r : Result X Y) → is_ok r ≡ true → OnOk r P → P
+on_ok (Ok x) e holds = holds
+on_ok (Err y) e holds = let never : false ≡ true = e in absurd (cc)
+
+-- whatever an insert answered
+pub either_answer : {X Y P Q Goal : Type 0} (F : Y → Type 0) (r : Result X Y) → OnOk r P → OnErr r Q → IfErr r F → (P → Goal) → (Q → (y : Y) → F y → Goal) → Goal
+either_answer F (Ok x) holds refused unchanged accepts refuses = accepts holds
+either_answer F (Err y) holds refused unchanged accepts refuses = refuses refused y unchanged
+
+-- there is room at each place that is covered now, and at each linked one, where the table covers as many places as before
+module _ {L E : Type 0} (node : E → Node) (table : L → Table E) (linked : E → Bool) (alike : (e : E) → (node e).linked ≡ linked e)
+    (law : (t : L) (q : Place) → IsLinked linked (table t) q → IsCovered (table t) q) (Room : Place → Type 0) (old : L) (room : (q : Place) → IsCovered (table old) q → Room q) where
+  pub room_covered : (new : L) → (table new).extent ≡ (table old).extent → (q : Place) → IsCovered (table new) q → Room q
+  room_covered new same q covered = room q (subst (λ (e : Extent). index_of q < e.places) same covered)
+
+  pub room_linked : (new : L) → (table new).extent ≡ (table old).extent → (q : Place) → IsNode node (table new) q → Room q
+  room_linked new same q is = room_covered new same q (law new q (sym (alike ((table new).entry q)) ∙ is))

@@ -1,0 +1,74 @@
+//! Trees that are built of objects in order, and taken apart again.
+
+ghost use Rattle.std.specs.Prelude.{◌≡◌, ◌<◌, List};
+ghost use Rattle.ic_unsafe_ref.specs.declared.place.Place.{Place};
+ghost use Rattle.ic_link_ops.specs.RedBlackTree.{Shows, ShowsSome};
+ghost use Rattle.ic_link_ops.specs.Tables.{IsCovered};
+ghost use Rattle.ic_link_ops.specs.ThreeWords.{node_of};
+ghost use Rattle.ic_rbtree.specs.Builder.{ends_of};
+ghost use Rattle.ic_rbtree.specs.Height.{IsLowest};
+ghost use Rattle.ic_rbtree.specs.KeyedTrees.{keyed_table};
+ghost use Rattle.ic_rbtree.specs.Tree.{root_of};
+ghost use Rattle.ic_rbtree.specs.Vines.{ShowsVineSome};
+
+use crate::keyed::{OwnKey, keyed_links, place_at, reference};
+use ic_link_ops::LinkOps;
+use ic_link_ops::rbtree::{LinkOpsWith, RBTreeOps};
+use ic_rbtree::{KeyAdapter, RBTree, RBTreeBuilder};
+use ic_unsafe_ref::{Place, UnsafeRef};
+use std::process::Abort;
+
+// Puts the object behind the members of the builder, unless it is linked, and returns the last member then.
+fn push<A: KeyAdapter, L: RBTreeOps>(
+    builder: &mut RBTreeBuilder<A>,
+    links: &mut L,
+    object: UnsafeRef<A::Value>,
+) -> Option<Place>
+    requires covered { IsCovered (L.table links.old) object }
+    requires shown { ShowsVineSome L.node (L.table links.old) (ends_of builder.old) }
+    ensures shown { ShowsVineSome L.node (L.table links.new) (ends_of builder.new) }
+    ensures extent { (L.table links.new).extent ≡ (L.table links.old).extent }
+{
+    let _ = builder.push_back(links, object);
+    builder.last()
+}
+
+// Takes the tree apart, puts the object behind its members, and builds it anew. It returns the first member, too.
+fn built_anew<A: KeyAdapter, L: RBTreeOps>(
+    tree: RBTree<A>,
+    links: &mut L,
+    object: UnsafeRef<A::Value>,
+) -> (Option<Place>, RBTree<A>)
+    requires covered { IsCovered (L.table links.old) object }
+    requires shown { ShowsSome L.node (L.table links.old) (root_of tree) }
+    ensures shown { ShowsSome L.node (L.table links.new) (root_of result.1) }
+    ensures lowest { (s : List Place) (h : Shows L.node (L.table links.new) (root_of result.1) s) → IsLowest h.tree }
+{
+    let mut builder = tree.into_builder(links);
+    let _ = push(&mut builder, links, object);
+    let first = builder.first();
+    (first, builder.build(links))
+}
+
+// Whether the members of the tree have these keys, in this order.
+fn has_keys(tree: &RBTree<OwnKey>, links: &LinkOpsWith<u64>, keys: &[u64]) -> bool
+    requires shown { ShowsSome node_of (keyed_table links.now) (root_of tree.now) }
+{
+    tree.iter(links, links).eq(keys)
+}
+
+// Three objects are pushed and built, taken apart, and built with a fourth.
+#[test]
+fn built_of_objects_in_order(rt: HostRuntime) {
+    let alloc = rt.alloc();
+    let mut links = keyed_links(&rt, alloc, &[10, 20, 30, 40]);
+    let mut builder = RBTreeBuilder::new(OwnKey);
+    for index in 0..3 {
+        assert!(rt; push(&mut builder, &mut links, reference(index)) == Some(place_at(index)));
+    }
+    assert!(rt; push(&mut builder, &mut links, reference(0)) == Some(place_at(2)));
+    let tree = builder.build(&mut links);
+    let (first, tree) = built_anew(tree, &mut links, reference(3));
+    assert!(rt; first == Some(place_at(0)));
+    assert!(rt; has_keys(&tree, &links, &[10, 20, 30, 40]));
+}

@@ -1,0 +1,61 @@
+//! What the tests of trees stand on: numbers that are their own keys, kept beside the links.
+
+ghost use Rattle.std.specs.Prelude.{◌≡◌, ◌<◌, length};
+ghost use Rattle.ic_unsafe_ref.specs.Places.{index_of};
+ghost use Rattle.ic_rbtree.specs.KeyedTrees.{keyed_table};
+
+use ic_link_ops::LinkValues;
+use ic_link_ops::rbtree::LinkOpsWith;
+use ic_rbtree::KeyAdapter;
+use ic_unsafe_ref::{Place, UnsafeRef};
+use std::alloc::Global;
+use std::process::Abort;
+
+/// Says that a number is its own key.
+#[derive(Clone, Copy)]
+pub(crate) struct OwnKey;
+
+impl KeyAdapter for OwnKey {
+    type Value = u64;
+
+    type Key = u64;
+
+    ghost key_of = { λ _ value. value };
+
+    fn get_key<'v>(&self, value: &'v u64) -> &'v u64 {
+        value
+    }
+}
+
+/// A table of links that has these keys, at the first places, and covers those places.
+pub(crate) fn keyed_links(rt: &impl Abort, alloc: Global, keys: &[u64]) -> LinkOpsWith<u64>
+    requires { length keys.now < 4294967296 }
+    ensures covers { (keyed_table result).extent.places ≡ length keys.now }
+{
+    let mut links: LinkOpsWith<u64> = LinkOpsWith::new(alloc);
+    let _ = links.cover(keys.len());
+    for index in 0..keys.len() {
+        let place = place_at(index);
+        if place.index() < links.covers() {
+            links.set_value(place, keys[index]);
+        }
+    }
+    assert!(rt; links.covers() == keys.len());
+    links
+}
+
+/// The place of that index.
+pub(crate) fn place_at(index: usize) -> Place
+    requires { index < 4294967296 }
+    ensures { index_of result ≡ index }
+{
+    Place::new(index).unwrap()
+}
+
+/// The reference to what stands at the place of that index.
+pub(crate) fn reference(index: usize) -> UnsafeRef<u64>
+    requires { index < 4294967296 }
+    ensures { index_of result ≡ index }
+{
+    UnsafeRef::new(place_at(index))
+}
