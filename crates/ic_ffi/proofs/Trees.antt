@@ -1,5 +1,5 @@
 -- Trees as the words say them, and as they are seen.
-use Rattle.std.proofs.Common.{◌≡◌, ℕ, zero, suc, ◌+◌, ◌≤◌, Bool, true, false, cond, nat_lt, Option, Some, None, List, [], ◌∷◌, ◌++◌, refl, sym, ap, ◌∙◌, subst, inl, inr, arith}
+use Rattle.std.proofs.Common.{◌≡◌, ◌≢◌, ℕ, zero, suc, ◌+◌, ◌≤◌, Bool, true, false, cond, nat_lt, Option, Some, None, List, [], ◌∷◌, ◌++◌, refl, sym, ap, ◌∙◌, subst, inl, inr, arith}
 use Rattle.std.proofs.lemmas.Bool.{lt-ltb}
 use Rattle.ic_unsafe_ref.specs.declared.place.Place.{Place}
 use Rattle.ic_unsafe_ref.specs.Places.{index_of}
@@ -7,7 +7,7 @@ use Rattle.ic_unsafe_ref.proofs.PlaceLemmas.{same_or_not}
 use Rattle.ic_link_ops.specs.declared.color.Color.{Color}
 use Rattle.ic_link_ops.specs.declared.side.Side.{Side}
 use Rattle.ic_link_ops.specs.declared.side.Side.TheVariants.{Left, Right}
-use Rattle.ic_link_ops.specs.Sequences.{Cut, join, IsAbsent}
+use Rattle.ic_link_ops.specs.Sequences.{Cut, join, first, last, IsAbsent}
 use Rattle.ic_link_ops.specs.Tables.{Extent, Table, IsCovered, IsLinked, KeepsBeside}
 use Rattle.ic_link_ops.specs.EntryLaws.{linked_in_range}
 use Rattle.ic_link_ops.specs.Trees.{Tree, leaf, fork, top}
@@ -18,7 +18,7 @@ use Rattle.ic_link_ops.specs.RedBlackTree.{IsTree}
 use Rattle.ic_link_ops.specs.RedBlackTree as trees
 use Rattle.ic_link_ops.proofs.SequenceLemmas.{gap_not, none_not, absent_with}
 use Rattle.ic_link_ops.proofs.Times.{one_at_self, one_at_other, times_order, times_absent}
-use Rattle.ic_link_ops.proofs.ShownTrees.{no_members, root_member, holds_linked, holds_out, shows_kept}
+use Rattle.ic_link_ops.proofs.ShownTrees.{no_members, no_root, root_member, holds_linked, holds_out, shows_kept}
 use Rattle.ic_rbtree.specs.Closed.{IsIn, IsClosed}
 use Rattle.ic_rbtree.specs.Insertion as holes
 use Rattle.ic_rbtree.specs.Pieces.{Piece, ArePieces, Shown}
@@ -53,6 +53,17 @@ one_beside Right cut x y = x ∙ sym y
 -- the root is linked, if there is one
 pub root_stands : {t : Table RawThree} {root : Option Place} {s : List Place} → Shows t root s → Stands is_linked_three t root
 root_stands shown q is = holds_linked shown.held (λ out. root_member shown is out)
+
+-- and there is one where a member stands beside a gap
+pub beside_rooted : {t : Table RawThree} {root : Option Place} (side : Side) (cut : Cut) → Shows t root (join cut) → {at : Option Place} {q : Place} → IsBeside side cut at → at ≡ Some q → root ≢ None
+beside_rooted {t} {root} side cut shown {at} {q} e is none =
+    beside_member side cut e is (subst (λ s. IsAbsent q s) (sym (no_root (subst (λ r. Shows t r (join cut)) none shown))) tt)
+
+-- a hole at a member is beside it, and else beside none
+pub hole_beside : (t : Table RawThree) (side : Side) (at : Option Place) (cut : Cut) → IsHole side t at cut → IsBeside side cut at
+hole_beside t Left None cut h = sym (ap first h.1)
+hole_beside t Right None cut h = sym (ap last h.0)
+hole_beside t side (Some x) cut h = h.1
 
 -- where a hole is, a member is linked, or the tree has no root
 pub hole_stands : {t : Table RawThree} {root : Option Place} (side : Side) (at : Option Place) (cut : Cut) → Shows t root (join cut) → IsHole side t at cut → Stands is_linked_three t at

@@ -152,6 +152,22 @@ impl<W: Words> RawTable<'_, W> {
         if self.is_linked(place) { LINKED } else { OK }
     }
 
+    /// Why a call at this member is refused: by its fault, or as [`BROKEN`]. O(1).
+    ///
+    /// A caller that has the place keeps no number for it.
+    #[cold]
+    #[inline(never)]
+    pub fn refusal_of(&self, member: Place) -> u32
+        ensures refusal { result ≡ refusal (member_fault W.is_linked (raw_table W.unlinked self.now) (Some member) ∷ []) }
+        ensures refused { (result ≢ 0) × (result ≢ 4) }
+    {
+        let fault = self.member_fault(Some(member));
+        if fault != OK {
+            return fault;
+        }
+        BROKEN
+    }
+
     /// Why a call at the member `at` is refused: by its fault, or as [`BROKEN`]. O(1).
     #[cold]
     #[inline(never)]

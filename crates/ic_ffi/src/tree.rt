@@ -32,18 +32,39 @@ use ic_unsafe_ref::Place;
 /// A tree of the caller's.
 pub(crate) type Tree = RBTree<()>;
 
-// Whether the place is none or linked, and the root too.
+// Whether the root is a linked place of the table, and not none. Words are compared, which takes no shift, and one test tells both that it is
+// none and that the table has no such place.
+#[inline]
+fn has_root(links: &RawTable<'_, RawThree>, tree: &Tree) -> bool
+    ensures root { result ≡ true → Stands is_linked_three (lent_table links.now) (root_of tree.now) }
+    ensures shown { root_of tree.now ≢ None → Stands is_linked_three (lent_table links.now) (root_of tree.now) → result ≡ true }
+{
+    let Some(root) = tree.root() else {
+        return false;
+    };
+    if Place::to_word(Some(root)) > 8 * links.entries.len() as u64 {
+        return false;
+    }
+    links.at(root).is_linked()
+}
+
+// Whether the place is none or linked, and the root too, which a tree with a member has.
 #[inline]
 pub(crate) fn stand(links: &RawTable<'_, RawThree>, tree: &Tree, at: Option<Place>) -> bool
     ensures at { result ≡ true → Stands is_linked_three (lent_table links.now) at }
     ensures root { result ≡ true → Stands is_linked_three (lent_table links.now) (root_of tree.now) }
-    ensures shown { (s : List Place) → Shows (lent_table links.now) (root_of tree.now) s → Stands is_linked_three (lent_table links.now) at
+    ensures shown { (side : Side) (cut : Cut) → Shows (lent_table links.now) (root_of tree.now) (join cut) → IsBeside side cut at
         → result ≡ true }
 {
-    if !links.stands(at) {
-        return false;
+    match at {
+        None => links.stands(tree.root()),
+        Some(member) => {
+            if !links.is_linked(member) {
+                return false;
+            }
+            has_root(links, tree)
+        }
     }
-    links.stands(tree.root())
 }
 
 // The child of a linked place on this side.
@@ -197,6 +218,22 @@ pub(crate) fn replace(
     true
 }
 
+// Why no number is handed out: there is no member, or its place is not linked.
+//
+// It is out of line, so that a walk keeps no register for a status that few calls return.
+#[cold]
+#[inline(never)]
+fn nothing_found(member: Option<Place>) -> u32
+    ensures null { (result ≡ 4) ↔ (member ≡ None) }
+    ensures why { result ≢ 4 → result ≡ 5 }
+    ensures refused { result ≢ 0 }
+{
+    match member {
+        None => NULL,
+        Some(_) => BROKEN,
+    }
+}
+
 // Hands out the number of the member, or says why not: there is none, or the place is not linked.
 #[inline]
 pub(crate) fn hand_out(
@@ -212,42 +249,34 @@ pub(crate) fn hand_out(
     ensures why { result ≢ 0 → result ≢ 4 → result ≡ 5 }
 {
     let Some(place) = member else {
-        return NULL;
+        return nothing_found(None);
     };
     if !links.at(place).is_linked() {
-        return BROKEN;
+        return nothing_found(member);
     }
     *found = number_of(place);
     OK
 }
 
-// Hands out the member on this side of the position with that number.
-#[inline(always)]
-fn step_from(
-    links: &RawTable<'_, RawThree>,
-    tree: &Tree,
-    side: Side,
-    at: u32,
-    member: Option<Place>,
-    found: &mut u32,
-) -> u32
-    requires { place_of at ≡ member }
+// Hands out the outermost member on the other side of this one.
+//
+// It is out of line, so that a step from a member keeps no register for it.
+#[inline(never)]
+fn step_from_none(links: &RawTable<'_, RawThree>, tree: &Tree, side: Side, found: &mut u32) -> u32
     ensures found { (cut : Cut) (member : Option Place) → Shows (lent_table links.now) (root_of tree.now) (join cut)
-        → IsBeside side cut (place_of at) → IsBeside (across side) cut member → IsFound member result found.new }
+        → IsBeside side cut None → IsBeside (across side) cut member → IsFound member result found.new }
     ensures linked { result ≡ 0 → (q : Place) × IsLinked is_linked_three (lent_table links.now) q × HasNumber q found.new }
     ensures refused { result ≢ 0 → found.new ≡ found.old }
-    ensures looked { (result ≡ 0) ⊎ (result ≡ 4) → Stands is_linked_three (lent_table links.now) (place_of at)
-        × Stands is_linked_three (lent_table links.now) (root_of tree.now) }
-    ensures why { result ≢ 0 → result ≢ 4 → result ≡ refusal (member_fault is_linked_three (lent_table links.now) (place_of at) ∷ []) }
+    ensures looked { (result ≡ 0) ⊎ (result ≡ 4) → Stands is_linked_three (lent_table links.now) (root_of tree.now) }
+    ensures why { result ≢ 0 → result ≢ 4 → result ≡ 5 }
 {
-    if !stand(links, tree, member) {
-        return links.refusal_at(at);
+    if !links.stands(tree.root()) {
+        return BROKEN;
     }
-    hand_out(links, step_within(links, tree.root(), member, side), found)
+    hand_out(links, step_within(links, tree.root(), None, side), found)
 }
 
-// Hands out the member on this side of another one, from none the outermost one on the other side. Each of the two has code of its own, in
-// which none is not tested for again.
+// Hands out the member on this side of another one, from none the outermost one on the other side.
 #[inline(always)]
 pub(crate) fn step(
     links: &RawTable<'_, RawThree>,
@@ -264,8 +293,15 @@ pub(crate) fn step(
         × Stands is_linked_three (lent_table links.now) (root_of tree.now) }
     ensures why { result ≢ 0 → result ≢ 4 → result ≡ refusal (member_fault is_linked_three (lent_table links.now) (place_of at) ∷ []) }
 {
-    match place_of(at) {
-        None => step_from(links, tree, side, at, None, found),
-        Some(member) => step_from(links, tree, side, at, Some(member), found),
+    let Some(member) = place_of(at) else {
+        return step_from_none(links, tree, side, found);
+    };
+    if !stand(links, tree, Some(member)) {
+        return links.refusal_of(member);
     }
+    hand_out(
+        links,
+        step_within(links, tree.root(), Some(member), side),
+        found,
+    )
 }

@@ -1,11 +1,11 @@
 use Rattle.std.proofs.Common.{is_some, sym, ap, subst, ◌∙◌}
 use Rattle.ic_ffi.specs.Tree.{IsHole, lent_table}
 use Rattle.ic_ffi.proofs.Gaps.{never, not_is}
-use Rattle.ic_ffi.proofs.Trees.{hole_stands, hole_empty}
+use Rattle.ic_ffi.proofs.Trees.{hole_beside, hole_empty}
 use Rattle.ic_ffi.proofs.tree.is_hole.Goals as goal
 
 pub returns-then-not-stand-clause-shown : goal.returns-then-not-stand-clause-shown
-returns-then-not-stand-clause-shown c cut shown at = absurd (never c.if-not-stand.true (c.stand.ensures.shown _ shown (hole_stands c.args.side c.args.at cut shown at)))
+returns-then-not-stand-clause-shown c cut shown at = absurd (never c.if-not-stand.true (c.stand.ensures.shown c.args.side cut shown (hole_beside (lent_table c.args.links.now) c.args.side c.args.at cut at)))
 
 pub returns-in-None-clause-shown : goal.returns-in-None-clause-shown
 returns-in-None-clause-shown c cut shown at =

@@ -13,7 +13,7 @@ use Rattle.ic_ffi.proofs.tree.remove.Goals as goal
 
 pub returns-then-not-stand-clause-removed : goal.returns-then-not-stand-clause-removed
 returns-then-not-stand-clause-removed c front back shown =
-    absurd (never c.if-not-stand.true (c.stand.ensures.shown _ shown (beside_stands Left (before c.args.member front back) shown refl)))
+    absurd (never c.if-not-stand.true (c.stand.ensures.shown Left (before c.args.member front back) shown refl))
 
 pub unlink-requires : goal.unlink-requires
 unlink-requires c =

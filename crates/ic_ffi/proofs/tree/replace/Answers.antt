@@ -18,7 +18,7 @@ use Rattle.ic_ffi.proofs.tree.replace.Goals as goal
 
 pub returns-then-not-stand-clause-replaced : goal.returns-then-not-stand-clause-replaced
 returns-then-not-stand-clause-replaced c front back p shown is free =
-    absurd (never c.if-not-stand.true (c.stand.ensures.shown _ shown (beside_stands Left (before c.args.member front back) shown refl)))
+    absurd (never c.if-not-stand.true (c.stand.ensures.shown Left (before c.args.member front back) shown refl))
 
 pub take_place-requires-clause-safe : goal.take_place-requires-clause-safe
 take_place-requires-clause-safe c =
