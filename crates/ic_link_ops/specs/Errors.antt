@@ -1,4 +1,5 @@
 -- What comes back from a refused replacement.
+use Rattle.std.specs.Prelude.{ℕ, List, codes}
 use Rattle.ic_unsafe_ref.specs.declared.place.Place.{Place}
 use Rattle.ic_link_ops.specs.declared.errors.ReplaceError.{ReplaceError}
 use Rattle.ic_link_ops.specs.declared.errors.ReplaceError.TheVariants.{Null, AlreadyLinked}
@@ -12,3 +13,8 @@ object_of (AlreadyLinked object) = object
 abbrev pub ByCause : {T : Type 0} → Type 0 → Type 0 → ReplaceError T → Type 0
 ByCause null linked (Null object) = null
 ByCause null linked (AlreadyLinked object) = linked
+
+-- what the error prints
+abbrev pub replace_text : {T : Type 0} → ReplaceError T → List ℕ
+replace_text (Null object) = codes "no member stands there"
+replace_text (AlreadyLinked object) = codes "the object is linked already"

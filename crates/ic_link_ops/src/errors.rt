@@ -4,16 +4,37 @@
 //! if let Err(refused) = list.push_back(&mut links, object) {
 //!     let object = refused.into_object(); // it is in some list of this field
 //! }
+//! list.push_back(&mut links, other)?; // in a function that returns an `anyhow::Result`
 //! ```
+//!
+//! Each is a `std::error::Error`, whatever the objects are, so `?` passes it on to an `anyhow::Error`. What it prints is part of its
+//! contract.
 
-ghost use Rattle.std.specs.Prelude.{◌≡◌};
+ghost use Rattle.std.specs.Prelude.{◌≡◌, Some, codes};
 
 use ic_unsafe_ref::UnsafeRef;
+use std::{error, fmt};
 use thiserror::Error;
 
 /// The object that was to be inserted is linked already. It comes back.
-#[derive(Debug)]
 pub struct AlreadyLinked<T>(pub UnsafeRef<T>);
+
+/// It prints the place of the object.
+impl<T> fmt::Debug for AlreadyLinked<T> {
+    fn fmt<W: fmt::Write>(&self, f: &mut fmt::Formatter<W>) -> fmt::Result {
+        f.debug_tuple("AlreadyLinked").field(&self.0).finish()
+    }
+}
+
+impl<T> fmt::Display for AlreadyLinked<T> {
+    ghost output = { λ _. Some (codes "the object is linked already") };
+
+    fn fmt<W: fmt::Write>(&self, f: &mut fmt::Formatter<W>) -> fmt::Result {
+        f.write_str("the object is linked already")
+    }
+}
+
+impl<T> error::Error for AlreadyLinked<T> {}
 
 impl<T> AlreadyLinked<T> {
     /// The object that was refused.
@@ -33,7 +54,6 @@ impl<T> Drop for AlreadyLinked<T> {
 }
 
 /// Why nothing was replaced. The object that was to be put in comes back.
-#[derive(Debug)]
 pub enum ReplaceError<T> {
     /// The cursor was on no member, or nothing stood where the call replaces.
     Null(UnsafeRef<T>),
@@ -55,6 +75,33 @@ impl<T> ReplaceError<T> {
         }
     }
 }
+
+/// It prints the cause, and the place of the object.
+impl<T> fmt::Debug for ReplaceError<T> {
+    fn fmt<W: fmt::Write>(&self, f: &mut fmt::Formatter<W>) -> fmt::Result {
+        match self {
+            ReplaceError::Null(object) => f.debug_tuple("Null").field(object).finish(),
+            ReplaceError::AlreadyLinked(object) => {
+                f.debug_tuple("AlreadyLinked").field(object).finish()
+            }
+        }
+    }
+}
+
+impl<T> fmt::Display for ReplaceError<T> {
+    ghost use Rattle.ic_link_ops.specs.Errors.{replace_text};
+
+    ghost output = { λ refused. Some (replace_text refused) };
+
+    fn fmt<W: fmt::Write>(&self, f: &mut fmt::Formatter<W>) -> fmt::Result {
+        match self {
+            ReplaceError::Null(_) => f.write_str("no member stands there"),
+            ReplaceError::AlreadyLinked(_) => f.write_str("the object is linked already"),
+        }
+    }
+}
+
+impl<T> error::Error for ReplaceError<T> {}
 
 impl<T> Drop for ReplaceError<T> {
     fn drop(self) {

@@ -4,9 +4,15 @@
 //! if let Err(refused) = pool.place(value) {
 //!     let value = refused.into_value(); // it comes back
 //! }
+//! let object = pool.place(other)?; // in a function that returns the same error, or an `anyhow::Result`
 //! ```
+//!
+//! It is a `std::error::Error` where the values can be printed and dropped.
 
-ghost use Rattle.std.specs.Prelude.{◌≡◌};
+ghost use Rattle.std.specs.Prelude.{◌≡◌, Some};
+
+use std::error::Error;
+use std::fmt;
 
 /// A value that was not placed. It comes back.
 #[derive(Debug, Drop)]
@@ -31,3 +37,18 @@ impl<T> PlaceError<T> {
         }
     }
 }
+
+impl<T> fmt::Display for PlaceError<T> {
+    ghost use Rattle.ic_pool.specs.Refusals.{place_text};
+
+    ghost output = { λ refused. Some (place_text refused) };
+
+    fn fmt<W: fmt::Write>(&self, f: &mut fmt::Formatter<W>) -> fmt::Result {
+        match self {
+            PlaceError::NoPlaceLeft(_) => f.write_str("no place is left for another object"),
+            PlaceError::OutOfMemory(_) => f.write_str("out of memory"),
+        }
+    }
+}
+
+impl<T: fmt::Debug + Drop> Error for PlaceError<T> {}

@@ -4,7 +4,7 @@
 //! let cursor = tree.entry(&mut links, &objects, &5).or_insert_with(|| object)?;
 //! ```
 
-ghost use Rattle.std.specs.Prelude.{◌≡◌, Ok, IsSome, List};
+ghost use Rattle.std.specs.Prelude.{◌≡◌, Ok, Some, IsSome, List, codes};
 ghost use Rattle.ic_unsafe_ref.specs.declared.place.Place.{Place};
 ghost use Rattle.ic_link_ops.specs.PlacedObjects.{ShowsPlaced};
 ghost use Rattle.ic_link_ops.specs.Positions.{Stands};
@@ -22,6 +22,8 @@ use crate::{CursorMut, KeyAdapter, KeyProbe, Probe, RBTree};
 use ic_link_ops::rbtree::RBTreeOps;
 use ic_link_ops::{LinkOps, PlaceWord, Side};
 use ic_unsafe_ref::{UnsafeRef, Values};
+use std::error::Error;
+use std::fmt;
 
 /// The gap of a tree where a key would stand that no member has, with the tree and the table of its links.
 pub struct InsertCursor<'a, A, L> {
@@ -53,6 +55,23 @@ pub struct RefusedInsert<'a, A: KeyAdapter, L> {
     /// The object that came back.
     pub object: UnsafeRef<A::Value>,
 }
+
+/// It prints the place of the object.
+impl<A: KeyAdapter, L> fmt::Debug for RefusedInsert<'_, A, L> {
+    fn fmt<W: fmt::Write>(&self, f: &mut fmt::Formatter<W>) -> fmt::Result {
+        f.debug_tuple("RefusedInsert").field(&self.object).finish()
+    }
+}
+
+impl<A: KeyAdapter, L> fmt::Display for RefusedInsert<'_, A, L> {
+    ghost output = { λ _. Some (codes "the object is linked already") };
+
+    fn fmt<W: fmt::Write>(&self, f: &mut fmt::Formatter<W>) -> fmt::Result {
+        f.write_str("the object is linked already")
+    }
+}
+
+impl<A: KeyAdapter, L> Error for RefusedInsert<'_, A, L> {}
 
 /// What `entry` finds: a cursor on the first member with the key, or the gap where it would stand.
 #[derive(Drop)]
