@@ -1,5 +1,6 @@
 pub mod IntoIter
 pub mod Iter
 pub mod Laws
+pub mod LentLists
 pub mod Standing
 pub mod Walk

@@ -32,6 +32,7 @@ mod into_iter;
 mod iter;
 mod kind;
 pub mod laws;
+mod lent_list;
 mod list;
 mod neighbors;
 mod one_kind;
@@ -44,5 +45,6 @@ pub use kind::{
     BidirectionalLinks, DoubleEnded, ForwardLinks, ListKind, NamesBoth, NamesNext, Reversible,
     SingleEnded,
 };
+pub use lent_list::LentList;
 pub use list::Chain;
 pub use position::ListPosition;

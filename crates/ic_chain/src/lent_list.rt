@@ -1,0 +1,196 @@
+//! A list and the table of its links, which a scope borrows together: the form for a loop of many calls.
+//!
+//! ```text
+//! fn run_all(list: &mut LinkedList<Job>, links: &mut [Link]) {
+//!     let mut links = LentTable::new(links);
+//!     let mut lent = list.lend(&mut links);
+//!     while let Some(job) = lent.pop_front() { .. }
+//! }
+//! run_all(&mut list, table.lend()); // the list and the table have what `lent` showed last
+//! ```
+
+ghost use Rattle.std.specs.Prelude.{◌≡◌, ◌++◌, ◌∷◌, List, [], OnOk, OnErr, IfErr, IfSome, IfNone};
+ghost use Rattle.ic_unsafe_ref.specs.declared.place.Place.{Place};
+ghost use Rattle.ic_link_ops.specs.Sequences.{first, last, at_front, at_back, insert, remove, but_last};
+ghost use Rattle.ic_link_ops.specs.Tables.{IsCovered, KeepsBeside};
+ghost use Rattle.ic_link_ops.specs.LinkSteps.{acquires, releases};
+ghost use Rattle.ic_link_ops.specs.Positions.{HasMember};
+ghost use Rattle.ic_link_ops.specs.Chains.{ShowsChain, ShowsSomeChain};
+
+use crate::Chain;
+use crate::kind::{BidirectionalLinks, DoubleEnded, ForwardLinks, ListKind, NamesBoth};
+use ic_link_ops::{AlreadyLinked, LinkOps};
+use ic_unsafe_ref::UnsafeRef;
+
+/// A list and the table of its links, for as long as both are borrowed.
+///
+/// In a loop over it no call reads again where the list begins, as each call over a list behind a reference does. Over a view of the
+/// links ([`LentTable`](ic_link_ops::LentTable)) no call reads again where these are kept, either. When it goes out of scope, the list has
+/// what it showed last. A call that it does not have itself is made on its fields: `lent.list.cursor_mut(lent.links)`.
+pub struct LentList<'a, K: ListKind, T, L> {
+    home: &'a mut Chain<K, T>,
+    /// The list.
+    pub list: Chain<K, T>,
+    /// The table of its links.
+    pub links: &'a mut L,
+}
+
+impl<K: ListKind, T, L> Drop for LentList<'_, K, T, L> {
+    /// Gives the list back.
+    #[inline]
+    fn drop(self)
+        ensures list { self.exit.0.now ≡ self.entry.list }
+        ensures links { self.exit.1.1.0.now ≡ self.entry.links.now }
+    {
+        let LentList {
+            home,
+            list,
+            links: _,
+        } = self;
+        *home = list;
+    }
+}
+
+impl<K: ListKind, T> Chain<K, T> {
+    /// Borrows the list together with the table of its links. O(1).
+    ///
+    /// The list has what it shows once it is dropped, or at [`LentList::finish`]. Until then it is empty.
+    #[inline]
+    pub fn lend<'a, L>(&'a mut self, links: &'a mut L) -> LentList<'a, K, T, L>
+        ensures list { result.list ≡ self.old }
+        ensures home { result.home.ghost_name ≡ self.entry.ghost_name }
+        ensures links { result.links.now ≡ links.entry.now }
+        ensures same_links { result.links.ghost_name ≡ links.entry.ghost_name }
+    {
+        let list = self.take();
+        LentList {
+            home: self,
+            list,
+            links,
+        }
+    }
+}
+
+impl<K: ListKind, T, L> LentList<'_, K, T, L> {
+    /// Ends the borrow: the list has what this showed. The same as to drop it. O(1).
+    #[inline]
+    pub fn finish(self)
+        ensures list { self.exit.0.now ≡ self.entry.list }
+        ensures links { self.exit.1.1.0.now ≡ self.entry.links.now }
+    {}
+}
+
+impl<T, L: LinkOps, K: ForwardLinks<L>> LentList<'_, K, T, L> {
+    ghost use Rattle.ic_chain.specs.LentLists.{SameLoans};
+
+    /// Puts the object at the front of the list, as [`Chain::push_front`] does.
+    #[inline]
+    pub fn push_front(&mut self, object: UnsafeRef<T>) -> Result<(), AlreadyLinked<T>>
+        requires covered { IsCovered (L.table self.old.links.now) object }
+        requires shown { ShowsSomeChain K.Between K.kept (L.table self.old.links.now) self.old.list }
+        ensures inserted { (s : List Place) → ShowsChain K.Between K.kept (L.table self.old.links.now) self.old.list s
+            → OnOk result (ShowsChain K.Between K.kept (L.table self.new.links.now) self.new.list (insert (at_front s) object)) }
+        ensures acquired { OnOk result (L.Does self.old.links.now self.new.links.now (acquires object ∷ [])) }
+        ensures refused { OnErr result (L.Refused self.old.links.now self.new.links.now object) }
+        ensures unchanged { IfErr result (λ refused. (refused.0 ≡ object) × (self.new.list ≡ self.old.list)) }
+        ensures frame { (s : List Place) → ShowsChain K.Between K.kept (L.table self.old.links.now) self.old.list s → KeepsBeside (L.table self.old.links.now) (L.table self.new.links.now) (object ∷ s) }
+        ensures same { SameLoans self.old self.new }
+    {
+        self.list.push_front(self.links, object)
+    }
+
+    /// Takes the object at the front off the list, as [`Chain::pop_front`] does.
+    #[inline]
+    pub fn pop_front(&mut self) -> Option<UnsafeRef<T>>
+        requires shown { ShowsSomeChain K.Between K.kept (L.table self.old.links.now) self.old.list }
+        ensures answer { (s : List Place) → ShowsChain K.Between K.kept (L.table self.old.links.now) self.old.list s → result ≡ first s }
+        ensures removed { (s : List Place) → ShowsChain K.Between K.kept (L.table self.old.links.now) self.old.list s → ShowsChain K.Between K.kept (L.table self.new.links.now) self.new.list (remove (at_front s)) }
+        ensures released { IfSome result (λ object. L.Does self.old.links.now self.new.links.now (releases object ∷ [])) }
+        ensures empty { IfNone result ((self.new.list ≡ self.old.list) × (self.new.links.now ≡ self.old.links.now)) }
+        ensures frame { (s : List Place) → ShowsChain K.Between K.kept (L.table self.old.links.now) self.old.list s → KeepsBeside (L.table self.old.links.now) (L.table self.new.links.now) s }
+        ensures same { SameLoans self.old self.new }
+    {
+        self.list.pop_front(self.links)
+    }
+}
+
+impl<T, L: LinkOps, K: DoubleEnded + ForwardLinks<L>> LentList<'_, K, T, L> {
+    ghost use Rattle.ic_chain.specs.LentLists.{SameLoans};
+
+    /// Puts the object at the back of the list, as [`Chain::push_back`] does.
+    #[inline]
+    pub fn push_back(&mut self, object: UnsafeRef<T>) -> Result<(), AlreadyLinked<T>>
+        requires covered { IsCovered (L.table self.old.links.now) object }
+        requires shown { ShowsSomeChain K.Between K.kept (L.table self.old.links.now) self.old.list }
+        ensures inserted { (s : List Place) → ShowsChain K.Between K.kept (L.table self.old.links.now) self.old.list s
+            → OnOk result (ShowsChain K.Between K.kept (L.table self.new.links.now) self.new.list (insert (at_back s) object)) }
+        ensures acquired { OnOk result (L.Does self.old.links.now self.new.links.now (acquires object ∷ [])) }
+        ensures refused { OnErr result (L.Refused self.old.links.now self.new.links.now object) }
+        ensures unchanged { IfErr result (λ refused. (refused.0 ≡ object) × (self.new.list ≡ self.old.list)) }
+        ensures frame { (s : List Place) → ShowsChain K.Between K.kept (L.table self.old.links.now) self.old.list s → KeepsBeside (L.table self.old.links.now) (L.table self.new.links.now) (object ∷ s) }
+        ensures same { SameLoans self.old self.new }
+    {
+        self.list.push_back(self.links, object)
+    }
+}
+
+impl<T, L: LinkOps, K: DoubleEnded + BidirectionalLinks<L>> LentList<'_, K, T, L> {
+    ghost use Rattle.ic_chain.specs.LentLists.{SameLoans};
+
+    /// Takes the object at the back off the list, as [`Chain::pop_back`] does.
+    #[inline]
+    pub fn pop_back(&mut self) -> Option<UnsafeRef<T>>
+        requires shown { ShowsSomeChain K.Between K.kept (L.table self.old.links.now) self.old.list }
+        ensures answer { (s : List Place) → ShowsChain K.Between K.kept (L.table self.old.links.now) self.old.list s → result ≡ last s }
+        ensures removed { (s : List Place) → ShowsChain K.Between K.kept (L.table self.old.links.now) self.old.list s → ShowsChain K.Between K.kept (L.table self.new.links.now) self.new.list (but_last s) }
+        ensures released { IfSome result (λ object. L.Does self.old.links.now self.new.links.now (releases object ∷ [])) }
+        ensures empty { IfNone result ((self.new.list ≡ self.old.list) × (self.new.links.now ≡ self.old.links.now)) }
+        ensures frame { (s : List Place) → ShowsChain K.Between K.kept (L.table self.old.links.now) self.old.list s → KeepsBeside (L.table self.old.links.now) (L.table self.new.links.now) s }
+        ensures same { SameLoans self.old self.new }
+    {
+        self.list.pop_back(self.links)
+    }
+}
+
+impl<T, L: LinkOps, K: DoubleEnded + NamesBoth<L>> LentList<'_, K, T, L> {
+    ghost use Rattle.ic_chain.specs.LentLists.{SameLoans};
+
+    /// Takes the object, which has to be a member, off the list, as [`Chain::remove`] does.
+    #[inline]
+    pub fn remove(&mut self, object: &UnsafeRef<T>)
+        requires member { HasMember (ShowsChain K.Between K.kept (L.table self.old.links.now) self.old.list) object.now }
+        ensures removed { (front back : List Place) → ShowsChain K.Between K.kept (L.table self.old.links.now) self.old.list (front ++ object.now ∷ back)
+            → ShowsChain K.Between K.kept (L.table self.new.links.now) self.new.list (front ++ back) }
+        ensures released { L.Does self.old.links.now self.new.links.now (releases object.now ∷ []) }
+        ensures frame { (s : List Place) → ShowsChain K.Between K.kept (L.table self.old.links.now) self.old.list s → KeepsBeside (L.table self.old.links.now) (L.table self.new.links.now) s }
+        ensures same { SameLoans self.old self.new }
+    {
+        self.list.remove(self.links, object);
+    }
+
+    /// Puts the object, which has to be a member, behind all others, as [`Chain::move_to_back`] does.
+    #[inline]
+    pub fn move_to_back(&mut self, object: &UnsafeRef<T>)
+        requires member { HasMember (ShowsChain K.Between K.kept (L.table self.old.links.now) self.old.list) object.now }
+        ensures moved { (front back : List Place) → ShowsChain K.Between K.kept (L.table self.old.links.now) self.old.list (front ++ object.now ∷ back)
+            → ShowsChain K.Between K.kept (L.table self.new.links.now) self.new.list ((front ++ back) ++ object.now ∷ []) }
+        ensures no_step { L.Does self.old.links.now self.new.links.now [] }
+        ensures frame { (s : List Place) → ShowsChain K.Between K.kept (L.table self.old.links.now) self.old.list s → KeepsBeside (L.table self.old.links.now) (L.table self.new.links.now) s }
+        ensures same { SameLoans self.old self.new }
+    {
+        self.list.move_to_back(self.links, object);
+    }
+
+    /// Puts the object, which has to be a member, in front of all others, as [`Chain::move_to_front`] does.
+    #[inline]
+    pub fn move_to_front(&mut self, object: &UnsafeRef<T>)
+        requires member { HasMember (ShowsChain K.Between K.kept (L.table self.old.links.now) self.old.list) object.now }
+        ensures moved { (front back : List Place) → ShowsChain K.Between K.kept (L.table self.old.links.now) self.old.list (front ++ object.now ∷ back)
+            → ShowsChain K.Between K.kept (L.table self.new.links.now) self.new.list (object.now ∷ (front ++ back)) }
+        ensures no_step { L.Does self.old.links.now self.new.links.now [] }
+        ensures frame { (s : List Place) → ShowsChain K.Between K.kept (L.table self.old.links.now) self.old.list s → KeepsBeside (L.table self.old.links.now) (L.table self.new.links.now) s }
+        ensures same { SameLoans self.old self.new }
+    {
+        self.list.move_to_front(self.links, object);
+    }
+}
