@@ -4,13 +4,16 @@ use Rattle.std.proofs.lemmas.List.Concat.{flat_map-append}
 use Rattle.std.proofs.KnownBytes.{Appends-nil, Appends-trans, Appends-kept}
 use Rattle.std.specs.Prelude.{⊤, IsTrue, IsErr, IsErrAnd}
 use Rattle.std.specs.Ordering.{nat_cmp}
+use Rattle.std.proofs.lemmas.Cmp.{nat_cmp_total}
 use Rattle.std.specs.declared.cmp.Ordering.{Ordering}
 use Rattle.std.specs.Io.KnownBytes.{Appends, Keeps, append_known}
 use Rattle.ic_world.specs.declared.call.Command.{Command}
 use Rattle.ic_world.specs.Calls.{Reply}
 use Rattle.ic_world.specs.Family.{Family}
+use Rattle.ic_world.specs.Sound.{IsSound}
+use Rattle.ic_world.specs.Step.{Step}
 use Rattle.ic_world_laws.specs.Runs.{IsLawful}
-use Rattle.ic_world_laws.proofs.RunLaws.{join_lawful}
+use Rattle.ic_world_laws.proofs.RunLaws.{join_lawful, is_lawful}
 use Rattle.ic_program.specs.declared.own_key.OwnKey.{OwnKey}
 use Rattle.ic_program.specs.declared.session.Stop.{Stop}
 use Rattle.ic_program.specs.declared.session.Stop.TheVariants.{NoCommand, Fault as AFault}
@@ -30,6 +33,15 @@ one_answered old new command reply told now lawful line = record {
   lawful = (new, lawful, refl);
   lines = line ∙ ap (λ (l : List ℕ). told ++ l) (sym (append-nil (line_of reply)));
 }
+
+-- a step of a sound family is lawful, and its line is what was told
+pub step_answered : (old new : Family OwnKey ℕ) (command : Command ℕ ℕ) (reply : Reply) (line : List ℕ)
+    → IsSound old → Step nat_cmp own_key old command reply new → line ≡ line_of reply → Answered old new (Some []) (Some line)
+step_answered old new command reply line sound step is = one_answered old new command reply [] line (is_lawful nat_cmp_total own_key old sound command reply new step) is
+
+-- the same lines behind others
+pub answered_after : (old new : Family OwnKey ℕ) (told line now : List ℕ) → Answered old new (Some []) (Some line) → now ≡ told ++ line → Answered old new (Some told) (Some now)
+answered_after old new told line now a put = record { commands = a.commands; replies = a.replies; lawful = a.lawful; lines = put ∙ ap (λ (l : List ℕ). told ++ l) a.lines }
 
 pub more_answered : (old mid new : Family OwnKey ℕ) (told then_told now : Option (List ℕ)) → Answered old mid told then_told → Answered mid new then_told now → Answered old new told now
 more_answered old mid new told then_told now a b = record {

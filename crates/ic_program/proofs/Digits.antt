@@ -3,11 +3,12 @@ use Rattle.std.proofs.Common.{◌≡◌, ℕ, ◌+◌, ◌*◌, ◌^◌, ◌<◌
 use Rattle.std.specs.Char.{digit_value, is_ascii_digit}
 use Rattle.std.specs.List.{prefix_len}
 use Rattle.std.specs.Str.Parse.{AllDigits, digits_value}
-use Rattle.std.proofs.lemmas.List.Sums.{take_while-cons, prefix_len-drop_yes}
+use Rattle.std.proofs.lemmas.List.Sums.{take_while-cons, prefix_len-drop_yes, prefix_len-drop_no}
 use Rattle.std.proofs.lemmas.List.{take-take}
+use Rattle.std.proofs.lemmas.List.Folds.{length-prefix_len}
 use Rattle.std.proofs.lemmas.Int.Digits.{digits_value_more}
 use Rattle.std.proofs.lemmas.Str.Parse.{digits_value-take-le}
-use Rattle.ic_program.specs.Number.{IsNumber, leading_digits}
+use Rattle.ic_program.specs.Number.{IsNumber, IsLeading, leading_digits}
 
 is_small : (c : ℕ) → is_ascii_digit c ≡ true → digit_value c < 10
 is_small c digit = grind (arith, digit)
@@ -46,3 +47,39 @@ module _ (text : List ℕ) where
         let part : digits_value 10 (take (i + 1) (leading_digits text)) ≤ digits_value 10 (leading_digits text) = digits_value-take-le 10 (leading_digits text) (i + 1) (omega arith) in
         let same : take (i + 1) (leading_digits text) ≡ take (i + 1) text = take-take (i + 1) (prefix_len is_ascii_digit text) text longer in
         not_more (is_small (get_or text i 0) digit, omega (arith, is.2, read_more.0, part, ap (digits_value 10) same))
+
+  -- the digits end where a byte is none
+  read_all : (number i : ℕ) → i < length text → ReadTo number i → is_ascii_digit (get_or text i 0) ≡ false → IsLeading text number i
+  read_all number i there read stop =
+      let stops : prefix_len is_ascii_digit (drop i text) ≡ 0 = prefix_len-drop_no is_ascii_digit text i 0 there stop in
+      let long : prefix_len is_ascii_digit text ≡ i = omega (arith, read.1, stops) in
+      (read.0 ∙ ap (λ (n : ℕ). digits_value 10 (take n text)) (sym long), sym long ∙ sym (length-prefix_len is_ascii_digit text))
+
+  module _ (long : 4 < length text) where
+    abbrev Digit : ℕ → ℕ → Type 0
+    Digit i d = (d ≡ digit_value (get_or text i 0)) × (is_ascii_digit (get_or text i 0) ≡ true)
+
+    abbrev Stops : ℕ → Type 0
+    Stops i = is_ascii_digit (get_or text i 0) ≡ false
+
+    -- two to four digits
+    to_one : (a : ℕ) → Digit 0 a → ReadTo a 1
+    to_one a d =
+        let start : ReadTo 0 0 = (refl, omega arith) in
+        let same : 0 * 10 + digit_value (get_or text 0 0) ≡ a = omega (arith, d.0) in
+        subst (λ (n : ℕ). ReadTo n 1) same (read_more 0 0 (omega (arith, long)) start d.1)
+
+    to_next : (number i d : ℕ) → i < 4 → ReadTo number i → Digit i d → ReadTo (number * 10 + d) (i + 1)
+    to_next number i d low read digit =
+        subst (λ (n : ℕ). ReadTo (number * 10 + n) (i + 1)) (sym digit.0) (read_more number i (omega (arith, long, low)) read digit.1)
+
+    pub two_digits : (a b : ℕ) → Digit 0 a → Digit 1 b → Stops 2 → IsLeading text (a * 10 + b) 2
+    two_digits a b da db stop = read_all _ 2 (omega (arith, long)) (to_next a 1 b (omega arith) (to_one a da) db) stop
+
+    pub three_digits : (a b c : ℕ) → Digit 0 a → Digit 1 b → Digit 2 c → Stops 3 → IsLeading text ((a * 10 + b) * 10 + c) 3
+    three_digits a b c da db dc stop =
+        read_all _ 3 (omega (arith, long)) (to_next _ 2 c (omega arith) (to_next a 1 b (omega arith) (to_one a da) db) dc) stop
+
+    pub four_digits : (a b c d : ℕ) → Digit 0 a → Digit 1 b → Digit 2 c → Digit 3 d → Stops 4 → IsLeading text (((a * 10 + b) * 10 + c) * 10 + d) 4
+    four_digits a b c d da db dc dd stop =
+        read_all _ 4 long (to_next _ 3 d (omega arith) (to_next _ 2 c (omega arith) (to_next a 1 b (omega arith) (to_one a da) db) dc) dd) stop

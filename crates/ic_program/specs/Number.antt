@@ -12,6 +12,10 @@ IsNumber word = IsNumeral 10 word × (length word ≤ 20) × (digits_value 10 wo
 abbrev pub leading_digits : List ℕ → List ℕ
 leading_digits text = take_while is_ascii_digit text
 
+-- the digits that a text begins with write this number, and are so many
+abbrev pub IsLeading : List ℕ → ℕ → ℕ → Type 0
+IsLeading text number digits = (number ≡ digits_value 10 (leading_digits text)) × (digits ≡ length (leading_digits text))
+
 -- what a decimal digit behind a number makes, if it is one and the value stays below 2^64
 abbrev pub MoreDigits : ℕ → ℕ → Option ℕ → Type 0
 MoreDigits number digit result =

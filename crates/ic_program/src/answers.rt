@@ -10,8 +10,9 @@ ghost use Rattle.ic_world.specs.Answers.{reply_in};
 ghost use Rattle.ic_world.specs.Calls as reply;
 ghost use Rattle.ic_program.specs.Printed.{line_of, items_of, number_at};
 
+use crate::told::refused;
 use ic_unsafe_ref::Place;
-use ic_world::{Answer, Refusal};
+use ic_world::Answer;
 use itoa::Buffer;
 use std::alloc::{AllocError, Allocator};
 
@@ -48,7 +49,10 @@ fn push_line<M: Allocator, N: Allocator>(
         Answer::Nothing => lines.extend_from_slice(b"none\n"),
         Answer::Linked(true) => lines.extend_from_slice(b"linked\n"),
         Answer::Linked(false) => lines.extend_from_slice(b"unlinked\n"),
-        Answer::Refused(refusal) => lines.extend_from_slice(refused(*refusal)),
+        Answer::Refused(refusal) => {
+            let (line, length) = refused(*refusal);
+            push_start(lines, line, length)
+        }
         Answer::Object(object) => push_place(lines, *object),
         Answer::Field(number) => push_numbered(lines, b"field ", *number as u64, b"\n"),
         Answer::Collection(number) => push_numbered(lines, b"collection ", *number as u64, b"\n"),
@@ -66,9 +70,12 @@ fn push_line<M: Allocator, N: Allocator>(
     }
 }
 
-// The line of an object.
+/// The line of an object.
 #[inline(always)]
-fn push_place<M: Allocator>(lines: &mut Vec<u8, M>, object: Place) -> Result<(), AllocError>
+pub(crate) fn push_place<M: Allocator>(
+    lines: &mut Vec<u8, M>,
+    object: Place,
+) -> Result<(), AllocError>
     ensures put { OnOk result (lines.new.items ≡ lines.old.items ++ line_of (reply.object object)) }
     ensures begun { StartsWith lines.new.items lines.old.items }
 {
@@ -140,28 +147,6 @@ fn push_range<M: Allocator>(
     push_numbered(lines, b"", second, b"\n")
 }
 
-// The line of a refusal.
-fn refused(refusal: Refusal) -> &'static [u8]
-    ensures { result.now ≡ line_of (reply.refused refusal) }
-{
-    match refusal {
-        Refusal::NoSuchField => b"refused 1 NoSuchField\n",
-        Refusal::NoSuchCollection => b"refused 2 NoSuchCollection\n",
-        Refusal::NoSuchObject => b"refused 3 NoSuchObject\n",
-        Refusal::WrongKind => b"refused 4 WrongKind\n",
-        Refusal::SameCollection => b"refused 5 SameCollection\n",
-        Refusal::OtherField => b"refused 6 OtherField\n",
-        Refusal::NothingThere => b"refused 7 NothingThere\n",
-        Refusal::NotAMember => b"refused 8 NotAMember\n",
-        Refusal::NotANeighbour => b"refused 9 NotANeighbour\n",
-        Refusal::AlreadyLinked => b"refused 10 AlreadyLinked\n",
-        Refusal::IsMember => b"refused 11 IsMember\n",
-        Refusal::StillLinked => b"refused 12 StillLinked\n",
-        Refusal::TooManyObjects => b"refused 13 TooManyObjects\n",
-        Refusal::OutOfMemory => b"refused 14 OutOfMemory\n",
-    }
-}
-
 // The line of an object whose number has three digits at most, as most have. It is copied whole, and what is not of it is cut off.
 #[inline(always)]
 fn push_short<M: Allocator>(lines: &mut Vec<u8, M>, number: u64) -> Result<(), AllocError>
@@ -170,8 +155,22 @@ fn push_short<M: Allocator>(lines: &mut Vec<u8, M>, number: u64) -> Result<(), A
     ensures begun { StartsWith lines.new.items lines.old.items }
 {
     let (line, length) = short_line(number);
+    push_start(lines, &line, length)
+}
+
+/// The first so many of these bytes. They are copied whole, and what is not of the line is cut off.
+#[inline(always)]
+pub(crate) fn push_start<const N: usize, M: Allocator>(
+    lines: &mut Vec<u8, M>,
+    bytes: &[u8; N],
+    length: usize,
+) -> Result<(), AllocError>
+    requires { length ≤ N }
+    ensures put { OnOk result (lines.new.items ≡ lines.old.items ++ take length bytes.now) }
+    ensures begun { StartsWith lines.new.items lines.old.items }
+{
     let before = lines.len();
-    lines.extend_from_slice(&line)?;
+    lines.extend_from_slice(bytes)?;
     lines.truncate(before + length);
     Ok(())
 }

@@ -15,6 +15,8 @@ mod names;
 mod own_key;
 mod program;
 mod session;
+mod told;
+mod usual;
 mod word;
 mod words;
 mod workers;

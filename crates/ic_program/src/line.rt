@@ -40,8 +40,9 @@ impl Line {
 
     /// What the next line says, and the words of the lines behind it. Where it is no call they may begin anywhere.
     ///
-    /// Most calls are a name and one or two numbers. How many there are and how long the name is leave few names to compare it with.
-    #[inline(always)]
+    /// Most calls never come here (`answer_usual`). How many numbers there are and how long the name is leave few names to compare it with.
+    #[cold]
+    #[inline(never)]
     pub(crate) fn first_of<'l>(lines: Words<'l>) -> (Line, Words<'l>)
         ensures { Passes result.0 (length lines.entry.rest.now) (length result.1.rest.now) }
     {

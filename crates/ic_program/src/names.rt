@@ -37,7 +37,7 @@ fn four(text: &[u8], at: usize) -> u32
 
 // Eight bytes as a number.
 #[inline(always)]
-fn eight(text: &[u8], at: usize) -> u64
+pub(crate) fn eight(text: &[u8], at: usize) -> u64
     requires { at + 8 ≤ length text.now }
 {
     four(text, at) as u64 | (four(text, at + 4) as u64) << 32

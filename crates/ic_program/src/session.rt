@@ -10,12 +10,15 @@ ghost use Rattle.std.specs.Prelude.{◌≡◌, ◌++◌, ◌<◌, ◌≤◌, ◌
 ghost use Rattle.std.specs.Io.KnownBytes.{Keeps, append_known};
 ghost use Rattle.ic_program.specs.Printed.{line_of};
 ghost use Rattle.ic_program.specs.Played.{IsNew, is_loss, Answered, UnlessLost};
+ghost use Rattle.ic_program.specs.Told.{reply_told};
 ghost use Rattle.ic_world.specs.Answers.{reply_in};
 
 use crate::answers::push_answer;
 use crate::fault::Fault;
 use crate::line::Line;
 use crate::own_key::OwnKey;
+use crate::told::Told;
+use crate::usual::{MOST_BYTES, answer_usual};
 use crate::words::Words;
 use ic_world::{Answer, Command, World};
 use memchr::{memchr, memrchr};
@@ -131,6 +134,23 @@ impl<M: Allocator + Copy> Session<M> {
             return Err(Stop::Fault(Fault::Reading(self.lines)));
         };
         self.lines = number;
+        let text = lines.rest();
+        if text.len() >= MOST_BYTES {
+            if let Some((told, others)) = answer_usual(&mut self.world, text) {
+                tell(&mut self.answers, told)?;
+                return Ok(others);
+            }
+        }
+        self.answer_any(lines, number)
+    }
+
+    // The same of any line, which is the line of that number.
+    #[cold]
+    #[inline(never)]
+    fn answer_any<'l>(&mut self, lines: Words<'l>, number: u64) -> Result<Words<'l>, Stop>
+        ensures answered { UnlessLost result (Answered self.old.world self.new.world (Some self.old.answers.items) (Some self.new.answers.items)) }
+        ensures fewer { 0 < length lines.entry.rest.now → IfOk result (λ others. length others.rest.now < length lines.entry.rest.now) }
+    {
         let (said, others) = Line::first_of(lines);
         match said {
             Line::Empty => Ok(others),
@@ -213,6 +233,17 @@ fn push<M: Allocator>(answers: &mut Vec<u8, M>, answer: &Answer<M>) -> Result<()
     ensures { UnlessLost result (answers.new.items ≡ answers.old.items ++ line_of (reply_in answer.now)) }
 {
     match push_answer(answers, answer) {
+        Ok(()) => Ok(()),
+        Err(_) => Err(Stop::Fault(Fault::Memory)),
+    }
+}
+
+// Puts the line behind the others.
+#[inline(always)]
+fn tell<M: Allocator>(answers: &mut Vec<u8, M>, told: Told) -> Result<(), Stop>
+    ensures { UnlessLost result (answers.new.items ≡ answers.old.items ++ line_of (reply_told told)) }
+{
+    match told.push(answers) {
         Ok(()) => Ok(()),
         Err(_) => Err(Stop::Fault(Fault::Memory)),
     }

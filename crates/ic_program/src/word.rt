@@ -8,13 +8,14 @@
 //! neighbor(b"none")    // Some(None): none stands there
 //! ```
 
-ghost use Rattle.std.specs.Prelude.{◌≡◌, ◌≢◌, ◌<◌, ◌≤◌, ◌↔◌, ◌^◌, ℕ, Option, IsSome, IfSome, IfNone, length};
+ghost use Rattle.std.specs.Prelude.{◌≡◌, ◌≢◌, ◌<◌, ◌≤◌, ◌↔◌, ◌^◌, ℕ, Option, is_some, IsSome, IfSome, IfNone, length};
+ghost use Rattle.std.specs.Char.{digit_value, is_ascii_digit};
 ghost use Rattle.std.specs.Str.Parse.{digits_value};
 ghost use Rattle.ic_unsafe_ref.specs.declared.place.Place.{Place};
 ghost use Rattle.ic_unsafe_ref.specs.Places.{index_of};
 ghost use Rattle.ic_rbtree.specs.declared.keys.key_adapter.Bound.{Bound};
 ghost use Rattle.ic_any_collection.specs.declared.kind.Kind.{Kind};
-ghost use Rattle.ic_program.specs.Number.{IsNumber, MoreDigits, leading_digits};
+ghost use Rattle.ic_program.specs.Number.{IsNumber, IsLeading, MoreDigits, leading_digits};
 ghost use Rattle.ic_program.specs.Words.{name_of, IsBound, IsNeighbor};
 
 use ic_any_collection::Kind;
@@ -127,4 +128,39 @@ fn with_digit(number: u64, digit: u8) -> Option<u64>
         return None;
     }
     number.checked_mul(10)?.checked_add((digit - b'0') as u64)
+}
+
+/// The number that the leading digits of a text write, and how many these are, where there are 1 to 4. No loop.
+#[inline(always)]
+pub(crate) fn small_number(text: &[u8]) -> Option<(u64, usize)>
+    requires { 5 ≤ length text.now }
+    ensures read { IfSome result (λ read. IsLeading text.now read.0 read.1) }
+    ensures within { IfSome result (λ read. (1 ≤ read.1) × (read.1 ≤ 4)) }
+{
+    let first = digit(text[0])?;
+    let Some(second) = digit(text[1]) else {
+        return Some((first, 1));
+    };
+    let Some(third) = digit(text[2]) else {
+        return Some((first * 10 + second, 2));
+    };
+    let Some(fourth) = digit(text[3]) else {
+        return Some(((first * 10 + second) * 10 + third, 3));
+    };
+    if digit(text[4]).is_some() {
+        return None;
+    }
+    Some((((first * 10 + second) * 10 + third) * 10 + fourth, 4))
+}
+
+// The value of a digit. `None` of any other byte.
+#[inline(always)]
+fn digit(byte: u8) -> Option<u64>
+    ensures some { IfSome result (λ digit. (digit ≡ digit_value byte) × (digit < 10)) }
+    ensures digit { is_some result ≡ is_ascii_digit byte }
+{
+    if byte.is_ascii_digit() {
+        return Some((byte - b'0') as u64);
+    }
+    None
 }

@@ -1,8 +1,0 @@
-use Rattle.std.proofs.Common.{◌≡◌, length, arith}
-use Rattle.ic_program.proofs.Taking.{cut_behind}
-use Rattle.ic_program.proofs.answers.push_short.Goals as goal
-
-pub returns-clause-put : goal.returns-clause-put
-returns-clause-put g c =
-    let here : c.len-before.result ≡ length c.args.lines.now.items = omega arith in
-    cut_behind _ c.short_line-length.result.0 _ _ _ c.len-before.result c.short_line-length.result.1 here c.in_ok-extend_from_slice.ensures.items c.truncate.ensures.items c.short_line-length.ensures.line
