@@ -3,4 +3,5 @@ pub mod RowLemmas
 pub mod HoldsLemmas
 pub mod ValueLemmas
 pub mod TreeLemmas
+pub mod LaneLemmas
 pub mod ListedLemmas

@@ -1,30 +1,45 @@
 -- For callers: a tree that has each object of a container, after each kind of step, and what a search of it finds.
-use Rattle.std.proofs.Common.{◌≡◌, ℕ, Bool, true, false, cond, Option, None, Some, is_some, List, [], ◌∷◌, ◌++◌, map, filter, length, ◌≤◌, refl, sym, ap, ◌∙◌, subst, arith, true≢false}
+use Rattle.std.proofs.Common.{◌≡◌, ◌≢◌, ℕ, Bool, true, false, cond, Option, None, Some, is_some, IsSome, List, [], ◌∷◌, ◌++◌, map, filter, drop, length, ◌<◌, ◌≤◌, inl, inr, refl, sym, ap, ◌∙◌, subst, arith, true≢false}
+use Rattle.std.proofs.lemmas.Bool.Decides.{nat_tests}
 use Rattle.std.proofs.lemmas.Bool.{false_from_ne_true}
 use Rattle.std.proofs.lemmas.Cmp.{nat_cmp_total, ranked, tied_itself}
-use Rattle.std.specs.Ordering.{nat_cmp, is_eq}
+use Rattle.std.specs.Borrow.{Bor}
+use Rattle.std.specs.List.{AllByRecursion, cons_option}
+use Rattle.std.specs.Option.{option_copied}
+use Rattle.std.specs.Ordering.{nat_cmp, is_eq, is_lt}
 use Rattle.std.specs.declared.cmp.Ordering.{Ordering}
 use Rattle.std.specs.declared.cmp.Ordering.TheVariants.{Less, Equal, Greater}
 use Rattle.ic_unsafe_ref.specs.declared.place.Place.{Place}
 use Rattle.ic_unsafe_ref.specs.Objects.{Objects, Places, Frees, object_at, is_placed}
-use Rattle.ic_unsafe_ref.proofs.Placing.{leaves, without}
-use Rattle.ic_link_ops.specs.PlacedObjects.{ShowsPlaced}
+use Rattle.ic_unsafe_ref.proofs.PlaceLemmas.{same_or_not}
+use Rattle.ic_unsafe_ref.proofs.Placing.{gone_there, leaves, others_left, others_placed, placed_there, without}
+use Rattle.ic_link_ops.specs.PlacedObjects.{ArePlaced, ShowsPlaced, StandAt, values_at}
 use Rattle.ic_link_ops.specs.Positions.{HasMember}
-use Rattle.ic_link_ops.specs.Sequences.{IsMember, first}
+use Rattle.ic_link_ops.specs.Sequences.{IsDistinct, IsMember, first}
 use Rattle.ic_link_ops.specs.Tables.{IsCovered, IsUnlinked, KeepsBeside, LinksAlso, Unlinks}
 use Rattle.ic_link_ops.proofs.Calling.{has_member}
+use Rattle.ic_link_ops.proofs.CollectionLaws.{kept_shown}
 use Rattle.ic_link_ops.proofs.Covering.{still_covered}
-use Rattle.ic_link_ops.proofs.SequenceLemmas.{none_not}
-use Rattle.ic_rbtree.specs.Borders.{Finds, IsSorted, equal_at}
+use Rattle.ic_link_ops.proofs.Each.{all_back}
+use Rattle.ic_link_ops.proofs.PlacedValues.{stand_beside, vacant_absent}
+use Rattle.ic_link_ops.proofs.SequenceLemmas.{none_not, some_same}
+use Rattle.ic_pool.specs.Pooled.{Grows}
+use Rattle.ic_rbtree.specs.Borders.{Finds, IsBorder, IsSorted, equal_at, less_at}
 use Rattle.ic_rbtree.specs.Comparing.{answer_at, compared, order_of, own_order}
 use Rattle.ic_rbtree.specs.Ordered.{InsertsInOrder}
 use Rattle.ic_rbtree.specs.PlainTrees.{TreeLinkOps, ShowsTree, PlainShows, is_linked, plain_table, members_of}
 use Rattle.ic_rbtree.proofs.EachObject.{each_none, each_linked, each_ready, each_new, each_taken, vacant_free}
 use Rattle.ic_rbtree.proofs.Passing.{passed}
 use Rattle.ic_rbtree.proofs.PlainTrees.{plain_covered, plain_members, plain_trees}
+use Rattle.ic_rbtree.specs.SortedObjects.{ShowsSorted, key_at, key_or}
 use Rattle.ic_rbtree.proofs.SortedAnswers.{found_first}
+use Rattle.ic_rbtree.proofs.SortedKeys.{keys_are}
+use Rattle.ic_rbtree.proofs.SortedValues.{greater_behind, own_order_is}
 use Rattle.ic_container.specs.Orders.{IsWhole}
-use Rattle.ic_container.specs.Trees.{HasAll, IsFound}
+use Rattle.ic_container.specs.TreeLaws.{all_grown}
+use Rattle.ic_container.specs.Trees.{HasAll, IsFound, IsFoundObject, IsUnique, LacksOne, PutsInOrder}
+use Rattle.ic_container.specs.Values.{Without}
+use Rattle.ic_container.proofs.RowLemmas.{no_front}
 use Rattle.ic_container.proofs.ValueLemmas.{member_placed, no_more}
 
 -- A TABLE WITH NO PLACE links nothing
@@ -63,6 +78,19 @@ module _ {T : Type 0} (key : T → ℕ) (objects : Objects T) (k : ℕ) where
   by_there p v there same =
       ap (λ (o : Option T). is_eq (answer_at (order_of nat_cmp key k) o)) there ∙ ap (λ (l : ℕ). is_eq (nat_cmp k l)) same ∙ ap is_eq (tied_itself nat_cmp_total k)
 
+module _ {T : Type 0} (key : T → ℕ) (objects : Objects T) where
+  -- what is greater along the values is so at the members
+  all_later : (d : ℕ) (s : List Place) → ArePlaced objects s → AllByRecursion (λ (x : T). is_lt (nat_cmp d (key x)) ≡ true) (values_at objects s) → AllByRecursion (λ q. d < key_at key objects q) s
+  all_later d [] placed h = tt
+  all_later d (q ∷ s) placed h = by (object_at objects q) placed.0 (all_later d s placed.1) h where
+    less : (a b : ℕ) → is_lt (nat_cmp a b) ≡ true → a < b
+    less a b h = grind (arith, nat_tests)
+
+    by : (o : Option T) → IsSome o → (AllByRecursion (λ (x : T). is_lt (nat_cmp d (key x)) ≡ true) (values_at objects s) → AllByRecursion (λ q. d < key_at key objects q) s)
+        → AllByRecursion (λ (x : T). is_lt (nat_cmp d (key x)) ≡ true) (cons_option o (values_at objects s)) → (d < key_or key o) × AllByRecursion (λ q. d < key_at key objects q) s
+    by None here rest h = absurd (true≢false (sym here))
+    by (Some v) here rest h = (less d (key v) h.0, rest h.1)
+
 module _ {T A : Type 0} (key : T → ℕ) (objects : Objects T) where
   -- AT FIRST
   pub all_first : (links : TreeLinkOps A) (root : Option Place) → (plain_table links).extent.places ≡ 0 → root ≡ None → ((p : Place) → object_at objects p ≡ None) → HasAll key links root objects
@@ -88,6 +116,29 @@ module _ {T A : Type 0} (key : T → ℕ) (objects : Objects T) where
 
     pub all_placed : ShowsPlaced (PlainShows links root) objects
     all_placed = record { members = a.each.sorted.members; shown = a.each.sorted.shown; placed = a.each.sorted.stand.placed }
+
+    -- THE MEMBERS, in the order of their keys
+    pub all_members : members_of links root ≡ a.each.sorted.members
+    all_members = plain_members links a.each.sorted.shown
+
+    pub all_stand : ArePlaced objects (members_of links root)
+    all_stand = subst (ArePlaced objects) (sym all_members) a.each.sorted.stand.placed
+
+    pub all_values : values_at objects (members_of links root) ≡ a.values
+    all_values = ap (values_at objects) all_members ∙ a.each.sorted.stand.are
+
+    pub all_distinct : IsDistinct (members_of links root)
+    all_distinct = plain_trees.distinct (plain_table links) root (members_of links root) all_shown
+
+    pub all_sorted : ShowsSorted key (PlainShows links root) objects
+    unfolding all_placed
+    all_sorted = record {
+      placed = all_placed;
+      sorted = subst (IsSorted nat_cmp) (sym (keys_are key objects a.each.sorted.members a.each.sorted.stand.placed ∙ ap (map key) a.each.sorted.stand.are)) a.each.sorted.sorted;
+    }
+
+    pub members_grown : (grown : TreeLinkOps A) → Grows (plain_table links) (plain_table grown) → members_of grown root ≡ members_of links root
+    members_grown grown grows = plain_members grown (kept_shown plain_trees grows.entries all_shown)
 
     -- WHAT A SEARCH FINDS: `found` is its clause
     pub all_found : (k : ℕ) (position : Option Place) → ((s : List Place) → PlainShows links root s → Finds (compared (order_of nat_cmp key k) objects) s position) → IsFound key objects k position
@@ -126,13 +177,80 @@ module _ {T A : Type 0} (key : T → ℕ) (objects : Objects T) where
           → LinksAlso is_linked (plain_table links) (plain_table new) p → HasAll key new top more
       all_new new top inserted acquired = let n = each_new a.each places inserted acquired in record { values = n.0; each = n.2 }
 
+      -- behind all that have its key or a lower one
+      pub order_new : (new : TreeLinkOps A) (top : Option Place) → ((s : List Place) → PlainShows links root s → InsertsInOrder ShowsTree (compared (own_order nat_cmp key more p) more) (plain_table links) (plain_table new) top s p)
+          → PutsInOrder key more (members_of links root) (members_of new top) p
+      order_new new top inserted =
+          let x = inserted a.each.sorted.members a.each.sorted.shown in
+          let stood = subst (λ (s : List Place). StandAt more s a.values) (sym x.same)
+          (stand_beside objects more p (others_placed places) (vacant_absent objects p places.vacant a.each.sorted.members a.each.sorted.stand.placed) a.each.sorted.stand) in
+          let rises = subst (λ (l : List T). IsSorted nat_cmp (map key l)) (sym stood.are) a.each.sorted.sorted in
+          let border = subst (λ at. IsBorder (less_at at) x.gap) (own_order_is nat_cmp key more p (placed_there places)) x.border in
+          record {
+            front = x.gap.front;
+            back = x.gap.back;
+            was = all_members ∙ sym x.same;
+            is = plain_members new x.inserted.shows;
+            later = subst (λ (o : Option T). AllByRecursion (λ q. key_or key o < key_at key more q) x.gap.back) (sym (placed_there places))
+                (all_later key more (key v) x.gap.back (all_back (λ q. IsSome (object_at more q)) x.gap.front x.gap.back stood.placed) (greater_behind nat_cmp_total key more (key v) x.gap stood.placed rises border));
+          }
+
     -- AN OBJECT taken off, and out
     module _ {p : Place} {out : T} (there : object_at objects p ≡ Some out) where
       pub all_freed : (new : TreeLinkOps A) (top : Option Place) {less : Objects T} → ((front back : List Place) → PlainShows links root (front ++ p ∷ back) → PlainShows new top (front ++ back))
           → Unlinks is_linked (plain_table links) (plain_table new) p → Frees objects less p → HasAll key new top less
       all_freed new top removed off frees = let t = each_taken a.each p there removed off frees in record { values = t.0 ++ t.1; each = t.3 }
 
+      pub order_left : (new : TreeLinkOps A) (top : Option Place) → ((front back : List Place) → PlainShows links root (front ++ p ∷ back) → PlainShows new top (front ++ back)) → Without p (members_of links root) (members_of new top)
+      order_left new top removed =
+          let m = all_stands p there in
+          record { front = m.front; back = m.back; was = plain_members links m.shown; is = plain_members new (removed m.front m.back m.shown) }
+
       -- ANOTHER VALUE with any key in its place: taken off, changed, and inserted where it belongs
       pub all_less : (new : TreeLinkOps A) (top : Option Place) (value : T) → ((front back : List Place) → PlainShows links root (front ++ p ∷ back) → PlainShows new top (front ++ back))
           → Unlinks is_linked (plain_table links) (plain_table new) p → HasAll key new top (without objects p value)
       all_less new top value removed off = all_freed new top removed off (leaves objects p value)
+
+    -- a removal of the first is one from anywhere: `popped` says that all but the first are shown
+    pub first_removed : (new : TreeLinkOps A) (top : Option Place) {p : Place} → Some p ≡ first (members_of links root) → ((s : List Place) → PlainShows links root s → PlainShows new top (drop 1 s))
+        → (front back : List Place) → PlainShows links root (front ++ p ∷ back) → PlainShows new top (front ++ back)
+    first_removed new top is popped [] back shown = popped (_ ∷ back) shown
+    first_removed new top {p} is popped (x ∷ front) back shown =
+        let never : x ∷ front ≡ [] = no_front p (members_of links root) all_distinct is (x ∷ front) back (plain_members links shown) in absurd (cc)
+
+    -- WITH A NEW OBJECT, and the table that may have grown, it has all but that one
+    pub all_lacks : {more : Objects T} {p : Place} {v : T} (grown : TreeLinkOps A) → Grows (plain_table links) (plain_table grown) → Places objects more p v → LacksOne (HasAll key grown root) more p
+    all_lacks grown grows places = record { less = objects; value = _; places = places; all = all_grown key objects a grown grows }
+
+module _ {T : Type 0} (key : T → ℕ) (objects : Objects T) where
+  -- an object was found, or none
+  pub found_some : (k : ℕ) (o : Option (Bor T)) → is_some o ≡ true → IsFoundObject key objects k (option_copied o) → (value : T) × IsFoundObject key objects k (Some value)
+  found_some k None is found = absurd (true≢false (sym is))
+  found_some k (Some lent) is found = (lent.now, found)
+
+  pub found_none : (k : ℕ) (o : Option (Bor T)) → is_some o ≡ false → IsFoundObject key objects k (option_copied o) → IsFoundObject key objects k None
+  found_none k None is found = found
+  found_none k (Some lent) is found = absurd (true≢false is)
+
+  -- NO TWO OBJECTS HAVE ONE KEY: at first,
+  pub unique_first : ((p : Place) → object_at objects p ≡ None) → IsUnique key objects
+  unique_first vacant p q v w there at same = absurd (none_not v (sym (vacant p) ∙ there))
+
+  module _ (unique : IsUnique key objects) where
+    -- with a new object, of whose key there was none,
+    pub unique_new : {more : Objects T} {p : Place} {value : T} → Places objects more p value → IsFound key objects (key value) None → IsUnique key more
+    unique_new {more} {p} {value} places none q r v w there at same = elim (same_or_not q p) [
+      | inl e ↦ elim (same_or_not r p) [ inl f ↦ e ∙ sym f | inr n ↦ absurd (none r w (was r w n at) (sym same ∙ here q v e there)) ]
+      | inr m ↦ elim (same_or_not r p) [ inl f ↦ absurd (none q v (was q v m there) (same ∙ here r w f at)) | inr n ↦ unique q r v w (was q v m there) (was r w n at) same ]
+    ] where
+      was : (s : Place) (u : T) → s ≢ p → object_at more s ≡ Some u → object_at objects s ≡ Some u
+      was s u n at = sym (others_placed places s n) ∙ at
+
+      here : (s : Place) (u : T) → s ≡ p → object_at more s ≡ Some u → key u ≡ key value
+      here s u e at = ap key (some_same (sym at ∙ ap (object_at more) e ∙ placed_there places))
+
+    -- and without one
+    pub unique_freed : {less : Objects T} {p : Place} → Frees objects less p → IsUnique key less
+    unique_freed {less} {p} frees q r v w there at same = unique q r v w (was q v there) (was r w at) same where
+      was : (s : Place) (u : T) → object_at less s ≡ Some u → object_at objects s ≡ Some u
+      was s u at = elim (same_or_not s p) [ inl e ↦ absurd (none_not u (sym (ap (object_at less) e ∙ gone_there frees) ∙ at)) | inr n ↦ sym (others_left frees s n) ∙ at ]

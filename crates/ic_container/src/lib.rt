@@ -10,7 +10,9 @@
 //! edit (proofs/HoldsLemmas.antt), and `lists`, whose calls return an edit as one value and are never refused.
 #![tactic(auto)]
 
+pub mod lanes;
 mod listed;
 pub mod lists;
+pub mod trees;
 
 pub use listed::Listed;

@@ -1,0 +1,107 @@
+-- Objects in lanes: lists over one table, and a number of each object says in which list it is.
+use Rattle.std.specs.Prelude.{◌≡◌, ◌≢◌, ℕ, ◌<◌, Option, Some, None, List, [], map, refl}
+use Rattle.std.specs.Coded.{Coded, code_by, coded×, coded_list}
+use Rattle.ic_unsafe_ref.specs.Places.{place_code}
+use Rattle.ic_unsafe_ref.specs.declared.place.Place.{Place}
+use Rattle.ic_unsafe_ref.specs.Objects.{Objects, Places, Frees, object_at, objects_code, with_object}
+use Rattle.ic_link_ops.specs.Chains.{Ends, no_members}
+use Rattle.ic_link_ops.specs.DoublyEntries.{DoublyLinkOps, members_of}
+use Rattle.ic_container.specs.Holds.{HoldsLists, ListJoins, ListLeaves}
+use Rattle.ic_container.specs.Rows.{Rows, Stays, PutsBack, Leaves, home_of, listed}
+
+-- the list of each lane, none beyond the last
+abbrev pub lane_at : List Ends → ℕ → Ends
+lane_at = listed no_members
+
+-- ONE EDIT of lane k: a place has joined it, or left it, and the other lanes stay
+module _ {A : Type 0} (k : ℕ) (old new : DoublyLinkOps A) (lanes after : List Ends) where
+  pub record LaneJoins (front : List Place) (p : Place) (back : List Place) : Type 0 where
+    pub edit : ListJoins old new (lane_at lanes k) (lane_at after k) front p back
+    pub others : (i : ℕ) → i ≢ k → lane_at after i ≡ lane_at lanes i
+
+  pub record LaneLeaves (front : List Place) (p : Place) (back : List Place) : Type 0 where
+    pub edit : ListLeaves old new (lane_at lanes k) (lane_at after k) front p back
+    pub others : (i : ℕ) → i ≢ k → lane_at after i ≡ lane_at lanes i
+
+-- from anywhere in lane k to the back of lane j
+pub record LaneMoves {A : Type 0} (k j : ℕ) (old new : DoublyLinkOps A) (lanes after : List Ends) (p : Place) : Type 0 where
+  pub mid : DoublyLinkOps A
+  pub between : List Ends
+  pub front : List Place
+  pub back : List Place
+  pub off : LaneLeaves k old mid lanes between front p back
+  pub on : LaneJoins j mid new between after (members_of mid (lane_at between j)) p []
+
+-- WHAT STANDS FIRST: the first place of the lowest lane that has one
+abbrev pub IsFirst : List Ends → Option Place → Type 0
+IsFirst lanes None = (i : ℕ) → (lane_at lanes i).head ≡ None
+IsFirst lanes (Some p) = (k : ℕ) × ((lane_at lanes k).head ≡ Some p) × ((i : ℕ) → i < k → (lane_at lanes i).head ≡ None)
+
+-- the places of each lane, from its front, and the objects
+pub record Lanes (T : Type 0) : Type 0 where
+  pub lanes : List (List Place)
+  pub values : Objects T
+
+-- it is stored as the pair of its fields
+abbrev pub lanes_code : {T : Type 0} → Coded T → Coded (Lanes T)
+lanes_code {T} code =
+    code_by (List (List Place) × Objects T) (coded× (coded_list (coded_list place_code)) (objects_code code)) (λ l. (l.lanes, l.values)) (λ p. record { lanes = p.0; values = p.1 }) (λ _. refl)
+
+abbrev pub lane : {T : Type 0} → Lanes T → Rows
+lane l = listed [] l.lanes
+
+abbrev pub lanes_of : {T A : Type 0} → Objects T → DoublyLinkOps A → List Ends → Lanes T
+lanes_of objects links lanes = record { lanes = map (λ list. members_of links list) lanes; values = objects }
+
+-- NO OBJECT is in any lane
+pub record IsEmpty {T : Type 0} (l : Lanes T) : Type 0 where
+  pub no_lane : (i : ℕ) → lane l i ≡ []
+  pub no_object : (p : Place) → object_at l.values p ≡ None
+
+-- NOTHING HAS CHANGED
+pub record IsUnchanged {T : Type 0} (old new : Lanes T) : Type 0 where
+  pub same_lanes : Stays (lane old) (lane new)
+  pub same_values : new.values ≡ old.values
+
+module _ {T : Type 0} (lane_of : T → ℕ) where
+  -- ONE OBJECT MORE, behind those of its lane
+  pub record Pushes (p : Place) (value : T) (old new : Lanes T) : Type 0 where
+    pub placed : Places old.values new.values p value
+    pub back : PutsBack (lane_of value) p (lane old) (lane new)
+
+  -- ONE OBJECT LESS, from between these of its lane
+  pub record Goes (p : Place) (value : T) (front back : List Place) (old new : Lanes T) : Type 0 where
+    pub named : object_at old.values p ≡ Some value
+    pub freed : Frees old.values new.values p
+    pub leaves : Leaves (lane_of value) front p back (lane old) (lane new)
+
+  -- the first object of the lowest lane that has one
+  pub record TakesFirst (value : T) (old new : Lanes T) : Type 0 where
+    pub place : Place
+    pub back : List Place
+    pub goes : Goes place value [] back old new
+    pub lowest : (i : ℕ) → i < lane_of value → lane old i ≡ []
+
+  -- the object at p, wherever it stands
+  pub record TakesOut (p : Place) (value : T) (old new : Lanes T) : Type 0 where
+    pub front : List Place
+    pub back : List Place
+    pub goes : Goes p value front back old new
+
+  -- ANOTHER VALUE in the place of an object, which goes from its lane to the back of that of the new value
+  pub record Renews (p : Place) (out value : T) (old new : Lanes T) : Type 0 where
+    pub named : object_at old.values p ≡ Some out
+    pub values : new.values ≡ with_object old.values p value
+    pub between : Rows
+    pub front : List Place
+    pub back : List Place
+    pub leaves : Leaves (lane_of out) front p back (lane old) between
+    pub joins : PutsBack (lane_of value) p between (lane new)
+
+  -- each object is in its lane
+  abbrev pub in_lane : T → Option ℕ
+  in_lane value = Some (lane_of value)
+
+  -- WHAT LANES KEEP: each has the objects of its number, and nothing else is linked
+  pub record IsLaned {A : Type 0} (objects : Objects T) (links : DoublyLinkOps A) (lanes : List Ends) : Type 0 where
+    pub holds : HoldsLists links (lane_at lanes) (home_of in_lane objects)
