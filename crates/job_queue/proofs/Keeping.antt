@@ -1,6 +1,6 @@
 -- What a queue keeps over each of its calls: a list with the values that wait.
 use Rattle.std.specs.Prelude.{Result, Ok, Err, IfErr, IsErr, IsErrAnd}
-use Rattle.std.proofs.Common.{◌≡◌, None, Some, List, [], ◌∷◌, drop, refl, sym, ap, subst, ◌∙◌, arith}
+use Rattle.std.proofs.Common.{◌≡◌, ◌^◌, leb, None, Some, List, [], ◌∷◌, drop, refl, sym, ap, subst, ◌∙◌, arith}
 use Rattle.std.proofs.lemmas.Bool.{false_from_ne_true}
 use Rattle.ic_unsafe_ref.specs.declared.place.Place.{Place}
 use Rattle.ic_unsafe_ref.specs.Objects.{Objects, Frees, object_at}
@@ -14,7 +14,7 @@ use Rattle.ic_link_ops.proofs.PlacedValues.{stand_first}
 use Rattle.ic_linked_list.specs.ListedValues.{HasValues}
 use Rattle.ic_linked_list.proofs.ListedValues.{has_taken}
 use Rattle.job_queue.specs.declared.queue.Job.{Job}
-use Rattle.job_queue.specs.Kept.{jobs_of, IsKept}
+use Rattle.job_queue.specs.Kept.{Jobs, jobs_of, queue_of, IsKept}
 
 -- a list of these jobs
 abbrev pub Has : {A : Type 0} → Objects Job → DoublyLinkOps A → Ends → List Job → Type 0
@@ -24,6 +24,9 @@ module _ {A : Type 0} (links : DoublyLinkOps A) {objects : Objects Job} {list : 
   -- THESE ARE THE JOBS THAT WAIT, and the queue keeps them
   pub jobs_are : Has objects links list jobs → jobs_of objects links list ≡ jobs
   jobs_are has = ap (values_at objects) (plain_members links has.shown) ∙ has.are
+
+  pub queue_is : Has objects links list jobs → queue_of objects links list ≡ record { waiting = jobs; is_full = leb (2 ^ 32) objects.next }
+  queue_is has = ap (λ (waiting : List Job). let queue : Jobs = record { waiting = waiting; is_full = leb (2 ^ 32) objects.next } in queue) (jobs_are has)
 
   pub kept : Has objects links list jobs → IsKept objects links list
   kept has = subst (Has objects links list) (sym (jobs_are has)) has

@@ -1,5 +1,5 @@
--- What a queue keeps of its pool and of its list.
-use Rattle.std.specs.Prelude.{List}
+-- What a queue of jobs is for a clause, and what it keeps of its pool and of its list.
+use Rattle.std.specs.Prelude.{◌^◌, leb, Bool, List}
 use Rattle.ic_unsafe_ref.specs.Objects.{Objects}
 use Rattle.ic_link_ops.specs.Chains.{Ends}
 use Rattle.ic_link_ops.specs.DoublyEntries.{DoublyLinkOps, is_linked, members_of, neighbors_of, plain_table}
@@ -7,10 +7,18 @@ use Rattle.ic_link_ops.specs.PlacedObjects.{values_at}
 use Rattle.ic_linked_list.specs.ListedValues.{HasValues}
 use Rattle.job_queue.specs.declared.queue.Job.{Job}
 
+-- the jobs that wait, in the order in which they were added, and whether there is no place left for another one
+pub record Jobs : Type 0 where
+  pub waiting : List Job
+  pub is_full : Bool
+
 module _ {A : Type 0} (objects : Objects Job) (links : DoublyLinkOps A) (list : Ends) where
   -- the jobs that wait, as the table shows the list
   abbrev pub jobs_of : List Job
   jobs_of = values_at objects (members_of links list)
+
+  abbrev pub queue_of : Jobs
+  queue_of = record { waiting = jobs_of; is_full = leb (2 ^ 32) objects.next }
 
   -- WHAT A QUEUE KEEPS: these jobs stand at the list's members, in order, and no vacant place is linked
   abbrev pub IsKept : Type 0

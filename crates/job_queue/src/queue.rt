@@ -7,8 +7,8 @@
 //! queue.take_next(); // Some(Job { number: 1, seconds: 30 })
 //! ```
 
-ghost use Rattle.std.specs.Prelude.{◌≡◌, ◌++◌, ◌∷◌, [], OnOk, IfErr, IfSome, IfNone};
-ghost use Rattle.ic_pool.specs.Refusals.{value_of};
+ghost use Rattle.std.specs.Prelude.{◌≡◌, ◌++◌, ◌∷◌, [], false, OnOk, IfErr, IfSome, IfNone};
+ghost use Rattle.ic_pool.specs.Refusals.{lacks_place, value_of};
 
 use ic_link_ops::linked_list::LinkOps;
 use ic_linked_list::LinkedList;
@@ -27,7 +27,7 @@ pub struct Job {
 
 /// Jobs that wait, in the order in which they were added.
 ///
-/// A clause sees them as a list.
+/// A clause sees them as a list, and whether there is no place left for another one.
 #[derive(Drop)]
 pub struct JobQueue<A: Allocator = Global> {
     pool: Pool<Job, LinkOps<A>, A>,
@@ -35,13 +35,11 @@ pub struct JobQueue<A: Allocator = Global> {
 }
 
 impl<A: Allocator> Model for JobQueue<A> {
-    ghost use Rattle.std.specs.Prelude.{List};
-    ghost use Rattle.job_queue.specs.declared.queue.Job.{Job};
-    ghost use Rattle.job_queue.specs.Kept.{jobs_of, IsKept};
+    ghost use Rattle.job_queue.specs.Kept.{Jobs, queue_of, IsKept};
 
-    ghost Value = { List Job };
+    ghost Value = { Jobs };
 
-    ghost view = { λ queue. jobs_of queue.pool.objects queue.pool.links queue.waiting };
+    ghost view = { λ queue. queue_of queue.pool.objects queue.pool.links queue.waiting };
 
     ghost invariant = { λ queue. IsKept queue.pool.objects queue.pool.links queue.waiting };
 }
@@ -51,7 +49,8 @@ impl<A: Allocator> JobQueue<A> {
     pub fn new(alloc: A) -> JobQueue<A>
     where
         A: Copy,
-        ensures { result ≡ [] }
+        ensures waiting { result.waiting ≡ [] }
+        ensures room { result.is_full ≡ false }
     {
         JobQueue {
             pool: Pool::new(alloc, LinkOps::new(alloc)),
@@ -61,11 +60,11 @@ impl<A: Allocator> JobQueue<A> {
 
     /// Adds a job, which waits behind all others. O(1), and it takes memory only if the pool grows.
     ///
-    /// If it is refused, the job comes back and the queue is as it was: `NoPlaceLeft` says that there are 4,294,967,296
-    /// places and no more, and `OutOfMemory` that there is no memory.
+    /// If it is refused, the job comes back and the queue is as it was: with `NoPlaceLeft` exactly if there is no place left, of
+    /// 4,294,967,296, and else with `OutOfMemory`.
     pub fn add(&mut self, job: Job) -> Result<(), PlaceError<Job>>
-        ensures added { OnOk result (self.new ≡ self.old ++ job ∷ []) }
-        ensures refused { IfErr result (λ refused. (value_of refused ≡ job) × (self.new ≡ self.old)) }
+        ensures added { OnOk result (self.new.waiting ≡ self.old.waiting ++ job ∷ []) }
+        ensures refused { IfErr result (λ refused. (value_of refused ≡ job) × (self.new ≡ self.old) × (lacks_place refused ≡ self.old.is_full)) }
     {
         let object = self.pool.place(job)?; // with room for its link
         self.waiting
@@ -76,8 +75,8 @@ impl<A: Allocator> JobQueue<A> {
 
     /// Takes the job out that waits longest, or returns `None` if no job waits. O(1), and it takes no memory.
     pub fn take_next(&mut self) -> Option<Job>
-        ensures taken { IfSome result (λ job. self.old ≡ job ∷ self.new) }
-        ensures none { IfNone result ((self.old ≡ []) × (self.new ≡ [])) }
+        ensures taken { IfSome result (λ job. self.old.waiting ≡ job ∷ self.new.waiting) }
+        ensures none { IfNone result ((self.old.waiting ≡ []) × (self.new ≡ self.old)) }
     {
         let object = self.waiting.pop_front(&mut self.pool.links)?;
         Some(self.pool.remove(object)) // proved: it is linked nowhere now

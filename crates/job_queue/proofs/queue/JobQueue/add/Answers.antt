@@ -1,7 +1,8 @@
 use Rattle.std.proofs.Common.{◌≡◌, refl}
 use Rattle.ic_linked_list.proofs.ListedValues.{has_covered, has_pushed}
-use Rattle.job_queue.specs.Kept.{jobs_of}
-use Rattle.job_queue.proofs.Keeping.{jobs_are, kept, passed_on}
+use Rattle.ic_pool.proofs.Pooling.{lacks_exactly}
+use Rattle.job_queue.specs.Kept.{queue_of}
+use Rattle.job_queue.proofs.Keeping.{jobs_are, kept, passed_on, queue_is}
 use Rattle.job_queue.proofs.queue.JobQueue.add.Goals as goal
 
 -- it is refused: only the table may have grown
@@ -12,9 +13,9 @@ invariant_of-self g c =
 pub returns-in_err-object-clause-refused : goal.returns-in_err-object-clause-refused
 returns-in_err-object-clause-refused g c =
     let e = c.in_err-object.ensures in
-    let same : jobs_of c.place.new.self.objects c.place.new.self.links c.self.inside.waiting ≡ jobs_of c.self.inside.pool.objects c.self.inside.pool.links c.self.inside.waiting =
-    rw e.refused.1 (jobs_are c.place.new.self.links (has_covered e.keeps.entries c.self.invariant)) in
-    passed_on _ c.from_residual.result c.from_residual.ensures (e.refused.0, rw (← c.self.view_is) same)
+    let same : queue_of c.place.new.self.objects c.place.new.self.links c.self.inside.waiting ≡ queue_of c.self.inside.pool.objects c.self.inside.pool.links c.self.inside.waiting =
+    rw e.refused.1 (queue_is c.place.new.self.links (has_covered e.keeps.entries c.self.invariant)) in
+    passed_on _ c.from_residual.result c.from_residual.ensures (e.refused.0, rw (← c.self.view_is) same, rw (← c.self.view_is) (lacks_exactly _ _ e.full e.refused.0))
 
 -- it waits behind all others
 pub invariant_of-self-2 : goal.invariant_of-self-2

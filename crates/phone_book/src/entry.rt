@@ -1,0 +1,48 @@
+//! What stands in a phone book, and the two orders of it.
+
+ghost use Rattle.std.specs.Prelude.{◌≡◌};
+
+use ic_rbtree::KeyAdapter;
+
+/// An entry of a phone book.
+#[derive(Drop, PartialEq, Eq, Debug)]
+pub struct Entry {
+    /// The phone number, which no other entry has.
+    pub number: u64,
+    /// The person whose number it is. A person can have several.
+    pub person: u64,
+}
+
+/// Entries by their numbers.
+#[derive(Clone, Copy)]
+pub(crate) struct ByNumber;
+
+impl KeyAdapter for ByNumber {
+    type Value = Entry;
+
+    type Key = u64;
+
+    ghost key_of = { λ a entry. entry.number };
+
+    #[inline]
+    fn get_key<'v>(&self, entry: &'v Entry) -> &'v u64 {
+        &entry.number
+    }
+}
+
+/// Entries by their persons.
+#[derive(Clone, Copy)]
+pub(crate) struct ByPerson;
+
+impl KeyAdapter for ByPerson {
+    type Value = Entry;
+
+    type Key = u64;
+
+    ghost key_of = { λ a entry. entry.person };
+
+    #[inline]
+    fn get_key<'v>(&self, entry: &'v Entry) -> &'v u64 {
+        &entry.person
+    }
+}
