@@ -1,8 +1,8 @@
 -- What a scheduler keeps over each of its calls, and what that says of its schedule.
-use Rattle.std.proofs.Common.{◌≡◌, ◌≢◌, ℕ, ◌≤◌, ◌<◌, ◌^◌, true, false, leb, Option, Some, None, is_some, Result, OnOk, OnErr, List, [], ◌∷◌, ◌++◌, length, map, drop, filter, inl, inr, refl, sym, ap, ◌∙◌, subst, arith, append-nil, slice_index_or, true≢false}
+use Rattle.std.proofs.Common.{◌≡◌, ◌≢◌, ℕ, ◌≤◌, ◌<◌, ◌^◌, true, false, leb, Option, Some, None, is_some, Result, Ok, Err, OnOk, OnErr, ◌↔◌, List, [], ◌∷◌, ◌++◌, length, map, drop, filter, inl, inr, refl, sym, ap, ◌∙◌, subst, arith, append-nil, slice_index_or, true≢false}
 use Rattle.std.proofs.Math.ListN.{get_or-map}
-use Rattle.std.proofs.lemmas.Bool.{le-leb, lt-leb, false_from_ne_true}
-use Rattle.std.proofs.lemmas.Bool.Decides.{eqb_tells}
+use Rattle.std.proofs.lemmas.Bool.{lt-leb, false_from_ne_true}
+use Rattle.std.proofs.lemmas.Bool.Decides.{eqb_tells, leb_tells}
 use Rattle.std.proofs.lemmas.Cmp.{nat_cmp_total}
 use Rattle.std.specs.List.{AllByRecursion}
 use Rattle.std.specs.Ordering.{nat_cmp}
@@ -26,6 +26,7 @@ use Rattle.ic_link_ops.proofs.PlacedValues.{few_values}
 use Rattle.ic_link_ops.proofs.SequenceLemmas.{nothing_first}
 use Rattle.ic_link_ops.proofs.TwoFields.{once_covered, once_placed, once_moved, once_taken, unlinked_first, unlinked_vacant}
 use Rattle.ic_link_ops.proofs.Each.{all_map}
+use Rattle.ic_pool.specs.Pooled.{Grows}
 use Rattle.ic_rbtree.specs.Borders.{IsSorted, if_passes}
 use Rattle.ic_rbtree.specs.Ordered.{InsertsInOrder}
 use Rattle.ic_rbtree.specs.PlainTrees as trees
@@ -38,16 +39,12 @@ use Rattle.scheduler.specs.declared.task.Task.{Task}
 use Rattle.scheduler.specs.Timers as timers
 use Rattle.scheduler.proofs.KeptValues.{in_order, values_wait}
 use Rattle.scheduler.specs.Kept.{deadline_of, list_at, schedule_of, HasRoom, IsKept}
-use Rattle.scheduler.specs.Refusals.{refusal_number}
 use Rattle.scheduler.specs.Schedule.{queue_at, places_at, IsByDeadline, is_due, is_for, task_of, IsEmpty, IsUnchanged, Adds, TakesFront, MovesFirst}
 use Rattle.scheduler.proofs.ByDeadline.{by_deadline_with}
 
--- where there is no place left, and where a refusal is for want of memory
-pub is_full : (next : ℕ) → 2 ^ 32 ≤ next → refusal_number true ≡ refusal_number (leb (2 ^ 32) next)
-is_full next large = ap refusal_number (sym (le-leb (2 ^ 32) next large))
-
-pub for_memory : (next : ℕ) → next < 2 ^ 32 → refusal_number false ≡ refusal_number (leb (2 ^ 32) next)
-for_memory next small = ap refusal_number (sym (lt-leb (2 ^ 32) next small))
+-- where a task was placed, there was a place left
+pub some_left : {X E : Type 0} {x : X} {e : E} (next : ℕ) → ((let r : Result X E = Ok x in r ≡ Err e) ↔ (2 ^ 32 ≤ next)) → next < 2 ^ 32
+some_left {X} {E} {x} {e} next full = elim (leb_tells (2 ^ 32) next) [ inl h ↦ let never : (let r : Result X E = Ok x in r ≡ Err e) = full.1 h.1 in absurd (cc) | inr h ↦ omega (arith, h.1) ]
 
 -- TASKS IN ORDER are as a call of the tree asks
 sorted_values : {V A : Type 0} {objects : Objects (Task V)} (w : trees.TreeLinkOps A) {root : Option Place} {tasks : List (Task V)}
@@ -142,37 +139,36 @@ module _ {V A B : Type 0} where
     none_wait = record { waiting = waiting_is kept_none; queues = queue_is kept_none; is_full = ap (leb (2 ^ 32)) next }
 
   module _ {objects : Objects (Task V)} {w : trees.TreeLinkOps A} {root : Option Place} {q : lists.DoublyLinkOps B} {ends : List Ends} (k : IsKept objects w root q ends) where
-    -- AFTER `cover` of the two tables
-    module _ (v : trees.TreeLinkOps A) (r : lists.DoublyLinkOps B) (stays_w : (p : Place) → (trees.plain_table v).entry p ≡ (trees.plain_table w).entry p)
-        (stays_q : (p : Place) → (lists.plain_table r).entry p ≡ (lists.plain_table q).entry p) (covered : (p : Place) → IsCovered (lists.plain_table q) p → IsCovered (lists.plain_table r) p) where
+    -- AFTER `place`, whatever it answered
+    module _ (v : trees.TreeLinkOps A) (r : lists.DoublyLinkOps B) (grows_w : Grows (trees.plain_table w) (trees.plain_table v)) (grows_q : Grows (lists.plain_table q) (lists.plain_table r)) where
       more_room : (p : Place) → HasRoom q p → HasRoom r p
-      more_room p room = (covered p room.0, room.1)
+      more_room p room = (grows_q.covered p room.0, room.1)
 
-      pub kept_covered : IsKept objects v root r ends
-      kept_covered = record {
+      pub kept_grown : IsKept objects v root r ends
+      kept_grown = record {
         waiting = k.waiting;
         queued = k.queued;
-        sorted = has_covered plain_trees nat_cmp_total k.sorted stays_w;
-        numbered = numbered_covered doubly.plain_lists k.numbered stays_q;
-        once = once_covered k.once stays_w stays_q;
+        sorted = has_covered plain_trees nat_cmp_total k.sorted grows_w.entries;
+        numbered = numbered_covered doubly.plain_lists k.numbered grows_q.entries;
+        once = once_covered k.once grows_w.entries grows_q.entries;
         room = λ p placed. more_room p (k.room p placed);
       }
 
-      pub same_covered : IsUnchanged (schedule_of objects w root q ends) (schedule_of objects v root r ends)
-      unfolding kept_covered
-      same_covered =
-          unchanged k kept_covered refl (λ i. refl)
-          (sym (plain_members v kept_covered.sorted.shown) ∙ plain_members v (kept_shown plain_trees stays_w k.sorted.shown))
-          (λ i. sym (doubly.plain_members r (kept_covered.numbered.each i).shown) ∙ doubly.plain_members r (kept_shown doubly.plain_lists stays_q (k.numbered.each i).shown))
+      pub same_grown : IsUnchanged (schedule_of objects w root q ends) (schedule_of objects v root r ends)
+      unfolding kept_grown
+      same_grown =
+          unchanged k kept_grown refl (λ i. refl)
+          (sym (plain_members v kept_grown.sorted.shown) ∙ plain_members v (kept_shown plain_trees grows_w.entries k.sorted.shown))
+          (λ i. sym (doubly.plain_members r (kept_grown.numbered.each i).shown) ∙ doubly.plain_members r (kept_shown doubly.plain_lists grows_q.entries (k.numbered.each i).shown))
 
-      -- AND `from_box` of a task
-      module _ (new : Objects (Task V)) (p : Place) (task : Task V) (places : Places objects new p task) where
+      -- AND OF A NEW TASK
+      module _ {new : Objects (Task V)} {p : Place} {task : Task V} (places : Places objects new p task) where
         -- it is linked nowhere, and the tree is as an insert asks
         pub new_unlinked : IsUnlinked trees.is_linked (trees.plain_table v) p
-        new_unlinked = (unlinked_vacant kept_covered.once p places.vacant).0
+        new_unlinked = (unlinked_vacant kept_grown.once p places.vacant).0
 
         pub ready : ShowsSorted deadline_of (trees.PlainShows v root) new
-        ready = sorted_values v (has_beside plain_trees nat_cmp_total kept_covered.sorted {new = new} new_unlinked (others_placed places))
+        ready = sorted_values v (has_beside plain_trees nat_cmp_total kept_grown.sorted {new = new} new_unlinked (others_placed places))
 
         -- THE TASK WAITS, once it is scheduled
         module _ (u : trees.TreeLinkOps A) (top : Option Place) (room : HasRoom r p) {X : Type 0} (answer : Result Unit X)
@@ -185,21 +181,21 @@ module _ {V A B : Type 0} where
           also = accepted _ answer new_unlinked refused acquired
 
           pub kept_added : IsKept new u top r ends
-          unfolding kept_covered
-          kept_added = let x = has_inserted plain_trees nat_cmp_total kept_covered.sorted places put also in record {
+          unfolding kept_grown
+          kept_added = let x = has_inserted plain_trees nat_cmp_total kept_grown.sorted places put also in record {
             waiting = x.0;
             queued = k.queued;
             sorted = x.2;
-            numbered = numbered_beside doubly.plain_lists kept_covered.numbered {new = new} (unlinked_vacant kept_covered.once p places.vacant).1 (others_placed places);
-            once = once_placed kept_covered.once places also;
+            numbered = numbered_beside doubly.plain_lists kept_grown.numbered {new = new} (unlinked_vacant kept_grown.once p places.vacant).1 (others_placed places);
+            once = once_placed kept_grown.once places also;
             room = λ z. everywhere (λ z. is_placed new z ≡ true → HasRoom r z) p z (λ placed. room) (λ n placed. more_room z (k.room z (sym (ap is_some (others_placed places z n)) ∙ placed)));
           }
 
           pub adds : Adds task (schedule_of objects w root q ends) (schedule_of new u top r ends)
-          unfolding kept_added kept_covered
+          unfolding kept_added kept_grown
           adds = record {
             waits = λ l stands. subst (λ (t : List (Task V)). IsByDeadline t (l ++ task ∷ [])) (sym (waiting_is kept_added))
-                (by_deadline_with (has_inserted plain_trees nat_cmp_total kept_covered.sorted places put also).1 (subst (λ (t : List (Task V)). IsByDeadline t l) (waiting_is k) stands));
+                (by_deadline_with (has_inserted plain_trees nat_cmp_total kept_grown.sorted places put also).1 (subst (λ (t : List (Task V)). IsByDeadline t l) (waiting_is k) stands));
             queues = λ i. queue_is kept_added i ∙ sym (queue_is k i);
           }
 

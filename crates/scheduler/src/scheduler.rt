@@ -8,8 +8,8 @@ use crate::task::Task;
 use crate::timer_queue::{ByDeadline, schedule};
 use crate::{AddError, Queue};
 use ic_link_ops::{linked_list, rbtree};
+use ic_pool::{PlaceError, Pool};
 use ic_rbtree::RBTree;
-use ic_unsafe_ref::{Objects, UnsafeRef};
 use std::alloc::{Allocator, Global};
 use std::marker::Model;
 
@@ -19,10 +19,8 @@ use std::marker::Model;
 /// place left for another one. Each task is linked in the tree of deadlines or in the list of its queue, never in both.
 #[derive(Drop)]
 pub struct Scheduler<V, A: Allocator = Global> {
-    objects: Objects<Task<V>, A>,
-    deadline_links: rbtree::LinkOps<A>,
+    pool: Pool<Task<V>, (linked_list::LinkOps<A>, rbtree::LinkOps<A>), A>,
     deadlines: RBTree<ByDeadline<Task<V>>>,
-    queue_links: linked_list::LinkOps<A>,
     queues: Queues<V>,
 }
 
@@ -33,9 +31,9 @@ impl<V, A: Allocator> Model for Scheduler<V, A> {
 
     ghost Value = { Schedule V };
 
-    ghost view = { λ s. schedule_of s.objects s.deadline_links (root_of s.deadlines) s.queue_links s.queues };
+    ghost view = { λ s. schedule_of s.pool.objects s.pool.links.1 (root_of s.deadlines) s.pool.links.0 s.queues };
 
-    ghost invariant = { λ s. IsKept s.objects s.deadline_links (root_of s.deadlines) s.queue_links s.queues };
+    ghost invariant = { λ s. IsKept s.pool.objects s.pool.links.1 (root_of s.deadlines) s.pool.links.0 s.queues };
 }
 
 impl<V, A: Allocator> Scheduler<V, A> {
@@ -48,11 +46,13 @@ impl<V, A: Allocator> Scheduler<V, A> {
         A: Copy,
         ensures { IsEmpty result }
     {
+        let links = (
+            linked_list::LinkOps::new(alloc),
+            rbtree::LinkOps::new(alloc),
+        );
         Scheduler {
-            objects: Objects::new(alloc),
-            deadline_links: rbtree::LinkOps::new(alloc),
+            pool: Pool::new(alloc, links),
             deadlines: RBTree::new(ByDeadline::new()),
-            queue_links: linked_list::LinkOps::new(alloc),
             queues: no_queues(),
         }
     }
@@ -67,34 +67,20 @@ impl<V, A: Allocator> Scheduler<V, A> {
             × (number_of refused ≡ refusal_number self.old.is_full)) }
         ensures full { self.old.is_full ≡ true → IsErr result }
     {
-        let Some(place) = self.objects.next_place() else {
-            return Err(AddError::TooManyTasks(value));
-        };
-        let room = place.index() + 1;
-        // Room in both tables, so that whatever waits can be moved without memory.
-        let Ok(()) = self.queue_links.cover(room) else {
-            return Err(AddError::OutOfMemory(value));
-        };
-        let Ok(()) = self.deadline_links.cover(room) else {
-            return Err(AddError::OutOfMemory(value));
-        };
         let task = Task {
             deadline,
             queue,
             value,
         };
-        match UnsafeRef::from_box(&mut self.objects, task) {
-            Ok(object) => {
-                let _ = schedule(
-                    &mut self.deadlines,
-                    &mut self.deadline_links,
-                    &self.objects,
-                    object,
-                ); // proved: it is not linked
-                Ok(())
-            }
-            Err(refused) => Err(AddError::OutOfMemory(refused.1.value)),
-        }
+        // With room in both tables, so that whatever waits can be moved without memory.
+        let object = match self.pool.place(task) {
+            Ok(object) => object,
+            Err(PlaceError::NoPlaceLeft(task)) => return Err(AddError::TooManyTasks(task.value)),
+            Err(PlaceError::OutOfMemory(task)) => return Err(AddError::OutOfMemory(task.value)),
+        };
+        let (objects, links) = (&self.pool.objects, &mut self.pool.links.1);
+        let _ = schedule(&mut self.deadlines, links, objects, object); // proved: it is not linked
+        Ok(())
     }
 
     /// Moves the tasks that are due at `now` to the backs of their queues, the earliest first, and of equal ones the one that was
@@ -104,9 +90,9 @@ impl<V, A: Allocator> Scheduler<V, A> {
     {
         move_due(
             &mut self.deadlines,
-            &mut self.deadline_links,
-            &self.objects,
-            &mut self.queue_links,
+            &mut self.pool.links.1,
+            &self.pool.objects,
+            &mut self.pool.links.0,
             &mut self.queues,
             now,
         )
@@ -117,8 +103,8 @@ impl<V, A: Allocator> Scheduler<V, A> {
         ensures taken { IfSome result (λ answer. TakesFront (task_of answer.0 queue answer.1) self.old self.new) }
         ensures none { IfNone result ((queue_at self.old queue ≡ []) × IsUnchanged self.old self.new) }
     {
-        let object = dequeue(&mut self.queues, &mut self.queue_links, queue)?;
-        let task = object.into_box(&mut self.objects);
+        let object = dequeue(&mut self.queues, &mut self.pool.links.0, queue)?;
+        let task = self.pool.remove(object);
         Some((task.deadline, task.value))
     }
 
@@ -127,13 +113,13 @@ impl<V, A: Allocator> Scheduler<V, A> {
         ensures { IsOnceEach self.now }
     {
         // What is read is kept by a scheduler, of which this is the law.
-        let _ = self.objects.len();
+        let _ = self.pool.len();
     }
 
     /// Says that the tasks that wait are in order of deadline: so there is a list for which the scheduler stands. It does nothing.
     pub fn stands_for_what_waits(&self)
         ensures { StandsFor self.now self.now.waiting }
     {
-        let _ = self.objects.len();
+        let _ = self.pool.len();
     }
 }
