@@ -1,6 +1,5 @@
 pub mod Builders
 pub mod HashTables
-pub mod JobQueueLemmas
 pub mod KeyedTrees
 pub mod PlacedChains
 pub mod Positions

@@ -1,3 +1,2 @@
-pub mod JobBoard
-pub mod JobLanes
+pub mod Jobs
 pub mod Ready

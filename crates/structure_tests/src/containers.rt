@@ -8,7 +8,6 @@
 //! ```
 
 mod job_queue;
-mod lanes;
 
 pub use job_queue::{Job, JobQueue, Priority};
 

@@ -2,16 +2,25 @@
 //!
 //! ```text
 //! let job = queue.push(Priority::Urgent, 1)?;
+//! queue.reprioritize(&job, Priority::Low);
 //! let first = queue.pop(); // 1
 //! ```
 
 ghost use Rattle.std.specs.Prelude.{◌≡◌, ◌<◌, ℕ, None, IfOk, IfErr, IfSome, IfNone, [], List};
+ghost use Rattle.std.specs.Bool.{OnTrue, OnFalse};
+ghost use Rattle.ic_unsafe_ref.specs.Objects.{object_at};
+ghost use Rattle.ic_link_ops.specs.Chains.{no_members};
+ghost use Rattle.ic_container.specs.Lanes.{lane, lane_at, IsEmpty, IsUnchanged, Pushes, Renews, TakesFirst, TakesOut};
+ghost use Rattle.ic_pool.specs.Refusals.{value_of};
+ghost use Rattle.structure_tests.specs.Jobs.{job_of, lane_of, lane_of_job};
 
-use crate::containers::lanes::{Lanes, first_of, no_lanes, put_behind, take_out};
+use ic_container::lanes;
 use ic_link_ops::linked_list::LinkOps;
+use ic_linked_list::LinkedList;
 use ic_pool::{PlaceError, Pool};
 use ic_unsafe_ref::UnsafeRef;
 use std::alloc::{Allocator, Global};
+use std::array;
 use std::marker::Model;
 
 /// How urgent a job is.
@@ -24,8 +33,6 @@ pub enum Priority {
 }
 
 impl Priority {
-    ghost use Rattle.structure_tests.specs.JobBoard.{lane_of};
-
     /// The lane of this priority, 0 to 3. O(1).
     pub fn lane(self) -> usize
         ensures value { result ≡ lane_of self }
@@ -53,27 +60,32 @@ pub struct Job<V> {
 #[derive(Drop)]
 pub struct JobQueue<V, A: Allocator = Global> {
     pool: Pool<Job<V>, LinkOps<A>, A>,
-    lanes: Lanes<V>,
+    lanes: [LinkedList<Job<V>>; 4],
 }
 
 impl<V, A: Allocator> Model for JobQueue<V, A> {
     ghost use Rattle.std.specs.Coded.{codes};
-    ghost use Rattle.structure_tests.specs.JobBoard.{Board, board_code};
-    ghost use Rattle.structure_tests.specs.JobLanes.{board_of, IsKept};
+    ghost use Rattle.ic_container.specs.Lanes.{Lanes, lanes_code, lanes_of, IsLaned};
+    ghost use Rattle.structure_tests.specs.declared.containers.job_queue.Job.{Job};
+    ghost use Rattle.structure_tests.specs.Jobs.{lane_of_job};
 
-    ghost Value = { Board V };
+    ghost Value = { Lanes (Job V) };
 
-    ghost coded = { board_code (Prim.hlevel (codes, V.code)) };
+    ghost coded = { lanes_code (Prim.hlevel (codes, V.code)) };
 
-    ghost view = { λ q. board_of q.pool.objects q.pool.links q.lanes };
+    ghost view = { λ q. lanes_of q.pool.objects q.pool.links q.lanes };
 
-    ghost invariant = { λ q. IsKept q.pool.objects q.pool.links q.lanes };
+    ghost invariant = { λ q. IsLaned lane_of_job q.pool.objects q.pool.links q.lanes };
+}
+
+// Four lanes with no job.
+fn no_lanes<V>() -> [LinkedList<Job<V>>; 4]
+    ensures { (i : ℕ) → lane_at result i ≡ no_members }
+{
+    array::from_fn(|_| LinkedList::new())
 }
 
 impl<V, A: Allocator> JobQueue<V, A> {
-    ghost use Rattle.structure_tests.specs.JobBoard.{job_at, job_of, lane, IsEmpty, IsUnchanged, Pushes, TakesFirst, Cancels};
-    ghost use Rattle.ic_pool.specs.Refusals.{value_of};
-
     /// No job waits. It takes no memory.
     pub fn new(alloc: A) -> JobQueue<V, A>
     where
@@ -93,7 +105,7 @@ impl<V, A: Allocator> JobQueue<V, A> {
         priority: Priority,
         value: V,
     ) -> Result<UnsafeRef<Job<V>>, PlaceError<Job<V>>>
-        ensures pushed { IfOk result (λ job. Pushes job (job_of priority value) self.old self.new) }
+        ensures pushed { IfOk result (λ job. Pushes lane_of_job job (job_of priority value) self.old self.new) }
         ensures refused { IfErr result (λ refused. (value_of refused ≡ job_of priority value) × IsUnchanged self.old self.new) }
     {
         let job = match self.pool.place(Job { priority, value }) {
@@ -101,28 +113,45 @@ impl<V, A: Allocator> JobQueue<V, A> {
             Err(refused) => return Err(refused),
         };
         let (lanes, links) = (&mut self.lanes, &mut self.pool.links);
-        put_behind(lanes, links, priority.lane(), job.place());
+        lanes::push_back(lanes, links, priority.lane(), job.place());
         Ok(job)
+    }
+
+    /// Gives a job another priority: it waits behind the jobs of that one, wherever it stood. `false`, and nothing has changed, where no job
+    /// has this reference. O(1), and it takes no memory.
+    pub fn reprioritize(&mut self, job: &UnsafeRef<Job<V>>, priority: Priority) -> bool
+        ensures moved { OnTrue result ((value : V) × (was : Priority) × Renews lane_of_job job.now (job_of was value) (job_of priority value) self.old self.new) }
+        ensures none { OnFalse result ((object_at self.old.values job.now ≡ None) × IsUnchanged self.old self.new) }
+    {
+        let Some(it) = self.pool.objects.get_mut(job.place()) else {
+            return false;
+        };
+        let lane = it.priority.lane();
+        it.priority = priority;
+        let (lanes, links) = (&mut self.lanes, &mut self.pool.links);
+        lanes::move_to_back(lanes, links, lane, priority.lane(), job.place());
+        true
     }
 
     /// Takes a job out that waits, wherever it stands. `None`, and nothing has changed, where no job has this reference. O(1), and it takes
     /// no memory.
     pub fn cancel(&mut self, job: &UnsafeRef<Job<V>>) -> Option<Job<V>>
-        ensures cancelled { IfSome result (λ it. Cancels job.now it self.old self.new) }
-        ensures none { IfNone result ((job_at self.old job.now ≡ None) × IsUnchanged self.old self.new) }
+        ensures cancelled { IfSome result (λ it. TakesOut lane_of_job job.now it self.old self.new) }
+        ensures none { IfNone result ((object_at self.old.values job.now ≡ None) × IsUnchanged self.old self.new) }
     {
         let lane = self.pool.get(job)?.priority.lane();
-        take_out(&mut self.lanes, &mut self.pool.links, lane, job.place());
+        let (lanes, links) = (&mut self.lanes, &mut self.pool.links);
+        lanes::remove(lanes, links, lane, job.place());
         Some(self.pool.remove(UnsafeRef::new(job.place())))
     }
 
     /// Takes the first job of the most urgent lane that has one. `None`, and nothing has changed, where no job waits. O(1), and it takes no
     /// memory.
     pub fn pop(&mut self) -> Option<Job<V>>
-        ensures taken { IfSome result (λ job. TakesFirst job self.old self.new) }
+        ensures taken { IfSome result (λ job. TakesFirst lane_of_job job self.old self.new) }
         ensures none { IfNone result (((i : ℕ) → lane self.old i ≡ []) × IsUnchanged self.old self.new) }
     {
-        let first = first_of(&self.lanes)?;
+        let first = lanes::first(&self.lanes)?;
         self.cancel(&UnsafeRef::new(first))
     }
 }
