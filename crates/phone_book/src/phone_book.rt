@@ -88,24 +88,16 @@ impl<A: Allocator> PhoneBook<A> {
     pub fn with_number(&self, number: u64) -> Option<&Entry>
         ensures { IsFoundObject number_of self.now number (option_copied result) }
     {
-        trees::get(
-            &self.by_number,
-            &self.pool.links.0,
-            &self.pool.objects,
-            number,
-        )
+        let (objects, links) = (&self.pool.objects, &self.pool.links.0);
+        trees::get(&self.by_number, links, objects, number)
     }
 
     /// An entry of this person, `None` if there is none. O(log n).
     pub fn of_person(&self, person: u64) -> Option<&Entry>
         ensures { IsFoundObject person_of self.now person (option_copied result) }
     {
-        trees::get(
-            &self.by_person,
-            &self.pool.links.1,
-            &self.pool.objects,
-            person,
-        )
+        let (objects, links) = (&self.pool.objects, &self.pool.links.1);
+        trees::get(&self.by_person, links, objects, person)
     }
 
     /// Takes the entry with this number out. If none has it, `None`, and nothing has changed. O(log n), and it takes no memory.
