@@ -7,3 +7,4 @@ mod PathLemmas
 mod SumTableLemmas
 mod OverlapLemmas
 pub mod AllOverlaps
+pub mod PooledTrees

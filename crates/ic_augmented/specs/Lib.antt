@@ -9,3 +9,4 @@ pub mod Greatest
 pub mod GreatestLaws
 pub mod Intervals
 pub mod Subtrees
+pub mod Pooled

@@ -1,0 +1,36 @@
+-- For callers: fresh summaries stay right where tables grow, and what an insert in order says of the links alone.
+use Rattle.std.specs.declared.cmp.Ordering.{Ordering}
+use Rattle.std.proofs.Common.{◌≡◌, ℕ, Option, List, sym, ◌∙◌, subst}
+use Rattle.ic_unsafe_ref.specs.declared.place.Place.{Place}
+use Rattle.ic_link_ops.specs.Tables.{Table}
+use Rattle.ic_link_ops.specs.RedBlackTree.{Node, Shows}
+use Rattle.ic_link_ops.proofs.ShownTrees.{one_sequence}
+use Rattle.ic_rbtree.specs.Ordered.{InsertsInOrder}
+use Rattle.ic_augmented.specs.declared.sum_table.SumTable.{SumTable}
+use Rattle.ic_augmented.specs.Consistent.{IsJoined, IsSameAt, IsConsistent, ShowsConsistent}
+use Rattle.ic_augmented.specs.Greatest.{greatest, greatest_of, number_at}
+use Rattle.ic_augmented.specs.GreatestLaws.{greatest_tells}
+use Rattle.ic_augmented.specs.Sums.{Sums}
+use Rattle.ic_augmented.proofs.ConsistencyLemmas.{joined_at}
+use Rattle.ic_augmented.proofs.SumTableLemmas.{same_value}
+
+module _ {E S : Type 0} (n : E → Node) where
+  -- WHERE BOTH TABLES GROW, what is right stays right
+  pub grown_consistent : (v w : Table E) (z y : Sums S) (s : List Place) → ((q : Place) → w.entry q ≡ v.entry q) → ((q : Place) → y.join q ≡ z.join q) → ((q : Place) → IsSameAt z y q)
+      → IsConsistent n v z s → IsConsistent n w y s
+  grown_consistent v w z y s entries joins same h q member but x fresh =
+      subst (λ (e : E). IsJoined y q (n e).left (n e).right x) (sym (entries q))
+      (joined_at z y q _ _ x (h q member but x (sym (same q).fresh ∙ fresh)) (joins q) (λ c k. same c) (λ c k. same c))
+
+  -- AN INSERT, of the links alone
+  pub inserts_shown : {at : Place → Ordering} {old new : Table E} {z : Sums S} {root : Option Place} {s : List Place} {p : Place} → InsertsInOrder (ShowsConsistent n z) at old new root s p
+      → InsertsInOrder (Shows n) at old new root s p
+  inserts_shown i = record { gap = i.gap; same = i.same; border = i.border; inserted = record { shows = i.inserted.shows.0; frame = i.inserted.frame } }
+
+  -- what is consistent in one sequence that is shown is so in each
+  pub consistent_in : {v : Table E} {z : Sums S} {root : Option Place} {t : List Place} (s : List Place) → ShowsConsistent n z v root t → Shows n v root s → IsConsistent n v z s
+  consistent_in {v} {z} s h shown = subst (IsConsistent n v z) (one_sequence h.0 shown) h.1
+
+-- THE NUMBERS STAY where what is joined does
+pub numbers_stay : {A : Type 0} (z y : SumTable ℕ ℕ A) → (greatest y).join ≡ (greatest z).join → (q : Place) → number_at y q ≡ number_at z q
+numbers_stay z y same q = same_value greatest_of 0 greatest_tells y.cells.items z.cells.items same q
