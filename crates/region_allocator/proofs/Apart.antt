@@ -8,7 +8,7 @@ use Rattle.ic_rbtree.proofs.SortedKeys.{is_up}
 use Rattle.region_allocator.specs.declared.region.Region.{Region}
 use Rattle.region_allocator.specs.Changes.{Adds, Changes, FitsFor}
 use Rattle.region_allocator.specs.Kept.{start_of}
-use Rattle.region_allocator.specs.Regions.{region_of, end_of, Has, IsFree, IsRegion, AreApart, StandApart, FreesRegion, AllocatesRegion}
+use Rattle.region_allocator.specs.Regions.{region_of, end_of, Has, IsFree, IsRegion, AreApart, StandApart, FreesRegion, AllocatesRegion, AreShorter, FitsAt}
 use Rattle.region_allocator.proofs.Lists.{all_two}
 use Rattle.ic_link_ops.proofs.Each.{all_both, all_map, all_front, all_back, all_without}
 
@@ -161,25 +161,49 @@ module _ {out r : Region} {old new : List Region} (changes : Changes out r old n
     | inr other ↦ subst (λ (s : List Region). IsFree s a) (sym changes.is) (free_still changes.front r changes.back a other)
   ]
 
--- ALLOCATED, the end of a region: `left` is what is left of it, `others` the other regions
-pub allocates : (rest length : ℕ) {out : Region} {old new : List Region} (front back : List Region) → rest + length ≡ out.length → old ≡ front ++ out ∷ back → StandApart (front ++ out ∷ back)
-    → ((a : ℕ) → IsFree new a → Has (region_of out.start rest) a ⊎ IsFree (front ++ back) a) → ((a : ℕ) → Has (region_of out.start rest) a → IsFree new a)
-    → ((a : ℕ) → IsFree (front ++ back) a → IsFree new a) → AllocatesRegion (region_of (out.start + rest) length) old new
-allocates rest length {out} {old} {new} front back sum was apart from own other = record {
+-- ALLOCATED, the start of a region: `rest` addresses behind it are left
+pub allocates : (length rest : ℕ) {out : Region} {old new : List Region} (front back : List Region) → length + rest ≡ out.length → old ≡ front ++ out ∷ back → StandApart (front ++ out ∷ back)
+    → ((a : ℕ) → IsFree new a → Has (region_of (out.start + length) rest) a ⊎ IsFree (front ++ back) a) → ((a : ℕ) → Has (region_of (out.start + length) rest) a → IsFree new a)
+    → ((a : ℕ) → IsFree (front ++ back) a → IsFree new a) → AllocatesRegion (region_of out.start length) old new
+allocates length rest {out} {old} {new} front back sum was apart from own other = record {
   was_free = λ a has. subst (λ (s : List Region). IsFree s a) (sym was) (free_here front out back a (within a has));
   free = λ a. (
     λ free. elim (from a free) [
-      | inl has ↦ (subst (λ (s : List Region). IsFree s a) (sym was) (free_here front out back a (omega (arith, has.0), omega (arith, has.1, sum))), λ taken. omega (arith, has.1, taken.0))
+      | inl has ↦ (subst (λ (s : List Region). IsFree s a) (sym was) (free_here front out back a (omega (arith, has.0), omega (arith, has.1, sum))), λ taken. omega (arith, has.0, taken.1))
       | inr them ↦ (subst (λ (s : List Region). IsFree s a) (sym was) (free_still front out back a them), λ taken. others_not front out back apart a (within a taken) them)
     ],
     λ both. elim (free_cut front out back a (subst (λ (s : List Region). IsFree s a) was both.0)) [
-      | inl has ↦ elim (cases_lt a (out.start + rest)) [
-        | inl low ↦ own a (has.0, low)
-        | inr high ↦ absurd (both.1 (high, omega (arith, has.1, sum)))
+      | inl has ↦ elim (cases_lt a (out.start + length)) [
+        | inl low ↦ absurd (both.1 (has.0, low))
+        | inr high ↦ own a (high, omega (arith, has.1, sum))
       ]
       | inr them ↦ other a them
     ],
   );
 } where
-  within : (a : ℕ) → Has (region_of (out.start + rest) length) a → Has out a
-  within a has = (omega (arith, has.0), omega (arith, has.1, sum))
+  within : (a : ℕ) → Has (region_of out.start length) a → Has out a
+  within a has = (has.0, omega (arith, has.1, sum))
+
+-- what is free is not in front of all
+free_from : (s : List Region) (from a : ℕ) → AllByRecursion (λ x. from ≤ x.start) s → IsFree s a → from ≤ a
+free_from [] from a above free = elim free [ ]
+free_from (x ∷ s) from a above (inl has) = omega (arith, above.0, has.0)
+free_from (x ∷ s) from a above (inr free) = free_from s from a above.1 free
+
+-- NOTHING FITS IN FRONT of the first region that is long enough: what is free from an address on is in one region
+pub lowest_fits : (length start : ℕ) (front : List Region) (whole : Region) (back : List Region) → StandApart (front ++ whole ∷ back) → AreShorter front length → 0 < length
+    → FitsAt (front ++ whole ∷ back) length start → whole.start ≤ start
+lowest_fits length start [] whole back apart short some fits =
+    free_from (whole ∷ back) whole.start start (omega arith, all_map (λ x later. omega (arith, later)) back apart.1) (fits start (omega arith, omega (arith, some)))
+lowest_fits length start (x ∷ front) whole back apart short some fits = elim (fits start (omega arith, omega (arith, some))) [
+  | inl has ↦ elim (fits (end_of x) (omega (arith, has.1), omega (arith, has.0, short.0))) [
+    | inl own ↦ absurd (omega (arith, own.1))
+    | inr later ↦ absurd (none_free (front ++ whole ∷ back) (end_of x) (all_map (λ y above here. omega (arith, above, here.0)) (front ++ whole ∷ back) apart.1) later)
+  ]
+  | inr later ↦ lowest_fits length start front whole back apart.2 short.1 some (λ a in_it. elim (fits a in_it) [
+    | inl has ↦
+        let above : end_of x + 1 ≤ start = free_from (front ++ whole ∷ back) (end_of x + 1) start (all_map (λ y high. omega (arith, high)) (front ++ whole ∷ back) apart.1) later in
+        absurd (omega (arith, has.1, in_it.0, above))
+    | inr rest ↦ rest
+  ])
+]

@@ -1,5 +1,5 @@
 -- A region that is freed joins those that it touches, and what is left of one that is cut.
-use Rattle.std.proofs.Common.{◌≡◌, ◌≢◌, ℕ, ◌+◌, ◌<◌, ◌≤◌, ◌⊎◌, inl, inr, List, ◌∷◌, ◌++◌, sym, subst, arith}
+use Rattle.std.proofs.Common.{◌≡◌, ◌≢◌, ℕ, ◌+◌, ◌<◌, ◌⊎◌, inl, inr, List, ◌∷◌, ◌++◌, sym, subst, arith}
 use Rattle.std.proofs.lemmas.Bool.{cases_lt}
 use Rattle.std.specs.List.{AllByRecursion}
 use Rattle.region_allocator.specs.declared.region.Region.{Region}
@@ -171,25 +171,26 @@ module _ {region : Region} (is : IsRegion region) where
           ]
         ]
 
--- CUT: the end of a region is taken, and `rest` addresses of it are left
-module _ {out : Region} {s new : List Region} (rest length : ℕ) (sum : rest + length ≡ out.length) (apart : StandApart s) where
-  pub cut_whole : rest ≡ 0 → Adds out new s → AllocatesRegion (region_of (out.start + rest) length) s new
-  cut_whole none less = allocates rest length less.front less.back sum less.is (subst StandApart less.is apart) (λ a free. inr (subst (λ (l : List Region). IsFree l a) less.was free))
-      (λ a has. absurd (omega (arith, has.0, has.1, none))) (λ a free. subst (λ (l : List Region). IsFree l a) (sym less.was) free)
+-- CUT: the start of a region is taken, and `rest` addresses of it are left
+module _ {out : Region} {s : List Region} (length rest : ℕ) (sum : length + rest ≡ out.length) where
+  module _ {new : List Region} (apart : StandApart s) where
+    pub cut_whole : rest ≡ 0 → Adds out new s → AllocatesRegion (region_of out.start length) s new
+    cut_whole none less = allocates length rest less.front less.back sum less.is (subst StandApart less.is apart) (λ a free. inr (subst (λ (l : List Region). IsFree l a) less.was free))
+        (λ a has. absurd (omega (arith, has.0, has.1, none))) (λ a free. subst (λ (l : List Region). IsFree l a) (sym less.was) free)
 
-  pub cut_part : Changes out (region_of out.start rest) s new → AllocatesRegion (region_of (out.start + rest) length) s new
-  cut_part changes = allocates rest length changes.front changes.back sum changes.was (subst StandApart changes.was apart)
-      (λ a free. free_cut changes.front (region_of out.start rest) changes.back a (subst (λ (l : List Region). IsFree l a) changes.is free)) (grown_own changes)
-      (λ a free. subst (λ (l : List Region). IsFree l a) (sym changes.is) (free_still changes.front (region_of out.start rest) changes.back a free))
+    pub cut_part : Changes out (region_of (out.start + length) rest) s new → AllocatesRegion (region_of out.start length) s new
+    cut_part changes = allocates length rest changes.front changes.back sum changes.was (subst StandApart changes.was apart)
+        (λ a free. free_cut changes.front (region_of (out.start + length) rest) changes.back a (subst (λ (l : List Region). IsFree l a) changes.is free)) (grown_own changes)
+        (λ a free. subst (λ (l : List Region). IsFree l a) (sym changes.is) (free_still changes.front (region_of (out.start + length) rest) changes.back a free))
 
-pub cut_fits : {out : Region} {s : List Region} (rest : ℕ) → 0 < rest → rest ≤ out.length → IsRegion out → AllByRecursion (IsOrApart out) s → FitsFor out (region_of out.start rest) s
-cut_fits {out} {s} rest some small is others = record {
-  is_region = record { some = some; fits = omega (arith, is.fits, small) };
-  low = omega (arith, is.some);
-  high = omega (arith, some);
-  apart = all_map fit s others;
-} where
-  fit : (x : Region) → IsOrApart out x → (x ≡ out) ⊎ AreApart (region_of out.start rest) x
-  fit x (inl e) = inl e
-  fit x (inr (inl e)) = inr (inl (omega (arith, e, small)))
-  fit x (inr (inr e)) = inr (inr e)
+  pub cut_fits : 0 < rest → IsRegion out → AllByRecursion (IsOrApart out) s → FitsFor out (region_of (out.start + length) rest) s
+  cut_fits some is others = record {
+    is_region = record { some = some; fits = omega (arith, is.fits, sum) };
+    low = omega (arith, some, sum);
+    high = omega (arith, some);
+    apart = all_map fit s others;
+  } where
+    fit : (x : Region) → IsOrApart out x → (x ≡ out) ⊎ AreApart (region_of (out.start + length) rest) x
+    fit x (inl e) = inl e
+    fit x (inr (inl e)) = inr (inl (omega (arith, e, sum)))
+    fit x (inr (inr e)) = inr (inr (omega (arith, e)))

@@ -1,30 +1,45 @@
 -- What an allocator keeps over each of its calls, and what that says of its regions.
-use Rattle.std.proofs.Common.{◌≡◌, ◌⊎◌, map, Option, Some, None, IsSome, List, [], ◌∷◌, ◌++◌, refl, sym, ap, ◌∙◌, subst, arith, true≢false}
+use Rattle.std.proofs.Common.{◌≡◌, ◌≢◌, ◌<◌, ℕ, ◌⊎◌, nat_lt, map, Option, Some, None, IsSome, true, List, [], ◌∷◌, ◌++◌, refl, sym, ap, ◌∙◌, subst, arith, true≢false}
+use Rattle.std.proofs.lemmas.Bool.{false_from_ne_true, lt-ltb}
 use Rattle.std.specs.List.{AllByRecursion, cons_option}
 use Rattle.std.specs.Ordering.{nat_cmp}
-use Rattle.std.proofs.lemmas.Bool.{false_from_ne_true}
 use Rattle.ic_unsafe_ref.specs.declared.place.Place.{Place}
 use Rattle.ic_unsafe_ref.specs.Objects.{Objects, Places, Frees, object_at, with_object}
-use Rattle.ic_unsafe_ref.proofs.Placing.{put_there, put_others, puts_other, places_other, leaves}
-use Rattle.ic_link_ops.specs.PlacedObjects.{ArePlaced, ShowsPlaced, values_at}
+use Rattle.ic_unsafe_ref.specs.Places.{index_of}
+use Rattle.ic_unsafe_ref.proofs.Placing.{placed_there, others_placed, gone_there, others_left, put_there, put_others, puts_other}
+use Rattle.ic_link_ops.specs.EntryLaws.{linked_in_range}
+use Rattle.ic_link_ops.specs.PlacedObjects.{ArePlaced, values_at}
 use Rattle.ic_link_ops.specs.Positions.{HasMember}
-use Rattle.ic_link_ops.specs.Tables.{IsCovered, IsUnlinked, KeepsBeside, LinksAlso, Unlinks}
-use Rattle.ic_link_ops.proofs.Covering.{still_covered}
-use Rattle.ic_link_ops.proofs.ShownTrees.{no_root, no_members}
+use Rattle.ic_link_ops.specs.Tables.{IsUnlinked, LinksAlso, Unlinks}
+use Rattle.ic_link_ops.specs.ThreeWords.{node_of}
+use Rattle.ic_link_ops.specs.Times.{times_in}
+use Rattle.ic_link_ops.proofs.CollectionLaws.{kept_shown}
 use Rattle.ic_link_ops.proofs.Each.{all_map}
-use Rattle.ic_link_ops.proofs.PlacedValues.{from_each}
+use Rattle.ic_link_ops.proofs.LinkedSets.{everywhere}
+use Rattle.ic_link_ops.proofs.ShownTrees.{no_root, no_members}
+use Rattle.ic_pool.specs.Pooled.{Grows}
 use Rattle.ic_rbtree.specs.Borders.{IsSorted}
+use Rattle.ic_rbtree.specs.Closed.{IsNode}
 use Rattle.ic_rbtree.specs.Comparing.{compared, own_order}
+use Rattle.ic_rbtree.specs.EachObject.{HasEach}
 use Rattle.ic_rbtree.specs.Ordered.{InsertsInOrder}
-use Rattle.ic_rbtree.specs.PlainTrees.{TreeLinkOps, ShowsTree, PlainShows, is_linked, plain_table}
-use Rattle.ic_rbtree.proofs.PlainTrees.{plain_covered, plain_members}
+use Rattle.ic_rbtree.specs.PlainTrees.{TreeLinkOps, PlainShows, is_linked, plain_table}
+use Rattle.ic_rbtree.proofs.EachObject.{each_none, each_covered, each_new, each_member, each_value, at_each, each_taken, each_changed}
+use Rattle.ic_rbtree.proofs.PlainTrees.{plain_covered, plain_members, plain_trees}
 use Rattle.ic_rbtree.proofs.SortedKeys.{front_is_least}
-use Rattle.ic_rbtree.proofs.EachObject.{each_none, each_covered, each_ready, each_new, each_linked, each_member, each_value, at_each, each_taken, each_changed}
+use Rattle.ic_augmented.specs.Consistent.{IsConsistent, ShowsConsistent}
+use Rattle.ic_augmented.specs.Greatest.{greatest, greatest_of, number_at}
+use Rattle.ic_augmented.specs.Pooled.{GrowsSummed}
+use Rattle.ic_augmented.specs.SumTables.{blank, room_of}
+use Rattle.ic_augmented.specs.declared.sum_table.Cell.{Cell}
+use Rattle.ic_augmented.specs.declared.sum_table.SumTable.{SumTable}
+use Rattle.ic_augmented.specs.declared.summed.Summed.{Summed}
+use Rattle.ic_augmented.proofs.PooledTrees.{grown_consistent, inserts_shown, consistent_in, numbers_stay}
 use Rattle.region_allocator.specs.declared.region.Region.{Region}
 use Rattle.region_allocator.specs.Changes.{Adds, Changes, FitsFor}
-use Rattle.region_allocator.specs.Kept.{start_of, length_of, Keeps, shown_regions}
+use Rattle.region_allocator.specs.Kept.{start_of, Keeps, shown_regions}
 use Rattle.region_allocator.specs.Regions.{IsRegion, AreApart, StandApart}
-use Rattle.region_allocator.proofs.Apart.{added_apart, changed_apart, apart_without, apart_from, starts_rise}
+use Rattle.region_allocator.proofs.Apart.{all_regions, added_apart, changed_apart, apart_without, apart_from, starts_rise}
 use Rattle.region_allocator.proofs.Lists.{told_lt}
 
 -- a table with no place links nothing
@@ -46,19 +61,35 @@ nobody objects (p ∷ s) placed empty =
 pub adds_to : {r : Region} {old was new : List Region} → old ≡ was → Adds r old new → Adds r was new
 adds_to same adds = record { front = adds.front; back = adds.back; was = sym same ∙ adds.was; is = adds.is }
 
+-- a place whose length is not 0 has room for one
+in_room : {B : Type 0} (z : SumTable ℕ ℕ B) (p : Place) (n : ℕ) → number_at z p ≡ n → 0 < n → index_of p < room_of z
+in_room z p n told some = linked_in_range (λ (c : Cell ℕ ℕ). nat_lt 0 c.value) (blank 0) refl z.cells.items (index_of p) (lt-ltb 0 (number_at z p) (omega (arith, told, some)))
+
+-- beside each link stands the length of its region
+abbrev IsBeside : {B : Type 0} → Objects Region → SumTable ℕ ℕ B → Place → Type 0
+IsBeside objects z q = (r : Region) → object_at objects q ≡ Some r → number_at z q ≡ r.length
+
+-- of the region that was put at p, too
+beside_put : {B : Type 0} (new : Objects Region) (z : SumTable ℕ ℕ B) {r : Region} (p : Place) → object_at new p ≡ Some r → number_at z p ≡ r.length → ((q : Place) → q ≢ p → IsBeside new z q)
+    → (q : Place) → IsBeside new z q
+beside_put new z {r} p is told others q = everywhere (IsBeside new z) p q
+    (λ t there. let e : Some r ≡ Some t = sym is ∙ there in let same : r ≡ t = cc in told ∙ ap (λ (x : Region). x.length) same) (others q)
+
 module _ {A B : Type 0} where
   -- AT FIRST
-  pub kept_none : (objects : Objects Region) (w : TreeLinkOps A) (root : Option Place) (v : TreeLinkOps B) (top : Option Place) → ((p : Place) → object_at objects p ≡ None)
-      → (plain_table w).extent.places ≡ 0 → (plain_table v).extent.places ≡ 0 → root ≡ None → top ≡ None → Keeps objects w root v top
-  kept_none objects w root v top vacant no_starts no_lengths none nothing = record {
+  pub kept_none : (objects : Objects Region) (w : TreeLinkOps A) (root : Option Place) (z : SumTable ℕ ℕ B) → ((p : Place) → object_at objects p ≡ None)
+      → (plain_table w).extent.places ≡ 0 → root ≡ None → Keeps objects w root z
+  kept_none objects w root z vacant no_starts none = record {
     starts = [];
-    lengths = [];
     by_start = each_none (no_links w no_starts) none vacant;
-    by_length = each_none (no_links v no_lengths) nothing vacant;
+    beside = λ p r there. let never : None ≡ Some r = sym (vacant p) ∙ there in absurd (cc);
+    consistent = λ s shown q member but x fresh.
+        let nothing : times_in q s ≡ 0 = ap (times_in q) (no_root (subst (λ (top : Option Place). PlainShows w top s) none shown)) in
+        absurd (omega (arith, member, nothing));
     apart = tt;
   }
 
-  module _ {objects : Objects Region} {w : TreeLinkOps A} {root : Option Place} {v : TreeLinkOps B} {top : Option Place} (k : Keeps objects w root v top) where
+  module _ {objects : Objects Region} {w : TreeLinkOps A} {root : Option Place} {z : SumTable ℕ ℕ B} (k : Keeps objects w root z) where
     -- the regions are those that are kept
     pub regions_are : shown_regions objects w root ≡ k.starts
     regions_are = ap (values_at objects) (plain_members w k.by_start.sorted.shown) ∙ k.by_start.sorted.stand.are
@@ -75,16 +106,20 @@ module _ {A B : Type 0} where
     pub has_root : shown_regions objects w root ≡ [] → root ≡ None
     has_root empty = no_members (subst (PlainShows w root) (nobody objects k.by_start.sorted.members k.by_start.sorted.stand.placed (k.by_start.sorted.stand.are ∙ sym regions_are ∙ empty)) k.by_start.sorted.shown)
 
+    -- each greatest length of its members is right or stale
+    pub members_consistent : ShowsConsistent node_of (greatest z) (plain_table w) root k.by_start.sorted.members
+    members_consistent = (k.by_start.sorted.shown, k.consistent k.by_start.sorted.members k.by_start.sorted.shown)
+
     module _ (p : Place) {out : Region} (there : object_at objects p ≡ Some out) where
       pub start_member : HasMember (PlainShows w root) p
       start_member = let m = each_member k.by_start p there in record { front = m.0; back = m.1; shown = subst (PlainShows w root) m.2 k.by_start.sorted.shown }
 
-      pub length_member : HasMember (PlainShows v top) p
-      length_member = let m = each_member k.by_length p there in record { front = m.0; back = m.1; shown = subst (PlainShows v top) m.2 k.by_length.sorted.shown }
-
       -- what holds of each region holds of the one there
       pub at_region : (P : Region → Type 0) → AllByRecursion P (shown_regions objects w root) → P out
       at_region P all = at_each k.by_start p there P (subst (AllByRecursion P) regions_are all)
+
+      pub is_region : IsRegion out
+      is_region = at_region IsRegion (all_regions (shown_regions objects w root) shown_apart)
 
       -- it is one of the regions, and each other one is apart from it
       pub at_cut : (front : List Region) × (back : List Region) × (shown_regions objects w root ≡ front ++ out ∷ back)
@@ -94,91 +129,117 @@ module _ {A B : Type 0} where
       others_apart = let m = at_cut in
           subst (AllByRecursion (λ x. (x ≡ out) ⊎ AreApart out x)) (sym m.2) (apart_from m.0 out m.1 (subst StandApart m.2 shown_apart))
 
-    -- what holds of each by length holds of each
-    pub by_lengths : (P : Region → Type 0) → AllByRecursion P k.lengths → AllByRecursion P (shown_regions objects w root)
-    by_lengths P all = subst (AllByRecursion P) (sym regions_are) (subst (AllByRecursion P) k.by_start.sorted.stand.are (from_each P objects (λ p r there. at_each k.by_length p there P all) k.by_start.sorted.members))
+      -- there is room for its length
+      pub has_room : index_of p < room_of z
+      has_room = in_room z p out.length (k.beside p out there) is_region.some
 
-    -- AFTER `cover` of both tables
-    module _ (w' : TreeLinkOps A) (v' : TreeLinkOps B) (stays : (q : Place) → (plain_table w').entry q ≡ (plain_table w).entry q) (stay : (q : Place) → (plain_table v').entry q ≡ (plain_table v).entry q) where
-      pub kept_covered : Keeps objects w' root v' top
-      kept_covered = record { starts = k.starts; lengths = k.lengths; by_start = each_covered k.by_start w' stays; by_length = each_covered k.by_length v' stay; apart = k.apart }
+    pub rooms : (q : Place) → IsNode node_of (plain_table w) q → index_of q < room_of z
+    rooms q linked = let r = region_there (object_at objects q) (sym (k.by_start.exact q) ∙ linked) in has_room q r.1
 
-  module _ {objects : Objects Region} {w : TreeLinkOps A} {root : Option Place} {v : TreeLinkOps B} {top : Option Place} (k : Keeps objects w root v top) where
-    pub same_covered : (w' : TreeLinkOps A) (v' : TreeLinkOps B) (stays : (q : Place) → (plain_table w').entry q ≡ (plain_table w).entry q) (stay : (q : Place) → (plain_table v').entry q ≡ (plain_table v).entry q)
-        → shown_regions objects w' root ≡ shown_regions objects w root
-    unfolding kept_covered
-    same_covered w' v' stays stay = regions_are (kept_covered k w' v' stays stay) ∙ sym (regions_are k)
+    -- AFTER `place`, whatever it answered: both tables may have grown, and the regions stay
+    pub same_grown : (w' : TreeLinkOps A) → ((q : Place) → (plain_table w').entry q ≡ (plain_table w).entry q) → shown_regions objects w' root ≡ shown_regions objects w root
+    same_grown w' stays = ap (values_at objects) (plain_members w' (kept_shown plain_trees stays k.by_start.sorted.shown) ∙ sym (plain_members w k.by_start.sorted.shown))
 
-    -- ONE REGION MORE, in both trees
-    pub put_in : {more : Objects Region} {p p' : Place} {r : Region} (w' : TreeLinkOps A) (root' : Option Place) (v' : TreeLinkOps B) (top' : Option Place) → Places objects more p r → p' ≡ p
-        → ((s : List Place) → PlainShows w root s → InsertsInOrder ShowsTree (compared (own_order nat_cmp start_of more p) more) (plain_table w) (plain_table w') root' s p)
-        → LinksAlso is_linked (plain_table w) (plain_table w') p
-        → ((s : List Place) → PlainShows v top s → InsertsInOrder ShowsTree (compared (own_order nat_cmp length_of more p') more) (plain_table v) (plain_table v') top' s p')
-        → LinksAlso is_linked (plain_table v) (plain_table v') p' → IsRegion r → AllByRecursion (AreApart r) (shown_regions objects w root)
-        → Keeps more w' root' v' top' × Adds r (shown_regions objects w root) (shown_regions more w' root')
-    put_in {more} {p} {p'} {r} w' root' v' top' places same put also place linked is apart =
-        let a = each_new k.by_start {v = w'} {top = root'} places put also in
-        let b = each_new k.by_length {v = v'} {top = top'} (subst (λ (q : Place). Places objects more q r) (sym same) places) place linked in
+    pub kept_grown : (w' : TreeLinkOps A) (z' : SumTable ℕ ℕ B) → GrowsSummed greatest_of 0 (λ (a b : TreeLinkOps A). Grows (plain_table a) (plain_table b)) (record { links = w; sums = z }) (record { links = w'; sums = z' })
+        → Keeps objects w' root z'
+    kept_grown w' z' grows = record {
+      starts = k.starts;
+      by_start = each_covered k.by_start w' grows.links.entries;
+      beside = λ p r there. grows.values p ∙ k.beside p r there;
+      consistent = λ s shown. grown_consistent node_of (plain_table w) (plain_table w') (greatest z) (greatest z') s grows.links.entries
+          (λ q. ap (λ (n : ℕ). λ (a b : Option ℕ). greatest_of n a b) (grows.values q)) grows.same (k.consistent s (kept_shown plain_trees (λ q. sym (grows.links.entries q)) shown));
+      apart = k.apart;
+    }
+
+    -- where the links stay
+    module _ (w' : TreeLinkOps A) (same : w' ≡ w) where
+      each_still : HasEach start_of w' root objects k.starts
+      each_still = subst (λ (v : TreeLinkOps A). HasEach start_of v root objects k.starts) (sym same) k.by_start
+
+      shown_still : (s : List Place) → PlainShows w' root s → PlainShows w root s
+      shown_still s shown = subst (λ (v : TreeLinkOps A). PlainShows v root s) same shown
+
+      pub same_regions : shown_regions objects w' root ≡ shown_regions objects w root
+      same_regions = ap (λ (v : TreeLinkOps A). shown_regions objects v root) same
+
+      -- AFTER `set_value` at a place where no object stands in the tree yet
+      pub kept_set : (z' : SumTable ℕ ℕ B) (p : Place) → object_at objects p ≡ None → ((q : Place) → q ≢ p → number_at z' q ≡ number_at z q)
+          → ((s : List Place) → IsConsistent node_of (plain_table w) (greatest z) s → IsConsistent node_of (plain_table w') (greatest z') s) → Keeps objects w' root z'
+      kept_set z' p vacant others still = record {
+        starts = k.starts;
+        by_start = each_still;
+        beside = λ q r there. others q (λ e. let never : None ≡ Some r = sym vacant ∙ ap (object_at objects) (sym e) ∙ there in absurd (cc)) ∙ k.beside q r there;
+        consistent = λ s shown. still s (k.consistent s (shown_still s shown));
+        apart = k.apart;
+      }
+
+      -- AFTER `refresh`
+      pub kept_fresh : (z' : SumTable ℕ ℕ B) → (greatest z').join ≡ (greatest z).join
+          → ((s : List Place) → ShowsConsistent node_of (greatest z) (plain_table w) root s → ShowsConsistent node_of (greatest z') (plain_table w') root s) → Keeps objects w' root z'
+      kept_fresh z' joins still = record {
+        starts = k.starts;
+        by_start = each_still;
+        beside = λ q r there. numbers_stay z z' joins q ∙ k.beside q r there;
+        consistent = λ s shown. let before = shown_still s shown in (still s (before, k.consistent s before)).1;
+        apart = k.apart;
+      }
+
+    -- ONE REGION MORE, whose length stands beside its place already
+    pub put_in : {more : Objects Region} {p : Place} {r : Region} (w' : TreeLinkOps A) (root' : Option Place) (z' : SumTable ℕ ℕ B) → Places objects more p r → number_at z p ≡ r.length
+        → (greatest z').join ≡ (greatest z).join
+        → ((s : List Place) → ShowsConsistent node_of (greatest z) (plain_table w) root s
+        → InsertsInOrder (ShowsConsistent node_of (greatest z')) (compared (own_order nat_cmp start_of more p) more) (plain_table w) (plain_table w') root' s p)
+        → LinksAlso is_linked (plain_table w) (plain_table w') p → IsRegion r → AllByRecursion (AreApart r) (shown_regions objects w root)
+        → Keeps more w' root' z' × Adds r (shown_regions objects w root) (shown_regions more w' root')
+    put_in {more} {p} {r} w' root' z' places told same put also is apart =
+        let a = each_new k.by_start {v = w'} {top = root'} places (λ s shown. inserts_shown node_of (put s (shown, k.consistent s shown))) also in
         let was : k.starts ≡ a.1.front ++ a.1.back = a.1.was in (
           record {
             starts = a.0;
-            lengths = b.0;
             by_start = a.2;
-            by_length = b.2;
-            apart = subst StandApart (sym a.1.is) (added_apart a.1.front a.1.back r is (subst StandApart was k.apart) (subst (AllByRecursion (AreApart r)) ((regions_are k) ∙ was) apart)
+            beside = beside_put more z' p (placed_there places) (numbers_stay z z' same p ∙ told) (λ q n t there. numbers_stay z z' same q ∙ k.beside q t (sym (others_placed places q n) ∙ there));
+            consistent = λ s shown. consistent_in node_of s (put k.by_start.sorted.members members_consistent).inserted.shows shown;
+            apart = subst StandApart (sym a.1.is) (added_apart a.1.front a.1.back r is (subst StandApart was k.apart) (subst (AllByRecursion (AreApart r)) (regions_are ∙ was) apart)
                 (front_is_least start_of a.1.front r a.1.back (subst (λ (l : List Region). IsSorted nat_cmp (map start_of l)) a.1.is a.1.sorted)) (all_map (λ x less. told_lt r.start x.start _ refl less) a.1.back a.1.greater));
           },
-          record { front = a.1.front; back = a.1.back; was = (regions_are k) ∙ was; is = ap (values_at more) (plain_members w' a.2.sorted.shown) ∙ a.2.sorted.stand.are ∙ a.1.is },
+          record { front = a.1.front; back = a.1.back; was = regions_are ∙ was; is = ap (values_at more) (plain_members w' a.2.sorted.shown) ∙ a.2.sorted.stand.are ∙ a.1.is },
         )
 
     module _ (p : Place) {out : Region} (there : object_at objects p ≡ Some out) where
-      -- ONE REGION LESS, off both trees
-      pub take_out : {new : Objects Region} (w' : TreeLinkOps A) (root' : Option Place) (v' : TreeLinkOps B) (top' : Option Place)
-          → ((front back : List Place) → PlainShows w root (front ++ p ∷ back) → PlainShows w' root' (front ++ back)) → Unlinks is_linked (plain_table w) (plain_table w') p
-          → ((front back : List Place) → PlainShows v top (front ++ p ∷ back) → PlainShows v' top' (front ++ back)) → Unlinks is_linked (plain_table v) (plain_table v') p → Frees objects new p
-          → Keeps new w' root' v' top' × Adds out (shown_regions new w' root') (shown_regions objects w root)
-      take_out {new} w' root' v' top' removed off taken gone frees =
-          let a = each_taken k.by_start p there {v = w'} {top = root'} removed off frees in
-          let b = each_taken k.by_length p there {v = v'} {top = top'} taken gone frees in (
+      -- ONE REGION LESS, off the tree
+      pub take_out : {new : Objects Region} (w' : TreeLinkOps A) (root' : Option Place) (z' : SumTable ℕ ℕ B) → (greatest z').join ≡ (greatest z).join
+          → ((front back : List Place) → ShowsConsistent node_of (greatest z) (plain_table w) root (front ++ p ∷ back) → ShowsConsistent node_of (greatest z') (plain_table w') root' (front ++ back))
+          → Unlinks is_linked (plain_table w) (plain_table w') p → Frees objects new p
+          → Keeps new w' root' z' × Adds out (shown_regions new w' root') (shown_regions objects w root)
+      take_out {new} w' root' z' same removed off frees =
+          let m = each_member k.by_start p there in
+          let a = each_taken k.by_start p there {v = w'} {top = root'} (λ front back shown. (removed front back (shown, k.consistent (front ++ p ∷ back) shown)).0) off frees in (
             record {
               starts = a.0 ++ a.1;
-              lengths = b.0 ++ b.1;
               by_start = a.3;
-              by_length = b.3;
+              beside = λ q t at. numbers_stay z z' same q ∙ k.beside q t (sym (others_left frees q (λ e. let never : None ≡ Some t = sym (gone_there frees) ∙ ap (object_at new) (sym e) ∙ at in absurd (cc))) ∙ at);
+              consistent = λ s shown. consistent_in node_of s (removed m.0 m.1 (subst (ShowsConsistent node_of (greatest z) (plain_table w) root) m.2 members_consistent)) shown;
               apart = apart_without a.0 out a.1 (subst StandApart a.2 k.apart);
             },
-            record { front = a.0; back = a.1; was = ap (values_at new) (plain_members w' a.3.sorted.shown) ∙ a.3.sorted.stand.are; is = (regions_are k) ∙ a.2 },
+            record { front = a.0; back = a.1; was = ap (values_at new) (plain_members w' a.3.sorted.shown) ∙ a.3.sorted.stand.are; is = regions_are ∙ a.2 },
           )
 
-      -- ANOTHER REGION in its place: it stays where it is by its start, and goes elsewhere by its length
-      pub resize : {r : Region} (v' : TreeLinkOps B) (top' : Option Place) (v'' : TreeLinkOps B) (top'' : Option Place)
-          → ((front back : List Place) → PlainShows v top (front ++ p ∷ back) → PlainShows v' top' (front ++ back)) → Unlinks is_linked (plain_table v) (plain_table v') p
-          → ((s : List Place) → PlainShows v' top' s
-          → InsertsInOrder ShowsTree (compared (own_order nat_cmp length_of (with_object objects p r) p) (with_object objects p r)) (plain_table v') (plain_table v'') top'' s p)
-          → LinksAlso is_linked (plain_table v') (plain_table v'') p → FitsFor out r (shown_regions objects w root)
-          → Keeps (with_object objects p r) w root v'' top'' × Changes out r (shown_regions objects w root) (shown_regions (with_object objects p r) w root)
-      resize {r} v' top' v'' top'' removed off put also fits =
-          let a = each_changed k.by_start p there (put_there (puts_other objects p r)) (put_others (puts_other objects p r)) in
-          let b = each_taken k.by_length p there {v = v'} {top = top'} removed off (leaves objects p r) in
-          let d = each_new b.3 {v = v''} {top = top''} (places_other objects p r) put also in
-          let same = (regions_are k) ∙ a.2 in
+      -- ANOTHER REGION in its place, and its length beside that: it stays where it is by its start
+      pub resize : {r : Region} (w' : TreeLinkOps A) → w' ≡ w → (z' : SumTable ℕ ℕ B) → number_at z' p ≡ r.length → ((q : Place) → q ≢ p → number_at z' q ≡ number_at z q)
+          → ((s : List Place) → IsConsistent node_of (plain_table w) (greatest z) s → IsConsistent node_of (plain_table w') (greatest z') s) → FitsFor out r (shown_regions objects w root)
+          → Keeps (with_object objects p r) w' root z' × Changes out r (shown_regions objects w root) (shown_regions (with_object objects p r) w' root)
+      resize {r} w' links z' told others still fits =
+          let puts = puts_other objects p r in
+          let a = each_changed (each_still w' links) p there (put_there puts) (put_others puts) in
+          let same = regions_are ∙ a.2 in
           let apart = changed_apart a.0 out a.1 (subst StandApart a.2 k.apart) (subst (FitsFor out r) same fits) in
           let each = a.3 (starts_rise (a.0 ++ r ∷ a.1) apart) in (
             record {
               starts = a.0 ++ r ∷ a.1;
-              lengths = d.0;
               by_start = each;
-              by_length = d.2;
+              beside = beside_put (with_object objects p r) z' p (put_there puts) told (λ q n t at. others q n ∙ k.beside q t (sym (put_others puts q n) ∙ at));
+              consistent = λ s shown. still s (k.consistent s (shown_still w' links s shown));
               apart = apart;
             },
-            record { front = a.0; back = a.1; was = same; is = ap (values_at (with_object objects p r)) (plain_members w each.sorted.shown) ∙ each.sorted.stand.are },
+            record { front = a.0; back = a.1; was = same; is = ap (values_at (with_object objects p r)) (plain_members w' each.sorted.shown) ∙ each.sorted.stand.are },
           )
-
-      -- off the tree by length, it can be put into it again
-      module _ (r : Region) (v' : TreeLinkOps B) (top' : Option Place) (removed : (front back : List Place) → PlainShows v top (front ++ p ∷ back) → PlainShows v' top' (front ++ back))
-          (off : Unlinks is_linked (plain_table v) (plain_table v') p) where
-        pub resize_ready : ShowsPlaced (PlainShows v' top') (with_object objects p r)
-        resize_ready = each_ready (each_taken k.by_length p there {v = v'} {top = top'} removed off (leaves objects p r)).3 (places_other objects p r)
-
-      pub resize_covered : (v' : TreeLinkOps B) → ((s : List Place) → PlainShows v top s → KeepsBeside (plain_table v) (plain_table v') s) → IsCovered (plain_table v') p
-      resize_covered v' frame = still_covered p (frame k.by_length.sorted.members k.by_length.sorted.shown) (plain_covered v p (each_linked k.by_length p there))

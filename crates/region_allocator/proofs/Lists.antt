@@ -3,7 +3,7 @@ use Rattle.std.proofs.Common.{◌≡◌, ℕ, ◌≤◌, ◌<◌, true, false, L
 use Rattle.std.specs.List.{AllByRecursion}
 use Rattle.std.specs.Ordering.{nat_cmp}
 use Rattle.std.proofs.lemmas.Cmp.{ranked}
-use Rattle.std.specs.Ordering.{is_le, is_ge, is_lt}
+use Rattle.std.specs.Ordering.{is_ge, is_lt}
 use Rattle.std.specs.declared.cmp.Ordering.{Ordering}
 use Rattle.std.specs.declared.cmp.Ordering.TheVariants.{Less, Equal, Greater}
 
@@ -23,16 +23,6 @@ module _ {X : Type 0} where
   all_four f (x ∷ s) p q r t = (f x p.0 q.0 r.0 t.0, all_four f s p.1 q.1 r.1 t.1)
 
 -- what an order tells of numbers
-pub told_le : (k l : ℕ) (r : Ordering) → r ≡ nat_cmp k l → is_le r ≡ true → k ≤ l
-told_le k l Less e h = let x : k < l = ranked k l Less e in omega arith
-told_le k l Equal e h = let x : k ≡ l = ranked k l Equal e in omega arith
-told_le k l Greater e h = absurd (true≢false (sym h))
-
-pub told_gt : (k l : ℕ) (r : Ordering) → r ≡ nat_cmp k l → is_le r ≡ false → l < k
-told_gt k l Less e h = absurd (true≢false h)
-told_gt k l Equal e h = absurd (true≢false h)
-told_gt k l Greater e h = ranked k l Greater e
-
 pub told_lt : (k l : ℕ) (r : Ordering) → r ≡ nat_cmp k l → is_lt r ≡ true → k < l
 told_lt k l Less e h = ranked k l Less e
 told_lt k l Equal e h = absurd (true≢false (sym h))

@@ -1,29 +1,47 @@
--- What descents find: the shortest region that is long enough, and the neighbors of an address.
-use Rattle.std.proofs.Common.{◌≡◌, ℕ, ◌<◌, ◌≤◌, Bool, true, false, Option, Some, None, IsSome, List, [], ◌∷◌, ◌++◌, map, refl, sym, ap, ◌∙◌, subst, arith}
-use Rattle.std.proofs.lemmas.Bool.{not-true, not-false}
-use Rattle.std.proofs.lemmas.Cmp.{nat_cmp_total}
+-- What searches find: the first region that is long enough, and the neighbors of an address.
+use Rattle.std.proofs.Common.{◌≡◌, ℕ, ◌<◌, ◌≤◌, ◌-◌, Bool, true, false, cond, Option, Some, None, IsSome, List, [], ◌∷◌, ◌++◌, refl, sym, ap, ◌∙◌, subst, arith}
+use Rattle.std.proofs.lemmas.Bool.{not-true, not-false, ltb-true, ltb-false}
 use Rattle.std.proofs.lemmas.List.Elements.{filter_map-append}
-use Rattle.std.specs.List.{AllByRecursion, cons_option}
-use Rattle.std.specs.Ordering.{nat_cmp, is_le, is_ge}
+use Rattle.std.specs.List.{AllByRecursion, cons_option, filter}
+use Rattle.std.specs.Ordering.{nat_cmp, is_ge}
 use Rattle.ic_unsafe_ref.specs.declared.place.Place.{Place}
 use Rattle.ic_unsafe_ref.specs.Objects.{Objects, object_at}
 use Rattle.ic_link_ops.specs.PlacedObjects.{ArePlaced, values_at}
 use Rattle.ic_link_ops.specs.Sequences.{Cut, join, first, last, but_last}
 use Rattle.ic_link_ops.proofs.SequenceLemmas.{nothing_last, split_last}
+use Rattle.ic_link_ops.proofs.ShownTrees.{one_sequence}
 use Rattle.ic_link_ops.proofs.Each.{all_both, all_map, all_front, all_back}
 use Rattle.ic_rbtree.specs.declared.keys.key_adapter.Bound.TheVariants.{Included}
-use Rattle.ic_rbtree.specs.Borders.{IsBorder, IsLowerBorder, IsSorted, at_most_at}
+use Rattle.ic_rbtree.specs.Borders.{IsBorder}
 use Rattle.ic_rbtree.specs.Comparing.{answer_at, compared, order_of, is_beyond}
-use Rattle.ic_rbtree.specs.PlainTrees.{TreeLinkOps}
-use Rattle.ic_rbtree.proofs.KeyLaws.{cuts_at_most, one_border, sorted_for}
-use Rattle.ic_rbtree.proofs.SortedKeys.{first_is_least, sorted_back}
+use Rattle.ic_rbtree.specs.PlainTrees.{TreeLinkOps, PlainShows}
+use Rattle.ic_rbtree.proofs.EachObject.{each_value}
+use Rattle.ic_augmented.specs.Greatest.{number_at, is_greater}
+use Rattle.ic_augmented.specs.declared.sum_table.SumTable.{SumTable}
 use Rattle.region_allocator.specs.declared.region.Region.{Region}
-use Rattle.region_allocator.specs.Kept.{start_of, length_of, Keeps, shown_regions}
-use Rattle.region_allocator.specs.Neighbors.{found_at, found_with, IsFound, IsShortest, IsLast, IsFirst, AreNeighbors}
-use Rattle.region_allocator.specs.Regions.{IsRegion, StandApart}
-use Rattle.region_allocator.proofs.Apart.{all_regions, apart_front, apart_back, below_cut}
-use Rattle.region_allocator.proofs.Keeping.{region_there, regions_are, shown_apart, at_region, by_lengths}
-use Rattle.region_allocator.proofs.Lists.{told_le, told_gt, told_ge, told_less}
+use Rattle.region_allocator.specs.Kept.{start_of, Keeps, shown_regions}
+use Rattle.region_allocator.specs.Neighbors.{found_at, found_with, IsFound, FitsFirst, IsLast, IsFirst, AreNeighbors}
+use Rattle.region_allocator.specs.Regions.{StandApart, AreShorter, FitsAt}
+use Rattle.region_allocator.proofs.Apart.{apart_front, apart_back, below_cut, lowest_fits}
+use Rattle.region_allocator.proofs.Keeping.{region_there, regions_are, shown_apart, is_region}
+use Rattle.region_allocator.proofs.Lists.{told_ge, told_less}
+
+-- WHERE THE FIRST that passes a test cuts a list; none passes where there is none
+module _ (test : Place → Bool) where
+  abbrev pub IsCutAt : List Place → Option Place → Type 0
+  IsCutAt s None = AllByRecursion (λ q. test q ≡ false) s
+  IsCutAt s (Some p) = (front : List Place) × (back : List Place) × (s ≡ front ++ p ∷ back) × AllByRecursion (λ q. test q ≡ false) front × (test p ≡ true)
+
+  cut_later : (x : Place) (s : List Place) (o : Option Place) → test x ≡ false → IsCutAt s o → IsCutAt (x ∷ s) o
+  cut_later x s None fails all = (fails, all)
+  cut_later x s (Some p) fails c = (x ∷ c.0, c.1, ap (λ (l : List Place). x ∷ l) c.2, (fails, c.3), c.4)
+
+  pub cut_first : (s : List Place) → IsCutAt s (first (filter test s))
+  cut_first [] = tt
+  cut_first (x ∷ s) = by (test x) refl (cut_first s) where
+    by : (b : Bool) → test x ≡ b → IsCutAt s (first (filter test s)) → IsCutAt (x ∷ s) (first (cond b (x ∷ filter test s) (filter test s)))
+    by true passes c = ([], s, refl, tt, passes)
+    by false fails c = cut_later x s (first (filter test s)) fails c
 
 -- what holds of places holds of the values there
 values_all : (P : Region → Type 0) (Q : Place → Type 0) (objects : Objects Region) → ((p : Place) (r : Region) → object_at objects p ≡ Some r → Q p → P r) → (s : List Place) → AllByRecursion Q s → AllByRecursion P (values_at objects s)
@@ -33,52 +51,48 @@ values_all P Q objects each (p ∷ s) all = by (object_at objects p) refl (value
   by None e rest = rest
   by (Some r) e rest = (each p r e all.0, rest)
 
-module _ {A B : Type 0} {objects : Objects Region} {w : TreeLinkOps A} {root : Option Place} {v : TreeLinkOps B} {top : Option Place} (k : Keeps objects w root v top) where
+module _ {A B : Type 0} {objects : Objects Region} {w : TreeLinkOps A} {root : Option Place} {z : SumTable ℕ ℕ B} (k : Keeps objects w root z) where
   -- what stands at a place is found there
   found_is : (p : Place) {r : Region} → object_at objects p ≡ Some r → IsFound objects (record { object = p; region = r })
-  found_is p there = record { there = there; is_region = at_region k p there IsRegion (all_regions (shown_regions objects w root) (shown_apart k)) }
+  found_is p there = record { there = there; is_region = is_region k p there }
 
-  -- THE SHORTEST that is long enough
-  module _ (n : ℕ) where
+  -- THE FIRST that is long enough: `b` is the bound that its length exceeds
+  module _ (n b : ℕ) (bound : b ≡ n - 1) where
     abbrev test : Place → Bool
-    test p = at_most_at (compared (order_of nat_cmp length_of n) objects) p
+    test = is_greater (number_at z) b
 
-    pub shortest_found : (o : Option Place) → IsLowerBorder (Included (compared (order_of nat_cmp length_of n) objects)) k.by_length.sorted.members o
-        → IsShortest objects (shown_regions objects w root) n (found_at objects o)
-    shortest_found o border =
-        let has = k.by_length.sorted in
-        let sorted = sorted_for nat_cmp_total length_of objects n has.members has.stand.placed (subst (λ (l : List Region). IsSorted nat_cmp (map length_of l)) (sym has.stand.are) has.sorted) in
-        let c = cuts_at_most sorted in
-        let r = one_border (at_most_at (compared (order_of nat_cmp length_of n) objects)) c.front c.back border.gap.front border.gap.back (c.same ∙ sym border.same) c.fail c.pass border.border.fails border.border.passes in
-        by border.gap.front border.gap.back border.same border.before (subst (AllByRecursion (λ p. test p ≡ false)) (sym r.0) c.fail) (subst (AllByRecursion (λ p. test p ≡ true)) (sym r.1) c.pass)
+    shorter : (s : List Place) → AllByRecursion (λ q. test q ≡ false) s → AreShorter (values_at objects s) n
+    shorter = values_all (λ r. r.length < n) (λ q. test q ≡ false) objects
+        (λ q r there fails. omega (arith, ltb-false b (number_at z q) fails, k.beside q r there, (is_region k q there).some, bound))
+
+    pub first_found : {o : Option Place} {s : List Place} → PlainShows w root s → o ≡ first (filter test s) → FitsFirst objects (shown_regions objects w root) n (found_at objects o)
+    first_found {o} {s} shown e =
+        let is = e ∙ ap (λ (l : List Place). first (filter test l)) (one_sequence shown k.by_start.sorted.shown) in
+        by o (subst (IsCutAt test k.by_start.sorted.members) (sym is) (cut_first test k.by_start.sorted.members))
       where
-        shorter : (front : List Place) → AllByRecursion (λ p. test p ≡ false) front → AllByRecursion (λ (x : Region). x.length < n) (values_at objects front)
-        shorter = values_all (λ x. x.length < n) (λ p. test p ≡ false) objects
-            (λ p x there fails. told_gt n x.length _ refl (sym (ap (λ (o : Option Region). is_le (answer_at (order_of nat_cmp length_of n) o)) there) ∙ fails))
-
-        long : (p : Place) {x : Region} → object_at objects p ≡ Some x → test p ≡ true → n ≤ x.length
-        long p {x} there passes = told_le n x.length _ refl (sym (ap (λ (o : Option Region). is_le (answer_at (order_of nat_cmp length_of n) o)) there) ∙ passes)
-
-        lengths_are : (front back : List Place) → front ++ back ≡ k.by_length.sorted.members → k.lengths ≡ values_at objects front ++ values_at objects back
-        lengths_are front back same = sym k.by_length.sorted.stand.are ∙ ap (values_at objects) (sym same) ∙ filter_map-append (object_at objects) front back
-
-        by : (front back : List Place) → front ++ back ≡ k.by_length.sorted.members → o ≡ first back → AllByRecursion (λ p. test p ≡ false) front → AllByRecursion (λ p. test p ≡ true) back
-            → IsShortest objects (shown_regions objects w root) n (found_at objects o)
-        by front [] same at fail pass = rw at (by_lengths k (λ x. x.length < n) (subst (AllByRecursion (λ x. x.length < n)) (sym (lengths_are front [] same)) (all_both (λ x. x.length < n) (values_at objects front) [] (shorter front fail) tt)))
-        by front (p ∷ back) same at fail pass =
-            let here = region_there (object_at objects p) (all_back (λ q. IsSome (object_at objects q)) front (p ∷ back) (subst (ArePlaced objects) (sym same) k.by_length.sorted.stand.placed)).0 in
+        by : (o : Option Place) → IsCutAt test k.by_start.sorted.members o → FitsFirst objects (shown_regions objects w root) n (found_at objects o)
+        by None all = subst (λ (s : List Region). AreShorter s n) (sym (regions_are k ∙ sym k.by_start.sorted.stand.are)) (shorter k.by_start.sorted.members all)
+        by (Some p) c =
+            let here = region_there (object_at objects p) (all_back (λ q. IsSome (object_at objects q)) c.0 (p ∷ c.1) (subst (ArePlaced objects) c.2 k.by_start.sorted.stand.placed)).0 in
             let r : Region = here.0 in
             let there : object_at objects p ≡ Some r = here.1 in
-            let is : k.lengths ≡ values_at objects front ++ r ∷ values_at objects back =
-            lengths_are front (p ∷ back) same ∙ ap (λ (o : Option Region). values_at objects front ++ cons_option o (values_at objects back)) there in
-            let least = first_is_least length_of r (values_at objects back)
-            (sorted_back length_of (values_at objects front) (r ∷ values_at objects back) (subst (λ (l : List Region). IsSorted nat_cmp (map length_of l)) is k.by_length.sorted.sorted)) in
-            subst (IsShortest objects (shown_regions objects w root) n) (sym (ap (found_at objects) at ∙ ap (found_with p) there)) (
+            let is : shown_regions objects w root ≡ values_at objects c.0 ++ r ∷ values_at objects c.1 = regions_are k ∙ each_value k.by_start p there c.0 c.1 c.2 in
+            let small = shorter c.0 c.3 in
+            let enough : n ≤ r.length = omega (arith, ltb-true b (number_at z p) c.4, k.beside p r there, bound) in
+            subst (FitsFirst objects (shown_regions objects w root) n) (sym (ap (found_with p) there)) (
               found_is p there,
-              long p there pass.0,
-              by_lengths k (λ x. n ≤ x.length → r.length ≤ x.length) (subst (AllByRecursion (λ x. n ≤ x.length → r.length ≤ x.length)) (sym is)
-                  (all_both (λ x. n ≤ x.length → r.length ≤ x.length) (values_at objects front) (r ∷ values_at objects back) (all_map (λ x short enough. absurd (omega (arith, short, enough))) (values_at objects front) (shorter front fail))
-                  ((λ enough. omega arith), all_map (λ x least enough. least) (values_at objects back) least))),
+              enough,
+              record {
+                front = values_at objects c.0;
+                whole = r;
+                back = values_at objects c.1;
+                was = is;
+                start = refl;
+                long_enough = enough;
+                shorter = small;
+                lowest = λ a some fits. lowest_fits n a (values_at objects c.0) r (values_at objects c.1) (subst StandApart is (shown_apart k)) small some
+                    (subst (λ (s : List Region). FitsAt s n a) is fits);
+              },
             )
 
   -- THE NEIGHBORS of an address

@@ -7,7 +7,7 @@ use Rattle.region_allocator.specs.declared.region.Region.{Region}
 use Rattle.region_allocator.specs.declared.neighbors.Found.{Found}
 use Rattle.region_allocator.specs.declared.free_error.FreeError.{FreeError}
 use Rattle.region_allocator.specs.declared.free_error.FreeError.TheVariants.{Overlaps}
-use Rattle.region_allocator.specs.Regions.{end_of, IsRegion, AreApart, AreShorter}
+use Rattle.region_allocator.specs.Regions.{region_of, end_of, IsRegion, IsFirstFit, AreApart, AreShorter}
 
 -- what is found where a region stands at the place
 abbrev pub found_with : Place → Option Region → Option Found
@@ -24,11 +24,10 @@ module _ (objects : Objects Region) where
     pub there : object_at objects found.object ≡ Some found.region
     pub is_region : IsRegion found.region
 
-  -- THE SHORTEST region that is so long, none where all are shorter
-  abbrev pub IsShortest : List Region → ℕ → Option Found → Type 0
-  IsShortest regions length None = AreShorter regions length
-  IsShortest regions length (Some found) =
-      IsFound found × (length ≤ found.region.length) × AllByRecursion (λ other. length ≤ other.length → found.region.length ≤ other.length) regions
+  -- THE FIRST region that is so long, none where all are shorter
+  abbrev pub FitsFirst : List Region → ℕ → Option Found → Type 0
+  FitsFirst regions length None = AreShorter regions length
+  FitsFirst regions length (Some found) = IsFound found × (length ≤ found.region.length) × IsFirstFit (region_of found.region.start length) regions
 
   -- the last of the regions, and the first
   abbrev pub IsLast : List Region → Option Found → Type 0

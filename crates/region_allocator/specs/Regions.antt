@@ -53,16 +53,21 @@ pub record AllocatesRegion (region : Region) (old new : List Region) : Type 0 wh
   pub was_free : (address : ℕ) → Has region address → IsFree old address
   pub free : (address : ℕ) → IsFree new address ↔ (IsFree old address × ¬ Has region address)
 
--- THE BEST FIT: the region is the end of one that was free, and no other one that is so long is shorter than that
-pub record IsBestFit (region : Region) (old : List Region) : Type 0 where
+-- none is so long
+abbrev pub AreShorter : List Region → ℕ → Type 0
+AreShorter regions length = AllByRecursion (λ region. region.length < length) regions
+
+-- SO MANY ADDRESSES in a row are free from this one on
+abbrev pub FitsAt : List Region → ℕ → ℕ → Type 0
+FitsAt regions length address = (a : ℕ) → Has (region_of address length) a → IsFree regions a
+
+-- THE FIRST FIT: the region is the start of one that was free, and all in front of that were shorter. So nothing fits at a lower address
+pub record IsFirstFit (region : Region) (old : List Region) : Type 0 where
   pub front : List Region
   pub whole : Region
   pub back : List Region
   pub was : old ≡ front ++ whole ∷ back
-  pub end : end_of region ≡ end_of whole
+  pub start : region.start ≡ whole.start
   pub long_enough : region.length ≤ whole.length
-  pub shortest : AllByRecursion (λ other. region.length ≤ other.length → whole.length ≤ other.length) old
-
--- none is so long
-abbrev pub AreShorter : List Region → ℕ → Type 0
-AreShorter regions length = AllByRecursion (λ region. region.length < length) regions
+  pub shorter : AreShorter front region.length
+  pub lowest : (address : ℕ) → 0 < region.length → FitsAt old region.length address → region.start ≤ address

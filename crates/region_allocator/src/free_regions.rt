@@ -1,4 +1,4 @@
-//! The free regions, each in both trees.
+//! The free regions, in a tree by their starts that keeps the greatest length of each subtree.
 
 ghost use Rattle.std.specs.Prelude.{◌≡◌, ◌≢◌, ◌≤◌, ◌+◌, ℕ, true, Option, Some, OnOk, IfOk, IsErr, IfErr};
 ghost use Rattle.std.specs.List.{AllByRecursion};
@@ -10,23 +10,23 @@ ghost use Rattle.region_allocator.specs.Regions.{region_of, IsRegion, AreApart, 
 ghost use Rattle.region_allocator.specs.Refusals.{IsNew, IsRefused};
 ghost use Rattle.region_allocator.specs.Kept.{regions_of, shown_space, IsKept};
 ghost use Rattle.region_allocator.specs.Changes.{Adds, Changes, FitsFor};
-ghost use Rattle.region_allocator.specs.Neighbors.{IsFound, IsShortest, AreNeighbors, Touches};
+ghost use Rattle.region_allocator.specs.Neighbors.{IsFound, FitsFirst, AreNeighbors, Touches};
 
 use crate::FreeError;
 use crate::neighbors::{Found, ending_at, look_up, starting_at};
-use crate::region::{ByLength, ByStart, Region};
+use crate::region::{ByStart, Region};
+use ic_augmented::{Greatest, Summed, first_greater, insert, refresh, remove, set_value};
 use ic_link_ops::rbtree::LinkOps;
 use ic_pool::{PlaceError, Pool};
 use ic_rbtree::{Bound, RBTree};
 use ic_unsafe_ref::UnsafeRef;
 use std::alloc::{Allocator, Global};
 
-/// The free regions: objects, each of which is linked in both trees.
+/// The free regions: objects, each of which is linked in the tree. Beside each link stands the length of its region.
 #[derive(Drop)]
 pub(crate) struct FreeRegions<A: Allocator = Global> {
-    pub(crate) pool: Pool<Region, (LinkOps<A>, LinkOps<A>), A>,
+    pub(crate) pool: Pool<Region, Summed<LinkOps<A>, Greatest<A>>, A>,
     pub(crate) by_start: RBTree<ByStart>,
-    pub(crate) by_length: RBTree<ByLength>,
 }
 
 impl<A: Allocator> FreeRegions<A> {
@@ -36,7 +36,7 @@ impl<A: Allocator> FreeRegions<A> {
         ensures { (above : Option Found) × AreNeighbors self.now.pool.objects (regions_of self.now) address result above }
     {
         let cursor = self.by_start.upper_bound(
-            &self.pool.links.0,
+            &self.pool.links.links,
             &self.pool.objects,
             Bound::Included(&address),
         );
@@ -49,7 +49,7 @@ impl<A: Allocator> FreeRegions<A> {
         ensures { AreNeighbors self.now.pool.objects (regions_of self.now) address result.0 result.1 }
     {
         let below = self.by_start.upper_bound(
-            &self.pool.links.0,
+            &self.pool.links.links,
             &self.pool.objects,
             Bound::Included(&address),
         );
@@ -81,20 +81,21 @@ impl<A: Allocator> FreeRegions<A> {
         }
     }
 
-    // The first region by length that is so long. One descent, O(log n).
-    pub(crate) fn shortest(&self, length: u64) -> Option<Found>
-        requires kept { IsKept self.now }
-        ensures { IsShortest self.now.pool.objects (regions_of self.now) length result }
+    // The first region that is so long. It renews the greatest lengths that edits have made stale: O(log n + v) for v of them.
+    pub(crate) fn first_fit(&mut self, length: u64) -> Option<Found>
+        requires kept { IsKept self.old }
+        ensures kept { IsKept self.new }
+        ensures same { shown_space self.new ≡ shown_space self.old }
+        ensures first { FitsFirst self.new.pool.objects (regions_of self.new) length result }
     {
-        let first = self.by_length.lower_bound(
-            &self.pool.links.1,
-            &self.pool.objects,
-            Bound::Included(&length),
-        );
-        look_up(&self.pool.objects, first.clone_pointer())
+        refresh(&self.by_start, &mut self.pool.links);
+        match first_greater(&self.by_start, &self.pool.links, length.saturating_sub(1)) {
+            Some(place) => look_up(&self.pool.objects, Some(UnsafeRef::new(place))),
+            None => None,
+        }
     }
 
-    // A new object, put into both trees.
+    // A new object, put into the tree.
     pub(crate) fn put_in(&mut self, region: Region) -> Result<(), FreeError>
         requires kept { IsKept self.old }
         requires region { IsRegion region }
@@ -110,14 +111,13 @@ impl<A: Allocator> FreeRegions<A> {
             Err(PlaceError::NoPlaceLeft(_)) => return Err(FreeError::TooManyRegions),
             Err(PlaceError::OutOfMemory(_)) => return Err(FreeError::OutOfMemory),
         };
-        let again = UnsafeRef::new(object.place());
         let Pool { objects, links } = &mut self.pool;
-        let _ = self.by_start.insert(&mut links.0, objects, object); // proved: it is not linked
-        let _ = self.by_length.insert(&mut links.1, objects, again); // proved: it is not linked
+        set_value(links, object.place(), region.length);
+        let _ = insert(&mut self.by_start, links, objects, object); // proved: it is not linked
         Ok(())
     }
 
-    // Takes the object off both trees, and out of its place.
+    // Takes the object off the tree, and out of its place.
     pub(crate) fn take_out(&mut self, object: UnsafeRef<Region>)
         requires kept { IsKept self.old }
         requires placed { is_placed self.old.pool.objects object ≡ true }
@@ -126,12 +126,11 @@ impl<A: Allocator> FreeRegions<A> {
             → Adds out (regions_of self.new) (regions_of self.old) }
         ensures others { (p : Place) → p ≢ object → object_at self.new.pool.objects p ≡ object_at self.old.pool.objects p }
     {
-        self.by_start.remove(&mut self.pool.links.0, &object);
-        self.by_length.remove(&mut self.pool.links.1, &object);
+        remove(&mut self.by_start, &mut self.pool.links, object.place());
         self.pool.remove(object);
     }
 
-    // Puts another region in the place of the object's. It stays between its neighbors, and goes elsewhere by its length.
+    // Puts another region in the place of the object's. It stays between its neighbors, with another length beside its link.
     pub(crate) fn resize(&mut self, object: UnsafeRef<Region>, region: Region)
         requires kept { IsKept self.old }
         requires placed { is_placed self.old.pool.objects object ≡ true }
@@ -141,11 +140,8 @@ impl<A: Allocator> FreeRegions<A> {
         ensures resized { (out : Region) → object_at self.old.pool.objects object ≡ Some out
             → Changes out region (regions_of self.old) (regions_of self.new) }
     {
-        self.by_length.remove(&mut self.pool.links.1, &object);
         *self.pool.get_mut(&object).unwrap() = region; // proved: it is placed
-        let _ = self
-            .by_length
-            .insert(&mut self.pool.links.1, &self.pool.objects, object); // proved: it is not linked
+        set_value(&mut self.pool.links, object.place(), region.length);
     }
 
     // Adds a region, joined with those that it touches.
@@ -190,21 +186,21 @@ impl<A: Allocator> FreeRegions<A> {
         }
     }
 
-    // Takes the end of a region, and leaves `rest` addresses of it.
-    pub(crate) fn cut(&mut self, found: Found, rest: u64)
+    // Takes the first `length` addresses of a region.
+    pub(crate) fn cut(&mut self, found: Found, length: u64)
         requires kept { IsKept self.old }
         requires found { IsFound self.old.pool.objects found }
-        requires rest { rest ≤ found.region.length }
+        requires enough { length ≤ found.region.length }
         ensures kept { IsKept self.new }
-        ensures cut { (length : ℕ) → rest + length ≡ found.region.length
-            → AllocatesRegion (region_of (found.region.start + rest) length) (regions_of self.old) (regions_of self.new) }
+        ensures cut { AllocatesRegion (region_of found.region.start length) (regions_of self.old) (regions_of self.new) }
     {
+        let rest = found.region.length - length;
         if rest == 0 {
             self.take_out(found.object);
             return;
         }
         let left = Region {
-            start: found.region.start,
+            start: found.region.start + length,
             length: rest,
         };
         self.resize(found.object, left);

@@ -3,12 +3,12 @@
 //! ```text
 //! let mut space = RegionAllocator::new(rt.alloc());
 //! space.free(0, 100)?; // the addresses 0 to 99 are free
-//! let block = space.allocate(30); // Some(70): the addresses 70 to 99
-//! space.free(70, 30)?; // free again, and one region with those in front
+//! let block = space.allocate(30); // Some(0): the addresses 0 to 29
+//! space.free(0, 30)?; // free again, and one region with those behind
 //! ```
 //!
-//! Each free region is one object with a link in each of two trees: by its start, where its neighbors are found, and by its length,
-//! where the shortest that is long enough is found.
+//! Each free region is one object with a link in one tree, by its start. There its neighbors are found, and, since the tree keeps the
+//! greatest length of each subtree, the first region that is long enough.
 #![tactic(auto)]
 
 mod free_error;

@@ -39,20 +39,3 @@ impl KeyAdapter for ByStart {
         &region.start
     }
 }
-
-/// Regions stand by their lengths.
-#[derive(Clone, Copy)]
-pub(crate) struct ByLength;
-
-impl KeyAdapter for ByLength {
-    type Value = Region;
-
-    type Key = u64;
-
-    ghost key_of = { λ a region. region.length };
-
-    #[inline]
-    fn get_key<'v>(&self, region: &'v Region) -> &'v u64 {
-        &region.length
-    }
-}

@@ -3,15 +3,16 @@
 //! ```text
 //! let mut space = RegionAllocator::new(rt.alloc());
 //! space.free(0, 100)?;
-//! space.allocate(30) // Some(70)
-//! space.is_free(70) // false
+//! space.allocate(30) // Some(0)
+//! space.is_free(0) // false
 //! ```
 
 ghost use Rattle.std.specs.Prelude.{◌≡◌, ◌↔◌, [], true, false, OnOk, OnSome, IsErr, IfErr, IfSome, IfNone, IsTrue};
 
 use crate::FreeError;
 use crate::free_regions::FreeRegions;
-use crate::region::{ByLength, ByStart, Region};
+use crate::region::{ByStart, Region};
+use ic_augmented::{Greatest, Summed};
 use ic_link_ops::rbtree::LinkOps;
 use ic_pool::Pool;
 use ic_rbtree::RBTree;
@@ -39,7 +40,7 @@ impl<A: Allocator> Model for RegionAllocator<A> {
 }
 
 impl<A: Allocator> RegionAllocator<A> {
-    ghost use Rattle.region_allocator.specs.Regions.{region_of, IsFree, StandApart, FreesRegion, AllocatesRegion, IsBestFit, AreShorter};
+    ghost use Rattle.region_allocator.specs.Regions.{region_of, IsFree, StandApart, FreesRegion, AllocatesRegion, IsFirstFit, AreShorter};
     ghost use Rattle.region_allocator.specs.Refusals.{IsNew, IsRefused};
 
     /// An allocator with no free address. It takes no memory.
@@ -49,11 +50,14 @@ impl<A: Allocator> RegionAllocator<A> {
         ensures empty { result.regions ≡ [] }
         ensures room { result.is_full ≡ false }
     {
+        let links = Summed {
+            links: LinkOps::new(alloc),
+            sums: Greatest::new(alloc),
+        };
         RegionAllocator {
             regions: FreeRegions {
-                pool: Pool::new(alloc, (LinkOps::new(alloc), LinkOps::new(alloc))),
+                pool: Pool::new(alloc, links),
                 by_start: RBTree::new(ByStart),
-                by_length: RBTree::new(ByLength),
             },
         }
     }
@@ -79,22 +83,21 @@ impl<A: Allocator> RegionAllocator<A> {
         self.regions.add(Region { start, length })
     }
 
-    /// Allocates `length` addresses in a row, and returns the first one: the end of the shortest free region that is long enough.
-    /// O(log n), and it takes no memory.
+    /// Allocates `length` addresses in a row, and returns the first one. No lower address has as many free ones behind it: it is the start of
+    /// the first free region that is long enough. It takes no memory.
     ///
-    /// `None` says that all are shorter, and nothing has changed then. Of no length, it takes nothing: the answer is where the
-    /// shortest region ends.
+    /// `None` says that all regions are shorter, and no address has changed then. Of no length, it takes nothing: the answer is where the first
+    /// region starts. O(log n) over a run of calls: it renews the greatest lengths that the calls since the last one made stale, O(log n) for each.
     pub fn allocate(&mut self, length: u64) -> Option<u64>
         ensures allocated { IfSome result (λ start. AllocatesRegion (region_of start length) self.old.regions self.new.regions) }
-        ensures best_fit { IfSome result (λ start. IsBestFit (region_of start length) self.old.regions) }
+        ensures first_fit { IfSome result (λ start. IsFirstFit (region_of start length) self.old.regions) }
         ensures none { IfNone result ((self.new ≡ self.old) × AreShorter self.old.regions length) }
         ensures apart { OnSome result (StandApart self.new.regions) }
     {
-        let found = self.regions.shortest(length)?;
+        let found = self.regions.first_fit(length)?;
         let start = found.region.start;
-        let rest = found.region.length - length;
-        self.regions.cut(found, rest);
-        Some(start + rest)
+        self.regions.cut(found, length);
+        Some(start)
     }
 
     /// Whether the address is free. O(log n).

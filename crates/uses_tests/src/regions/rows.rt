@@ -12,8 +12,8 @@ const JOINED: &[Row] = &[
     (Call::IsEmpty, Answer::Truth(true)),
     (Call::Allocate(1), Answer::Nothing),
     (Call::Free(0, 100), Answer::Done),
-    (Call::Allocate(30), Answer::At(70)),
-    (Call::Allocate(70), Answer::At(0)),
+    (Call::Allocate(30), Answer::At(0)),
+    (Call::Allocate(70), Answer::At(30)),
     (Call::IsEmpty, Answer::Truth(true)),
     (Call::Free(40, 10), Answer::Done),
     (Call::Free(50, 10), Answer::Done),
@@ -25,23 +25,31 @@ const JOINED: &[Row] = &[
     (Call::IsEmpty, Answer::Truth(true)),
 ];
 
-// The end of the shortest region is taken that is long enough.
-const BEST_FIT: &[Row] = &[
+// The start of the first region is taken that is long enough, also where a later one fits better.
+const FIRST_FIT: &[Row] = &[
+    (Call::Allocate(0), Answer::Nothing),
+    (Call::Free(300, 20), Answer::Done),
     (Call::Free(100, 50), Answer::Done),
     (Call::Free(200, 10), Answer::Done),
-    (Call::Free(300, 20), Answer::Done),
-    (Call::Allocate(15), Answer::At(305)),
-    (Call::Allocate(10), Answer::At(200)),
-    (Call::Allocate(6), Answer::At(144)),
-    (Call::Allocate(5), Answer::At(300)),
-    (Call::IsFree(99), Answer::Truth(false)),
-    (Call::IsFree(100), Answer::Truth(true)),
-    (Call::IsFree(143), Answer::Truth(true)),
-    (Call::IsFree(144), Answer::Truth(false)),
+    (Call::Allocate(10), Answer::At(100)),
+    (Call::Allocate(30), Answer::At(110)),
+    (Call::Allocate(15), Answer::At(300)),
+    (Call::Allocate(0), Answer::At(140)),
+    (Call::Allocate(10), Answer::At(140)),
+    (Call::IsFree(140), Answer::Truth(false)),
+    (Call::IsFree(315), Answer::Truth(true)),
+    (Call::Allocate(6), Answer::At(200)),
+    (Call::Allocate(5), Answer::At(315)),
+    (Call::Allocate(5), Answer::Nothing),
+    (Call::IsFree(205), Answer::Truth(false)),
+    (Call::IsFree(206), Answer::Truth(true)),
+    (Call::Allocate(4), Answer::At(206)),
+    (Call::IsEmpty, Answer::Truth(true)),
 ];
 
 // Only the addresses 100 to 143 are free at first.
 const REFUSED: &[Row] = &[
+    (Call::Free(100, 44), Answer::Done),
     (Call::Free(143, 10), Answer::Refused(FreeError::Overlaps)),
     (Call::Free(90, 11), Answer::Refused(FreeError::Overlaps)),
     (Call::Free(110, 10), Answer::Refused(FreeError::Overlaps)),
@@ -101,7 +109,7 @@ fn is_refused_in_turn(alloc: Global) -> bool {
 fn rows_answer_as_worked_out(rt: HostRuntime) {
     let mut space = RegionAllocator::new(rt.alloc());
     assert!(rt; plays(&mut space, JOINED));
-    assert!(rt; plays(&mut space, BEST_FIT));
+    assert!(rt; plays(&mut space, FIRST_FIT));
     assert!(rt; plays(&mut space, REFUSED));
 }
 

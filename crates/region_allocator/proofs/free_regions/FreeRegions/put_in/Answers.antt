@@ -6,12 +6,12 @@ use Rattle.ic_link_ops.proofs.Calling.{accepted}
 use Rattle.ic_pool.proofs.Pooling.{lacks_exactly}
 use Rattle.region_allocator.specs.declared.region.Region.{Region}
 use Rattle.region_allocator.specs.Regions.{Space, space_of, AreApart}
-use Rattle.region_allocator.proofs.Keeping.{kept_covered, same_covered, adds_to, put_in}
+use Rattle.region_allocator.proofs.Keeping.{kept_grown, same_grown, kept_set, same_regions, adds_to, put_in}
 use Rattle.ic_rbtree.proofs.EachObject.{vacant_free, each_ready}
 use Rattle.region_allocator.proofs.free_regions.FreeRegions.put_in.Goals as goal
 
 pub returns-in-Err-NoPlaceLeft-clause-kept : goal.returns-in-Err-NoPlaceLeft-clause-kept
-returns-in-Err-NoPlaceLeft-clause-kept g c = rw c.in-Err-NoPlaceLeft.ensures.refused.1 (kept_covered c.requires.kept c.place.new.self.links.0 c.place.new.self.links.1 c.place.ensures.keeps.0.entries c.place.ensures.keeps.1.entries)
+returns-in-Err-NoPlaceLeft-clause-kept g c = rw c.in-Err-NoPlaceLeft.ensures.refused.1 (kept_grown c.requires.kept c.place.new.self.links.links c.place.new.self.links.sums c.place.ensures.keeps)
 
 pub returns-in-Err-NoPlaceLeft-clause-refused : goal.returns-in-Err-NoPlaceLeft-clause-refused
 returns-in-Err-NoPlaceLeft-clause-refused g c =
@@ -19,10 +19,10 @@ returns-in-Err-NoPlaceLeft-clause-refused g c =
     let back = rw c.in-Err-NoPlaceLeft.field-0-is at e.refused in
     let full = rw c.in-Err-NoPlaceLeft.field-0-is at e.full in
     let seen : List Region → Space = λ regions. space_of regions (leb (2 ^ 32) c.args.self.now.pool.objects.next) in
-    rw back.1 (ap seen (same_covered c.requires.kept c.place.new.self.links.0 c.place.new.self.links.1 c.place.ensures.keeps.0.entries c.place.ensures.keeps.1.entries), ((c.requires.region, c.requires.apart), sym (lacks_exactly _ _ full back.0)))
+    rw back.1 (ap seen (same_grown c.requires.kept c.place.new.self.links.links c.place.ensures.keeps.links.entries), ((c.requires.region, c.requires.apart), sym (lacks_exactly _ _ full back.0)))
 
 pub returns-in-Err-OutOfMemory-clause-kept : goal.returns-in-Err-OutOfMemory-clause-kept
-returns-in-Err-OutOfMemory-clause-kept g c = rw c.in-Err-OutOfMemory.ensures.refused.1 (kept_covered c.requires.kept c.place.new.self.links.0 c.place.new.self.links.1 c.place.ensures.keeps.0.entries c.place.ensures.keeps.1.entries)
+returns-in-Err-OutOfMemory-clause-kept g c = rw c.in-Err-OutOfMemory.ensures.refused.1 (kept_grown c.requires.kept c.place.new.self.links.links c.place.new.self.links.sums c.place.ensures.keeps)
 
 pub returns-in-Err-OutOfMemory-clause-refused : goal.returns-in-Err-OutOfMemory-clause-refused
 returns-in-Err-OutOfMemory-clause-refused g c =
@@ -30,43 +30,43 @@ returns-in-Err-OutOfMemory-clause-refused g c =
     let back = rw c.in-Err-OutOfMemory.field-0-is at e.refused in
     let full = rw c.in-Err-OutOfMemory.field-0-is at e.full in
     let seen : List Region → Space = λ regions. space_of regions (leb (2 ^ 32) c.args.self.now.pool.objects.next) in
-    rw back.1 (ap seen (same_covered c.requires.kept c.place.new.self.links.0 c.place.new.self.links.1 c.place.ensures.keeps.0.entries c.place.ensures.keeps.1.entries), ((c.requires.region, c.requires.apart), sym (lacks_exactly _ _ full back.0)))
+    rw back.1 (ap seen (same_grown c.requires.kept c.place.new.self.links.links c.place.ensures.keeps.links.entries), ((c.requires.region, c.requires.apart), sym (lacks_exactly _ _ full back.0)))
 
 pub insert-requires-clause-placed : goal.insert-requires-clause-placed
-insert-requires-clause-placed g c = each_ready (kept_covered c.requires.kept c.place.new.self.links.0 c.place.new.self.links.1 c.place.ensures.keeps.0.entries c.place.ensures.keeps.1.entries).by_start c.in-Ok.ensures.placed
+insert-requires-clause-placed g c = let k = kept_grown c.requires.kept c.place.new.self.links.links c.place.new.self.links.sums c.place.ensures.keeps in rw c.set_value.ensures.links (each_ready k.by_start c.in-Ok.ensures.placed)
 
 pub insert-requires-clause-object : goal.insert-requires-clause-object
 insert-requires-clause-object g c = ap is_some (placed_there c.in-Ok.ensures.placed)
-
-pub insert-requires-2-clause-placed : goal.insert-requires-2-clause-placed
-insert-requires-2-clause-placed g c = each_ready (kept_covered c.requires.kept c.place.new.self.links.0 c.place.new.self.links.1 c.place.ensures.keeps.0.entries c.place.ensures.keeps.1.entries).by_length c.in-Ok.ensures.placed
-
-pub insert-requires-2-clause-object : goal.insert-requires-2-clause-object
-insert-requires-2-clause-object g c = rw (c.new-again.ensures, c.place-2.ensures) (ap is_some (placed_there c.in-Ok.ensures.placed))
 
 pub returns-clause-full : goal.returns-clause-full
 returns-clause-full g c full = let never = c.in-Ok.ensures.full.1 (leb-true (2 ^ 32) _ full) in absurd (cc)
 
 pub returns-clause-kept : goal.returns-clause-kept
 returns-clause-kept g c =
-    let k = (kept_covered c.requires.kept c.place.new.self.links.0 c.place.new.self.links.1 c.place.ensures.keeps.0.entries c.place.ensures.keeps.1.entries) in
-    let same = same_covered c.requires.kept c.place.new.self.links.0 c.place.new.self.links.1 c.place.ensures.keeps.0.entries c.place.ensures.keeps.1.entries in
+    let place = c.place.new.self.links in
+    let grown = kept_grown c.requires.kept place.links place.sums c.place.ensures.keeps in
+    let e = c.set_value.ensures in
+    let set = c.set_value.new.summed in
     let places = c.in-Ok.ensures.placed in
+    let k = kept_set grown set.links e.links set.sums c.in-Ok.object places.vacant (rw c.place-2.ensures at e.values) e.consistent in
     let free = vacant_free k.by_start c.in-Ok.object places.vacant in
-    let off = vacant_free k.by_length c.new-again.result (rw (c.new-again.ensures, c.place-2.ensures) places.vacant) in
-    (put_in k c.insert.new.links _ c.insert-2.new.links _ places (c.new-again.ensures ∙ c.place-2.ensures)
-    (λ s shown. accepted _ c.insert.result free c.insert.ensures.refused (c.insert.ensures.inserted s shown)) (accepted _ c.insert.result free c.insert.ensures.refused c.insert.ensures.acquired)
-    (λ s shown. accepted _ c.insert-2.result off c.insert-2.ensures.refused (c.insert-2.ensures.inserted s shown)) (accepted _ c.insert-2.result off c.insert-2.ensures.refused c.insert-2.ensures.acquired)
+    let same = same_regions grown set.links e.links ∙ same_grown c.requires.kept place.links c.place.ensures.keeps.links.entries in
+    let i = c.insert.ensures in
+    (put_in k c.insert.new.summed.links c.insert.new.tree.root c.insert.new.summed.sums places (rw c.place-2.ensures at e.set) i.join
+    (λ s shown. accepted _ c.insert.result free i.refused (i.inserted s shown)) (accepted _ c.insert.result free i.refused i.acquired)
     c.requires.region (subst (AllByRecursion (AreApart c.args.region)) (sym same) c.requires.apart)).0
 
 pub returns-clause-put : goal.returns-clause-put
 returns-clause-put g c =
-    let k = (kept_covered c.requires.kept c.place.new.self.links.0 c.place.new.self.links.1 c.place.ensures.keeps.0.entries c.place.ensures.keeps.1.entries) in
-    let same = same_covered c.requires.kept c.place.new.self.links.0 c.place.new.self.links.1 c.place.ensures.keeps.0.entries c.place.ensures.keeps.1.entries in
+    let place = c.place.new.self.links in
+    let grown = kept_grown c.requires.kept place.links place.sums c.place.ensures.keeps in
+    let e = c.set_value.ensures in
+    let set = c.set_value.new.summed in
     let places = c.in-Ok.ensures.placed in
+    let k = kept_set grown set.links e.links set.sums c.in-Ok.object places.vacant (rw c.place-2.ensures at e.values) e.consistent in
     let free = vacant_free k.by_start c.in-Ok.object places.vacant in
-    let off = vacant_free k.by_length c.new-again.result (rw (c.new-again.ensures, c.place-2.ensures) places.vacant) in
-    adds_to same (put_in k c.insert.new.links _ c.insert-2.new.links _ places (c.new-again.ensures ∙ c.place-2.ensures)
-    (λ s shown. accepted _ c.insert.result free c.insert.ensures.refused (c.insert.ensures.inserted s shown)) (accepted _ c.insert.result free c.insert.ensures.refused c.insert.ensures.acquired)
-    (λ s shown. accepted _ c.insert-2.result off c.insert-2.ensures.refused (c.insert-2.ensures.inserted s shown)) (accepted _ c.insert-2.result off c.insert-2.ensures.refused c.insert-2.ensures.acquired)
+    let same = same_regions grown set.links e.links ∙ same_grown c.requires.kept place.links c.place.ensures.keeps.links.entries in
+    let i = c.insert.ensures in
+    adds_to same (put_in k c.insert.new.summed.links c.insert.new.tree.root c.insert.new.summed.sums places (rw c.place-2.ensures at e.set) i.join
+    (λ s shown. accepted _ c.insert.result free i.refused (i.inserted s shown)) (accepted _ c.insert.result free i.refused i.acquired)
     c.requires.region (subst (AllByRecursion (AreApart c.args.region)) (sym same) c.requires.apart)).1
