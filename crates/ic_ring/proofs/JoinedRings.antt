@@ -1,9 +1,9 @@
 -- Two rings that are one while members go from one to the other. `joins`: what an exchange of x and y says of the last places of two rings.
-use Rattle.std.proofs.Common.{◌≡◌, Option, Some, None, List, [], ◌∷◌, ◌++◌, sym, ap, ◌∙◌, append_assoc}
+use Rattle.std.proofs.Common.{◌≡◌, Option, Some, None, List, [], ◌∷◌, ◌++◌, sym, ap, subst, ◌∙◌, append_assoc}
 use Rattle.ic_unsafe_ref.specs.declared.place.Place.{Place}
 use Rattle.ic_link_ops.specs.Sequences.{IsAbsent, IsDisjoint, last, last_or}
 use Rattle.ic_link_ops.specs.LinkedList.{Neighbors}
-use Rattle.ic_link_ops.proofs.SequenceLemmas.{last_or-append, last_of_push, last_not, none_not, absent_left, absent_turned, absent_swap, disjoint_sym}
+use Rattle.ic_link_ops.proofs.SequenceLemmas.{last_or-append, last_of_push, last_not, none_not, absent_left, absent_turned, absent_swap, disjoint_sym, disjoint_both}
 use Rattle.ic_ring.specs.Rings.{IsCircle}
 use Rattle.ic_ring.proofs.Circles.{rotated, apart_too}
 
@@ -32,3 +32,18 @@ module _ {E : Type 0} {n : E → Neighbors} {t0 t1 : Place → E} {h k x y : Pla
       let two = absent_swap r (k ∷ t) (disjoint_sym (k ∷ t) r one) v (λ q out. absent_turned q t (k ∷ []) out) in
       let whole = joins r v (rotated (h ∷ front) back c) (rotated (k ∷ []) t d) two (is_x ∙ sym (last_or-append None back (h ∷ front))) (ap Some is_y ∙ sym (last_of_push t k)) in
       rw (append_assoc (h ∷ front) v back) at (rotated back ((h ∷ front) ++ v) (rw (append_assoc back (h ∷ front) v) at whole))
+
+-- a place and the last place of another ring exchange what stands behind them: the other ring stands behind the place
+module _ {E : Type 0} {n : E → Neighbors} {t0 t1 : Place → E} {at given x : Place} {u : List Place} (other : IsCircle n t0 (given ∷ u)) (apart : IsAbsent at (given ∷ u))
+    (joins : (r u : List Place) → IsCircle n t0 r → IsCircle n t0 u → IsDisjoint r u → Some at ≡ last r → Some x ≡ last u → IsCircle n t1 (r ++ u)) where
+  pub joined_after : (r t : List Place) → IsCircle n t0 (at ∷ r) → IsCircle n t0 (given ∷ t) → (n (t0 given)).prev ≡ Some x → IsCircle n t1 ((r ++ at ∷ []) ++ given ∷ t)
+  joined_after r t c d to_x =
+      let both = apart_too at r given u t c other apart d in
+      joins (r ++ at ∷ []) (given ∷ t) (rotated (at ∷ []) r c) d (disjoint_both r (at ∷ []) (given ∷ t) both.1 (both.0, tt)) (sym (last_of_push r at)) (sym to_x ∙ d.chain.0.prev)
+
+  -- read from the place, and from the other head
+  pub joined_at : (r t : List Place) → IsCircle n t0 (at ∷ r) → IsCircle n t0 (given ∷ t) → (n (t0 given)).prev ≡ Some x → IsCircle n t1 (at ∷ ((given ∷ t) ++ r))
+  joined_at r t c d to_x = rotated r (at ∷ given ∷ t) (subst (IsCircle n t1) (append_assoc r (at ∷ []) (given ∷ t)) (joined_after r t c d to_x))
+
+  pub joined_given : (r t : List Place) → IsCircle n t0 (at ∷ r) → IsCircle n t0 (given ∷ t) → (n (t0 given)).prev ≡ Some x → IsCircle n t1 (given ∷ (t ++ (r ++ at ∷ [])))
+  joined_given r t c d to_x = rotated (r ++ at ∷ []) (given ∷ t) (joined_after r t c d to_x)

@@ -3,3 +3,4 @@ pub mod OtherRings
 pub mod JoinedRings
 pub mod RingWalks
 pub mod Clearance
+pub mod CursorPlaces

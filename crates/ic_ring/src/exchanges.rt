@@ -42,6 +42,23 @@ pub fn exchange<L: LinkedListOps>(links: &mut L, first: Place, second: Place)
     links.set_prev(behind_first, Some(second));
 }
 
+// Puts all members of the ring with the second head behind a place of another ring. The ring with that head is empty then.
+#[inline]
+pub(crate) fn splice_behind<L: LinkedListOps>(links: &mut L, at: Place, given: Place)
+    requires ring { InRing L.neighbors (L.table links.old) at }
+    requires apart { (t : List Place) × Shows L.neighbors (L.table links.old) given t × IsAbsent at (given ∷ t) }
+    ensures spliced { (r t : List Place) → Shows L.neighbors (L.table links.old) at r → Shows L.neighbors (L.table links.old) given t
+        → Shows L.neighbors (L.table links.new) at (t ++ r) × Shows L.neighbors (L.table links.new) given [] }
+    ensures no_step { L.Does links.old links.new [] }
+    ensures others { OthersStay L.neighbors (L.table links.old) (L.table links.new) (at ∷ given ∷ []) }
+    ensures frame { (r t : List Place) → Shows L.neighbors (L.table links.old) at r → Shows L.neighbors (L.table links.old) given t
+        → KeepsBeside (L.table links.old) (L.table links.new) ((at ∷ r) ++ (given ∷ t)) }
+{
+    let last = prev_of(&*links, given);
+    exchange(links, at, last);
+    exchange(links, at, given);
+}
+
 impl<T> Ring<T> {
     /// Puts all members of another ring behind those of this one. The other ring is empty then. O(1), and no link step.
     ///

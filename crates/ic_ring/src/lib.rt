@@ -17,6 +17,8 @@
 #![tactic(auto)]
 
 mod beside;
+mod cursor;
+mod cursor_mut;
 mod exchanges;
 mod iter;
 mod moves;
@@ -24,6 +26,8 @@ mod ring;
 mod surgery;
 
 pub use beside::{insert_after, insert_before, next, prev, remove, replace};
+pub use cursor::Cursor;
+pub use cursor_mut::CursorMut;
 pub use exchanges::exchange;
 pub use ic_cursors::Listing;
 pub use ic_link_ops::linked_list::{Link, LinkOps, LinkedListOps};

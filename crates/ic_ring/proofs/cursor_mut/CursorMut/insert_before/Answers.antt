@@ -1,0 +1,38 @@
+use Rattle.std.proofs.Common.{◌∷◌, ◌++◌, drop, subst, sym}
+use Rattle.ic_link_ops.proofs.DoublyLists.{neighbors_covered}
+use Rattle.ic_ring.specs.Rings.{Shows}
+use Rattle.ic_ring.specs.RingCursors.{Stands}
+use Rattle.ic_ring.proofs.CursorPlaces.{in_ring, seen_ahead, put_ahead, gap_ahead, stands_still, on_ok, either_way, others_without, ring_at}
+use Rattle.ic_ring.proofs.cursor_mut.CursorMut.insert_before.Goals as goal
+
+pub insert_before-requires : goal.insert_before-requires
+insert_before-requires g c = record { covered = c.requires.covered; ring = in_ring (g.L.LinkOps.table c.args.self.now.links.now) c.requires.stands }
+
+pub returns-clause-inserted : goal.returns-clause-inserted
+returns-clause-inserted g c gap shown is =
+    let head = c.args.self.now.head in
+    on_ok c.insert_before.result (put_ahead c.args.object gap.front gap.back is)
+    (c.insert_before.ensures.at_head (drop 1 (gap.back ++ head ∷ gap.front)) (seen_ahead gap.front gap.back is shown))
+
+pub returns-clause-stands : goal.returns-clause-stands
+returns-clause-stands g c =
+    let t = g.L.LinkOps.table c.args.self.now.links.now in
+    let head = c.args.self.now.head in
+    let k = c.requires.stands in
+    let ahead = gap_ahead head k.0.front k.0.back k.2 in
+    let gap = ahead.0 in
+    let shown = subst (Shows g.L.LinkedListOps.neighbors t head) (sym ahead.1) k.1 in
+    let e = c.insert_before.ensures in
+    either_way c.insert_before.result
+    (on_ok c.insert_before.result (put_ahead c.args.object gap.front gap.back ahead.2) (e.at_head (drop 1 (gap.back ++ head ∷ gap.front)) (seen_ahead gap.front gap.back ahead.2 shown)))
+    e.refused
+    (λ put. stands_still (g.L.LinkOps.table c.insert_before.new.links) head gap.front c.args.object gap.back put ahead.2)
+    (λ no. subst (λ t. Stands g.L.LinkedListOps.neighbors t head c.args.self.now.at) (sym (g.met.L.LinkOps.refused_keeps _ _ _ no)) k)
+
+pub returns-clause-others : goal.returns-clause-others
+returns-clause-others g c = others_without (g.L.LinkOps.table c.args.self.now.links.now) c.requires.stands c.insert_before.ensures.others
+
+pub returns-clause-frame : goal.returns-clause-frame
+returns-clause-frame g c s shown =
+    let law = neighbors_covered g.L.LinkedListOps.neighbors g.L.LinkOps.table g.met.L.LinkOps.linked_is_covered g.met.L.LinkedListOps.linked_alike in
+    c.insert_before.ensures.frame (c.args.self.now.head ∷ s) (ring_at (g.L.LinkOps.table c.args.self.now.links.now) c.requires.stands (law c.args.self.now.links.now) s shown)

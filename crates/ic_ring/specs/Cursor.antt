@@ -1,0 +1,26 @@
+-- What clauses see of a cursor that reads.
+use Rattle.std.specs.Prelude.{◌≡◌}
+use Rattle.ic_unsafe_ref.specs.declared.place.Place.{Place}
+use Rattle.ic_link_ops.specs.Tables.{Table}
+use Rattle.ic_link_ops.specs.LinkedList.{Neighbors}
+use Rattle.ic_ring.specs.RingCursors.{Stands}
+use Rattle.ic_ring.specs.declared.cursor.Cursor.{Cursor}
+
+module _ {T L : Type 0} where
+  -- the table, the head of the ring, and where the cursor stands
+  abbrev pub links_of : Cursor T L → L
+  links_of c = c.links.now
+
+  abbrev pub head_of : Cursor T L → Place
+  head_of c = c.head
+
+  abbrev pub at_of : Cursor T L → Place
+  at_of c = c.at
+
+  -- it stands in the ring
+  abbrev pub IsStanding : {E : Type 0} → (E → Neighbors) → (L → Table E) → Cursor T L → Type 0
+  IsStanding neighbors table c = Stands neighbors (table (links_of c)) (head_of c) (at_of c)
+
+  -- it reads the same ring of the same table
+  abbrev pub SameRing : Cursor T L → Cursor T L → Type 0
+  SameRing old new = (head_of new ≡ head_of old) × (links_of new ≡ links_of old)

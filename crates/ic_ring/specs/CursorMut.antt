@@ -1,0 +1,41 @@
+-- What clauses see of a cursor that edits.
+use Rattle.std.specs.Prelude.{◌≡◌, List}
+use Rattle.std.specs.Borrow.{MutBor}
+use Rattle.ic_unsafe_ref.specs.declared.place.Place.{Place}
+use Rattle.ic_link_ops.specs.Tables.{Table, KeepsBeside}
+use Rattle.ic_link_ops.specs.LinkedList.{Neighbors}
+use Rattle.ic_ring.specs.Rings.{Shows}
+use Rattle.ic_ring.specs.RingCursors.{Stands}
+use Rattle.ic_ring.specs.declared.cursor_mut.CursorMut.{CursorMut}
+
+module _ {T L : Type 0} where
+  -- the table, the head of the ring, and where the cursor stands
+  abbrev pub links_of : CursorMut T L → L
+  links_of c = c.links.now
+
+  abbrev pub head_of : CursorMut T L → Place
+  head_of c = c.head
+
+  abbrev pub at_of : CursorMut T L → Place
+  at_of c = c.at
+
+  -- it edits this table, which is as it was
+  abbrev pub IsBorrowed : MutBor L → CursorMut T L → Type 0
+  IsBorrowed links c = (c.links.ghost_name ≡ links.ghost_name) × (c.links.now ≡ links.now)
+
+  -- it edits the same ring of the same table
+  abbrev pub SameRing : CursorMut T L → CursorMut T L → Type 0
+  SameRing old new = (head_of new ≡ head_of old) × (new.links.ghost_name ≡ old.links.ghost_name)
+
+  module _ {E : Type 0} (neighbors : E → Neighbors) (table : L → Table E) where
+    -- THE TABLE SHOWS s for the ring of the cursor
+    abbrev pub ShowsAt : CursorMut T L → List Place → Type 0
+    ShowsAt c s = Shows neighbors (table (links_of c)) (head_of c) s
+
+    -- it stands in the ring
+    abbrev pub IsStanding : CursorMut T L → Type 0
+    IsStanding c = Stands neighbors (table (links_of c)) (head_of c) (at_of c)
+
+    -- nothing is changed but entries of the ring and of these places
+    abbrev pub KeepsBesideRing : CursorMut T L → CursorMut T L → (List Place → List Place) → Type 0
+    KeepsBesideRing old new and = (s : List Place) → ShowsAt old s → KeepsBeside (table (links_of old)) (table (links_of new)) (and s)

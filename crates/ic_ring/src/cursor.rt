@@ -1,0 +1,181 @@
+//! A cursor that reads a ring.
+//!
+//! ```text
+//! let mut cursor = ready.cursor(&links); // on the head
+//! cursor.move_next();                    // on the first member, on the head in an empty ring
+//! let first = cursor.get_ptr();
+//! ```
+
+ghost use Rattle.std.specs.Prelude.{◌≡◌, ◌≢◌, ◌↔◌, ◌∷◌, List, None, IsTrue, ⊤};
+ghost use Rattle.ic_unsafe_ref.specs.declared.place.Place.{Place};
+ghost use Rattle.std.specs.Option.{option_copied};
+ghost use Rattle.ic_unsafe_ref.specs.Objects.{object_at};
+ghost use Rattle.ic_link_ops.specs.Sequences.{IsMember};
+ghost use Rattle.ic_ring.specs.Rings.{InRing, Shows};
+ghost use Rattle.ic_ring.specs.RingCursors.{IsOn, MovesOn, MovesBack};
+
+use crate::ring::Ring;
+use crate::surgery::{next_of, prev_of};
+use ic_link_ops::LinkOps;
+use ic_link_ops::linked_list::LinkedListOps;
+use ic_unsafe_ref::{Objects, Place};
+use std::alloc::{AllocError, Allocator};
+use std::marker::PhantomData;
+
+/// A position in a ring: on a member, or on the head, which stands between the last member and the first.
+pub struct Cursor<'a, T, L> {
+    links: &'a L,
+    of: PhantomData<T>,
+    head: Place,
+    at: Place,
+}
+
+impl<T, L> Drop for Cursor<'_, T, L> {
+    fn drop(self) {
+        let Cursor {
+            links: _,
+            of: _,
+            head: _,
+            at: _,
+        } = self;
+    }
+}
+
+// The member at a place of the ring with this head, none at the head.
+#[inline]
+pub(crate) fn member_on(head: Place, at: Place) -> Option<Place>
+    ensures { IsOn head at result }
+{
+    if at == head { None } else { Some(at) }
+}
+
+// The object of that member.
+#[inline]
+pub(crate) fn object_on<T, A: Allocator>(
+    objects: &Objects<T, A>,
+    head: Place,
+    at: Place,
+) -> Option<&T>
+    ensures on { at ≢ head → option_copied result ≡ object_at objects.now at }
+    ensures null { at ≡ head → result ≡ None }
+{
+    if at == head { None } else { objects.get(at) }
+}
+
+impl<'a, T, L: LinkedListOps> Cursor<'a, T, L> {
+    ghost use Rattle.ic_ring.specs.Cursor.{links_of, head_of, at_of, IsStanding, SameRing};
+
+    // A cursor at that place of the ring with this head.
+    #[inline]
+    pub(crate) fn new(links: &'a L, head: Place, at: Place) -> Cursor<'a, T, L>
+        ensures links { links_of result ≡ links.now }
+        ensures head { head_of result ≡ head }
+        ensures at { at_of result ≡ at }
+    {
+        Cursor {
+            links,
+            of: PhantomData,
+            head,
+            at,
+        }
+    }
+
+    /// Whether the cursor is on the head. O(1).
+    #[inline]
+    pub fn is_null(&self) -> bool
+        ensures { IsTrue result ↔ (at_of self.now ≡ head_of self.now) }
+    {
+        self.at == self.head
+    }
+
+    /// The place of the member that the cursor is on, `None` on the head. O(1).
+    #[inline]
+    pub fn get_ptr(&self) -> Option<Place>
+        ensures { IsOn (head_of self.now) (at_of self.now) result }
+    {
+        member_on(self.head, self.at)
+    }
+
+    /// The object that the cursor is on, `None` on the head. One look-up, O(1).
+    #[inline]
+    pub fn get<'b, A: Allocator>(&self, objects: &'b Objects<T, A>) -> Option<&'b T>
+        ensures on { at_of self.now ≢ head_of self.now → option_copied result ≡ object_at objects.now (at_of self.now) }
+        ensures null { at_of self.now ≡ head_of self.now → result ≡ None }
+    {
+        object_on(objects, self.head, self.at)
+    }
+
+    /// Moves to the next member, from the head to the first one, and from the last one to the head. O(1).
+    ///
+    /// It requires that the cursor stands in the ring. The gap that was behind the cursor is then in front of it.
+    #[inline]
+    pub fn move_next(&mut self)
+        requires stands { IsStanding L.neighbors L.table self.old }
+        ensures moved { MovesOn L.neighbors (L.table (links_of self.old)) (head_of self.old) (at_of self.old) (at_of self.new) }
+        ensures stands { IsStanding L.neighbors L.table self.new }
+        ensures same { SameRing self.old self.new }
+    {
+        self.at = next_of(self.links, self.at);
+    }
+
+    /// Moves to the previous member, from the head to the last one, and from the first one to the head. O(1).
+    ///
+    /// It requires that the cursor stands in the ring. The gap that was in front of the cursor is then behind it.
+    #[inline]
+    pub fn move_prev(&mut self)
+        requires stands { IsStanding L.neighbors L.table self.old }
+        ensures moved { MovesBack L.neighbors (L.table (links_of self.old)) (head_of self.old) (at_of self.old) (at_of self.new) }
+        ensures stands { IsStanding L.neighbors L.table self.new }
+        ensures same { SameRing self.old self.new }
+    {
+        self.at = prev_of(self.links, self.at);
+    }
+}
+
+impl<T, L> Clone for Cursor<'_, T, L> {
+    ghost is_clone = { λ c copy. copy ≡ c };
+
+    ghost is_infallible = { λ _. ⊤ };
+
+    /// A cursor at the same place. It never fails.
+    fn clone(&self) -> Result<Self, AllocError> {
+        Ok(Cursor {
+            links: self.links,
+            of: PhantomData,
+            head: self.head,
+            at: self.at,
+        })
+    }
+}
+
+impl<T> Ring<T> {
+    ghost use Rattle.ic_ring.specs.Cursor.{links_of, head_of, at_of, IsStanding};
+
+    /// A cursor on the head, that reads. O(1).
+    ///
+    /// It requires that the table shows the ring.
+    #[inline]
+    pub fn cursor<'a, L: LinkedListOps>(&self, links: &'a L) -> Cursor<'a, T, L>
+        requires shown { InRing L.neighbors (L.table links.now) self.now }
+        ensures links { links_of result ≡ links.now }
+        ensures head { head_of result ≡ self.now }
+        ensures at { at_of result ≡ self.now }
+        ensures stands { IsStanding L.neighbors L.table result }
+    {
+        Cursor::new(links, self.head(), self.head())
+    }
+
+    /// A cursor on a member, or on the head, that reads. O(1).
+    ///
+    /// It requires that the place stands in this ring.
+    #[inline]
+    pub fn cursor_at<'a, L: LinkedListOps>(&self, links: &'a L, at: Place) -> Cursor<'a, T, L>
+        requires here { (r : List Place) × Shows L.neighbors (L.table links.now) self.now r × IsMember at (self.now ∷ r) }
+        ensures links { links_of result ≡ links.now }
+        ensures head { head_of result ≡ self.now }
+        ensures at { at_of result ≡ at }
+        ensures stands { IsStanding L.neighbors L.table result }
+    {
+        Cursor::new(links, self.head(), at)
+    }
+}

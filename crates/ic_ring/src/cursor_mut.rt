@@ -1,0 +1,341 @@
+//! A cursor that edits a ring.
+//!
+//! ```text
+//! let mut cursor = ready.cursor_mut(&mut links); // on the head
+//! cursor.move_next();                            // on the first member
+//! cursor.insert_after(object)?;                  // behind it
+//! let removed = cursor.remove();                 // and the cursor is on the object
+//! ```
+
+ghost use Rattle.std.specs.Prelude.{◌≡◌, ◌≢◌, ◌↔◌, ◌∷◌, ◌++◌, List, [], None, Some, IsTrue, OnOk, OnErr, OnSome, IfOk, IfErr, IfSome, IfNone, drop};
+ghost use Rattle.std.specs.Option.{option_copied};
+ghost use Rattle.ic_unsafe_ref.specs.declared.place.Place.{Place};
+ghost use Rattle.ic_unsafe_ref.specs.Objects.{object_at};
+ghost use Rattle.ic_link_ops.specs.Errors.{object_of, ByCause};
+ghost use Rattle.ic_link_ops.specs.LinkSteps.{acquires, releases};
+ghost use Rattle.ic_link_ops.specs.Sequences.{Cut, join, insert, remove, replace, splice, first_or, IsAbsent, IsMember};
+ghost use Rattle.ic_link_ops.specs.Tables.{IsCovered, KeepsBeside};
+ghost use Rattle.ic_ring.specs.Rings.{InRing, Shows, OthersStay};
+ghost use Rattle.ic_ring.specs.RingCursors.{IsAfter, IsBefore, IsOn, MovesOn, MovesBack};
+
+use crate::beside::{insert_after, insert_before, replace, unlink};
+use crate::cursor::{Cursor, member_on, object_on};
+use crate::exchanges::splice_behind;
+use crate::ring::Ring;
+use crate::surgery::{next_of, prev_of};
+use ic_link_ops::linked_list::LinkedListOps;
+use ic_link_ops::{AlreadyLinked, LinkOps, ReplaceError};
+use ic_unsafe_ref::{Objects, Place, UnsafeRef};
+use std::alloc::Allocator;
+use std::marker::PhantomData;
+
+/// A position in a ring that it edits, with the table of its links: on a member, or on the head.
+pub struct CursorMut<'a, T, L> {
+    links: &'a mut L,
+    of: PhantomData<T>,
+    head: Place,
+    at: Place,
+}
+
+impl<T, L> Drop for CursorMut<'_, T, L> {
+    fn drop(self)
+        ensures links { self.exit.0.now ≡ self.entry.links.now }
+    {
+        let CursorMut {
+            links: _,
+            of: _,
+            head: _,
+            at: _,
+        } = self;
+    }
+}
+
+impl<'a, T, L: LinkedListOps> CursorMut<'a, T, L> {
+    ghost use Rattle.ic_ring.specs.CursorMut.{links_of, head_of, at_of, IsBorrowed, IsStanding, SameRing, ShowsAt, KeepsBesideRing};
+    ghost use Rattle.ic_ring.specs.Cursor as reading;
+
+    // A cursor at that place of the ring with this head.
+    #[inline]
+    pub(crate) fn new(links: &'a mut L, head: Place, at: Place) -> CursorMut<'a, T, L>
+        ensures borrows { IsBorrowed links.entry result }
+        ensures head { head_of result ≡ head }
+        ensures at { at_of result ≡ at }
+    {
+        CursorMut {
+            links,
+            of: PhantomData,
+            head,
+            at,
+        }
+    }
+
+    /// Whether the cursor is on the head. O(1).
+    #[inline]
+    pub fn is_null(&self) -> bool
+        ensures { IsTrue result ↔ (at_of self.now ≡ head_of self.now) }
+    {
+        self.at == self.head
+    }
+
+    /// The place of the member that the cursor is on, `None` on the head. O(1).
+    #[inline]
+    pub fn get_ptr(&self) -> Option<Place>
+        ensures { IsOn (head_of self.now) (at_of self.now) result }
+    {
+        member_on(self.head, self.at)
+    }
+
+    /// The object that the cursor is on, `None` on the head. One look-up, O(1).
+    #[inline]
+    pub fn get<'b, A: Allocator>(&self, objects: &'b Objects<T, A>) -> Option<&'b T>
+        ensures on { at_of self.now ≢ head_of self.now → option_copied result ≡ object_at objects.now (at_of self.now) }
+        ensures null { at_of self.now ≡ head_of self.now → result ≡ None }
+    {
+        object_on(objects, self.head, self.at)
+    }
+
+    /// A cursor that reads, at the same place. O(1).
+    #[inline]
+    pub fn as_cursor(&self) -> Cursor<'_, T, L>
+        ensures links { reading.links_of result ≡ links_of self.now }
+        ensures head { reading.head_of result ≡ head_of self.now }
+        ensures at { reading.at_of result ≡ at_of self.now }
+    {
+        Cursor::new(&*self.links, self.head, self.at)
+    }
+
+    /// Moves to the next member, from the head to the first one, and from the last one to the head. O(1).
+    ///
+    /// It requires that the cursor stands in the ring. The gap that was behind the cursor is then in front of it.
+    #[inline]
+    pub fn move_next(&mut self)
+        requires stands { IsStanding L.neighbors L.table self.old }
+        ensures moved { MovesOn L.neighbors (L.table (links_of self.old)) (head_of self.old) (at_of self.old) (at_of self.new) }
+        ensures stands { IsStanding L.neighbors L.table self.new }
+        ensures same { SameRing self.old self.new }
+        ensures links { links_of self.new ≡ links_of self.old }
+    {
+        self.at = next_of(&*self.links, self.at);
+    }
+
+    /// Moves to the previous member, from the head to the last one, and from the first one to the head. O(1).
+    ///
+    /// It requires that the cursor stands in the ring. The gap that was in front of the cursor is then behind it.
+    #[inline]
+    pub fn move_prev(&mut self)
+        requires stands { IsStanding L.neighbors L.table self.old }
+        ensures moved { MovesBack L.neighbors (L.table (links_of self.old)) (head_of self.old) (at_of self.old) (at_of self.new) }
+        ensures stands { IsStanding L.neighbors L.table self.new }
+        ensures same { SameRing self.old self.new }
+        ensures links { links_of self.new ≡ links_of self.old }
+    {
+        self.at = prev_of(&*self.links, self.at);
+    }
+
+    /// Puts the object behind the cursor, on the head in front of the first member, unless its link is refused. O(1), and no memory.
+    ///
+    /// It requires that the cursor stands in the ring, and that the object's place is covered. The cursor stays where it is. A refused
+    /// object comes back, and nothing has changed.
+    #[inline]
+    pub fn insert_after(&mut self, object: UnsafeRef<T>) -> Result<(), AlreadyLinked<T>>
+        requires covered { IsCovered (L.table (links_of self.old)) object }
+        requires stands { IsStanding L.neighbors L.table self.old }
+        ensures inserted { (gap : Cut) → ShowsAt L.neighbors L.table self.old (join gap) → IsAfter (head_of self.old) gap (at_of self.old)
+            → OnOk result (ShowsAt L.neighbors L.table self.new (insert gap object)) }
+        ensures acquired { OnOk result (L.Does (links_of self.old) (links_of self.new) (acquires object ∷ [])) }
+        ensures refused { OnErr result (L.Refused (links_of self.old) (links_of self.new) object) }
+        ensures unchanged { IfErr result (λ refused. refused.0 ≡ object) }
+        ensures at { at_of self.new ≡ at_of self.old }
+        ensures stands { IsStanding L.neighbors L.table self.new }
+        ensures others { OthersStay L.neighbors (L.table (links_of self.old)) (L.table (links_of self.new)) (head_of self.old ∷ []) }
+        ensures frame { KeepsBesideRing L.neighbors L.table self.old self.new (λ s. object ∷ head_of self.old ∷ s) }
+        ensures same { SameRing self.old self.new }
+    {
+        insert_after(self.links, self.at, object)
+    }
+
+    /// Puts the object in front of the cursor, on the head behind the last member, unless its link is refused. O(1), and no memory.
+    ///
+    /// It requires and returns what [`CursorMut::insert_after`] does.
+    #[inline]
+    pub fn insert_before(&mut self, object: UnsafeRef<T>) -> Result<(), AlreadyLinked<T>>
+        requires covered { IsCovered (L.table (links_of self.old)) object }
+        requires stands { IsStanding L.neighbors L.table self.old }
+        ensures inserted { (gap : Cut) → ShowsAt L.neighbors L.table self.old (join gap) → IsBefore (head_of self.old) gap (at_of self.old)
+            → OnOk result (ShowsAt L.neighbors L.table self.new (insert gap object)) }
+        ensures acquired { OnOk result (L.Does (links_of self.old) (links_of self.new) (acquires object ∷ [])) }
+        ensures refused { OnErr result (L.Refused (links_of self.old) (links_of self.new) object) }
+        ensures unchanged { IfErr result (λ refused. refused.0 ≡ object) }
+        ensures at { at_of self.new ≡ at_of self.old }
+        ensures stands { IsStanding L.neighbors L.table self.new }
+        ensures others { OthersStay L.neighbors (L.table (links_of self.old)) (L.table (links_of self.new)) (head_of self.old ∷ []) }
+        ensures frame { KeepsBesideRing L.neighbors L.table self.old self.new (λ s. object ∷ head_of self.old ∷ s) }
+        ensures same { SameRing self.old self.new }
+    {
+        insert_before(self.links, self.at, object)
+    }
+
+    /// Takes the member that the cursor is on out of the ring, unlinks it and returns it, `None` on the head. O(1).
+    ///
+    /// It requires that the cursor stands in the ring. The cursor goes on to the next member, or to the head. On the head nothing has
+    /// changed.
+    #[inline]
+    pub fn remove(&mut self) -> Option<UnsafeRef<T>>
+        requires stands { IsStanding L.neighbors L.table self.old }
+        ensures answer { IsOn (head_of self.old) (at_of self.old) result }
+        ensures removed { (gap : Cut) → ShowsAt L.neighbors L.table self.old (join gap) → IsBefore (head_of self.old) gap (at_of self.old)
+            → OnSome result (ShowsAt L.neighbors L.table self.new (remove gap)) }
+        ensures moved { (gap : Cut) → ShowsAt L.neighbors L.table self.old (join gap) → IsBefore (head_of self.old) gap (at_of self.old)
+            → Some (at_of self.new) ≡ first_or (drop 1 gap.back) (Some (head_of self.old)) }
+        ensures released { IfSome result (λ object. L.Does (links_of self.old) (links_of self.new) (releases object ∷ [])) }
+        ensures null { IfNone result (links_of self.new ≡ links_of self.old) }
+        ensures stands { IsStanding L.neighbors L.table self.new }
+        ensures others { OthersStay L.neighbors (L.table (links_of self.old)) (L.table (links_of self.new)) (head_of self.old ∷ []) }
+        ensures frame { KeepsBesideRing L.neighbors L.table self.old self.new (λ s. head_of self.old ∷ s) }
+        ensures same { SameRing self.old self.new }
+    {
+        if self.at == self.head {
+            return None;
+        }
+        let place = self.at;
+        let prev = prev_of(&*self.links, place);
+        let next = next_of(&*self.links, place);
+        unlink(self.links, prev, place, next);
+        self.at = next;
+        Some(UnsafeRef::new(place))
+    }
+
+    /// Puts the object in the place of the member that the cursor is on, which is unlinked and returned. O(1), and no memory.
+    ///
+    /// It requires that the cursor stands in the ring, and that the object's place is covered. The cursor is on the object then. On the head,
+    /// and where the object's link is refused, the object comes back and nothing has changed.
+    #[inline]
+    pub fn replace_with(&mut self, object: UnsafeRef<T>) -> Result<UnsafeRef<T>, ReplaceError<T>>
+        requires covered { IsCovered (L.table (links_of self.old)) object }
+        requires stands { IsStanding L.neighbors L.table self.old }
+        ensures answer { IfOk result (λ out. out ≡ at_of self.old) }
+        ensures replaced { (gap : Cut) → ShowsAt L.neighbors L.table self.old (join gap) → IsBefore (head_of self.old) gap (at_of self.old)
+            → OnOk result (ShowsAt L.neighbors L.table self.new (replace gap object)) }
+        ensures moved { OnOk result (at_of self.new ≡ object) }
+        ensures exchanged { IfOk result (λ out. L.Does (links_of self.old) (links_of self.new) (acquires object ∷ releases out ∷ [])) }
+        ensures refused { IfErr result (ByCause ((at_of self.old ≡ head_of self.old) × (links_of self.new ≡ links_of self.old))
+            ((at_of self.old ≢ head_of self.old) × L.Refused (links_of self.old) (links_of self.new) object)) }
+        ensures unchanged { IfErr result (λ refused. (object_of refused ≡ object) × (at_of self.new ≡ at_of self.old)) }
+        ensures stands { IsStanding L.neighbors L.table self.new }
+        ensures others { OthersStay L.neighbors (L.table (links_of self.old)) (L.table (links_of self.new)) (head_of self.old ∷ []) }
+        ensures frame { KeepsBesideRing L.neighbors L.table self.old self.new (λ s. object ∷ head_of self.old ∷ s) }
+        ensures same { SameRing self.old self.new }
+    {
+        if self.at == self.head {
+            return Err(ReplaceError::Null(object));
+        }
+        let out = UnsafeRef::new(self.at);
+        let place = object.place();
+        if let Err(refused) = replace(self.links, &out, object) {
+            return Err(ReplaceError::AlreadyLinked(refused.into_object()));
+        }
+        self.at = place;
+        Ok(out)
+    }
+
+    /// Puts all members of another ring behind the cursor. The other ring is empty then. O(1), and no link step.
+    ///
+    /// It requires that the cursor stands in its ring, and that they are two rings. The cursor stays where it is. Linux: `list_splice_init`.
+    #[inline]
+    pub fn splice_after(&mut self, given: &Ring<T>)
+        requires stands { IsStanding L.neighbors L.table self.old }
+        requires apart { (t : List Place) × Shows L.neighbors (L.table (links_of self.old)) given.now t × IsAbsent (head_of self.old) (given.now ∷ t) }
+        ensures spliced { (gap : Cut) (t : List Place) → ShowsAt L.neighbors L.table self.old (join gap) → IsAfter (head_of self.old) gap (at_of self.old)
+            → Shows L.neighbors (L.table (links_of self.old)) given.now t
+            → ShowsAt L.neighbors L.table self.new (splice gap t) × Shows L.neighbors (L.table (links_of self.new)) given.now [] }
+        ensures no_step { L.Does (links_of self.old) (links_of self.new) [] }
+        ensures at { at_of self.new ≡ at_of self.old }
+        ensures stands { IsStanding L.neighbors L.table self.new }
+        ensures others { OthersStay L.neighbors (L.table (links_of self.old)) (L.table (links_of self.new)) (head_of self.old ∷ given.now ∷ []) }
+        ensures frame { (t : List Place) → Shows L.neighbors (L.table (links_of self.old)) given.now t
+            → KeepsBesideRing L.neighbors L.table self.old self.new (λ s. (head_of self.old ∷ s) ++ (given.now ∷ t)) }
+        ensures same { SameRing self.old self.new }
+    {
+        splice_behind(self.links, self.at, given.head());
+    }
+
+    /// Puts all members of another ring in front of the cursor. The other ring is empty then. O(1), and no link step.
+    ///
+    /// It requires what [`CursorMut::splice_after`] does. The cursor stays where it is. Linux: `list_splice_tail_init`.
+    #[inline]
+    pub fn splice_before(&mut self, given: &Ring<T>)
+        requires stands { IsStanding L.neighbors L.table self.old }
+        requires apart { (t : List Place) × Shows L.neighbors (L.table (links_of self.old)) given.now t × IsAbsent (head_of self.old) (given.now ∷ t) }
+        ensures spliced { (gap : Cut) (t : List Place) → ShowsAt L.neighbors L.table self.old (join gap) → IsBefore (head_of self.old) gap (at_of self.old)
+            → Shows L.neighbors (L.table (links_of self.old)) given.now t
+            → ShowsAt L.neighbors L.table self.new (splice gap t) × Shows L.neighbors (L.table (links_of self.new)) given.now [] }
+        ensures no_step { L.Does (links_of self.old) (links_of self.new) [] }
+        ensures at { at_of self.new ≡ at_of self.old }
+        ensures stands { IsStanding L.neighbors L.table self.new }
+        ensures others { OthersStay L.neighbors (L.table (links_of self.old)) (L.table (links_of self.new)) (head_of self.old ∷ given.now ∷ []) }
+        ensures frame { (t : List Place) → Shows L.neighbors (L.table (links_of self.old)) given.now t
+            → KeepsBesideRing L.neighbors L.table self.old self.new (λ s. (head_of self.old ∷ s) ++ (given.now ∷ t)) }
+        ensures same { SameRing self.old self.new }
+    {
+        let prev = prev_of(&*self.links, self.at);
+        splice_behind(self.links, prev, given.head());
+    }
+
+    /// Moves the members behind the cursor to the front of another ring, on the head all of them. O(1), and no link step.
+    ///
+    /// It requires that the cursor stands in its ring, and that they are two rings. The cursor stays where it is.
+    #[inline]
+    pub fn split_after(&mut self, rest: &Ring<T>)
+        requires stands { IsStanding L.neighbors L.table self.old }
+        requires apart { (t : List Place) × Shows L.neighbors (L.table (links_of self.old)) rest.now t × IsAbsent (head_of self.old) (rest.now ∷ t) }
+        ensures split { (gap : Cut) (t : List Place) → ShowsAt L.neighbors L.table self.old (join gap) → IsAfter (head_of self.old) gap (at_of self.old)
+            → Shows L.neighbors (L.table (links_of self.old)) rest.now t
+            → ShowsAt L.neighbors L.table self.new gap.front × Shows L.neighbors (L.table (links_of self.new)) rest.now (gap.back ++ t) }
+        ensures no_step { L.Does (links_of self.old) (links_of self.new) [] }
+        ensures at { at_of self.new ≡ at_of self.old }
+        ensures stands { IsStanding L.neighbors L.table self.new }
+        ensures others { OthersStay L.neighbors (L.table (links_of self.old)) (L.table (links_of self.new)) (head_of self.old ∷ rest.now ∷ []) }
+        ensures frame { (t : List Place) → Shows L.neighbors (L.table (links_of self.old)) rest.now t
+            → KeepsBesideRing L.neighbors L.table self.old self.new (λ s. (head_of self.old ∷ s) ++ (rest.now ∷ t)) }
+        ensures same { SameRing self.old self.new }
+    {
+        let ring: Ring<T> = Ring::from_head(self.head);
+        ring.split_after(self.links, self.at, rest);
+    }
+}
+
+impl<T> Ring<T> {
+    ghost use Rattle.ic_ring.specs.CursorMut.{head_of, at_of, IsBorrowed, IsStanding};
+
+    /// A cursor on the head, that edits. O(1).
+    ///
+    /// It requires that the table shows the ring.
+    #[inline]
+    pub fn cursor_mut<'a, L: LinkedListOps>(&self, links: &'a mut L) -> CursorMut<'a, T, L>
+        requires shown { InRing L.neighbors (L.table links.old) self.now }
+        ensures borrows { IsBorrowed links.entry result }
+        ensures head { head_of result ≡ self.now }
+        ensures at { at_of result ≡ self.now }
+        ensures stands { IsStanding L.neighbors L.table result }
+    {
+        CursorMut::new(links, self.head(), self.head())
+    }
+
+    /// A cursor on a member, or on the head, that edits. O(1).
+    ///
+    /// It requires that the place stands in this ring.
+    #[inline]
+    pub fn cursor_mut_at<'a, L: LinkedListOps>(
+        &self,
+        links: &'a mut L,
+        at: Place,
+    ) -> CursorMut<'a, T, L>
+        requires here { (r : List Place) × Shows L.neighbors (L.table links.old) self.now r × IsMember at (self.now ∷ r) }
+        ensures borrows { IsBorrowed links.entry result }
+        ensures head { head_of result ≡ self.now }
+        ensures at { at_of result ≡ at }
+        ensures stands { IsStanding L.neighbors L.table result }
+    {
+        CursorMut::new(links, self.head(), at)
+    }
+}
