@@ -74,6 +74,13 @@ chains_weakened successor Belongs Weaker weaken t i (f ∷ fs) s (chain, rest, i
 abbrev pub Elsewhere : (ℕ → Place → Type 0) → ℕ → Place → Type 0
 Elsewhere Belongs n p = (j : ℕ) × (j ≢ n) × Belongs j p
 
+-- one that belongs in a chain in front of n, and one in a chain behind it
+abbrev pub Below : (ℕ → Place → Type 0) → ℕ → Place → Type 0
+Below Belongs n p = (j : ℕ) × (j < n) × Belongs j p
+
+abbrev pub Above : (ℕ → Place → Type 0) → ℕ → Place → Type 0
+Above Belongs n p = (j : ℕ) × (n < j) × Belongs j p
+
 module _ {E : Type 0} (successor : E → Successor) (Belongs : ℕ → Place → Type 0) where
   -- ONE CHAIN, number n, seen between the others, of which none is number n. What is shown with another front in its place
   pub record Between (t : Table E) (i k n : ℕ) (fronts : List (Option Place)) (s : List Place) : Type 1 where
@@ -85,6 +92,8 @@ module _ {E : Type 0} (successor : E → Successor) (Belongs : ℕ → Place →
     pub own : AllByRecursion (Belongs n) chain
     pub ahead_others : AllByRecursion (Elsewhere Belongs n) ahead
     pub behind_others : AllByRecursion (Elsewhere Belongs n) behind
+    pub ahead_below : AllByRecursion (Below Belongs n) ahead
+    pub behind_above : AllByRecursion (Above Belongs n) behind
     pub put : {new : Table E} (Other : ℕ → Place → Type 0) → ((j : ℕ) (p : Place) → j ≢ n → Belongs j p → Other j p) → (front : Option Place) (instead touched : List Place)
         → ShowsFrom successor new front instead → AllByRecursion (Other n) instead
         → IsDisjoint ahead touched → IsDisjoint behind touched → ((q : Place) → IsAbsent q touched → new.entry q ≡ t.entry q)
@@ -101,6 +110,12 @@ module _ {E : Type 0} (successor : E → Successor) (Belongs : ℕ → Place →
   behind_elsewhere t n i (f ∷ fs) s (chain, rest, is, shown, own, more) less =
       subst (AllByRecursion (Elsewhere Belongs n)) (sym is)
       (all_both (Elsewhere Belongs n) chain rest (all_map (λ p b. (i, (λ e. absurd (omega (arith, less, e))), b)) chain own) (behind_elsewhere t n (suc i) fs rest more (omega (arith, less))))
+
+  behind_beyond : (t : Table E) (n i : ℕ) (fronts : List (Option Place)) (s : List Place) → AreChained successor Belongs t i fronts s → n < i → AllByRecursion (Above Belongs n) s
+  behind_beyond t n i [] s h less = subst (AllByRecursion (Above Belongs n)) (sym h) tt
+  behind_beyond t n i (f ∷ fs) s (chain, rest, is, shown, own, more) less =
+      subst (AllByRecursion (Above Belongs n)) (sym is)
+      (all_both (Above Belongs n) chain rest (all_map (λ p b. (i, less, b)) chain own) (behind_beyond t n (suc i) fs rest more (omega (arith, less))))
 
   -- and by another measure, which agrees on them
   chains_above : (t : Table E) (n : ℕ) (Other : ℕ → Place → Type 0) → ((j : ℕ) (p : Place) → j ≢ n → Belongs j p → Other j p)
@@ -125,6 +140,8 @@ module _ {E : Type 0} (successor : E → Successor) (Belongs : ℕ → Place →
         own = subst (λ j. AllByRecursion (Belongs j) chain) here own;
         ahead_others = tt;
         behind_others = behind_elsewhere t n (suc i) fs rest more (omega (arith, here));
+        ahead_below = tt;
+        behind_above = behind_beyond t n (suc i) fs rest more (omega (arith, here));
         more = subst (λ j. AreChained successor Belongs t (suc j) fs rest) here more;
         none_ahead = λ none. refl;
         put = λ {new} Other other front instead touched shows belongs _ apart same. (
@@ -146,6 +163,8 @@ module _ {E : Type 0} (successor : E → Successor) (Belongs : ℕ → Place →
         own = r.own;
         ahead_others = all_both (Elsewhere Belongs n) chain r.ahead (all_map (λ p b. (i, (λ e. absurd (omega (arith, is_n, e))), b)) chain own) r.ahead_others;
         behind_others = r.behind_others;
+        ahead_below = all_both (Below Belongs n) chain r.ahead (all_map (λ p b. (i, (omega (arith, is_n)), b)) chain own) r.ahead_below;
+        behind_above = r.behind_above;
         more = r.more;
         none_ahead = λ none. ap (λ l. l ++ r.ahead) (empty_chain chain (none 0 (omega arith)) shown) ∙ r.none_ahead (λ j less. none (suc j) (omega (arith, less)));
         put = λ {new} Other other front instead touched shows belongs apart_ahead apart_behind same. (

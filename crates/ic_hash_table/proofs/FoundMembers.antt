@@ -1,5 +1,5 @@
 -- What a search of one chain tells of all members.
-use Rattle.std.proofs.Common.{◌≡◌, ◌≢◌, ℕ, ◌<◌, Bool, true, false, Option, Some, None, IsSome, is_some, drop, eqb-true, eq-eqb, true≢false, List, [], ◌∷◌, ◌++◌, slice_index_or, refl, sym, ap, ◌∙◌, subst, arith, append_assoc}
+use Rattle.std.proofs.Common.{◌≡◌, ◌≢◌, ℕ, ◌<◌, Bool, true, false, Option, Some, None, IsSome, IfSome, is_some, drop, eqb-true, eq-eqb, true≢false, List, [], ◌∷◌, ◌++◌, slice_index_or, refl, sym, ap, ◌∙◌, subst, arith, append_assoc}
 use Rattle.std.specs.List.{AllByRecursion}
 use Rattle.ic_unsafe_ref.specs.declared.place.Place.{Place}
 use Rattle.ic_unsafe_ref.specs.Objects.{Objects, object_at}
@@ -78,6 +78,13 @@ pub stops_at : {E : Type 0} {successor : E → Successor} {t : Table E} {front :
 stops_at {successor = successor} {t = t} {front = front} {p = p} stop shown =
     let whole = sym stop.whole ∙ ap (λ l. stop.gap.front ++ l) (first_is stop.gap.back stop.here) in
     (stop.gap.front, drop 1 stop.gap.back, subst (ShowsFrom successor t front) whole shown, stop.after)
+
+-- and so where it may have come to the end
+pub stops_some : {E : Type 0} {successor : E → Successor} {t : Table E} {front : Option Place} {chain : List Place} {is : Place → Bool} {before : Option Place} (at : Option Place)
+    → StopsAt is chain before at → ShowsFrom successor t front chain
+    → IfSome at (λ p. (ahead back : List Place) × ShowsFrom successor t front (ahead ++ p ∷ back) × (before ≡ last ahead))
+stops_some None stop shown = tt
+stops_some (Some p) stop shown = stops_at stop shown
 
 -- the place that is searched by itself
 pub same_if_place : (p q : Place) → is_place p q ≡ true → q ≡ p

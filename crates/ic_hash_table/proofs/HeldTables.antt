@@ -4,18 +4,20 @@ use Rattle.std.specs.List.{AllByRecursion}
 use Rattle.std.proofs.lemmas.List.{length-set}
 use Rattle.ic_unsafe_ref.specs.declared.place.Place.{Place}
 use Rattle.ic_unsafe_ref.specs.Objects.{Objects, object_at}
-use Rattle.ic_link_ops.specs.Sequences.{Cut, join, insert, first, IsAbsent, IsDistinct, IsDisjoint}
+use Rattle.ic_link_ops.specs.Sequences.{Cut, join, insert, first, IsAbsent, IsMember, IsDistinct, IsDisjoint}
 use Rattle.ic_link_ops.specs.Tables.{Table, KeepsBeside}
 use Rattle.ic_link_ops.specs.SinglyLinkedList.{Successor}
 use Rattle.ic_link_ops.proofs.CollectionLaws.{IsKind}
-use Rattle.ic_link_ops.proofs.Each.{all_with, all_without}
-use Rattle.ic_link_ops.proofs.SequenceLemmas.{absent_left, absent_right, disjoint_cons, disjoint_left, disjoint_sym, distinct_disjoint, distinct_right, distinct_insert, distinct_remove, none_not}
+use Rattle.ic_link_ops.proofs.Each.{all_with, all_without, all_both, all_map, all_front}
+use Rattle.ic_link_ops.proofs.SequenceLemmas.{absent_left, absent_right, disjoint_cons, disjoint_left, disjoint_sym, distinct_disjoint, distinct_right, distinct_insert, distinct_remove, none_not, split_member}
 use Rattle.ic_hash_table.specs.declared.table.HashTable.{HashTable}
 use Rattle.ic_hash_table.specs.Slots.{slot_of}
 use Rattle.ic_hash_table.specs.Chains.{AreChained, ShowsFrom}
 use Rattle.ic_hash_table.specs.HashTable.{BelongsIn, Holds, HoldsAt, HoldsInFront, HoldsWith, IsNew}
 use Rattle.ic_hash_table.specs.Searches.{Finds, StopsAt}
-use Rattle.ic_hash_table.proofs.Chains.{Between, chain_one, chains_frame, chains_free, chains_one, chains_nothing}
+use Rattle.ic_hash_table.specs.declared.slots.Slots.{Slots}
+use Rattle.ic_hash_table.proofs.ChainParts.{of_member}
+use Rattle.ic_hash_table.proofs.Chains.{Between, Above, chain_one, chains_frame, chains_free, chains_one, chains_nothing}
 use Rattle.ic_hash_table.proofs.FoundMembers.{chain_of}
 
 -- two cuts of distinct places at one of them are one
@@ -49,6 +51,10 @@ first_ahead : (found : Option Place) (back behind : List Place) → found ≡ fi
 first_ahead None back behind here = tt
 first_ahead (Some q) [] behind here = absurd (none_not q (sym here))
 first_ahead (Some q) (x ∷ back) behind here = here
+
+-- a place whose object belongs in one of the chains up to number k
+abbrev UpTo : {V : Type 0} → Slots → (V → ℕ) → Objects V → ℕ → Place → Type 0
+UpTo slots hash objects k p = (j : ℕ) × (j ≤ k) × BelongsIn slots hash objects j p
 
 -- the table with other buckets and another count
 abbrev pub with_buckets : {A B : Type 0} → HashTable A B → B → ℕ → HashTable A B
@@ -89,6 +95,14 @@ module _ {E A B V : Type 0} (successor : E → Successor) (hash : A → V → �
             well_formed = held.well_formed;
             enough = omega (arith, held.enough, ap length set, length-set (fronts table.buckets) k front);
           };
+          apart = λ x y member behind v w at_x at_y same.
+              let up_to = all_both (UpTo table.slots (hash table.adapter) objects k) c.ahead f
+              (all_map (λ q j. (j.0, omega (arith, j.1), j.2)) c.ahead c.ahead_below)
+              (all_map (λ q b. (k, (omega arith), b)) f (all_front Own f b (subst (AllByRecursion Own) is c.own))) in
+              let one = of_member (UpTo table.slots (hash table.adapter) objects k) (c.ahead ++ f) x up_to member in
+              let other = of_member (Above (BelongsIn table.slots (hash table.adapter) objects) k) c.behind y c.behind_above behind in
+              let e : one.0 ≡ other.0 = sym (one.2 v at_x) ∙ ap (slot_of table.slots) same ∙ other.2 w at_y in
+              absurd (omega (arith, one.1, other.1, e));
         }
 
     -- ONE LESS, wherever it stood in chain k
@@ -120,6 +134,10 @@ module _ {E A B V : Type 0} (successor : E → Successor) (hash : A → V → �
 module _ {E : Type 0} {successor : E → Successor} {Belongs : ℕ → Place → Type 0} {t : Table E} {k : ℕ} {fronts : List (Option Place)} {s : List Place} (c : Between successor Belongs t 0 k k fronts s) where
   pub absent_chain : (q : Place) → IsAbsent q s → IsAbsent q c.chain
   absent_chain q out = absent_left q c.chain c.behind (absent_right q c.ahead (c.chain ++ c.behind) (subst (IsAbsent q) c.parts out))
+
+  -- and a member of it is one of all
+  pub of_chain : (ahead back : List Place) (q : Place) → ShowsFrom successor t (slice_index_or fronts k None) (ahead ++ q ∷ back) → IsMember q s
+  of_chain ahead back q was out = split_member ahead q back (subst (IsAbsent q) (chain_one c.shown was) (absent_chain q out))
 
   pub frame_put : {new : Table E} {p : Place} → KeepsBeside t new (p ∷ c.chain) → KeepsBeside t new (p ∷ s)
   frame_put frame = record { extent = frame.extent; others = λ q out. frame.others q (out.0, absent_chain q out.1) }

@@ -11,3 +11,4 @@ pub mod RemainingMembers
 pub mod RetainedMembers
 pub mod ShrunkTables
 pub mod SlotLemmas
+pub mod SideBySideLemmas

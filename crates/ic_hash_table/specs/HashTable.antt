@@ -1,12 +1,12 @@
 -- What a table of links holds for a hash table.
-use Rattle.std.specs.Prelude.{◌≡◌, ℕ, ◌≤◌, Bool, Option, None, Some, IfSome, List, ◌∷◌, ◌++◌, length, slice_index_or, ⊤}
+use Rattle.std.specs.Prelude.{◌≡◌, ◌≢◌, ℕ, ◌≤◌, Bool, Option, None, Some, IfSome, List, ◌∷◌, ◌++◌, length, slice_index_or, ⊤}
 use Rattle.std.specs.List.{AllByRecursion}
 use Rattle.ic_unsafe_ref.specs.declared.place.Place.{Place}
 use Rattle.ic_unsafe_ref.specs.Objects.{Objects, object_at}
 use Rattle.ic_link_ops.specs.Tables.{Table}
 use Rattle.ic_link_ops.specs.SinglyLinkedList.{Successor}
 use Rattle.ic_link_ops.specs.PlacedObjects.{ArePlaced}
-use Rattle.ic_link_ops.specs.Sequences.{Cut, join, insert, IsBefore, IsDistinct}
+use Rattle.ic_link_ops.specs.Sequences.{Cut, join, insert, IsBefore, IsDistinct, IsMember}
 use Rattle.ic_hash_table.specs.declared.slots.Slots.{Slots}
 use Rattle.ic_hash_table.specs.declared.table.HashTable.{HashTable}
 use Rattle.ic_hash_table.specs.Slots.{slot_of, IsWellFormed}
@@ -53,6 +53,10 @@ number key_of hash_of adapter value = hash_of adapter (key_of adapter value)
 abbrev pub BelongsIn : {V : Type 0} → Slots → (V → ℕ) → Objects V → ℕ → Place → Type 0
 BelongsIn {V} slots hash objects i p = (value : V) → object_at objects p ≡ Some value → slot_of slots (hash value) ≡ i
 
+-- the objects at two places, if any, have different numbers
+abbrev pub DifferInNumber : {V : Type 0} → (V → ℕ) → Objects V → Place → Place → Type 0
+DifferInNumber {V} hash objects x y = (v w : V) → object_at objects x ≡ Some v → object_at objects y ≡ Some w → hash v ≢ hash w
+
 -- `hash`: the number of a value. `fronts`: the first members of the chains
 module _ {E A B V : Type 0} (successor : E → Successor) (hash : A → V → ℕ) (fronts : B → List (Option Place)) where
   -- THE TABLE HOLDS s: its chains have the members s, each in the chain of its number, no place twice, and an object stands at each
@@ -78,6 +82,8 @@ module _ {E A B V : Type 0} (successor : E → Successor) (hash : A → V → �
     pub behind : List Place
     pub parts : s ≡ (ahead ++ gap.front) ++ (gap.back ++ behind)
     pub holds : Holds t table objects ((ahead ++ gap.front) ++ p ∷ (gap.back ++ behind))
+    -- no member up to the gap has the number of one behind the chain
+    pub apart : (x y : Place) → IsMember x (ahead ++ gap.front) → IsMember y behind → DifferInNumber (hash table.adapter) objects x y
 
   -- it holds s with p put in: directly in front of the first member that passes, where one does
   pub record HoldsInFront (t : Table E) (table : HashTable A B) (objects : Objects V) (is : Place → Bool) (s : List Place) (p : Place) : Type 0 where

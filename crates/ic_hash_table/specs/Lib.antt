@@ -7,3 +7,5 @@ pub mod Growth
 pub mod Entry
 pub mod Iter
 pub mod Retained
+pub mod SideBySide
+pub mod StdHash

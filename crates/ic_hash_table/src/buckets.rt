@@ -72,3 +72,25 @@ impl<const N: usize> Buckets for [PlaceWord; N] {
         self[at] = PlaceWord::of(front);
     }
 }
+
+/// Buckets that stand elsewhere, in memory that is lent. Whoever lends them has them back when the table is gone.
+impl Buckets for &mut [PlaceWord] {
+    ghost fronts = { λ s. s.now };
+
+    #[inline]
+    fn count(&self) -> usize {
+        let words = &**self;
+        words.len()
+    }
+
+    #[inline]
+    fn front(&self, at: usize) -> Option<Place> {
+        let words = &**self;
+        words[at].get()
+    }
+
+    #[inline]
+    fn set_front(&mut self, at: usize, front: Option<Place>) {
+        self[at] = PlaceWord::of(front);
+    }
+}

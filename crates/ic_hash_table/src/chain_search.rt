@@ -14,7 +14,18 @@ ghost use Rattle.ic_hash_table.specs.Chains.{ShowsFrom, ShowsFromSome};
 use crate::Probe;
 use ic_link_ops::LinkOps;
 use ic_link_ops::singly_linked_list::SinglyLinkedListOps;
-use ic_unsafe_ref::{Place, Values};
+use ic_unsafe_ref::{Place, UnsafeRef, Values};
+
+// The reference to what stands at a place, if there is one.
+#[inline]
+pub(crate) fn reference<V>(place: Option<Place>) -> Option<UnsafeRef<V>>
+    ensures { result ≡ place }
+{
+    match place {
+        Some(place) => Some(UnsafeRef::new(place)),
+        None => None,
+    }
+}
 
 // Whether what is searched equals the object of a member.
 #[inline]

@@ -16,8 +16,7 @@ ghost use Rattle.ic_hash_table.specs.Entry.{IfOccupied, IfVacant, member_of, Can
 ghost use Rattle.ic_hash_table.specs.HashTable.{adapter_of, number, Holds, HoldsSome, HoldsWith};
 ghost use Rattle.ic_hash_table.specs.Searches.{has_key, Finds};
 
-use crate::chain_search::find_in_chain;
-use crate::{Buckets, HashAdapter, HashTable, KeyProbe};
+use crate::{Buckets, HashAdapter, HashTable};
 use ic_link_ops::singly_linked_list::SinglyLinkedListOps;
 use ic_link_ops::{AlreadyLinked, LinkOps};
 use ic_unsafe_ref::{Place, UnsafeRef, Values};
@@ -97,9 +96,7 @@ impl<A: HashAdapter, B: Buckets> HashTable<A, B> {
         ensures occupied_borrows { IfOccupied result (IsFoundIn self.entry links.entry) }
         ensures vacant_borrows { IfVacant result (IsVacantIn self.entry links.entry) }
     {
-        let at = self.slots.slot(self.adapter.hash(key));
-        let mut probe = KeyProbe::new(self.adapter, key);
-        let (before, found) = find_in_chain(&*links, objects, &mut probe, self.buckets.front(at));
+        let (at, before, found) = self.search(&*links, objects, key);
         match found {
             Some(place) => Entry::Occupied(OccupiedEntry {
                 table: self,
@@ -150,7 +147,7 @@ impl<A: HashAdapter, B: Buckets, L: SinglyLinkedListOps> OccupiedEntry<'_, A, B,
             before,
             place,
         } = self;
-        table.remove_at(links, objects, at, before, place);
+        table.remove_at(links, at, before, place);
         UnsafeRef::new(place)
     }
 }
@@ -183,6 +180,6 @@ impl<A: HashAdapter, B: Buckets, L: SinglyLinkedListOps> VacantEntry<'_, A, B, L
     {
         let VacantEntry { table, links, at } = self;
         let front = table.buckets.front(at);
-        table.insert_at(links, objects, at, (None, front), object)
+        table.insert_at(links, at, (None, front), object)
     }
 }

@@ -8,16 +8,18 @@
 //! table.insert_equal(&mut links, &objects, object)?; // beside the members that have its key
 //! ```
 
-ghost use Rattle.std.specs.Prelude.{◌≡◌, ◌++◌, ◌∷◌, [], List, Some, true, OnOk, OnErr, IfErr};
+ghost use Rattle.std.specs.Prelude.{◌≡◌, ◌++◌, ◌∷◌, [], List, Some, true, OnOk, OnErr, IfErr, IfSome};
 ghost use Rattle.ic_unsafe_ref.specs.declared.place.Place.{Place};
 ghost use Rattle.ic_unsafe_ref.specs.Objects.{object_at, is_placed};
 ghost use Rattle.ic_link_ops.specs.LinkSteps.{acquires};
 ghost use Rattle.ic_link_ops.specs.Positions.{HasMember};
+ghost use Rattle.ic_link_ops.specs.Sequences.{first};
 ghost use Rattle.ic_link_ops.specs.Tables.{IsCovered, KeepsBeside};
-ghost use Rattle.ic_hash_table.specs.HashTable.{adapter_of, number, Holds, HoldsSome, HoldsInFront};
+ghost use Rattle.ic_hash_table.specs.HashTable.{adapter_of, slots_of, number, Holds, HoldsSome, HoldsInFront};
+ghost use Rattle.ic_hash_table.specs.SideBySide.{AreSideBySide, HoldsSideBySide, same_key};
 ghost use Rattle.ic_hash_table.specs.Searches.{has_key, Finds};
 
-use crate::chain_search::find_in_chain;
+use crate::chain_search::{find_in_chain, reference};
 use crate::{Buckets, HashAdapter, HashTable, KeyProbe};
 use ic_link_ops::singly_linked_list::SinglyLinkedListOps;
 use ic_link_ops::{AlreadyLinked, LinkOps};
@@ -40,15 +42,16 @@ impl<A: HashAdapter, B: Buckets> HashTable<A, B> {
         ensures found { (value : A.Value) → object_at (O.values objects.now) member.now ≡ Some value → (front back : List Place)
             → Holds L.successor (number A.key_of A.hash_of) B.fronts (L.table links.now) self.now (O.values objects.now) (front ++ member.now ∷ back)
             → Finds (has_key A.Key.eq (A.key_of (adapter_of self.now)) (A.key_of (adapter_of self.now) value) (O.values objects.now)) back result }
+        ensures beside { (front back : List Place)
+            → Holds L.successor (number A.key_of A.hash_of) B.fronts (L.table links.now) self.now (O.values objects.now) (front ++ member.now ∷ back)
+            → AreSideBySide (same_key A.Key.eq (A.key_of (adapter_of self.now)) (O.values objects.now)) (front ++ member.now ∷ back)
+            → IfSome result (λ next. first back ≡ Some next) }
     {
         let place = member.place();
         let key = self.adapter.get_key(objects.value(place));
         let mut probe = KeyProbe::new(self.adapter, key);
         let (_, found) = find_in_chain(links, objects, &mut probe, links.next(place));
-        match found {
-            Some(equal) => Some(UnsafeRef::new(equal)),
-            None => None,
-        }
+        reference(found)
     }
 
     /// Puts the object in, directly in front of the first member with an equal key where there is one, unless its link is refused.
@@ -69,17 +72,18 @@ impl<A: HashAdapter, B: Buckets> HashTable<A, B> {
             → (s : List Place) → Holds L.successor (number A.key_of A.hash_of) B.fronts (L.table links.old) self.old (O.values objects.now) s
             → OnOk result (HoldsInFront L.successor (number A.key_of A.hash_of) B.fronts (L.table links.new) self.new (O.values objects.now)
             (has_key A.Key.eq (A.key_of (adapter_of self.old)) (A.key_of (adapter_of self.old) value) (O.values objects.now)) s object) }
+        ensures beside { HoldsSideBySide L.successor (number A.key_of A.hash_of) B.fronts A.Key.eq A.key_of (L.table links.old) self.old (O.values objects.now)
+            → OnOk result (HoldsSideBySide L.successor (number A.key_of A.hash_of) B.fronts A.Key.eq A.key_of (L.table links.new) self.new (O.values objects.now)) }
         ensures acquired { OnOk result (L.Does links.old links.new (acquires object ∷ [])) }
         ensures adapter { adapter_of self.new ≡ adapter_of self.old }
+        ensures slots { slots_of self.new ≡ slots_of self.old }
         ensures refused { OnErr result (L.Refused links.old links.new object) }
         ensures unchanged { IfErr result (λ refused. (refused.0 ≡ object) × (self.new ≡ self.old)) }
         ensures frame { (s : List Place) → Holds L.successor (number A.key_of A.hash_of) B.fronts (L.table links.old) self.old (O.values objects.now) s
             → KeepsBeside (L.table links.old) (L.table links.new) (object ∷ s) }
     {
         let key = self.adapter.get_key(objects.value(object.place()));
-        let at = self.slots.slot(self.adapter.hash(key));
-        let mut probe = KeyProbe::new(self.adapter, key);
-        let neighbors = find_in_chain(&*links, objects, &mut probe, self.buckets.front(at));
-        self.insert_at(links, objects, at, neighbors, object)
+        let (at, before, found) = self.search(&*links, objects, key);
+        self.insert_at(links, at, (before, found), object)
     }
 }

@@ -9,14 +9,14 @@ ghost use Rattle.std.specs.Prelude.{◌≡◌, ◌<◌, ◌≤◌, ◌↔◌, �
 ghost use Rattle.std.specs.Bool.{OnTrue, OnFalse};
 ghost use Rattle.std.specs.List.{AllByRecursion};
 ghost use Rattle.ic_unsafe_ref.specs.declared.place.Place.{Place};
-ghost use Rattle.ic_unsafe_ref.specs.Objects.{object_at, is_placed};
+ghost use Rattle.ic_unsafe_ref.specs.Objects.{Objects, object_at, is_placed};
 ghost use Rattle.ic_link_ops.specs.LinkSteps.{acquires, releases};
-ghost use Rattle.ic_link_ops.specs.Sequences.{Cut, join, IsAfter, IsBefore, IsMember, last};
+ghost use Rattle.ic_link_ops.specs.Sequences.{Cut, join, insert, IsAbsent, IsAfter, IsBefore, IsMember, last};
 ghost use Rattle.ic_link_ops.specs.PlacedObjects.{ShowsPlaced};
 ghost use Rattle.ic_link_ops.specs.Tables.{IsCovered, KeepsBeside};
 ghost use Rattle.ic_link_ops.specs.SinglyLinkedList.{list_from, Shows};
 ghost use Rattle.ic_hash_table.specs.Slots.{slot_of};
-ghost use Rattle.ic_hash_table.specs.Searches.{matches, has_key, Finds, HasRoom, Looks};
+ghost use Rattle.ic_hash_table.specs.Searches.{matches, has_key, Finds, StopsAt, HasRoom, Looks};
 ghost use Rattle.ic_hash_table.specs.Chains.{ShowsFrom};
 
 use crate::chain_edits::unlink_behind;
@@ -56,6 +56,14 @@ impl<A, B> HashTable<A, B> {
         ensures { result ≡ (slots_of self.now).used }
     {
         self.slots.used()
+    }
+
+    /// In which chain it puts the members of a hash: `table.slots().slot(hash)`. O(1).
+    #[inline]
+    pub fn slots(&self) -> Slots
+        ensures { result ≡ slots_of self.now }
+    {
+        self.slots
     }
 
     /// Whether it has no member. O(1).
@@ -140,6 +148,7 @@ impl<A: HashAdapter, B: Buckets> HashTable<A, B> {
             → OnOk result (HoldsWith L.successor (number A.key_of A.hash_of) B.fronts (L.table links.new) self.new (O.values objects.now) s object) }
         ensures acquired { OnOk result (L.Does links.old links.new (acquires object ∷ [])) }
         ensures adapter { adapter_of self.new ≡ adapter_of self.old }
+        ensures slots { slots_of self.new ≡ slots_of self.old }
         ensures refused { OnErr result (L.Refused links.old links.new object) }
         ensures unchanged { IfErr result (λ refused. (refused.0 ≡ object) × (self.new ≡ self.old)) }
         ensures frame { (s : List Place) → Holds L.successor (number A.key_of A.hash_of) B.fronts (L.table links.old) self.old (O.values objects.now) s
@@ -147,7 +156,7 @@ impl<A: HashAdapter, B: Buckets> HashTable<A, B> {
     {
         let at = self.slot_of_object(objects, object.place());
         let front = self.buckets.front(at);
-        self.insert_at(links, objects, at, (None, front), object)
+        self.insert_at(links, at, (None, front), object)
     }
 
     /// The first member that equals what is searched, or `None` if there is none.
@@ -215,16 +224,14 @@ impl<A: HashAdapter, B: Buckets> HashTable<A, B> {
         ensures released { OnTrue result (L.Does links.old links.new (releases object.now ∷ [])) }
         ensures nothing { OnFalse result ((self.new ≡ self.old) × (links.new ≡ links.old)) }
         ensures adapter { adapter_of self.new ≡ adapter_of self.old }
+        ensures slots { slots_of self.new ≡ slots_of self.old }
         ensures frame { (s : List Place) → Holds L.successor (number A.key_of A.hash_of) B.fronts (L.table links.old) self.old (O.values objects.now) s
             → KeepsBeside (L.table links.old) (L.table links.new) s }
     {
-        let place = object.place();
-        let at = self.slot_of_object(objects, place);
-        let (before, found) = find_place_in_chain(&*links, self.buckets.front(at), place);
-        if found.is_none() {
+        let Some((at, before)) = self.locate(&*links, objects, object.place()) else {
             return false;
-        }
-        self.remove_at(links, objects, at, before, place);
+        };
+        self.remove_at(links, at, before, object.place());
         true
     }
 
@@ -250,6 +257,7 @@ impl<A: HashAdapter, B: Buckets> HashTable<A, B> {
             → IfOk result (λ found. IfNone found (HoldsWith L.successor (number A.key_of A.hash_of) B.fronts (L.table links.new) self.new (O.values objects.now) s object)) }
         ensures acquired { IfOk result (λ found. IfNone found (L.Does links.old links.new (acquires object ∷ []))) }
         ensures adapter { adapter_of self.new ≡ adapter_of self.old }
+        ensures slots { slots_of self.new ≡ slots_of self.old }
         ensures refused { OnErr result (L.Refused links.old links.new object) }
         ensures unchanged { IfErr result (λ refused. (refused.0 ≡ object) × (self.new ≡ self.old)) }
         ensures frame { (s : List Place) → Holds L.successor (number A.key_of A.hash_of) B.fronts (L.table links.old) self.old (O.values objects.now) s
@@ -282,16 +290,15 @@ impl<A: HashAdapter, B: Buckets> HashTable<A, B> {
         ensures released { IfSome result (λ object. L.Does links.old links.new (releases object ∷ [])) }
         ensures nothing { IfNone result ((self.new ≡ self.old) × (links.new ≡ links.old)) }
         ensures adapter { adapter_of self.new ≡ adapter_of self.old }
+        ensures slots { slots_of self.new ≡ slots_of self.old }
         ensures frame { (s : List Place) → Holds L.successor (number A.key_of A.hash_of) B.fronts (L.table links.old) self.old (O.values objects.now) s
             → KeepsBeside (L.table links.old) (L.table links.new) s }
     {
-        let mut probe = KeyProbe::new(self.adapter, key);
-        let at = self.slots.slot(self.adapter.hash(key));
-        let (before, found) = find_in_chain(&*links, objects, &mut probe, self.buckets.front(at));
+        let (at, before, found) = self.search(&*links, objects, key);
         let Some(place) = found else {
             return None;
         };
-        self.remove_at(links, objects, at, before, place);
+        self.remove_at(links, at, before, place);
         Some(UnsafeRef::new(place))
     }
 }
@@ -313,33 +320,84 @@ impl<A: HashAdapter, B: Buckets> HashTable<A, B> {
         self.slots.slot(self.adapter.hash(key))
     }
 
-    // Puts the object between two neighbors of chain `at`.
+    // The chain where objects with this key belong, and its first member with the key, with the one before it.
     #[inline]
-    pub(crate) fn insert_at<L: SinglyLinkedListOps, O: Values<A::Value>>(
+    pub(crate) fn search<L: SinglyLinkedListOps, O: Values<A::Value>>(
+        &self,
+        links: &L,
+        objects: &O,
+        key: &A::Key,
+    ) -> (usize, Option<Place>, Option<Place>)
+        requires held { HoldsSome L.successor (number A.key_of A.hash_of) B.fronts (L.table links.now) self.now (O.values objects.now) }
+        ensures within { result.0 < (slots_of self.now).used }
+        ensures slot { result.0 ≡ slot_of (slots_of self.now) (A.hash_of (adapter_of self.now) key.now) }
+        ensures found { (s : List Place) → Holds L.successor (number A.key_of A.hash_of) B.fronts (L.table links.now) self.now (O.values objects.now) s
+            → Finds (has_key A.Key.eq (A.key_of (adapter_of self.now)) key.now (O.values objects.now)) s result.2 }
+        ensures stops { (chain : List Place) → ShowsFrom L.successor (L.table links.now) (front_at B.fronts self.now result.0) chain
+            → StopsAt (has_key A.Key.eq (A.key_of (adapter_of self.now)) key.now (O.values objects.now)) chain result.1 result.2 }
+        ensures member { IfSome result.2 (λ p. (ahead back : List Place)
+            × ShowsFrom L.successor (L.table links.now) (front_at B.fronts self.now result.0) (ahead ++ p ∷ back) × (result.1 ≡ last ahead)) }
+    {
+        let at = self.slots.slot(self.adapter.hash(key));
+        let mut probe = KeyProbe::new(self.adapter, key);
+        let (before, found) = find_in_chain(links, objects, &mut probe, self.buckets.front(at));
+        (at, before, found)
+    }
+
+    // The chain in which the object is a member, and the one before it, `None` where it is a member of none.
+    pub(crate) fn locate<L: SinglyLinkedListOps, O: Values<A::Value>>(
+        &self,
+        links: &L,
+        objects: &O,
+        place: Place,
+    ) -> Option<(usize, Option<Place>)>
+        requires placed { is_placed (O.values objects.now) place ≡ true }
+        requires held { HoldsSome L.successor (number A.key_of A.hash_of) B.fronts (L.table links.now) self.now (O.values objects.now) }
+        ensures within { IfSome result (λ r. r.0 < (slots_of self.now).used) }
+        ensures member { IfSome result (λ r. (ahead back : List Place)
+            × ShowsFrom L.successor (L.table links.now) (front_at B.fronts self.now r.0) (ahead ++ place ∷ back) × (r.1 ≡ last ahead)) }
+        ensures absent { (s : List Place) → Holds L.successor (number A.key_of A.hash_of) B.fronts (L.table links.now) self.now (O.values objects.now) s
+            → IfNone result (IsAbsent place s) }
+        ensures there { (s : List Place) → Holds L.successor (number A.key_of A.hash_of) B.fronts (L.table links.now) self.now (O.values objects.now) s
+            → IfSome result (λ r. IsMember place s) }
+    {
+        let at = self.slot_of_object(objects, place);
+        let (before, found) = find_place_in_chain(links, self.buckets.front(at), place);
+        if found.is_none() {
+            return None;
+        }
+        Some((at, before))
+    }
+
+    // Puts the object between two neighbors of chain `at`. It reads no object.
+    #[inline]
+    pub(crate) fn insert_at<L: SinglyLinkedListOps>(
         &mut self,
         links: &mut L,
-        objects: &O,
         at: usize,
         neighbors: (Option<Place>, Option<Place>),
         object: UnsafeRef<A::Value>,
     ) -> Result<(), AlreadyLinked<A::Value>>
         requires covered { IsCovered (L.table links.old) object }
-        requires placed { is_placed (O.values objects.now) object ≡ true }
-        requires held { HoldsSome L.successor (number A.key_of A.hash_of) B.fronts (L.table links.old) self.old (O.values objects.now) }
+        requires held { (objects : Objects A.Value) × HoldsSome L.successor (number A.key_of A.hash_of) B.fronts (L.table links.old) self.old objects }
         requires within { at < (slots_of self.old).used }
-        requires belongs { BelongsIn (slots_of self.old) (number A.key_of A.hash_of (adapter_of self.old)) (O.values objects.now) at object }
         requires gap { (gap : Cut) × ShowsFrom L.successor (L.table links.old) (front_at B.fronts self.old at) (join gap)
             × IsAfter gap neighbors.0 × IsBefore gap neighbors.1 }
-        ensures inserted { (s : List Place) (gap : Cut)
-            → Holds L.successor (number A.key_of A.hash_of) B.fronts (L.table links.old) self.old (O.values objects.now) s
+        ensures inserted { (objects : Objects A.Value) (s : List Place) (gap : Cut)
+            → Holds L.successor (number A.key_of A.hash_of) B.fronts (L.table links.old) self.old objects s → is_placed objects object ≡ true
+            → BelongsIn (slots_of self.old) (number A.key_of A.hash_of (adapter_of self.old)) objects at object
             → ShowsFrom L.successor (L.table links.old) (front_at B.fronts self.old at) (join gap) → IsAfter gap neighbors.0 → IsBefore gap neighbors.1
-            → OnOk result (HoldsAt L.successor (number A.key_of A.hash_of) B.fronts (L.table links.new) self.new (O.values objects.now) s gap object) }
+            → OnOk result (HoldsAt L.successor (number A.key_of A.hash_of) B.fronts (L.table links.new) self.new objects s gap object) }
+        ensures shows { (gap : Cut) → ShowsFrom L.successor (L.table links.old) (front_at B.fronts self.old at) (join gap)
+            → IsAfter gap neighbors.0 → IsBefore gap neighbors.1
+            → OnOk result (ShowsFrom L.successor (L.table links.new) (front_at B.fronts self.new at) (insert gap object)) }
         ensures acquired { OnOk result (L.Does links.old links.new (acquires object ∷ [])) }
         ensures adapter { adapter_of self.new ≡ adapter_of self.old }
+        ensures slots { slots_of self.new ≡ slots_of self.old }
         ensures refused { OnErr result (L.Refused links.old links.new object) }
         ensures unchanged { IfErr result (λ refused. (refused.0 ≡ object) × (self.new ≡ self.old)) }
-        ensures frame { (s : List Place)
-            → Holds L.successor (number A.key_of A.hash_of) B.fronts (L.table links.old) self.old (O.values objects.now) s
+        ensures frame { (objects : Objects A.Value) (s : List Place)
+            → Holds L.successor (number A.key_of A.hash_of) B.fronts (L.table links.old) self.old objects s
             → KeepsBeside (L.table links.old) (L.table links.new) (object ∷ s) }
     {
         let (before, behind) = neighbors;
@@ -354,27 +412,27 @@ impl<A: HashAdapter, B: Buckets> HashTable<A, B> {
         Ok(())
     }
 
-    // Takes the member behind `before` out of chain `at`.
+    // Takes the member behind `before` out of chain `at`. It reads no object.
     #[inline]
-    pub(crate) fn remove_at<L: SinglyLinkedListOps, O: Values<A::Value>>(
+    pub(crate) fn remove_at<L: SinglyLinkedListOps>(
         &mut self,
         links: &mut L,
-        objects: &O,
         at: usize,
         before: Option<Place>,
         place: Place,
     )
-        requires held { HoldsSome L.successor (number A.key_of A.hash_of) B.fronts (L.table links.old) self.old (O.values objects.now) }
+        requires held { (objects : Objects A.Value) × HoldsSome L.successor (number A.key_of A.hash_of) B.fronts (L.table links.old) self.old objects }
         requires within { at < (slots_of self.old).used }
         requires member { (ahead back : List Place)
             × ShowsFrom L.successor (L.table links.old) (front_at B.fronts self.old at) (ahead ++ place ∷ back) × (before ≡ last ahead) }
-        ensures removed { (front back : List Place)
-            → Holds L.successor (number A.key_of A.hash_of) B.fronts (L.table links.old) self.old (O.values objects.now) (front ++ place ∷ back)
-            → Holds L.successor (number A.key_of A.hash_of) B.fronts (L.table links.new) self.new (O.values objects.now) (front ++ back) }
+        ensures removed { (objects : Objects A.Value) (front back : List Place)
+            → Holds L.successor (number A.key_of A.hash_of) B.fronts (L.table links.old) self.old objects (front ++ place ∷ back)
+            → Holds L.successor (number A.key_of A.hash_of) B.fronts (L.table links.new) self.new objects (front ++ back) }
         ensures released { L.Does links.old links.new (releases place ∷ []) }
         ensures adapter { adapter_of self.new ≡ adapter_of self.old }
-        ensures frame { (s : List Place)
-            → Holds L.successor (number A.key_of A.hash_of) B.fronts (L.table links.old) self.old (O.values objects.now) s
+        ensures slots { slots_of self.new ≡ slots_of self.old }
+        ensures frame { (objects : Objects A.Value) (s : List Place)
+            → Holds L.successor (number A.key_of A.hash_of) B.fronts (L.table links.old) self.old objects s
             → KeepsBeside (L.table links.old) (L.table links.new) s }
     {
         let front = unlink_behind(links, self.buckets.front(at), before, place);

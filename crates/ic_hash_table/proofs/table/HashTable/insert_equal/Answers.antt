@@ -2,25 +2,42 @@ use Rattle.std.proofs.Common.{◌≡◌, sym, ap, ◌∙◌}
 use Rattle.ic_link_ops.proofs.SequenceLemmas.{some_same}
 use Rattle.ic_hash_table.specs.HashTable.{number}
 use Rattle.ic_hash_table.specs.Slots.{slot_of}
-use Rattle.ic_hash_table.proofs.FoundMembers.{chain_of, chain_placed, none_elsewhere, finds}
+use Rattle.ic_hash_table.proofs.FoundMembers.{chain_of}
 use Rattle.ic_hash_table.proofs.HeldTables.{held_in_front, on_ok}
+use Rattle.ic_hash_table.proofs.SideBySideLemmas.{belongs_by_value, keys_beside}
 use Rattle.ic_hash_table.proofs.table.HashTable.insert_equal.Goals as goal
 
-pub find_in_chain-neighbors-requires-clause-placed : goal.find_in_chain-neighbors-requires-clause-placed
-find_in_chain-neighbors-requires-clause-placed g c = rw c.front.ensures (chain_placed c.requires.held.1 c.slot-at.result c.slot-at.ensures.within)
-
-pub insert_at-requires-clause-gap : goal.insert_at-requires-clause-gap
-insert_at-requires-clause-gap g c =
-    let k = chain_of c.requires.held.1 c.slot-at.result c.slot-at.ensures.within in
-    let stop = c.find_in_chain-neighbors.ensures.stops k.chain (rw c.front.ensures k.shown) in
-    (stop.gap, rw stop.whole k.shown, stop.after, stop.here)
+pub insert_at-requires : goal.insert_at-requires
+insert_at-requires g c =
+    let k = chain_of c.requires.held.1 c.search-at.result.0 c.search-at.ensures.within in
+    let stop = c.search-at.ensures.stops k.chain k.shown in record {
+      covered = c.requires.covered;
+      held = (g.O.Values.values c.args.objects.now, c.requires.held);
+      within = c.search-at.ensures.within;
+      gap = (stop.gap, rw stop.whole k.shown, stop.after, stop.here);
+    }
 
 pub returns-clause-inserted : goal.returns-clause-inserted
 returns-clause-inserted g c value there s held =
-    let k = chain_of held c.slot-at.result c.slot-at.ensures.within in
+    let k = chain_of held c.search-at.result.0 c.search-at.ensures.within in
     let is : value ≡ c.value.result.now = some_same (sym there ∙ rw c.place.ensures at c.value.ensures) in
-    let stop = rw (c.new-probe.ensures.adapter, c.new-probe.ensures.key, c.get_key-key.ensures) at (c.find_in_chain-neighbors.ensures.stops k.chain (rw c.front.ensures k.shown)) in
-    let elsewhere = none_elsewhere c.args.self.now.slots (number g.A.HashAdapter.key_of g.A.HashAdapter.hash_of c.args.self.now.adapter) (g.O.Values.values c.args.objects.now)
-    (λ v e. ap (slot_of c.args.self.now.slots) (sym (g.met.A.HashAdapter.equal_alike c.args.self.now.adapter _ (g.A.HashAdapter.key_of c.args.self.now.adapter v) e) ∙ sym (rw c.get_key-key.ensures at c.hash.ensures)) ∙ sym c.slot-at.ensures.slot) in
-    rw is (on_ok c.insert_at.result (held_in_front c.find_in_chain-neighbors.result.1 stop (finds k elsewhere c.find_in_chain-neighbors.result.1 stop))
-    (c.insert_at.ensures.inserted s stop.gap held (rw stop.whole k.shown) stop.after stop.here))
+    let stop = rw c.get_key-key.ensures at (c.search-at.ensures.stops k.chain k.shown) in
+    let belongs = belongs_by_value c.args.self.now.slots (number g.A.HashAdapter.key_of g.A.HashAdapter.hash_of c.args.self.now.adapter) (g.O.Values.values c.args.objects.now) c.args.object c.value.result.now
+    (rw c.place.ensures at c.value.ensures) (c.search-at.ensures.slot ∙ ap (λ k. slot_of c.args.self.now.slots (g.A.HashAdapter.hash_of c.args.self.now.adapter k)) c.get_key-key.ensures) in
+    rw is (on_ok c.insert_at.result (held_in_front c.search-at.result.2 stop (rw c.get_key-key.ensures at (c.search-at.ensures.found s held)))
+    (c.insert_at.ensures.inserted (g.O.Values.values c.args.objects.now) s stop.gap held c.requires.placed belongs (rw stop.whole k.shown) stop.after stop.here))
+
+pub returns-clause-beside : goal.returns-clause-beside
+returns-clause-beside g c (s, held, side) =
+    let a = c.args.self.now.adapter in
+    let k = chain_of held c.search-at.result.0 c.search-at.ensures.within in
+    let stop = rw c.get_key-key.ensures at (c.search-at.ensures.stops k.chain k.shown) in
+    let belongs = belongs_by_value c.args.self.now.slots (number g.A.HashAdapter.key_of g.A.HashAdapter.hash_of c.args.self.now.adapter) (g.O.Values.values c.args.objects.now) c.args.object c.value.result.now
+    (rw c.place.ensures at c.value.ensures) (c.search-at.ensures.slot ∙ ap (λ k. slot_of c.args.self.now.slots (g.A.HashAdapter.hash_of c.args.self.now.adapter k)) c.get_key-key.ensures) in
+    on_ok c.insert_at.result
+    (keys_beside g.met.A.Key.Eq.laws g.A.HashAdapter.key_of a (λ v w e. g.met.A.HashAdapter.equal_alike a (g.A.HashAdapter.key_of a v) (g.A.HashAdapter.key_of a w) e) c.insert_at.ensures.adapter
+    c.args.object c.value.result.now (rw c.place.ensures at c.value.ensures) c.search-at.result.2 stop held.distinct (rw c.get_key-key.ensures at (c.search-at.ensures.found s held)) side)
+    (c.insert_at.ensures.inserted (g.O.Values.values c.args.objects.now) s stop.gap held c.requires.placed belongs (rw stop.whole k.shown) stop.after stop.here)
+
+pub returns-clause-frame : goal.returns-clause-frame
+returns-clause-frame g c s held = c.insert_at.ensures.frame (g.O.Values.values c.args.objects.now) s held

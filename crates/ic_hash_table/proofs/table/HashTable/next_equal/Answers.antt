@@ -1,10 +1,15 @@
-use Rattle.std.proofs.Common.{◌≡◌, Some, IsSome, ◌∷◌, sym, ap, ◌∙◌}
+use Rattle.std.proofs.Common.{◌≡◌, Some, IsSome, List, ◌∷◌, ◌++◌, sym, ap, ◌∙◌}
+use Rattle.ic_unsafe_ref.specs.declared.place.Place.{Place}
 use Rattle.ic_unsafe_ref.specs.Objects.{object_at}
 use Rattle.ic_link_ops.proofs.Each.{all_back}
 use Rattle.ic_link_ops.proofs.SequenceLemmas.{some_same}
 use Rattle.ic_hash_table.specs.Slots.{slot_of}
+use Rattle.ic_hash_table.specs.HashTable.{number, Holds}
+use Rattle.ic_hash_table.specs.Searches.{has_key, Finds}
+use Rattle.ic_hash_table.proofs.SideBySideLemmas.{found_beside}
 use Rattle.ic_hash_table.proofs.NextMembers.{rest_of_chain, finds_behind}
 use Rattle.ic_hash_table.proofs.table.HashTable.next_equal.Goals as goal
+use Rattle.ic_hash_table.proofs.table.HashTable.next_equal.Given.{Over}
 
 pub value-requires : goal.value-requires
 value-requires g c =
@@ -22,28 +27,26 @@ find_in_chain-found-requires-clause-placed g c =
     let r = rest_of_chain m.front m.back c.args.member.now m.shown in
     record { members = r.rest; shown = rw (c.next.ensures, c.place-place.ensures) r.shown; placed = r.placed }
 
-pub returns-in-Some : goal.returns-in-Some
-returns-in-Some g c = record {
-  found = λ value there front back held.
-      let is : value ≡ c.value.result.now = some_same (sym there ∙ rw c.place-place.ensures at c.value.ensures) in
+module _ (g : Over) (c : goal.After-reference g) where
+  -- what the search of the rest of its chain tells
+  finds : (front back : List Place)
+      → Holds g.L.SinglyLinkedListOps.successor (number g.A.HashAdapter.key_of g.A.HashAdapter.hash_of) g.B.Buckets.fronts (g.L.LinkOps.table c.args.links.now) c.args.self.now (g.O.Values.values c.args.objects.now) (front ++ c.args.member.now ∷ back)
+      → Finds (has_key g.A.Key.PartialEq.eq (g.A.HashAdapter.key_of c.args.self.now.adapter) (g.A.HashAdapter.key_of c.args.self.now.adapter c.value.result.now) (g.O.Values.values c.args.objects.now)) back c.find_in_chain-found.result.1
+  finds front back held =
       let r = rest_of_chain front back c.args.member.now held in
       let stop = rw (c.new-probe.ensures.adapter, c.new-probe.ensures.key, c.get_key-key.ensures) at (c.find_in_chain-found.ensures.stops r.rest (rw (c.next.ensures, c.place-place.ensures) r.shown)) in
-      let found = finds_behind r (λ v e.
+      finds_behind r (λ v e.
       ap (slot_of c.args.self.now.slots)
       (sym (g.met.A.HashAdapter.equal_alike c.args.self.now.adapter (g.A.HashAdapter.key_of c.args.self.now.adapter c.value.result.now) (g.A.HashAdapter.key_of c.args.self.now.adapter v) e))
-      ∙ r.belongs c.value.result.now (there ∙ ap Some is)) c.find_in_chain-found.result.1 stop in
-      rw (is, c.new.ensures) (rw c.in-Some.is at found);
-}
+      ∙ r.belongs c.value.result.now (rw c.place-place.ensures at c.value.ensures)) c.find_in_chain-found.result.1 stop
 
-pub returns-in-None : goal.returns-in-None
-returns-in-None g c = record {
-  found = λ value there front back held.
-      let is : value ≡ c.value.result.now = some_same (sym there ∙ rw c.place-place.ensures at c.value.ensures) in
-      let r = rest_of_chain front back c.args.member.now held in
-      let stop = rw (c.new-probe.ensures.adapter, c.new-probe.ensures.key, c.get_key-key.ensures) at (c.find_in_chain-found.ensures.stops r.rest (rw (c.next.ensures, c.place-place.ensures) r.shown)) in
-      let found = finds_behind r (λ v e.
-      ap (slot_of c.args.self.now.slots)
-      (sym (g.met.A.HashAdapter.equal_alike c.args.self.now.adapter (g.A.HashAdapter.key_of c.args.self.now.adapter c.value.result.now) (g.A.HashAdapter.key_of c.args.self.now.adapter v) e))
-      ∙ r.belongs c.value.result.now (there ∙ ap Some is)) c.find_in_chain-found.result.1 stop in
-      rw is (rw c.in-None.is at found);
-}
+pub returns-clause-found : goal.returns-clause-found
+returns-clause-found g c value there front back held =
+    let is : value ≡ c.value.result.now = some_same (sym there ∙ rw c.place-place.ensures at c.value.ensures) in
+    rw (is, c.reference.ensures) (finds g c front back held)
+
+pub returns-clause-beside : goal.returns-clause-beside
+returns-clause-beside g c front back held side =
+    rw c.reference.ensures
+    (found_beside g.A.Key.PartialEq.eq (g.A.HashAdapter.key_of c.args.self.now.adapter) (g.O.Values.values c.args.objects.now) c.args.member.now c.value.result.now (rw c.place-place.ensures at c.value.ensures)
+    front back side c.find_in_chain-found.result.1 (finds g c front back held))

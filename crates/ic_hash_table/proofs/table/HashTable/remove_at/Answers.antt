@@ -6,16 +6,16 @@ use Rattle.ic_hash_table.proofs.table.HashTable.remove_at.Goals as goal
 
 pub overflow_sub-self : goal.overflow_sub-self
 overflow_sub-self g c =
-    let m = c.requires.member in some_counted c.requires.held.1 c.args.at c.requires.within m.0 m.1 c.args.place m.2
+    let m = c.requires.member in some_counted c.requires.held.1.1 c.args.at c.requires.within m.0 m.1 c.args.place m.2
 
 pub returns-clause-removed : goal.returns-clause-removed
-returns-clause-removed g c front back held =
+returns-clause-removed g c objects front back held =
     let m = c.requires.member in
-    let some = some_counted c.requires.held.1 c.args.at c.requires.within m.0 m.1 c.args.place m.2 in
+    let some = some_counted c.requires.held.1.1 c.args.at c.requires.within m.0 m.1 c.args.place m.2 in
     held_taken g.L.SinglyLinkedListOps.successor (number g.A.HashAdapter.key_of g.A.HashAdapter.hash_of) g.B.Buckets.fronts c.args.place c.set_front.new.self (c.args.self.now.len - 1) c.requires.within c.set_front.ensures
     front back held m.0 m.1 m.2 (c.unlink_behind-front.ensures.removed m.0 m.1 (rw c.front.ensures m.2) m.3) (c.unlink_behind-front.ensures.frame m.0 m.1 (rw c.front.ensures m.2) m.3) (omega (arith, some))
 
 pub returns-clause-frame : goal.returns-clause-frame
-returns-clause-frame g c s held =
+returns-clause-frame g c objects s held =
     let m = c.requires.member in
     frame_taken (chain_of held c.args.at c.requires.within) m.2 (c.unlink_behind-front.ensures.frame m.0 m.1 (rw c.front.ensures m.2) m.3)

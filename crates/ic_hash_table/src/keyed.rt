@@ -1,0 +1,116 @@
+//! Calls over a table of links that keeps the values beside them: a look at a member reads one entry, which has its value and its link.
+//!
+//! ```text
+//! links.set_value(object.place(), 7);
+//! table.insert_keyed(&mut links, object)?;
+//! table.find(&links, &links, &7)           // the table is its own values
+//! table.remove_by_keyed(&mut links, &7)
+//! ```
+
+ghost use Rattle.std.specs.Prelude.{◌≡◌, ◌↔◌, ◌++◌, ◌∷◌, [], List, true, IsTrue, OnOk, OnErr, IfErr, IfSome, IfNone};
+ghost use Rattle.std.specs.Bool.{OnTrue, OnFalse};
+ghost use Rattle.ic_unsafe_ref.specs.declared.place.Place.{Place};
+ghost use Rattle.ic_unsafe_ref.specs.Objects.{is_placed};
+ghost use Rattle.ic_link_ops.specs.LinkSteps.{acquires, releases};
+ghost use Rattle.ic_link_ops.specs.Sequences.{IsMember};
+ghost use Rattle.ic_link_ops.specs.Tables.{IsCovered, KeepsBeside};
+ghost use Rattle.ic_hash_table.specs.HashTable.{adapter_of, slots_of, number, Holds, HoldsSome, HoldsWith};
+ghost use Rattle.ic_hash_table.specs.Searches.{has_key, Finds};
+
+use crate::{Buckets, HashAdapter, HashTable};
+use ic_link_ops::singly_linked_list::SinglyLinkedListOps;
+use ic_link_ops::{AlreadyLinked, LinkOps, LinkValues};
+use ic_unsafe_ref::UnsafeRef;
+
+impl<A: HashAdapter, B: Buckets> HashTable<A, B> {
+    /// Puts the object in, unless its link is refused: [`insert`](HashTable::insert) where the table of links keeps the values. O(1).
+    ///
+    /// It requires that the object's place is covered, and that the members and the object are placed. A refused object comes back, and the
+    /// table is as it was.
+    #[inline]
+    pub fn insert_keyed<L: SinglyLinkedListOps + LinkValues<A::Value>>(
+        &mut self,
+        links: &mut L,
+        object: UnsafeRef<A::Value>,
+    ) -> Result<(), AlreadyLinked<A::Value>>
+        requires covered { IsCovered (L.table links.old) object }
+        requires placed { is_placed (L.values links.old) object ≡ true }
+        requires held { HoldsSome L.successor (number A.key_of A.hash_of) B.fronts (L.table links.old) self.old (L.values links.old) }
+        ensures inserted { (s : List Place) → Holds L.successor (number A.key_of A.hash_of) B.fronts (L.table links.old) self.old (L.values links.old) s
+            → OnOk result (HoldsWith L.successor (number A.key_of A.hash_of) B.fronts (L.table links.new) self.new (L.values links.old) s object) }
+        ensures values { L.values links.new ≡ L.values links.old }
+        ensures acquired { OnOk result (L.Does links.old links.new (acquires object ∷ [])) }
+        ensures adapter { adapter_of self.new ≡ adapter_of self.old }
+        ensures slots { slots_of self.new ≡ slots_of self.old }
+        ensures refused { OnErr result (L.Refused links.old links.new object) }
+        ensures unchanged { IfErr result (λ refused. (refused.0 ≡ object) × (self.new ≡ self.old)) }
+        ensures frame { (s : List Place) → Holds L.successor (number A.key_of A.hash_of) B.fronts (L.table links.old) self.old (L.values links.old) s
+            → KeepsBeside (L.table links.old) (L.table links.new) (object ∷ s) }
+    {
+        let at = self.slot_of_object(&*links, object.place());
+        let front = self.buckets.front(at);
+        self.insert_at(links, at, (None, front), object)
+    }
+
+    /// Takes the object out, and says whether it was a member: [`remove`](HashTable::remove) where the table of links keeps the values.
+    ///
+    /// It requires that the object is placed, with the key that it was put in by. Where it was none, nothing has changed. It walks along its
+    /// chain: one hash, no look, and no memory.
+    pub fn remove_keyed<L: SinglyLinkedListOps + LinkValues<A::Value>>(
+        &mut self,
+        links: &mut L,
+        object: &UnsafeRef<A::Value>,
+    ) -> bool
+        requires placed { is_placed (L.values links.old) object.now ≡ true }
+        requires held { HoldsSome L.successor (number A.key_of A.hash_of) B.fronts (L.table links.old) self.old (L.values links.old) }
+        ensures answer { (s : List Place) → Holds L.successor (number A.key_of A.hash_of) B.fronts (L.table links.old) self.old (L.values links.old) s
+            → IsTrue result ↔ IsMember object.now s }
+        ensures removed { (front back : List Place)
+            → Holds L.successor (number A.key_of A.hash_of) B.fronts (L.table links.old) self.old (L.values links.old) (front ++ object.now ∷ back)
+            → Holds L.successor (number A.key_of A.hash_of) B.fronts (L.table links.new) self.new (L.values links.old) (front ++ back) }
+        ensures values { L.values links.new ≡ L.values links.old }
+        ensures released { OnTrue result (L.Does links.old links.new (releases object.now ∷ [])) }
+        ensures nothing { OnFalse result ((self.new ≡ self.old) × (links.new ≡ links.old)) }
+        ensures adapter { adapter_of self.new ≡ adapter_of self.old }
+        ensures slots { slots_of self.new ≡ slots_of self.old }
+        ensures frame { (s : List Place) → Holds L.successor (number A.key_of A.hash_of) B.fronts (L.table links.old) self.old (L.values links.old) s
+            → KeepsBeside (L.table links.old) (L.table links.new) s }
+    {
+        let Some((at, before)) = self.locate(&*links, &*links, object.place()) else {
+            return false;
+        };
+        self.remove_at(links, at, before, object.place());
+        true
+    }
+
+    /// Takes the first member with this key out and returns it: [`remove_by`](HashTable::remove_by) where the table of links keeps the values.
+    ///
+    /// `None`, and nothing has changed, if there is none. It looks as [`find`](HashTable::find), and takes no memory.
+    #[inline]
+    pub fn remove_by_keyed<L: SinglyLinkedListOps + LinkValues<A::Value>>(
+        &mut self,
+        links: &mut L,
+        key: &A::Key,
+    ) -> Option<UnsafeRef<A::Value>>
+        requires held { HoldsSome L.successor (number A.key_of A.hash_of) B.fronts (L.table links.old) self.old (L.values links.old) }
+        ensures found { (s : List Place) → Holds L.successor (number A.key_of A.hash_of) B.fronts (L.table links.old) self.old (L.values links.old) s
+            → Finds (has_key A.Key.eq (A.key_of (adapter_of self.old)) key.now (L.values links.old)) s result }
+        ensures removed { IfSome result (λ object. (front back : List Place)
+            → Holds L.successor (number A.key_of A.hash_of) B.fronts (L.table links.old) self.old (L.values links.old) (front ++ object ∷ back)
+            → Holds L.successor (number A.key_of A.hash_of) B.fronts (L.table links.new) self.new (L.values links.old) (front ++ back)) }
+        ensures values { L.values links.new ≡ L.values links.old }
+        ensures released { IfSome result (λ object. L.Does links.old links.new (releases object ∷ [])) }
+        ensures nothing { IfNone result ((self.new ≡ self.old) × (links.new ≡ links.old)) }
+        ensures adapter { adapter_of self.new ≡ adapter_of self.old }
+        ensures slots { slots_of self.new ≡ slots_of self.old }
+        ensures frame { (s : List Place) → Holds L.successor (number A.key_of A.hash_of) B.fronts (L.table links.old) self.old (L.values links.old) s
+            → KeepsBeside (L.table links.old) (L.table links.new) s }
+    {
+        let (at, before, found) = self.search(&*links, &*links, key);
+        let Some(place) = found else {
+            return None;
+        };
+        self.remove_at(links, at, before, place);
+        Some(UnsafeRef::new(place))
+    }
+}
