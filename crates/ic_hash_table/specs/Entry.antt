@@ -1,18 +1,20 @@
 -- What clauses see of an entry: the first member with a key, or the chain where an object with it belongs.
-use Rattle.std.specs.Prelude.{◌≡◌, ℕ, ◌<◌, ⊤, Option, List, ◌∷◌, ◌++◌}
+use Rattle.std.specs.Prelude.{◌≡◌, ℕ, ◌<◌, ⊤, Option, Result, IfOk, IfErr, List, [], ◌∷◌, ◌++◌}
 use Rattle.std.specs.Borrow.{MutBor}
 use Rattle.ic_unsafe_ref.specs.declared.place.Place.{Place}
 use Rattle.ic_unsafe_ref.specs.Objects.{Objects}
 use Rattle.ic_link_ops.specs.Sequences.{last}
-use Rattle.ic_link_ops.specs.Tables.{Table}
+use Rattle.ic_link_ops.specs.LinkSteps.{LinkStep, acquires}
+use Rattle.ic_link_ops.specs.Tables.{Table, KeepsBeside}
 use Rattle.ic_link_ops.specs.SinglyLinkedList.{Successor}
 use Rattle.ic_hash_table.specs.declared.entry.Entry.{Entry}
 use Rattle.ic_hash_table.specs.declared.entry.Entry.TheVariants.{Occupied, Vacant}
 use Rattle.ic_hash_table.specs.declared.entry.OccupiedEntry.{OccupiedEntry}
+use Rattle.ic_hash_table.specs.declared.entry.RefusedInsert.{RefusedInsert}
 use Rattle.ic_hash_table.specs.declared.entry.VacantEntry.{VacantEntry}
 use Rattle.ic_hash_table.specs.declared.table.HashTable.{HashTable}
 use Rattle.ic_hash_table.specs.Chains.{ShowsFrom}
-use Rattle.ic_hash_table.specs.HashTable.{adapter_of, slots_of, front_at, BelongsIn}
+use Rattle.ic_hash_table.specs.HashTable.{adapter_of, slots_of, front_at, BelongsIn, Holds, HoldsWith}
 use Rattle.ic_hash_table.specs.Slots.{slot_of}
 
 module _ {A B L : Type 0} where
@@ -27,7 +29,7 @@ module _ {A B L : Type 0} where
 
   -- the member
   abbrev pub member_of : OccupiedEntry A B L → Place
-  member_of e = e.place
+  member_of e = e.member
 
   -- it is of this hash table and this table of links, which are as they were
   abbrev pub IsFoundIn : MutBor (HashTable A B) → MutBor L → OccupiedEntry A B L → Type 0
@@ -42,7 +44,12 @@ module _ {A B L : Type 0} where
   abbrev pub CanRemove : {E : Type 0} → (E → Successor) → (L → Table E) → (B → List (Option Place)) → OccupiedEntry A B L → Type 0
   CanRemove successor table fronts e =
       (e.at < (slots_of e.table.now).used)
-      × ((ahead back : List Place) × ShowsFrom successor (table e.links.now) (front_at fronts e.table.now e.at) (ahead ++ e.place ∷ back) × (e.before ≡ last ahead))
+      × ((ahead back : List Place) × ShowsFrom successor (table e.links.now) (front_at fronts e.table.now e.at) (ahead ++ e.member ∷ back) × (e.before ≡ last ahead))
+
+  -- the same chain of the same table, which is as it was
+  abbrev pub IsVacantAgain : VacantEntry A B L → VacantEntry A B L → Type 0
+  IsVacantAgain old e =
+      (e.table.ghost_name ≡ old.table.ghost_name) × (e.links.ghost_name ≡ old.links.ghost_name) × (e.table.now ≡ old.table.now) × (e.at ≡ old.at)
 
   -- it is the chain of this hash
   abbrev pub IsChainFor : ℕ → VacantEntry A B L → Type 0
@@ -52,3 +59,18 @@ module _ {A B L : Type 0} where
   abbrev pub CanInsert : {V : Type 0} → (A → V → ℕ) → Objects V → VacantEntry A B L → Place → Type 0
   CanInsert hash objects e p =
       (e.at < (slots_of e.table.now).used) × BelongsIn (slots_of e.table.now) (hash (adapter_of e.table.now)) objects e.at p
+
+-- THE OBJECT IS PUT IN, and the entry of the member is answered; or its link is refused, and it comes back with the entry, of a table as it was
+module _ {E A B L V K : Type 0} (successor : E → Successor) (table : L → Table E) (fronts : B → List (Option Place)) (hash : A → V → ℕ) (Does : L → L → List LinkStep → Type 0) (Refused : L → L → Place → Type 0) where
+  pub record EntersAt (objects : Objects V) (old : VacantEntry A B L) (object : Place) (result : Result (OccupiedEntry A B L) (RefusedInsert A B L V K)) : Type 0 where
+    pub member : IfOk result (λ e. member_of e ≡ object)
+    pub inserted : (s : List Place) → Holds successor hash fronts (table old.links.now) old.table.now objects s
+        → IfOk result (λ e. HoldsWith successor hash fronts (table e.links.now) e.table.now objects s object)
+    pub can_remove : IfOk result (CanRemove successor table fronts)
+    pub acquired : IfOk result (λ e. Does old.links.now e.links.now (acquires object ∷ []))
+    pub adapter : IfOk result (λ e. adapter_of e.table.now ≡ adapter_of old.table.now)
+    pub borrows : IfOk result (λ e. (e.table.ghost_name ≡ old.table.ghost_name) × (e.links.ghost_name ≡ old.links.ghost_name))
+    pub frame : (s : List Place) → Holds successor hash fronts (table old.links.now) old.table.now objects s
+        → IfOk result (λ e. KeepsBeside (table old.links.now) (table e.links.now) (object ∷ s))
+    pub refused : IfErr result (λ r. Refused old.links.now r.entry.links.now object)
+    pub unchanged : IfErr result (λ r. (r.object ≡ object) × IsVacantAgain old r.entry)

@@ -5,29 +5,30 @@
 //!     Entry::Occupied(found) => tasks_done.push(found.remove(&objects))?,
 //!     Entry::Vacant(chain) => chain.insert(&objects, task)?, // no second search
 //! }
+//! let found = table.entry(&mut links, &objects, &7).or_insert(&objects, task)?; // the member that has the key, or the task
 //! ```
 
-ghost use Rattle.std.specs.Prelude.{◌≡◌, ◌∷◌, ◌++◌, [], List, Some, None, true, OnOk, OnErr, IfErr};
+ghost use Rattle.std.specs.Prelude.{◌≡◌, ◌∷◌, ◌++◌, [], List, Some, None, Ok, true, OnOk, OnErr, IfErr};
 ghost use Rattle.ic_unsafe_ref.specs.declared.place.Place.{Place};
 ghost use Rattle.ic_unsafe_ref.specs.Objects.{is_placed};
 ghost use Rattle.ic_link_ops.specs.LinkSteps.{acquires, releases};
 ghost use Rattle.ic_link_ops.specs.Tables.{IsCovered, KeepsBeside};
-ghost use Rattle.ic_hash_table.specs.Entry.{IfOccupied, IfVacant, member_of, CanRemove, CanInsert, IsChainFor, IsFoundIn, IsVacantIn};
+ghost use Rattle.ic_hash_table.specs.Entry.{IfOccupied, IfVacant, member_of, CanRemove, CanInsert, IsChainFor, IsFoundIn, IsVacantIn, EntersAt};
 ghost use Rattle.ic_hash_table.specs.HashTable.{adapter_of, number, Holds, HoldsSome, HoldsWith};
 ghost use Rattle.ic_hash_table.specs.Searches.{has_key, Finds};
 
 use crate::{Buckets, HashAdapter, HashTable};
 use ic_link_ops::singly_linked_list::SinglyLinkedListOps;
-use ic_link_ops::{AlreadyLinked, LinkOps};
-use ic_unsafe_ref::{Place, UnsafeRef, Values};
+use ic_link_ops::{AlreadyLinked, LinkOps, PlaceWord};
+use ic_unsafe_ref::{UnsafeRef, Values};
 
 /// The first member with a key, with its table and the table of its links.
 pub struct OccupiedEntry<'a, A, B, L> {
     table: &'a mut HashTable<A, B>,
     links: &'a mut L,
     at: usize,
-    before: Option<Place>,
-    place: Place,
+    before: PlaceWord,
+    member: UnsafeRef<()>,
 }
 
 impl<A, B, L> Drop for OccupiedEntry<'_, A, B, L> {
@@ -40,7 +41,7 @@ impl<A, B, L> Drop for OccupiedEntry<'_, A, B, L> {
             links: _,
             at: _,
             before: _,
-            place: _,
+            member: _,
         } = self;
     }
 }
@@ -63,6 +64,15 @@ impl<A, B, L> Drop for VacantEntry<'_, A, B, L> {
             at: _,
         } = self;
     }
+}
+
+/// An insert that was refused, since the object is linked: the entry, as it was, and the object.
+#[derive(Drop)]
+pub struct RefusedInsert<'a, A: HashAdapter, B, L> {
+    /// The entry, of a table as it was.
+    pub entry: VacantEntry<'a, A, B, L>,
+    /// The object that came back.
+    pub object: UnsafeRef<A::Value>,
 }
 
 /// What [`entry`](HashTable::entry) finds.
@@ -102,8 +112,8 @@ impl<A: HashAdapter, B: Buckets> HashTable<A, B> {
                 table: self,
                 links,
                 at,
-                before,
-                place,
+                before: PlaceWord::of(before),
+                member: UnsafeRef::new(place),
             }),
             None => Entry::Vacant(VacantEntry {
                 table: self,
@@ -120,7 +130,7 @@ impl<A: HashAdapter, B: Buckets, L: SinglyLinkedListOps> OccupiedEntry<'_, A, B,
     pub fn get(&self) -> UnsafeRef<A::Value>
         ensures { result ≡ member_of self.now }
     {
-        UnsafeRef::new(self.place)
+        UnsafeRef::new(self.member.place())
     }
 
     /// Takes the member out and returns it. O(1): no hash, no look, and no memory.
@@ -145,14 +155,15 @@ impl<A: HashAdapter, B: Buckets, L: SinglyLinkedListOps> OccupiedEntry<'_, A, B,
             links,
             at,
             before,
-            place,
+            member,
         } = self;
-        table.remove_at(links, at, before, place);
+        let place = member.place();
+        table.remove_at(links, at, before.get(), place);
         UnsafeRef::new(place)
     }
 }
 
-impl<A: HashAdapter, B: Buckets, L: SinglyLinkedListOps> VacantEntry<'_, A, B, L> {
+impl<'a, A: HashAdapter, B: Buckets, L: SinglyLinkedListOps> VacantEntry<'a, A, B, L> {
     /// Puts the object in, unless its link is refused. O(1): no hash, no look, and no memory.
     ///
     /// It requires that the object is placed, that its place is covered, and that the chain is the one of its key, as it is if its key
@@ -181,5 +192,61 @@ impl<A: HashAdapter, B: Buckets, L: SinglyLinkedListOps> VacantEntry<'_, A, B, L
         let VacantEntry { table, links, at } = self;
         let front = table.buckets.front(at);
         table.insert_at(links, at, (None, front), object)
+    }
+    /// Puts the object in as [`insert`](VacantEntry::insert) does, and returns the entry of the member that it is then. O(1).
+    ///
+    /// It requires what `insert` does. A refused object comes back with the entry, and the table is as it was.
+    #[inline]
+    pub fn insert_entry<O: Values<A::Value>>(
+        self,
+        objects: &O,
+        object: UnsafeRef<A::Value>,
+    ) -> Result<OccupiedEntry<'a, A, B, L>, RefusedInsert<'a, A, B, L>>
+        requires covered { IsCovered (L.table self.links.now) object }
+        requires placed { is_placed (O.values objects.now) object ≡ true }
+        requires held { HoldsSome L.successor (number A.key_of A.hash_of) B.fronts (L.table self.links.now) self.table.now (O.values objects.now) }
+        requires belongs { CanInsert (number A.key_of A.hash_of) (O.values objects.now) self object }
+        ensures entered { EntersAt L.successor L.table B.fronts (number A.key_of A.hash_of) L.Does L.Refused (O.values objects.now) self.entry object result }
+    {
+        let VacantEntry { table, links, at } = self;
+        let front = table.buckets.front(at);
+        let place = object.place();
+        if let Err(refused) = table.insert_at(links, at, (None, front), object) {
+            let entry = VacantEntry { table, links, at };
+            let object = refused.into_object();
+            return Err(RefusedInsert { entry, object });
+        }
+        Ok(OccupiedEntry {
+            table,
+            links,
+            at,
+            before: PlaceWord::of(None),
+            member: UnsafeRef::new(place),
+        })
+    }
+}
+
+impl<'a, A: HashAdapter, B: Buckets, L: SinglyLinkedListOps> Entry<'a, A, B, L> {
+    /// The entry of the member that has the key, or of the object, which is put in where none has it.
+    ///
+    /// Where the entry is vacant, it requires what [`VacantEntry::insert`] does, and a refused object comes back with the entry, the table as
+    /// it was. Where it is occupied, nothing has changed.
+    #[inline]
+    pub fn or_insert<O: Values<A::Value>>(
+        self,
+        objects: &O,
+        object: UnsafeRef<A::Value>,
+    ) -> Result<OccupiedEntry<'a, A, B, L>, RefusedInsert<'a, A, B, L>>
+        requires covered { IfVacant self (λ v. IsCovered (L.table v.links.now) object) }
+        requires placed { is_placed (O.values objects.now) object ≡ true }
+        requires held { IfVacant self (λ v. HoldsSome L.successor (number A.key_of A.hash_of) B.fronts (L.table v.links.now) v.table.now (O.values objects.now)) }
+        requires belongs { IfVacant self (λ v. CanInsert (number A.key_of A.hash_of) (O.values objects.now) v object) }
+        ensures occupied { IfOccupied self.entry (λ e. result ≡ Ok e) }
+        ensures vacant { IfVacant self.entry (λ v. EntersAt L.successor L.table B.fronts (number A.key_of A.hash_of) L.Does L.Refused (O.values objects.now) v object result) }
+    {
+        match self {
+            Entry::Occupied(found) => Ok(found),
+            Entry::Vacant(chain) => chain.insert_entry(objects, object),
+        }
     }
 }

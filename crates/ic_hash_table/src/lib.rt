@@ -33,7 +33,7 @@ mod whole;
 
 pub use adapter::HashAdapter;
 pub use buckets::Buckets;
-pub use entry::{Entry, OccupiedEntry, VacantEntry};
+pub use entry::{Entry, OccupiedEntry, RefusedInsert, VacantEntry};
 pub use iter::Iter;
 pub use probe::{KeyProbe, Probe};
 pub use slots::Slots;

@@ -54,8 +54,8 @@ pub(crate) fn splice_behind<L: LinkedListOps>(links: &mut L, at: Place, given: P
     ensures frame { (r t : List Place) → Shows L.neighbors (L.table links.old) at r → Shows L.neighbors (L.table links.old) given t
         → KeepsBeside (L.table links.old) (L.table links.new) ((at ∷ r) ++ (given ∷ t)) }
 {
-    let last = prev_of(&*links, given);
-    exchange(links, at, last);
+    let end = prev_of(&*links, given);
+    exchange(links, at, end);
     exchange(links, at, given);
 }
 

@@ -10,18 +10,18 @@ use Rattle.ic_ring.proofs.JoinedRings.{joined_at, joined_given}
 use Rattle.ic_ring.proofs.exchanges.splice_behind.Goals as goal
 use Rattle.ic_ring.proofs.exchanges.splice_behind.Given.{Over}
 
-pub prev_of-last-requires : goal.prev_of-last-requires
-prev_of-last-requires g c = (c.requires.apart.0, c.requires.apart.1)
+pub prev_of-end-requires : goal.prev_of-end-requires
+prev_of-end-requires g c = (c.requires.apart.0, c.requires.apart.1)
 
 pub exchange-requires : goal.exchange-requires
-exchange-requires g c = record { first = c.requires.ring; second = prev_in_ring c.requires.apart.0 c.requires.apart.1 c.prev_of-last.ensures }
+exchange-requires g c = record { first = c.requires.ring; second = prev_in_ring c.requires.apart.0 c.requires.apart.1 c.prev_of-end.ensures }
 
 pub exchange-requires-2 : goal.exchange-requires-2
 exchange-requires-2 g c =
     let r = c.requires.ring in
     let a = c.requires.apart in record {
-      first = (_, joined_at a.1 a.2 c.exchange.ensures.joins r.0 a.0 r.1 a.1 c.prev_of-last.ensures);
-      second = (_, joined_given a.1 a.2 c.exchange.ensures.joins r.0 a.0 r.1 a.1 c.prev_of-last.ensures);
+      first = (_, joined_at a.1 a.2 c.exchange.ensures.joins r.0 a.0 r.1 a.1 c.prev_of-end.ensures);
+      second = (_, joined_given a.1 a.2 c.exchange.ensures.joins r.0 a.0 r.1 a.1 c.prev_of-end.ensures);
     }
 
 pub returns-clause-spliced : goal.returns-clause-spliced
@@ -30,7 +30,7 @@ returns-clause-spliced g c r t shown other =
     let at = c.args.at in
     let given = c.args.given in
     let a = c.requires.apart in
-    let seen = joined_given a.1 a.2 c.exchange.ensures.joins r t shown other c.prev_of-last.ensures in
+    let seen = joined_given a.1 a.2 c.exchange.ensures.joins r t shown other c.prev_of-end.ensures in
     let cut = c.exchange-2.ensures.cuts (t ++ (r ++ at ∷ [])) (given ∷ []) (rotated (given ∷ []) (t ++ (r ++ at ∷ [])) seen)
     (sym (last_or-append None t (r ++ at ∷ []) ∙ last_or-append (last t) r (at ∷ []))) refl in
     (rotated (t ++ r) (at ∷ []) (subst (IsCircle n (g.L.LinkOps.table c.exchange-2.new.links).entry) (sym (append_assoc t r (at ∷ []))) cut.0), cut.1)
@@ -48,8 +48,8 @@ module _ (g : Over) (c : goal.After-exchange-2 g) where
       let given = c.args.given in
       let a = c.requires.apart in
       let both = at ∷ ((given ∷ t) ++ r) in
-      let whole = joined_at a.1 a.2 c.exchange.ensures.joins r t shown other c.prev_of-last.ensures in
-      let first = c.exchange.ensures.frame (at ∷ r) (given ∷ t) (shown, λ out. out.0 refl) (other, λ out. prev_not t other c.prev_of-last.ensures out refl) in
+      let whole = joined_at a.1 a.2 c.exchange.ensures.joins r t shown other c.prev_of-end.ensures in
+      let first = c.exchange.ensures.frame (at ∷ r) (given ∷ t) (shown, λ out. out.0 refl) (other, λ out. prev_not t other c.prev_of-end.ensures out refl) in
       let second = c.exchange-2.ensures.frame both both (whole, λ out. out.0 refl) (whole, λ out. out.1.0 refl) in record {
         extent = second.extent ∙ first.extent;
         others = λ q out.

@@ -1,5 +1,4 @@
-use Rattle.std.proofs.Common.{List, ap, ◌∙◌, not}
-use Rattle.ic_unsafe_ref.specs.declared.place.Place.{Place}
+use Rattle.std.proofs.Common.{ap, ◌∙◌, not}
 use Rattle.ic_hash_table.specs.HashTable.{number}
 use Rattle.ic_hash_table.proofs.FoundMembers.{chain_of, place_elsewhere, nowhere, stops_place}
 use Rattle.ic_hash_table.proofs.HeldTables.{of_chain}

@@ -1,0 +1,17 @@
+use Rattle.ic_hash_table.proofs.entry.OccupiedEntry.remove.Goals as goal
+
+pub remove_at-requires : goal.remove_at-requires
+remove_at-requires g c = record {
+  held = (g.O.Values.values c.args.objects.now, c.requires.held);
+  within = c.requires.found.0;
+  member = rw (c.place-place.ensures, c.get.ensures) c.requires.found.1;
+}
+
+pub returns-clause-removed : goal.returns-clause-removed
+returns-clause-removed g c front back held = c.remove_at.ensures.removed (g.O.Values.values c.args.objects.now) front back (rw c.new.ensures at held)
+
+pub returns-clause-released : goal.returns-clause-released
+returns-clause-released g c = rw c.new.ensures c.remove_at.ensures.released
+
+pub returns-clause-frame : goal.returns-clause-frame
+returns-clause-frame g c s held = c.remove_at.ensures.frame (g.O.Values.values c.args.objects.now) s held
