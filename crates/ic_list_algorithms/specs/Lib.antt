@@ -1,3 +1,4 @@
+pub mod Counts
 pub mod Ordered
 pub mod Runs
 pub mod Sifts

@@ -21,7 +21,7 @@ mod whole;
 
 pub use following::Following;
 pub use merge::merge_by;
-pub use precedes::{By, Natural, Precedes};
+pub use precedes::{By, Counted, Natural, Precedes};
 pub use sift::{dedup_by, retain};
 pub use sort::sort_by;
 pub use walks::{find, is_sorted_by, len, nth, position};
