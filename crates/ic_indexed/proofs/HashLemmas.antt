@@ -1,8 +1,9 @@
 -- A hash table that has each object, after each kind of step, and what a search of it finds.
-use Rattle.std.proofs.Common.{◌≡◌, ◌≢◌, ℕ, suc, ◌+◌, ◌≤◌, ◌<◌, Bool, true, false, Option, None, Some, IsSome, is_some, List, [], ◌∷◌, ◌++◌, length, length-append, refl, sym, ap, ◌∙◌, subst, arith, true≢false}
+use Rattle.std.proofs.Common.{◌≡◌, ◌≢◌, ℕ, suc, ◌+◌, ◌≤◌, ◌<◌, Bool, true, false, Option, None, Some, IsSome, is_some, List, [], ◌∷◌, ◌++◌, cond, count_by, eq-eqb, filter, nat_eq, length, refl, sym, ap, ◌∙◌, subst, arith, true≢false}
 use Rattle.std.proofs.lemmas.Bool.{false_from_ne_true}
+use Rattle.std.proofs.lemmas.List.Sums.{sum_by-cons}
 use Rattle.std.specs.Bool.{⊤, OnTrue}
-use Rattle.std.specs.List.{AllByRecursion}
+use Rattle.std.specs.List.{AllByRecursion, cons_option}
 use Rattle.ic_unsafe_ref.specs.declared.place.Place.{Place}
 use Rattle.ic_unsafe_ref.specs.Places.{index_of}
 use Rattle.ic_unsafe_ref.specs.Objects.{Objects, Places, Frees, object_at, is_placed}
@@ -12,13 +13,14 @@ use Rattle.ic_link_ops.specs.declared.table.PlainTable.{PlainTable}
 use Rattle.ic_link_ops.specs.EntryLaws.{linked_in_range}
 use Rattle.ic_link_ops.specs.Links.{link_of}
 use Rattle.ic_link_ops.specs.OneWord.{no_word}
+use Rattle.ic_link_ops.specs.PlacedObjects.{values_at}
 use Rattle.ic_link_ops.specs.PlainTables.{entries}
 use Rattle.ic_link_ops.specs.Sequences.{IsAbsent, IsDistinct, IsMember}
 use Rattle.ic_link_ops.specs.SinglyLinkedList.{Successor}
 use Rattle.ic_link_ops.specs.Tables.{Table, IsCovered, IsLinked, IsUnlinked, LinksAlso, Unlinks}
 use Rattle.ic_link_ops.proofs.LinkedSets.{everywhere}
 use Rattle.ic_link_ops.proofs.PlacedValues.{all_beside}
-use Rattle.ic_link_ops.proofs.SequenceLemmas.{absent_left, absent_right, absent_with, absent_without, distinct_middle, member_split, none_not, split_member}
+use Rattle.ic_link_ops.proofs.SequenceLemmas.{absent_left, absent_right, absent_with, absent_without, distinct_left, distinct_middle, distinct_right, member_split, none_not, split_member}
 use Rattle.ic_hash_table.specs.declared.slots.Slots.{Slots}
 use Rattle.ic_hash_table.specs.declared.table.HashTable.{HashTable}
 use Rattle.ic_hash_table.specs.Chains.{AreChained, ShowsFrom}
@@ -30,7 +32,7 @@ use Rattle.ic_hash_table.proofs.Chains.{chains_free}
 use Rattle.ic_hash_table.proofs.FoundMembers.{chain_of}
 use Rattle.ic_hash_table.proofs.SlotLemmas.{slot_used}
 use Rattle.ic_container.specs.Trees.{IsFound}
-use Rattle.ic_container.proofs.ValueLemmas.{member_placed, no_more}
+use Rattle.ic_container.proofs.ValueLemmas.{member_placed, no_more, there_is}
 use Rattle.ic_indexed.specs.Indexed.{IsOrderOf}
 use Rattle.ic_indexed.specs.HashIndex.{is_linked, plain_table, HoldsAll}
 
@@ -52,6 +54,30 @@ at_member P s all q member = let m = member_split q s member in at m.0 m.1 (subs
   at : (front back : List Place) → AllByRecursion P (front ++ q ∷ back) → P q
   at [] back all = all.0
   at (x ∷ front) back all = at front back all.1
+
+-- what passes is a member of those that pass, if it is one at all
+absent_filtered : (test : Place → Bool) (q : Place) → test q ≡ true → (s : List Place) → IsAbsent q (filter test s) → IsAbsent q s
+absent_filtered test q passed [] out = tt
+absent_filtered test q passed (x ∷ s) out = by (test x) refl (absent_filtered test q passed s) out where
+  by : (b : Bool) → test x ≡ b → (IsAbsent q (filter test s) → IsAbsent q s) → IsAbsent q (cond b (x ∷ filter test s) (filter test s)) → IsAbsent q (x ∷ s)
+  by true e rest out = (out.0, rest out.1)
+  by false e rest out = ((λ same. true≢false (sym passed ∙ ap test same ∙ e)), rest out)
+
+member_filtered : (test : Place → Bool) (q : Place) → test q ≡ true → (s : List Place) → IsMember q s → IsMember q (filter test s)
+member_filtered test q passed s member = λ out. member (absent_filtered test q passed s out)
+
+-- as many objects pass as values do
+values_counted : {T : Type 0} (test : T → Bool) (objects : Objects T) (s : List Place) → length (filter (matches test objects) s) ≡ count_by test (values_at objects s)
+values_counted test objects [] = refl
+values_counted {T} test objects (x ∷ s) = by (object_at objects x) (values_counted test objects s) where
+  on : (b : Bool) (f : List Place) (n : ℕ) → length f ≡ n → length (cond b (x ∷ f) f) ≡ cond b 1 0 + n
+  on true f n e = omega (arith, e)
+  on false f n e = omega (arith, e)
+
+  by : (o : Option T) → length (filter (matches test objects) s) ≡ count_by test (values_at objects s)
+      → length (cond (passes test o) (x ∷ filter (matches test objects) s) (filter (matches test objects) s)) ≡ count_by test (cons_option o (values_at objects s))
+  by None rest = rest
+  by (Some v) rest = on (test v) (filter (matches test objects) s) (count_by test (values_at objects s)) rest ∙ sym (sum_by-cons (λ w. cond (test w) 1 0) v (values_at objects s))
 
 -- AN OBJECT BESIDE: what stands at p alone is another one
 belongs_beside : {T : Type 0} (slots : Slots) (hash : T → ℕ) (objects new : Objects T) (p : Place) → ((q : Place) → q ≢ p → object_at new q ≡ object_at objects q) → (i : ℕ) (s : List Place) → IsAbsent p s
@@ -115,15 +141,25 @@ module _ {E A B T : Type 0} {succ : E → Successor} {linked : E → Bool} (alik
                 (λ n none. also.others q n ∙ a.only q (sym (others_placed places q n) ∙ none));
           }
 
-    -- A CHAIN HAS NO MORE MEMBERS than an order has places
-    pub hash_few : (k : ℕ) (used : k < table.slots.used) (order : List Place) → IsOrderOf objects order → length (chain_of a.held k used).chain ≤ length order
+    -- A CHAIN HAS NO MORE MEMBERS than values belong there
+    hash_few : (k : ℕ) (used : k < table.slots.used) (order : List Place) → IsOrderOf objects order
+        → length (chain_of a.held k used).chain ≤ count_by (λ v. nat_eq (slot_of table.slots (hash table.adapter v)) k) (values_at objects order)
     hash_few k used order whole =
         let c = chain_of a.held k used in
-        let few = no_more a.members order a.held.distinct (λ q member. whole.all q (member_placed objects a.members a.held.placed q member)) in
-        omega (arith, ap length c.parts, length-append c.ahead (c.chain ++ c.behind), length-append c.chain c.behind, few)
+        let test : T → Bool = λ v. nat_eq (slot_of table.slots (hash table.adapter v)) k in
+        let parts = subst IsDistinct c.parts a.held.distinct in
+        let distinct = distinct_left c.chain c.behind (distinct_right c.ahead (c.chain ++ c.behind) parts) in
+        let few = no_more c.chain (filter (matches test objects) order) distinct (λ q member.
+        let in_members : IsMember q a.members = λ out. member (absent_left q c.chain c.behind (absent_right q c.ahead (c.chain ++ c.behind) (subst (IsAbsent q) c.parts out))) in
+        let is = member_placed objects a.members a.held.placed q in_members in
+        let there = there_is objects q is in
+        let passed : matches test objects q ≡ true = ap (passes test) there.1 ∙ eq-eqb _ _ (at_member (BelongsIn table.slots (hash table.adapter) objects k) c.chain c.own q member there.0 there.1) in
+        member_filtered (matches test objects) q passed order (whole.all q is)) in
+        omega (arith, few, values_counted test objects order)
 
     -- the chain where a hash belongs
-    pub hash_chain : (h : ℕ) → (chain : List Place) × ShowsFrom succ t (front_at fronts table (slot_of table.slots h)) chain × ((order : List Place) → IsOrderOf objects order → length chain ≤ length order)
+    pub hash_chain : (h : ℕ) → (chain : List Place) × ShowsFrom succ t (front_at fronts table (slot_of table.slots h)) chain
+        × ((order : List Place) → IsOrderOf objects order → length chain ≤ count_by (λ v. nat_eq (slot_of table.slots (hash table.adapter v)) (slot_of table.slots h)) (values_at objects order))
     hash_chain h =
         let used = slot_used table.slots.used table.slots.mask (omega (arith, a.held.well_formed.half)) h in
         let c = chain_of a.held (slot_of table.slots h) used in

@@ -1,9 +1,9 @@
 //! A hash table finds objects by their keys.
 
-ghost use Rattle.std.specs.Prelude.{◌≡◌, ◌≤◌};
+ghost use Rattle.std.specs.Prelude.{◌≡◌};
 ghost use Rattle.std.proofs.Common.{ap, eqb-true};
-ghost use Rattle.ic_hash_table.specs.HashTable.{number};
-ghost use Rattle.ic_indexed.specs.HashIndex.{is_linked, mixed, plain_table, successor, HoldsAll};
+ghost use Rattle.ic_hash_table.specs.HashTable.{number, slots_of};
+ghost use Rattle.ic_indexed.specs.HashIndex.{is_linked, mixed, plain_table, successor, HoldsAll, IsFewInChain};
 ghost use Rattle.ic_indexed.specs.HashLaws.{hash_grown, hash_alike};
 
 use crate::{HasKey, Index};
@@ -69,7 +69,9 @@ impl<T: HasKey, B: Buckets + Drop, A: Allocator> Index<T, A> for HashTable<ByHas
 
     ghost Has = { λ table links objects. HoldsAll successor is_linked (number (λ a. T.key_of) (λ a. mixed)) B.fronts (plain_table links) table objects };
 
-    ghost IsFew = { λ looks n. looks ≤ n };
+    ghost parts = { λ table. (slots_of table).used };
+
+    ghost IsFew = { IsFewInChain (λ value. T.key_of value) };
 
     fn find_key(
         &self,

@@ -6,10 +6,11 @@
 //! index.remove_place(&mut links, &objects, place);
 //! ```
 
-ghost use Rattle.std.specs.Prelude.{◌≡◌, ℕ, true, List, Option, Some, length};
+ghost use Rattle.std.specs.Prelude.{◌≡◌, ℕ, true, List, Option, Some};
 ghost use Rattle.ic_unsafe_ref.specs.declared.place.Place.{Place};
 ghost use Rattle.ic_unsafe_ref.specs.Objects.{Objects as Placed, Frees, is_placed, object_at};
 ghost use Rattle.ic_unsafe_ref.proofs.Placing.{Puts};
+ghost use Rattle.ic_link_ops.specs.PlacedObjects.{values_at};
 ghost use Rattle.ic_container.specs.Trees.{IsFound, LacksOne};
 ghost use Rattle.ic_indexed.specs.Indexed.{IsOrderOf};
 
@@ -26,8 +27,11 @@ pub trait Index<T: HasKey, A: Allocator>: Drop {
     // THE INDEX HAS EACH OBJECT, and nothing else is linked in its table.
     ghost Has: { Self → Self.Links → Placed T → Type 0 };
 
-    // SO FEW LOOKS as a search makes among n objects.
-    ghost IsFew: { ℕ → ℕ → Type 0 };
+    // In how many parts the index has the objects: a search looks at those of one part. No call changes that.
+    ghost parts: { Self → ℕ };
+
+    // SO FEW LOOKS as a search makes: of the parts, the key that is searched, the objects and the looks.
+    ghost IsFew: { ℕ → ℕ → List T → ℕ → Type 0 };
 
     /// Where an object of the key stands, if there is one, and how many objects the search looked at. It requires that the index has all
     /// objects.
@@ -39,14 +43,16 @@ pub trait Index<T: HasKey, A: Allocator>: Drop {
     ) -> (Option<Place>, u64)
         requires all { Has self.now links.now objects.now }
         ensures found { IsFound T.key_of objects.now key result.0 }
-        ensures looks { (order : List Place) → IsOrderOf objects.now order → IsFew result.1 (length order) };
+        ensures looks { (order : List Place) → IsOrderOf objects.now order
+            → IsFew (parts self.now) key (values_at objects.now order) result.1 };
 
     /// Puts a new object where its key belongs. It requires that the index has each other object, and that its table covers the place. It
     /// takes no memory.
     fn insert_place(&mut self, links: &mut Self::Links, objects: &Objects<T, A>, place: Place)
         requires covered { Self.Links.Covers links.old place }
         requires lacks { LacksOne (Has self.old links.old) objects.now place }
-        ensures { Has self.new links.new objects.now };
+        ensures has { Has self.new links.new objects.now }
+        ensures parts { parts self.new ≡ parts self.old };
 
     /// Takes an object off that stands there still. It requires that the index has all objects, and that one stands at the place.
     fn remove_place(&mut self, links: &mut Self::Links, objects: &Objects<T, A>, place: Place)
@@ -54,7 +60,8 @@ pub trait Index<T: HasKey, A: Allocator>: Drop {
         requires placed { is_placed objects.now place ≡ true }
         ensures removed { (less : Placed T) → Frees objects.now less place → Has self.new links.new less }
         ensures free { Self.Links.IsFree links.new place }
-        ensures covered { Self.Links.Covers links.new place };
+        ensures covered { Self.Links.Covers links.new place }
+        ensures parts { parts self.new ≡ parts self.old };
 
     // The laws: an index has what it had where its table has grown, and where another value with the same key stands in the place of one.
     ghost has_grown: { (index : Self) (old new : Self.Links) (objects : Placed T) → Self.Links.Keeps old new → Has index old objects → Has index new objects };

@@ -12,9 +12,10 @@ ghost use Rattle.ic_unsafe_ref.specs.declared.place.Place.{Place};
 ghost use Rattle.ic_unsafe_ref.specs.Objects.{Frees, Places, is_placed, object_at, with_object};
 ghost use Rattle.ic_link_ops.specs.Positions.{object_there};
 ghost use Rattle.ic_pool.specs.Refusals.{value_of};
-ghost use Rattle.ic_container.specs.Orders.{values_of, IsWhole};
+ghost use Rattle.ic_container.specs.Orders.{IsWhole};
 ghost use Rattle.ic_container.specs.Trees.{IsFound};
 ghost use Rattle.ic_container.specs.Values.{last_value, Without};
+ghost use Rattle.ic_indexed.specs.Indexed.{order_in, values_of};
 
 use crate::renew::renew;
 use crate::{ByHash, ByKey, HasKey, Index};
@@ -30,8 +31,8 @@ use std::marker::Model;
 
 /// Objects, each in an index by its key and in a list. Several can have one key.
 ///
-/// A clause sees the objects by their places, and the places along the list (`Order`). `values_of` are the objects themselves
-/// along the list.
+/// A clause sees the objects by their places, the places along the list, and in how many parts the index has the objects
+/// (`IndexedOrder`). `values_of` are the objects themselves along the list.
 #[derive(Drop)]
 pub struct Indexed<T: HasKey, I: Index<T, A>, A: Allocator = Global> {
     pool: Pool<T, (I::Links, linked_list::LinkOps<A>), A>,
@@ -46,14 +47,13 @@ pub type TreeIndexed<T, A = Global> = Indexed<T, RBTree<ByKey<T>>, A>;
 pub type HashIndexed<T, B, A = Global> = Indexed<T, HashTable<ByHash<T>, B>, A>;
 
 impl<T: HasKey, I: Index<T, A>, A: Allocator> Model for Indexed<T, I, A> {
-    ghost use Rattle.ic_container.specs.Orders.{Order, order_code, order_of};
-    ghost use Rattle.ic_indexed.specs.Indexed.{IsIndexed};
+    ghost use Rattle.ic_indexed.specs.Indexed.{IndexedOrder, IsIndexed, indexed_code, indexed_of};
 
-    ghost Value = { Order T };
+    ghost Value = { IndexedOrder T };
 
-    ghost coded = { order_code T.code };
+    ghost coded = { indexed_code T.code };
 
-    ghost view = { λ i. order_of i.pool.objects i.pool.links.1 i.in_order };
+    ghost view = { λ i. indexed_of i.pool.objects i.pool.links.1 i.in_order (I.parts i.index) };
 
     ghost invariant = { λ i. IsIndexed (I.Has i.index i.pool.links.0) i.pool.objects i.pool.links.1 i.in_order };
 }
@@ -65,6 +65,7 @@ impl<T: HasKey, A: Allocator> Indexed<T, RBTree<ByKey<T>>, A> {
         A: Copy,
         ensures empty { values_of result ≡ [] }
         ensures vacant { (place : Place) → object_at result.values place ≡ None }
+        ensures parts { result.parts ≡ 1 }
     {
         let links = (
             rbtree::LinkOps::new(alloc),
@@ -91,6 +92,7 @@ impl<T: HasKey, B: Buckets + Drop, A: Allocator> Indexed<T, HashTable<ByHash<T>,
         requires empty { AllByRecursion (λ front. front ≡ None) (B.fronts buckets) }
         ensures empty { values_of result ≡ [] }
         ensures vacant { (place : Place) → object_at result.values place ≡ None }
+        ensures parts { result.parts ≡ length (B.fronts buckets) }
     {
         let links = (
             singly_linked_list::LinkOps::new(alloc),
@@ -107,11 +109,12 @@ impl<T: HasKey, B: Buckets + Drop, A: Allocator> Indexed<T, HashTable<ByHash<T>,
 impl<T: HasKey, I: Index<T, A>, A: Allocator> Indexed<T, I, A> {
     /// Where an object of the key stands, if there is one, and how many objects the search looked at.
     ///
-    /// By a tree O(log n): v looks among n objects, where `2^v <= (n + 1)^2`. By a hash table O(1) on average, and n looks at most.
+    /// By a tree O(log n): v looks among n objects, where `2^v <= (n + 1)^2`. By a hash table O(1) on average: no more looks than objects
+    /// belong in the chain of the key.
     pub fn find(&self, key: u64) -> (Option<Place>, u64)
         ensures found { IsFound T.key_of self.now.values key result.0 }
-        ensures looks { I.IsFew result.1 (length (values_of self.now)) }
-        ensures whole { IsWhole self.now }
+        ensures looks { I.IsFew self.now.parts key (values_of self.now) result.1 }
+        ensures whole { IsWhole (order_in self.now) }
     {
         self.index
             .find_key(&self.pool.links.0, &self.pool.objects, key)
@@ -139,6 +142,7 @@ impl<T: HasKey, I: Index<T, A>, A: Allocator> Indexed<T, I, A> {
     pub fn move_to_front(&mut self, place: Place)
         requires placed { is_placed self.old.values place ≡ true }
         ensures values { self.new.values ≡ self.old.values }
+        ensures parts { self.new.parts ≡ self.old.parts }
         ensures moved { (value : T) → object_at self.old.values place ≡ Some value
             → (rest : List T) × Without value (values_of self.old) rest × (values_of self.new ≡ value ∷ rest) }
     {
@@ -153,6 +157,7 @@ impl<T: HasKey, I: Index<T, A>, A: Allocator> Indexed<T, I, A> {
         ensures value { object_at self.old.values place ≡ Some result }
         ensures freed { Frees self.old.values self.new.values place }
         ensures removed { Without result (values_of self.old) (values_of self.new) }
+        ensures parts { self.new.parts ≡ self.old.parts }
     {
         let object = UnsafeRef::new(place);
         self.index
@@ -169,6 +174,7 @@ impl<T: HasKey, I: Index<T, A>, A: Allocator> Indexed<T, I, A> {
         requires placed { is_placed self.old.values place ≡ true }
         ensures value { object_at self.old.values place ≡ Some result }
         ensures values { self.new.values ≡ with_object self.old.values place value }
+        ensures parts { self.new.parts ≡ self.old.parts }
         ensures renewed { (rest : List T) × Without result (values_of self.old) rest × (values_of self.new ≡ value ∷ rest) }
     {
         let (objects, links) = (&mut self.pool.objects, &mut self.pool.links.0);
@@ -183,6 +189,7 @@ impl<T: HasKey, I: Index<T, A>, A: Allocator> Indexed<T, I, A> {
     pub fn place_front(&mut self, value: T) -> Result<UnsafeRef<T>, PlaceError<T>>
         ensures placed { IfOk result (λ object. Places self.old.values self.new.values object value) }
         ensures added { OnOk result (values_of self.new ≡ value ∷ values_of self.old) }
+        ensures parts { self.new.parts ≡ self.old.parts }
         ensures refused { IfErr result (λ refused. (value_of refused ≡ value) × (self.new ≡ self.old)) }
     {
         let object = match self.pool.place(value) {

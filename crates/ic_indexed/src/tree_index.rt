@@ -1,4 +1,6 @@
 //! A tree finds objects by their keys.
+
+ghost use Rattle.std.specs.Prelude.{length};
 ghost use Rattle.ic_rbtree.specs.Tree.{root_of};
 ghost use Rattle.ic_container.specs.Trees.{HasAll};
 ghost use Rattle.ic_container.specs.TreeLaws.{all_grown, all_alike};
@@ -15,7 +17,9 @@ impl<T: HasKey, A: Allocator> Index<T, A> for RBTree<ByKey<T>> {
 
     ghost Has = { λ tree links objects. HasAll T.key_of links (root_of tree) objects };
 
-    ghost IsFew = { IsFewLooks };
+    ghost parts = { λ tree. 1 };
+
+    ghost IsFew = { λ parts key values looks. IsFewLooks looks (length values) };
 
     fn find_key(
         &self,

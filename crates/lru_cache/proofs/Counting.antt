@@ -1,32 +1,33 @@
 -- What a cache keeps over each of its calls.
 use Rattle.std.proofs.Common.{◌≡◌, ◌≢◌, ℕ, eqb, cond, ◌+◌, ◌-◌, Option, None, Some, IsSome, List, [], ◌∷◌, ◌++◌, length, refl, sym, ap, ◌∙◌, arith, subst, true≢false}
 use Rattle.std.specs.Option.{option_or}
-use Rattle.ic_container.specs.Orders.{Order}
 use Rattle.ic_container.specs.Values.{Without}
+use Rattle.ic_indexed.specs.Indexed.{IndexedOrder}
 use Rattle.lru_cache.specs.declared.entry.Entry.{Entry}
 use Rattle.lru_cache.specs.Cache.{Cache, key_of, entry_with, without, touched, HaveOwnKeys, IsSound, inserted, leaves}
 use Rattle.lru_cache.specs.Kept.{oldest, entries_of, IsCounted}
 use Rattle.lru_cache.proofs.Entries.{Lack, length_rest, rest_own, rest_lack, with_none, without_none, lack_found, oldest_of_full, inserted_for, inserted_more, leaves_is}
 
--- the same entries, in a cache of the same capacity
-pub same_entries : {V : Type 0} (capacity : ℕ) {entries others : List (Entry V)} → entries ≡ others
-    → ◌≡◌ {A = Cache V} (record { entries = entries; capacity = capacity }) (record { entries = others; capacity = capacity })
-same_entries {V} capacity same = ap (λ (l : List (Entry V)). record { entries = l; capacity = capacity }) same
+-- the same entries and parts, in a cache of the same capacity
+pub same_entries : {V : Type 0} (capacity : ℕ) {parts more : ℕ} {entries others : List (Entry V)} → parts ≡ more → entries ≡ others
+    → ◌≡◌ {A = Cache V} (record { entries = entries; capacity = capacity; parts = parts }) (record { entries = others; capacity = capacity; parts = more })
+same_entries {V} capacity {parts} {others = others} alike same =
+    ap (λ (l : List (Entry V)). record { entries = l; capacity = capacity; parts = parts }) same ∙ ap (λ (n : ℕ). record { entries = others; capacity = capacity; parts = n }) alike
 
 -- what is there
 pub some_there : {X : Type 0} (o : Option X) → IsSome o → (x : X) × (o ≡ Some x)
 some_there None h = absurd (true≢false (sym h))
 some_there (Some x) h = (x, refl)
 
-module _ {V : Type 0} {store : Order (Entry V)} {len capacity : ℕ} (k : IsCounted store len capacity) where
+module _ {V : Type 0} {store : IndexedOrder (Entry V)} {len capacity : ℕ} (k : IsCounted store len capacity) where
   -- the cache, as clauses see it
   abbrev pub cache_of : Cache V
-  cache_of = record { entries = entries_of store; capacity = capacity }
+  cache_of = record { entries = entries_of store; capacity = capacity; parts = store.parts }
 
   pub sound : IsSound cache_of
   sound = record { own = k.own; few = omega (arith, k.count, k.few) }
 
-  module _ {new : Order (Entry V)} {entry : Entry V} where
+  module _ {new : IndexedOrder (Entry V)} {entry : Entry V} where
     module _ {rest : List (Entry V)} (w : Without entry (entries_of store) rest) where
       -- an entry in the place of one
       renewed : {other : Entry V} → Lack (key_of other) rest → entries_of new ≡ other ∷ rest → IsCounted new len capacity
@@ -51,7 +52,7 @@ module _ {V : Type 0} {store : Order (Entry V)} {len capacity : ℕ} (k : IsCoun
 
     -- another one leaves for it,
     module _ {gone : Entry V} (leaving : Some gone ≡ option_or (entry_with (key_of entry) (entries_of store)) (cond (eqb len capacity) (oldest (entries_of store)) None))
-        (new : Order (Entry V)) (r : (rest : List (Entry V)) × Without gone (entries_of store) rest × (entries_of new ≡ entry ∷ rest)) where
+        (new : IndexedOrder (Entry V)) (r : (rest : List (Entry V)) × Without gone (entries_of store) rest × (entries_of new ≡ entry ∷ rest)) where
       pub counted_renewed : IsCounted new len capacity
       counted_renewed = renewed r.1 (inserted_for entry cache_of sound.own sound.few some r.1 (leaving_is leaving)).1 r.2
 
@@ -60,7 +61,7 @@ module _ {V : Type 0} {store : Order (Entry V)} {len capacity : ℕ} (k : IsCoun
 
     -- or none does
     module _ (leaving : None ≡ option_or (entry_with (key_of entry) (entries_of store)) (cond (eqb len capacity) (oldest (entries_of store)) None))
-        (new : Order (Entry V)) (are : entries_of new ≡ entry ∷ entries_of store) where
+        (new : IndexedOrder (Entry V)) (are : entries_of new ≡ entry ∷ entries_of store) where
       pub counted_added : IsCounted new (len + 1) capacity
       counted_added =
           let x = inserted_more entry cache_of sound.own sound.few some (leaving_is leaving) in
@@ -70,7 +71,7 @@ module _ {V : Type 0} {store : Order (Entry V)} {len capacity : ℕ} (k : IsCoun
       entries_added = are ∙ (inserted_more entry cache_of sound.own sound.few some (leaving_is leaving)).0
 
   -- NOTHING CHANGED
-  pub counted_same : {new : Order (Entry V)} → new ≡ store → IsCounted new len capacity
+  pub counted_same : {new : IndexedOrder (Entry V)} → new ≡ store → IsCounted new len capacity
   counted_same same = subst (λ store. IsCounted store len capacity) (sym same) k
 
   -- WHERE NO ENTRY HAS THE KEY, nothing is touched and nothing taken out

@@ -1,13 +1,15 @@
 -- Caches: entries, the one touched last in front, and how many there may be.
-use Rattle.std.specs.Prelude.{◌≡◌, ℕ, ◌+◌, ◌^◌, ◌≤◌, Bool, false, not, eqb, Option, List, [], ◌∷◌, ◌++◌, length, take, filter, find, slice_get}
+use Rattle.std.specs.Prelude.{◌≡◌, ℕ, ◌≤◌, Bool, false, not, eqb, Option, List, [], ◌∷◌, ◌++◌, length, take, filter, find, slice_get}
 use Rattle.std.specs.List.{AllByRecursion}
 use Rattle.std.specs.Option.{option_map, option_or}
 use Rattle.lru_cache.specs.declared.entry.Entry.{Entry}
 
--- the entries, from the one touched last to the oldest, and the most that there may be
+-- the entries, from the one touched last to the oldest, the most that there may be, and in how many parts the index has them: a search
+-- looks at entries of one part
 pub record Cache (V : Type 0) : Type 0 where
   pub entries : List (Entry V)
   pub capacity : ℕ
+  pub parts : ℕ
 
 module _ {V : Type 0} where
   -- the key and the value of an entry, and the entry with a key and a value
@@ -49,7 +51,7 @@ module _ {V : Type 0} where
 
   -- the same cache with other entries
   abbrev pub with_entries : Cache V → List (Entry V) → Cache V
-  with_entries cache entries = record { entries = entries; capacity = cache.capacity }
+  with_entries cache entries = record { entries = entries; capacity = cache.capacity; parts = cache.parts }
 
   -- no two entries have one key
   abbrev pub HaveOwnKeys : List (Entry V) → Type 0
@@ -60,8 +62,3 @@ module _ {V : Type 0} where
   pub record IsSound (cache : Cache V) : Type 0 where
     pub own : HaveOwnKeys cache.entries
     pub few : length cache.entries ≤ cache.capacity
-
-  -- SO FEW LOOKS as a search makes among the entries, and one at least if there is an entry
-  pub record IsFewLooks (looks : ℕ) (entries : List (Entry V)) : Type 0 where
-    pub few : 2 ^ looks ≤ (length entries + 1) ^ 2
-    pub some : 1 ≤ length entries → 1 ≤ looks

@@ -1,7 +1,7 @@
 -- What a cache keeps of its entries.
 use Rattle.std.specs.Prelude.{◌≡◌, ℕ, ◌≤◌, Option, List, length}
-use Rattle.ic_container.specs.Orders.{Order, values_of}
 use Rattle.ic_container.specs.Values.{last_value}
+use Rattle.ic_indexed.specs.Indexed.{IndexedOrder, values_of}
 use Rattle.lru_cache.specs.declared.entry.Entry.{Entry}
 use Rattle.lru_cache.specs.Cache.{HaveOwnKeys}
 
@@ -11,7 +11,7 @@ module _ {V : Type 0} where
   oldest = last_value
 
   -- the entries in the list
-  module _ (store : Order (Entry V)) where
+  module _ (store : IndexedOrder (Entry V)) where
     abbrev pub entries_of : List (Entry V)
     entries_of = values_of store
 

@@ -1,58 +1,64 @@
 //! The cache.
 //!
 //! ```text
-//! let mut cache = LruCache::new(rt.alloc(), 2);
+//! let mut cache = LruCache::new(rt.alloc(), 2); // by a tree; `with_buckets` by a hash table
 //! cache.insert(1, 'a')?; // None: no entry leaves
 //! cache.insert(2, 'b')?; // None
 //! cache.get(1); // Some(&'a'), and the entry of 2 is the oldest
 //! cache.insert(3, 'c')?; // Some((2, 'b'))
 //! ```
 
-ghost use Rattle.std.specs.Prelude.{◌≡◌, ◌<◌, ◌↔◌, ◌++◌, ◌∷◌, [], length, IsTrue, IsSome, IsOk, IfNone, OnOk, IfOk, IfErr, MatchOption};
+ghost use Rattle.std.specs.Prelude.{◌≡◌, ◌<◌, ◌≤◌, ◌↔◌, ◌++◌, ◌∷◌, [], None, length, IsTrue, IsSome, IsOk, IfNone, OnOk, IfOk, IfErr, MatchOption};
+ghost use Rattle.std.specs.List.{AllByRecursion};
 ghost use Rattle.std.specs.Option.{option_copied, option_map};
 
 use crate::InsertError;
 use crate::entry::Entry;
 use crate::store::{Store, find, leaving};
-use ic_indexed::Indexed;
+use ic_hash_table::{Buckets, HashTable};
+use ic_indexed::{ByHash, ByKey, Index, Indexed};
+use ic_rbtree::RBTree;
 use std::alloc::{Allocator, Global};
 use std::marker::Model;
 
 /// A cache from `u64` keys to values, that holds so many entries at most and forgets the one that was touched longest
 /// ago.
 ///
-/// A clause sees the entries from the one touched last to the oldest, and the capacity. No key stands there twice, and
-/// there are never more entries than the capacity (`IsSound`). A cache of capacity 0 keeps nothing: what is inserted
-/// leaves at once, and comes back.
+/// A clause sees the entries from the one touched last to the oldest, the capacity, and in how many parts the index has the entries: one
+/// by a tree, and the number of chains by a hash table. No key stands there twice, and there are never more entries than the capacity
+/// (`IsSound`). A cache of capacity 0 keeps nothing: what is inserted leaves at once, and comes back.
 #[derive(Drop)]
-pub struct LruCache<V, A: Allocator = Global> {
-    store: Store<V, A>,
+pub struct LruCache<V, I: Index<Entry<V>, A>, A: Allocator = Global> {
+    store: Store<V, I, A>,
     len: usize,
     capacity: usize,
 }
 
-impl<V, A: Allocator> Model for LruCache<V, A> {
+/// A cache whose entries are in a tree by their keys: each search is O(log n).
+pub type TreeLruCache<V, A = Global> = LruCache<V, RBTree<ByKey<Entry<V>>>, A>;
+
+/// A cache whose entries are in a hash table by their keys: each search is O(1) on average.
+pub type HashLruCache<V, B, A = Global> = LruCache<V, HashTable<ByHash<Entry<V>>, B>, A>;
+
+impl<V, I: Index<Entry<V>, A>, A: Allocator> Model for LruCache<V, I, A> {
     ghost use Rattle.lru_cache.specs.Cache.{Cache};
     ghost use Rattle.lru_cache.specs.Kept.{entries_of, IsCounted};
 
     ghost Value = { Cache V };
 
-    ghost view = { λ c. record { entries = entries_of c.store; capacity = c.capacity } };
+    ghost view = { λ c. record { entries = entries_of c.store; capacity = c.capacity; parts = c.store.parts } };
 
     ghost invariant = { λ c. IsCounted c.store c.len c.capacity };
 }
 
-impl<V, A: Allocator> LruCache<V, A> {
-    ghost use Rattle.std.specs.Borrow.{sem};
-    ghost use Rattle.lru_cache.specs.Cache.{entry_of, pair_of, value_with, inserted, leaves, without, touched, with_entries, IsFewLooks, IsSound};
-    ghost use Rattle.lru_cache.specs.Lends.{EndsAs};
-
-    /// A cache of no entries. It takes no memory.
-    pub fn new(alloc: A, capacity: usize) -> LruCache<V, A>
+impl<V, A: Allocator> LruCache<V, RBTree<ByKey<Entry<V>>>, A> {
+    /// A cache of no entries, with a tree as the index. It takes no memory.
+    pub fn new(alloc: A, capacity: usize) -> TreeLruCache<V, A>
     where
         A: Copy,
         ensures entries { result.entries ≡ [] }
         ensures capacity { result.capacity ≡ capacity }
+        ensures parts { result.parts ≡ 1 }
     {
         LruCache {
             store: Indexed::new(alloc),
@@ -60,6 +66,35 @@ impl<V, A: Allocator> LruCache<V, A> {
             capacity,
         }
     }
+}
+
+impl<V, B: Buckets + Drop, A: Allocator> LruCache<V, HashTable<ByHash<Entry<V>>, B>, A> {
+    /// A cache of no entries, with a hash table over these buckets as the index. It takes no memory.
+    ///
+    /// It requires that the buckets are empty, and that there is one at least and at most 4,294,967,296. With as many buckets as there
+    /// may be entries a search looks at one or two entries on average, if nobody chooses the keys to fall into one chain.
+    pub fn with_buckets(alloc: A, capacity: usize, buckets: B) -> HashLruCache<V, B, A>
+    where
+        A: Copy,
+        requires some { 1 ≤ length (B.fronts buckets) }
+        requires few { length (B.fronts buckets) ≤ 4294967296 }
+        requires empty { AllByRecursion (λ front. front ≡ None) (B.fronts buckets) }
+        ensures entries { result.entries ≡ [] }
+        ensures capacity { result.capacity ≡ capacity }
+        ensures parts { result.parts ≡ length (B.fronts buckets) }
+    {
+        LruCache {
+            store: Indexed::with_buckets(alloc, buckets),
+            len: 0,
+            capacity,
+        }
+    }
+}
+
+impl<V, I: Index<Entry<V>, A>, A: Allocator> LruCache<V, I, A> {
+    ghost use Rattle.std.specs.Borrow.{sem};
+    ghost use Rattle.lru_cache.specs.Cache.{entry_of, pair_of, value_with, inserted, leaves, without, touched, with_entries, IsSound};
+    ghost use Rattle.lru_cache.specs.Lends.{EndsAs};
 
     /// How many entries there are. O(1).
     #[inline]
@@ -86,10 +121,12 @@ impl<V, A: Allocator> LruCache<V, A> {
     }
 
     /// The value of the key, if there is one, and how many entries the search looked at. It does not touch the entry.
-    /// O(log n): v looks among n entries, where `2^v <= (n + 1)^2`.
+    ///
+    /// By a tree O(log n): v looks among n entries, where `2^v <= (n + 1)^2`. By a hash table O(1) on average: no more looks than entries
+    /// belong in the chain of the key.
     pub fn find(&self, key: u64) -> (Option<&V>, u64)
         ensures value { option_copied result.0 ≡ value_with key self.now.entries }
-        ensures looks { IsFewLooks result.1 self.now.entries }
+        ensures looks { I.IsFew self.now.parts key self.now.entries result.1 }
         ensures sound { IsSound self.now }
     {
         let (place, looks) = find(&self.store, key);
@@ -107,9 +144,9 @@ impl<V, A: Allocator> LruCache<V, A> {
     }
 
     /// The value of the key, if there is one. The entry is touched: it goes in front of all others, which keep their
-    /// order. O(log n), and it takes no memory.
+    /// order. It costs what `find` does, and takes no memory.
     pub fn get(&mut self, key: u64) -> Option<&V>
-        ensures* touches { sem 𝓛 (EndsAs V.row A.row A.Allocator self.entry (touched key self.old.entries)) }
+        ensures* touches { sem 𝓛 (EndsAs V.row I.row A.row I.Links.row I.Index I.Links.Tables A.Allocator self.entry (touched key self.old.entries)) }
         ensures value { option_copied result ≡ value_with key self.old.entries }
     {
         let place = find(&self.store, key).0?;
@@ -117,7 +154,7 @@ impl<V, A: Allocator> LruCache<V, A> {
         Some(&self.store.at(place).value)
     }
 
-    /// Takes the entry of the key out, if there is one. O(log n), and it takes no memory.
+    /// Takes the entry of the key out, if there is one. It costs about two searches, and takes no memory.
     pub fn remove(&mut self, key: u64) -> Option<V>
         ensures value { result ≡ value_with key self.old.entries }
         ensures removed { self.new ≡ with_entries self.old (without key self.old.entries) }
@@ -128,12 +165,13 @@ impl<V, A: Allocator> LruCache<V, A> {
         Some(entry.value)
     }
 
-    /// Takes the entry out that was touched longest ago: `None` if there is none. O(log n), and it takes no memory.
+    /// Takes the entry out that was touched longest ago: `None` if there is none. It costs about a search, and takes no memory.
     pub fn pop_oldest(&mut self) -> Option<(u64, V)>
         ensures oldest { MatchOption result (self.old.entries ≡ [])
             (λ oldest. self.old.entries ≡ self.new.entries ++ entry_of oldest.0 oldest.1 ∷ []) }
         ensures none { IfNone result (self.new ≡ self.old) }
         ensures capacity { self.new.capacity ≡ self.old.capacity }
+        ensures parts { self.new.parts ≡ self.old.parts }
     {
         let place = self.store.last()?;
         let entry = self.store.remove(place);
@@ -146,7 +184,7 @@ impl<V, A: Allocator> LruCache<V, A> {
     ///
     /// Where one leaves its object is used again: no memory is taken, and nothing can fail. Else it takes memory for
     /// the entry and its two links, at most three requests. Where that is refused the value comes back, and nothing has
-    /// changed. O(log n).
+    /// changed. It costs about three searches.
     pub fn insert(&mut self, key: u64, value: V) -> Result<Option<(u64, V)>, InsertError<V>>
         ensures left { IfOk result (λ left. left ≡ option_map pair_of (leaves (entry_of key value) self.old)) }
         ensures inserted { OnOk result (self.new ≡ with_entries self.old (inserted (entry_of key value) self.old)) }

@@ -6,8 +6,12 @@
 //! let page = cache.get(7); // touched: it leaves last
 //! ```
 //!
-//! Each entry is one object with a link in each of two fields, and uses both: in the tree of keys, by which it is
-//! found, and in the list of ages, whose last one leaves first.
+//! Each entry is one object with a link in each of two fields, and uses both: in the index of keys, by which it is
+//! found, and in the list of ages, whose last one leaves first. The index is a tree, or a hash table over buckets of yours:
+//!
+//! ```text
+//! let mut cache = LruCache::with_buckets(rt.alloc(), 1000, buckets); // as many as entries: O(1) on average
+//! ```
 #![tactic(auto)]
 
 mod cache;
@@ -15,5 +19,6 @@ mod entry;
 mod insert_error;
 mod store;
 
-pub use cache::LruCache;
+pub use cache::{HashLruCache, LruCache, TreeLruCache};
+pub use entry::Entry;
 pub use insert_error::InsertError;

@@ -9,31 +9,34 @@ ghost use Rattle.std.specs.Prelude.{◌≡◌, true, None, IfSome, if◌then◌e
 ghost use Rattle.std.specs.Option.{option_or};
 ghost use Rattle.ic_unsafe_ref.specs.Objects.{is_placed};
 ghost use Rattle.ic_link_ops.specs.Positions.{object_there};
-ghost use Rattle.lru_cache.specs.Cache.{entry_with, HaveOwnKeys, IsFewLooks};
+ghost use Rattle.lru_cache.specs.Cache.{entry_with, HaveOwnKeys};
 ghost use Rattle.lru_cache.specs.Kept.{oldest, entries_of};
 
 use crate::entry::Entry;
-use ic_indexed::TreeIndexed;
+use ic_indexed::{Index, Indexed};
 use ic_unsafe_ref::Place;
 use std::alloc::Allocator;
 
-/// The entries, each in the tree of keys and in the list of ages.
-pub(crate) type Store<V, A> = TreeIndexed<Entry<V>, A>;
+/// The entries, each in the index of keys and in the list of ages.
+pub(crate) type Store<V, I, A> = Indexed<Entry<V>, I, A>;
 
 // Where the entry of the key stands, if there is one, and how many entries were looked at.
-pub(crate) fn find<V, A: Allocator>(store: &Store<V, A>, key: u64) -> (Option<Place>, u64)
+pub(crate) fn find<V, I: Index<Entry<V>, A>, A: Allocator>(
+    store: &Store<V, I, A>,
+    key: u64,
+) -> (Option<Place>, u64)
     requires { HaveOwnKeys (entries_of store.now) }
     ensures found { object_there store.now.values result.0 ≡ entry_with key (entries_of store.now) }
     ensures placed { IfSome result.0 (λ place. is_placed store.now.values place ≡ true) }
-    ensures looks { IsFewLooks result.1 (entries_of store.now) }
+    ensures looks { I.IsFew store.now.parts key (entries_of store.now) result.1 }
 {
     store.find(key)
 }
 
 // The place of the entry that leaves for one of that key: the one that has the key, or else the oldest one, where
 // the cache is full.
-pub(crate) fn leaving<V, A: Allocator>(
-    store: &Store<V, A>,
+pub(crate) fn leaving<V, I: Index<Entry<V>, A>, A: Allocator>(
+    store: &Store<V, I, A>,
     key: u64,
     is_full: bool,
 ) -> Option<Place>

@@ -2,10 +2,7 @@ use Rattle.lru_cache.proofs.Keeping.{found_entry}
 use Rattle.lru_cache.proofs.store.find.Goals as goal
 
 pub returns-clause-found : goal.returns-clause-found
-returns-clause-found g c = let e = c.find.ensures in (found_entry e.whole c.requires c.args.key c.find.result.0 e.found).0
+returns-clause-found g c = let e = c.find.ensures in (found_entry c.args.store.now e.whole c.requires c.args.key c.find.result.0 e.found).0
 
 pub returns-clause-placed : goal.returns-clause-placed
-returns-clause-placed g c = let e = c.find.ensures in (found_entry e.whole c.requires c.args.key c.find.result.0 e.found).1
-
-pub returns-clause-looks : goal.returns-clause-looks
-returns-clause-looks g c = let l = c.find.ensures.looks in record { few = l.few; some = l.some }
+returns-clause-placed g c = let e = c.find.ensures in (found_entry c.args.store.now e.whole c.requires c.args.key c.find.result.0 e.found).1

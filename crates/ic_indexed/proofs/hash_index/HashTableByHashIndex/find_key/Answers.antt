@@ -1,4 +1,4 @@
-use Rattle.std.proofs.Common.{None, Some, sym, ap, eqb-true, eq-eqb, arith}
+use Rattle.std.proofs.Common.{None, Some, refl, sym, ap, eqb-true, eq-eqb, arith}
 use Rattle.ic_indexed.specs.HashIndex.{mixed}
 use Rattle.ic_indexed.specs.HashLaws.{singly_alike}
 use Rattle.ic_indexed.proofs.HashLemmas.{hash_chain, hash_found}
@@ -24,12 +24,12 @@ returns-in-None-clause-found g c =
 
 pub returns-in-Some-clause-looks : goal.returns-in-Some-clause-looks
 returns-in-Some-clause-looks g c order whole =
-    let chain = hash_chain singly_alike c.requires.all _ in
-    let l = c.in-Some.ensures.looks chain.0 chain.1 in
-    omega (arith, l.counted, l.few, c.looks.ensures, c.new-probe.ensures.none, chain.2 order whole)
+    let chain = hash_chain singly_alike c.requires.all (mixed c.args.key) in
+    let l = (rw c.new-probe.ensures.key at c.in-Some.ensures.looks) chain.0 chain.1 in
+    record { slots = c.args.self.now.slots; used = refl; well_formed = c.requires.all.held.well_formed; few = omega (arith, l.counted, l.few, c.looks.ensures, c.new-probe.ensures.none, chain.2 order whole) }
 
 pub returns-in-None-clause-looks : goal.returns-in-None-clause-looks
 returns-in-None-clause-looks g c order whole =
-    let chain = hash_chain singly_alike c.requires.all _ in
-    let l = c.in-None.ensures.looks chain.0 chain.1 in
-    omega (arith, l.counted, l.few, c.looks-in-None.ensures, c.new-probe.ensures.none, chain.2 order whole)
+    let chain = hash_chain singly_alike c.requires.all (mixed c.args.key) in
+    let l = (rw c.new-probe.ensures.key at c.in-None.ensures.looks) chain.0 chain.1 in
+    record { slots = c.args.self.now.slots; used = refl; well_formed = c.requires.all.held.well_formed; few = omega (arith, l.counted, l.few, c.looks-in-None.ensures, c.new-probe.ensures.none, chain.2 order whole) }

@@ -11,8 +11,8 @@ insert-requires-clause-placed g c = rw c.new.ensures (ap is_some (placed_there c
 pub insert-requires-clause-held : goal.insert-requires-clause-held
 insert-requires-clause-held g c = let l = c.requires.lacks in (l.all.members, hash_ready singly_alike l.all l.places)
 
-pub returns : goal.returns
-returns g c =
+pub returns-clause-has : goal.returns-clause-has
+returns-clause-has g c =
     let l = c.requires.lacks in
     let e = rw c.new.ensures at c.insert.ensures in
     let off = l.all.only c.args.place l.places.vacant in

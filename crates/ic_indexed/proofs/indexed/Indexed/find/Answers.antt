@@ -1,7 +1,5 @@
-use Rattle.std.proofs.Common.{ℕ, sym, subst}
 use Rattle.ic_link_ops.specs.DoublyEntries.{members_of}
-use Rattle.ic_container.proofs.ListedLemmas.{listed_placed, listed_whole}
-use Rattle.ic_container.proofs.ValueLemmas.{as_many}
+use Rattle.ic_container.proofs.ListedLemmas.{listed_whole}
 use Rattle.ic_indexed.proofs.indexed.Indexed.find.Goals as goal
 
 pub find_key-requires : goal.find_key-requires
@@ -12,9 +10,7 @@ returns-clause-found g c = rw (← c.self.view_is) c.find_key.ensures.found
 
 pub returns-clause-looks : goal.returns-clause-looks
 returns-clause-looks g c =
-    let k = c.self.invariant.listed in
-    let order = members_of c.self.inside.pool.links.1 c.self.inside.in_order in
-    rw (← c.self.view_is) (subst (λ (n : ℕ). g.I.Index.IsFew c.find_key.result.1 n) (sym (as_many c.self.inside.pool.objects order (listed_placed k))) (c.find_key.ensures.looks order (listed_whole k)))
+    rw (← c.self.view_is) (c.find_key.ensures.looks (members_of c.self.inside.pool.links.1 c.self.inside.in_order) (listed_whole c.self.invariant.listed))
 
 pub returns-clause-whole : goal.returns-clause-whole
 returns-clause-whole g c = rw (← c.self.view_is) (listed_whole c.self.invariant.listed)

@@ -1,3 +1,5 @@
+use Rattle.std.proofs.Common.{ap}
+use Rattle.ic_container.specs.Orders.{Order}
 use Rattle.ic_container.proofs.ListedLemmas.{listed_grown, listed_new, listed_off, listed_values_new, order_grown}
 use Rattle.ic_indexed.proofs.indexed.Indexed.place_front.Goals as goal
 
@@ -12,7 +14,7 @@ invariant_of-self g c =
     })
 
 pub returns-in-Err-clause-refused : goal.returns-in-Err-clause-refused
-returns-in-Err-clause-refused g c = let e = c.in-Err.ensures in rw (← c.self.view_is, e.refused.1) (e.refused.0, order_grown c.self.invariant.listed c.place.new.self.links.1 e.keeps.1)
+returns-in-Err-clause-refused g c = let e = c.in-Err.ensures in rw (← c.self.view_is, e.refused.1) (e.refused.0, ap (λ (o : Order g.row.T.Denot). record { order = o.order; values = o.values; parts = g.I.Index.parts c.self.inside.index }) (order_grown c.self.invariant.listed c.place.new.self.links.1 e.keeps.1))
 
 -- one was
 pub insert_place-requires-clause-lacks : goal.insert_place-requires-clause-lacks
@@ -35,7 +37,7 @@ pub invariant_of-self-2 : goal.invariant_of-self-2
 invariant_of-self-2 g c =
     let e = c.in-Ok.ensures in
     record {
-      keyed = c.insert_place.ensures;
+      keyed = c.insert_place.ensures.has;
       listed = listed_new c.self.invariant.listed c.place.new.self.links.1 e.keeps.1 e.placed c.push_front.new.links c.push_front.new.list (rw c.place-3.ensures at c.push_front.ensures);
     }
 

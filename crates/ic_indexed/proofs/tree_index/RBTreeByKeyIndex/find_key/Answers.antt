@@ -1,9 +1,10 @@
-use Rattle.std.proofs.Common.{◌≡◌, ℕ, ◌+◌, ◌^◌, ◌≤◌, subst, arith}
+use Rattle.std.proofs.Common.{◌≡◌, ℕ, ◌+◌, ◌^◌, ◌≤◌, ◌∙◌, sym, subst, arith}
 use Rattle.ic_rbtree.specs.Comparing.{FewLooks}
 use Rattle.ic_rbtree.specs.Cursor.{position}
 use Rattle.ic_rbtree.specs.PlainTrees.{members_of}
 use Rattle.ic_rbtree.specs.Tree.{root_of}
 use Rattle.ic_container.proofs.TreeLemmas.{all_found, all_placed, all_shown, as_many_keys}
+use Rattle.ic_container.proofs.ValueLemmas.{as_many}
 use Rattle.ic_indexed.proofs.tree_index.RBTreeByKeyIndex.find_key.Goals as goal
 
 pub find_by-requires-clause-placed : goal.find_by-requires-clause-placed
@@ -19,4 +20,5 @@ returns-clause-looks g c order whole =
     let counted : l.looks ≡ c.looks.result = omega (arith, l.counted, c.looks.ensures, c.new-probe.ensures.none) in
     let same = as_many_keys g.T.HasKey.key_of c.args.objects.now c.requires.all order whole in
     let few = subst (λ (n : ℕ). FewLooks n (members_of c.args.links.now (root_of c.args.self.now))) counted l.few in
-    record { few = subst (λ (n : ℕ). 2 ^ c.looks.result ≤ (n + 1) ^ 2) same few.few; some = λ some. few.some (omega (arith, some, same)) }
+    let many = as_many c.args.objects.now order whole.placed in
+    record { few = subst (λ (n : ℕ). 2 ^ c.looks.result ≤ (n + 1) ^ 2) (same ∙ sym many) few.few; some = λ some. few.some (omega (arith, some, same, many)) }

@@ -11,8 +11,8 @@ insert-requires-clause-placed g c = let l = c.requires.lacks in all_ready g.T.Ha
 pub insert-requires-clause-object : goal.insert-requires-clause-object
 insert-requires-clause-object g c = rw c.new.ensures (ap is_some (placed_there c.requires.lacks.places))
 
-pub returns : goal.returns
-returns g c =
+pub returns-clause-has : goal.returns-clause-has
+returns-clause-has g c =
     let l = c.requires.lacks in
     let e = rw c.new.ensures at c.insert.ensures in
     let off = all_off g.T.HasKey.key_of l.less l.all l.places in

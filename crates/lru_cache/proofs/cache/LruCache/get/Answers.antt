@@ -12,7 +12,7 @@ pub returns-in_err-place : goal.returns-in_err-place
 returns-in_err-place g c =
     let none = sym c.find.ensures.found ∙ ap (object_there c.self.inside.store.values) c.in_err-place.was in
     rw (c.from_residual.ensures, ← c.self.view_is)
-    ((refl, λ _. tt, same_entries c.self.inside.capacity (sym (touched_none c.self.invariant c.args.key none))), record { touches = tt; value = sym (ap (option_map (λ entry. entry.value)) none) })
+    ((refl, λ _. tt, same_entries c.self.inside.capacity refl (sym (touched_none c.self.invariant c.args.key none))), record { touches = tt; value = sym (ap (option_map (λ entry. entry.value)) none) })
 
 pub invariant_of-self-2 : goal.invariant_of-self-2
 invariant_of-self-2 g c =
@@ -28,4 +28,4 @@ returns g c =
     let found = sym c.find.ensures.found ∙ ap (object_there c.self.inside.store.values) c.in_ok-place.was ∙ there in
     let t = e.moved c.at.result.now there in
     let same = t.2 ∙ sym (touched_it t.1 c.self.invariant.own) ∙ ap (λ (k : ℕ). touched k (entries_of c.self.inside.store)) (found_key c.args.key (entries_of c.self.inside.store) found) in
-    rw (← c.self.view_is) ((refl, λ _. tt, same_entries c.self.inside.capacity same), record { touches = tt; value = sym (ap (option_map (λ entry. entry.value)) found) })
+    rw (← c.self.view_is) ((refl, λ _. tt, same_entries c.self.inside.capacity e.parts same), record { touches = tt; value = sym (ap (option_map (λ entry. entry.value)) found) })

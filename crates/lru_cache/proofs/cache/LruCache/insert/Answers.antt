@@ -17,7 +17,7 @@ pub returns-in-Some-clause-inserted : goal.returns-in-Some-clause-inserted
 returns-in-Some-clause-inserted g c =
     let e = c.renew-left.ensures in
     rw (← c.self.view_is)
-    (same_entries c.self.inside.capacity (entries_renewed c.self.invariant (entry_of c.args.key c.args.value) c.if-self-eq0.false (sym e.value ∙ c.in-Some.ensures.leaving) c.renew-left.new.self e.renewed))
+    (same_entries c.self.inside.capacity e.parts (entries_renewed c.self.invariant (entry_of c.args.key c.args.value) c.if-self-eq0.false (sym e.value ∙ c.in-Some.ensures.leaving) c.renew-left.new.self e.renewed))
 
 pub returns-in-Some-clause-sound : goal.returns-in-Some-clause-sound
 returns-in-Some-clause-sound g c = sound (invariant_of-self g c)
@@ -41,7 +41,7 @@ pub returns-in-Ok-clause-inserted : goal.returns-in-Ok-clause-inserted
 returns-in-Ok-clause-inserted g c =
     let e = c.in-Ok.ensures in
     rw (← c.self.view_is)
-    (same_entries c.self.inside.capacity (entries_added c.self.invariant (entry_of c.args.key c.args.value) c.if-self-eq0.false c.in-None.ensures.leaving c.place_front.new.self e.added))
+    (same_entries c.self.inside.capacity c.place_front.ensures.parts (entries_added c.self.invariant (entry_of c.args.key c.args.value) c.if-self-eq0.false c.in-None.ensures.leaving c.place_front.new.self e.added))
 
 pub returns-in-Ok-clause-sound : goal.returns-in-Ok-clause-sound
 returns-in-Ok-clause-sound g c = sound (invariant_of-self-in-Ok g c)
