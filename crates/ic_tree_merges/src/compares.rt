@@ -5,7 +5,7 @@
 //! order.looks() // how often two objects were compared
 //! ```
 
-ghost use Rattle.std.specs.Prelude.{◌≡◌, ◌≤◌, ◌+◌, ℕ};
+ghost use Rattle.std.specs.Prelude.{◌≡◌, ◌≤◌, ◌<◌, ◌+◌, ℕ, ⊤};
 ghost use Rattle.std.specs.declared.cmp.Ordering.{Ordering};
 ghost use Rattle.ic_tree_merges.specs.Compares.{adapter_of, looks_of};
 
@@ -20,11 +20,15 @@ pub trait Compares<V> {
     // How many looks it has made, as far as it counts.
     ghost looks: { Self → ℕ };
 
+    // It counts each look.
+    ghost Counts: { Type 0 };
+
     /// How `a` stands to `b`: `Less` where it goes before. It compares as before then, and counts one look more at most.
     fn compare(&mut self, a: &V, b: &V) -> Ordering
         ensures answer { result ≡ order self.old a.now b.now }
         ensures same { order self.new ≡ order self.old }
-        ensures counted { looks self.new ≤ looks self.old + 1 };
+        ensures counted { looks self.new ≤ looks self.old + 1 }
+        ensures each_counted { Counts → looks self.old < 18446744073709551615 → looks self.new ≡ looks self.old + 1 };
 }
 
 /// The order of keys, as an adapter finds them: that of a keyed tree.
@@ -59,6 +63,8 @@ impl<A: KeyAdapter> Compares<A::Value> for ByKeys<A> {
     ghost order = { by_keys A.Key.cmp A.key_of };
 
     ghost looks = { looks_of };
+
+    ghost Counts = { ⊤ };
 
     #[inline]
     fn compare(&mut self, a: &A::Value, b: &A::Value) -> Ordering {
