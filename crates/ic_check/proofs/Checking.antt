@@ -27,6 +27,63 @@ module _ {E : Type 0} (between : E → Option Place → Option Place → Type 0)
     pub counted : count ≡ length done
     pub leads : (s : List Place) → IsChain between t.entry None s None → head ≡ first s → (rest : List Place) × (s ≡ done ++ rest) × (current ≡ first rest)
 
+-- `law`: an entry tells what stands behind who knows what stands in front
+module _ {E : Type 0} {between : E → Option Place → Option Place → Type 0} (step : E → Option Place → Option Place) (law : (e : E) (b a : Option Place) → between e b a → step e b ≡ a) where
+  module _ {t : Table E} {head before current : Option Place} {count : ℕ} where
+    -- at first nothing is passed
+    unfoldable pub checks_none : head ≡ current → before ≡ None → count ≡ 0 → Checks between t head before current count
+    checks_none e n z = record {
+      done = [];
+      chain = tt;
+      starts = e;
+      ends = n;
+      counted = z;
+      leads = λ s chain starts. (s, refl, sym e ∙ starts);
+    }
+
+  -- HOW THE MEMBER STANDS in any sequence that is shown
+  pub checks_stands : {t : Table E} {head before current : Option Place} {p : Place} {count : ℕ} (k : Checks between t head before current count) → current ≡ Some p
+      → (s : List Place) → IsChain between t.entry None s None → head ≡ first s
+      → (rest : List Place) × (s ≡ k.done ++ p ∷ rest) × between (t.entry p) before (first rest)
+  checks_stands {t} {head} {before} {current} {p} k is s chain starts =
+      let l = k.leads s chain starts in
+      let r : l.0 ≡ p ∷ drop 1 l.0 = first_is l.0 (sym is ∙ l.2) in
+      let parts : s ≡ k.done ++ p ∷ drop 1 l.0 = l.1 ∙ ap (λ (m : List Place). k.done ++ m) r in
+      let cut = chain_cut between t.entry None k.done (p ∷ drop 1 l.0) None (subst (λ (m : List Place). IsChain between t.entry None m None) parts chain) in
+      (drop 1 l.0, parts, rw k.ends cut.1.0)
+
+  -- ONE STEP: it stands between the place before and the next one
+  unfoldable pub checks_more : {t : Table E} {head before current ahead : Option Place} {p : Place} {count more : ℕ} → Checks between t head before current count → current ≡ Some p
+      → between (t.entry p) before ahead → more ≡ count + 1 → Checks between t head (Some p) ahead more
+  checks_more {t} {head} {before} {current} {ahead} {p} {count} {more} k is stands counts = record {
+    done = k.done ++ p ∷ [];
+    chain = chain_glue between t.entry None k.done (p ∷ []) ahead (rw is at k.chain) (rw k.ends at stands, tt);
+    starts = k.starts ∙ ap (first_or k.done) is ∙ sym (first_or-append k.done (p ∷ []) ahead);
+    ends = sym (last_or-append None k.done (p ∷ []));
+    counted = omega (arith, counts, k.counted, length-append k.done (p ∷ []));
+    leads = λ s chain starts.
+        let l = checks_stands k is s chain starts in
+        (l.0, l.1 ∙ sym (append_assoc k.done (p ∷ []) l.0), sym (law (t.entry p) before ahead stands) ∙ law (t.entry p) before (first l.0) l.2);
+  }
+
+  -- at the end all of it is passed
+  pub checks_whole : {t : Table E} {head before current : Option Place} {count : ℕ} (k : Checks between t head before current count) → current ≡ None
+      → (s : List Place) → IsChain between t.entry None s None → head ≡ first s → before ≡ last s
+  checks_whole k over s chain starts =
+      let l = k.leads s chain starts in
+      let none : l.0 ≡ [] = nothing_first l.0 (sym over ∙ l.2) in
+      let whole : s ≡ k.done = l.1 ∙ ap (λ (m : List Place). k.done ++ m) none ∙ append-nil k.done in
+      k.ends ∙ ap last (sym whole)
+
+  -- TOO MANY: no sequence is longer than what the table covers
+  pub checks_few : {t : Table E} {head before current : Option Place} {p : Place} {count : ℕ} → ((q : Place) (b a : Option Place) → between (t.entry q) b a → IsCovered t q)
+      → (k : Checks between t head before current count) → current ≡ Some p
+      → (s : List Place) → IsDistinct s → IsChain between t.entry None s None → head ≡ first s → count < t.extent.places
+  checks_few {t} {p = p} covered k is s distinct chain starts =
+      let l = checks_stands k is s chain starts in
+      let few = stretch_length {between = between} t covered {b = None} {from = first s} {to = last s} {a = None} {w = s} (record { distinct = distinct; chain = chain; starts = refl; ends = refl }) in
+      omega (arith, few, k.counted, ap length l.1, length-append k.done (p ∷ l.0))
+
 -- `law`: an entry alone tells what stands behind
 module _ {E : Type 0} {between : E → Option Place → Option Place → Type 0} (next : E → Option Place) (law : (e : E) (b a : Option Place) → between e b a → next e ≡ a) where
   -- two chains from one place on are one, whatever stands before
@@ -51,64 +108,10 @@ module _ {E : Type 0} {between : E → Option Place → Option Place → Type 0}
         let same : x ∷ s ≡ x ∷ parts.1 = one_chain t b (last_or (Some x) parts.0) (x ∷ s) (x ∷ parts.1) refl h cut.1 in
         absurd (omega (arith, ap length same, ap length parts.2, length-append parts.0 (x ∷ parts.1)))
 
-  module _ {t : Table E} {head before current : Option Place} {count : ℕ} where
-    -- at first nothing is passed
-    pub checks_none : head ≡ current → before ≡ None → count ≡ 0 → Checks between t head before current count
-    checks_none e n z = record {
-      done = [];
-      chain = tt;
-      starts = e;
-      ends = n;
-      counted = z;
-      leads = λ s chain starts. (s, refl, sym e ∙ starts);
-    }
-
-  -- HOW THE MEMBER STANDS in any sequence that is shown
-  pub checks_stands : {t : Table E} {head before current : Option Place} {p : Place} {count : ℕ} (k : Checks between t head before current count) → current ≡ Some p
-      → (s : List Place) → IsChain between t.entry None s None → head ≡ first s
-      → (rest : List Place) × (s ≡ k.done ++ p ∷ rest) × between (t.entry p) before (first rest)
-  checks_stands {t} {head} {before} {current} {p} k is s chain starts =
-      let l = k.leads s chain starts in
-      let r : l.0 ≡ p ∷ drop 1 l.0 = first_is l.0 (sym is ∙ l.2) in
-      let parts : s ≡ k.done ++ p ∷ drop 1 l.0 = l.1 ∙ ap (λ (m : List Place). k.done ++ m) r in
-      let cut = chain_cut between t.entry None k.done (p ∷ drop 1 l.0) None (subst (λ (m : List Place). IsChain between t.entry None m None) parts chain) in
-      (drop 1 l.0, parts, rw k.ends cut.1.0)
-
-  -- ONE STEP: it stands between the place before and the next one
-  pub checks_more : {t : Table E} {head before current ahead : Option Place} {p : Place} {count more : ℕ} → Checks between t head before current count → current ≡ Some p
-      → between (t.entry p) before ahead → more ≡ count + 1 → Checks between t head (Some p) ahead more
-  checks_more {t} {head} {before} {current} {ahead} {p} {count} {more} k is stands counts = record {
-    done = k.done ++ p ∷ [];
-    chain = chain_glue between t.entry None k.done (p ∷ []) ahead (rw is at k.chain) (rw k.ends at stands, tt);
-    starts = k.starts ∙ ap (first_or k.done) is ∙ sym (first_or-append k.done (p ∷ []) ahead);
-    ends = sym (last_or-append None k.done (p ∷ []));
-    counted = omega (arith, counts, k.counted, length-append k.done (p ∷ []));
-    leads = λ s chain starts.
-        let l = checks_stands k is s chain starts in
-        (l.0, l.1 ∙ sym (append_assoc k.done (p ∷ []) l.0), sym (law (t.entry p) before ahead stands) ∙ law (t.entry p) before (first l.0) l.2);
-  }
-
   -- THE END: all of it is passed
   pub checks_all : {t : Table E} {head before current : Option Place} {count : ℕ} (k : Checks between t head before current count) → current ≡ None
       → IsDistinct k.done × IsChain between t.entry None k.done None × (head ≡ first k.done)
   checks_all {t} k over = let chain = rw over at k.chain in (chain_distinct t.entry None k.done chain, chain, k.starts ∙ ap (first_or k.done) over)
-
-  pub checks_whole : {t : Table E} {head before current : Option Place} {count : ℕ} (k : Checks between t head before current count) → current ≡ None
-      → (s : List Place) → IsChain between t.entry None s None → head ≡ first s → before ≡ last s
-  checks_whole k over s chain starts =
-      let l = k.leads s chain starts in
-      let none : l.0 ≡ [] = nothing_first l.0 (sym over ∙ l.2) in
-      let whole : s ≡ k.done = l.1 ∙ ap (λ (m : List Place). k.done ++ m) none ∙ append-nil k.done in
-      k.ends ∙ ap last (sym whole)
-
-  -- TOO MANY: no sequence is longer than what the table covers
-  pub checks_few : {t : Table E} {head before current : Option Place} {p : Place} {count : ℕ} → ((q : Place) (b a : Option Place) → between (t.entry q) b a → IsCovered t q)
-      → (k : Checks between t head before current count) → current ≡ Some p
-      → (s : List Place) → IsDistinct s → IsChain between t.entry None s None → head ≡ first s → count < t.extent.places
-  checks_few {t} {p = p} covered k is s distinct chain starts =
-      let l = checks_stands k is s chain starts in
-      let few = stretch_length {between = between} t covered {b = None} {from = first s} {to = last s} {a = None} {w = s} (record { distinct = distinct; chain = chain; starts = refl; ends = refl }) in
-      omega (arith, few, k.counted, ap length l.1, length-append k.done (p ∷ l.0))
 
 -- what an entry tells stands behind, whatever stands in front
 abbrev pub next_of : {E : Type 0} → (E → Option Place → Option Place) → E → Option Place

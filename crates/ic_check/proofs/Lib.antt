@@ -1,4 +1,6 @@
 mod Checking
 mod Subtrees
 mod Marking
+mod MarkedWalks
 mod SortedTrees
+mod TreeWalks

@@ -1,5 +1,5 @@
 -- Two walks side by side, the one a value behind the other: all is sorted exactly if what the one behind has left is.
-use Rattle.std.proofs.Common.{◌≡◌, true, Option, Some, None, List, [], ◌∷◌, map, refl, sym, ◌∙◌, ap, subst}
+use Rattle.std.proofs.Common.{◌≡◌, true, Option, Some, None, List, [], ◌∷◌, map, sym, ◌∙◌, ap, subst}
 use Rattle.std.specs.Borrow.{Bor}
 use Rattle.std.specs.Option.{IfSome, is_some}
 use Rattle.std.specs.declared.cmp.Ordering.{Ordering}

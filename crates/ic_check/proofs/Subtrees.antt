@@ -1,5 +1,5 @@
 -- A walk down along parents meets no place twice, and what it found says whether a tree stands there.
-use Rattle.std.proofs.Common.{◌≡◌, ◌≢◌, ℕ, suc, max, ◌+◌, ◌≤◌, ◌^◌, true, MatchOption, Option, Some, None, List, [], ◌∷◌, ◌++◌, length, length-append, refl, sym, ap, ◌∙◌, subst, arith, append_assoc}
+use Rattle.std.proofs.Common.{◌≡◌, ℕ, ◌+◌, ◌≤◌, true, MatchOption, Option, Some, None, List, [], ◌∷◌, ◌++◌, length, length-append, refl, sym, ap, ◌∙◌, subst, arith, append_assoc}
 use Rattle.std.proofs.Math.Nat.{max-le, le-max_left, le-max_right}
 use Rattle.std.specs.List.{AllByRecursion}
 use Rattle.ic_unsafe_ref.specs.declared.place.Place.{Place}
@@ -7,7 +7,7 @@ use Rattle.ic_link_ops.specs.declared.color.Color.{Color}
 use Rattle.ic_link_ops.specs.declared.color.Color.TheVariants.{Red, Black}
 use Rattle.ic_link_ops.specs.Sequences.{IsAbsent, IsDistinct, IsDisjoint}
 use Rattle.ic_link_ops.specs.Trees.{Tree, leaf, fork, top, in_order}
-use Rattle.ic_link_ops.specs.Shape.{top_color, weight, blacks, IsEven, NoRedPair, IsRight}
+use Rattle.ic_link_ops.specs.Shape.{top_color, weight, blacks}
 use Rattle.ic_link_ops.specs.Tables.{Table}
 use Rattle.ic_link_ops.specs.RedBlackTree.{Node, IsTree, Shows}
 use Rattle.ic_link_ops.proofs.Each.{all_both, all_map}
@@ -17,7 +17,7 @@ use Rattle.ic_link_ops.proofs.Walks.{few_places}
 use Rattle.ic_rbtree.specs.Height.{height}
 use Rattle.ic_rbtree.proofs.Heights.{height_few, exponent_small}
 use Rattle.ic_check.specs.declared.tree.Subtree.{Subtree}
-use Rattle.ic_check.specs.Subtrees.{AreApart, AreNoRedPair, AreUnlike, IsFound, IsJoined, IsPathUp, HasPathUp, IsSound, IsTreeBelow, HasNoTree}
+use Rattle.ic_check.specs.Subtrees.{AreApart, AreNoRedPair, AreUnlike, IsJoined, IsPathUp, HasPathUp, IsSound, IsTreeBelow, HasNoTree}
 
 -- what stands before one end of a list is told by the list
 same_before : (f g w : List Place) (r q : Place) → f ++ r ∷ w ≡ g ++ q ∷ w → r ≡ q

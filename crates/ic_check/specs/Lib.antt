@@ -1,3 +1,4 @@
 pub mod Checked
+pub mod Joined
 pub mod Subtrees
 pub mod WholeTables

@@ -1,10 +1,11 @@
 -- What a check of a whole table answers, and what its marks say.
-use Rattle.std.specs.Prelude.{◌≡◌, ℕ, Bool, false, List, [], ◌∷◌, ◌++◌}
+use Rattle.std.specs.Prelude.{◌≡◌, ℕ, Bool, true, false, List, [], ◌∷◌, ◌++◌, length}
 use Rattle.std.specs.Bool.{Decides}
+use Rattle.std.specs.List.{AllByRecursion}
 use Rattle.ic_unsafe_ref.specs.declared.place.Place.{Place}
 use Rattle.ic_unsafe_ref.specs.Places.{index_of}
 use Rattle.ic_link_ops.specs.PlainTables.{entry_at}
-use Rattle.ic_link_ops.specs.Sequences.{IsMember, IsDistinct}
+use Rattle.ic_link_ops.specs.Sequences.{IsAbsent, IsMember, IsDistinct}
 use Rattle.ic_link_ops.specs.Tables.{Table, IsLinked}
 
 module _ {H : Type 0} (shows : H → List Place → Type 0) where
@@ -13,9 +14,25 @@ module _ {H : Type 0} (shows : H → List Place → Type 0) where
   ShowsEach [] s = s ≡ []
   ShowsEach (list ∷ lists) s = (front back : List Place) × shows list front × ShowsEach lists back × (s ≡ front ++ back)
 
+  -- and no place stands twice in it
+  pub record ShowsEachOnce (lists : List H) (s : List Place) : Type 0 where
+    pub each : ShowsEach lists s
+    pub distinct : IsDistinct s
+
   -- THE WHOLE TABLE: besides, no place is a member of two of them, and none but their members is linked
   pub record ShowsAll {E : Type 0} (linked : E → Bool) (t : Table E) (lists : List H) (s : List Place) : Type 0 where
     pub each : ShowsEach lists s
+    pub distinct : IsDistinct s
+    pub only : (p : Place) → IsLinked linked t p → IsMember p s
+
+-- THE WHOLE TABLE OF TWO ROWS of collections: those of the second one have the rest of s
+module _ {H G : Type 0} (shows : H → List Place → Type 0) (others : G → List Place → Type 0) where
+  pub record ShowsBoth {E : Type 0} (linked : E → Bool) (t : Table E) (first : List H) (second : List G) (s : List Place) : Type 0 where
+    pub front : List Place
+    pub back : List Place
+    pub parts : s ≡ front ++ back
+    pub each : ShowsEach shows first front
+    pub each_other : ShowsEach others second back
     pub distinct : IsDistinct s
     pub only : (p : Place) → IsLinked linked t p → IsMember p s
 
@@ -26,6 +43,25 @@ is_marked = entry_at false
 -- the members of s are marked, and no other place is
 abbrev pub IsMarking : List Bool → List Place → Type 0
 IsMarking marks s = (p : Place) → Decides (is_marked marks p) (IsMember p s)
+
+-- no member of s is marked
+abbrev pub AreUnmarked : List Bool → List Place → Type 0
+AreUnmarked marks s = AllByRecursion (λ p. is_marked marks p ≡ false) s
+
+-- THE MEMBERS OF s ARE MARKED BESIDES, and no other place
+pub record MarksAlso (old new : List Bool) (s : List Place) : Type 0 where
+  pub long : length new ≡ length old
+  pub marked : (p : Place) → IsMember p s → is_marked new p ≡ true
+  pub others : (p : Place) → IsAbsent p s → is_marked new p ≡ is_marked old p
+
+-- what a check of one collection says that marks its members: so many are shown, none of them was marked, and they are marked now
+module _ (shows : List Place → Type 0) where
+  abbrev pub IsGathered : List Bool → List Bool → ℕ → Type 0
+  IsGathered old new count = (s : List Place) × shows s × (length s ≡ count) × AreUnmarked old s × MarksAlso old new s
+
+  -- no sequence is shown of which no member is marked
+  abbrev pub ShowsNoneUnmarked : List Bool → Type 0
+  ShowsNoneUnmarked old = (s : List Place) → shows s → AreUnmarked old s → ⊥
 
 -- the place with that index is linked, and not marked
 abbrev pub IsMissed : {E : Type 0} → (E → Bool) → Table E → List Bool → ℕ → Type 0

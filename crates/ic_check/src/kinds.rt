@@ -1,4 +1,4 @@
-//! The kinds of lists that a walk from the front checks.
+//! The kinds of lists, as a walk from the front checks them.
 //!
 //! ```text
 //! DoublyLinked::stands_behind(&links, place, prev) // whether the entry of the place names `prev`
@@ -10,6 +10,7 @@ ghost use Rattle.std.proofs.Common.{refl};
 ghost use Rattle.ic_unsafe_ref.specs.declared.place.Place.{Place};
 ghost use Rattle.ic_link_ops.specs.Tables.{IsLinked};
 
+use crate::joined::JoinsAny;
 use ic_chain::{Chain, ForwardLinks};
 use ic_link_ops::LinkOps;
 use ic_link_ops::linked_list::LinkedListOps;
@@ -17,11 +18,12 @@ use ic_link_ops::singly_linked_list::SinglyLinkedListOps;
 use ic_linked_list::DoublyLinked;
 use ic_singly_linked_list::SinglyLinked;
 use ic_unsafe_ref::Place;
+use ic_xor_linked_list::XorLinked;
 
-/// A kind of lists whose entries tell what stands behind by themselves, so that a walk which ends has met no place twice.
+/// A kind of lists that tells whether its places stand where a walk from the front has met them.
 ///
-/// Doubly and singly linked lists are such. An XOR list is none: between other neighbors an entry leads elsewhere.
-pub trait NamesItsNext<L: LinkOps>: ForwardLinks<L> {
+/// Each kind is such: doubly and singly linked lists over all tables, and XOR lists over those that are [`JoinsAny`].
+pub trait TellsNeighbors<L: LinkOps>: ForwardLinks<L> {
     /// Whether `place` stands behind `prev`, as its entry says. It requires that the place is linked. At most one reading.
     fn stands_behind(links: &L, place: Place, prev: Option<Place>) -> bool
         requires linked { IsLinked L.linked (L.table links.now) place }
@@ -30,12 +32,17 @@ pub trait NamesItsNext<L: LinkOps>: ForwardLinks<L> {
     /// Whether the list keeps `last` as its last member, if it keeps one. It reads no links.
     fn ends_with<T>(list: &Chain<Self, T>, last: Option<Place>) -> bool
         ensures { Decides result (list.now.tail ≡ Self.kept last) };
+}
 
+/// A kind of lists whose entries tell what stands behind by themselves, so that a walk which ends has met no place twice.
+///
+/// Doubly and singly linked lists are such. An XOR list is none: between other neighbors an entry leads elsewhere.
+pub trait NamesItsNext<L: LinkOps>: TellsNeighbors<L> {
     // The law: what stands behind is told, whatever stands in front.
     ghost tells_behind: { (e : L.Entry) (b c : Option Place) → Self.step e b ≡ Self.step e c };
 }
 
-impl<L: LinkedListOps> NamesItsNext<L> for DoublyLinked {
+impl<L: LinkedListOps> TellsNeighbors<L> for DoublyLinked {
     #[inline]
     fn stands_behind(links: &L, place: Place, prev: Option<Place>) -> bool {
         is_same(links.prev(place), prev)
@@ -45,11 +52,13 @@ impl<L: LinkedListOps> NamesItsNext<L> for DoublyLinked {
     fn ends_with<T>(list: &Chain<DoublyLinked, T>, last: Option<Place>) -> bool {
         is_same(list.last(), last)
     }
+}
 
+impl<L: LinkedListOps> NamesItsNext<L> for DoublyLinked {
     ghost tells_behind = { λ e b c. refl };
 }
 
-impl<L: SinglyLinkedListOps> NamesItsNext<L> for SinglyLinked {
+impl<L: SinglyLinkedListOps> TellsNeighbors<L> for SinglyLinked {
     #[inline]
     fn stands_behind(links: &L, place: Place, prev: Option<Place>) -> bool {
         let _ = links;
@@ -64,8 +73,25 @@ impl<L: SinglyLinkedListOps> NamesItsNext<L> for SinglyLinked {
         let _ = last;
         true
     }
+}
 
+impl<L: SinglyLinkedListOps> NamesItsNext<L> for SinglyLinked {
     ghost tells_behind = { λ e b c. refl };
+}
+
+impl<L: JoinsAny> TellsNeighbors<L> for XorLinked {
+    #[inline]
+    fn stands_behind(links: &L, place: Place, prev: Option<Place>) -> bool {
+        let _ = links;
+        let _ = place;
+        let _ = prev;
+        true
+    }
+
+    #[inline]
+    fn ends_with<T>(list: &Chain<XorLinked, T>, last: Option<Place>) -> bool {
+        is_same(last, list.last())
+    }
 }
 
 // Whether two places, or none, are one: one comparison of words.

@@ -12,6 +12,8 @@
 //! ```
 #![tactic(auto)]
 
+mod gather;
+mod joined;
 mod kinds;
 mod list;
 mod sorted;
@@ -19,9 +21,11 @@ mod tells;
 mod tree;
 mod whole;
 
-pub use kinds::NamesItsNext;
+pub use gather::Gather;
+pub use joined::{JoinsAny, KeepsWord};
+pub use kinds::{NamesItsNext, TellsNeighbors};
 pub use list::check;
 pub use sorted::is_sorted;
 pub use tells::TellsLinks;
 pub use tree::check_tree;
-pub use whole::check_all;
+pub use whole::{check_all, check_both, check_marking};

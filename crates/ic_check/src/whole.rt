@@ -1,21 +1,22 @@
-//! The check of a whole table: of its lists, and that nothing else is linked.
+//! Checks with a mark for each place: of a list of any kind, and of a whole table.
 //!
 //! ```text
+//! check_marking(&xor_list, &links, &mut marks)     // Some(3): the table shows three members for the list
 //! check_all(&[ready, waiting], &links, &mut marks) // Some(5): five members, and nothing else is linked
+//! check_both(&lists, &trees, &links, &mut marks)   // the same of a table with lists and trees
 //! ```
 
-ghost use Rattle.std.specs.Prelude.{◌≡◌, ◌<◌, ◌≤◌, MatchOption, List, [], ◌++◌, length, true};
-ghost use Rattle.std.specs.Bool.{Decides, OnTrue, OnFalse};
+ghost use Rattle.std.specs.Prelude.{◌≡◌, ◌<◌, ◌≤◌, MatchOption, length, true, false};
+ghost use Rattle.std.specs.Bool.{Decides};
 ghost use Rattle.ic_unsafe_ref.specs.declared.place.Place.{Place};
 ghost use Rattle.ic_unsafe_ref.specs.Places.{index_of};
 ghost use Rattle.ic_link_ops.specs.Chains.{ShowsChain};
-ghost use Rattle.ic_link_ops.specs.Sequences.{IsDisjoint};
 ghost use Rattle.ic_link_ops.specs.Tables.{IsLinked};
 ghost use Rattle.ic_check.specs.Checked.{IsShown, ShowsNone};
-ghost use Rattle.ic_check.specs.WholeTables.{ShowsAll, IsMarking, IsMissed, is_marked};
+ghost use Rattle.ic_check.specs.WholeTables.{ShowsAll, ShowsBoth, ShowsEachOnce, IsGathered, ShowsNoneUnmarked, IsMissed, is_marked};
 
-use crate::kinds::NamesItsNext;
-use crate::list::check;
+use crate::gather::Gather;
+use crate::kinds::TellsNeighbors;
 use crate::tells::TellsLinks;
 use ic_chain::Chain;
 use ic_unsafe_ref::Place;
@@ -23,34 +24,42 @@ use ic_unsafe_ref::Place;
 // So many places have words.
 const ALL_PLACES: usize = 8_589_934_591;
 
-/// How many members all these lists have, `None` if the table shows no sequence for one of them, if two share a place, or if a place is
-/// linked that is no member.
+/// How many members the table shows for the list, `None` if it shows no sequence for it: the check of a list of any kind.
 ///
-/// It requires nothing of the words, and a mark for each place that the table covers, whatever it says. O(n) for n places. It takes no memory.
-pub fn check_all<K: NamesItsNext<L>, T, L: TellsLinks>(
-    lists: &[Chain<K, T>],
+/// A list whose entries name no next place by themselves may lead through a place twice and still end right, so it takes a mark for each
+/// place that the table covers, whatever it says. It requires nothing of the words. O(n) for n places. It takes no memory.
+pub fn check_marking<K: TellsNeighbors<L>, T, L: TellsLinks>(
+    list: &Chain<K, T>,
+    links: &L,
+    marks: &mut [bool],
+) -> Option<usize>
+    requires room { (L.table links.now).extent.places ≤ length marks.old }
+    ensures { MatchOption result (ShowsNone (ShowsChain K.Between K.kept (L.table links.now) list.now))
+        (IsShown (ShowsChain K.Between K.kept (L.table links.now) list.now)) }
+{
+    clear(marks);
+    list.gather(links, marks)
+}
+
+/// How many members all these collections have, `None` if the table shows no sequence for one of them, if two share a place, or if a place
+/// is linked that is no member.
+///
+/// The collections are lists of one kind, or trees. It requires nothing of the words, and a mark for each place that the table covers,
+/// whatever it says. O(n) for n places. It takes no memory.
+pub fn check_all<C: Gather<L>, L: TellsLinks>(
+    collections: &[C],
     links: &L,
     marks: &mut [bool],
 ) -> Option<usize>
     requires room { (L.table links.now).extent.places ≤ length marks.old }
     ensures { MatchOption result
-        (ShowsNone (ShowsAll (ShowsChain K.Between K.kept (L.table links.now)) L.linked (L.table links.now) lists.now))
-        (IsShown (ShowsAll (ShowsChain K.Between K.kept (L.table links.now)) L.linked (L.table links.now) lists.now)) }
+        (ShowsNone (ShowsAll (λ c. C.Shows c (L.table links.now)) L.linked (L.table links.now) collections.now))
+        (IsShown (ShowsAll (λ c. C.Shows c (L.table links.now)) L.linked (L.table links.now) collections.now)) }
 {
     clear(marks);
-    let mut count: usize = 0;
-    let mut index = 0;
-    while index < lists.len() {
-        let list = &lists[index];
-        let Some(members) = check(list, links) else {
-            return None;
-        };
-        if !mark(list, links, members, marks) {
-            return None;
-        }
-        count += members;
-        index += 1;
-    }
+    let Some(count) = gather_each(collections, links, marks) else {
+        return None;
+    };
     if are_all_marked(links, marks) {
         Some(count)
     } else {
@@ -58,44 +67,68 @@ pub fn check_all<K: NamesItsNext<L>, T, L: TellsLinks>(
     }
 }
 
+/// The same of a table with collections of two kinds, such as lists and trees. It requires and costs what [`check_all`] does.
+pub fn check_both<C: Gather<L>, D: Gather<L>, L: TellsLinks>(
+    first: &[C],
+    second: &[D],
+    links: &L,
+    marks: &mut [bool],
+) -> Option<usize>
+    requires room { (L.table links.now).extent.places ≤ length marks.old }
+    ensures { MatchOption result
+        (ShowsNone (ShowsBoth (λ c. C.Shows c (L.table links.now)) (λ c. D.Shows c (L.table links.now)) L.linked (L.table links.now)
+        first.now second.now))
+        (IsShown (ShowsBoth (λ c. C.Shows c (L.table links.now)) (λ c. D.Shows c (L.table links.now)) L.linked (L.table links.now)
+        first.now second.now)) }
+{
+    clear(marks);
+    let Some(count) = gather_each(first, links, marks) else {
+        return None;
+    };
+    let Some(more) = gather_each(second, links, marks) else {
+        return None;
+    };
+    if are_all_marked(links, marks) {
+        Some(count + more)
+    } else {
+        None
+    }
+}
+
+// How many members the table shows for all these collections, which it marks, `None` if it shows no sequence for one of them, if two share
+// a place, or if one of the members was marked.
+fn gather_each<C: Gather<L>, L: TellsLinks>(
+    collections: &[C],
+    links: &L,
+    marks: &mut [bool],
+) -> Option<usize>
+    requires room { (L.table links.now).extent.places ≤ length marks.old }
+    ensures gathered { MatchOption result
+        (ShowsNoneUnmarked (ShowsEachOnce (λ c. C.Shows c (L.table links.now)) collections.now) marks.old)
+        (IsGathered (ShowsEachOnce (λ c. C.Shows c (L.table links.now)) collections.now) marks.old marks.new) }
+    ensures length { length marks.new ≡ length marks.old }
+{
+    let mut count: usize = 0;
+    let mut index = 0;
+    while index < collections.len() {
+        let collection = &collections[index];
+        let Some(members) = collection.gather(links, marks) else {
+            return None;
+        };
+        count += members;
+        index += 1;
+    }
+    Some(count)
+}
+
 // Marks no place.
 fn clear(marks: &mut [bool])
-    ensures cleared { IsMarking marks.new [] }
+    ensures cleared { (p : Place) → is_marked marks.new p ≡ false }
     ensures length { length marks.new ≡ length marks.old }
 {
     for index in 0..marks.len() {
         marks[index] = false;
     }
-}
-
-// Marks the members of a list of so many, and answers whether none of them was marked.
-fn mark<K: NamesItsNext<L>, T, L: TellsLinks>(
-    list: &Chain<K, T>,
-    links: &L,
-    count: usize,
-    marks: &mut [bool],
-) -> bool
-    requires room { (L.table links.now).extent.places ≤ length marks.old }
-    requires shown { IsShown (ShowsChain K.Between K.kept (L.table links.now) list.now) count }
-    ensures marked { (s done : List Place) → ShowsChain K.Between K.kept (L.table links.now) list.now s → IsMarking marks.old done
-        → OnTrue result (IsDisjoint s done × IsMarking marks.new (done ++ s)) × OnFalse result (IsDisjoint s done → ⊥) }
-    ensures length { length marks.new ≡ length marks.old }
-{
-    let mut left = count;
-    let mut before = None;
-    let mut current = list.first();
-    while let Some(member) = current {
-        let index = member.index();
-        if marks[index] {
-            return false;
-        }
-        marks[index] = true;
-        let behind = K::next(links, member, before);
-        before = current;
-        current = behind;
-        left -= 1;
-    }
-    true
 }
 
 // Whether each linked place is marked.

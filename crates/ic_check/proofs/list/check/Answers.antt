@@ -1,35 +1,35 @@
-use Rattle.std.proofs.Common.{None, sym, ◌∙◌, ap, subst, arith, refl}
+use Rattle.std.proofs.Common.{sym, ◌∙◌, ap, arith, refl}
 use Rattle.ic_check.proofs.Checking.{checks_none, checks_stands, checks_more, checks_all, checks_whole, checks_few, next_of, leads_on, stands_after}
 use Rattle.ic_check.proofs.list.check.Goals as goal
 
 pub loop-current-init : goal.loop-current-init
 loop-current-init g c =
-    checks_none (next_of g.K.ForwardLinks.step) (leads_on g.met.K.NamesItsNext.tells_behind g.met.K.ForwardLinks.leads) (sym c.first-current.ensures) refl refl
+    checks_none g.K.ForwardLinks.step g.met.K.ForwardLinks.leads (sym c.first-current.ensures) refl refl
 
 pub returns-then-count-covered_places : goal.returns-then-count-covered_places
 returns-then-count-covered_places g c s shown =
-    let few = checks_few (next_of g.K.ForwardLinks.step) (leads_on g.met.K.NamesItsNext.tells_behind g.met.K.ForwardLinks.leads)
+    let few = checks_few g.K.ForwardLinks.step g.met.K.ForwardLinks.leads
     (λ q b a h. g.met.L.LinkOps.linked_is_covered c.args.links.now q (g.met.K.ForwardLinks.between_linked _ b a h)) c.loop-current.invariant c.in-Some.is
     s shown.distinct shown.chain shown.head in
     omega (arith, few, c.covered_places.ensures, c.if-count-covered_places.true)
 
 pub returns-then-not-tells_linked : goal.returns-then-not-tells_linked
 returns-then-not-tells_linked g c s shown =
-    let stands = checks_stands (next_of g.K.ForwardLinks.step) (leads_on g.met.K.NamesItsNext.tells_behind g.met.K.ForwardLinks.leads)
+    let stands = checks_stands g.K.ForwardLinks.step g.met.K.ForwardLinks.leads
     c.loop-current.invariant c.in-Some.is s shown.chain shown.head in
     let linked = g.met.K.ForwardLinks.between_linked _ _ _ stands.2 in
     cc linked
 
 pub returns-then-not-stands_behind : goal.returns-then-not-stands_behind
 returns-then-not-stands_behind g c s shown =
-    let stands = checks_stands (next_of g.K.ForwardLinks.step) (leads_on g.met.K.NamesItsNext.tells_behind g.met.K.ForwardLinks.leads)
+    let stands = checks_stands g.K.ForwardLinks.step g.met.K.ForwardLinks.leads
     c.loop-current.invariant c.in-Some.is s shown.chain shown.head in
     let behind = c.stands_behind.ensures.1 (stands_after g.met.K.ForwardLinks.leads stands.2) in
     cc behind
 
 pub loop-current-preserved : goal.loop-current-preserved
 loop-current-preserved g c =
-    checks_more (next_of g.K.ForwardLinks.step) (leads_on g.met.K.NamesItsNext.tells_behind g.met.K.ForwardLinks.leads) c.loop-current.invariant c.in-Some.is
+    checks_more g.K.ForwardLinks.step g.met.K.ForwardLinks.leads c.loop-current.invariant c.in-Some.is
     (rw c.next-behind.ensures (c.stands_behind.ensures.0 c.if-not-stands_behind.false)) refl
 
 pub returns-then-ends_with : goal.returns-then-ends_with
@@ -40,7 +40,7 @@ returns-then-ends_with g c =
 
 pub returns-else-ends_with : goal.returns-else-ends_with
 returns-else-ends_with g c s shown =
-    let whole = checks_whole (next_of g.K.ForwardLinks.step) (leads_on g.met.K.NamesItsNext.tells_behind g.met.K.ForwardLinks.leads)
+    let whole = checks_whole g.K.ForwardLinks.step g.met.K.ForwardLinks.leads
     c.loop-current.invariant c.in_default.is s shown.chain shown.head in
     let ends = c.ends_with.ensures.1 (shown.tail ∙ ap g.K.ListKind.kept (sym whole)) in
     cc ends

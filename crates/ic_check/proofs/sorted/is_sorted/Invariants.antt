@@ -1,4 +1,4 @@
-use Rattle.std.proofs.Common.{◌≡◌, List, ◌∷◌, map}
+use Rattle.std.proofs.Common.{List}
 use Rattle.ic_unsafe_ref.specs.declared.place.Place.{Place}
 use Rattle.ic_link_ops.specs.PlacedObjects.{values_at}
 use Rattle.ic_link_ops.specs.RedBlackTree.{Shows}

@@ -1,6 +1,6 @@
 use Rattle.std.proofs.Common.{rules, sym, ◌∙◌, arith, Some}
 use Rattle.ic_check.specs.Subtrees.{HasPathUp}
-use Rattle.ic_check.proofs.Subtrees.{Stands, stands_there, stands_not, path_through, none_left, none_right, few_members, few_blacks, tree_at, told}
+use Rattle.ic_check.proofs.Subtrees.{stands_there, stands_not, path_through, none_left, none_right, few_members, few_blacks, tree_at, told}
 use Rattle.ic_check.proofs.tree.+check_below.Goals as goal
 
 pub returns-then-not-are_apart : goal.returns-then-not-are_apart

@@ -1,4 +1,4 @@
-use Rattle.ic_check.proofs.Subtrees.{none_shown, red_not_shown, black_shown}
+use Rattle.ic_check.proofs.Subtrees.{none_shown, red_not_shown}
 use Rattle.ic_check.proofs.tree.check_tree.Goals as goal
 
 pub returns-in_default : goal.returns-in_default

@@ -1,0 +1,12 @@
+use Rattle.std.proofs.Common.{◌≤◌, ◌-◌, drop, length}
+use Rattle.ic_check.proofs.Marking.{Gathers}
+use Rattle.ic_check.proofs.whole.gather_each.Given as goal
+
+abbrev pub invariant-loop-index : goal.invariant-loop-index
+invariant-loop-index g l = record {
+  gathers : Gathers (λ c. g.C.Gather.Shows c (g.L.LinkOps.table l.links)) l.collections (drop l.index l.collections) l.initial.marks l.marks l.count;
+  low : l.index ≤ length l.collections;
+}
+
+abbrev pub decreases-loop-index : goal.decreases-loop-index
+decreases-loop-index g l = length l.collections - l.index

@@ -1,0 +1,31 @@
+-- Words that are always those of places, of none, or the exclusive or of two of these.
+use Rattle.std.specs.Prelude.{◌≡◌, ℕ, true, not, bit_xor, Option}
+use Rattle.std.proofs.Common.{sym, ap, ◌∙◌, eq-eqb, true≢false}
+use Rattle.std.proofs.lemmas.Nat.{xor_comm}
+use Rattle.ic_unsafe_ref.specs.declared.place.Place.{Place}
+use Rattle.ic_unsafe_ref.specs.PlaceWords.{IsWord}
+use Rattle.ic_unsafe_ref.specs.Places.{place_at, word_of}
+use Rattle.ic_unsafe_ref.proofs.PlaceLemmas.{word_at, word_fits, xor_fits}
+use Rattle.ic_link_ops.specs.declared.linked_list.TwoWords.{TwoWords}
+use Rattle.ic_link_ops.specs.declared.marked_word.MarkedWord.{MarkedWord}
+use Rattle.ic_link_ops.specs.declared.one_word.OneWord.{OneWord}
+use Rattle.ic_link_ops.specs.OneWord.{has_word, next_word_of}
+use Rattle.ic_link_ops.specs.TwoWords as doubly
+use Rattle.ic_link_ops.specs.XorLaws.{xor_back}
+use Rattle.ic_link_ops.specs.Words.{is_word, marked_bits_of}
+
+-- what is not the mark is a word
+marked_word : (w : MarkedWord) → is_word w ≡ true → IsWord (marked_bits_of w)
+marked_word w is = w.mark_or_word (λ e. true≢false (sym is ∙ ap not (eq-eqb _ _ e)))
+
+pub one_word : {K : Type 0} (w : OneWord K) → has_word w ≡ true → IsWord (next_word_of w)
+one_word w is = marked_word w.word is
+
+pub two_words : (w : TwoWords) → doubly.has_words w ≡ true → IsWord (doubly.next_word_of w)
+two_words w is = marked_word w.next is
+
+-- A WORD STANDS BESIDE EACH PLACE: it is the exclusive or of that place's word and of what it tells then
+pub joins_told : (n : ℕ) (a : Option Place) → IsWord n → n ≡ bit_xor (word_of a) (word_of (place_at (bit_xor n (word_of a))))
+joins_told n a is =
+    sym (xor_back (word_of a) n) ∙ xor_comm (bit_xor (word_of a) n) (word_of a) ∙ ap (bit_xor (word_of a)) (xor_comm (word_of a) n)
+    ∙ ap (bit_xor (word_of a)) (sym (word_at (bit_xor n (word_of a)) (xor_fits is (word_fits a))))

@@ -1,0 +1,52 @@
+//! Tables of XOR links whose entries stand between any place and another.
+//!
+//! ```text
+//! // The word of a linked place is that of a place, of none, or the exclusive or of two of these. So beside each place it names another
+//! // one, or none, and the check of a list has nothing to refuse there.
+//! ```
+
+ghost use Rattle.std.specs.Prelude.{◌≡◌, true, Option};
+ghost use Rattle.ic_unsafe_ref.specs.declared.place.Place.{Place};
+ghost use Rattle.ic_unsafe_ref.specs.PlaceWords.{IsWord};
+ghost use Rattle.ic_check.specs.Joined.{one_word, two_words, joins_told};
+ghost use Rattle.ic_link_ops.specs.Links.{words_of};
+
+use ic_atomic::{AtomicLinkOps, PlainLinkOps};
+use ic_link_ops::linked_list::TwoWords;
+use ic_link_ops::xor_linked_list::XorLinkedListOps;
+use ic_link_ops::{LentTable, LinkValue, NextWord, OneWord, PlainTable};
+use std::alloc::Allocator;
+
+/// Words whose next word is that of a place, of none, or the exclusive or of two of these, where their place is linked.
+pub trait KeepsWord: NextWord {
+    // The law.
+    ghost keeps_word: { (w : Self) → Self.is_linked w ≡ true → IsWord (Self.next_word w) };
+}
+
+impl<K> KeepsWord for OneWord<K> {
+    ghost keeps_word = { λ w is. one_word w is };
+}
+
+impl KeepsWord for TwoWords {
+    ghost keeps_word = { λ w is. two_words w is };
+}
+
+/// A table of XOR links whose entry of a linked place stands between any place, or none, and what it tells then.
+///
+/// The plain tables are such, those that are lent, and those whose links are claimed.
+pub trait JoinsAny: XorLinkedListOps {
+    // The law.
+    ghost joins_any: { (e : Self.Entry) (a : Option Place) → Self.linked e ≡ true → Self.Joins e a (Self.other e a) };
+}
+
+impl<W: KeepsWord, A: Allocator, V: LinkValue> JoinsAny for PlainTable<W, A, V> {
+    ghost joins_any = { λ e a is. joins_told (W.next_word (words_of e)) a (W.keeps_word (words_of e) is) };
+}
+
+impl<W: KeepsWord, V: LinkValue> JoinsAny for LentTable<'_, W, V> {
+    ghost joins_any = { λ e a is. joins_told (W.next_word (words_of e)) a (W.keeps_word (words_of e) is) };
+}
+
+impl<L: PlainLinkOps + JoinsAny, A: Allocator> JoinsAny for AtomicLinkOps<'_, L, A> {
+    ghost joins_any = { L.joins_any };
+}
