@@ -25,8 +25,9 @@
  *   - It writes to nothing but table[0 .. places - 1], the lists, the tree and the out parameter that it is handed.
  *   - If the status is not IC_OK, it has changed nothing, out parameters included. The status says what is wrong with the first member
  *     that is named, else with the next one, else with the place to insert, else that the words do not fit together (IC_BROKEN).
- *   - It takes at most a fixed number of steps, but for ic_stack_splice_after and the calls whose names end with fill or clear, which take
- *     at most a fixed number more for each place of the table. Any other call of a list takes a few, and of a tree O(log n).
+ *   - It takes at most a fixed number of steps, but for ic_stack_splice_after and the calls whose names end with fill, clear, check or
+ *     merge, which take at most a fixed number more for each place of the table, and ic_list_sort, which takes O(n log n). Any other call
+ *     of a list takes a few, and of a tree O(log n).
  *
  * Where the table holds the list or tree, and the member that you name is one of its members, the call makes the edit that its comment
  * says. Every other list and tree of the table stays as it was. A member of another list of the same table is refused with IC_BROKEN where
@@ -188,7 +189,7 @@ static inline uint32_t ic_place_within(size_t places, uint64_t word) {
     for (uint32_t place = (first), follower = (next), ic_rounds_##place = ic_bound(places); \
          (is_member) && ic_rounds_##place--; place = follower, follower = (next))
 
-/* ---- Doubly linked lists: 16 bytes a place, all calls O(1) but ic_list_fill and ic_list_clear ---------------------------------------
+/* ---- Doubly linked lists: 16 bytes a place, all calls O(1) but those to fill, clear, check, sort and merge -----------------------------
  *
  * Good for queues, and for caches, from whose middle objects leave.
  */
@@ -335,7 +336,32 @@ uint32_t ic_list_split_after(struct ic_link2 *table, size_t places, struct ic_li
 IC_NODISCARD
 uint32_t ic_list_split_before(struct ic_link2 *table, size_t places, struct ic_list *list, uint32_t at, struct ic_list *rest);
 
-/* ---- Singly linked lists: 8 bytes a place, all calls O(1) but ic_stack_fill, ic_stack_splice_after and ic_stack_clear -----------------
+/* Sets *members to how many members the list has. O(n). Of a list that comes from a file or from memory that others write: if the status is
+ * IC_OK, each call does what it says of a list that the table holds.
+ * IC_BROKEN: the links do not lead from the first member to the last, each to the next and back. */
+IC_NODISCARD
+uint32_t ic_list_check(const struct ic_link2 *table, size_t places, const struct ic_list *list, uint64_t *members);
+
+/* ---- Lists by keys ----
+ *
+ * The keys are numbers, the least in front. There has to be one for each place, and those of places that are no members are not read. Both
+ * calls check the lists first, so they are never half done. A sort calls itself, at most 33 times within one another.
+ */
+
+/* Puts the members in the order of their keys. Those with equal keys keep their order. O(n log n).
+ * IC_OUT_OF_RANGE: there are fewer keys than places. IC_BROKEN: as of ic_list_check. */
+IC_NODISCARD
+uint32_t ic_list_sort(struct ic_link2 *table, size_t places, const uint64_t *keys, size_t key_count, struct ic_list *list);
+
+/* Moves all members of `given` to where their keys belong, if both lists are in order. Of members with equal keys those of `list` are in
+ * front. `given` is empty then. O(n).
+ * IC_OUT_OF_RANGE: there are fewer keys than places. IC_BROKEN: as of ic_list_check, of either list, or both begin with the same member, as
+ * a list and itself do. */
+IC_NODISCARD
+uint32_t ic_list_merge(struct ic_link2 *table, size_t places, const uint64_t *keys, size_t key_count, struct ic_list *list,
+                       struct ic_list *given);
+
+/* ---- Singly linked lists: 8 bytes a place, all calls O(1) but ic_stack_splice_after, and those to fill, clear and check ----------------
  *
  * Good for stacks and free lists. What is edited is behind the member `at`, or at the front where `at` is IC_NONE. With the last member
  * kept beside it, a list is a queue: insert behind it, and pop at the front.
@@ -433,6 +459,11 @@ uint32_t ic_stack_fill(struct ic_link1 *table, size_t places, struct ic_stack *l
  * IC_BROKEN: the links lead to no end within `places` steps. */
 IC_NODISCARD
 uint32_t ic_stack_clear(struct ic_link1 *table, size_t places, struct ic_stack *list);
+
+/* Sets *members to how many members the list has. O(n). As ic_list_check.
+ * IC_BROKEN: the links lead from the first member to no end within the table. */
+IC_NODISCARD
+uint32_t ic_stack_check(const struct ic_link1 *table, size_t places, const struct ic_stack *list, uint64_t *members);
 
 /* ---- XOR lists: 8 bytes a place, all calls O(1) but ic_xor_fill and ic_xor_clear ---------------------------------------------------
  *
@@ -579,7 +610,7 @@ uint32_t ic_xor_split_between(struct ic_link1 *table, size_t places, struct ic_x
 /* Reverses the list. It reads and writes no table. IC_OK always. */
 uint32_t ic_xor_reverse(struct ic_xor_list *list);
 
-/* ---- Red-black trees: 24 bytes a place, all calls O(log n) but ic_tree_clear ------------------------------------------------------
+/* ---- Red-black trees: 24 bytes a place, all calls O(log n) but ic_tree_clear and ic_tree_check ------------------------------------
  *
  * Good for timers, priorities and indices: objects in order that come and leave anywhere, and are searched for. n is how many members
  * there are. You order them in one of two ways:
@@ -658,6 +689,12 @@ uint32_t ic_tree_replace(struct ic_link3 *table, size_t places, struct ic_tree *
  * end within `places` steps. */
 IC_NODISCARD
 uint32_t ic_tree_clear(struct ic_link3 *table, size_t places, struct ic_tree *tree);
+
+/* Sets *members to how many members the tree has. O(n). As ic_list_check, whatever the keys are. It calls itself, at most 67 times within
+ * one another.
+ * IC_BROKEN: the links are no red-black tree from the root on: a parent, a color or a child is wrong. */
+IC_NODISCARD
+uint32_t ic_tree_check(const struct ic_link3 *table, size_t places, const struct ic_tree *tree, uint64_t *members);
 
 /* ---- Trees by keys ----
  *

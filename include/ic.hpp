@@ -89,6 +89,7 @@ struct doubly {
     using source = words<link, head>;
     static constexpr bool is_bidirectional = true, needs_from = false;
     static constexpr auto clear = ic_list_clear;
+    static constexpr auto check = ic_list_check;
     static constexpr auto fill = ic_list_fill;
     static constexpr auto push_front = ic_list_push_front, push_back = ic_list_push_back;
     static constexpr auto pop_front = ic_list_pop_front, pop_back = ic_list_pop_back;
@@ -112,6 +113,7 @@ struct singly {
     using source = words<link, head>;
     static constexpr bool is_bidirectional = false, needs_from = true;
     static constexpr auto clear = ic_stack_clear;
+    static constexpr auto check = ic_stack_check;
     static constexpr auto fill = ic_stack_fill;
     static constexpr auto push_front = ic_stack_push_front;
     static constexpr auto pop_front = ic_stack_pop_front;
@@ -153,6 +155,7 @@ struct red_black {
     using source = words<link, head>;
     static constexpr bool is_bidirectional = true, needs_from = false;
     static constexpr auto clear = ic_tree_clear;
+    static constexpr auto check = ic_tree_check;
 
     static bool is_linked(const source &in, std::uint32_t at) noexcept { return ic_tree_is_linked(in.table, in.places, at) != 0; }
     static bool is_empty(const source &in) noexcept { return ic_tree_is_empty(in.head) != 0; }
@@ -264,6 +267,13 @@ public:
     [[nodiscard]] iterator end() const noexcept { return {in_, {}}; }
 
     [[nodiscard]] bool empty() const noexcept { return Kind::is_empty(in_); }
+
+    /// How many members there are, for words that come from a file or that others write. O(n). std::nullopt: they show no list or tree. An XOR
+    /// list has no check.
+    [[nodiscard]] std::optional<std::uint64_t> check() const noexcept {
+        std::uint64_t count = 0;
+        return Kind::check(in_.table, in_.places, in_.head, &count) == IC_OK ? std::optional<std::uint64_t>(count) : std::nullopt;
+    }
 
     /// Whether a place is in this or another list or tree of the table.
     [[nodiscard]] bool is_linked(std::uint32_t place) const noexcept { return Kind::is_linked(in_, place); }
@@ -421,6 +431,7 @@ using const_list_view = detail::placed<detail::doubly>;
 /// Edits a doubly linked list.
 class list_view : public detail::end_edits<const_list_view> {
 public:
+    using keys_view = array_view<const std::uint64_t>;
     using end_edits::end_edits;
 
     /// Links a place in front of an iterator's member, and at the back if that is end().
@@ -448,6 +459,18 @@ public:
     status append(list_view given) const noexcept { return edit_both(given, ic_list_append, given.head_); }
     status split_after(std::uint32_t at, list_view rest) const noexcept { return edit_both(rest, ic_list_split_after, at, rest.head_); }
     status split_before(std::uint32_t at, list_view rest) const noexcept { return edit_both(rest, ic_list_split_before, at, rest.head_); }
+
+    /// Puts the members in the order of their keys, of which there is one for each place. Those with equal keys keep their order.
+    status sort(keys_view keys) const noexcept {
+        return static_cast<status>(ic_list_sort(table_, in_.places, keys.data(), keys.size(), head_));
+    }
+
+    /// Moves all members of `given` to where their keys belong, behind members with equal keys. ic::status::broken as of a splice.
+    status merge(keys_view keys, list_view given) const noexcept {
+        if (given.table_ != table_ || given.head_ == head_)
+            return status::broken;
+        return static_cast<status>(ic_list_merge(table_, in_.places, keys.data(), keys.size(), head_, given.head_));
+    }
 };
 
 // ---- Singly linked lists -----------------------------------------------------------------------------------------------------------

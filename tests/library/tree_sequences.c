@@ -9,7 +9,7 @@
 #define CALLS(X)                                                                           \
     X(tree_insert_left) X(tree_insert_right) X(tree_remove) X(tree_replace) X(tree_clear)  \
     X(tree_insert) X(tree_find) X(tree_lower_bound) X(tree_upper_bound)                    \
-    X(tree_next) X(tree_prev)
+    X(tree_next) X(tree_prev) X(tree_check)
 
 enum { PLACES = 64, TREES = 2, NOBODY = TREES, MORE_KEYS = 3, TALLEST = 12, UNSET = 123456789 };
 
@@ -218,6 +218,21 @@ static void step_on(int t, uint32_t i) {
     check_found(status, found, expected);
 }
 
+/* A tree is checked, which tells how many members it has. Now and then one word is turned for it, or the table is too short. */
+static void step_check(int t) {
+    const struct sequence *plain = &sequences[t];
+    uint32_t at = member(plain, below(plain->count + 1));
+    size_t places = at != IC_NONE && below(4) == 0 ? at : PLACES;
+    uint64_t members = UNSET, turned = at == IC_NONE || below(2) ? 0 : 1 + below(2), other = 8 * (1 + any() % (UINT64_C(1) << 32));
+    uint64_t *word = at == IC_NONE ? NULL : below(2) ? &table[at].left : below(2) ? &table[at].right : &table[at].parent;
+    if (word)
+        *word ^= turned == 2 ? other : turned && word != &table[at].right;
+    fault(places < PLACES || (word && *word != (&table_was[at].left)[word - &table[at].left]), IC_BROKEN);
+    uint32_t status = ic_tree_check(table, places, &trees[t], &members);
+    memcpy(table, table_was, sizeof table);
+    expect(members == (made(status) ? plain->count : UNSET), "counted other members");
+}
+
 static void step(void) {
     int t = (int)below(TREES);
     uint32_t i = below(sequences[t].count + 1);
@@ -230,6 +245,7 @@ static void step(void) {
     case CALL_tree_replace: step_replace(t, i); break;
     case CALL_tree_clear: step_clear(t); break;
     case CALL_tree_insert: step_insert(t); break;
+    case CALL_tree_check: step_check(t); break;
     case CALL_tree_find:
     case CALL_tree_lower_bound:
     case CALL_tree_upper_bound: step_search(t); break;

@@ -14,3 +14,5 @@ pub mod Trees
 pub mod Keys
 pub mod Runs
 pub mod TreeWalks
+pub mod Sorting
+pub mod MarkedTrees

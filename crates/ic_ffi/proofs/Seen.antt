@@ -39,24 +39,24 @@ says_written es p new beyond i change at_p has written =
     ∙ ap (λ w. change (says w p (length es))) (sym (entry_read no_tree_words es p (slice_index_or es i beyond) beyond i at_p covered refl))
 
 -- a name stays beside either mark, and a mark beside either name
-place_beside : (o : Option Place) (n v : ℕ) → n ≡ word_of o → place_in (n + v % 2) ≡ o
+pub place_beside : (o : Option Place) (n v : ℕ) → n ≡ word_of o → place_in (n + v % 2) ≡ o
 place_beside o n v is =
     let fits = word_fits o in
     let same : number_in (n + v % 2) ≡ word_of o = omega (arith, is, fits.0, fits.1) in
     ap place_at same ∙ place_at_word o
 
-mark_beside : (o : Option Place) (n v : ℕ) → n ≡ word_of o → is_marked (n + v % 2) ≡ is_marked v
+pub mark_beside : (o : Option Place) (n v : ℕ) → n ≡ word_of o → is_marked (n + v % 2) ≡ is_marked v
 mark_beside o n v is =
     let even = (word_fits o).1 in
     let same : (n + v % 2) % 2 ≡ v % 2 = omega (arith, is, even) in
     ap (λ m. nat_eq m 1) same
 
 -- a color is kept as a digit
-one_digit : (c : Color) → one_if_black c < 2
+pub one_digit : (c : Color) → one_if_black c < 2
 one_digit Red = omega arith
 one_digit Black = omega arith
 
-color_kept : (c : Color) → cond (nat_eq (one_if_black c) 1) Black Red ≡ c
+pub color_kept : (c : Color) → cond (nat_eq (one_if_black c) 1) Black Red ≡ c
 color_kept Red = refl
 color_kept Black = refl
 
@@ -195,7 +195,7 @@ module _ (p : Place) (places : ℕ) (w : RawThree) where
       parent_and_color_quiet = record { mark = refl; names = λ h. record { left = h.left; right = h.right; parent = within place_colored } }
 
   module _ (c : Color) (b : ℕ) (is : b ≡ one_if_black c) where
-    same_parent : place_in (w.parent / 2 * 2 + b) ≡ place_in w.parent
+    pub same_parent : place_in (w.parent / 2 * 2 + b) ≡ place_in w.parent
     same_parent =
         let digit = one_digit c in
         let same : number_in (w.parent / 2 * 2 + b) ≡ number_in w.parent = omega (arith, is, digit) in

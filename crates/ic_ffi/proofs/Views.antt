@@ -12,7 +12,7 @@ use Rattle.ic_ffi.specs.Calls.{Clears}
 use Rattle.ic_ffi.specs.Tables.{raw_entries, raw_table, IsFree}
 
 module _ {W : Type 0} (unlinked : W) where
-  frame_back : (a b : RawTable W) {s : List Place} → KeepsBeside (raw_table unlinked a) (raw_table unlinked b) s
+  pub frame_back : (a b : RawTable W) {s : List Place} → KeepsBeside (raw_table unlinked a) (raw_table unlinked b) s
       → KeepsBeside (table_of unlinked (raw_entries a)) (table_of unlinked (raw_entries b)) s
   frame_back a b f = record { extent = ap (λ e. record { places = e.places; identity = [] }) f.extent; others = f.others }
 

@@ -11,3 +11,4 @@ pub mod Seen
 pub mod Keys
 pub mod Fills
 pub mod WholeTree
+pub mod Sorting

@@ -15,17 +15,20 @@
 //! place to insert, or else [`BROKEN`]. [`NULL`] says that no place was named where one is needed, or that a call has looked and found none.
 #![tactic(auto)]
 
+mod check_calls;
 mod fill;
 mod fill_calls;
 mod gap;
 mod list;
 mod list_calls;
+mod marked_tree;
 mod move_calls;
 mod moving;
 mod nodes;
 mod number;
 mod search;
 mod search_calls;
+mod sort_calls;
 mod stack;
 mod stack_calls;
 mod status;

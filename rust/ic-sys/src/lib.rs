@@ -134,6 +134,16 @@ extern "C" {
     pub fn ic_list_append(table: *mut ic_link2, places: usize, list: *mut ic_list, given: *mut ic_list) -> u32;
     pub fn ic_list_fill(table: *mut ic_link2, places: usize, list: *mut ic_list, first: u32, count: u32) -> u32;
     pub fn ic_list_clear(table: *mut ic_link2, places: usize, list: *mut ic_list) -> u32;
+    pub fn ic_list_check(table: *const ic_link2, places: usize, list: *const ic_list, members: *mut u64) -> u32;
+    pub fn ic_list_sort(table: *mut ic_link2, places: usize, keys: *const u64, key_count: usize, list: *mut ic_list) -> u32;
+    pub fn ic_list_merge(
+        table: *mut ic_link2,
+        places: usize,
+        keys: *const u64,
+        key_count: usize,
+        list: *mut ic_list,
+        given: *mut ic_list,
+    ) -> u32;
     pub fn ic_list_split_after(
         table: *mut ic_link2,
         places: usize,
@@ -175,6 +185,7 @@ extern "C" {
     ) -> u32;
     pub fn ic_stack_fill(table: *mut ic_link1, places: usize, list: *mut ic_stack, first: u32, count: u32) -> u32;
     pub fn ic_stack_clear(table: *mut ic_link1, places: usize, list: *mut ic_stack) -> u32;
+    pub fn ic_stack_check(table: *const ic_link1, places: usize, list: *const ic_stack, members: *mut u64) -> u32;
     pub fn ic_stack_split_after(
         table: *mut ic_link1,
         places: usize,
@@ -228,6 +239,7 @@ extern "C" {
     pub fn ic_tree_remove(table: *mut ic_link3, places: usize, tree: *mut ic_tree, at: u32) -> u32;
     pub fn ic_tree_replace(table: *mut ic_link3, places: usize, tree: *mut ic_tree, at: u32, place: u32) -> u32;
     pub fn ic_tree_clear(table: *mut ic_link3, places: usize, tree: *mut ic_tree) -> u32;
+    pub fn ic_tree_check(table: *const ic_link3, places: usize, tree: *const ic_tree, members: *mut u64) -> u32;
     pub fn ic_tree_insert(
         table: *mut ic_link3,
         places: usize,

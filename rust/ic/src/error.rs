@@ -68,3 +68,10 @@ pub(crate) fn handed_out(call: impl FnOnce(&mut u32) -> u32) -> Result<Option<u3
         Err(error) => Err(error),
     }
 }
+
+/// How many members a check has counted, or `None` if the words show no list or tree.
+#[inline]
+pub(crate) fn counted(call: impl FnOnce(&mut u64) -> u32) -> Option<u64> {
+    let mut members = 0;
+    (call(&mut members) == IC_OK).then_some(members)
+}

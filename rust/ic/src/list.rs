@@ -3,7 +3,7 @@
 use crate::collection::{
     bidirectional, collection, from_place, Bidirectional, BidirectionalSplice, Collection, Position, Splice,
 };
-use crate::error::{done, handed_out};
+use crate::error::{counted, done, handed_out};
 use crate::link::{is_none, linked, number, place, within, Link};
 use crate::{Cursor, CursorMut, Error, Iter, Link2, View};
 use core::fmt;
@@ -269,6 +269,49 @@ impl List {
     pub fn clear(&mut self, table: &mut [Link2]) -> Result<(), Error> {
         let (links, places) = Link2::parts(table);
         done(unsafe { ic_list_clear(links, places, &mut self.0) })
+    }
+
+    /// How many members it has, or `None` if the table holds no such list. O(n). It is for words that come from a file, or that others
+    /// write: where it returns a number, each call does what it says.
+    #[inline]
+    #[must_use]
+    pub fn check(&self, table: &[Link2]) -> Option<u64> {
+        let (links, places) = Link2::read_parts(table);
+        counted(|members| unsafe { ic_list_check(links, places, &self.0, members) })
+    }
+
+    /// Puts the members in the order of their keys, of which there is one for each place. O(n log n). Members with equal keys keep their order.
+    ///
+    /// ```
+    /// # use ic::{Error, Link2, List};
+    /// let (keys, mut links, mut list) = ([30, 10, 20, 10], [Link2::UNLINKED; 4], List::new());
+    /// list.fill(&mut links, 0, 4)?;
+    /// list.sort(&mut links, &keys)?;
+    /// assert!(list.iter(&links).eq([1, 3, 2, 0]));
+    /// assert_eq!(list.check(&links), Some(4));
+    /// # Ok::<(), Error>(())
+    /// ```
+    ///
+    /// # Errors
+    ///
+    /// [`Error::OutOfRange`] if there are fewer keys than places. [`Error::Broken`] if [`check`](List::check) returns `None`.
+    #[inline]
+    pub fn sort(&mut self, table: &mut [Link2], keys: &[u64]) -> Result<(), Error> {
+        let (links, places) = Link2::parts(table);
+        done(unsafe { ic_list_sort(links, places, keys.as_ptr(), keys.len(), &mut self.0) })
+    }
+
+    /// Moves all members of `given` to where their keys belong, if both lists are in order. O(n). Of members with equal keys those of this
+    /// list are in front. `given` is empty then.
+    ///
+    /// # Errors
+    ///
+    /// [`Error::OutOfRange`] if there are fewer keys than places. [`Error::Broken`] if [`check`](List::check) returns `None` of one of them, or
+    /// both begin with the same member, as a list and its clone do.
+    #[inline]
+    pub fn merge(&mut self, table: &mut [Link2], keys: &[u64], given: &mut List) -> Result<(), Error> {
+        let (links, places) = Link2::parts(table);
+        done(unsafe { ic_list_merge(links, places, keys.as_ptr(), keys.len(), &mut self.0, &mut given.0) })
     }
 
     /// Hands out the members behind the member `at` as a list, or all if that is `None`. O(1).

@@ -1,7 +1,7 @@
 //! Singly linked lists.
 
 use crate::collection::{collection, from_place, Collection, Position, Splice};
-use crate::error::{done, handed_out};
+use crate::error::{counted, done, handed_out};
 use crate::link::{is_none, linked, number, place, within, Link};
 use crate::{Cursor, CursorMut, Error, Iter, Link1, View};
 use core::fmt;
@@ -153,6 +153,15 @@ impl Stack {
     pub fn clear(&mut self, table: &mut [Link1]) -> Result<(), Error> {
         let (links, places) = Link1::parts(table);
         done(unsafe { ic_stack_clear(links, places, &mut self.0) })
+    }
+
+    /// How many members it has, or `None` if the table holds no such list. O(n). It is for words that come from a file, or that others
+    /// write: where it returns a number, each call does what it says.
+    #[inline]
+    #[must_use]
+    pub fn check(&self, table: &[Link1]) -> Option<u64> {
+        let (links, places) = Link1::read_parts(table);
+        counted(|members| unsafe { ic_stack_check(links, places, &self.0, members) })
     }
 
     /// Hands out the members behind the member `at` as a list, or all if that is `None`. O(1).

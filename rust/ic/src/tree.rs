@@ -1,7 +1,7 @@
 //! Red-black trees.
 
 use crate::collection::{bidirectional, collection, from_place, Bidirectional, Collection, Position};
-use crate::error::{done, handed_out};
+use crate::error::{counted, done, handed_out};
 use crate::link::{is_none, linked, number, place, Link};
 use crate::{Cursor, CursorMut, Error, Iter, Link3, View};
 use core::fmt;
@@ -148,6 +148,15 @@ impl Tree {
     pub fn clear(&mut self, table: &mut [Link3]) -> Result<(), Error> {
         let (links, places) = Link3::parts(table);
         done(unsafe { ic_tree_clear(links, places, &mut self.0) })
+    }
+
+    /// How many members it has, or `None` if the table holds no such tree. O(n). It is for words that come from a file, or that others
+    /// write: where it returns a number, each call does what it says.
+    #[inline]
+    #[must_use]
+    pub fn check(&self, table: &[Link3]) -> Option<u64> {
+        let (links, places) = Link3::read_parts(table);
+        counted(|members| unsafe { ic_tree_check(links, places, &self.0, members) })
     }
 
     /// Links a place where the member `at` is, which is unlinked. O(1). Nothing is compared, so hand in a place that belongs there.
