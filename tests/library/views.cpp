@@ -50,6 +50,8 @@ template <class View, class Members>
 void check(const View &view, const Members &members) {
     expect(std::equal(view.begin(), view.end(), members.begin(), members.end()), "a view has other members");
     expect(view.empty() == members.empty(), "a view is empty, or is not");
+    if constexpr (!std::is_same_v<typename View::kind, ic::xor_view::kind>)
+        expect(view.check() == members.size(), "a check counts other members");
     expect(view.front() == (members.empty() ? std::nullopt : std::optional(members.front())), "a view has another first member");
     if constexpr (View::kind::is_bidirectional) {
         expect(std::equal(view.rbegin(), view.rend(), members.rbegin(), members.rend()), "a view has other members backwards");
@@ -186,6 +188,23 @@ void move(lists<ic::list_view> &it, int which, std::uint32_t index) {
     }
 }
 
+/// Sorts both lists by random keys, and merges one into the other, as the standard library does.
+void sort_and_merge(lists<ic::list_view> &it, int which) {
+    const ic::list_view view = it.view(which), other = it.view(1 - which);
+    std::vector<std::uint64_t> keys(places);
+    for (std::uint64_t &key : keys)
+        key = below(5);
+    const auto is_less = [&](std::uint32_t one, std::uint32_t two) { return keys[one] < keys[two]; };
+    made(view.sort({keys.data(), keys.size() - 1}), ic::status::out_of_range);
+    made(view.merge(keys, view), ic::status::broken);
+    if (made(view.sort(keys), ic::status::ok))
+        it.plain[which].sort(is_less);
+    if (below(4) == 0 && made(other.sort(keys), ic::status::ok) && made(view.merge(keys, other), ic::status::ok)) {
+        it.plain[1 - which].sort(is_less);
+        it.plain[which].merge(it.plain[1 - which], is_less);
+    }
+}
+
 void edit_own(lists<ic::list_view> &it, int which, std::uint32_t index) {
     const ic::list_view view = it.view(which), other = it.view(1 - which);
     auto &plain = it.plain[which], &others = it.plain[1 - which];
@@ -193,7 +212,9 @@ void edit_own(lists<ic::list_view> &it, int which, std::uint32_t index) {
     const std::uint32_t before = index ? *std::next(view.begin(), index - 1) : ic::none;
     const ic::status linking = to_link(view, place);
     const auto member = std::next(plain.begin(), index);
-    if (at != ic::none && below(3) == 0) {
+    if (below(16) == 0) {
+        sort_and_merge(it, which);
+    } else if (at != ic::none && below(3) == 0) {
         move(it, which, index);
     } else if (at != ic::none && below(2)) {
         expect(*view.iterator_to(at) == at, "there is another iterator to a member");
@@ -415,6 +436,9 @@ void check_any() {
     std::uint32_t rounds = 0;
     for (const std::uint32_t place : view)
         expect(view.is_linked(place) && ++rounds <= count, "a loop over any words gives too many places, or an unlinked one");
+    if constexpr (!std::is_same_v<typename View::kind, ic::xor_view::kind>)
+        if (const auto members = view.check())
+            expect(*members == static_cast<std::uint64_t>(std::distance(view.begin(), view.end())), "a check counts other members than a loop");
     if constexpr (View::kind::is_bidirectional)
         expect(std::distance(view.rbegin(), view.rend()) <= count, "a loop backwards over any words gives too many places");
     if (const auto popped = view.pop_front())

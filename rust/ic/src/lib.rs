@@ -66,8 +66,8 @@
 //!
 //! No call panics, and no call needs unsafe code of you. You may hand any table, list, tree and place to each. A call that returns an
 //! [`Error`] has changed nothing, except `retain`, which has made its edits up to the member at which it stopped. An edit of a list takes a
-//! constant number of steps, except [`Stack::splice_after`], `fill`, `clear` and `retain`, and an edit or a search of a tree takes O(log n),
-//! except `clear` and `retain`.
+//! constant number of steps, except [`Stack::splice_after`], `fill`, `clear`, `retain`, `sort` and `merge`, and an edit or a search of a tree
+//! takes O(log n), except `clear` and `retain`. A `check` takes O(n).
 //!
 //! The types don't say which table a list or tree belongs to. Use each with its own table. With another one every call is memory safe, but
 //! it may mix up the members of both, if no word tells it to return [`Error::Broken`]. An iterator ends after as many members as the table

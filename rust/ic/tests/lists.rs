@@ -128,6 +128,36 @@ fn lists_are_appended_and_cleared() {
 }
 
 #[test]
+fn lists_are_sorted_and_merged() {
+    let keys = [5, 3, 5, 1, 3, 0, 4, 9];
+    let mut links = [Link2::UNLINKED; 8];
+    let (mut list, mut given) = (List::new(), List::new());
+    list.fill(&mut links, 0, 4).unwrap();
+    given.fill(&mut links, 4, 4).unwrap();
+    list.sort(&mut links, &keys).unwrap();
+    given.sort(&mut links, &keys).unwrap();
+    assert!(list.iter(&links).eq([3, 1, 0, 2]) && given.iter(&links).rev().eq([7, 6, 4, 5]));
+    assert_eq!(list.sort(&mut links, &keys[..7]), Err(Error::OutOfRange));
+    let mut same = list.clone();
+    assert_eq!(list.merge(&mut links, &keys, &mut same), Err(Error::Broken));
+    list.merge(&mut links, &keys, &mut given).unwrap();
+    assert!(list.iter(&links).eq([5, 3, 1, 4, 6, 0, 2, 7]) && given.is_empty());
+    assert_eq!((list.check(&links), given.check(&links)), (Some(8), Some(0)));
+}
+
+#[test]
+fn lists_are_checked() {
+    let (mut links, mut words) = ([Link2::UNLINKED; 8], [Link1::UNLINKED; 8]);
+    let (mut list, mut stack) = (List::new(), Stack::new());
+    list.fill(&mut links, 0, 6).unwrap();
+    stack.fill(&mut words, 0, 6).unwrap();
+    assert_eq!((list.check(&links), stack.check(&words)), (Some(6), Some(6)));
+    assert_eq!((list.check(&links[..5]), stack.check(&words[..5])), (None, None));
+    links[3] = Link2::UNLINKED;
+    assert_eq!((list.check(&links), list.sort(&mut links, &[0; 8])), (None, Err(Error::Broken)));
+}
+
+#[test]
 fn list_refuses() {
     let mut links = [Link2::UNLINKED; 8];
     let (mut list, mut other) = (List::new(), List::new());

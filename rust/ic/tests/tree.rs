@@ -88,6 +88,16 @@ fn tree_refuses() {
 }
 
 #[test]
+fn tree_is_checked() {
+    let mut links = [Link3::UNLINKED; 8];
+    let tree = by_keys(&mut links, 0..8);
+    assert_eq!((tree.check(&links), Tree::new().check(&links)), (Some(8), Some(0)));
+    assert_eq!(tree.check(&links[..7]), None);
+    links[0] = Link3::UNLINKED;
+    assert_eq!(tree.check(&links), None);
+}
+
+#[test]
 fn tree_is_cleared() {
     let mut links = [Link3::UNLINKED; 8];
     let (mut tree, mut other) = (by_keys(&mut links, [0, 1, 2, 3]), by_keys(&mut links, [4, 5]));
