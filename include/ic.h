@@ -361,6 +361,184 @@ IC_NODISCARD
 uint32_t ic_list_merge(struct ic_link2 *table, size_t places, const uint64_t *keys, size_t key_count, struct ic_list *list,
                        struct ic_list *given);
 
+/* ---- Rings: 16 bytes a place, all calls O(1) ---------------------------------------------------------------------------------------
+ *
+ * A ring is a doubly linked list whose head is a place of the table. Head and members stand in a circle. A member leaves its ring, and gets
+ * neighbors, with no ring named: good where who removes an object does not know its queue. These are the lists of Linux (list.h). Rings and
+ * lists may be in one table. Take places for heads that are no objects.
+ *
+ *     struct ic_link2 links[65] = {0};               // 64 objects, and a head at 64
+ *     status = ic_ring_init(links, 65, 64);          // a ring with no members
+ *     status = ic_ring_push_back(links, 65, 64, 7);
+ *     status = ic_ring_remove(links, 65, 7);         // from whichever ring it is in
+ *
+ * Each call tests the places that it writes, and those beside them. A member in the middle of a doubly linked list passes too, and is taken
+ * for one of a ring, which is as good. That two places are in one ring or in two, no call can tell.
+ */
+
+/* Whether a place stands in a ring or a list of the table. */
+static inline int ic_ring_is_linked(const struct ic_link2 *table, size_t places, uint32_t place) {
+    return ic_list_is_linked(table, places, place);
+}
+
+/* The place behind one that stands in a ring, or IC_NONE: behind a head the first member, behind the last member the head. */
+static inline uint32_t ic_ring_next(const struct ic_link2 *table, size_t places, uint32_t at) {
+    return ic_list_next(table, places, at);
+}
+
+/* The place in front of one that stands in a ring, or IC_NONE. */
+static inline uint32_t ic_ring_prev(const struct ic_link2 *table, size_t places, uint32_t at) {
+    return ic_list_prev(table, places, at);
+}
+
+/* Whether a head has no members. */
+static inline int ic_ring_is_empty(const struct ic_link2 *table, size_t places, uint32_t head) {
+    return ic_ring_next(table, places, head) == head;
+}
+
+/* Loops from the first member of a head to the last, and back. */
+#define IC_RING_FOREACH(place, table, places, head)                                                                                   \
+    IC_LOOP(place, ic_ring_next(table, places, head), places, place != (head) && ic_ring_is_linked(table, places, place),             \
+            ic_ring_next(table, places, place))
+#define IC_RING_FOREACH_REVERSE(place, table, places, head)                                                                           \
+    IC_LOOP(place, ic_ring_prev(table, places, head), places, place != (head) && ic_ring_is_linked(table, places, place),             \
+            ic_ring_prev(table, places, place))
+#define IC_RING_FOREACH_SAFE(place, next, table, places, head)                                                                        \
+    IC_LOOP_SAFE(place, next, ic_ring_next(table, places, head), places, place != (head) && ic_ring_is_linked(table, places, place),  \
+                 ic_ring_next(table, places, place))
+#define IC_RING_FOREACH_REVERSE_SAFE(place, prev, table, places, head)                                                                \
+    IC_LOOP_SAFE(place, prev, ic_ring_prev(table, places, head), places, place != (head) && ic_ring_is_linked(table, places, place),  \
+                 ic_ring_prev(table, places, place))
+
+/* Makes a place the head of a ring with no members. Linux: INIT_LIST_HEAD.
+ * IC_OUT_OF_RANGE or IC_LINKED: of `head`. */
+IC_NODISCARD
+uint32_t ic_ring_init(struct ic_link2 *table, size_t places, uint32_t head);
+
+/* Links a place behind one that stands in a ring: behind a head it is the first member. Linux: list_add.
+ * IC_NULL: `at` is IC_NONE. IC_OUT_OF_RANGE: `at` or `place` is. IC_LINKED: `place` is. IC_NOT_LINKED: `at` is not. IC_BROKEN: `at` stands in
+ * no ring. */
+IC_NODISCARD
+uint32_t ic_ring_insert_after(struct ic_link2 *table, size_t places, uint32_t at, uint32_t place);
+
+/* Links a place in front of one that stands in a ring: in front of a head it is the last member. Linux: list_add_tail.
+ * Refusals as of ic_ring_insert_after. */
+IC_NODISCARD
+uint32_t ic_ring_insert_before(struct ic_link2 *table, size_t places, uint32_t at, uint32_t place);
+
+/* Takes a place out of its ring. A head without members leaves too, and its ring is gone then. Linux: list_del.
+ * IC_NULL: `place` is IC_NONE. IC_OUT_OF_RANGE or IC_NOT_LINKED: of `place`. IC_BROKEN: it stands in no ring. */
+IC_NODISCARD
+uint32_t ic_ring_remove(struct ic_link2 *table, size_t places, uint32_t place);
+
+/* Two places that stand in rings exchange what stands behind them. So two rings become one, and one becomes two. The same call again takes
+ * it back. With the last member of a ring and the head of another, all members of the second, and then its head, stand behind the first.
+ * IC_NULL: one of them is IC_NONE. IC_OUT_OF_RANGE or IC_NOT_LINKED: of one of them. IC_BROKEN: one of them stands in no ring. */
+IC_NODISCARD
+uint32_t ic_ring_exchange(struct ic_link2 *table, size_t places, uint32_t one, uint32_t other);
+
+/* ---- What is made of these, which is tested and not proved ---- */
+
+/* Links a place as the first member of a head, or as the last. */
+IC_NODISCARD
+static inline uint32_t ic_ring_push_front(struct ic_link2 *table, size_t places, uint32_t head, uint32_t place) {
+    return ic_ring_insert_after(table, places, head, place);
+}
+
+IC_NODISCARD
+static inline uint32_t ic_ring_push_back(struct ic_link2 *table, size_t places, uint32_t head, uint32_t place) {
+    return ic_ring_insert_before(table, places, head, place);
+}
+
+/* Takes `first` off, which stands beside a head, and sets *popped to it. */
+IC_NODISCARD
+static inline uint32_t ic_ring_pop(struct ic_link2 *table, size_t places, uint32_t head, uint32_t first, uint32_t *popped) {
+    uint32_t status;
+    if (first == IC_NONE)
+        return ic_ring_is_linked(table, places, head) ? (uint32_t)IC_BROKEN : ic_ring_remove(table, places, head);
+    if (first == head)
+        return IC_NULL;
+    status = ic_ring_remove(table, places, first);
+    if (status == IC_OK)
+        *popped = first;
+    return status;
+}
+
+/* Takes the first member of a head off, or the last one, and sets *popped to it. IC_NULL: there is none. Else as ic_ring_remove. */
+IC_NODISCARD
+static inline uint32_t ic_ring_pop_front(struct ic_link2 *table, size_t places, uint32_t head, uint32_t *popped) {
+    return ic_ring_pop(table, places, head, ic_ring_next(table, places, head), popped);
+}
+
+IC_NODISCARD
+static inline uint32_t ic_ring_pop_back(struct ic_link2 *table, size_t places, uint32_t head, uint32_t *popped) {
+    return ic_ring_pop(table, places, head, ic_ring_prev(table, places, head), popped);
+}
+
+/* Links a place where another one stands in a ring, which is taken off. Linux: list_replace. Refusals as of both calls. */
+IC_NODISCARD
+static inline uint32_t ic_ring_replace(struct ic_link2 *table, size_t places, uint32_t at, uint32_t place) {
+    uint32_t status = ic_ring_insert_before(table, places, at, place);
+    if (status != IC_OK)
+        return status;
+    status = ic_ring_remove(table, places, at);
+    if (status != IC_OK && ic_ring_remove(table, places, place) != IC_OK)
+        return IC_BROKEN;
+    return status;
+}
+
+/* Moves a place, from whichever ring it stands in, behind another one, or in front of it. It is unlinked for a moment. Where it is refused,
+ * the place is back where it was. Linux: list_move, list_move_tail.
+ * IC_LINKED: `at` is `place`. Else as ic_ring_remove and ic_ring_insert_after. */
+IC_NODISCARD
+static inline uint32_t ic_ring_move(struct ic_link2 *table, size_t places, uint32_t at, uint32_t place, int is_after) {
+    uint32_t prev = ic_ring_prev(table, places, place), status;
+    if (at == place)
+        return IC_LINKED;
+    status = ic_ring_remove(table, places, place);
+    if (status != IC_OK)
+        return status;
+    status = is_after ? ic_ring_insert_after(table, places, at, place) : ic_ring_insert_before(table, places, at, place);
+    if (status != IC_OK
+        && (prev == place ? ic_ring_init(table, places, place) : ic_ring_insert_after(table, places, prev, place)) != IC_OK)
+        return IC_BROKEN;
+    return status;
+}
+
+IC_NODISCARD
+static inline uint32_t ic_ring_move_after(struct ic_link2 *table, size_t places, uint32_t at, uint32_t place) {
+    return ic_ring_move(table, places, at, place, 1);
+}
+
+IC_NODISCARD
+static inline uint32_t ic_ring_move_before(struct ic_link2 *table, size_t places, uint32_t at, uint32_t place) {
+    return ic_ring_move(table, places, at, place, 0);
+}
+
+/* Moves all members of the head `given` behind a place of another ring, or in front of it. `given` has no members then. Linux:
+ * list_splice_init, list_splice_tail_init. Refusals as of ic_ring_exchange. */
+IC_NODISCARD
+static inline uint32_t ic_ring_splice_after(struct ic_link2 *table, size_t places, uint32_t at, uint32_t given) {
+    uint32_t last = ic_ring_prev(table, places, given), status;
+    if (last == IC_NONE)
+        return ic_ring_is_linked(table, places, given) ? (uint32_t)IC_BROKEN : ic_ring_exchange(table, places, given, at);
+    status = ic_ring_exchange(table, places, last, at);
+    if (status != IC_OK)
+        return status;
+    status = ic_ring_exchange(table, places, at, given);
+    if (status != IC_OK && ic_ring_exchange(table, places, last, at) != IC_OK)
+        return IC_BROKEN;
+    return status;
+}
+
+IC_NODISCARD
+static inline uint32_t ic_ring_splice_before(struct ic_link2 *table, size_t places, uint32_t at, uint32_t given) {
+    uint32_t before = ic_ring_prev(table, places, at);
+    if (before == IC_NONE)
+        return ic_ring_is_linked(table, places, at) ? (uint32_t)IC_BROKEN : ic_ring_exchange(table, places, at, given);
+    return ic_ring_splice_after(table, places, before, given);
+}
+
 /* ---- Singly linked lists: 8 bytes a place, all calls O(1) but ic_stack_splice_after, and those to fill, clear and check ----------------
  *
  * Good for stacks and free lists. What is edited is behind the member `at`, or at the front where `at` is IC_NONE. With the last member

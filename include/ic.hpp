@@ -473,6 +473,66 @@ public:
     }
 };
 
+// ---- Rings ---------------------------------------------------------------------------------------------------------------------------
+
+/// Edits the rings of a table, whose heads are places of it. A member leaves, and gets neighbors, with no ring named.
+class ring_view {
+public:
+    ring_view(array_view<ic_link2> table) noexcept : table_(table.data()), places_(table.size()) {}
+
+    [[nodiscard]] bool empty(std::uint32_t head) const noexcept { return ic_ring_is_empty(table_, places_, head) != 0; }
+    [[nodiscard]] bool is_linked(std::uint32_t place) const noexcept { return ic_ring_is_linked(table_, places_, place) != 0; }
+    [[nodiscard]] std::uint32_t next(std::uint32_t at) const noexcept { return ic_ring_next(table_, places_, at); }
+    [[nodiscard]] std::uint32_t prev(std::uint32_t at) const noexcept { return ic_ring_prev(table_, places_, at); }
+
+    /// Makes a place the head of a ring with no members.
+    status init(std::uint32_t head) const noexcept { return edit(ic_ring_init, head); }
+
+    status insert_after(std::uint32_t at, std::uint32_t place) const noexcept { return edit(ic_ring_insert_after, at, place); }
+    status insert_before(std::uint32_t at, std::uint32_t place) const noexcept { return edit(ic_ring_insert_before, at, place); }
+    status push_front(std::uint32_t head, std::uint32_t place) const noexcept { return edit(ic_ring_push_front, head, place); }
+    status push_back(std::uint32_t head, std::uint32_t place) const noexcept { return edit(ic_ring_push_back, head, place); }
+
+    /// Takes a place out of its ring, whichever that is.
+    status remove(std::uint32_t place) const noexcept { return edit(ic_ring_remove, place); }
+    status replace(std::uint32_t at, std::uint32_t place) const noexcept { return edit(ic_ring_replace, at, place); }
+    status move_after(std::uint32_t at, std::uint32_t place) const noexcept { return edit(ic_ring_move_after, at, place); }
+    status move_before(std::uint32_t at, std::uint32_t place) const noexcept { return edit(ic_ring_move_before, at, place); }
+
+    /// Moves all members of the head `given` behind a place of another ring, or in front of it.
+    status splice_after(std::uint32_t at, std::uint32_t given) const noexcept { return edit(ic_ring_splice_after, at, given); }
+    status splice_before(std::uint32_t at, std::uint32_t given) const noexcept { return edit(ic_ring_splice_before, at, given); }
+
+    /// Two places that stand in rings exchange what stands behind them.
+    status exchange(std::uint32_t one, std::uint32_t other) const noexcept { return edit(ic_ring_exchange, one, other); }
+
+    /// Takes the first member of a head off, or the last one. std::nullopt: there is none, or it is refused.
+    [[nodiscard]] std::optional<std::uint32_t> pop_front(std::uint32_t head) const noexcept { return taken(ic_ring_pop_front, head); }
+    [[nodiscard]] std::optional<std::uint32_t> pop_back(std::uint32_t head) const noexcept { return taken(ic_ring_pop_back, head); }
+
+    /// Calls a function with each member of a head, which may take it off.
+    template <class Function>
+    void for_each(std::uint32_t head, Function then) const {
+        IC_RING_FOREACH_SAFE(place, behind, table_, places_, head)
+            then(place);
+    }
+
+private:
+    template <class Call, class... Arguments>
+    status edit(Call call, Arguments... arguments) const noexcept {
+        return static_cast<status>(call(table_, places_, arguments...));
+    }
+
+    template <class Call>
+    std::optional<std::uint32_t> taken(Call call, std::uint32_t head) const noexcept {
+        std::uint32_t place = none;
+        return call(table_, places_, head, &place) == IC_OK ? std::optional<std::uint32_t>(place) : std::nullopt;
+    }
+
+    ic_link2 *table_;
+    std::size_t places_;
+};
+
 // ---- Singly linked lists -----------------------------------------------------------------------------------------------------------
 
 using const_stack_view = detail::members<detail::singly>;

@@ -6,6 +6,8 @@ import re
 FUNCTION = re.compile(r"^(?!\.)([\w.$]+):\n(.*?)^\.Lfunc_end\d+:", re.M | re.S)
 # The depth where a function begins, which has the return address on x86-64. Instructions that call a function, and that jump to one.
 Processor = collections.namedtuple("Processor", "entry call jump")
+# The functions that call themselves, and how often one stands within itself at most: by a run of each level, and by each level of a tree.
+LEVELS = {"sort_front": 34, "check_below": 67}
 PROCESSORS = {
     "x86_64": Processor(8, re.compile(r"callq\s+([\w.$]+)"), re.compile(r"j\w+\s+([a-z_][\w.$]*)$")),
     "aarch64": Processor(0, re.compile(r"bl\s+([\w.$]+)"), re.compile(r"(?:b|b\.\w+|cbn?z\s.*,|tbn?z\s.*,)\s+([a-z_][\w.$]*)$")),
@@ -30,14 +32,23 @@ def follow(processor, lines):
     return deepest, found
 
 
+def levels_of(name):
+    """How often the function stands within itself, or 0 where that isn't known."""
+    return next((levels for part, levels in LEVELS.items() if part in name), 0)
+
+
 def stack_use(text, processor, names):
-    """The bytes that each of these functions takes with those that it calls. None of them may call itself."""
+    """The bytes that each of these functions takes with those that it calls. None of them may call itself, but for those with levels."""
     followed = {name: follow(PROCESSORS[processor], lines.splitlines()) for name, lines in FUNCTION.findall(text)}
 
     def deepest_of(name, above):
         if name in above:
             raise ValueError(f"{name} calls itself")
         deepest, found = followed[name]
-        return max([deepest, *(depth + deepest_of(callee, {*above, name}) for callee, depth in found)])
+        within = [depth for callee, depth in found if callee == name]
+        if within and not levels_of(name):
+            raise ValueError(f"{name} calls itself")
+        others = [depth + deepest_of(callee, {*above, name}) for callee, depth in found if callee != name]
+        return max([deepest, *others]) + (levels_of(name) - 1) * max(within, default=0)
 
     return {name: deepest_of(name, set()) for name in names}

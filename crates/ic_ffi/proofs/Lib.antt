@@ -16,3 +16,4 @@ pub mod Runs
 pub mod TreeWalks
 pub mod Sorting
 pub mod MarkedTrees
+pub mod Rings

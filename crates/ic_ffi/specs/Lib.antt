@@ -12,3 +12,4 @@ pub mod Keys
 pub mod Fills
 pub mod WholeTree
 pub mod Sorting
+pub mod Ring

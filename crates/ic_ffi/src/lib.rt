@@ -26,6 +26,8 @@ mod move_calls;
 mod moving;
 mod nodes;
 mod number;
+mod ring;
+mod ring_calls;
 mod search;
 mod search_calls;
 mod sort_calls;

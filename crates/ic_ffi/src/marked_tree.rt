@@ -17,9 +17,16 @@ use ic_link_ops::{Color, LinkOps};
 use ic_unsafe_ref::Place;
 
 /// A view of a tree's words as they are. [`RawTable`] sees every place of the table as linked, for edits and searches.
-#[derive(Drop)]
 pub(crate) struct MarkedTree<'a> {
     links: RawTable<'a, RawThree>,
+}
+
+impl Drop for MarkedTree<'_> {
+    fn drop(self)
+        ensures words { self.exit.0.now ≡ self.entry.links.entries.now }
+    {
+        let MarkedTree { links: _ } = self;
+    }
 }
 
 impl<'a> MarkedTree<'a> {

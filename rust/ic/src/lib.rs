@@ -23,6 +23,7 @@
 //! | Type | Link | Good for |
 //! |---|---|---|
 //! | [`List`] | [`Link2`], 16 bytes | queues and caches, from whose middle objects leave |
+//! | [`ring`] | [`Link2`], 16 bytes | queues whose members leave with no queue named |
 //! | [`Stack`] | [`Link1`], 8 bytes | stacks and free lists |
 //! | [`XorList`] | [`Link1`], 8 bytes | both ends and both directions, where memory is scarce |
 //! | [`Tree`] | [`Link3`], 24 bytes | timers, priorities and indices: objects in order, which are searched for |
@@ -84,6 +85,7 @@ mod cursor;
 mod error;
 mod link;
 mod list;
+pub mod ring;
 mod stack;
 #[cfg(test)]
 mod tests;
