@@ -419,6 +419,65 @@ void step(trees &it) {
     it.check_both();
 }
 
+// ---- Rings ---------------------------------------------------------------------------------------------------------------------------
+
+/// Two rings, whose heads are the last places of the table, beside lists of the standard library.
+struct rings {
+    std::vector<ic_link2> table = std::vector<ic_link2>(places + 2);
+    std::list<std::uint32_t> plain[2];
+
+    rings() {
+        expect(view().init(head(0)) == ic::status::ok && view().init(head(1)) == ic::status::ok, "a ring is not opened");
+    }
+    static std::uint32_t head(int which) { return places + static_cast<std::uint32_t>(which); }
+    ic::ring_view view() { return {table}; }
+
+    void check() {
+        for (int which : {0, 1}) {
+            auto member = plain[which].begin();
+            view().for_each(head(which), [&](std::uint32_t place) { expect(place == *member++, "a ring has another member"); });
+            expect(member == plain[which].end() && view().empty(head(which)) == plain[which].empty(), "a ring has other members");
+            expect(view().prev(head(which)) == (plain[which].empty() ? head(which) : plain[which].back()), "a ring ends with another member");
+        }
+    }
+};
+
+void step(rings &it) {
+    const int which = static_cast<int>(below(2));
+    const ic::ring_view view = it.view();
+    auto &plain = it.plain[which], &other = it.plain[1 - which];
+    const std::uint32_t place = below(places), head = rings::head(which);
+    const ic::status linking = to_link(view, place);
+    const auto member = std::next(plain.begin(), below(static_cast<std::uint32_t>(plain.size()) + 1));
+    switch (below(8)) {
+    case 0: expect_taken(view.pop_front(head), take_front(plain)); break;
+    case 1: expect_taken(view.pop_back(head), take_back(plain)); break;
+    case 2:
+        if (member != plain.end() && made(view.replace(*member, place), linking))
+            *member = place;
+        break;
+    case 3:
+        if (member != plain.end() && made(view.move_after(rings::head(1 - which), *member), ic::status::ok))
+            other.splice(other.begin(), plain, member);
+        break;
+    case 4:
+        if (below(4) == 0 && made(view.splice_before(member == plain.end() ? head : *member, rings::head(1 - which)), ic::status::ok))
+            plain.splice(member, other);
+        break;
+    case 5:
+        if (linking == ic::status::linked && made(view.remove(place), ic::status::ok)) {
+            plain.remove(place);
+            other.remove(place);
+        }
+        break;
+    default:
+        if (made(below(2) ? view.insert_before(member == plain.end() ? head : *member, place)
+                          : view.insert_after(member == plain.begin() ? head : *std::prev(member), place), linking))
+            plain.insert(member, place);
+    }
+    it.check();
+}
+
 // ---- Any words -----------------------------------------------------------------------------------------------------------------------
 
 template <class View>
@@ -457,7 +516,9 @@ int main(int count, char **words) {
     lists<ic::stack_view> singly;
     lists<ic::xor_view> both;
     trees sorted;
+    rings circles;
     while (edits < wanted) {
+        step(circles);
         step(doubly);
         step(singly);
         step(both);

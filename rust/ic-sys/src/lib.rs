@@ -135,7 +135,13 @@ extern "C" {
     pub fn ic_list_fill(table: *mut ic_link2, places: usize, list: *mut ic_list, first: u32, count: u32) -> u32;
     pub fn ic_list_clear(table: *mut ic_link2, places: usize, list: *mut ic_list) -> u32;
     pub fn ic_list_check(table: *const ic_link2, places: usize, list: *const ic_list, members: *mut u64) -> u32;
-    pub fn ic_list_sort(table: *mut ic_link2, places: usize, keys: *const u64, key_count: usize, list: *mut ic_list) -> u32;
+    pub fn ic_list_sort(
+        table: *mut ic_link2,
+        places: usize,
+        keys: *const u64,
+        key_count: usize,
+        list: *mut ic_list,
+    ) -> u32;
     pub fn ic_list_merge(
         table: *mut ic_link2,
         places: usize,

@@ -1,6 +1,6 @@
 //! The calls of each kind, on a table of eight places.
 
-use ic::{Error, Link1, Link2, List, Stack, XorList};
+use ic::{ring, Error, Link1, Link2, List, Stack, XorList};
 
 #[test]
 fn list_edits() {
@@ -155,6 +155,30 @@ fn lists_are_checked() {
     assert_eq!((list.check(&links[..5]), stack.check(&words[..5])), (None, None));
     links[3] = Link2::UNLINKED;
     assert_eq!((list.check(&links), list.sort(&mut links, &[0; 8])), (None, Err(Error::Broken)));
+}
+
+#[test]
+fn rings_are_joined_and_cut() {
+    let mut links = [Link2::UNLINKED; 8];
+    let (ready, late) = (6, 7);
+    ring::init(&mut links, ready).unwrap();
+    ring::init(&mut links, late).unwrap();
+    for place in 0..3 {
+        ring::insert_before(&mut links, ready, place).unwrap();
+        ring::insert_after(&mut links, late, 3 + place).unwrap();
+    }
+    assert!(ring::iter(&links, ready).eq([0, 1, 2]) && ring::iter(&links, late).eq([5, 4, 3]));
+    assert_eq!((ring::next(&links, 2), ring::prev(&links, 5)), (Some(ready), Some(late)));
+    ring::exchange(&mut links, 2, 3).unwrap(); // the one circle is ready, 0, 1, 2, late, 5, 4, 3
+    assert!(ring::iter(&links, ready).eq([0, 1, 2, 7, 5, 4, 3]));
+    ring::exchange(&mut links, 2, late).unwrap(); // and `late` is alone
+    assert!(ring::iter(&links, ready).eq([0, 1, 2, 5, 4, 3]) && ring::iter(&links, late).next().is_none());
+    ring::remove(&mut links, 5).unwrap();
+    assert_eq!(ring::remove(&mut links, 5), Err(Error::NotLinked));
+    assert_eq!(ring::insert_after(&mut links, 5, 5), Err(Error::NotLinked));
+    assert_eq!(ring::init(&mut links, 4), Err(Error::Linked));
+    links[4] = Link2::UNLINKED;
+    assert_eq!(ring::remove(&mut links, 3), Err(Error::Broken));
 }
 
 #[test]
