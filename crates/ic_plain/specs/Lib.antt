@@ -1,0 +1,2 @@
+pub mod SinglyEntries
+pub mod XorEntries

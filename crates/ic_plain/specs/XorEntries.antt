@@ -1,0 +1,39 @@
+-- The links of the plain table of XOR lists.
+use Rattle.std.specs.Prelude.{List, Bool, ⊤}
+use Rattle.ic_unsafe_ref.specs.declared.place.Place.{Place}
+use Rattle.ic_link_ops.specs.declared.link.Link.{Link}
+use Rattle.ic_link_ops.specs.declared.one_word.OneWord.{OneWord}
+use Rattle.ic_link_ops.specs.declared.xor_linked_list.Xor.{Xor}
+use Rattle.ic_link_ops.specs.declared.table.PlainTable.{PlainTable}
+use Rattle.ic_link_ops.specs.Chains.{Ends}
+use Rattle.ic_link_ops.specs.OneWord.{no_word, has_word, next_word_of}
+use Rattle.ic_link_ops.specs.PlainTables.{table, linked_by}
+use Rattle.ic_link_ops.specs.Readings.{XorJoins}
+use Rattle.ic_link_ops.specs.Tables.{Table}
+use Rattle.ic_link_ops.specs.XorLinkedList.{Shows, ShowsSome}
+
+-- the link of an XOR list, and a table of such links
+abbrev pub XorLink : Type 0
+XorLink = Link (OneWord Xor) ⊤
+
+abbrev pub XorLinkOps : Type 0 → Type 0
+XorLinkOps A = PlainTable (OneWord Xor) A ⊤
+
+-- whether a link is that of a linked place
+abbrev pub is_linked : XorLink → Bool
+is_linked = linked_by has_word
+
+-- THE PLAIN TABLE of these links, as clauses of its callers see it
+abbrev pub plain_table : {A : Type 0} → XorLinkOps A → Table XorLink
+plain_table links = table no_word links
+
+-- a table of XOR links shows s for the list with these ends
+abbrev pub ShowsList : Table XorLink → Ends → List Place → Type 0
+ShowsList = Shows is_linked (XorJoins next_word_of)
+
+-- the plain table does; and it shows some sequence
+abbrev pub PlainShows : {A : Type 0} → XorLinkOps A → Ends → List Place → Type 0
+PlainShows links list s = ShowsList (plain_table links) list s
+
+abbrev pub PlainShowsSome : {A : Type 0} → XorLinkOps A → Ends → Type 0
+PlainShowsSome links list = ShowsSome is_linked (XorJoins next_word_of) (plain_table links) list
