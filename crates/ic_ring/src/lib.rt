@@ -14,6 +14,8 @@
 //! ready.push_back(&mut links, second)?;
 //! remove(&mut links, &first); // from whichever ring it is in
 //! ```
+//!
+//! [`Cursor`] reads a ring, and [`CursorMut`] edits it where it stands.
 #![tactic(auto)]
 
 mod beside;
