@@ -1,6 +1,7 @@
 //! Calls of a cache of numbers and what they answer, as values.
 
-use lru_cache::{InsertError, LruCache};
+use ic_indexed::Index;
+use lru_cache::{Entry, InsertError, LruCache};
 use std::alloc::Allocator;
 
 /// A call of a cache.
@@ -26,7 +27,10 @@ pub(crate) enum Answer {
 }
 
 /// Makes the call.
-pub(crate) fn make<A: Allocator>(cache: &mut LruCache<u64, A>, call: Call) -> Answer {
+pub(crate) fn make<I: Index<Entry<u64>, A>, A: Allocator>(
+    cache: &mut LruCache<u64, I, A>,
+    call: Call,
+) -> Answer {
     match call {
         Call::Insert(key, value) => match cache.insert(key, value) {
             Ok(left) => entry(left),

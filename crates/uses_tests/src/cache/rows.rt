@@ -1,8 +1,10 @@
 //! The worked rows: calls, and what they answer.
 
 use crate::cache::calls::{Answer, Call, make};
+use ic_indexed::Index;
+use ic_link_ops::PlaceWord;
 use ic_test_support::rationed::Rationed;
-use lru_cache::LruCache;
+use lru_cache::{Entry, LruCache};
 use std::alloc::{Allocator, Global};
 
 type Row = (Call, Answer);
@@ -52,7 +54,10 @@ const NONE: &[Row] = &[
 
 // Plays the rows. A refused insert gives its value back and changes nothing, so it is made once more. How many were
 // refused; none, where a call answers otherwise.
-fn play<A: Allocator>(cache: &mut LruCache<u64, A>, rows: &[Row]) -> Option<usize> {
+fn play<I: Index<Entry<u64>, A>, A: Allocator>(
+    cache: &mut LruCache<u64, I, A>,
+    rows: &[Row],
+) -> Option<usize> {
     let mut refused: usize = 0;
     for (call, wanted) in rows {
         let mut found = make(cache, *call);
@@ -70,29 +75,47 @@ fn play<A: Allocator>(cache: &mut LruCache<u64, A>, rows: &[Row]) -> Option<usiz
     Some(refused)
 }
 
-// The same on a new cache of that memory.
-fn play_new(memory: &Rationed, capacity: usize, rows: &[Row]) -> Option<usize> {
-    let mut cache = LruCache::new(memory, capacity);
-    play(&mut cache, rows)
+// Which index the cache has.
+#[derive(Clone, Copy)]
+enum By {
+    Tree,
+    HashTable,
+}
+
+// The same on a new cache of that memory, by a tree or by a hash table with two chains.
+fn play_new(by: By, memory: &Rationed, capacity: usize, rows: &[Row]) -> Option<usize> {
+    match by {
+        By::Tree => {
+            let mut cache = LruCache::new(memory, capacity);
+            play(&mut cache, rows)
+        }
+        By::HashTable => {
+            let buckets = [PlaceWord::of(None), PlaceWord::of(None)];
+            let mut cache = LruCache::with_buckets(memory, capacity, buckets);
+            play(&mut cache, rows)
+        }
+    }
 }
 
 // Whether each of the requests for memory refuses one call alone, where it is refused. There are three at least where
 // an entry is kept: each table grew, and the objects.
-fn is_refused_in_turn(alloc: Global, capacity: usize, rows: &[Row], least: u64) -> bool {
+fn is_refused_in_turn(by: By, alloc: Global, capacity: usize, rows: &[Row], least: u64) -> bool {
     let memory = Rationed::new(alloc, u64::MAX);
-    let mut as_wanted = play_new(&memory, capacity, rows) == Some(0);
+    let mut as_wanted = play_new(by, &memory, capacity, rows) == Some(0);
     let requests = memory.requests();
     as_wanted &= requests >= least;
     for number in 0..requests {
         memory.refuse(number);
-        as_wanted &= play_new(&memory, capacity, rows) == Some(1);
+        as_wanted &= play_new(by, &memory, capacity, rows) == Some(1);
     }
     as_wanted
 }
 
 #[test]
 fn rows_with_each_growth_refused_in_turn(rt: HostRuntime) {
-    assert!(rt; is_refused_in_turn(rt.alloc(), 2, TWO, 3));
-    assert!(rt; is_refused_in_turn(rt.alloc(), 1, ONE, 3));
-    assert!(rt; is_refused_in_turn(rt.alloc(), 0, NONE, 0));
+    for by in [By::Tree, By::HashTable] {
+        assert!(rt; is_refused_in_turn(by, rt.alloc(), 2, TWO, 3));
+        assert!(rt; is_refused_in_turn(by, rt.alloc(), 1, ONE, 3));
+        assert!(rt; is_refused_in_turn(by, rt.alloc(), 0, NONE, 0));
+    }
 }
