@@ -1,13 +1,13 @@
 //! The algorithms over lists, each called once at a list of eight objects, or of two lists of four.
 
-ghost use Rattle.std.specs.Prelude.{◌≡◌, ◌≤◌, ◌<◌, true};
+ghost use Rattle.std.specs.Prelude.{◌≡◌, ◌≤◌, ◌<◌, true, List, length};
 ghost use Rattle.ic_unsafe_ref.specs.declared.place.Place.{Place};
 ghost use Rattle.ic_unsafe_ref.specs.Objects.{is_placed};
 ghost use Rattle.ic_unsafe_ref.specs.Places.{index_of};
 ghost use Rattle.ic_link_ops.specs.Chains.{ShowsChain, ShowsSomeChain};
 ghost use Rattle.ic_link_ops.specs.PlacedObjects.{ShowsPlaced};
 ghost use Rattle.ic_link_ops.specs.PlainTables.{table};
-ghost use Rattle.ic_list_algorithms.specs.Runs.{TwoShown};
+ghost use Rattle.ic_list_algorithms.specs.Runs.{FewLooks, TwoShown};
 ghost use Rattle.ic_list_algorithms.specs.TwoLists.{TwoLists};
 
 use ic_chain::{Chain, DoubleEnded, ForwardLinks, ListKind, SingleEnded};
@@ -16,7 +16,7 @@ use ic_link_ops::singly_linked_list::Singly;
 use ic_link_ops::{LinkOps, OneWord, PlainTable, Words};
 use ic_linked_list::DoublyLinked;
 use ic_list_algorithms as algorithms;
-use ic_list_algorithms::{By, Following, Natural};
+use ic_list_algorithms::{By, Counted, Following, Natural};
 use ic_singly_linked_list::SinglyLinked;
 use ic_test_support::answers::placed;
 use ic_test_support::tables::are_placed;
@@ -91,6 +91,20 @@ fn sort_down<K: Following<L>, L: LinkOps>(
 {
     let mut largest_first = By::new(|a: &u64, b: &u64| b.cmp(a));
     algorithms::sort_by(list, links, objects, &mut largest_first);
+}
+
+// Sorts a list of numbers, and answers how often two of them were compared.
+fn sort_and_count<K: Following<L>, L: LinkOps>(
+    list: &mut Chain<K, u64>,
+    links: &mut L,
+    objects: &Objects<u64>,
+) -> u64
+    requires placed { ShowsPlaced (ShowsChain K.Between K.kept (L.table links.old) list.old) objects.now }
+    ensures few { (s : List Place) → ShowsChain K.Between K.kept (L.table links.old) list.old s → FewLooks 0 result (length s) }
+{
+    let mut order = Counted::new(Natural);
+    algorithms::sort_by(list, links, objects, &mut order);
+    order.looks()
 }
 
 // Whether a list is in order, and how many members it has, which is the fourth, and which is the first above 40.
@@ -221,6 +235,9 @@ fn algorithms_over_doubly_lists(rt: HostRuntime) {
     assert!(rt; deduped(&mut other.list, &mut other.links, &other.objects) == 1);
     let mut other: Fixture<DoublyLinked, TwoWords> = eight(&rt, alloc);
     assert!(rt; appended(&mut other.list, &mut other.links));
+    let mut other: Fixture<DoublyLinked, TwoWords> = eight(&rt, alloc);
+    let looks = sort_and_count(&mut other.list, &mut other.links, &other.objects);
+    assert!(rt; looks == 12);
 }
 
 #[test]
