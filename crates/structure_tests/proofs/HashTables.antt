@@ -1,8 +1,18 @@
 -- Hash tables after a call of a test: they hold some sequence still.
-use Rattle.std.proofs.Common.{◌≡◌, Bool, true, false, Option, Some, None, List, [], ◌∷◌, ◌++◌, Result, Ok, Err, OnErr, IfOk, IfErr, IfSome, IfNone, refl, subst}
+use Rattle.std.proofs.Common.{◌≡◌, ◌↔◌, ℕ, IsTrue, Bool, true, false, Option, Some, None, List, [], ◌∷◌, ◌++◌, Result, Ok, Err, OnErr, IfOk, IfErr, IfSome, IfNone, refl, subst}
 use Rattle.std.specs.Bool.{OnTrue, OnFalse}
 use Rattle.ic_unsafe_ref.specs.declared.place.Place.{Place}
-use Rattle.ic_link_ops.specs.Sequences.{Cut, join, first, IsAfter}
+use Rattle.ic_link_ops.specs.Sequences.{Cut, join, first, IsAfter, IsMember}
+use Rattle.std.specs.Cmp.{IsPartialEquivalence}
+use Rattle.ic_unsafe_ref.specs.Objects.{Objects}
+use Rattle.ic_link_ops.specs.Tables.{Table}
+use Rattle.ic_link_ops.specs.SinglyLinkedList.{Successor}
+use Rattle.ic_link_ops.proofs.SequenceLemmas.{member_split}
+use Rattle.ic_hash_table.specs.declared.table.HashTable.{HashTable}
+use Rattle.ic_hash_table.specs.HashTable.{BelongsIn, IsNew}
+use Rattle.ic_hash_table.specs.SideBySide.{AreSideBySide, HoldsSideBySide}
+use Rattle.ic_hash_table.proofs.Chains.{chains_nothing}
+use Rattle.ic_hash_table.proofs.SideBySideLemmas.{take_beside}
 use Rattle.ic_hash_table.specs.Searches.{Finds}
 
 -- WHATEVER AN INSERT OF A NEW KEY ANSWERED
@@ -27,3 +37,28 @@ told_either false did not_done does keeps = keeps not_done
 pub gap_behind_first : (s : List Place) (r : Option Place) → r ≡ first s → (gap : Cut) × (join gap ≡ s) × IsAfter gap r
 gap_behind_first [] r is = (record { front = []; back = [] }, refl, is)
 gap_behind_first (x ∷ s) r is = (record { front = x ∷ []; back = s }, refl, is)
+
+-- A NEW TABLE has no members that could stand apart
+pub new_beside : {E A B V K : Type 0} (successor : E → Successor) (hash : A → V → ℕ) (fronts : B → List (Option Place)) (eq : K → K → Bool) (key_of : A → V → K) (t : Table E)
+    (table : HashTable A B) (objects : Objects V) → IsNew fronts table → HoldsSideBySide successor hash fronts eq key_of t table objects
+new_beside successor hash fronts eq key_of t table objects new = (
+  [],
+  record {
+    distinct = tt;
+    chained = chains_nothing successor (BelongsIn table.slots (hash table.adapter) objects) t 0 (fronts table.buckets) new.none;
+    placed = tt;
+    counted = new.counted;
+    well_formed = new.well_formed;
+    enough = new.enough;
+  },
+  tt,
+)
+
+-- AFTER A REMOVAL, whatever it answered, alike members stand side by side still: H is held before, and J after
+pub removed_beside : (alike : Place → Place → Bool) → IsPartialEquivalence alike → (H J : List Place → Type 0) {Same : Type 0} (answer : Bool) {p : Place} (s : List Place) → H s
+    → AreSideBySide alike s → (IsTrue answer ↔ IsMember p s) → ((front back : List Place) → H (front ++ p ∷ back) → J (front ++ back)) → OnFalse answer Same → (Same → J s)
+    → (u : List Place) × J u × AreSideBySide alike u
+removed_beside alike laws H J true {p} s held side iff removed nothing same =
+    let m = member_split p s (iff.0 refl) in
+    (m.0 ++ m.1, removed m.0 m.1 (subst H m.2 held), take_beside alike laws p m.0 m.1 (subst (AreSideBySide alike) m.2 side))
+removed_beside alike laws H J false s held side iff removed nothing same = (s, same nothing, side)

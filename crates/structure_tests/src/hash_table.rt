@@ -8,14 +8,20 @@ ghost use Rattle.ic_unsafe_ref.specs.Places.{index_of};
 ghost use Rattle.ic_link_ops.specs.Tables.{IsCovered};
 ghost use Rattle.ic_hash_table.specs.HashTable.{adapter_of, number, HoldsSome, IsNew};
 
+mod equals;
+mod keyed;
+
+use crate::hash_table::equals::{put_all, take_beside};
+use crate::hash_table::keyed::{put_keyed, take_by_keyed, take_keyed};
 use crate::objects::{eight_objects, reference, same, write_places};
-use ic_hash_table::{Buckets, Entry, HashAdapter, HashTable, KeyProbe};
-use ic_link_ops::singly_linked_list::{Link, LinkOps, SinglyLinkedListOps};
-use ic_link_ops::{LentTable, LinkOps as _, PlaceWord};
+use ic_hash_table::{Buckets, Entry, HashAdapter, HashTable, KeyOf, KeyProbe, StdHash};
+use ic_link_ops::singly_linked_list::{Link, LinkOps, LinkOpsWith, SinglyLinkedListOps};
+use ic_link_ops::{LentTable, LinkOps as _, LinkValues, PlaceWord};
 use ic_test_support::answers::object;
 use ic_test_support::notes::{Answer, Text};
 use ic_unsafe_ref::{Objects, UnsafeRef, Values};
 use std::alloc::{AllocError, Global};
+use std::hash::{BuildHasherDefault, FoldHasher};
 use std::process::Abort;
 
 /// Says that a number is its own key, and its own hash.
@@ -42,6 +48,22 @@ impl HashAdapter for OwnKey {
     }
 
     ghost equal_alike = { λ _ k l e. eqb-true k l e };
+}
+
+/// Says that a number is its own key, which std hashes.
+#[derive(Clone, Copy)]
+struct ByNumber;
+
+impl KeyOf for ByNumber {
+    type Value = u64;
+
+    type Key = u64;
+
+    ghost key_of = { λ _ value. value };
+
+    fn get_key<'v>(&self, value: &'v u64) -> &'v u64 {
+        value
+    }
 }
 
 // So many empty buckets.
@@ -133,6 +155,31 @@ fn enter<A: HashAdapter<Value = u64>, L: SinglyLinkedListOps, B: Buckets>(
             let _ = chain.insert(objects, given);
             None
         }
+    }
+}
+
+// The member with the object's key, or the object, which is put in where none has it.
+fn enter_or_find<A: HashAdapter<Value = u64>, L: SinglyLinkedListOps, B: Buckets>(
+    adapter: A,
+    table: &mut HashTable<A, B>,
+    links: &mut L,
+    objects: &Objects<u64>,
+    given: UnsafeRef<u64>,
+) -> Option<UnsafeRef<u64>>
+    requires adapter { adapter_of table.old ≡ adapter }
+    requires covered { IsCovered (L.table links.old) given }
+    requires placed { is_placed objects.now given ≡ true }
+    requires held { HoldsSome L.successor (number A.key_of A.hash_of) B.fronts (L.table links.old) table.old objects.now }
+    ensures held { HoldsSome L.successor (number A.key_of A.hash_of) B.fronts (L.table links.new) table.new objects.now }
+    ensures extent { (L.table links.new).extent ≡ (L.table links.old).extent }
+{
+    let number = adapter.get_key(objects.value(given.place()));
+    match table
+        .entry(links, objects, number)
+        .or_insert(objects, given)
+    {
+        Ok(found) => Some(found.get()),
+        Err(_) => None,
     }
 }
 
@@ -322,6 +369,21 @@ fn write_steps<A: HashAdapter<Value = u64>, L: SinglyLinkedListOps, B: Buckets>(
     }
 }
 
+// Notes the first member of the chain where this key belongs.
+fn write_chain_of<A: HashAdapter<Value = u64>, L: SinglyLinkedListOps, B: Buckets>(
+    notes: &mut Text,
+    adapter: A,
+    table: &HashTable<A, B>,
+    links: &L,
+    objects: &Objects<u64>,
+    key: &A::Key,
+)
+    requires held { HoldsSome L.successor (number A.key_of A.hash_of) B.fronts (L.table links.now) table.now objects.now }
+{
+    let at = table.slots().slot(adapter.hash(key));
+    write_places(notes, &[table.chain(links, objects, at).first()]);
+}
+
 // What the table prints.
 fn printed<A: HashAdapter<Value = u64, Key = u64>, L: SinglyLinkedListOps, B: Buckets>(
     alloc: Global,
@@ -468,6 +530,7 @@ fn write_entries<A: HashAdapter<Value = u64>, L: SinglyLinkedListOps, B: Buckets
     write_members(notes, &table, &*links, objects);
     let entered = enter(adapter, &mut table, links, objects, reference(4));
     notes.add(object(entered), " ");
+    write_chain_of(notes, adapter, &table, &*links, objects, key);
     let left = leave(&mut table, links, objects, key);
     notes.add(object(left), " ");
     write_members(notes, &table, &*links, objects);
@@ -480,7 +543,7 @@ fn entries_and_equals(rt: HostRuntime) {
     let (objects, mut links): (_, LinkOps) = eight_objects(&rt, alloc, NUMBERS);
     let buckets = empty_buckets(alloc, 4).expect(&rt, "memory for buckets");
     write_entries(&mut notes, OwnKey, buckets, &mut links, &objects, &10);
-    same(&rt, alloc, &notes, "50 30 10 10  none 2  20 50 30 10");
+    same(&rt, alloc, &notes, "50 30 10 10  none 6  2  20 50 30 10");
 }
 
 // Notes whether a new table with one chain in use can grow and shrink, and what it holds then.
@@ -525,4 +588,156 @@ fn a_table_grows_and_shrinks(rt: HostRuntime) {
         &notes,
         "yes yes yes no  0 none  3 4 no  yes yes yes no  3 1 no",
     );
+}
+
+// The same over buckets that are lent.
+#[test]
+fn a_table_over_a_slice(rt: HostRuntime) {
+    let alloc = rt.alloc();
+    let mut notes = Text::new(alloc);
+    let (objects, mut links): (_, LinkOps) = eight_objects(&rt, alloc, NUMBERS);
+    let none = || PlaceWord::of(None);
+    let mut words = [none(), none(), none(), none()];
+    let mut table = HashTable::new(OwnKey, &mut words[..]);
+    write_edits(&mut notes, &mut table, &mut links, &objects, &10);
+    same(&rt, alloc, &notes, EDITS);
+}
+
+// Notes how many looks the searches of two keys that std hashes find.
+#[test]
+fn a_table_by_stds_hash(rt: HostRuntime) {
+    let alloc = rt.alloc();
+    let mut notes = Text::new(alloc);
+    let (objects, mut links): (_, LinkOps) = eight_objects(&rt, alloc, NUMBERS);
+    let buckets = empty_buckets(alloc, 4).expect(&rt, "memory for buckets");
+    let by_std: StdHash<ByNumber, BuildHasherDefault<FoldHasher>> = StdHash::new(
+        ByNumber,
+        BuildHasherDefault::new(),
+    );
+    write_found(&mut notes, by_std, buckets, &mut links, &objects, &10);
+    same(&rt, alloc, &notes, "0  2 4 no  none");
+}
+
+// Notes which member has this key in a new table of two, and whether it has it once it is taken out.
+fn write_found<A: HashAdapter<Value = u64>, L: SinglyLinkedListOps, B: Buckets + Drop>(
+    notes: &mut Text,
+    adapter: A,
+    buckets: B,
+    links: &mut L,
+    objects: &Objects<u64>,
+    key: &A::Key,
+)
+    requires covers { (L.table links.old).extent.places ≡ 8 }
+    requires placed { (q : Place) → index_of q < 8 → is_placed objects.now q ≡ true }
+    requires count { length (B.fronts buckets) ≡ 4 }
+    requires none { AllByRecursion (λ front. front ≡ None) (B.fronts buckets) }
+{
+    let mut table = HashTable::new(adapter, buckets);
+    put(&mut table, links, objects, 0);
+    put(&mut table, links, objects, 1);
+    notes.add(object(table.find(&*links, objects, key)), " ");
+    write_counts(notes, &table);
+    let _ = leave(&mut table, links, objects, key);
+    notes.add(object(table.find(&*links, objects, key)), " ");
+}
+
+// Notes what a new table is where several objects have one key.
+fn write_equal_keys<A: HashAdapter<Value = u64>, L: SinglyLinkedListOps, B: Buckets + Drop>(
+    notes: &mut Text,
+    adapter: A,
+    buckets: B,
+    links: &mut L,
+    objects: &Objects<u64>,
+)
+    requires covers { (L.table links.old).extent.places ≡ 8 }
+    requires placed { (q : Place) → index_of q < 8 → is_placed objects.now q ≡ true }
+    requires count { length (B.fronts buckets) ≡ 4 }
+    requires none { AllByRecursion (λ front. front ≡ None) (B.fronts buckets) }
+{
+    let mut table = HashTable::new(adapter, buckets);
+    put_all(&mut table, links, objects, &[0, 6, 2, 1, 4]);
+    write_members(notes, &table, &*links, objects);
+    take_beside(&mut table, links, objects, 2);
+    write_members(notes, &table, &*links, objects);
+}
+
+#[test]
+fn equal_keys_stand_side_by_side(rt: HostRuntime) {
+    let alloc = rt.alloc();
+    let mut notes = Text::new(alloc);
+    let (objects, mut links): (_, LinkOps) = eight_objects(&rt, alloc, NUMBERS);
+    let buckets = empty_buckets(alloc, 4).expect(&rt, "memory for buckets");
+    write_equal_keys(&mut notes, OwnKey, buckets, &mut links, &objects);
+    same(&rt, alloc, &notes, "20 20 10 10 50  20 20 10 50");
+}
+
+// Notes what a new table is whose keys stand beside the links.
+fn write_keyed<
+    A: HashAdapter<Value = u64>,
+    L: SinglyLinkedListOps + LinkValues<u64>,
+    B: Buckets + Drop,
+>(notes: &mut Text, adapter: A, buckets: B, links: &mut L, key: &A::Key)
+    requires covers { (L.table links.old).extent.places ≡ 8 }
+    requires count { length (B.fronts buckets) ≡ 4 }
+    requires none { AllByRecursion (λ front. front ≡ None) (B.fronts buckets) }
+{
+    let mut table = HashTable::new(adapter, buckets);
+    put_keyed(&mut table, links, 0);
+    put_keyed(&mut table, links, 1);
+    put_keyed(&mut table, links, 2);
+    notes.add(object(table.find(&*links, &*links, key)), " ");
+    notes.add(Answer::Truth(take_keyed(&mut table, links, 2)), " ");
+    notes.add(Answer::Truth(take_keyed(&mut table, links, 2)), " ");
+    notes.add(object(take_by_keyed(&mut table, links, key)), " ");
+    write_counts(notes, &table);
+}
+
+#[test]
+fn keys_beside_the_links(rt: HostRuntime) {
+    let alloc = rt.alloc();
+    let mut notes = Text::new(alloc);
+    let mut links: LinkOpsWith<u64> = LinkOpsWith::new(alloc);
+    let _ = links.cover(8);
+    assert!(rt; links.covers() == 8);
+    links.set_value(reference(0).place(), 10);
+    links.set_value(reference(1).place(), 20);
+    links.set_value(reference(2).place(), 10);
+    let buckets = empty_buckets(alloc, 4).expect(&rt, "memory for buckets");
+    write_keyed(&mut notes, OwnKey, buckets, &mut links, &10);
+    same(&rt, alloc, &notes, "2 yes no 0  1 4 no");
+}
+
+// Notes which member has the key of the object at 2, or 1, in a new table with the object at 0: the one at 0, or the object itself.
+fn write_entered<A: HashAdapter<Value = u64>, L: SinglyLinkedListOps, B: Buckets + Drop>(
+    notes: &mut Text,
+    adapter: A,
+    buckets: B,
+    links: &mut L,
+    objects: &Objects<u64>,
+    given: usize,
+)
+    requires few { given < 8 }
+    requires covers { (L.table links.old).extent.places ≡ 8 }
+    requires placed { (q : Place) → index_of q < 8 → is_placed objects.now q ≡ true }
+    requires count { length (B.fronts buckets) ≡ 4 }
+    requires none { AllByRecursion (λ front. front ≡ None) (B.fronts buckets) }
+{
+    let mut table = HashTable::new(adapter, buckets);
+    put(&mut table, links, objects, 0);
+    let found = enter_or_find(adapter, &mut table, links, objects, reference(given));
+    notes.add(object(found), " ");
+    write_counts(notes, &table);
+}
+
+#[test]
+fn an_entry_or_the_object(rt: HostRuntime) {
+    let alloc = rt.alloc();
+    let mut notes = Text::new(alloc);
+    let (objects, mut links): (_, LinkOps) = eight_objects(&rt, alloc, NUMBERS);
+    let buckets = empty_buckets(alloc, 4).expect(&rt, "memory for buckets");
+    write_entered(&mut notes, OwnKey, buckets, &mut links, &objects, 2);
+    let (objects, mut links): (_, LinkOps) = eight_objects(&rt, alloc, NUMBERS);
+    let buckets = empty_buckets(alloc, 4).expect(&rt, "memory for buckets");
+    write_entered(&mut notes, OwnKey, buckets, &mut links, &objects, 1);
+    same(&rt, alloc, &notes, "0 1 4 no  1 2 4 no");
 }

@@ -1,0 +1,67 @@
+//! Objects of which several have one key: they stand side by side.
+
+ghost use Rattle.std.specs.Prelude.{◌≡◌, ◌<◌, All, true};
+ghost use Rattle.ic_unsafe_ref.specs.declared.place.Place.{Place};
+ghost use Rattle.ic_unsafe_ref.specs.Objects.{is_placed};
+ghost use Rattle.ic_unsafe_ref.specs.Places.{index_of};
+ghost use Rattle.ic_hash_table.specs.HashTable.{number};
+ghost use Rattle.ic_hash_table.specs.SideBySide.{HoldsSideBySide};
+
+use crate::objects::reference;
+use ic_hash_table::{Buckets, HashAdapter, HashTable};
+use ic_link_ops::LinkOps as _;
+use ic_link_ops::singly_linked_list::SinglyLinkedListOps;
+use ic_unsafe_ref::Objects;
+
+/// Puts the object in, beside those that have its key.
+fn put_beside<A: HashAdapter<Value = u64>, L: SinglyLinkedListOps, B: Buckets>(
+    table: &mut HashTable<A, B>,
+    links: &mut L,
+    objects: &Objects<u64>,
+    index: usize,
+)
+    requires few { index < 8 }
+    requires covers { (L.table links.old).extent.places ≡ 8 }
+    requires placed { (q : Place) → index_of q < 8 → is_placed objects.now q ≡ true }
+    requires beside { HoldsSideBySide L.successor (number A.key_of A.hash_of) B.fronts A.Key.eq A.key_of (L.table links.old) table.old objects.now }
+    ensures covers { (L.table links.new).extent.places ≡ 8 }
+    ensures beside { HoldsSideBySide L.successor (number A.key_of A.hash_of) B.fronts A.Key.eq A.key_of (L.table links.new) table.new objects.now }
+{
+    let _ = table.insert_equal(links, objects, reference(index));
+}
+
+/// Takes the object out. The others stand as they stood.
+pub(super) fn take_beside<A: HashAdapter<Value = u64>, L: SinglyLinkedListOps, B: Buckets>(
+    table: &mut HashTable<A, B>,
+    links: &mut L,
+    objects: &Objects<u64>,
+    index: usize,
+)
+    requires few { index < 8 }
+    requires covers { (L.table links.old).extent.places ≡ 8 }
+    requires placed { (q : Place) → index_of q < 8 → is_placed objects.now q ≡ true }
+    requires beside { HoldsSideBySide L.successor (number A.key_of A.hash_of) B.fronts A.Key.eq A.key_of (L.table links.old) table.old objects.now }
+    ensures covers { (L.table links.new).extent.places ≡ 8 }
+    ensures beside { HoldsSideBySide L.successor (number A.key_of A.hash_of) B.fronts A.Key.eq A.key_of (L.table links.new) table.new objects.now }
+{
+    table.remove(links, objects, &reference(index));
+}
+
+/// Puts these objects in, one after the other: those with equal keys stand side by side, however many there are.
+pub(super) fn put_all<A: HashAdapter<Value = u64>, L: SinglyLinkedListOps, B: Buckets>(
+    table: &mut HashTable<A, B>,
+    links: &mut L,
+    objects: &Objects<u64>,
+    indexes: &[usize],
+)
+    requires few { All (λ index. index < 8) indexes.now }
+    requires covers { (L.table links.old).extent.places ≡ 8 }
+    requires placed { (q : Place) → index_of q < 8 → is_placed objects.now q ≡ true }
+    requires beside { HoldsSideBySide L.successor (number A.key_of A.hash_of) B.fronts A.Key.eq A.key_of (L.table links.old) table.old objects.now }
+    ensures covers { (L.table links.new).extent.places ≡ 8 }
+    ensures beside { HoldsSideBySide L.successor (number A.key_of A.hash_of) B.fronts A.Key.eq A.key_of (L.table links.new) table.new objects.now }
+{
+    for index in indexes {
+        put_beside(table, links, objects, *index);
+    }
+}
