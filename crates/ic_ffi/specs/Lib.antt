@@ -12,4 +12,5 @@ pub mod Keys
 pub mod Fills
 pub mod WholeTree
 pub mod Sorting
+pub mod MarkedTree
 pub mod Ring

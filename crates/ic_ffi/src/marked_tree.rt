@@ -5,27 +5,29 @@
 //! check_tree(&tree, &links) // what no search can tell, which sees every place as linked
 //! ```
 
-ghost use Rattle.std.specs.Prelude.{◌≡◌};
-ghost use Rattle.ic_ffi.specs.Tables.{IsView};
+ghost use Rattle.std.specs.Prelude.{◌≡◌, IsTrue, ◌↔◌};
+ghost use Rattle.ic_link_ops.specs.Tables.{IsCovered};
+ghost use Rattle.ic_ffi.specs.MarkedTree.{marked_table};
 
 use crate::number::place_in;
-use crate::table::RawTable;
 use crate::words::RawThree;
 use ic_check::TellsLinks;
 use ic_link_ops::rbtree::RBTreeOps;
-use ic_link_ops::{Color, LinkOps};
+use ic_link_ops::{Color, LinkOps, Words};
 use ic_unsafe_ref::Place;
 
-/// A view of a tree's words as they are. [`RawTable`] sees every place of the table as linked, for edits and searches.
+/// A view of a tree's words as they are. [`RawTable`](crate::RawTable) sees every place of the table as linked, for edits and searches.
+///
+/// It is for checks: it links no place.
 pub(crate) struct MarkedTree<'a> {
-    links: RawTable<'a, RawThree>,
+    entries: &'a mut [RawThree],
 }
 
 impl Drop for MarkedTree<'_> {
     fn drop(self)
-        ensures words { self.exit.0.now ≡ self.entry.links.entries.now }
+        ensures words { self.exit.0.now ≡ self.entry.entries.now }
     {
-        let MarkedTree { links: _ } = self;
+        let MarkedTree { entries: _ } = self;
     }
 }
 
@@ -33,11 +35,30 @@ impl<'a> MarkedTree<'a> {
     // A view of these words.
     #[inline]
     pub(crate) fn new(words: &'a mut [RawThree]) -> MarkedTree<'a>
-        ensures { IsView words.entry result.links }
+        ensures name { result.entries.ghost_name ≡ words.entry.ghost_name }
+        ensures words { result.entries.now ≡ words.entry.now }
     {
-        MarkedTree {
-            links: RawTable::new(words),
-        }
+        MarkedTree { entries: words }
+    }
+}
+
+impl MarkedTree<'_> {
+    // Whether there is such a place.
+    #[inline]
+    fn covers(&self, place: Place) -> bool
+        ensures { IsTrue result ↔ IsCovered (marked_table self.now) place }
+    {
+        place.index() + 1 <= self.entries.len()
+    }
+
+    // The words of `place`.
+    #[inline]
+    fn at(&self, place: Place) -> &RawThree
+        requires covered { IsCovered (marked_table self.now) place }
+        ensures { result.now ≡ (marked_table self.now).entry place }
+    {
+        let entries = &*self.entries;
+        &entries[place.index()]
     }
 }
 
@@ -47,41 +68,42 @@ impl LinkOps for MarkedTree<'_> {
     ghost use Rattle.ic_link_ops.specs.EntryLaws.{linked_in_range};
     ghost use Rattle.ic_link_ops.specs.LinkSteps.{Replays};
     ghost use Rattle.ic_link_ops.specs.StepLaws.{replays_on};
-    ghost use Rattle.ic_link_ops.specs.Tables.{IsLinked};
-    ghost use Rattle.ic_ffi.specs.declared.marked_tree.MarkedTree.{MarkedTree};
-    ghost use Rattle.ic_ffi.specs.Tables.{raw_entries};
-    ghost use Rattle.ic_ffi.specs.Tree.{lent_table};
+    ghost use Rattle.ic_ffi.specs.MarkedTree.{marked_entries};
     ghost use Rattle.ic_ffi.specs.Words.{no_tree_words, is_linked_three};
 
     type Entry = RawThree;
 
-    ghost table = { λ t. lent_table t.links };
+    ghost table = { marked_table };
 
     ghost linked = { is_linked_three };
 
-    ghost Does = { λ old new s. Replays is_linked_three (lent_table old.links) (lent_table new.links) s };
+    ghost Does = { λ old new s. Replays is_linked_three (marked_table old) (marked_table new) s };
 
-    ghost Refused = { λ old new p. IsLinked is_linked_three (lent_table old.links) p × (new ≡ old) };
+    ghost Refused = { λ old new p. new ≡ old };
 
+    // It links no place.
     #[inline]
     fn acquire_link(&mut self, place: Place) -> bool {
-        self.links.acquire_link(place)
+        let _ = &*self;
+        let _ = place;
+        false
     }
 
     #[inline]
     fn release_link(&mut self, place: Place) {
-        self.links.release_link(place)
+        let words = &mut self.entries[place.index()];
+        words.unlink();
     }
 
-    ghost linked_is_covered = { λ t p h. linked_in_range is_linked_three no_tree_words refl (raw_entries t.links) (index_of p) h };
+    ghost linked_is_covered = { λ t p h. linked_in_range is_linked_three no_tree_words refl (marked_entries t) (index_of p) h };
 
     ghost does_nothing = { λ t q. refl };
 
-    ghost does_on = { λ a b c s t h k. replays_on is_linked_three s t (lent_table a.links) (lent_table b.links) (lent_table c.links) h k };
+    ghost does_on = { λ a b c s t h k. replays_on is_linked_three s t (marked_table a) (marked_table b) (marked_table c) h k };
 
     ghost does_replay = { λ old new s h. h };
 
-    ghost refused_keeps = { λ old new p h. ap (λ (t : MarkedTree). lent_table t.links) h.1 };
+    ghost refused_keeps = { λ old new p h. ap marked_table h };
 }
 
 impl RBTreeOps for MarkedTree<'_> {
@@ -92,22 +114,22 @@ impl RBTreeOps for MarkedTree<'_> {
 
     #[inline]
     fn left(&self, place: Place) -> Option<Place> {
-        place_in(self.links.at(place).left)
+        place_in(self.at(place).left)
     }
 
     #[inline]
     fn right(&self, place: Place) -> Option<Place> {
-        place_in(self.links.at(place).right)
+        place_in(self.at(place).right)
     }
 
     #[inline]
     fn parent(&self, place: Place) -> Option<Place> {
-        place_in(self.links.at(place).parent)
+        place_in(self.at(place).parent)
     }
 
     #[inline]
     fn color(&self, place: Place) -> Color {
-        if self.links.at(place).parent % 2 == 1 {
+        if self.at(place).parent % 2 == 1 {
             Color::Black
         } else {
             Color::Red
@@ -116,19 +138,19 @@ impl RBTreeOps for MarkedTree<'_> {
 
     #[inline]
     fn set_left(&mut self, place: Place, left: Option<Place>) {
-        let words = &mut self.links.entries[place.index()];
+        let words = &mut self.entries[place.index()];
         words.left = Place::to_word(left) + words.left % 2;
     }
 
     #[inline]
     fn set_right(&mut self, place: Place, right: Option<Place>) {
-        let words = &mut self.links.entries[place.index()];
+        let words = &mut self.entries[place.index()];
         words.right = Place::to_word(right);
     }
 
     #[inline]
     fn set_parent(&mut self, place: Place, parent: Option<Place>) {
-        let words = &mut self.links.entries[place.index()];
+        let words = &mut self.entries[place.index()];
         words.parent = Place::to_word(parent) + words.parent % 2;
     }
 
@@ -138,7 +160,7 @@ impl RBTreeOps for MarkedTree<'_> {
             Color::Red => 0,
             Color::Black => 1,
         };
-        let words = &mut self.links.entries[place.index()];
+        let words = &mut self.entries[place.index()];
         words.parent = words.parent / 2 * 2 + black;
     }
 
@@ -154,11 +176,11 @@ impl RBTreeOps for MarkedTree<'_> {
 impl TellsLinks for MarkedTree<'_> {
     #[inline]
     fn covered_places(&self) -> usize {
-        self.links.places()
+        self.entries.len()
     }
 
     #[inline]
     fn tells_linked(&self, place: Place) -> bool {
-        self.links.is_linked(place)
+        self.covers(place) && self.at(place).is_linked()
     }
 }

@@ -1,5 +1,5 @@
 use Rattle.std.proofs.Common.{refl, slice_index_or}
-use Rattle.ic_ffi.specs.Tables.{raw_entries}
+use Rattle.ic_ffi.specs.MarkedTree.{marked_entries}
 use Rattle.ic_ffi.specs.Tree.{node}
 use Rattle.ic_ffi.specs.Words.{no_tree_words, is_linked_three}
 use Rattle.ic_ffi.proofs.Entries.{says_written, changes_only}
@@ -9,7 +9,7 @@ use Rattle.ic_ffi.proofs.marked_tree.MarkedTreeRBTreeOps.set_right.Goals as goal
 pub returns-clause-set : goal.returns-clause-set
 returns-clause-set c =
     says_written is_linked_three no_tree_words refl node (λ r. record r { right = c.args.right }) _ _ _ _ _ _ c.index.ensures.value c.requires.linked refl
-    (right_set (slice_index_or (raw_entries c.args.self.now.links) c.index.result no_tree_words) c.args.right _ c.to_word-words.ensures.value)
+    (right_set (slice_index_or (marked_entries c.args.self.now) c.index.result no_tree_words) c.args.right _ c.to_word-words.ensures.value)
 
 pub returns-clause-frame : goal.returns-clause-frame
 returns-clause-frame c = changes_only _ _ _ _ _ c.index.ensures.value
