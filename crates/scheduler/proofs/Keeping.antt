@@ -1,7 +1,7 @@
 -- What a scheduler keeps over each of its calls, and what that says of its schedule.
 use Rattle.std.proofs.Common.{◌≡◌, ◌≢◌, ℕ, ◌≤◌, ◌<◌, ◌^◌, true, false, leb, Option, Some, None, is_some, Result, Ok, Err, OnOk, OnErr, ◌↔◌, List, [], ◌∷◌, ◌++◌, length, map, drop, filter, inl, inr, refl, sym, ap, ◌∙◌, subst, arith, append-nil, slice_index_or, true≢false}
 use Rattle.std.proofs.Math.ListN.{get_or-map}
-use Rattle.std.proofs.lemmas.Bool.{lt-leb, false_from_ne_true}
+use Rattle.std.proofs.lemmas.Bool.{lt-leb}
 use Rattle.std.proofs.lemmas.Bool.Decides.{eqb_tells, leb_tells}
 use Rattle.std.proofs.lemmas.Cmp.{nat_cmp_total}
 use Rattle.std.specs.List.{AllByRecursion}
@@ -27,13 +27,15 @@ use Rattle.ic_link_ops.proofs.SequenceLemmas.{nothing_first}
 use Rattle.ic_link_ops.proofs.TwoFields.{once_covered, once_placed, once_moved, once_taken, unlinked_first, unlinked_vacant}
 use Rattle.ic_link_ops.proofs.Each.{all_map}
 use Rattle.ic_pool.specs.Pooled.{Grows}
+use Rattle.ic_container.proofs.HoldsLemmas.{list_off}
+use Rattle.ic_container.proofs.TreeLemmas.{tree_off}
 use Rattle.ic_rbtree.specs.Borders.{IsSorted, if_passes}
 use Rattle.ic_rbtree.specs.Ordered.{InsertsInOrder}
 use Rattle.ic_rbtree.specs.PlainTrees as trees
 use Rattle.ic_rbtree.specs.SortedObjects.{against, key_at, ShowsSorted}
 use Rattle.ic_rbtree.specs.SortedValues.{HasSorted}
 use Rattle.ic_rbtree.proofs.Passing.{passed}
-use Rattle.ic_rbtree.proofs.PlainTrees.{plain_covered, plain_members, plain_trees}
+use Rattle.ic_rbtree.proofs.PlainTrees.{plain_members, plain_trees}
 use Rattle.ic_rbtree.proofs.SortedValues.{has_none, has_covered, has_beside, has_inserted, has_first, has_first_taken}
 use Rattle.scheduler.specs.declared.task.Task.{Task}
 use Rattle.scheduler.specs.Timers as timers
@@ -123,16 +125,11 @@ module _ {V A B : Type 0} where
     kept_none = record {
       waiting = [];
       queued = λ i. [];
-      sorted = has_none plain_trees nat_cmp_total objects none no_tree_links;
-      numbered = numbered_none doubly.plain_lists objects empty no_list_links;
-      once = record { each = λ p. rw (ap is_some (vacant p)) (no_tree_links p, no_list_links p) };
+      sorted = has_none plain_trees nat_cmp_total objects none (tree_off w no_trees);
+      numbered = numbered_none doubly.plain_lists objects empty (list_off q no_lists);
+      once = record { each = λ p. rw (ap is_some (vacant p)) (tree_off w no_trees p, list_off q no_lists p) };
       room = λ p placed. absurd (true≢false (sym placed ∙ ap is_some (vacant p)));
-    } where
-      no_tree_links : (p : Place) → IsUnlinked trees.is_linked (trees.plain_table w) p
-      no_tree_links p = false_from_ne_true _ (λ linked. let within = plain_covered w p linked in absurd (omega (arith, within, no_trees)))
-
-      no_list_links : (p : Place) → IsUnlinked lists.is_linked (lists.plain_table q) p
-      no_list_links p = false_from_ne_true _ (λ linked. let within = doubly.plain_covered q p linked in absurd (omega (arith, within, no_lists)))
+    }
 
     pub none_wait : IsEmpty (schedule_of objects w root q ends)
     unfolding kept_none

@@ -1,29 +1,20 @@
 -- Each task of a scheduler stands at one place.
-use Rattle.std.proofs.Common.{◌≡◌, ℕ, suc, Bool, true, false, Option, Some, None, IsSome, List, [], ◌∷◌, length, refl, sym, ap, ◌∙◌, subst, true≢false}
-use Rattle.std.specs.List.{cons_option}
+use Rattle.std.proofs.Common.{◌≡◌, ℕ, Bool, true, false, Option, List, [], ◌∷◌, length, refl, sym, ap, ◌∙◌, subst}
 use Rattle.ic_unsafe_ref.specs.declared.place.Place.{Place}
-use Rattle.ic_unsafe_ref.specs.Objects.{Objects, object_at}
+use Rattle.ic_unsafe_ref.specs.Objects.{Objects}
 use Rattle.ic_link_ops.specs.Chains.{Ends}
 use Rattle.ic_link_ops.specs.DoublyEntries as lists
-use Rattle.ic_link_ops.specs.PlacedObjects.{ArePlaced, values_at}
 use Rattle.ic_link_ops.specs.Sequences.{IsAbsent, IsMember, IsDistinct, IsDisjoint}
 use Rattle.ic_link_ops.proofs.DoublyLists as doubly
 use Rattle.ic_link_ops.proofs.NumberedCollections.{numbered_apart, numbered_free}
 use Rattle.ic_link_ops.proofs.TwoFields.{unlinked_second}
 use Rattle.ic_rbtree.specs.PlainTrees as trees
 use Rattle.ic_rbtree.proofs.PlainTrees.{plain_trees}
+use Rattle.ic_container.proofs.ValueLemmas.{as_many}
 use Rattle.scheduler.specs.declared.task.Task.{Task}
 use Rattle.scheduler.specs.Kept.{schedule_of, IsKept}
 use Rattle.scheduler.specs.Schedule.{places_at, IsOnceEach}
 use Rattle.scheduler.proofs.Keeping.{waiting_is, queue_is, waiting_at_is, places_are}
-
--- a value for each member
-all_counted : {T : Type 0} (objects : Objects T) (s : List Place) → ArePlaced objects s → length s ≡ length (values_at objects s)
-all_counted objects [] placed = refl
-all_counted {T} objects (x ∷ s) placed = by (object_at objects x) placed.0 (all_counted objects s placed.1) where
-  by : (o : Option T) → IsSome o → length s ≡ length (values_at objects s) → length (x ∷ s) ≡ length (cons_option o (values_at objects s))
-  by None here rest = absurd (true≢false (sym here))
-  by (Some v) here rest = ap suc rest
 
 all_out : (s t : List Place) → ((p : Place) → IsMember p s → IsAbsent p t) → IsDisjoint s t
 all_out [] t h = tt
@@ -40,11 +31,11 @@ module _ {V A B : Type 0} {objects : Objects (Task V)} {w : trees.TreeLinkOps A}
   pub once_each : IsOnceEach (schedule_of objects w root q ends)
   once_each = record {
     waiting = (
-      ap length (waiting_at_is k) ∙ all_counted objects k.sorted.members k.sorted.stand.placed ∙ ap length (k.sorted.stand.are ∙ sym (waiting_is k)),
+      ap length (waiting_at_is k) ∙ sym (as_many objects k.sorted.members k.sorted.stand.placed) ∙ ap length (k.sorted.stand.are ∙ sym (waiting_is k)),
       subst IsDistinct (sym (waiting_at_is k)) (plain_trees.distinct (trees.plain_table w) root k.sorted.members k.sorted.shown),
     );
     queued = λ i. (
-      ap length (places_are k i) ∙ all_counted objects (k.numbered.members i) (k.numbered.each i).stand.placed ∙ ap length ((k.numbered.each i).stand.are ∙ sym (queue_is k i)),
+      ap length (places_are k i) ∙ sym (as_many objects (k.numbered.members i) (k.numbered.each i).stand.placed) ∙ ap length ((k.numbered.each i).stand.are ∙ sym (queue_is k i)),
       subst IsDistinct (sym (places_are k i)) (doubly.plain_lists.distinct (lists.plain_table q) _ (k.numbered.members i) (k.numbered.each i).shown),
     );
     never_both = λ i.
