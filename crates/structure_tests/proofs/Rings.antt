@@ -1,14 +1,15 @@
 -- Rings after a call of a test: what the members are then, and that each object is placed.
-use Rattle.std.proofs.Common.{◌≡◌, ◌≢◌, ◌<◌, true, Option, Some, List, [], ◌∷◌, ◌++◌, Result, Ok, Err, OnOk, OnErr, drop, sym, ap, ◌∙◌, subst, append_assoc}
+use Rattle.std.proofs.Common.{◌≡◌, ◌≢◌, ◌<◌, true, Option, Some, None, List, [], ◌∷◌, ◌++◌, Result, Ok, Err, OnOk, OnErr, OnSome, drop, refl, sym, ap, ◌∙◌, subst, append_assoc}
 use Rattle.ic_unsafe_ref.specs.declared.place.Place.{Place}
 use Rattle.ic_unsafe_ref.specs.Places.{index_of}
 use Rattle.ic_unsafe_ref.specs.Objects.{Objects, is_placed}
-use Rattle.ic_link_ops.specs.Sequences.{IsAbsent, IsDisjoint, first, last, but_last}
+use Rattle.ic_link_ops.specs.Sequences.{IsAbsent, IsDisjoint, first, first_or, last, but_last}
 use Rattle.ic_link_ops.specs.Tables.{Table, Extent, IsCovered}
 use Rattle.ic_link_ops.specs.LinkedList.{Neighbors, IsChain}
 use Rattle.ic_link_ops.specs.PlacedObjects.{ArePlaced, ShowsPlaced}
-use Rattle.ic_link_ops.proofs.SequenceLemmas.{first_is, split_last, disjoint_sym, absent_right, absent_swap, absent_turned, last_of_push}
+use Rattle.ic_link_ops.proofs.SequenceLemmas.{first_is, split_last, disjoint_sym, absent_right, absent_swap, absent_turned, last_of_push, some_same, none_not}
 use Rattle.ic_ring.specs.Rings.{IsCircle, Shows, InRing}
+use Rattle.ic_ring.specs.RingCursors.{IsOn}
 use Rattle.ic_ring.proofs.Circles.{circles_apart, seen_from, rotated}
 
 -- WHATEVER A CALL ANSWERED that may refuse an object
@@ -78,3 +79,15 @@ places_of same covers = ap (λ (e : Extent). e.places) same ∙ covers
 pub both_ways : {A X : Type 0} (P Q : Type 0) (r : Result A X) → OnOk r P → OnOk r Q → OnOk r (P × Q)
 both_ways P Q (Ok a) p q = (p, q)
 both_ways P Q (Err e) p q = tt
+
+-- A CURSOR IS ON THE FIRST of these, on the head where there is none: that is the member that it answers
+pub on_first : (head h : Place) → h ≡ head → (s : List Place) {at : Place} (r : Option Place) → IsOn h at r → Some at ≡ first_or s (Some head) → IsAbsent head s → r ≡ first s
+on_first head h e [] None on is out = refl
+on_first head h e [] (Some p) on is out = absurd (on.1 (some_same is ∙ sym e))
+on_first head h e (x ∷ s) None on is out = absurd (out.0 (sym e ∙ sym on ∙ some_same is))
+on_first head h e (x ∷ s) (Some p) on is out = ap Some on.0 ∙ is
+
+-- what holds where something is answered
+pub holds_there : {P : Type 0} (r : Option Place) {x : Place} → r ≡ Some x → OnSome r P → P
+holds_there None e holds = absurd (none_not _ e)
+holds_there (Some y) e holds = holds

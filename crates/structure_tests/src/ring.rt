@@ -8,10 +8,15 @@ ghost use Rattle.ic_link_ops.specs.Sequences.{IsAbsent};
 ghost use Rattle.ic_ring.specs.Rings.{IsCircle, Shows, InRing};
 
 mod connections;
+mod cursors;
 mod pairs;
 
 use crate::objects::{eight_objects, reference, same, write_places};
 use crate::ring::connections::{close, close_oldest, touch};
+use crate::ring::cursors::{
+    close_first, keep_first, put_last_but_one, put_second, renew_last, second,
+    take_over_before_last, take_over_behind_first,
+};
 use crate::ring::pairs::{exchange_heads, move_over, move_over_to_front, splice, split, two_rings};
 use ic_link_ops::linked_list::{Link, LinkOps, LinkedListOps};
 use ic_link_ops::{LentTable, LinkOps as _};
@@ -332,4 +337,92 @@ fn a_ring_is_printed(rt: HostRuntime) {
     let text = printed(alloc, &links, &objects, &ring);
     let text = text.expect(&rt, "memory for a text");
     assert!(rt; text.as_str() == "[10, 20]");
+}
+
+// Notes what one queue is after each edit by a cursor.
+fn write_cursors<L: LinkedListOps>(
+    rt: &impl Abort,
+    notes: &mut Text,
+    links: &mut L,
+    objects: &Objects<u64>,
+)
+    requires covers { (L.table links.old).extent.places ≡ 8 }
+    requires placed { (q : Place) → index_of q < 8 → is_placed objects.now q ≡ true }
+{
+    let ring = opened(rt, links, 7);
+    let _ = put_second(links, &ring, reference(0));
+    let _ = put_second(links, &ring, reference(1));
+    let _ = put_second(links, &ring, reference(2));
+    let _ = put_last_but_one(links, &ring, reference(3));
+    write_members(notes, &*links, objects, &ring);
+    let _ = renew_last(links, &ring, reference(4));
+    let (closed, first) = close_first(links, &ring);
+    notes.add(object(closed), " ");
+    write_places(notes, &[first, second(&*links, &ring)]);
+    write_members(notes, &*links, objects, &ring);
+}
+
+#[test]
+fn a_ring_by_cursors(rt: HostRuntime) {
+    let alloc = rt.alloc();
+    let mut notes = Text::new(alloc);
+    let numbers = [10, 20, 30, 40, 50, 60, 70, 80];
+    let (objects, mut links): (_, LinkOps) = eight_objects(&rt, alloc, numbers);
+    write_cursors(&rt, &mut notes, &mut links, &objects);
+    same(&rt, alloc, &notes, "10 30 40 20 20,  0 2 3 30 40 50 50,");
+}
+
+// Notes what a queue is that keeps its first member alone.
+fn write_kept<L: LinkedListOps>(
+    rt: &impl Abort,
+    notes: &mut Text,
+    links: &mut L,
+    objects: &Objects<u64>,
+)
+    requires covers { (L.table links.old).extent.places ≡ 8 }
+    requires placed { (q : Place) → index_of q < 8 → is_placed objects.now q ≡ true }
+{
+    let (ring, other) = two_rings(rt, links);
+    keep_first(links, &ring, &other);
+    write_members(notes, &*links, objects, &ring);
+}
+
+// Notes what a queue is that has taken another one over, behind its first member, or in front of its last.
+fn write_taken_over<L: LinkedListOps>(
+    rt: &impl Abort,
+    notes: &mut Text,
+    links: &mut L,
+    objects: &Objects<u64>,
+    is_behind: bool,
+)
+    requires covers { (L.table links.old).extent.places ≡ 8 }
+    requires placed { (q : Place) → index_of q < 8 → is_placed objects.now q ≡ true }
+{
+    let (ring, other) = two_rings(rt, links);
+    if is_behind {
+        take_over_behind_first(links, &ring, &other);
+        write_members(notes, &*links, objects, &ring);
+    } else {
+        take_over_before_last(links, &ring, &other);
+        write_members(notes, &*links, objects, &ring);
+    }
+}
+
+#[test]
+fn two_rings_by_cursors(rt: HostRuntime) {
+    let alloc = rt.alloc();
+    let mut notes = Text::new(alloc);
+    let numbers = [10, 20, 30, 40, 50, 60, 70, 80];
+    let (objects, mut links): (_, LinkOps) = eight_objects(&rt, alloc, numbers);
+    write_kept(&rt, &mut notes, &mut links, &objects);
+    let (objects, mut links): (_, LinkOps) = eight_objects(&rt, alloc, numbers);
+    write_taken_over(&rt, &mut notes, &mut links, &objects, true);
+    let (objects, mut links): (_, LinkOps) = eight_objects(&rt, alloc, numbers);
+    write_taken_over(&rt, &mut notes, &mut links, &objects, false);
+    same(
+        &rt,
+        alloc,
+        &notes,
+        "10 10,  10 30 40 20 20,  10 30 40 20 20,",
+    );
 }
